@@ -1,0 +1,5 @@
+pub mod EdgeList
+pub mod Edges
+pub mod Edit
+pub mod EditKind
+pub mod Rows

@@ -1,0 +1,113 @@
+//! Edits of a graph, and batches of them.
+ghost use Rattle.std.specs.Prelude.{◌≡◌, [], ◌∷◌, ◌++◌, ℕ, List, length, OnOk, OnErr};
+
+use crate::{Memory, VertexId};
+use std::alloc::Global;
+use std::marker::Model;
+use thiserror::Error;
+
+/// One edit of a graph.
+#[derive(Clone, Copy, Debug, PartialEq, Eq)]
+pub enum Edit {
+    /// Adds a vertex with this input and no edges.
+    AddVertex(VertexId, i64),
+    /// Removes a vertex with its out-edges. Edges of others to it stay.
+    RemoveVertex(VertexId),
+    /// Sets the input of a vertex.
+    SetInput(VertexId, i64),
+    /// Adds an edge from the first to the second with this weight. The second need not be there.
+    AddEdge(VertexId, VertexId, i64),
+    /// Sets the weight of an edge.
+    SetEdge(VertexId, VertexId, i64),
+    /// Removes an edge.
+    RemoveEdge(VertexId, VertexId),
+}
+
+/// Why a batch was refused. Its number is that of the answer `refused`.
+#[derive(Clone, Copy, Debug, PartialEq, Eq)]
+pub enum EditKind {
+    /// 1: a growth was refused.
+    Memory,
+    /// 2: the vertex to be added is there.
+    VertexExists,
+    /// 3: the vertex, or an edge's source, isn't there.
+    NoVertex,
+    /// 4: the edge to be added is there.
+    EdgeExists,
+    /// 5: the edge to be set or removed isn't there.
+    NoEdge,
+    /// 6: a batch has more than 100,000 edits.
+    BatchTooLong,
+    /// 7: a vertex or an edge would be one too many.
+    Full,
+}
+
+impl EditKind {
+    ghost use Rattle.pg_graph.specs.EditKind.{number_of};
+
+    /// The number of the kind, from 1 to 7.
+    pub fn number(self) -> u8
+        ensures { result ≡ number_of self }
+    {
+        match self {
+            EditKind::Memory => 1,
+            EditKind::VertexExists => 2,
+            EditKind::NoVertex => 3,
+            EditKind::EdgeExists => 4,
+            EditKind::NoEdge => 5,
+            EditKind::BatchTooLong => 6,
+            EditKind::Full => 7,
+        }
+    }
+}
+
+/// The first edit of a batch that has no result: its place from 1 and why. The place is 0 where a
+/// growth was refused, and 100,001 where the batch is too long.
+#[derive(Clone, Copy, Debug, PartialEq, Eq, Error)]
+#[error("edit {position} is refused: {kind:?}")]
+pub struct EditFault {
+    pub position: u64,
+    pub kind: EditKind,
+}
+
+/// A list of edits, which are applied together or not at all.
+#[derive(Drop)]
+pub struct Batch {
+    edits: Vec<Edit>,
+}
+
+impl Model for Batch {
+    ghost use Rattle.std.specs.Prelude.{List};
+    ghost use Rattle.pg_graph.specs.declared.edit.Edit.{Edit};
+
+    ghost Value = { List Edit };
+
+    ghost view = { λ b. b.edits.items };
+}
+
+impl Batch {
+    /// The batch of no edits.
+    pub fn new(alloc: Global) -> Batch
+        ensures { result ≡ [] }
+    {
+        Batch {
+            edits: Vec::new(alloc),
+        }
+    }
+
+    /// Adds an edit at the end.
+    pub fn push(&mut self, edit: Edit) -> Result<(), Memory>
+        ensures ok { OnOk result (self.new ≡ self.old ++ edit ∷ []) }
+        ensures err { OnErr result (self.new ≡ self.old) }
+    {
+        self.edits.push(edit)?;
+        Ok(())
+    }
+
+    /// The edits, in their order.
+    pub fn as_slice(&self) -> &[Edit]
+        ensures { result.now ≡ self.now }
+    {
+        self.edits.as_slice()
+    }
+}

@@ -1,0 +1,13 @@
+//! The graph that a service keeps: vertex ids, rows with an input and out-edges, and batches of edits.
+#![tactic(auto)]
+
+mod edges;
+mod edit;
+mod graph;
+mod number;
+
+pub use edges::Edges;
+pub use edit::{Batch, Edit, EditFault, EditKind};
+pub use graph::{Graph, Row};
+pub use number::{Edition, PartitionId, Superstep, VertexId, WorkerId};
+pub use std::alloc::AllocError as Memory;

@@ -1,0 +1,175 @@
+//! The numbers that name vertices, partitions, workers, supersteps and editions of a graph.
+ghost use Rattle.std.specs.Prelude.{◌≡◌, ℕ, ◌^◌, ◌<◌, ◌↔◌, IsSome, IfSome};
+
+use std::fmt;
+use std::marker::Model;
+
+/// The number of a vertex, at most 2^63 - 1.
+#[derive(Clone, Copy, Debug, PartialEq, Eq, PartialOrd, Ord)]
+pub struct VertexId {
+    number: u64,
+}
+
+impl Model for VertexId {
+    ghost Value = { ℕ };
+
+    ghost view = { λ v. v.number };
+
+    ghost invariant = { λ v. v.number < 2 ^ 63 };
+
+    ghost inverse = { λ n. record { number = n } };
+}
+
+impl VertexId {
+    /// The id with this number, or `None` above 2^63 - 1.
+    pub fn new(number: u64) -> Option<VertexId>
+        ensures some { IsSome result ↔ (number < 2 ^ 63) }
+        ensures value { IfSome result (λ id. id ≡ number) }
+    {
+        if number < 1 << 63 {
+            Some(VertexId { number })
+        } else {
+            None
+        }
+    }
+
+    /// The number of the id.
+    pub fn number(self) -> u64
+        ensures value { result ≡ self }
+        ensures bound { result < 2 ^ 63 }
+    {
+        self.number
+    }
+}
+
+impl fmt::Display for VertexId {
+    ghost use Rattle.std.specs.Prelude.{Some};
+    ghost use Rattle.std.specs.Fmt.{decimal};
+
+    ghost output = { λ v. Some (decimal v) };
+
+    fn fmt<W: fmt::Write>(&self, f: &mut fmt::Formatter<W>) -> fmt::Result {
+        let number = self.number();
+        write!(f, "{number}")
+    }
+}
+
+/// The number of a partition, from 0.
+#[derive(Clone, Copy, Debug, PartialEq, Eq, PartialOrd, Ord)]
+pub struct PartitionId {
+    number: u32,
+}
+
+impl Model for PartitionId {
+    ghost Value = { ℕ };
+
+    ghost view = { λ v. v.number };
+
+    ghost inverse = { λ n. record { number = n } };
+}
+
+impl PartitionId {
+    /// The partition with this number.
+    pub fn new(number: u32) -> PartitionId
+        ensures { result ≡ number }
+    {
+        PartitionId { number }
+    }
+
+    /// The number of the partition.
+    pub fn number(self) -> u32
+        ensures { result ≡ self }
+    {
+        self.number
+    }
+}
+
+/// The number of a worker, from 0.
+#[derive(Clone, Copy, Debug, PartialEq, Eq, PartialOrd, Ord)]
+pub struct WorkerId {
+    number: u32,
+}
+
+impl Model for WorkerId {
+    ghost Value = { ℕ };
+
+    ghost view = { λ v. v.number };
+
+    ghost inverse = { λ n. record { number = n } };
+}
+
+impl WorkerId {
+    /// The worker with this number.
+    pub fn new(number: u32) -> WorkerId
+        ensures { result ≡ number }
+    {
+        WorkerId { number }
+    }
+
+    /// The number of the worker.
+    pub fn number(self) -> u32
+        ensures { result ≡ self }
+    {
+        self.number
+    }
+}
+
+/// The number of a superstep of a run, from 0.
+#[derive(Clone, Copy, Debug, PartialEq, Eq, PartialOrd, Ord)]
+pub struct Superstep {
+    number: u32,
+}
+
+impl Model for Superstep {
+    ghost Value = { ℕ };
+
+    ghost view = { λ v. v.number };
+
+    ghost inverse = { λ n. record { number = n } };
+}
+
+impl Superstep {
+    /// The superstep with this number.
+    pub fn new(number: u32) -> Superstep
+        ensures { result ≡ number }
+    {
+        Superstep { number }
+    }
+
+    /// The number of the superstep.
+    pub fn number(self) -> u32
+        ensures { result ≡ self }
+    {
+        self.number
+    }
+}
+
+/// The number of a graph's edition: how many batches it has taken since it was empty.
+#[derive(Clone, Copy, Debug, PartialEq, Eq, PartialOrd, Ord)]
+pub struct Edition {
+    number: u64,
+}
+
+impl Model for Edition {
+    ghost Value = { ℕ };
+
+    ghost view = { λ v. v.number };
+
+    ghost inverse = { λ n. record { number = n } };
+}
+
+impl Edition {
+    /// The edition with this number.
+    pub fn new(number: u64) -> Edition
+        ensures { result ≡ number }
+    {
+        Edition { number }
+    }
+
+    /// The number of the edition.
+    pub fn number(self) -> u64
+        ensures { result ≡ self }
+    {
+        self.number
+    }
+}
