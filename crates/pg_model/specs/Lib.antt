@@ -1,0 +1,6 @@
+pub mod Job
+pub mod Needed
+pub mod Publications
+pub mod Run
+pub mod Share
+pub mod Superstep

@@ -1,0 +1,81 @@
+-- A run: supersteps 0, 1, 2 and so on until one ends it, and its answer (Pregel, section 2).
+use Rattle.std.specs.Prelude.{ℕ, zero, suc, ◌+◌, ◌-◌, pred, Bool, false, List, [], map, Option, Some, is_some, cond}
+use Rattle.std.specs.Option.{unwrap_or}
+use Rattle.std.specs.List.{count_by}
+use Rattle.pg_graph.specs.Rows.{Rows, vertex_count, edge_count}
+use Rattle.pg_graph.specs.declared.graph.Row.{Row}
+use Rattle.pg_model.specs.Job.{Program, Aggregating, Totals, Job}
+use Rattle.pg_model.specs.Superstep.{is_active, next, ending}
+use Rattle.pg_model.specs.declared.configuration.Standing.{Standing}
+use Rattle.pg_model.specs.declared.configuration.Configuration.{Configuration}
+use Rattle.pg_model.specs.declared.run.Ending.{Ending}
+use Rattle.pg_model.specs.declared.run.Ending.TheVariants.{LimitReached}
+use Rattle.pg_model.specs.declared.run.Run.{Run}
+
+abbrev pub totals_of : Rows → Totals
+totals_of rows = record { vertices = vertex_count rows; edges = edge_count rows }
+
+-- a vertex as the run begins: the program's initial value, the row's edges, not halted, nothing received
+abbrev pub beginning : {V M : Type 0} → Program V M → ℕ × Row → Standing V M
+beginning program row = record {
+  state = record { id = row.0; value = program.initial row.0 row.1.input; edges = row.1.edges; halted = false };
+  inbox = [];
+}
+
+module _ {V M : Type 0} (job : Job V M) where
+  -- what stands at the start of superstep 0
+  unfoldable pub first : Rows → Configuration V M
+  first rows = record {
+    standings = map (beginning job.program) rows;
+    gathered = map (λ a. a.initial) job.aggregators;
+    sent = 0;
+    dropped = 0;
+  }
+
+  module _ (rows : Rows) where
+    -- what stands at the start of superstep s
+    unfoldable pub configuration : ℕ → Configuration V M
+    configuration zero = first rows
+    configuration (suc s) = next job (totals_of rows) s (configuration s)
+
+    -- the ending that the test after superstep s finds, if any
+    abbrev pub ending_after : ℕ → Option Ending
+    ending_after s = ending job (totals_of rows) s (configuration s) (configuration (s + 1))
+
+    -- the first number of supersteps above s, at most `left` more, with which the run ends
+    unfoldable pub length_from : ℕ → ℕ → ℕ
+    length_from zero s = s
+    length_from (suc left) s = cond (is_some (ending_after s)) (s + 1) (length_from left (s + 1))
+
+    -- how many supersteps are executed
+    abbrev pub run_length : ℕ
+    run_length = length_from job.limit 0
+
+    -- how many vertices are executed in a superstep that begins with these
+    abbrev pub executed : List (Standing V M) → ℕ
+    executed xs = count_by is_active xs
+
+    -- how many executions there are in the supersteps below s
+    unfoldable pub executions_below : ℕ → ℕ
+    executions_below zero = 0
+    executions_below (suc s) = executions_below s + executed (configuration s).standings
+
+    -- how many executions the run has
+    abbrev pub executions : ℕ
+    executions = executions_below run_length
+
+    abbrev pub values_of : Configuration V M → List (ℕ × V)
+    values_of c = map (λ x. (x.state.id, x.state.value)) c.standings
+
+    -- the answer of the run
+    unfoldable pub answer : Run V
+    answer =
+        let last : Configuration V M = configuration run_length in
+        record {
+          values = values_of last;
+          aggregates = last.gathered;
+          ending = unwrap_or (ending_after (run_length - 1)) LimitReached;
+          supersteps = run_length;
+          sent = last.sent;
+          dropped = last.dropped;
+        }

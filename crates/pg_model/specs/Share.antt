@@ -1,0 +1,36 @@
+-- What one of n partitions holds of a run: vertex id belongs to partition id % n (this project's; Pregel, section 4.1, leaves the function open).
+use Rattle.std.specs.Prelude.{ℕ, zero, suc, ◌%◌, ◌==◌, Bool, List, [], ◌∷◌, ◌++◌, map}
+use Rattle.std.specs.List.{filter}
+use Rattle.pg_graph.specs.Rows.{Rows}
+use Rattle.pg_model.specs.Job.{Job}
+use Rattle.pg_model.specs.Superstep.{is_active, outcome, view_in}
+use Rattle.pg_model.specs.Run.{totals_of, configuration}
+use Rattle.pg_model.specs.declared.configuration.VertexState.{VertexState}
+use Rattle.pg_model.specs.declared.configuration.Standing.{Standing}
+use Rattle.pg_model.specs.declared.record.Record.{Record}
+
+-- the states of a partition's vertices at the start of a superstep, and for each superstep before it what those of
+-- them that were executed gave
+pub record Share (V M : Type 0) : Type 0 where
+  pub states : List (VertexState V)
+  pub records : List (List (ℕ × Record V M))
+
+abbrev pub belongs : ℕ → ℕ → ℕ → Bool
+belongs n p id = id % n == p
+
+module _ {V M : Type 0} (job : Job V M) (rows : Rows) (n p : ℕ) where
+  -- the partition's vertices at the start of superstep s
+  abbrev pub standings_of_share : ℕ → List (Standing V M)
+  standings_of_share s = filter (λ x. belongs n p x.state.id) (configuration job rows s).standings
+
+  -- what those of them that are executed in superstep s give
+  abbrev pub records_in : ℕ → List (ℕ × Record V M)
+  records_in s =
+      map (λ x. (x.state.id, outcome job.program (view_in job (totals_of rows) s (configuration job rows s)) x)) (filter is_active (standings_of_share s))
+
+  unfoldable pub records_below : ℕ → List (List (ℕ × Record V M))
+  records_below zero = []
+  records_below (suc s) = records_below s ++ records_in s ∷ []
+
+  unfoldable pub share : ℕ → Share V M
+  share s = record { states = map (λ x. x.state) (standings_of_share s); records = records_below s }

@@ -1,0 +1,143 @@
+-- One superstep over the whole graph (Pregel, section 2: the model of computation).
+use Rattle.std.specs.Prelude.{ℕ, ◌+◌, ◌-◌, ◌^◌, ◌==◌, min, Bool, true, false, cond, not, ◌&&◌, ◌||◌, List, [], ◌∷◌, map, length, ℤ, Option, None, Some}
+use Rattle.std.specs.List.{filter, flat_map, fold, count_by, list_any, list_all}
+use Rattle.pg_model.specs.Job.{Inputs, Program, Combining, Aggregating, Totals, Deciding, Decision, Job, has_place}
+use Rattle.pg_model.specs.declared.configuration.VertexState.{VertexState}
+use Rattle.pg_model.specs.declared.configuration.Standing.{Standing}
+use Rattle.pg_model.specs.declared.configuration.Configuration.{Configuration}
+use Rattle.pg_model.specs.declared.record.Record.{Record}
+use Rattle.pg_model.specs.declared.run.Ending.{Ending}
+use Rattle.pg_model.specs.declared.run.Ending.TheVariants.{MasterHalted, Finished, LimitReached}
+use Rattle.pg_model.specs.declared.view.Declared.{Declared}
+use Rattle.pg_model.specs.declared.view.View.{View}
+use Rattle.pg_model.specs.declared.view.Visible.{Visible}
+
+-- a count that stops at the largest number of 64 bits
+abbrev pub capped : ℕ → ℕ
+capped n = min n (2 ^ 64 - 1)
+
+-- what the master shows in superstep s
+unfoldable pub visible_in : Deciding → Totals → ℕ → List ℤ → Visible
+visible_in deciding totals s gathered =
+    let decision : Decision = deciding s totals gathered in
+    record { values = decision.values; halt = decision.halt; total_vertices = totals.vertices; total_edges = totals.edges }
+
+-- the values at the declared places, from `place` on
+abbrev pub shown : ℕ → ℕ → List ℤ → List (Option ℤ)
+shown places place [] = []
+shown places place (value ∷ values) = cond (has_place places place) (Some value) None ∷ shown places (place + 1) values
+
+-- what the program sees of it: what it has declared
+unfoldable pub view_of : Declared → ℕ → Visible → View
+view_of declared s visible = record {
+  superstep = s;
+  aggregates = shown declared.reads 0 visible.values;
+  total_vertices = cond declared.total_vertices (Some visible.total_vertices) None;
+  total_edges = cond declared.total_edges (Some visible.total_edges) None;
+}
+
+abbrev pub is_empty : {X : Type 0} → List X → Bool
+is_empty xs = length xs == 0
+
+module _ {V M : Type 0} where
+  -- a vertex is executed where it isn't halted or has a message
+  abbrev pub is_active : Standing V M → Bool
+  is_active x = not x.state.halted || not (is_empty x.inbox)
+
+  -- a vertex that isn't executed stays, and sends and contributes nothing
+  abbrev pub idle : VertexState V → Record V M
+  idle state = record { value = state.value; edges = state.edges; halted = state.halted; sent = []; contributed = [] }
+
+  abbrev pub inputs_of : View → Standing V M → Inputs V M
+  inputs_of view x = record { view = view; id = x.state.id; value = x.state.value; edges = x.state.edges; inbox = x.inbox }
+
+  -- what the superstep makes of a vertex
+  unfoldable pub outcome : Program V M → View → Standing V M → Record V M
+  outcome program view x = cond (is_active x) (program.step (inputs_of view x)) (idle x.state)
+
+  abbrev pub state_after : VertexState V → Record V M → VertexState V
+  state_after state r = record { id = state.id; value = r.value; edges = r.edges; halted = r.halted }
+
+  -- all messages of a superstep: by rising sender, each sender's in the order sent
+  abbrev pub sends : Program V M → View → List (Standing V M) → List (ℕ × M)
+  sends program view xs = flat_map (λ x. (outcome program view x).sent) xs
+
+  -- all contributions of a superstep: by rising id, each vertex's in the order given
+  abbrev pub contributions : Program V M → View → List (Standing V M) → List (ℕ × ℤ)
+  contributions program view xs = flat_map (λ x. (outcome program view x).contributed) xs
+
+  abbrev pub ids : List (Standing V M) → List ℕ
+  ids xs = map (λ x. x.state.id) xs
+
+-- whether an id is among the ids
+abbrev pub has_id : List ℕ → ℕ → Bool
+has_id ids id = list_any (λ other. other == id) ids
+
+module _ {M : Type 0} where
+  -- the messages to a vertex, in the order of the sends
+  abbrev pub messages_to : ℕ → List (ℕ × M) → List M
+  messages_to id sent = map (λ m. m.1) (filter (λ m. m.0 == id) sent)
+
+  -- an inbox as the combiner leaves it: one message where there is any, the fold of all from the initial message
+  abbrev pub combined : Option (Combining M) → List M → List M
+  combined None messages = messages
+  combined (Some combining) [] = []
+  combined (Some combining) (m ∷ ms) = fold combining.combine combining.initial (m ∷ ms) ∷ []
+
+  -- what a vertex receives of the messages of a superstep
+  abbrev pub delivered : Option (Combining M) → ℕ → List (ℕ × M) → List M
+  delivered combining id sent = combined combining (messages_to id sent)
+
+  -- how many messages go to none of the ids
+  abbrev pub dropped_count : List ℕ → List (ℕ × M) → ℕ
+  dropped_count ids sent = count_by (λ m. not (has_id ids m.0)) sent
+
+-- the contributions at a place, in their order
+abbrev pub at_place : ℕ → List (ℕ × ℤ) → List ℤ
+at_place place contributions = map (λ c. c.1) (filter (λ c. c.0 == place) contributions)
+
+-- the fold of contributions at one place, where `value` was visible there
+abbrev pub gathered_at : Aggregating → ℤ → List ℤ → ℤ
+gathered_at aggregating value contributions = fold aggregating.aggregate (cond aggregating.persistent value aggregating.initial) contributions
+
+-- the same for all places from `place` on
+unfoldable pub gathered_from : ℕ → List Aggregating → List ℤ → List (ℕ × ℤ) → List ℤ
+gathered_from place [] values contributions = []
+gathered_from place (a ∷ rest) [] contributions = []
+gathered_from place (a ∷ rest) (value ∷ values) contributions = gathered_at a value (at_place place contributions) ∷ gathered_from (place + 1) rest values contributions
+
+module _ {V M : Type 0} (job : Job V M) (totals : Totals) where
+  -- what the master shows in superstep s, which begins with c
+  abbrev pub visible : ℕ → Configuration V M → Visible
+  visible s c = visible_in job.deciding totals s c.gathered
+
+  -- what the program sees in it
+  abbrev pub view_in : ℕ → Configuration V M → View
+  view_in s c = view_of job.program.declared s (visible s c)
+
+  -- the vertices after a superstep in which they saw `view`: each with its outcome's state, and with what was sent to it
+  abbrev pub standings_after : View → List (Standing V M) → List (Standing V M)
+  standings_after view xs =
+      let all : List (ℕ × M) = sends job.program view xs in
+      map (λ x. record { state = state_after x.state (outcome job.program view x); inbox = delivered job.combining x.state.id all }) xs
+
+  -- the configuration after superstep s, which begins with c
+  unfoldable pub next : ℕ → Configuration V M → Configuration V M
+  next s c =
+      let view : View = view_in s c in
+      let all : List (ℕ × M) = sends job.program view c.standings in
+      record {
+        standings = standings_after view c.standings;
+        gathered = gathered_from 0 job.aggregators (visible s c).values (contributions job.program view c.standings);
+        sent = capped (c.sent + length all);
+        dropped = capped (c.dropped + dropped_count (ids c.standings) all);
+      }
+
+  -- nobody is active
+  abbrev pub is_all_idle : List (Standing V M) → Bool
+  is_all_idle xs = list_all (λ x. not (is_active x)) xs
+
+  -- the test after superstep s, which began with c and left d: the master halted, all is idle, the limit is reached
+  abbrev pub ending : ℕ → Configuration V M → Configuration V M → Option Ending
+  ending s c d =
+      cond (visible s c).halt (Some MasterHalted) (cond (is_all_idle d.standings) (Some Finished) (cond (s + 1 == job.limit) (Some LimitReached) None))

@@ -1,0 +1,32 @@
+//! What stands at the start of a superstep.
+use crate::Sequence;
+use pg_graph::{Edges, VertexId};
+
+/// The state of a vertex.
+#[derive(Drop)]
+pub struct VertexState<V> {
+    pub id: VertexId,
+    pub value: V,
+    pub edges: Edges,
+    pub halted: bool,
+}
+
+/// A vertex and what it has received.
+#[derive(Drop)]
+pub struct Standing<V, M> {
+    pub state: VertexState<V>,
+    pub inbox: Sequence<M>,
+}
+
+/// What stands at the start of a superstep.
+#[derive(Drop)]
+pub struct Configuration<V, M> {
+    /// By rising id.
+    pub standings: Sequence<Standing<V, M>>,
+    /// The gathered aggregates, by place.
+    pub gathered: Sequence<i64>,
+    /// How many messages were sent so far, before combining; it stops at 2^64 - 1.
+    pub sent: u64,
+    /// How many of them went to no vertex; it stops at 2^64 - 1.
+    pub dropped: u64,
+}
