@@ -1,0 +1,2 @@
+mod ReadyPrograms
+mod ShortestPaths
