@@ -1,5 +1,6 @@
 //! What the vertices of one superstep see of the run as a whole.
 use crate::Sequence;
+use pg_graph::Superstep;
 
 /// What a program has declared of the aggregators and totals: the aggregators that it reads and those
 /// that it contributes to, as sets of places (bit k for place k), and whether it reads a total.
@@ -24,7 +25,7 @@ pub struct Visible {
 /// What a program sees of that: what it has declared, and nothing else.
 #[derive(Drop)]
 pub struct View {
-    pub superstep: u32,
+    pub superstep: Superstep,
     /// By place; `None` at a place that isn't declared.
     pub aggregates: Sequence<Option<i64>>,
     pub total_vertices: Option<u64>,

@@ -1,0 +1,5 @@
+pub mod Computation
+pub mod Context
+pub mod Edges
+pub mod OwnEdges
+pub mod Plain

@@ -1,0 +1,19 @@
+//! Vertex programs: the trait that a program implements, and what it works on in one execution.
+#![tactic(auto)]
+
+mod computation;
+mod context;
+mod meter;
+mod own_edges;
+mod plain;
+mod search;
+mod vertex;
+
+pub use computation::Computation;
+pub use context::Cx;
+pub use meter::Meter;
+pub use pg_graph::Memory;
+pub use pg_model::{Declared, Place, View};
+pub use plain::Plain;
+pub use own_edges::EdgeRoom;
+pub use vertex::Vertex;
