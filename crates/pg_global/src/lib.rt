@@ -1,7 +1,13 @@
+//! What a job has beside its program: a combiner, aggregators by name, and a master.
 #![tactic(auto)]
+
 mod aggregator;
 mod combiner;
+mod master;
 mod registry;
+
 pub use aggregator::{Aggregator, AnyAggregator, gather};
 pub use combiner::{AnyCombiner, MessageCombiner};
+pub use master::{MasterCompute, MasterState, NoMaster};
+pub use pg_model::{Ending, Run, Visible};
 pub use registry::{RegisterFault, Registration, Registry};

@@ -1,6 +1,7 @@
 //! The aggregators of a job, by name.
-ghost use Rattle.std.specs.Prelude.{◌≡◌, [], ◌∷◌, ◌++◌, ◌⊎◌, ◌≤◌, length, Option, None, Some, true, false, IfOk, IfErr, OnErr};
+ghost use Rattle.std.specs.Prelude.{◌≡◌, [], ◌∷◌, ◌++◌, ◌⊎◌, ◌≤◌, ◌<◌, length, slice_get, Option, None, Some, true, false, IfOk, IfErr, OnErr};
 ghost use Rattle.std.specs.List.{list_all};
+ghost use Rattle.std.specs.Option.{option_map};
 ghost use Rattle.pg_global.specs.Registry.{Registered, refusal_of, place_of, is_name as name_test, is_name_byte};
 
 use crate::AnyAggregator;
@@ -115,6 +116,18 @@ impl Registry {
         ensures limit { result ≤ 16 }
     {
         self.registered.len()
+    }
+
+    /// What is registered at a place.
+    pub fn registration(&self, place: usize) -> Registration
+        requires { place < length self.now }
+        ensures { option_map (λ e. e.1) (slice_get self.now place) ≡ Some result }
+    {
+        let _ = &self.registered;
+        match self.registered.get_index(place) {
+            Some((_, registration)) => *registration,
+            None => unreachable!(),
+        }
     }
 
     fn add(
