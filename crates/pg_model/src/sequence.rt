@@ -1,5 +1,6 @@
 //! A list of values.
 ghost use Rattle.std.specs.Prelude.{◌≡◌, [], ◌∷◌, ◌++◌, List, length, OnOk, OnErr};
+ghost use Rattle.std.specs.Option.{option_to_list};
 
 use pg_graph::Memory;
 use std::alloc::Global;
@@ -52,6 +53,13 @@ impl<T> Sequence<T> {
     {
         self.items.push(value)?;
         Ok(())
+    }
+
+    /// Takes the last value away.
+    pub fn pop(&mut self) -> Option<T>
+        ensures { self.old ≡ self.new ++ option_to_list result }
+    {
+        self.items.pop()
     }
 
     /// Takes all values away, and keeps the memory.

@@ -1,0 +1,65 @@
+//! Messages come to their vertices.
+ghost use Rattle.std.specs.Prelude.{◌≡◌, [], ◌∷◌, ◌++◌, ◌+◌, ◌<◌, ◌≤◌, true, false, cond, length, slice_get, slice_set, Some, IsSome, IfSome, IfOk, MatchOption, OnOk};
+ghost use Rattle.std.specs.Ordering.{nat_cmp};
+ghost use Rattle.std.specs.List.Sorted.{IsStrictlySortedBy};
+ghost use Rattle.pg_model.specs.Superstep.{has_id, is_empty};
+ghost use Rattle.pg_model.specs.declared.configuration.Standing.{Standing};
+ghost use Rattle.pg_scratch.specs.Inbox.{with_message};
+
+use pg_global::MessageCombiner;
+use pg_graph::{Memory, VertexId};
+use pg_model::{Sequence, Standing};
+use pg_program::Plain;
+use std::alloc::Global;
+
+/// The place of a vertex among rising ids.
+pub(crate) fn place_of(ids: &[VertexId], id: VertexId) -> Option<usize>
+    requires { IsStrictlySortedBy nat_cmp ids.now }
+    ensures { MatchOption result (has_id ids.now id ≡ false) (λ place. slice_get ids.now place ≡ Some id) }
+{
+    match ids.binary_search(&id) {
+        Ok(place) => Some(place),
+        Err(_) => None,
+    }
+}
+
+/// Adds a message to an inbox, which the combiner leaves one message at most.
+pub(crate) fn put<M: Plain, C: MessageCombiner<M>>(
+    alloc: Global,
+    combiner: &C,
+    inbox: &mut Sequence<M>,
+    message: M,
+) -> Result<(), Memory>
+    requires { IsSome (C.combining combiner.now) → length inbox.old ≤ 1 }
+    ensures { OnOk result (inbox.new ≡ with_message (C.combining combiner.now) inbox.old message) }
+{
+    if !combiner.combines() {
+        inbox.push(message)?;
+        return Ok(());
+    }
+    match inbox.pop() {
+        Some(before) => {
+            inbox.push(combined(alloc, combiner, before, &message)?)?;
+            Ok(())
+        }
+        None => {
+            let initial = combiner.initial_message(alloc)?;
+            inbox.push(combined(alloc, combiner, initial, &message)?)?;
+            Ok(())
+        }
+    }
+}
+
+/// What a message makes of what the messages before it came to.
+fn combined<M: Plain, C: MessageCombiner<M>>(
+    alloc: Global,
+    combiner: &C,
+    mut before: M,
+    message: &M,
+) -> Result<M, Memory>
+    requires { IsSome (C.combining combiner.now) }
+    ensures { IfOk result (λ m. IfSome (C.combining combiner.now) (λ c. m ≡ c.combine before message.now)) }
+{
+    combiner.combine(alloc, &mut before, message)?;
+    Ok(before)
+}

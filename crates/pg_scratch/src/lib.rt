@@ -1,0 +1,2 @@
+#![tactic(auto)]
+mod inbox;
