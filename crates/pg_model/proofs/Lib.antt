@@ -1,2 +1,3 @@
+pub mod LawsIds
 mod ReadyPrograms
 mod ShortestPaths
