@@ -1,3 +1,5 @@
+pub mod LawsDelivered
 pub mod LawsIds
+pub mod LawsLength
 mod ReadyPrograms
 mod ShortestPaths

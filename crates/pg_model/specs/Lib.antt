@@ -1,6 +1,7 @@
 pub mod Aggregators
 pub mod Job
 pub mod Needed
+pub mod Order
 pub mod Programs
 pub mod Publications
 pub mod Run
