@@ -10,41 +10,12 @@ use Rattle.std.proofs.lemmas.List.{map-append}
 use Rattle.std.proofs.lemmas.List.Elements.{filter-append, Contains-append_left, Contains-append_right, Contains-append_cases, Contains-push_cases}
 use Rattle.std.proofs.lemmas.List.Kept.{IsStrictlySortedBy-filter}
 use Rattle.std.proofs.lemmas.Option.{none-some, same_Some}
+use Rattle.pg_model.proofs.LawsLists.{all-append, all_weaker, sorted-append, contains_first, contains_later, contains_cases}
 use Rattle.pg_model.specs.Job.{Program}
 use Rattle.pg_model.specs.Superstep.{ids, outcome, sends, messages_to}
 use Rattle.pg_model.specs.Order.{Sending, sending_cmp, sendings_from, sendings, IsSent}
 use Rattle.pg_model.specs.declared.configuration.Standing.{Standing}
 use Rattle.pg_model.specs.declared.view.View.{View}
-
--- ---- lists
-
-module _ {X : Type 0} where
-  all-append : (P : X → Type 0) (xs ys : List X) → AllByRecursion P xs → AllByRecursion P ys → AllByRecursion P (xs ++ ys)
-  all-append P [] ys h k = k
-  all-append P (x ∷ xs) ys h k = (h.0, all-append P xs ys h.1 k)
-
-  all_weaker : (P Q : X → Type 0) → ((x : X) → P x → Q x) → (xs : List X) → AllByRecursion P xs → AllByRecursion Q xs
-  all_weaker P Q w [] h = tt
-  all_weaker P Q w (x ∷ xs) h = (w x h.0, all_weaker P Q w xs h.1)
-
-  sorted-append : (c : X → X → Ordering) (xs ys : List X) → IsStrictlySortedBy c xs → IsStrictlySortedBy c ys → AllByRecursion (λ x. AllByRecursion (λ y. c x y ≡ Less) ys) xs → IsStrictlySortedBy c (xs ++ ys)
-  unfolding IsStrictlySortedBy
-  sorted-append c [] ys h k cross = k
-  sorted-append c (x ∷ xs) ys h k cross = (all-append _ xs ys h.0 cross.0, sorted-append c xs ys h.1 k cross.1)
-
-module _ {X : Type 0} where
-  contains_first : (x : X) (xs : List X) → Contains (x ∷ xs) x
-  contains_first x xs = (0, omega arith, refl)
-
-  contains_later : (x y : X) (xs : List X) → Contains xs y → Contains (x ∷ xs) y
-  contains_later x y xs h = (suc h.0, omega (arith, h.1), h.2)
-
-  contains_cases : (x y : X) (xs : List X) → Contains (x ∷ xs) y → (x ≡ y) ⊎ Contains xs y
-  contains_cases x y xs h = at h.0 h.1 h.2
-    where
-      at : (k : ℕ) → k < length (x ∷ xs) → get_or (x ∷ xs) k y ≡ y → (x ≡ y) ⊎ Contains xs y
-      at zero within e = inl e
-      at (suc k) within e = inr (k, omega arith, e)
 
 -- ---- one inbox
 

@@ -1,5 +1,5 @@
 -- Vertices and places stay: every configuration of a run has the ids of the graph and a value for each aggregator.
-use Rattle.std.proofs.Common.{◌≡◌, ℕ, zero, suc, ◌+◌, min, List, [], ◌∷◌, ℤ, map, length, refl, ap, ap₂, sym, ◌∙◌, subst, arith}
+use Rattle.std.proofs.Common.{◌≡◌, ℕ, zero, suc, ◌+◌, min, List, [], ◌∷◌, ℤ, map, length, refl, ap, ap₂, sym, ◌∙◌, subst, arith, Option, None, Some, option_map, cond, Bool, true, false, ◌==◌}
 use Rattle.std.proofs.lemmas.List.{length-map}
 use Rattle.std.specs.Ordering.{nat_cmp}
 use Rattle.std.specs.Map.{keys_of}
@@ -7,9 +7,12 @@ use Rattle.std.specs.List.Sorted.{IsStrictlySortedBy}
 use Rattle.pg_graph.specs.Rows.{Rows, HasRisingIds}
 use Rattle.pg_graph.specs.declared.graph.Row.{Row}
 use Rattle.pg_model.specs.Job.{Job, Program, Totals, Aggregating, Deciding}
-use Rattle.pg_model.specs.Superstep.{ids, next, visible, visible_in, gathered_from, contributions, view_in, standings_after}
+use Rattle.pg_model.specs.Superstep.{ids, next, visible, visible_in, gathered_from, contributions, view_in, standings_after, state_after, outcome, delivered, sends}
+use Rattle.pg_model.specs.Needed.{standing_at}
 use Rattle.pg_model.specs.Run.{first, beginning, configuration, totals_of}
 use Rattle.pg_model.specs.declared.configuration.Standing.{Standing}
+use Rattle.pg_model.proofs.LawsStandings.{standing_at-map}
+use Rattle.pg_model.specs.declared.view.View.{View}
 use Rattle.pg_model.specs.declared.configuration.Configuration.{Configuration}
 
 -- the master leaves a value for each aggregator where it is given one for each
@@ -26,6 +29,13 @@ length-gathered_from place (a ∷ rest) (value ∷ values) contributed e =
     let e' : length values ≡ length rest = omega arith in
     ap suc (length-gathered_from (place + 1) rest values contributed e')
 
+-- what a superstep that begins with xs makes of one of them
+abbrev pub standing_after : {V M : Type 0} → Job V M → View → List (Standing V M) → Standing V M → Standing V M
+standing_after job view xs x = record {
+  state = state_after x.state (outcome job.program view x);
+  inbox = delivered job.combining x.state.id (sends job.program view xs);
+}
+
 module _ {V M : Type 0} where
   -- what leaves each vertex its id leaves the ids
   ids-map : (f : Standing V M → Standing V M) → ((x : Standing V M) → (f x).state.id ≡ x.state.id) → (xs : List (Standing V M)) → ids (map f xs) ≡ ids xs
@@ -41,6 +51,11 @@ module _ {V M : Type 0} where
     pub ids-next : (totals : Totals) (s : ℕ) (c : Configuration V M) → ids (next job totals s c).standings ≡ ids c.standings
     unfolding next
     ids-next totals s c = ids-map _ (λ x. refl) c.standings
+
+    -- and makes of each vertex its outcome's state, with what was sent to it
+    pub standing_at-next : (totals : Totals) (s : ℕ) (c : Configuration V M) (id : ℕ) → standing_at id (next job totals s c).standings ≡ option_map (standing_after job (view_in job totals s c) c.standings) (standing_at id c.standings)
+    unfolding next
+    standing_at-next totals s c id = standing_at-map _ (λ x. refl) id c.standings
 
     module _ (rows : Rows) where
       -- every configuration has the graph's ids, in their order

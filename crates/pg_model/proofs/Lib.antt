@@ -1,5 +1,10 @@
+pub mod LawsAgreement
 pub mod LawsDelivered
 pub mod LawsIds
+pub mod LawsInputs
 pub mod LawsLength
+pub mod LawsLists
+pub mod LawsNeeded
+pub mod LawsStandings
 mod ReadyPrograms
 mod ShortestPaths

@@ -1,4 +1,5 @@
 pub mod Aggregators
+pub mod Agreement
 pub mod Job
 pub mod Needed
 pub mod Order

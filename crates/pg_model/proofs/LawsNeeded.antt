@@ -1,0 +1,56 @@
+-- Needed executions: all of them beside no run, none beside the same run, and the test decides which.
+use Rattle.std.proofs.Common.{◌≡◌, ◌≢◌, ℕ, zero, suc, ◌+◌, ◌<◌, ◌≤◌, Bool, true, false, cond, not, ◌&&◌, ltb, List, [], ◌∷◌, map, Option, None, Some, is_some, option_and_then, refl, ap, ap₂, sym, ◌∙◌, subst, arith, count_by, Decides, true≢false}
+use Rattle.std.specs.Ordering.{nat_cmp}
+use Rattle.std.specs.List.{AllByRecursion}
+use Rattle.std.specs.List.Sorted.{IsStrictlySortedBy}
+use Rattle.std.specs.Map.{keys_of}
+use Rattle.pg_graph.specs.Rows.{Rows, HasRisingIds}
+use Rattle.pg_graph.specs.declared.graph.Row.{Row}
+use Rattle.pg_model.specs.Job.{Job, Inputs}
+use Rattle.pg_model.specs.Superstep.{ids, is_active, inputs_of, view_in}
+use Rattle.pg_model.specs.Run.{configuration, totals_of, run_length, executions_below, executions, executed}
+use Rattle.pg_model.specs.Needed.{standing_at, inputs_if_active, inputs_at, kept_inputs_at, IsNeeded, is_changed, is_needed, needed_below, needed_count}
+use Rattle.pg_model.proofs.LawsIds.{ids-configuration, ids_rise}
+use Rattle.pg_model.proofs.LawsInputs.{view_at, IsExecuted, inputs_of_executed, no_inputs_idle}
+use Rattle.pg_model.proofs.LawsLists.{all_weaker, same_count, count_by-map}
+use Rattle.pg_model.proofs.LawsStandings.{found_by_id}
+use Rattle.pg_model.specs.declared.configuration.Standing.{Standing}
+
+-- ---- beside no run
+
+module _ {V M : Type 0} (job : Job V M) (rows : Rows) where
+  -- a vertex of the run has inputs where it is active
+  has_inputs : (s : ℕ) (x : Standing V M) → s < run_length job rows → standing_at x.state.id (configuration job rows s).standings ≡ Some x → is_some (inputs_at job rows s x.state.id) ≡ is_active x
+  has_inputs s x within at = by (is_active x) refl
+    where
+      by : (b : Bool) → is_active x ≡ b → is_some (inputs_at job rows s x.state.id) ≡ is_active x
+      by true e = ap is_some (inputs_of_executed job rows s x.state.id x (record { within = within; present = at; active = e })) ∙ sym e
+      by false e = ap is_some (no_inputs_idle job rows s x.state.id x at e) ∙ sym e
+
+  -- as many vertices have inputs in a superstep of the run as are executed in it
+  pub count-inputs : HasRisingIds rows → (s : ℕ) → s < run_length job rows → count_by (λ row. is_some (inputs_at job rows s row.0)) rows ≡ executed job rows (configuration job rows s).standings
+  count-inputs rising s within =
+      let xs : List (Standing V M) = (configuration job rows s).standings in
+      let test : ℕ → Bool = λ id. is_some (inputs_at job rows s id) in
+      sym (count_by-map test (λ (row : ℕ × Row). row.0) rows)
+      ∙ (ap (count_by test) (sym (ids-configuration job rows s))
+      ∙ (count_by-map test (λ (x : Standing V M). x.state.id) xs
+      ∙ same_count (λ (x : Standing V M). test x.state.id) is_active xs (all_weaker (λ (x : Standing V M). standing_at x.state.id xs ≡ Some x) (λ (x : Standing V M). test x.state.id ≡ is_active x) (λ x at. has_inputs s x within at) xs (found_by_id xs (ids_rise job rows rising s)))))
+
+module _ {V M : Type 0} (value_eq : V → V → Bool) (message_eq : M → M → Bool) where
+  changed_from_none : (new : Option (Inputs V M)) → is_changed value_eq message_eq None new ≡ is_some new
+  changed_from_none None = refl
+  changed_from_none (Some i) = refl
+
+  module _ (job : Job V M) (rows : Rows) where
+    -- beside no run, every execution of the run is needed
+    pub needed_below-none : HasRisingIds rows → (s : ℕ) → s ≤ run_length job rows → needed_below value_eq message_eq job None rows s ≡ executions_below job rows s
+    unfolding needed_below executions_below
+    needed_below-none rising zero within = refl
+    needed_below-none rising (suc s) within =
+        let each : count_by (λ (row : ℕ × Row). is_needed value_eq message_eq job None rows s row.0) rows ≡ count_by (λ (row : ℕ × Row). is_some (inputs_at job rows s row.0)) rows = ap (λ (test : ℕ × Row → Bool). count_by test rows) (λ i row. changed_from_none (inputs_at job rows s row.0) i) in
+        ap₂ ◌+◌ (needed_below-none rising s (omega arith)) (each ∙ count-inputs job rows rising s within)
+
+    -- so as many are needed as the run has
+    pub needed_count-none : HasRisingIds rows → needed_count value_eq message_eq job None rows ≡ executions job rows
+    needed_count-none rising = needed_below-none rising (run_length job rows) (omega arith)
