@@ -1,4 +1,5 @@
 pub mod LawsAgreement
+pub mod LawsDecides
 pub mod LawsDelivered
 pub mod LawsIds
 pub mod LawsInputs
