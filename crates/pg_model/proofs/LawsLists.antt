@@ -1,5 +1,5 @@
 -- Lists that the laws of a run speak of: what holds of each element, order, membership and counts.
-use Rattle.std.proofs.Common.{◌≡◌, ℕ, zero, suc, ◌+◌, ◌<◌, Bool, true, false, cond, List, [], ◌∷◌, ◌++◌, map, length, get_or, refl, ap, ap₂, sym, ◌∙◌, arith, inl, inr, ◌⊎◌, Contains, All, sum_by, count_by}
+use Rattle.std.proofs.Common.{◌≡◌, ℕ, zero, suc, ◌+◌, ◌<◌, Bool, true, false, cond, List, [], ◌∷◌, ◌++◌, map, length, get_or, refl, ap, ap₂, sym, ◌∙◌, arith, inl, inr, ◌⊎◌, Contains, All, sum_by, count_by, zero-add}
 use Rattle.std.specs.List.{AllByRecursion}
 use Rattle.std.specs.List.Sorted.{IsStrictlySortedBy}
 use Rattle.std.specs.declared.cmp.Ordering.{Ordering}
@@ -56,3 +56,7 @@ module _ {X : Type 0} where
   count_by-map p f (y ∷ ys) =
       sum_by-cons (λ (x : X). cond (p x) 1 0) (f y) (map f ys)
       ∙ (ap (λ (n : ℕ). cond (p (f y)) 1 0 + n) (count_by-map p f ys) ∙ sym (sum_by-cons (λ y. cond (p (f y)) 1 0) y ys))
+
+  pub count-none : (xs : List X) → count_by (λ x. false) xs ≡ 0
+  count-none [] = refl
+  count-none (x ∷ xs) = sum_by-cons (λ (x : X). 0) x xs ∙ (zero-add _ ∙ count-none xs)

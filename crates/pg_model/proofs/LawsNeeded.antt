@@ -1,6 +1,10 @@
 -- Needed executions: all of them beside no run, none beside the same run, and the test decides which.
-use Rattle.std.proofs.Common.{◌≡◌, ◌≢◌, ℕ, zero, suc, ◌+◌, ◌<◌, ◌≤◌, Bool, true, false, cond, not, ◌&&◌, ltb, List, [], ◌∷◌, map, Option, None, Some, is_some, option_and_then, refl, ap, ap₂, sym, ◌∙◌, subst, arith, count_by, Decides, true≢false}
-use Rattle.std.specs.Ordering.{nat_cmp}
+use Rattle.std.proofs.Common.{◌≡◌, ◌≢◌, ℕ, zero, suc, ◌+◌, ◌<◌, ◌≤◌, Bool, true, false, cond, not, ◌&&◌, ◌==◌, ltb, List, [], ◌∷◌, map, ℤ, Option, None, Some, is_some, option_and_then, refl, ap, ap₂, sym, ◌∙◌, subst, arith, count_by, Decides, true≢false}
+use Rattle.std.specs.Cmp.Lexicographic.{pointwise}
+use Rattle.std.specs.Option.{option_eq}
+use Rattle.std.specs.Ordering.{nat_cmp, int_eq}
+use Rattle.std.proofs.lemmas.Bool.{eq-eqb}
+use Rattle.std.proofs.lemmas.Bool.Decides.{Decides-int_eq}
 use Rattle.std.specs.List.{AllByRecursion}
 use Rattle.std.specs.List.Sorted.{IsStrictlySortedBy}
 use Rattle.std.specs.Map.{keys_of}
@@ -9,12 +13,13 @@ use Rattle.pg_graph.specs.declared.graph.Row.{Row}
 use Rattle.pg_model.specs.Job.{Job, Inputs}
 use Rattle.pg_model.specs.Superstep.{ids, is_active, inputs_of, view_in}
 use Rattle.pg_model.specs.Run.{configuration, totals_of, run_length, executions_below, executions, executed}
-use Rattle.pg_model.specs.Needed.{standing_at, inputs_if_active, inputs_at, kept_inputs_at, IsNeeded, is_changed, is_needed, needed_below, needed_count}
+use Rattle.pg_model.specs.Needed.{standing_at, inputs_if_active, inputs_at, kept_inputs_at, IsNeeded, view_eq, edge_eq, inputs_eq, is_changed, is_needed, needed_below, needed_count}
 use Rattle.pg_model.proofs.LawsIds.{ids-configuration, ids_rise}
 use Rattle.pg_model.proofs.LawsInputs.{view_at, IsExecuted, inputs_of_executed, no_inputs_idle}
-use Rattle.pg_model.proofs.LawsLists.{all_weaker, same_count, count_by-map}
+use Rattle.pg_model.proofs.LawsLists.{all_weaker, same_count, count_by-map, count-none}
 use Rattle.pg_model.proofs.LawsStandings.{found_by_id}
 use Rattle.pg_model.specs.declared.configuration.Standing.{Standing}
+use Rattle.pg_model.specs.declared.view.View.{View}
 
 -- ---- beside no run
 
@@ -54,3 +59,47 @@ module _ {V M : Type 0} (value_eq : V → V → Bool) (message_eq : M → M → 
     -- so as many are needed as the run has
     pub needed_count-none : HasRisingIds rows → needed_count value_eq message_eq job None rows ≡ executions job rows
     needed_count-none rising = needed_below-none rising (run_length job rows) (omega arith)
+
+-- ---- beside the same run
+
+itself : {X : Type 0} (E : X → X → Bool) → ((x : X) → E x x ≡ true) → (xs : List X) → pointwise E xs xs ≡ true
+itself E r [] = refl
+itself E r (x ∷ xs) = ap₂ ◌&&◌ (r x) (itself E r xs)
+
+option_itself : {X : Type 0} (E : X → X → Bool) → ((x : X) → E x x ≡ true) → (o : Option X) → option_eq E o o ≡ true
+option_itself E r None = refl
+option_itself E r (Some x) = r x
+
+nat_itself : (n : ℕ) → (n == n) ≡ true
+nat_itself n = eq-eqb n n refl
+
+int_itself : (n : ℤ) → int_eq n n ≡ true
+int_itself n = (Decides-int_eq n n).1 refl
+
+module _ {V M : Type 0} (value_eq : V → V → Bool) (message_eq : M → M → Bool) (values : (a : V) → value_eq a a ≡ true) (messages : (a : M) → message_eq a a ≡ true) where
+  view_itself : (a : View) → view_eq value_eq message_eq a a ≡ true
+  view_itself a =
+      ap₂ ◌&&◌ (nat_itself a.superstep) (ap₂ ◌&&◌ (itself _ (option_itself int_eq int_itself) a.aggregates) (ap₂ ◌&&◌ (option_itself ◌==◌ nat_itself a.total_vertices) (option_itself ◌==◌ nat_itself a.total_edges)))
+
+  edge_itself : (a : ℕ × ℤ) → edge_eq value_eq message_eq a a ≡ true
+  edge_itself a = ap₂ ◌&&◌ (nat_itself a.0) (int_itself a.1)
+
+  inputs_itself : (a : Inputs V M) → inputs_eq value_eq message_eq a a ≡ true
+  inputs_itself a =
+      ap₂ ◌&&◌ (view_itself a.view) (ap₂ ◌&&◌ (nat_itself a.id) (ap₂ ◌&&◌ (values a.value) (ap₂ ◌&&◌ (itself _ edge_itself a.edges) (itself message_eq messages a.inbox))))
+
+  unchanged : (o : Option (Inputs V M)) → is_changed value_eq message_eq o o ≡ false
+  unchanged None = refl
+  unchanged (Some i) = ap not (inputs_itself i)
+
+  module _ (job : Job V M) (rows : Rows) where
+    -- beside the run on the same graph, no execution is needed
+    pub needed_below-same : (s : ℕ) → needed_below value_eq message_eq job (Some rows) rows s ≡ 0
+    unfolding needed_below
+    needed_below-same zero = refl
+    needed_below-same (suc s) =
+        let none : count_by (λ (row : ℕ × Row). is_needed value_eq message_eq job (Some rows) rows s row.0) rows ≡ 0 = ap (λ (test : ℕ × Row → Bool). count_by test rows) (λ i row. unchanged (inputs_at job rows s row.0) i) ∙ count-none rows in
+        ap₂ ◌+◌ (needed_below-same s) none
+
+    pub needed_count-same : needed_count value_eq message_eq job (Some rows) rows ≡ 0
+    needed_count-same = needed_below-same (run_length job rows)
