@@ -1,5 +1,6 @@
 pub mod Aggregators
 pub mod Agreement
+pub mod Folds
 pub mod Job
 pub mod Needed
 pub mod Order
