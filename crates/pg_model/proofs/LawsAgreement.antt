@@ -109,6 +109,15 @@ module _ {V M : Type 0} where
   unfolding outcome
   outcome-active program view x e = ap (λ (b : Bool). cond b (program.step (inputs_of view x)) (idle x.state)) e
 
+  -- a vertex that isn't executed leaves nothing but its state
+  pub outcome-idle : (program : Program V M) (view : View) (x : Standing V M) → is_active x ≡ false → outcome program view x ≡ idle x.state
+  unfolding outcome
+  outcome-idle program view x e = ap (λ (b : Bool). cond b (program.step (inputs_of view x)) (idle x.state)) e
+
+  -- which stays
+  pub state_after-idle : (program : Program V M) (view : View) (x : Standing V M) → is_active x ≡ false → state_after x.state (outcome program view x) ≡ x.state
+  state_after-idle program view x e = ap (state_after x.state) (outcome-idle program view x e)
+
 -- ---- two runs
 
 module _ {V M : Type 0} where

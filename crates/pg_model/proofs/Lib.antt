@@ -8,6 +8,7 @@ pub mod LawsLength
 pub mod LawsLists
 pub mod LawsNeeded
 pub mod LawsPublications
+pub mod LawsShares
 pub mod LawsStandings
 mod ReadyPrograms
 mod ShortestPaths
