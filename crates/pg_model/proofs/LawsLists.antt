@@ -48,6 +48,14 @@ module _ {X : Type 0} where
   all_from_map f P [] h = tt
   all_from_map f P (y ∷ ys) h = (h.0, all_from_map f P ys h.1)
 
+  pub all-filter : (P : X → Type 0) (p : X → Bool) (xs : List X) → AllByRecursion P xs → AllByRecursion P (filter p xs)
+  all-filter P p [] h = tt
+  all-filter P p (x ∷ xs) h = by (p x) (all-filter P p xs h.1)
+    where
+      by : (b : Bool) → AllByRecursion P (filter p xs) → AllByRecursion P (cond b (x ∷ filter p xs) (filter p xs))
+      by true k = (h.0, k)
+      by false k = k
+
   -- a count goes by what the test answers
   pub same_count : (p q : X → Bool) (xs : List X) → AllByRecursion (λ x. p x ≡ q x) xs → count_by p xs ≡ count_by q xs
   same_count p q [] h = refl
@@ -97,7 +105,16 @@ filter-filter {X = X} p q r e (x ∷ xs) = by (q x) (filter-filter p q r e xs) �
     by true h = ap (λ (l : List X). cond (p x) (x ∷ l) l) h
     by false h = h
 
-all_pass : {X : Type 0} (p : X → Bool) → ((x : X) → p x ≡ true) → (xs : List X) → filter p xs ≡ xs
+pub filter-map : {X Y : Type 0} (p : Y → Bool) (f : X → Y) (xs : List X) → filter p (map f xs) ≡ map f (filter (λ x. p (f x)) xs)
+filter-map p f [] = refl
+filter-map {X = X} p f (x ∷ xs) = by (p (f x)) (filter-map p f xs)
+  where
+    by : (b : Bool) → filter p (map f xs) ≡ map f (filter (λ x. p (f x)) xs) → cond b (f x ∷ filter p (map f xs)) (filter p (map f xs)) ≡ map f (cond b (x ∷ filter (λ x. p (f x)) xs) (filter (λ x. p (f x)) xs))
+    by true h = ap (◌∷◌ (f x)) h
+    by false h = h
+
+-- a filter that all elements pass leaves the list
+pub all_pass : {X : Type 0} (p : X → Bool) → ((x : X) → p x ≡ true) → (xs : List X) → filter p xs ≡ xs
 all_pass p e [] = refl
 all_pass {X = X} p e (x ∷ xs) = ap₂ (λ (b : Bool) (l : List X). cond b (x ∷ l) l) (e x) (all_pass p e xs)
 

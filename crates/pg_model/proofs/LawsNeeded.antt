@@ -1,5 +1,5 @@
 -- Needed executions: all of them beside no run, none beside the same run, and the test decides which.
-use Rattle.std.proofs.Common.{◌≡◌, ◌≢◌, ℕ, zero, suc, ◌+◌, ◌<◌, ◌≤◌, Bool, true, false, cond, not, ◌&&◌, ◌==◌, ltb, List, [], ◌∷◌, map, ℤ, Option, None, Some, is_some, option_and_then, refl, ap, ap₂, sym, ◌∙◌, subst, arith, count_by, Decides, true≢false}
+use Rattle.std.proofs.Common.{◌≡◌, ◌≢◌, ℕ, zero, suc, ◌+◌, ◌<◌, ◌≤◌, Bool, true, false, cond, not, ◌&&◌, ◌==◌, ltb, List, [], ◌∷◌, map, ℤ, Option, None, Some, is_some, option_and_then, refl, ap, ap₂, sym, ◌∙◌, subst, arith, count_by, filter, Decides, true≢false}
 use Rattle.std.specs.Cmp.Lexicographic.{pointwise}
 use Rattle.std.specs.Option.{option_eq}
 use Rattle.std.specs.Ordering.{nat_cmp, int_eq}
@@ -16,7 +16,7 @@ use Rattle.pg_model.specs.Run.{configuration, totals_of, run_length, executions_
 use Rattle.pg_model.specs.Needed.{standing_at, inputs_if_active, inputs_at, kept_inputs_at, IsNeeded, view_eq, edge_eq, inputs_eq, is_changed, is_needed, needed_below, needed_count}
 use Rattle.pg_model.proofs.LawsIds.{ids-configuration, ids_rise}
 use Rattle.pg_model.proofs.LawsInputs.{view_at, IsExecuted, inputs_of_executed, no_inputs_idle}
-use Rattle.pg_model.proofs.LawsLists.{all_weaker, same_count, count_by-map, count-none}
+use Rattle.pg_model.proofs.LawsLists.{all_weaker, all-filter, all_pass, filter-map, same_count, count_by-map, count-none}
 use Rattle.pg_model.proofs.LawsStandings.{found_by_id}
 use Rattle.pg_model.specs.declared.configuration.Standing.{Standing}
 use Rattle.pg_model.specs.declared.view.View.{View}
@@ -32,15 +32,22 @@ module _ {V M : Type 0} (job : Job V M) (rows : Rows) where
       by true e = ap is_some (inputs_of_executed job rows s x.state.id x (record { within = within; present = at; active = e })) ∙ sym e
       by false e = ap is_some (no_inputs_idle job rows s x.state.id x at e) ∙ sym e
 
-  -- as many vertices have inputs in a superstep of the run as are executed in it
-  pub count-inputs : HasRisingIds rows → (s : ℕ) → s < run_length job rows → count_by (λ row. is_some (inputs_at job rows s row.0)) rows ≡ executed job rows (configuration job rows s).standings
-  count-inputs rising s within =
+  -- of the vertices whose ids pass a test, as many have inputs in a superstep of the run as are executed in it
+  pub count-inputs_of : HasRisingIds rows → (s : ℕ) → s < run_length job rows → (picks : ℕ → Bool) → count_by (λ row. is_some (inputs_at job rows s row.0)) (filter (λ row. picks row.0) rows) ≡ count_by is_active (filter (λ x. picks x.state.id) (configuration job rows s).standings)
+  count-inputs_of rising s within picks =
       let xs : List (Standing V M) = (configuration job rows s).standings in
       let test : ℕ → Bool = λ id. is_some (inputs_at job rows s id) in
-      sym (count_by-map test (λ (row : ℕ × Row). row.0) rows)
-      ∙ (ap (count_by test) (sym (ids-configuration job rows s))
-      ∙ (count_by-map test (λ (x : Standing V M). x.state.id) xs
-      ∙ same_count (λ (x : Standing V M). test x.state.id) is_active xs (all_weaker (λ (x : Standing V M). standing_at x.state.id xs ≡ Some x) (λ (x : Standing V M). test x.state.id ≡ is_active x) (λ x at. has_inputs s x within at) xs (found_by_id xs (ids_rise job rows rising s)))))
+      let some : Standing V M → Bool = λ x. picks x.state.id in
+      sym (count_by-map test (λ (row : ℕ × Row). row.0) (filter (λ (row : ℕ × Row). picks row.0) rows))
+      ∙ (ap (count_by test) (sym (filter-map picks (λ (row : ℕ × Row). row.0) rows) ∙ (ap (filter picks) (sym (ids-configuration job rows s)) ∙ filter-map picks (λ (x : Standing V M). x.state.id) xs))
+      ∙ (count_by-map test (λ (x : Standing V M). x.state.id) (filter some xs)
+      ∙ same_count (λ (x : Standing V M). test x.state.id) is_active (filter some xs) (all_weaker (λ (x : Standing V M). standing_at x.state.id xs ≡ Some x) (λ (x : Standing V M). test x.state.id ≡ is_active x) (λ x at. has_inputs s x within at) (filter some xs) (all-filter (λ (x : Standing V M). standing_at x.state.id xs ≡ Some x) some xs (found_by_id xs (ids_rise job rows rising s))))))
+
+  -- and so of all vertices
+  pub count-inputs : HasRisingIds rows → (s : ℕ) → s < run_length job rows → count_by (λ row. is_some (inputs_at job rows s row.0)) rows ≡ executed job rows (configuration job rows s).standings
+  count-inputs rising s within =
+      sym (ap (count_by (λ (row : ℕ × Row). is_some (inputs_at job rows s row.0))) (all_pass (λ (row : ℕ × Row). true) (λ x. refl) rows))
+      ∙ (count-inputs_of rising s within (λ id. true) ∙ ap (count_by is_active) (all_pass (λ (x : Standing V M). true) (λ x. refl) (configuration job rows s).standings))
 
 module _ {V M : Type 0} (value_eq : V → V → Bool) (message_eq : M → M → Bool) where
   changed_from_none : (new : Option (Inputs V M)) → is_changed value_eq message_eq None new ≡ is_some new
@@ -48,12 +55,16 @@ module _ {V M : Type 0} (value_eq : V → V → Bool) (message_eq : M → M → 
   changed_from_none (Some i) = refl
 
   module _ (job : Job V M) (rows : Rows) where
+    -- beside no run, an execution is needed where there is one
+    pub is_needed-none : (s id : ℕ) → is_needed value_eq message_eq job None rows s id ≡ is_some (inputs_at job rows s id)
+    is_needed-none s id = changed_from_none (inputs_at job rows s id)
+
     -- beside no run, every execution of the run is needed
     pub needed_below-none : HasRisingIds rows → (s : ℕ) → s ≤ run_length job rows → needed_below value_eq message_eq job None rows s ≡ executions_below job rows s
     unfolding needed_below executions_below
     needed_below-none rising zero within = refl
     needed_below-none rising (suc s) within =
-        let each : count_by (λ (row : ℕ × Row). is_needed value_eq message_eq job None rows s row.0) rows ≡ count_by (λ (row : ℕ × Row). is_some (inputs_at job rows s row.0)) rows = ap (λ (test : ℕ × Row → Bool). count_by test rows) (λ i row. changed_from_none (inputs_at job rows s row.0) i) in
+        let each : count_by (λ (row : ℕ × Row). is_needed value_eq message_eq job None rows s row.0) rows ≡ count_by (λ (row : ℕ × Row). is_some (inputs_at job rows s row.0)) rows = ap (λ (test : ℕ × Row → Bool). count_by test rows) (λ i row. is_needed-none s row.0 i) in
         ap₂ ◌+◌ (needed_below-none rising s (omega arith)) (each ∙ count-inputs job rows rising s within)
 
     -- so as many are needed as the run has

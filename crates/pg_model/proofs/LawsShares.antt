@@ -1,5 +1,5 @@
 -- The shares of n partitions make up the run.
-use Rattle.std.proofs.Common.{◌≡◌, ℕ, zero, suc, ◌+◌, ◌<◌, ◌%◌, Bool, true, false, cond, ◌==◌, List, [], ◌∷◌, ◌++◌, map, ℤ, length, refl, ap, ap₂, sym, ◌∙◌, subst, subst₂, arith, mod-lt, filter, flat_map, sum_by, count_by, IsPermutation, All}
+use Rattle.std.proofs.Common.{◌≡◌, ℕ, zero, suc, ◌+◌, ◌<◌, ◌%◌, Bool, true, false, cond, ◌==◌, List, [], ◌∷◌, ◌++◌, map, ℤ, length, refl, ap, ap₂, sym, ◌∙◌, subst, subst₂, arith, mod-lt, filter, flat_map, sum_by, count_by, IsPermutation, All, Option, None}
 use Rattle.std.specs.List.{range_with_len}
 use Rattle.std.specs.List.Sorted.{IsStrictlySortedBy}
 use Rattle.std.specs.Ordering.{nat_cmp}
@@ -9,27 +9,22 @@ use Rattle.std.proofs.lemmas.List.Folds.{flat_map-map}
 use Rattle.std.proofs.lemmas.List.Kept.{IsStrictlySortedBy-filter}
 use Rattle.std.proofs.lemmas.List.Sums.{length-filter, sum_by-cons, sum_by_push}
 use Rattle.pg_graph.specs.Rows.{Rows, HasRisingIds}
+use Rattle.pg_graph.specs.declared.graph.Row.{Row}
 use Rattle.pg_model.specs.Folds.{IsCommutativeMonoid}
 use Rattle.pg_model.specs.Job.{Job, Program, Aggregating}
 use Rattle.pg_model.specs.Superstep.{ids, is_active, outcome, state_after, sends, contributions, at_place, gathered_at, next}
-use Rattle.pg_model.specs.Run.{configuration, totals_of, executed, executions_below}
+use Rattle.pg_model.specs.Run.{configuration, totals_of, executed, executions_below, run_length}
+use Rattle.pg_model.specs.Needed.{is_needed}
 use Rattle.pg_model.specs.Share.{Share, belongs, standings_of_share, records_in, records_below, share}
 use Rattle.pg_model.proofs.LawsAgreement.{outcome-idle}
 use Rattle.pg_model.proofs.LawsFolds.{gathered_at-IsPermutation}
 use Rattle.pg_model.proofs.LawsIds.{ids_rise, standing_after}
 use Rattle.pg_model.proofs.LawsInputs.{view_at}
-use Rattle.pg_model.proofs.LawsLists.{flat_map-filter, flat_map-classes, classes, count-classes, count-none}
+use Rattle.pg_model.proofs.LawsNeeded.{is_needed-none, count-inputs_of}
+use Rattle.pg_model.proofs.LawsLists.{filter-map, flat_map-filter, flat_map-classes, classes, count-classes, count-none}
 use Rattle.pg_model.specs.declared.configuration.Standing.{Standing}
 use Rattle.pg_model.specs.declared.record.Record.{Record}
 use Rattle.pg_model.specs.declared.view.View.{View}
-
-filter-map : {X Y : Type 0} (p : Y → Bool) (f : X → Y) (xs : List X) → filter p (map f xs) ≡ map f (filter (λ x. p (f x)) xs)
-filter-map p f [] = refl
-filter-map {X = X} p f (x ∷ xs) = by (p (f x)) (filter-map p f xs)
-  where
-    by : (b : Bool) → filter p (map f xs) ≡ map f (filter (λ x. p (f x)) xs) → cond b (f x ∷ filter p (map f xs)) (filter p (map f xs)) ≡ map f (cond b (x ∷ filter (λ x. p (f x)) xs) (filter (λ x. p (f x)) xs))
-    by true h = ap (◌∷◌ (f x)) h
-    by false h = h
 
 map-map : {X Y Z : Type 0} (g : Y → Z) (f : X → Y) (xs : List X) → map g (map f xs) ≡ map (λ x. g (f x)) xs
 map-map g f [] = refl
@@ -134,3 +129,14 @@ module _ {V M : Type 0} (job : Job V M) (rows : Rows) (n : ℕ) where
     -- so what is gathered at a place can be gathered from the partitions' records
     pub gathered_in_shares : (is_value : ℤ → Type 0) (a : Aggregating) → IsCommutativeMonoid is_value a.aggregate a.initial → (s place : ℕ) (value : ℤ) → is_value value → All is_value (at_place place (contributions job.program (view_at job rows s) (configuration job rows s).standings)) → gathered_at a value (flat_map (λ p. at_place place (flat_map (λ r. r.1.contributed) (records_in job rows n p s))) (range_with_len 0 n)) ≡ gathered_at a value (at_place place (contributions job.program (view_at job rows s) (configuration job rows s).standings))
     gathered_in_shares is_value a m s place value p h = gathered_at-IsPermutation a is_value m value _ _ p h (contributions_in_shares s place)
+
+    -- as many executions are needed in a superstep as are needed of the partitions' vertices
+    pub needed_in_shares : (value_eq : V → V → Bool) (message_eq : M → M → Bool) (kept : Option Rows) (s : ℕ) → sum_by (λ p. count_by (λ row. is_needed value_eq message_eq job kept rows s row.0) (filter (λ row. belongs n p row.0) rows)) (range_with_len 0 n) ≡ count_by (λ row. is_needed value_eq message_eq job kept rows s row.0) rows
+    needed_in_shares value_eq message_eq kept s =
+        count-classes (λ (row : ℕ × Row). row.0 % n) (λ (row : ℕ × Row). is_needed value_eq message_eq job kept rows s row.0) n rows (λ row. mod-lt row.0 some)
+
+  -- beside no run, as many are needed of a partition's vertices as it has records of the superstep
+  pub needed_in_share-none : (value_eq : V → V → Bool) (message_eq : M → M → Bool) → HasRisingIds rows → (s p : ℕ) → s < run_length job rows → count_by (λ row. is_needed value_eq message_eq job None rows s row.0) (filter (λ row. belongs n p row.0) rows) ≡ length (records_in job rows n p s)
+  needed_in_share-none value_eq message_eq rising s p within' =
+      ap (λ (test : ℕ × Row → Bool). count_by test (filter (λ (row : ℕ × Row). belongs n p row.0) rows)) (λ i row. is_needed-none value_eq message_eq job rows s row.0 i)
+      ∙ (count-inputs_of job rows rising s within' (belongs n p) ∙ sym (length-records_in p s))
