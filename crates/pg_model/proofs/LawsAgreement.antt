@@ -1,17 +1,15 @@
 -- Equal inputs give equal records: why what an execution of one run gave may stand in another run.
-use Rattle.std.proofs.Common.{◌≡◌, ℕ, zero, suc, ◌+◌, ◌<◌, Bool, true, false, cond, ltb, List, [], ◌∷◌, ℤ, length, get_or, Option, None, Some, option_and_then, refl, ap, ap₂, sym, ◌∙◌, subst, arith, true≢false, add-zero, zero-add}
+use Rattle.std.proofs.Common.{◌≡◌, ℕ, zero, suc, ◌+◌, ◌<◌, Bool, true, false, cond, ltb, List, [], ◌∷◌, ℤ, length, get_or, None, Some, option_and_then, refl, ap, ap₂, sym, ◌∙◌, subst, arith, true≢false, add-zero, zero-add}
 use Rattle.std.proofs.lemmas.Bool.{lt-ltb}
-use Rattle.std.proofs.lemmas.Option.{none-some, same_Some}
+use Rattle.std.proofs.lemmas.Option.{same_Some}
 use Rattle.pg_graph.specs.Rows.{Rows}
 use Rattle.pg_model.specs.Agreement.{IsSeenAlike}
 use Rattle.pg_model.specs.Job.{Job, Program, Inputs, has_place}
-use Rattle.pg_model.specs.Superstep.{is_active, idle, inputs_of, outcome, state_after, shown, view_of, view_in}
-use Rattle.pg_model.specs.Run.{configuration, totals_of, run_length}
+use Rattle.pg_model.specs.Superstep.{is_active, idle, inputs_of, outcome, state_after, shown, view_of}
+use Rattle.pg_model.specs.Run.{configuration, run_length}
 use Rattle.pg_model.specs.Needed.{standing_at, inputs_if_active, inputs_at}
 use Rattle.pg_model.proofs.LawsInputs.{view_at, executed_from_inputs}
 use Rattle.pg_model.specs.declared.configuration.Standing.{Standing}
-use Rattle.pg_model.specs.declared.configuration.VertexState.{VertexState}
-use Rattle.pg_model.specs.declared.record.Record.{Record}
 use Rattle.pg_model.specs.declared.view.Declared.{Declared}
 use Rattle.pg_model.specs.declared.view.View.{View}
 use Rattle.pg_model.specs.declared.view.Visible.{Visible}

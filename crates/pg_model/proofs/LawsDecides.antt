@@ -1,5 +1,5 @@
 -- The test for a needed execution answers exactly whether it is needed.
-use Rattle.std.proofs.Common.{◌≡◌, ◌≢◌, ℕ, Bool, true, false, not, ◌&&◌, ◌==◌, List, [], ◌∷◌, ℤ, Option, None, Some, refl, ap, ap₂, sym, ◌∙◌, Decides, true≢false, All}
+use Rattle.std.proofs.Common.{◌≡◌, ◌≢◌, ℕ, Bool, ◌&&◌, ◌==◌, List, [], ◌∷◌, ℤ, Option, None, Some, refl, ap, ap₂, sym, ◌∙◌, Decides, true≢false, All}
 use Rattle.std.specs.Cmp.Lexicographic.{pointwise}
 use Rattle.std.specs.List.{AllByRecursion}
 use Rattle.std.specs.Option.{option_eq}
@@ -8,7 +8,6 @@ use Rattle.std.proofs.lemmas.Bool.Decides.{Decides-eqb, Decides-int_eq, Decides-
 use Rattle.std.proofs.lemmas.List.Elements.{recursion_from_All}
 use Rattle.std.proofs.lemmas.Option.{none-some, same_Some}
 use Rattle.std.proofs.lemmas.Slice.Eq.{slice_eq-Decides}
-use Rattle.pg_graph.specs.EdgeList.{EdgeList}
 use Rattle.pg_graph.specs.Rows.{Rows}
 use Rattle.pg_model.specs.Job.{Job, Inputs}
 use Rattle.pg_model.specs.Needed.{inputs_at, kept_inputs_at, IsNeeded, view_eq, edge_eq, inputs_eq, is_changed, is_needed}
@@ -16,6 +15,7 @@ use Rattle.pg_model.specs.declared.view.View.{View}
 
 -- ---- parts
 
+-- the test of two options decides where that of their values does
 pub Decides-option_eq : {X : Type 0} (E : X → X → Bool) → ((a b : X) → Decides (E a b) (a ≡ b)) → (o p : Option X) → Decides (option_eq E o p) (o ≡ p)
 Decides-option_eq E d None None = (λ _. refl, λ _. refl)
 Decides-option_eq E d None (Some y) = (λ t. absurd (true≢false (sym t)), λ e. absurd (none-some y e))
@@ -34,10 +34,12 @@ Decides-pointwise E P d (x ∷ xs) (y ∷ ys) h k =
     parts e = (cc, cc)
 
 module _ {V M : Type 0} (value_eq : V → V → Bool) (message_eq : M → M → Bool) where
+  -- the test of two edges decides whether they are equal
   pub Decides-edge_eq : (a b : ℕ × ℤ) → Decides (edge_eq value_eq message_eq a b) (a ≡ b)
   Decides-edge_eq a b =
       Decides-like ((a.0 == b.0) && int_eq a.1 b.1) (λ e i. (e.0 i, e.1 i)) (λ e. (ap (λ (x : ℕ × ℤ). x.0) e, ap (λ (x : ℕ × ℤ). x.1) e)) (Decides-and (a.0 == b.0) (int_eq a.1 b.1) (Decides-eqb a.0 b.0) (Decides-int_eq a.1 b.1))
 
+  -- and so does that of two views
   pub Decides-view_eq : (a b : View) → Decides (view_eq value_eq message_eq a b) (a ≡ b)
   Decides-view_eq a b =
       let aggregates = slice_eq-Decides (Decides-option_eq int_eq Decides-int_eq) a.aggregates b.aggregates _ refl in

@@ -1,13 +1,12 @@
 -- Messages reach a vertex by rising sender, and from each sender in the order in which it sent them.
-use Rattle.std.proofs.Common.{◌≡◌, ℕ, zero, suc, ◌+◌, ◌<◌, ◌≤◌, Bool, true, false, cond, ◌==◌, List, [], ◌∷◌, ◌++◌, map, length, get_or, ◌⊎◌, Option, None, Some, refl, ap, ap₂, sym, ◌∙◌, subst, arith, inl, inr, filter, flat_map, Contains, slice_get}
-use Rattle.std.specs.Ordering.{nat_cmp, ordering_then}
-use Rattle.std.specs.declared.cmp.Ordering.{Ordering}
+use Rattle.std.proofs.Common.{◌≡◌, ℕ, zero, suc, ◌+◌, ◌<◌, ◌≤◌, Bool, true, false, cond, ◌==◌, List, [], ◌∷◌, ◌++◌, map, Some, refl, ap, ap₂, sym, ◌∙◌, subst, arith, inl, inr, filter, flat_map, Contains, slice_get}
+use Rattle.std.specs.Ordering.{nat_cmp}
 use Rattle.std.specs.declared.cmp.Ordering.TheVariants.{Less}
 use Rattle.std.specs.List.{AllByRecursion}
 use Rattle.std.specs.List.Sorted.{IsStrictlySortedBy}
 use Rattle.std.proofs.lemmas.Bool.Decides.{nat_tests}
 use Rattle.std.proofs.lemmas.List.{map-append}
-use Rattle.std.proofs.lemmas.List.Elements.{filter-append, Contains-append_left, Contains-append_right, Contains-append_cases, Contains-push_cases}
+use Rattle.std.proofs.lemmas.List.Elements.{filter-append, Contains-append_left, Contains-append_right, Contains-append_cases}
 use Rattle.std.proofs.lemmas.List.Kept.{IsStrictlySortedBy-filter}
 use Rattle.std.proofs.lemmas.Option.{none-some, same_Some}
 use Rattle.pg_model.proofs.LawsLists.{all-append, all_weaker, sorted-append, contains_first, contains_later, contains_cases}
@@ -20,6 +19,7 @@ use Rattle.pg_model.specs.declared.view.View.{View}
 -- ---- one inbox
 
 module _ {M : Type 0} where
+  -- the messages to a vertex of two lists, one after the other
   pub messages_to-append : (id : ℕ) (a b : List (ℕ × M)) → messages_to id (a ++ b) ≡ messages_to id a ++ messages_to id b
   messages_to-append id a b =
       ap (map (λ (m : ℕ × M). m.1)) (filter-append (λ (m : ℕ × M). m.0 == id) a b)
@@ -119,12 +119,12 @@ module _ {V M : Type 0} (program : Program V M) (view : View) where
   IsSent-from_Contains (x ∷ xs) t h =
       elim (Contains-append_cases (sendings_from x.state.id 0 (outcome program view x).sent) (sendings program view xs) t h) [
         | inl mine ↦
-        let r = place_in x.state.id 0 (outcome program view x).sent t mine in
-        let at : r.0 ≡ t.place = omega (arith, r.1) in
-        record { vertex = x; present = contains_first x xs; by = r.2; nth = subst (λ (j : ℕ). slice_get (outcome program view x).sent j ≡ Some (t.target, t.message)) at r.3 }
+            let r = place_in x.state.id 0 (outcome program view x).sent t mine in
+            let at : r.0 ≡ t.place = omega (arith, r.1) in
+            record { vertex = x; present = contains_first x xs; by = r.2; nth = subst (λ (j : ℕ). slice_get (outcome program view x).sent j ≡ Some (t.target, t.message)) at r.3 }
         | inr theirs ↦
-        let r = IsSent-from_Contains xs t theirs in
-        record { vertex = r.vertex; present = contains_later x r.vertex xs r.present; by = r.by; nth = r.nth }
+            let r = IsSent-from_Contains xs t theirs in
+            record { vertex = r.vertex; present = contains_later x r.vertex xs r.present; by = r.by; nth = r.nth }
       ]
 
   sent_is_there : (xs : List (Standing V M)) (t : Sending M) (v : Standing V M) → Contains xs v → v.state.id ≡ t.sender → slice_get (outcome program view v).sent t.place ≡ Some (t.target, t.message) → Contains (sendings program view xs) t
@@ -132,8 +132,8 @@ module _ {V M : Type 0} (program : Program V M) (view : View) where
   sent_is_there (x ∷ xs) t v h a e =
       elim (contains_cases x v xs h) [
         | inl same ↦
-        Contains-append_left (sendings_from x.state.id 0 (outcome program view x).sent) (sendings program view xs) t
-        (in_place x.state.id 0 (outcome program view x).sent t.place t (ap (λ (y : Standing V M). y.state.id) same ∙ a) (omega arith) (subst (λ (y : Standing V M). slice_get (outcome program view y).sent t.place ≡ Some (t.target, t.message)) (sym same) e))
+            Contains-append_left (sendings_from x.state.id 0 (outcome program view x).sent) (sendings program view xs) t
+            (in_place x.state.id 0 (outcome program view x).sent t.place t (ap (λ (y : Standing V M). y.state.id) same ∙ a) (omega arith) (subst (λ (y : Standing V M). slice_get (outcome program view y).sent t.place ≡ Some (t.target, t.message)) (sym same) e))
         | inr later ↦ Contains-append_right (sendings_from x.state.id 0 (outcome program view x).sent) (sendings program view xs) t (sent_is_there xs t v later a e)
       ]
 

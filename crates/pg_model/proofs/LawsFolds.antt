@@ -1,7 +1,7 @@
 -- Folds in a commutative monoid: they may be cut, and don't depend on the order.
-use Rattle.std.proofs.Common.{◌≡◌, ℕ, zero, suc, ◌+◌, ◌<◌, List, [], ◌∷◌, ◌++◌, map, ℤ, length, get_or, set, cond, refl, ap, sym, ◌∙◌, subst, arith, All, fold, flat_map, swap, IsPermutation}
+use Rattle.std.proofs.Common.{◌≡◌, ℕ, zero, suc, ◌<◌, List, [], ◌∷◌, ◌++◌, map, ℤ, length, get_or, set, cond, refl, ap, sym, ◌∙◌, arith, All, fold, flat_map, swap, IsPermutation}
 use Rattle.std.proofs.lemmas.Bool.{cond_both}
-use Rattle.std.proofs.lemmas.List.Elements.{All-head, All-tail, All-set, All-get_or, All-append, recursion_from_All}
+use Rattle.std.proofs.lemmas.List.Elements.{All-head, All-tail, All-set, All-get_or}
 use Rattle.std.proofs.lemmas.List.Sorted.{IsPermutation-keeps}
 use Rattle.std.proofs.lemmas.List.Sums.{fold-append}
 use Rattle.pg_model.specs.Folds.{IsCommutativeMonoid}

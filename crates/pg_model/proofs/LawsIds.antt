@@ -1,13 +1,13 @@
 -- Vertices and places stay: every configuration of a run has the ids of the graph and a value for each aggregator.
-use Rattle.std.proofs.Common.{◌≡◌, ℕ, zero, suc, ◌+◌, min, List, [], ◌∷◌, ℤ, map, length, refl, ap, ap₂, sym, ◌∙◌, subst, arith, Option, None, Some, option_map, cond, Bool, true, false, ◌==◌}
+use Rattle.std.proofs.Common.{◌≡◌, ℕ, zero, suc, ◌+◌, List, [], ◌∷◌, ℤ, map, length, refl, ap, ap₂, sym, ◌∙◌, subst, arith, option_map}
 use Rattle.std.proofs.lemmas.List.{length-map}
 use Rattle.std.specs.Ordering.{nat_cmp}
 use Rattle.std.specs.Map.{keys_of}
 use Rattle.std.specs.List.Sorted.{IsStrictlySortedBy}
 use Rattle.pg_graph.specs.Rows.{Rows, HasRisingIds}
 use Rattle.pg_graph.specs.declared.graph.Row.{Row}
-use Rattle.pg_model.specs.Job.{Job, Program, Totals, Aggregating, Deciding}
-use Rattle.pg_model.specs.Superstep.{ids, next, visible, visible_in, gathered_from, contributions, view_in, standings_after, state_after, outcome, delivered, sends}
+use Rattle.pg_model.specs.Job.{Job, Program, Totals, Aggregating}
+use Rattle.pg_model.specs.Superstep.{ids, next, visible_in, gathered_from, view_in, state_after, outcome, delivered, sends}
 use Rattle.pg_model.specs.Needed.{standing_at}
 use Rattle.pg_model.specs.Run.{first, beginning, configuration, totals_of}
 use Rattle.pg_model.specs.declared.configuration.Standing.{Standing}

@@ -1,5 +1,5 @@
 -- Where an execution has inputs: the run has its superstep, and its vertex is there and active.
-use Rattle.std.proofs.Common.{◌≡◌, ℕ, ◌<◌, ◌≤◌, Bool, true, false, cond, ltb, List, length, Option, None, Some, option_and_then, refl, ap, sym, ◌∙◌, subst, arith, true≢false}
+use Rattle.std.proofs.Common.{◌≡◌, ℕ, ◌<◌, ◌≤◌, Bool, true, false, cond, ltb, Option, None, Some, option_and_then, refl, ap, ◌∙◌}
 use Rattle.std.proofs.lemmas.Bool.{ltb-true, lt-ltb, le-ltb}
 use Rattle.std.proofs.lemmas.Option.{none-some, cond_some}
 use Rattle.pg_graph.specs.Rows.{Rows}

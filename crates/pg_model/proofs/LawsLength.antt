@@ -1,14 +1,13 @@
 -- The length of a run is the least number of supersteps with which it ends.
-use Rattle.std.proofs.Common.{◌≡◌, ℕ, zero, suc, ◌+◌, ◌-◌, ◌<◌, ◌≤◌, Bool, true, false, cond, ◌==◌, Option, None, Some, is_some, refl, ap, sym, ◌∙◌, subst, arith, eq-eqb, true≢false, inl, inr, eq-or-lt_of_le}
+use Rattle.std.proofs.Common.{◌≡◌, ℕ, zero, suc, ◌+◌, ◌-◌, ◌<◌, ◌≤◌, Bool, true, false, cond, ◌==◌, Option, None, Some, is_some, refl, sym, subst, arith, eq-eqb, true≢false, inl, inr, eq-or-lt_of_le}
 use Rattle.std.specs.Option.{unwrap_or}
 use Rattle.std.proofs.lemmas.Bool.{cond_both, cases_lt, cases_order, both_ways}
 use Rattle.pg_graph.specs.Rows.{Rows}
 use Rattle.pg_model.specs.Job.{Job}
-use Rattle.pg_model.specs.Superstep.{ending, visible, is_all_idle}
+use Rattle.pg_model.specs.Superstep.{visible, is_all_idle}
 use Rattle.pg_model.specs.Run.{configuration, totals_of, ending_after, length_from, run_length, answer}
 use Rattle.pg_model.specs.declared.run.Ending.{Ending}
 use Rattle.pg_model.specs.declared.run.Ending.TheVariants.{MasterHalted, Finished, LimitReached}
-use Rattle.pg_model.specs.declared.run.Run.{Run}
 
 last_test : {X : Type 0} (a b c : Bool) (x y z : X) → c ≡ true → is_some (cond a (Some x) (cond b (Some y) (cond c (Some z) None))) ≡ true
 last_test true b c x y z e = refl

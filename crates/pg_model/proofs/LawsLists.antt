@@ -1,36 +1,42 @@
 -- Lists that the laws of a run speak of: what holds of each element, order, membership and counts.
-use Rattle.std.proofs.Common.{◌≡◌, ℕ, zero, suc, ◌+◌, ◌<◌, Bool, true, false, cond, List, [], ◌∷◌, ◌++◌, map, length, get_or, refl, ap, ap₂, sym, ◌∙◌, arith, inl, inr, ◌⊎◌, Contains, All, sum_by, count_by, zero-add, filter, flat_map, not, IsPermutation, subst, subst₂, leb, ◌==◌}
+use Rattle.std.proofs.Common.{◌≡◌, ℕ, zero, suc, ◌+◌, ◌<◌, Bool, true, false, cond, List, [], ◌∷◌, ◌++◌, map, length, get_or, refl, ap, ap₂, sym, ◌∙◌, arith, inl, inr, ◌⊎◌, Contains, sum_by, count_by, zero-add, filter, flat_map, not, IsPermutation, subst, subst₂, leb, ◌==◌}
 use Rattle.std.specs.List.{AllByRecursion, range_with_len}
 use Rattle.std.proofs.lemmas.Bool.{lt-leb, le-leb}
 use Rattle.std.proofs.lemmas.Bool.Decides.{nat_tests}
 use Rattle.std.specs.List.Sorted.{IsStrictlySortedBy}
 use Rattle.std.specs.declared.cmp.Ordering.{Ordering}
 use Rattle.std.specs.declared.cmp.Ordering.TheVariants.{Less}
-use Rattle.std.proofs.lemmas.List.Sorted.{sum_by-IsPermutation, IsPermutation-refl, IsPermutation-trans, IsPermutation-sym, IsPermutation-append, IsPermutation-append_left, IsPermutation-append_right, IsPermutation-append_comm}
+use Rattle.std.proofs.lemmas.List.Sorted.{sum_by-IsPermutation, IsPermutation-refl, IsPermutation-trans, IsPermutation-append_left, IsPermutation-append_right, IsPermutation-append_comm}
 use Rattle.std.proofs.lemmas.List.{append_assoc}
 use Rattle.std.proofs.lemmas.List.Sums.{sum_by-cons, sum_by-append}
 
 module _ {X : Type 0} where
+  -- what holds of each element of two lists holds of each of both together
   pub all-append : (P : X → Type 0) (xs ys : List X) → AllByRecursion P xs → AllByRecursion P ys → AllByRecursion P (xs ++ ys)
   all-append P [] ys h k = k
   all-append P (x ∷ xs) ys h k = (h.0, all-append P xs ys h.1 k)
 
+  -- what follows for each element
   pub all_weaker : (P Q : X → Type 0) → ((x : X) → P x → Q x) → (xs : List X) → AllByRecursion P xs → AllByRecursion Q xs
   all_weaker P Q w [] h = tt
   all_weaker P Q w (x ∷ xs) h = (w x h.0, all_weaker P Q w xs h.1)
 
+  -- two sorted lists, all of the first below all of the second
   pub sorted-append : (c : X → X → Ordering) (xs ys : List X) → IsStrictlySortedBy c xs → IsStrictlySortedBy c ys → AllByRecursion (λ x. AllByRecursion (λ y. c x y ≡ Less) ys) xs → IsStrictlySortedBy c (xs ++ ys)
   unfolding IsStrictlySortedBy
   sorted-append c [] ys h k cross = k
   sorted-append c (x ∷ xs) ys h k cross = (all-append _ xs ys h.0 cross.0, sorted-append c xs ys h.1 k cross.1)
 
 module _ {X : Type 0} where
+  -- a list has its first element
   pub contains_first : (x : X) (xs : List X) → Contains (x ∷ xs) x
   contains_first x xs = (0, omega arith, refl)
 
+  -- and those of its rest
   pub contains_later : (x y : X) (xs : List X) → Contains xs y → Contains (x ∷ xs) y
   contains_later x y xs h = (suc h.0, omega (arith, h.1), h.2)
 
+  -- and no other
   pub contains_cases : (x y : X) (xs : List X) → Contains (x ∷ xs) y → (x ≡ y) ⊎ Contains xs y
   contains_cases x y xs h = at h.0 h.1 h.2
     where
@@ -44,10 +50,12 @@ module _ {X : Type 0} where
   all_both P Q R w [] h k = tt
   all_both P Q R w (x ∷ xs) h k = (w x h.0 k.0, all_both P Q R w xs h.1 k.1)
 
+  -- a fact about what f makes of each element
   pub all_from_map : {Y : Type 0} (f : Y → X) (P : X → Type 0) (ys : List Y) → AllByRecursion P (map f ys) → AllByRecursion (λ y. P (f y)) ys
   all_from_map f P [] h = tt
   all_from_map f P (y ∷ ys) h = (h.0, all_from_map f P ys h.1)
 
+  -- a filter keeps what holds of each element
   pub all-filter : (P : X → Type 0) (p : X → Bool) (xs : List X) → AllByRecursion P xs → AllByRecursion P (filter p xs)
   all-filter P p [] h = tt
   all-filter P p (x ∷ xs) h = by (p x) (all-filter P p xs h.1)
@@ -63,12 +71,14 @@ module _ {X : Type 0} where
       sum_by-cons (λ (x : X). cond (p x) 1 0) x xs
       ∙ (ap₂ (λ (b : Bool) (n : ℕ). cond b 1 0 + n) h.0 (same_count p q xs h.1) ∙ sym (sum_by-cons (λ (x : X). cond (q x) 1 0) x xs))
 
+  -- a count of what f makes of each element
   pub count_by-map : {Y : Type 0} (p : X → Bool) (f : Y → X) (ys : List Y) → count_by p (map f ys) ≡ count_by (λ y. p (f y)) ys
   count_by-map p f [] = refl
   count_by-map p f (y ∷ ys) =
       sum_by-cons (λ (x : X). cond (p x) 1 0) (f y) (map f ys)
       ∙ (ap (λ (n : ℕ). cond (p (f y)) 1 0 + n) (count_by-map p f ys) ∙ sym (sum_by-cons (λ y. cond (p (f y)) 1 0) y ys))
 
+  -- no element passes a test that always fails
   pub count-none : (xs : List X) → count_by (λ x. false) xs ≡ 0
   count-none [] = refl
   count-none (x ∷ xs) = sum_by-cons (λ (x : X). 0) x xs ∙ (zero-add _ ∙ count-none xs)
@@ -90,6 +100,7 @@ module _ {X Y : Type 0} where
     where
       rest : List X
       rest = filter (λ x. not (p x)) xs
+
       by : (b : Bool) → IsPermutation (flat_map f xs) (flat_map f (filter p xs) ++ flat_map f rest) → IsPermutation (f x ++ flat_map f xs) (flat_map f (cond b (x ∷ filter p xs) (filter p xs)) ++ flat_map f (cond (not b) (x ∷ rest) rest))
       by true h = subst (IsPermutation (f x ++ flat_map f xs)) (sym (append_assoc (f x) (flat_map f (filter p xs)) (flat_map f rest))) (IsPermutation-append_right (f x) _ _ h)
       by false h =
@@ -97,6 +108,7 @@ module _ {X Y : Type 0} where
           let turned = IsPermutation-append_left (flat_map f rest) (f x ++ flat_map f (filter p xs)) (flat_map f (filter p xs) ++ f x) (IsPermutation-append_comm (f x) (flat_map f (filter p xs))) in
           IsPermutation-trans _ _ _ front (subst (IsPermutation ((f x ++ flat_map f (filter p xs)) ++ flat_map f rest)) (append_assoc (flat_map f (filter p xs)) (f x) (flat_map f rest)) turned)
 
+-- two filters, one after the other, are one
 pub filter-filter : {X : Type 0} (p q r : X → Bool) → ((x : X) → cond (q x) (p x) false ≡ r x) → (xs : List X) → filter p (filter q xs) ≡ filter r xs
 filter-filter p q r e [] = refl
 filter-filter {X = X} p q r e (x ∷ xs) = by (q x) (filter-filter p q r e xs) ∙ ap (λ (b : Bool). cond b (x ∷ filter r xs) (filter r xs)) (e x)
@@ -105,6 +117,7 @@ filter-filter {X = X} p q r e (x ∷ xs) = by (q x) (filter-filter p q r e xs) �
     by true h = ap (λ (l : List X). cond (p x) (x ∷ l) l) h
     by false h = h
 
+-- a filter of what f makes of each element
 pub filter-map : {X Y : Type 0} (p : Y → Bool) (f : X → Y) (xs : List X) → filter p (map f xs) ≡ map f (filter (λ x. p (f x)) xs)
 filter-map p f [] = refl
 filter-map {X = X} p f (x ∷ xs) = by (p (f x)) (filter-map p f xs)

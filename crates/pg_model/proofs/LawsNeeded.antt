@@ -1,21 +1,18 @@
 -- Needed executions: all of them beside no run, none beside the same run, and the test decides which.
-use Rattle.std.proofs.Common.{◌≡◌, ◌≢◌, ℕ, zero, suc, ◌+◌, ◌<◌, ◌≤◌, Bool, true, false, cond, not, ◌&&◌, ◌==◌, ltb, List, [], ◌∷◌, map, ℤ, Option, None, Some, is_some, option_and_then, refl, ap, ap₂, sym, ◌∙◌, subst, arith, count_by, filter, Decides, true≢false}
+use Rattle.std.proofs.Common.{◌≡◌, ℕ, zero, suc, ◌+◌, ◌<◌, ◌≤◌, Bool, true, false, not, ◌&&◌, ◌==◌, List, [], ◌∷◌, ℤ, Option, None, Some, is_some, refl, ap, ap₂, sym, ◌∙◌, arith, count_by, filter}
 use Rattle.std.specs.Cmp.Lexicographic.{pointwise}
 use Rattle.std.specs.Option.{option_eq}
-use Rattle.std.specs.Ordering.{nat_cmp, int_eq}
+use Rattle.std.specs.Ordering.{int_eq}
 use Rattle.std.proofs.lemmas.Bool.{eq-eqb}
 use Rattle.std.proofs.lemmas.Bool.Decides.{Decides-int_eq}
-use Rattle.std.specs.List.{AllByRecursion}
-use Rattle.std.specs.List.Sorted.{IsStrictlySortedBy}
-use Rattle.std.specs.Map.{keys_of}
 use Rattle.pg_graph.specs.Rows.{Rows, HasRisingIds}
 use Rattle.pg_graph.specs.declared.graph.Row.{Row}
 use Rattle.pg_model.specs.Job.{Job, Inputs}
-use Rattle.pg_model.specs.Superstep.{ids, is_active, inputs_of, view_in}
-use Rattle.pg_model.specs.Run.{configuration, totals_of, run_length, executions_below, executions, executed}
-use Rattle.pg_model.specs.Needed.{standing_at, inputs_if_active, inputs_at, kept_inputs_at, IsNeeded, view_eq, edge_eq, inputs_eq, is_changed, is_needed, needed_below, needed_count}
+use Rattle.pg_model.specs.Superstep.{is_active}
+use Rattle.pg_model.specs.Run.{configuration, run_length, executions_below, executions, executed}
+use Rattle.pg_model.specs.Needed.{standing_at, inputs_at, view_eq, edge_eq, inputs_eq, is_changed, is_needed, needed_below, needed_count}
 use Rattle.pg_model.proofs.LawsIds.{ids-configuration, ids_rise}
-use Rattle.pg_model.proofs.LawsInputs.{view_at, IsExecuted, inputs_of_executed, no_inputs_idle}
+use Rattle.pg_model.proofs.LawsInputs.{inputs_of_executed, no_inputs_idle}
 use Rattle.pg_model.proofs.LawsLists.{all_weaker, all-filter, all_pass, filter-map, same_count, count_by-map, count-none}
 use Rattle.pg_model.proofs.LawsStandings.{found_by_id}
 use Rattle.pg_model.specs.declared.configuration.Standing.{Standing}
@@ -112,5 +109,6 @@ module _ {V M : Type 0} (value_eq : V → V → Bool) (message_eq : M → M → 
         let none : count_by (λ (row : ℕ × Row). is_needed value_eq message_eq job (Some rows) rows s row.0) rows ≡ 0 = ap (λ (test : ℕ × Row → Bool). count_by test rows) (λ i row. unchanged (inputs_at job rows s row.0) i) ∙ count-none rows in
         ap₂ ◌+◌ (needed_below-same s) none
 
+    -- not in the whole run
     pub needed_count-same : needed_count value_eq message_eq job (Some rows) rows ≡ 0
     needed_count-same = needed_below-same (run_length job rows)

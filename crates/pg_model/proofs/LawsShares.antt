@@ -1,5 +1,5 @@
 -- The shares of n partitions make up the run.
-use Rattle.std.proofs.Common.{◌≡◌, ℕ, zero, suc, ◌+◌, ◌<◌, ◌%◌, Bool, true, false, cond, ◌==◌, List, [], ◌∷◌, ◌++◌, map, ℤ, length, refl, ap, ap₂, sym, ◌∙◌, subst, subst₂, arith, mod-lt, filter, flat_map, sum_by, count_by, IsPermutation, All, Option, None}
+use Rattle.std.proofs.Common.{◌≡◌, ℕ, zero, suc, ◌+◌, ◌<◌, ◌%◌, Bool, ◌==◌, List, [], ◌∷◌, ◌++◌, map, ℤ, length, refl, ap, ap₂, sym, ◌∙◌, subst, subst₂, arith, mod-lt, filter, flat_map, sum_by, count_by, IsPermutation, All, Option, None}
 use Rattle.std.specs.List.{range_with_len}
 use Rattle.std.specs.List.Sorted.{IsStrictlySortedBy}
 use Rattle.std.specs.Ordering.{nat_cmp}
@@ -13,9 +13,9 @@ use Rattle.pg_graph.specs.declared.graph.Row.{Row}
 use Rattle.pg_model.specs.Folds.{IsCommutativeMonoid}
 use Rattle.pg_model.specs.Job.{Job, Program, Aggregating}
 use Rattle.pg_model.specs.Superstep.{ids, is_active, outcome, state_after, sends, contributions, at_place, gathered_at, next}
-use Rattle.pg_model.specs.Run.{configuration, totals_of, executed, executions_below, run_length}
+use Rattle.pg_model.specs.Run.{configuration, executed, executions_below, run_length}
 use Rattle.pg_model.specs.Needed.{is_needed}
-use Rattle.pg_model.specs.Share.{Share, belongs, standings_of_share, records_in, records_below, share}
+use Rattle.pg_model.specs.Share.{belongs, standings_of_share, records_in, records_below, share}
 use Rattle.pg_model.proofs.LawsAgreement.{outcome-idle}
 use Rattle.pg_model.proofs.LawsFolds.{gathered_at-IsPermutation}
 use Rattle.pg_model.proofs.LawsIds.{ids_rise, standing_after}

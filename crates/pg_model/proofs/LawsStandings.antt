@@ -1,14 +1,14 @@
 -- Vertices found by their ids.
-use Rattle.std.proofs.Common.{◌≡◌, ℕ, ◌<◌, Bool, true, false, cond, ◌==◌, List, [], ◌∷◌, map, Option, None, Some, option_map, refl, ap, sym, ◌∙◌, arith, Contains, All}
+use Rattle.std.proofs.Common.{◌≡◌, ℕ, Bool, true, false, cond, ◌==◌, List, [], ◌∷◌, map, Some, option_map, refl, ap, sym, ◌∙◌, arith, Contains}
 use Rattle.std.specs.Ordering.{nat_cmp}
 use Rattle.std.specs.declared.cmp.Ordering.TheVariants.{Less}
 use Rattle.std.specs.List.{AllByRecursion}
 use Rattle.std.specs.List.Sorted.{IsStrictlySortedBy}
-use Rattle.std.proofs.lemmas.Bool.{eqb-true, eq-eqb, ne_eqb}
+use Rattle.std.proofs.lemmas.Bool.{eqb-true, eq-eqb}
 use Rattle.std.proofs.lemmas.Bool.Decides.{nat_tests}
 use Rattle.std.proofs.lemmas.List.Elements.{All-from_recursion, All-contains}
 use Rattle.std.proofs.lemmas.Option.{none-some, same_Some}
-use Rattle.pg_model.proofs.LawsLists.{all_both, all_from_map, contains_first, contains_later}
+use Rattle.pg_model.proofs.LawsLists.{all_both, all_from_map, contains_later}
 use Rattle.pg_model.specs.Superstep.{ids}
 use Rattle.pg_model.specs.Needed.{standing_at}
 use Rattle.pg_model.specs.declared.configuration.Standing.{Standing}
@@ -40,9 +40,11 @@ module _ {V M : Type 0} where
   pub found_by_id : (xs : List (Standing V M)) → IsStrictlySortedBy nat_cmp (ids xs) → AllByRecursion (λ x. standing_at x.state.id xs ≡ Some x) xs
   unfolding IsStrictlySortedBy
   found_by_id [] h = tt
-  found_by_id (x ∷ xs) h =
-      (ap (λ (b : Bool). cond b (Some x) (standing_at x.state.id xs)) (eq-eqb x.state.id x.state.id refl),
-      all_both (λ (y : Standing V M). nat_cmp x.state.id y.state.id ≡ Less) (λ (y : Standing V M). standing_at y.state.id xs ≡ Some y) (λ (y : Standing V M). standing_at y.state.id (x ∷ xs) ≡ Some y) (λ y less at. ap (λ (b : Bool). cond b (Some x) (standing_at y.state.id xs)) (apart x.state.id y.state.id less) ∙ at) xs (all_from_map (λ (y : Standing V M). y.state.id) (λ (n : ℕ). nat_cmp x.state.id n ≡ Less) xs h.0) (found_by_id xs h.1))
+  found_by_id (x ∷ xs) h = (
+    ap (λ (b : Bool). cond b (Some x) (standing_at x.state.id xs)) (eq-eqb x.state.id x.state.id refl),
+    all_both (λ (y : Standing V M). nat_cmp x.state.id y.state.id ≡ Less) (λ (y : Standing V M). standing_at y.state.id xs ≡ Some y) (λ (y : Standing V M). standing_at y.state.id (x ∷ xs) ≡ Some y) (λ y less at. ap (λ (b : Bool). cond b (Some x) (standing_at y.state.id xs)) (apart x.state.id y.state.id less) ∙ at) xs (all_from_map (λ (y : Standing V M). y.state.id) (λ (n : ℕ). nat_cmp x.state.id n ≡ Less) xs h.0) (found_by_id xs h.1),
+  )
 
+  -- the same of one of them
   pub standing_at-Contains : (xs : List (Standing V M)) (x : Standing V M) → IsStrictlySortedBy nat_cmp (ids xs) → Contains xs x → standing_at x.state.id xs ≡ Some x
   standing_at-Contains xs x h at = All-contains (λ (y : Standing V M). standing_at y.state.id xs ≡ Some y) xs x (All-from_recursion (λ (y : Standing V M). standing_at y.state.id xs ≡ Some y) xs (found_by_id xs h)) at
