@@ -1,10 +1,14 @@
 -- Folds in a commutative monoid: they may be cut, and don't depend on the order.
-use Rattle.std.proofs.Common.{◌≡◌, ℕ, zero, suc, ◌<◌, List, [], ◌∷◌, ◌++◌, map, ℤ, length, get_or, set, cond, refl, ap, sym, ◌∙◌, arith, All, fold, flat_map, swap, IsPermutation}
+use Rattle.std.proofs.Common.{◌≡◌, ℕ, zero, suc, ◌+◌, ◌%◌, ◌^◌, ◌<◌, ℤ, pos, ◌+ℤ◌, int_lt, w64, of_z, to_z, cond, List, [], ◌∷◌, ◌++◌, map, length, get_or, set, refl, ap, sym, ◌∙◌, subst, arith, rules, add_comm, All, fold, flat_map, swap, IsPermutation}
 use Rattle.std.proofs.lemmas.Bool.{cond_both}
 use Rattle.std.proofs.lemmas.List.Elements.{All-head, All-tail, All-set, All-get_or}
 use Rattle.std.proofs.lemmas.List.Sorted.{IsPermutation-keeps}
 use Rattle.std.proofs.lemmas.List.Sums.{fold-append}
 use Rattle.pg_model.specs.Folds.{IsCommutativeMonoid}
+use Rattle.std.specs.Int.{int_max, int_min, int_wrap, int_wrapping_add}
+use Rattle.std.specs.Prelude.{FitsSigned}
+use Rattle.std.proofs.lemmas.Int.{ints, of_z-to_z, wrapping_add_is, int_wrap_fits, SFits-int_wrap}
+use Rattle.pg_model.specs.Aggregators.{least_number, greatest_number}
 use Rattle.pg_model.specs.Job.{Aggregating}
 use Rattle.pg_model.specs.Superstep.{gathered_at}
 
@@ -87,3 +91,48 @@ gathered_at-append a value xs ys = fold-append a.aggregate (cond a.persistent va
 -- and doesn't depend on the order of the contributions
 pub gathered_at-IsPermutation : (a : Aggregating) (is_value : ℤ → Type 0) → IsCommutativeMonoid is_value a.aggregate a.initial → (value : ℤ) (xs ys : List ℤ) → is_value value → All is_value xs → IsPermutation xs ys → gathered_at a value ys ≡ gathered_at a value xs
 gathered_at-IsPermutation a is_value m value xs ys p h moved = fold-IsPermutation m (cond a.persistent value a.initial) xs ys (cond_both a.persistent value a.initial is_value (λ _. p) (λ _. m.begins)) h moved
+
+-- ---- numbers of 64 bits
+
+-- the greater of two
+pub IsCommutativeMonoid-int_max : IsCommutativeMonoid (FitsSigned w64) int_max least_number
+IsCommutativeMonoid-int_max = record {
+  begins = search rules;
+  stays = λ a b p q. cond_both (int_lt b a) a b (FitsSigned w64) (λ _. p) (λ _. q);
+  neutral = λ a p. grind (arith, ints);
+  commutative = λ a b p q. grind (arith, ints);
+  associative = λ a b c p q r. grind (arith, ints);
+}
+
+-- the lesser
+pub IsCommutativeMonoid-int_min : IsCommutativeMonoid (FitsSigned w64) int_min greatest_number
+IsCommutativeMonoid-int_min = record {
+  begins = search rules;
+  stays = λ a b p q. cond_both (int_lt b a) b a (FitsSigned w64) (λ _. q) (λ _. p);
+  neutral = λ a p. grind (arith, ints);
+  commutative = λ a b p q. grind (arith, ints);
+  associative = λ a b c p q r. grind (arith, ints);
+}
+
+grouped : (a b c : ℕ) → ((a + b) % 2 ^ 64 + c) % 2 ^ 64 ≡ (a + (b + c) % 2 ^ 64) % 2 ^ 64
+grouped a b c = omega arith
+
+zero_left : (a : ℤ) → pos 0 +ℤ a ≡ a
+zero_left a = omega (arith, ints)
+
+below : (a : ℕ) → a % 2 ^ 64 < 2 ^ 64
+below a = omega arith
+
+-- the sum in two's complement
+pub IsCommutativeMonoid-int_wrapping_add : IsCommutativeMonoid (FitsSigned w64) (int_wrapping_add w64) (pos 0)
+IsCommutativeMonoid-int_wrapping_add = record {
+  begins = search rules;
+  stays = λ a b p q. subst (FitsSigned w64) (sym (wrapping_add_is w64 a b p q)) (SFits-int_wrap w64 (a +ℤ b));
+  neutral = λ a p.
+      wrapping_add_is w64 (pos 0) a (search rules) p
+      ∙ (ap (int_wrap w64) (zero_left a) ∙ int_wrap_fits w64 a p);
+  commutative = λ a b p q. ap (λ (n : ℕ). to_z w64 (n % 2 ^ 64)) (add_comm (of_z w64 a) (of_z w64 b));
+  associative = λ a b c p q r.
+      ap (λ (n : ℕ). to_z w64 ((n + of_z w64 c) % 2 ^ 64)) (of_z-to_z w64 ((of_z w64 a + of_z w64 b) % 2 ^ 64) (below _))
+      ∙ (ap (to_z w64) (grouped (of_z w64 a) (of_z w64 b) (of_z w64 c)) ∙ sym (ap (λ (n : ℕ). to_z w64 ((of_z w64 a + n) % 2 ^ 64)) (of_z-to_z w64 ((of_z w64 b + of_z w64 c) % 2 ^ 64) (below _))));
+}
