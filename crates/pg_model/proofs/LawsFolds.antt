@@ -1,5 +1,6 @@
 -- Folds in a commutative monoid: they may be cut, and don't depend on the order.
 use Rattle.std.proofs.Common.{◌≡◌, ℕ, zero, suc, ◌+◌, ◌%◌, ◌^◌, ◌<◌, ℤ, pos, ◌+ℤ◌, int_lt, w64, of_z, to_z, cond, List, [], ◌∷◌, ◌++◌, map, length, get_or, set, refl, ap, sym, ◌∙◌, subst, arith, rules, add_comm, All, fold, flat_map, swap, IsPermutation}
+use Rattle.std.specs.List.{AllByRecursion}
 use Rattle.std.proofs.lemmas.Bool.{cond_both}
 use Rattle.std.proofs.lemmas.List.Elements.{All-head, All-tail, All-set, All-get_or}
 use Rattle.std.proofs.lemmas.List.Sorted.{IsPermutation-keeps}
@@ -42,12 +43,12 @@ module _ {A : Type 0} {is_value : A → Type 0} {f : A → A → A} {initial : A
 
   module _ {X : Type 0} (g : X → List A) where
     -- and so is that of a list made of many parts
-    pub fold-flat_map : (a : A) (xs : List X) → is_value a → ((x : X) → All is_value (g x)) → fold f a (flat_map g xs) ≡ fold f a (map (λ x. fold f initial (g x)) xs)
+    pub fold-flat_map : (a : A) (xs : List X) → is_value a → AllByRecursion (λ x. All is_value (g x)) xs → fold f a (flat_map g xs) ≡ fold f a (map (λ x. fold f initial (g x)) xs)
     fold-flat_map a [] p h = refl
     fold-flat_map a (x ∷ xs) p h =
         fold-append f a (g x) (flat_map g xs)
-        ∙ (fold-flat_map (fold f a (g x)) xs (fold_stays a (g x) p (h x)) h
-        ∙ ap (λ (b : A). fold f b (map (λ x. fold f initial (g x)) xs)) (fold_from a (g x) p (h x)))
+        ∙ (fold-flat_map (fold f a (g x)) xs (fold_stays a (g x) p h.0) h.1
+        ∙ ap (λ (b : A). fold f b (map (λ x. fold f initial (g x)) xs)) (fold_from a (g x) p h.0))
 
   -- an element taken out in front of the one that takes its place
   fold-set : (a : A) (l : List A) (i : ℕ) (y d : A) → i < length l → is_value a → is_value y → All is_value l → fold f (f a (get_or l i d)) (set l i y) ≡ fold f (f a y) l
