@@ -1,2 +1,14 @@
+pub mod LawsAgreement
+pub mod LawsDecides
+pub mod LawsDelivered
+pub mod LawsFolds
+pub mod LawsIds
+pub mod LawsInputs
+pub mod LawsLength
+pub mod LawsLists
+pub mod LawsNeeded
+pub mod LawsPublications
+pub mod LawsShares
+pub mod LawsStandings
 mod ReadyPrograms
 mod ShortestPaths

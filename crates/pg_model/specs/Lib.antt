@@ -1,6 +1,9 @@
 pub mod Aggregators
+pub mod Agreement
+pub mod Folds
 pub mod Job
 pub mod Needed
+pub mod Order
 pub mod Programs
 pub mod Publications
 pub mod Run
