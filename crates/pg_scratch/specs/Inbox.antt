@@ -5,6 +5,11 @@ use Rattle.pg_model.specs.Superstep.{delivered}
 use Rattle.pg_model.specs.declared.configuration.Standing.{Standing}
 
 module _ {M : Type 0} where
+  -- what the messages of an inbox have come to
+  abbrev pub combined_so_far : Combining M → List M → M
+  combined_so_far c [] = c.initial
+  combined_so_far c (before ∷ rest) = before
+
   -- the inbox with one more message, where the combiner leaves one message at most
   abbrev pub with_message : Option (Combining M) → List M → M → List M
   with_message None inbox m = inbox ++ m ∷ []

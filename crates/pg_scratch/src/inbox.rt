@@ -4,7 +4,7 @@ ghost use Rattle.std.specs.Ordering.{nat_cmp};
 ghost use Rattle.std.specs.List.Sorted.{IsStrictlySortedBy};
 ghost use Rattle.pg_model.specs.Superstep.{has_id, is_empty};
 ghost use Rattle.pg_model.specs.declared.configuration.Standing.{Standing};
-ghost use Rattle.pg_scratch.specs.Inbox.{with_message};
+ghost use Rattle.pg_scratch.specs.Inbox.{with_message, combined_so_far};
 
 use pg_global::MessageCombiner;
 use pg_graph::{Memory, VertexId};
@@ -33,19 +33,32 @@ pub(crate) fn put<M: Plain, C: MessageCombiner<M>>(
     requires { IsSome (C.combining combiner.now) → length inbox.old ≤ 1 }
     ensures { OnOk result (inbox.new ≡ with_message (C.combining combiner.now) inbox.old message) }
 {
-    if !combiner.combines() {
-        inbox.push(message)?;
+    if combiner.combines() {
+        let before = take_before(alloc, combiner, inbox)?;
+        let after = combined(alloc, combiner, before, &message)?;
+        inbox.push(after)?;
         return Ok(());
     }
+    inbox.push(message)?;
+    Ok(())
+}
+
+/// Takes from an inbox of at most one message what the messages so far came to.
+fn take_before<M: Plain, C: MessageCombiner<M>>(
+    alloc: Global,
+    combiner: &C,
+    inbox: &mut Sequence<M>,
+) -> Result<M, Memory>
+    requires combines { IsSome (C.combining combiner.now) }
+    requires single { length inbox.old ≤ 1 }
+    ensures value { IfOk result (λ m. IfSome (C.combining combiner.now) (λ c. m ≡ combined_so_far c inbox.old)) }
+    ensures taken { OnOk result (inbox.new ≡ []) }
+{
     match inbox.pop() {
-        Some(before) => {
-            inbox.push(combined(alloc, combiner, before, &message)?)?;
-            Ok(())
-        }
+        Some(before) => Ok(before),
         None => {
             let initial = combiner.initial_message(alloc)?;
-            inbox.push(combined(alloc, combiner, initial, &message)?)?;
-            Ok(())
+            Ok(initial)
         }
     }
 }

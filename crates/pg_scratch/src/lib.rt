@@ -1,2 +1,3 @@
 #![tactic(auto)]
+mod delivery;
 mod inbox;
