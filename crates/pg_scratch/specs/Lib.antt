@@ -1,2 +1,3 @@
 pub mod Inbox
+pub mod Pass
 pub mod Worklist

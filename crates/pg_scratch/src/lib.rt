@@ -1,3 +1,4 @@
 #![tactic(auto)]
 mod delivery;
+mod execution;
 mod inbox;

@@ -1,0 +1,118 @@
+//! The executions of a superstep.
+ghost use Rattle.std.specs.Prelude.{◌≡◌, ℕ, [], ◌∷◌, ◌++◌, ◌+◌, ◌<◌, ◌^◌, true, false, cond, not, List, length, map, slice_get, slice_set, Some, OnOk, IfOk};
+ghost use Rattle.std.specs.Ordering.{nat_cmp};
+ghost use Rattle.std.specs.List.Sorted.{IsStrictlySortedBy};
+ghost use Rattle.pg_model.specs.Job.{Program};
+ghost use Rattle.pg_model.specs.Superstep.{is_active as active_test, outcome, capped};
+ghost use Rattle.pg_model.specs.declared.configuration.Standing.{Standing};
+ghost use Rattle.pg_program.specs.Computation.{Executes};
+ghost use Rattle.pg_program.specs.Context.{Context, ShowsDeclared};
+ghost use Rattle.pg_scratch.specs.Pass.{ran, context_after, ran_context, with_unhalted};
+ghost use Rattle.pg_scratch.specs.Worklist.{ListsActive};
+
+use pg_graph::Memory;
+use pg_model::{Standing, VertexState};
+use pg_program::{Computation, Cx, EdgeRoom, Plain, Vertex};
+use std::alloc::Global;
+use std::mem;
+
+/// What an execution borrows and gives back: a state that stands in for the vertex's own in the meantime,
+/// and room for changed edges.
+#[derive(Drop)]
+struct Bench<V> {
+    stand_in: VertexState<V>,
+    room: EdgeRoom,
+}
+
+/// Whether a vertex is executed.
+pub(crate) fn is_active<V, M>(standing: &Standing<V, M>) -> bool
+    ensures { result ≡ active_test standing.now }
+{
+    !standing.state.halted || standing.inbox.len() != 0
+}
+
+/// Executes an active vertex, which has then received nothing since.
+fn execute<P: Computation>(
+    alloc: Global,
+    program: &P,
+    standing: &mut Standing<P::Value, P::Message>,
+    bench: Bench<P::Value>,
+    cx: &mut Cx<P::Message>,
+) -> Result<Bench<P::Value>, Memory>
+    requires active { active_test standing.old ≡ true }
+    requires shown { ShowsDeclared (P.program program.now).declared cx.old.view }
+    requires writes { cx.old.writes ≡ (P.program program.now).declared.writes }
+    ensures standing { OnOk result (standing.new ≡ ran (P.program program.now) cx.old.view standing.old) }
+    ensures context { OnOk result (cx.new ≡ record {
+        view = cx.old.view;
+        writes = cx.old.writes;
+        sent = cx.old.sent ++ (outcome (P.program program.now) cx.old.view standing.old).sent;
+        contributed = cx.old.contributed ++ (outcome (P.program program.now) cx.old.view standing.old).contributed;
+        calls = capped (cx.old.calls + 1);
+    }) }
+{
+    let Bench { stand_in, room } = bench;
+    let state = mem::replace(&mut standing.state, stand_in);
+    let VertexState {
+        id,
+        value,
+        edges,
+        halted: _,
+    } = state;
+    let mut vertex = Vertex::new(id, value, edges, room)?;
+    program.compute(alloc, &mut vertex, standing.inbox.as_slice(), cx)?;
+    standing.inbox.clear();
+    let (state, room) = vertex.into_parts(alloc)?;
+    let stand_in = mem::replace(&mut standing.state, state);
+    Ok(Bench { stand_in, room })
+}
+
+/// Executes a vertex, if it is active.
+fn visit<P: Computation>(
+    alloc: Global,
+    program: &P,
+    standing: &mut Standing<P::Value, P::Message>,
+    bench: Bench<P::Value>,
+    cx: &mut Cx<P::Message>,
+) -> Result<Bench<P::Value>, Memory>
+    requires shown { ShowsDeclared (P.program program.now).declared cx.old.view }
+    requires writes { cx.old.writes ≡ (P.program program.now).declared.writes }
+    requires fits { cx.old.calls < 2 ^ 64 }
+    ensures standing { OnOk result (standing.new ≡ ran (P.program program.now) cx.old.view standing.old) }
+    ensures context { OnOk result (cx.new ≡ context_after (P.program program.now) cx.old standing.old) }
+{
+    if !is_active(standing) {
+        return Ok(bench);
+    }
+    let bench = execute(alloc, program, standing, bench, cx)?;
+    Ok(bench)
+}
+
+/// Executes the vertex at a place, if it is active, and adds the place to `unhalted` where it isn't halted then.
+fn execute_at<P: Computation>(
+    alloc: Global,
+    program: &P,
+    standings: &mut Vec<Standing<P::Value, P::Message>>,
+    place: usize,
+    bench: Bench<P::Value>,
+    cx: &mut Cx<P::Message>,
+    unhalted: &mut Vec<usize>,
+) -> Result<Bench<P::Value>, Memory>
+    requires within { place < length standings.old.items }
+    requires shown { ShowsDeclared (P.program program.now).declared cx.old.view }
+    requires writes { cx.old.writes ≡ (P.program program.now).declared.writes }
+    requires fits { cx.old.calls < 2 ^ 64 }
+    ensures standings { OnOk result ((x : Standing P.Value P.Message) → slice_get standings.old.items place ≡ Some x
+        → standings.new.items ≡ slice_set standings.old.items place (ran (P.program program.now) cx.old.view x)) }
+    ensures context { OnOk result ((x : Standing P.Value P.Message) → slice_get standings.old.items place ≡ Some x
+        → cx.new ≡ context_after (P.program program.now) cx.old x) }
+    ensures unhalted { OnOk result ((x : Standing P.Value P.Message) → slice_get standings.old.items place ≡ Some x
+        → unhalted.new.items ≡ with_unhalted unhalted.old.items place (ran (P.program program.now) cx.old.view x)) }
+{
+    let standing = &mut standings[place];
+    let bench = visit(alloc, program, standing, bench, cx)?;
+    if !standing.state.halted {
+        unhalted.push(place)?;
+    }
+    Ok(bench)
+}
