@@ -2,3 +2,4 @@ pub mod Delivering
 pub mod Executing
 pub mod Ids
 pub mod Messages
+pub mod Passing

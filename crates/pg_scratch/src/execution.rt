@@ -67,6 +67,48 @@ fn execute<P: Computation>(
     Ok(Bench { stand_in, room })
 }
 
+/// Executes the active vertices, whose places are on the list `work`, by rising place. Gives the places of
+/// those that aren't halted then.
+pub(crate) fn execute_all<P: Computation>(
+    alloc: Global,
+    program: &P,
+    standings: &mut Vec<Standing<P::Value, P::Message>>,
+    work: &[usize],
+    cx: &mut Cx<P::Message>,
+) -> Result<Vec<usize>, Memory>
+    requires lists { ListsActive standings.old.items work.now }
+    requires rising { IsStrictlySortedBy nat_cmp work.now }
+    requires shown { ShowsDeclared (P.program program.now).declared cx.old.view }
+    requires writes { cx.old.writes ≡ (P.program program.now).declared.writes }
+    requires fits { cx.old.calls < 2 ^ 64 }
+    ensures standings { OnOk result (standings.new.items ≡ map (ran (P.program program.now) cx.old.view) standings.old.items) }
+    ensures context { OnOk result (cx.new ≡ ran_context (P.program program.now) cx.old standings.old.items) }
+    ensures lists { IfOk result (λ unhalted. ListsActive standings.new.items unhalted.items) }
+{
+    let mut unhalted = Vec::new(alloc);
+    if work.is_empty() {
+        return Ok(unhalted);
+    }
+    let mut bench = bench_of(alloc, &standings[work[0]])?;
+    for place in work {
+        bench = execute_at(alloc, program, standings, *place, bench, cx, &mut unhalted)?;
+    }
+    Ok(unhalted)
+}
+
+/// A bench whose state is a copy of a vertex's.
+fn bench_of<V: Plain, M>(alloc: Global, standing: &Standing<V, M>) -> Result<Bench<V>, Memory> {
+    Ok(Bench {
+        stand_in: VertexState {
+            id: standing.state.id,
+            value: standing.state.value.copy(alloc)?,
+            edges: standing.state.edges.copy()?,
+            halted: standing.state.halted,
+        },
+        room: EdgeRoom::new(alloc),
+    })
+}
+
 /// Executes a vertex, if it is active.
 fn visit<P: Computation>(
     alloc: Global,
