@@ -213,7 +213,7 @@ module _ {V M : Type 0} (program : Program V M) (first now : List (Standing V M)
       }
 
 -- ---- a pass from its beginning to its end
-listed_place : (work : List ℕ) (i : ℕ) → has_id work i ≡ true → (j : ℕ) × (j < length work) × (get_or work j 0 ≡ i)
+pub listed_place : (work : List ℕ) (i : ℕ) → has_id work i ≡ true → (j : ℕ) × (j < length work) × (get_or work j 0 ≡ i)
 listed_place [] i h = let k : false ≡ true = h in cc
 listed_place (p ∷ work) i h =
     by_bool (p == i)

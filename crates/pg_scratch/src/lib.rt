@@ -1,4 +1,6 @@
 #![tactic(auto)]
 mod delivery;
 mod execution;
+mod gathering;
 mod inbox;
+mod worklist;
