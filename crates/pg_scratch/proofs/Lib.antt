@@ -1,3 +1,4 @@
+pub mod Contributing
 pub mod Delivering
 pub mod Executing
 pub mod Ids

@@ -1,3 +1,4 @@
+pub mod Adding
 pub mod Inbox
 pub mod Pass
 pub mod Worklist

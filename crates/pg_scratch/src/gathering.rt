@@ -1,7 +1,8 @@
 //! What the vertices of a superstep see, and what they contribute.
-ghost use Rattle.std.specs.Prelude.{◌≡◌, [], ◌∷◌, ◌+◌, ◌<◌, ◌≤◌, false, ℤ, List, length, map, Some, None, cond, IfOk, OnOk};
+ghost use Rattle.std.specs.Prelude.{◌≡◌, [], ◌∷◌, ◌++◌, ◌+◌, ◌<◌, ◌≤◌, false, ℤ, List, length, map, Some, None, cond, IfOk, OnOk};
 ghost use Rattle.pg_model.specs.Job.{has_place, Totals};
-ghost use Rattle.pg_model.specs.Superstep.{visible_in, view_of, shown, gathered_from};
+ghost use Rattle.pg_model.specs.Superstep.{visible_in, view_of, shown, gathered_at, gathered_from};
+ghost use Rattle.pg_scratch.specs.Adding.{AddsAt};
 ghost use Rattle.pg_global.specs.Registry.{aggregating_of};
 
 use pg_global::{Aggregator, MasterCompute, MasterState, Registration, Visible};
@@ -59,4 +60,65 @@ fn shown(alloc: Global, places: u16, values: &[i64]) -> Result<Sequence<Option<i
         shown.push(is_declared.then_some(values[place]))?;
     }
     Ok(shown)
+}
+
+/// What the contributions of a superstep come to, where these values were visible in it.
+pub(crate) fn gather_all(
+    alloc: Global,
+    registrations: &[Registration],
+    visible: &[i64],
+    contributed: &[(Place, i64)],
+) -> Result<Sequence<i64>, Memory>
+    requires { length registrations.now ≡ length visible.now }
+    ensures { IfOk result (λ g. g ≡ gathered_from 0 (map aggregating_of registrations.now) visible.now contributed.now) }
+{
+    let mut gathered = begin(alloc, registrations, visible)?;
+    for contribution in contributed {
+        add(registrations, &mut gathered, contribution);
+    }
+    Ok(Sequence::from_vec(gathered))
+}
+
+/// Adds a contribution at its place, if there is an aggregator.
+fn add(registrations: &[Registration], gathered: &mut Vec<i64>, contribution: &(Place, i64))
+    requires { length registrations.now ≡ length gathered.old.items }
+    ensures { AddsAt registrations.now gathered.old.items gathered.new.items contribution.now.0 contribution.now.1 }
+{
+    let (place, value) = *contribution;
+    let place = usize::from(place.number());
+    if place < registrations.len() {
+        gathered[place] = registrations[place].kind.aggregate(gathered[place], value);
+    }
+}
+
+/// What each place starts from.
+fn begin(
+    alloc: Global,
+    registrations: &[Registration],
+    visible: &[i64],
+) -> Result<Vec<i64>, Memory>
+    requires { length registrations.now ≡ length visible.now }
+    ensures { IfOk result (λ v. v.items ≡ gathered_from 0 (map aggregating_of registrations.now) visible.now []) }
+{
+    let mut gathered = Vec::new(alloc);
+    for (place, registration) in registrations.iter().enumerate() {
+        push_start(&mut gathered, registration, &visible[place])?;
+    }
+    Ok(gathered)
+}
+
+/// Adds what an aggregator starts from, where a value was visible.
+fn push_start(
+    gathered: &mut Vec<i64>,
+    registration: &Registration,
+    visible: &i64,
+) -> Result<(), Memory>
+    ensures { OnOk result (gathered.new.items ≡ gathered.old.items ++ gathered_at (aggregating_of registration.now) visible.now [] ∷ []) }
+{
+    if registration.persistent {
+        gathered.push(*visible)?;
+    } else {
+        gathered.push(registration.kind.initial_value())?;
+    }
+    Ok(())
 }
