@@ -1,5 +1,5 @@
 //! The count of compute calls.
-ghost use Rattle.std.specs.Prelude.{◌≡◌, ℕ, ◌+◌};
+ghost use Rattle.std.specs.Prelude.{◌≡◌, ℕ, ◌+◌, ◌<◌, ◌^◌};
 ghost use Rattle.pg_model.specs.Superstep.{capped};
 
 use std::marker::Model;
@@ -26,9 +26,17 @@ impl Meter {
 
     /// How many calls it has counted.
     pub fn count(&self) -> u64
-        ensures { result ≡ self.now }
+        ensures value { result ≡ self.now }
+        ensures fits { self.now < 2 ^ 64 }
     {
         self.count
+    }
+
+    /// A meter that has counted as many.
+    pub fn copy(&self) -> Meter
+        ensures { result ≡ self.now }
+    {
+        Meter { count: self.count }
     }
 
     pub(crate) fn called(&mut self)

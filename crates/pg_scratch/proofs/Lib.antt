@@ -5,3 +5,5 @@ pub mod Ids
 pub mod Messages
 pub mod Ordering
 pub mod Passing
+pub mod Stepping
+pub mod Whole

@@ -1,4 +1,5 @@
 pub mod Adding
 pub mod Inbox
 pub mod Pass
+pub mod Progress
 pub mod Worklist

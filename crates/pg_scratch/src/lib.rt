@@ -3,4 +3,5 @@ mod delivery;
 mod execution;
 mod gathering;
 mod inbox;
+mod superstep;
 mod worklist;
