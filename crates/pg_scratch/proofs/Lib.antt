@@ -5,5 +5,6 @@ pub mod Ids
 pub mod Messages
 pub mod Ordering
 pub mod Passing
+pub mod Registered
 pub mod Stepping
 pub mod Whole

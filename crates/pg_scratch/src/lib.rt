@@ -1,4 +1,5 @@
 #![tactic(auto)]
+mod beginning;
 mod delivery;
 mod execution;
 mod gathering;

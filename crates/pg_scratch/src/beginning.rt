@@ -1,0 +1,90 @@
+//! What stands as a run begins, and its answer.
+ghost use Rattle.std.specs.Prelude.{◌≡◌, [], ◌∷◌, ◌++◌, ◌≤◌, false, map, length, IfOk};
+ghost use Rattle.std.specs.Ordering.{nat_cmp};
+ghost use Rattle.std.specs.List.Sorted.{IsStrictlySortedBy};
+ghost use Rattle.std.specs.Map.{keys_of};
+ghost use Rattle.pg_model.specs.Run.{beginning};
+ghost use Rattle.pg_global.specs.Registry.{aggregating_of};
+
+use pg_global::{Aggregator, Registration, Registry};
+use pg_graph::{Graph, Memory, Row, VertexId};
+use pg_model::{Sequence, Standing, VertexState};
+use pg_program::Computation;
+use std::alloc::Global;
+
+/// The ids of a graph, rising.
+pub(crate) fn ids_of(alloc: Global, graph: &Graph) -> Result<Vec<VertexId>, Memory>
+    ensures ids { IfOk result (λ ids. ids.items ≡ keys_of graph.now) }
+    ensures rising { IfOk result (λ ids. IsStrictlySortedBy nat_cmp ids.items) }
+{
+    let mut ids = Vec::with_capacity(alloc, graph.vertices() as usize)?;
+    for (id, _) in graph.iter() {
+        ids.push(*id)?;
+    }
+    Ok(ids)
+}
+
+/// The vertices as a run begins.
+pub(crate) fn standings_of<P: Computation>(
+    alloc: Global,
+    graph: &Graph,
+    program: &P,
+) -> Result<Vec<Standing<P::Value, P::Message>>, Memory>
+    ensures { IfOk result (λ standings. standings.items ≡ map (beginning (P.program program.now)) graph.now) }
+{
+    let mut standings = Vec::with_capacity(alloc, graph.vertices() as usize)?;
+    for (id, row) in graph.iter() {
+        standings.push(standing_of(alloc, program, *id, row)?)?;
+    }
+    Ok(standings)
+}
+
+/// A vertex as a run begins.
+fn standing_of<P: Computation>(
+    alloc: Global,
+    program: &P,
+    id: VertexId,
+    row: &Row,
+) -> Result<Standing<P::Value, P::Message>, Memory>
+    ensures { IfOk result (λ x. x ≡ beginning (P.program program.now) (id, row.now)) }
+{
+    let state = VertexState {
+        id,
+        value: program.initial(alloc, id, row.input)?,
+        edges: row.edges.copy()?,
+        halted: false,
+    };
+    Ok(Standing {
+        state,
+        inbox: Sequence::new(alloc),
+    })
+}
+
+/// What each aggregator begins with.
+pub(crate) fn initial_values(
+    alloc: Global,
+    registrations: &[Registration],
+) -> Result<Sequence<i64>, Memory>
+    ensures { IfOk result (λ values. values ≡ map (λ r. (aggregating_of r).initial) registrations.now) }
+{
+    let mut values = Sequence::new(alloc);
+    for registration in registrations {
+        values.push(registration.kind.initial_value())?;
+    }
+    Ok(values)
+}
+
+/// What is registered, by place.
+pub(crate) fn registrations_of(
+    alloc: Global,
+    registry: &Registry,
+) -> Result<Vec<Registration>, Memory>
+    ensures value { IfOk result (λ v. v.items ≡ map (λ e. e.1) registry.now) }
+    ensures few { length registry.now ≤ 16 }
+{
+    let mut registrations = Vec::new(alloc);
+    for place in 0..registry.len() {
+        registrations.push(registry.registration(place))?;
+    }
+    Ok(registrations)
+}
