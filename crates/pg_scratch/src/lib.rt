@@ -4,5 +4,6 @@ mod delivery;
 mod execution;
 mod gathering;
 mod inbox;
+mod run;
 mod superstep;
 mod worklist;

@@ -1,0 +1,8 @@
+use Rattle.std.proofs.Common.{length}
+use Rattle.pg_global.specs.Master.{job_of}
+use Rattle.pg_scratch.specs.Running.{IsRunning}
+use Rattle.pg_scratch.proofs.run.run_registered.Given as goal
+
+abbrev pub invariant-loop-done : goal.invariant-loop-done
+invariant-loop-done g l =
+    IsRunning (job_of (g.P.Computation.program l.job.program.now) (g.C.MessageCombiner.combining l.job.combiner.now) (g.M.MasterCompute.master l.job.master.now) l.limit) l.graph l.job.ids.now (length l.job.registrations.now) l.fn.meter l.done l.progress.configuration l.progress.work.items l.progress.meter

@@ -1,0 +1,175 @@
+//! A run from scratch.
+ghost use Rattle.std.specs.Prelude.{◌≡◌, ℕ, ◌+◌, ◌<◌, ◌≤◌, ◌^◌, ◌==◌, true, false, cond, not, map, length, Option, Some, None, IsSome, IfOk, IfErr, OnOk, OnErr, IsErrOf};
+ghost use Rattle.std.specs.List.{list_all};
+ghost use Rattle.std.specs.List.{range_with_len};
+ghost use Rattle.std.specs.List.Sorted.{IsStrictlySortedBy};
+ghost use Rattle.std.specs.Map.{keys_of};
+ghost use Rattle.std.specs.Ordering.{nat_cmp};
+ghost use Rattle.pg_graph.specs.Rows.{vertex_count, edge_count};
+ghost use Rattle.pg_model.specs.Run.{answer, executions, beginning};
+ghost use Rattle.pg_model.specs.Superstep.{is_active as active_test, capped};
+ghost use Rattle.pg_global.specs.Master.{job_of, is_registered, has_places};
+ghost use Rattle.pg_global.specs.Registry.{first_refusal, aggregating_of};
+ghost use Rattle.pg_scratch.specs.Worklist.{ListsActive};
+
+use crate::beginning::{ids_of, initial_values, registrations_of, standings_of};
+use crate::superstep::{Job, Progress, is_anyone_active, superstep};
+use pg_global::{MasterCompute, MessageCombiner, RegisterFault, Registration, Registry};
+use pg_graph::{Graph, Memory, Superstep, VertexId};
+use pg_model::{Configuration, Ending, Run, Sequence, Standing, VertexState};
+use pg_program::{Computation, Meter};
+use std::alloc::Global;
+use thiserror::Error;
+
+/// Why a run was not made.
+#[derive(Clone, Copy, Debug, PartialEq, Eq, Error)]
+pub enum RunFault {
+    /// 1: a growth was refused.
+    #[error("out of memory")]
+    Memory,
+    /// 2: the program has declared a place that the master doesn't register.
+    #[error("a declared aggregator isn't registered")]
+    Unregistered,
+    /// 3: the master's list of aggregators breaks the rules of registration.
+    #[error("the master's aggregators can't be registered")]
+    Register,
+}
+
+/// Why the run ends after a superstep, if it does: the master halted; all is idle; the limit is reached.
+fn ending_of<V, M>(
+    halt: bool,
+    progress: &Progress<V, M>,
+    supersteps: u32,
+    limit: u32,
+) -> Option<Ending>
+    requires { ListsActive progress.now.configuration.standings progress.now.work.items }
+    ensures { result ≡ cond halt (Some Ending.MasterHalted)
+        (cond (list_all (λ x. not (active_test x)) progress.now.configuration.standings) (Some Ending.Finished)
+            (cond (supersteps == limit) (Some Ending.LimitReached) None)) }
+{
+    if halt {
+        return Some(Ending::MasterHalted);
+    }
+    let standings = progress.configuration.standings.as_slice();
+    if !is_anyone_active(standings, progress.work.as_slice()) {
+        return Some(Ending::Finished);
+    }
+    if supersteps == limit {
+        return Some(Ending::LimitReached);
+    }
+    None
+}
+
+/// The answer of a run that has ended with this configuration.
+fn answer_of<V: Drop, M: Drop>(
+    alloc: Global,
+    configuration: Configuration<V, M>,
+    ending: Ending,
+    supersteps: u32,
+) -> Result<Run<V>, Memory>
+    ensures { IfOk result (λ r. r ≡ record {
+        values = map (λ x. (x.state.id, x.state.value)) configuration.standings;
+        aggregates = configuration.gathered;
+        ending = ending;
+        supersteps = supersteps;
+        sent = configuration.sent;
+        dropped = configuration.dropped;
+    }) }
+{
+    let Configuration {
+        standings,
+        gathered,
+        sent,
+        dropped,
+    } = configuration;
+    let mut values = Vec::with_capacity(alloc, standings.len())?;
+    for standing in standings.into_vec() {
+        let Standing { state, inbox: _ } = standing;
+        let VertexState {
+            id,
+            value,
+            edges: _,
+            halted: _,
+        } = state;
+        values.push((id, value))?;
+    }
+    Ok(Run {
+        values: Sequence::from_vec(values),
+        aggregates: gathered,
+        ending,
+        supersteps,
+        sent,
+        dropped,
+    })
+}
+
+/// The run as its first superstep begins.
+fn begin<P: Computation>(
+    alloc: Global,
+    graph: &Graph,
+    program: &P,
+    registrations: &[Registration],
+    meter: Meter,
+) -> Result<Progress<P::Value, P::Message>, Memory>
+    ensures standings { IfOk result (λ p. p.configuration ≡ record {
+        standings = map (beginning (P.program program.now)) graph.now;
+        gathered = map (λ r. (aggregating_of r).initial) registrations.now;
+        sent = 0;
+        dropped = 0;
+    }) }
+    ensures work { IfOk result (λ p. p.work.items ≡ range_with_len 0 (length graph.now)) }
+    ensures meter { IfOk result (λ p. p.meter ≡ meter) }
+{
+    let configuration = Configuration {
+        standings: Sequence::from_vec(standings_of(alloc, graph, program)?),
+        gathered: initial_values(alloc, registrations)?,
+        sent: 0,
+        dropped: 0,
+    };
+    let mut work = Vec::with_capacity(alloc, graph.vertices() as usize)?;
+    for place in 0..graph.vertices() as usize {
+        work.push(place)?;
+    }
+    Ok(Progress {
+        configuration,
+        work,
+        meter,
+    })
+}
+
+/// The run of a job whose aggregators are registered, with the meter after it.
+fn run_registered<P: Computation, C: MessageCombiner<P::Message>, M: MasterCompute>(
+    alloc: Global,
+    graph: &Graph,
+    job: &Job<'_, P, C, M>,
+    limit: u32,
+    meter: Meter,
+) -> Result<(Run<P::Value>, Meter), Memory>
+    requires limit { 0 < limit }
+    requires registrations { job.now.registrations.now ≡ map (λ e. e.1) (M.master job.now.master.now).registrations }
+    requires few { length job.now.registrations.now ≤ 16 }
+    requires declared { has_places (P.program job.now.program.now).declared (length job.now.registrations.now) ≡ true }
+    requires ids { job.now.ids.now ≡ keys_of graph.now }
+    requires rising { IsStrictlySortedBy nat_cmp job.now.ids.now }
+    requires total_vertices { job.now.total_vertices ≡ vertex_count graph.now }
+    requires total_edges { job.now.total_edges ≡ edge_count graph.now }
+    requires fits { meter < 2 ^ 64 }
+    ensures answer { IfOk result (λ r. r.0 ≡ answer (job_of (P.program job.now.program.now) (C.combining job.now.combiner.now) (M.master job.now.master.now) limit) graph.now) }
+    ensures meter { IfOk result (λ r. r.1 ≡ capped (meter + executions (job_of (P.program job.now.program.now) (C.combining job.now.combiner.now) (M.master job.now.master.now) limit) graph.now)) }
+{
+    let mut progress = begin(alloc, graph, job.program, job.registrations, meter)?;
+    for done in 0..limit {
+        let (next, halt) = superstep(alloc, job, Superstep::new(done), progress)?;
+        if let Some(ending) = ending_of(halt, &next, done + 1, limit) {
+            let Progress {
+                configuration,
+                work: _,
+                meter,
+            } = next;
+            let run = answer_of(alloc, configuration, ending, done + 1)?;
+            return Ok((run, meter));
+        }
+        progress = next;
+    }
+    unreachable!()
+}
