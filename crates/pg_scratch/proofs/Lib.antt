@@ -6,5 +6,6 @@ pub mod Messages
 pub mod Ordering
 pub mod Passing
 pub mod Registered
+pub mod Runs
 pub mod Stepping
 pub mod Whole
