@@ -116,3 +116,75 @@ module _ {V M : Type 0} (program : Program V M) (combining : Option (Combining M
         goes_on = λ before h. absurd (omega arith);
         counted = counted ∙ (let e : count ≡ capped (count + 0) = omega arith in e);
       }
+
+-- ---- one superstep more
+one_less : (s : ℕ) → s + 1 - 1 ≡ s
+one_less s = omega arith
+
+above : (s : ℕ) → s + 1 ≡ suc s
+above s = omega arith
+
+module _ {V M : Type 0} (job : Job V M) (rows : Rows) where
+  -- what stands after superstep s
+  next_stands : (totals : Totals) → totals ≡ totals_of rows → (s : ℕ) (c d : Configuration V M) → c ≡ configuration job rows s → d ≡ next job totals s c → d ≡ configuration job rows (s + 1)
+  unfolding configuration
+  next_stands totals same s c d stands is =
+      let P : ℕ → Configuration V M = λ n. configuration job rows n in
+      is ∙ ap (λ (t : Totals). next job t s c) same ∙ ap (next job (totals_of rows) s) stands ∙ sym (ap P (above s))
+
+  more_executions : (s : ℕ) → executions_below job rows (s + 1) ≡ executions_below job rows s + executed job rows (configuration job rows s).standings
+  unfolding executions_below
+  more_executions s = let P : ℕ → ℕ = λ n. executions_below job rows n in ap P (above s)
+
+  counted_more : (first_count s meter after : ℕ) (c : Configuration V M) → c ≡ configuration job rows s → meter ≡ capped (first_count + executions_below job rows s) → after ≡ capped (meter + count_by is_active c.standings) → after ≡ capped (first_count + executions_below job rows (s + 1))
+  counted_more first_count s meter after c stands counted is =
+      let more = more_executions s in
+      let P : Configuration V M → ℕ = λ x. count_by is_active x.standings in
+      let same : count_by is_active c.standings ≡ executed job rows (configuration job rows s).standings = ap P stands in
+      omega (arith, counted, is, more, same)
+
+  -- the test after superstep s
+  pub ending_is : (totals : Totals) → totals ≡ totals_of rows → (s : ℕ) (c d : Configuration V M) (halt : Bool) (found : Option Ending) → c ≡ configuration job rows s → d ≡ next job totals s c → halt ≡ (visible job totals s c).halt → found ≡ cond halt (Some MasterHalted) (cond (list_all (λ x. not (is_active x)) d.standings) (Some Finished) (cond (s + 1 == job.limit) (Some LimitReached) None)) → found ≡ ending_after job rows s
+  ending_is totals same s c d halt found stands is halts finds =
+      let after = next_stands totals same s c d stands is in
+      let P : Bool → Configuration V M → Option Ending = λ h x. cond h (Some MasterHalted) (cond (list_all (λ x. not (is_active x)) x.standings) (Some Finished) (cond (s + 1 == job.limit) (Some LimitReached) None)) in
+      let Q : Totals → Configuration V M → Bool = λ t x. (visible job t s x).halt in
+      finds ∙ ap (λ h. P h d) (halts ∙ ap (λ t. Q t c) same ∙ ap (Q (totals_of rows)) stands) ∙ ap (P (visible job (totals_of rows) s (configuration job rows s)).halt) after
+
+  module _ (vertices : List ℕ) (places first_count : ℕ) where
+    pub running_on : (totals : Totals) → totals ≡ totals_of rows → (s meter after : ℕ) (c d : Configuration V M) (work rest : List ℕ) → IsRunning job rows vertices places first_count s c work meter → d ≡ next job totals s c → IsReady vertices places d rest → after ≡ capped (meter + count_by is_active c.standings) → ending_after job rows s ≡ None → IsRunning job rows vertices places first_count (s + 1) d rest after
+    running_on totals same s meter after c d work rest running is ready is_counted none =
+        record {
+          stands = next_stands totals same s c d running.stands is;
+          ready = ready;
+          goes_on = λ before less. ⊎_elim (λ (l : before < s). running.goes_on before l) (λ (l : s ≤ before). let e : s ≡ before = omega arith in let P : ℕ → Type 0 = λ n. is_some (ending_after job rows n) ≡ false in subst P e (ap is_some none)) (cases_lt before s);
+          counted = counted_more first_count s meter after c running.stands running.counted is_counted;
+        }
+
+    length_now : (s meter : ℕ) (c : Configuration V M) (work : List ℕ) → IsRunning job rows vertices places first_count s c work meter → s < job.limit → (ending : Ending) → Some ending ≡ ending_after job rows s → run_length job rows ≡ s + 1
+    length_now s meter c work running within ending ends =
+        let P : ℕ → Type 0 = λ n. is_some (ending_after job rows n) ≡ true in
+        run_length_is job rows (s + 1) (omega arith) (omega arith) (subst P (sym (one_less s)) (ap is_some (sym ends))) (λ before less. running.goes_on before (omega arith))
+
+    pub answers : (totals : Totals) → totals ≡ totals_of rows → (s meter : ℕ) (c d : Configuration V M) (work : List ℕ) (ending : Ending) (run : Run V) → IsRunning job rows vertices places first_count s c work meter → s < job.limit → d ≡ next job totals s c → Some ending ≡ ending_after job rows s → run ≡ record { values = values_of job rows d; aggregates = d.gathered; ending = ending; supersteps = s + 1; sent = d.sent; dropped = d.dropped } → run ≡ answer job rows
+    unfolding answer
+    answers totals same s meter c d work ending run running within is ends finds =
+        let long = length_now s meter c work running within ending ends in
+        let after = next_stands totals same s c d running.stands is in
+        let P : Configuration V M → Ending → ℕ → Run V = λ x e n. record { values = values_of job rows x; aggregates = x.gathered; ending = e; supersteps = n; sent = x.sent; dropped = x.dropped } in
+        let Q : ℕ → Run V = λ n. P (configuration job rows n) (unwrap_or (ending_after job rows (n - 1)) LimitReached) n in
+        let R : ℕ → Ending = λ n. unwrap_or (ending_after job rows n) LimitReached in
+        let found : ending ≡ R (s + 1 - 1) = ap (λ (o : Option Ending). unwrap_or o LimitReached) ends ∙ sym (ap R (one_less s)) in
+        finds ∙ ap (λ x. P x ending (s + 1)) after ∙ ap (λ e. P (configuration job rows (s + 1)) e (s + 1)) found ∙ sym (ap Q long)
+
+    pub counts : (totals : Totals) → totals ≡ totals_of rows → (s meter after : ℕ) (c : Configuration V M) (work : List ℕ) (ending : Ending) → IsRunning job rows vertices places first_count s c work meter → s < job.limit → after ≡ capped (meter + count_by is_active c.standings) → Some ending ≡ ending_after job rows s → after ≡ capped (first_count + executions job rows)
+    counts totals same s meter after c work ending running within is_counted ends =
+        let long = length_now s meter c work running within ending ends in
+        let P : ℕ → ℕ = λ n. capped (first_count + executions_below job rows n) in
+        counted_more first_count s meter after c running.stands running.counted is_counted ∙ sym (ap P long)
+
+    pub ends_by_limit : (s meter : ℕ) (c : Configuration V M) (work : List ℕ) → IsRunning job rows vertices places first_count s c work meter → 0 < s → s ≡ job.limit → ⊥
+    ends_by_limit s meter c work running some limit_is =
+        let t = ends_at_limit job rows (s - 1) (omega arith) in
+        let f = running.goes_on (s - 1) (omega arith) in
+        let k : true ≡ false = sym t ∙ f in cc
