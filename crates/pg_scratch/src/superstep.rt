@@ -18,6 +18,7 @@ use pg_program::{Computation, Cx, Meter};
 use std::alloc::Global;
 
 /// What stays the same in all supersteps of a run.
+#[derive(Drop)]
 pub(crate) struct Job<'a, P, C, M> {
     pub program: &'a P,
     pub combiner: &'a C,

@@ -1,5 +1,5 @@
 //! A run from scratch.
-ghost use Rattle.std.specs.Prelude.{◌≡◌, ℕ, ◌+◌, ◌<◌, ◌≤◌, ◌^◌, ◌==◌, true, false, cond, not, map, length, Option, Some, None, IsSome, IfOk, IfErr, OnOk, OnErr, IsErrOf};
+ghost use Rattle.std.specs.Prelude.{◌≡◌, [], ℕ, ◌+◌, ◌<◌, ◌≤◌, ◌^◌, ◌==◌, true, false, cond, not, map, length, Option, Some, None, IsSome, IfOk, IfErr, OnOk, OnErr, IsErrOf};
 ghost use Rattle.std.specs.List.{list_all};
 ghost use Rattle.std.specs.List.{range_with_len};
 ghost use Rattle.std.specs.List.Sorted.{IsStrictlySortedBy};
@@ -16,7 +16,7 @@ use crate::beginning::{ids_of, initial_values, registrations_of, standings_of};
 use crate::superstep::{Job, Progress, is_anyone_active, superstep};
 use pg_global::{MasterCompute, MessageCombiner, RegisterFault, Registration, Registry};
 use pg_graph::{Graph, Memory, Superstep, VertexId};
-use pg_model::{Configuration, Ending, Run, Sequence, Standing, VertexState};
+use pg_model::{Configuration, Declared, Ending, Run, Sequence, Standing, VertexState};
 use pg_program::{Computation, Meter};
 use std::alloc::Global;
 use thiserror::Error;
@@ -33,6 +33,16 @@ pub enum RunFault {
     /// 3: the master's list of aggregators breaks the rules of registration.
     #[error("the master's aggregators can't be registered")]
     Register,
+}
+
+impl From<Memory> for RunFault {
+    ghost use Rattle.pg_scratch.specs.declared.runner.RunFault.TheVariants.{Memory};
+
+    ghost from_gives = { λ _ fault. fault ≡ Memory };
+
+    fn from(_: Memory) -> RunFault {
+        RunFault::Memory
+    }
 }
 
 /// Why the run ends after a superstep, if it does: the master halted; all is idle; the limit is reached.
@@ -172,4 +182,81 @@ fn run_registered<P: Computation, C: MessageCombiner<P::Message>, M: MasterCompu
         progress = next;
     }
     unreachable!()
+}
+
+/// The master's aggregators, registered.
+fn registered<M: MasterCompute>(alloc: Global, master: &M) -> Result<Registry, RunFault>
+    ensures ok { IfOk result (λ registry. registry ≡ (M.master master.now).registrations) }
+    ensures lawful { IfOk result (λ _. first_refusal [] (M.master master.now).registrations ≡ None) }
+    ensures register { IsErrOf result RunFault.Register → IsSome (first_refusal [] (M.master master.now).registrations) }
+    ensures no_other { IsErrOf result RunFault.Unregistered → ⊥ }
+{
+    let mut registry = Registry::new(alloc);
+    match master.initialize(alloc, &mut registry) {
+        Ok(()) => Ok(registry),
+        Err(RegisterFault::Memory) => Err(RunFault::Memory),
+        Err(_) => Err(RunFault::Register),
+    }
+}
+
+/// Whether no place from `count` on is declared.
+fn are_within(declared: Declared, count: usize) -> bool
+    requires { count ≤ 16 }
+    ensures { result ≡ has_places declared count }
+{
+    u32::from(declared.reads) >> count == 0 && u32::from(declared.writes) >> count == 0
+}
+
+/// Runs a program on a graph from scratch, superstep by superstep: until the master halts, or no vertex is
+/// active, or `limit` supersteps are done (Pregel, section 2).
+///
+/// The messages for a vertex come in the order of their senders, and are combined from the first on, where
+/// the combiner combines. The meter is raised by one for each call of compute, and stays at its largest value.
+///
+/// # Errors
+///
+/// In this order: [`RunFault::Register`], [`RunFault::Unregistered`]; and [`RunFault::Memory`] whenever
+/// memory is refused. The meter then stays as it was.
+///
+/// # Cost
+///
+/// Time for the vertices and edges once, for each superstep the vertices that are active or get a message
+/// and the messages times the logarithm of the number of vertices; memory for the run's state and the
+/// messages of one superstep.
+pub fn run<P: Computation, C: MessageCombiner<P::Message>, M: MasterCompute>(
+    alloc: Global,
+    graph: &Graph,
+    program: &P,
+    combiner: &C,
+    master: &M,
+    limit: u32,
+    meter: &mut Meter,
+) -> Result<Run<P::Value>, RunFault>
+    requires { 0 < limit }
+    ensures register { IsErrOf result RunFault.Register → IsSome (first_refusal [] (M.master master.now).registrations) }
+    ensures unregistered { IsErrOf result RunFault.Unregistered → (first_refusal [] (M.master master.now).registrations ≡ None) × (is_registered (P.program program.now) (M.master master.now) ≡ false) }
+    ensures registered { IfOk result (λ _. (first_refusal [] (M.master master.now).registrations ≡ None) × (is_registered (P.program program.now) (M.master master.now) ≡ true)) }
+    ensures answer { IfOk result (λ r. r ≡ answer (job_of (P.program program.now) (C.combining combiner.now) (M.master master.now) limit) graph.now) }
+    ensures meter { OnOk result (meter.new ≡ capped (meter.old + executions (job_of (P.program program.now) (C.combining combiner.now) (M.master master.now) limit) graph.now)) }
+    ensures unmetered { OnErr result (meter.new ≡ meter.old) }
+{
+    let registry = registered(alloc, master)?;
+    if !are_within(program.declared(), registry.len()) {
+        return Err(RunFault::Unregistered);
+    }
+    let registrations = registrations_of(alloc, &registry)?;
+    let ids = ids_of(alloc, graph)?;
+    let _count = meter.count();
+    let job = Job {
+        program,
+        combiner,
+        master,
+        registrations: registrations.as_slice(),
+        ids: ids.as_slice(),
+        total_vertices: graph.vertices(),
+        total_edges: graph.edges(),
+    };
+    let (answer, counted) = run_registered(alloc, graph, &job, limit, meter.copy())?;
+    *meter = counted;
+    Ok(answer)
 }

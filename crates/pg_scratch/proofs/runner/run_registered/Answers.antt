@@ -5,7 +5,7 @@ use Rattle.pg_model.specs.Run.{totals_of}
 use Rattle.pg_model.specs.Superstep.{next, visible}
 use Rattle.pg_global.specs.Master.{job_of}
 use Rattle.pg_scratch.proofs.Runs.{running_first, running_on, ending_is, answers, counts, ends_by_limit}
-use Rattle.pg_scratch.proofs.run.run_registered.Goals as goal
+use Rattle.pg_scratch.proofs.runner.run_registered.Goals as goal
 
 pub loop-done-init : goal.loop-done-init
 loop-done-init g c =

@@ -1,7 +1,7 @@
 use Rattle.std.proofs.Common.{length}
 use Rattle.pg_global.specs.Master.{job_of}
 use Rattle.pg_scratch.specs.Running.{IsRunning}
-use Rattle.pg_scratch.proofs.run.run_registered.Given as goal
+use Rattle.pg_scratch.proofs.runner.run_registered.Given as goal
 
 abbrev pub invariant-loop-done : goal.invariant-loop-done
 invariant-loop-done g l =

@@ -1,7 +1,7 @@
 use Rattle.std.proofs.Common.{◌≡◌, ℕ, ◌+◌, ap, sym, ◌∙◌, List, length, [], ◌∷◌, ◌++◌, arith}
 use Rattle.std.specs.List.{range_with_len}
 use Rattle.pg_scratch.proofs.Runs.{range-push}
-use Rattle.pg_scratch.proofs.run.begin.Goals as goal
+use Rattle.pg_scratch.proofs.runner.begin.Goals as goal
 
 pub loop-place-preserved : goal.loop-place-preserved
 loop-place-preserved g c = 
