@@ -1,5 +1,5 @@
 -- Edits as partial functions on graphs, and a batch as their composition.
-use Rattle.std.specs.Prelude.{◌≡◌, ℕ, ◌+◌, Bool, cond, List, [], ◌∷◌, length, nat_lt, nat_le, Option, None, Some, is_some, Result, Ok, Err}
+use Rattle.std.specs.Prelude.{ℕ, ◌+◌, cond, List, [], ◌∷◌, length, nat_lt, nat_le, None, Some, is_some, Result, Ok, Err}
 use Rattle.pg_graph.specs.EdgeList.{weight_at, with_edge, without_edge}
 use Rattle.pg_graph.specs.Rows.{Rows, row_at, with_row, without_row, vertex_count, edge_count}
 use Rattle.pg_graph.specs.declared.graph.Row.{Row}

@@ -1,8 +1,9 @@
 //! The graph: rows by rising id.
-ghost use Rattle.std.specs.Prelude.{◌≡◌, [], ℕ, List, ◌^◌, ◌≤◌, length, IfOk};
+ghost use Rattle.std.specs.Prelude.{◌≡◌, [], ℕ, List, ◌^◌, ◌≤◌, length, IfOk, OnOk, OnErr};
 ghost use Rattle.std.specs.Option.{option_copied};
 ghost use Rattle.std.specs.Map.{keys_of};
 ghost use Rattle.std.specs.Map.Iter.{ShowsInOrder, deref, deref_pair};
+ghost use Rattle.pg_graph.specs.Rows.{with_row};
 
 use crate::{Edges, Memory, VertexId};
 use std::alloc::Global;
@@ -94,6 +95,21 @@ impl Graph {
         self.rows.keys()
     }
 
+    /// The same graph. Its rows share their edges with those of this one, so it takes O(n) for n
+    /// vertices, however many edges there are.
+    pub fn copy(&self, alloc: Global) -> Result<Graph, Memory>
+        ensures { IfOk result (λ graph. graph ≡ self.now) }
+    {
+        let mut rows = BTreeMap::new(alloc);
+        for (id, row) in &self.rows {
+            put_row(&mut rows, *id, row.copy()?)?;
+        }
+        Ok(Graph {
+            rows,
+            edges: self.edges,
+        })
+    }
+
     /// The rows with their ids, by rising id.
     pub fn iter(&self) -> btree_map::Iter<'_, VertexId, Row>
         ensures rest { result ≡ self.now }
@@ -102,4 +118,13 @@ impl Graph {
     {
         self.rows.iter()
     }
+}
+
+/// Puts a row at an id, in the place of the one that was there.
+fn put_row(rows: &mut BTreeMap<VertexId, Row>, id: VertexId, row: Row) -> Result<(), Memory>
+    ensures ok { OnOk result (rows.new.entries ≡ with_row id row rows.old.entries) }
+    ensures err { OnErr result (rows.new.entries ≡ rows.old.entries) }
+{
+    rows.insert(id, row)?;
+    Ok(())
 }
