@@ -2,7 +2,7 @@
 ghost use Rattle.std.specs.Prelude.{◌≡◌, [], ◌∷◌, ◌++◌, ℕ, List, length, OnOk, OnErr};
 
 use crate::{Memory, VertexId};
-use std::alloc::Global;
+use std::alloc::{AllocFailed, Global};
 use std::marker::Model;
 use thiserror::Error;
 
@@ -58,6 +58,28 @@ impl EditKind {
             EditKind::BatchTooLong => 6,
             EditKind::Full => 7,
         }
+    }
+}
+
+impl From<Memory> for EditKind {
+    ghost use Rattle.std.specs.Prelude.{◌≡◌};
+    ghost use Rattle.pg_graph.specs.declared.edit.EditKind.TheVariants.{Memory as no_memory};
+
+    ghost from_gives = { λ _ kind. kind ≡ no_memory };
+
+    fn from(_refusal: Memory) -> EditKind {
+        EditKind::Memory
+    }
+}
+
+impl<T: Drop> From<AllocFailed<T>> for EditKind {
+    ghost use Rattle.std.specs.Prelude.{◌≡◌};
+    ghost use Rattle.pg_graph.specs.declared.edit.EditKind.TheVariants.{Memory as no_memory};
+
+    ghost from_gives = { λ _ kind. kind ≡ no_memory };
+
+    fn from(_refusal: AllocFailed<T>) -> EditKind {
+        EditKind::Memory
     }
 }
 

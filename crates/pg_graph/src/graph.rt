@@ -74,6 +74,7 @@ impl Graph {
     pub fn vertices(&self) -> u64
         ensures value { result ≡ vertex_count self.now }
         ensures limit { result ≤ 2 ^ 20 }
+        ensures rising { HasRisingIds self.now }
     {
         self.rows.len() as u64
     }

@@ -1,6 +1,7 @@
 //! The graph that a service keeps: vertex ids, rows with an input and out-edges, and batches of edits.
 #![tactic(auto)]
 
+mod draft;
 mod edges;
 mod edit;
 mod graph;
