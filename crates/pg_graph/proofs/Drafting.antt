@@ -13,7 +13,7 @@ use Rattle.pg_graph.specs.declared.edit.EditKind.{EditKind}
 use Rattle.pg_graph.specs.declared.edit.EditKind.TheVariants.{Memory, NoVertex}
 use Rattle.pg_graph.specs.declared.graph.Row.{Row}
 use Rattle.pg_graph.proofs.Changing.{rises-changes, row_at-with_changes, with_changes-insert, insert-remove}
-use Rattle.pg_graph.proofs.Entries.{rises-insert, rises-remove, length-insert_absent, length-insert_present, length-remove_present, sum-insert, sum-remove}
+use Rattle.pg_graph.proofs.Rising.{rises-insert, length-insert_absent, length-insert_present, length-remove_present, sum-insert, sum-remove}
 
 -- how many edges a row has, if it is there
 abbrev degree_of : Option Row → ℕ

@@ -1,5 +1,7 @@
+pub mod Batches
 pub mod Changing
 pub mod Drafting
 pub mod Edited
-pub mod Entries
+pub mod Placing
+pub mod Rising
 pub mod Search

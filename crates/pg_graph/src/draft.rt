@@ -1,13 +1,14 @@
 //! Edits of a graph, gathered beside it.
-ghost use Rattle.std.specs.Prelude.{◌≡◌, ◌⊎◌, is_some, Some, None, OnOk, IfOk, IfErr};
-ghost use Rattle.std.specs.BTreeMap.{insert_entry, is_at};
+ghost use Rattle.std.specs.Prelude.{◌≡◌, ◌⊎◌, is_some, Some, None, Ok, IfOk, IfErr};
+ghost use Rattle.std.specs.BTreeMap.{is_at};
 ghost use Rattle.std.specs.Map.{remove_entry};
 ghost use Rattle.std.specs.Ordering.{nat_cmp};
 ghost use Rattle.pg_graph.specs.Changes.{changed_row_at};
 
 mod row;
 
-use crate::{Edit, EditKind, Graph, VertexId};
+use crate::entries::put;
+use crate::{Batch, Edit, EditFault, EditKind, Graph, Memory, Row, VertexId};
 use row::DraftRow;
 use std::alloc::Global;
 use std::collections::BTreeMap;
@@ -18,6 +19,17 @@ const VERTEX_LIMIT: u64 = 1 << 20;
 
 /// No graph has more edges.
 const EDGE_LIMIT: u64 = 1 << 24;
+
+/// No batch has more edits.
+const BATCH_LIMIT: usize = 100_000;
+
+/// What becomes of vertices: a row, or none where a vertex is removed. Then a graph has this many
+/// edges.
+#[derive(Drop)]
+pub(crate) struct Changes {
+    pub(crate) rows: BTreeMap<VertexId, Option<Row>>,
+    pub(crate) edges: u64,
+}
 
 /// A graph with edits that aren't made of it yet. Each costs O(log k) for k changed vertices, beside
 /// one copy of the edges of each vertex where edges are edited. A contract sees the graph, and what
@@ -43,7 +55,8 @@ impl<'a> Model for Draft<'a> {
 }
 
 impl<'a> Draft<'a> {
-    ghost use Rattle.pg_graph.specs.Draft.{BecomesBy, RefusesEdit};
+    ghost use Rattle.pg_graph.specs.Draft.{BecomesBy, Makes, RefusesEdit};
+    ghost use Rattle.pg_graph.specs.Edit.{batch_edited, RefusesBatch};
     ghost use Rattle.pg_graph.specs.Rows.{row_at};
 
     /// A graph with no edits.
@@ -56,6 +69,41 @@ impl<'a> Draft<'a> {
             vertices: graph.vertices(),
             edges: graph.edges(),
         }
+    }
+
+    /// A graph with the edits of a batch, of which there are at most 100,000.
+    pub(crate) fn of(alloc: Global, graph: &'a Graph, batch: &Batch) -> Result<Draft<'a>, EditFault>
+        ensures ok { IfOk result (λ draft. (draft.0 ≡ graph.now) × (batch_edited graph.now batch.now ≡ Ok draft.1)) }
+        ensures err { IfErr result (RefusesBatch graph.now batch.now) }
+    {
+        let edits = batch.as_slice();
+        if edits.len() > BATCH_LIMIT {
+            return Err(EditFault::at(BATCH_LIMIT as u64 + 1, EditKind::BatchTooLong));
+        }
+        let mut draft = Draft::new(alloc, graph);
+        let mut position = 1;
+        for edit in edits {
+            draft = match draft.edited(alloc, *edit) {
+                Ok(edited) => edited,
+                Err(kind) => return Err(EditFault::at(position, kind)),
+            };
+            position += 1;
+        }
+        Ok(draft)
+    }
+
+    /// What becomes of the vertices that were changed, with edges as a graph holds them.
+    pub(crate) fn into_changes(self, alloc: Global) -> Result<Changes, Memory>
+        ensures { IfOk result (Makes self.entry.0 self.entry.1) }
+    {
+        let mut changes = BTreeMap::new(alloc);
+        for (id, change) in self.changes {
+            put(&mut changes, id, finished(alloc, change)?)?;
+        }
+        Ok(Changes {
+            rows: changes,
+            edges: self.edges,
+        })
     }
 
     /// The draft with one more edit.
@@ -83,7 +131,7 @@ impl<'a> Draft<'a> {
         if self.vertices >= VERTEX_LIMIT {
             return Err(EditKind::Full);
         }
-        put_change(&mut self.changes, id, Some(DraftRow::new(input)))?;
+        put(&mut self.changes, id, Some(DraftRow::new(input)))?;
         self.vertices += 1;
         Ok(self)
     }
@@ -93,7 +141,7 @@ impl<'a> Draft<'a> {
         ensures err { IfErr result (RefusesEdit (Edit.RemoveVertex id) self.entry) }
     {
         let row = take_row(self.graph, &mut self.changes, id)?;
-        put_change(&mut self.changes, id, None)?;
+        put(&mut self.changes, id, None)?;
         self.vertices -= 1;
         self.edges -= row.degree();
         Ok(self)
@@ -104,7 +152,7 @@ impl<'a> Draft<'a> {
         ensures err { IfErr result (RefusesEdit (Edit.SetInput id input) self.entry) }
     {
         let row = take_row(self.graph, &mut self.changes, id)?;
-        put_change(&mut self.changes, id, Some(row.with_input(input)))?;
+        put(&mut self.changes, id, Some(row.with_input(input)))?;
         Ok(self)
     }
 
@@ -126,7 +174,7 @@ impl<'a> Draft<'a> {
             return Err(EditKind::Full);
         }
         let row = row.with_edge(alloc, target, weight)?;
-        put_change(&mut self.changes, source, Some(row))?;
+        put(&mut self.changes, source, Some(row))?;
         self.edges += 1;
         Ok(self)
     }
@@ -146,7 +194,7 @@ impl<'a> Draft<'a> {
             return Err(EditKind::NoEdge);
         }
         let row = row.with_edge(alloc, target, weight)?;
-        put_change(&mut self.changes, source, Some(row))?;
+        put(&mut self.changes, source, Some(row))?;
         Ok(self)
     }
 
@@ -164,7 +212,7 @@ impl<'a> Draft<'a> {
             return Err(EditKind::NoEdge);
         }
         let row = row.without_edge(alloc, target)?;
-        put_change(&mut self.changes, source, Some(row))?;
+        put(&mut self.changes, source, Some(row))?;
         self.edges -= 1;
         Ok(self)
     }
@@ -204,15 +252,12 @@ fn take_row(
     }
 }
 
-/// Puts what becomes of a vertex, in the place of what was to become of it.
-fn put_change(
-    changes: &mut BTreeMap<VertexId, Option<DraftRow>>,
-    id: VertexId,
-    change: Option<DraftRow>,
-) -> Result<(), EditKind>
-    ensures ok { OnOk result (changes.new.entries ≡ insert_entry nat_cmp changes.old.entries id change) }
-    ensures err { IfErr result (λ kind. kind ≡ EditKind.Memory) }
+/// What becomes of a vertex, with edges as a graph holds them.
+fn finished(alloc: Global, change: Option<DraftRow>) -> Result<Option<Row>, Memory>
+    ensures { IfOk result (λ finished. finished ≡ change) }
 {
-    changes.insert(id, change)?;
-    Ok(())
+    match change {
+        Some(row) => Ok(Some(row.into_row(alloc)?)),
+        None => Ok(None),
+    }
 }

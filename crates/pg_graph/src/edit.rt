@@ -1,5 +1,5 @@
 //! Edits of a graph, and batches of them.
-ghost use Rattle.std.specs.Prelude.{◌≡◌, [], ◌∷◌, ◌++◌, ℕ, List, length, OnOk, OnErr};
+ghost use Rattle.std.specs.Prelude.{◌≡◌, ◌≢◌, [], ◌∷◌, ◌++◌, ℕ, List, length, OnOk, OnErr};
 
 use crate::{Memory, VertexId};
 use std::alloc::{AllocFailed, Global};
@@ -90,6 +90,31 @@ impl<T: Drop> From<AllocFailed<T>> for EditKind {
 pub struct EditFault {
     pub position: u64,
     pub kind: EditKind,
+}
+
+impl EditFault {
+    ghost use Rattle.pg_graph.specs.Edit.{memory_fault};
+
+    /// A growth was refused.
+    pub(crate) fn memory() -> EditFault
+        ensures { result ≡ memory_fault }
+    {
+        EditFault {
+            position: 0,
+            kind: EditKind::Memory,
+        }
+    }
+
+    /// The edit at this position is refused, or a growth was.
+    pub(crate) fn at(position: u64, kind: EditKind) -> EditFault
+        ensures memory { kind ≡ EditKind.Memory → result ≡ memory_fault }
+        ensures edit { kind ≢ EditKind.Memory → result ≡ record { position = position; kind = kind } }
+    {
+        match kind {
+            EditKind::Memory => EditFault::memory(),
+            _ => EditFault { position, kind },
+        }
+    }
 }
 
 /// A list of edits, which are applied together or not at all.

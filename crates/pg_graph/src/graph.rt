@@ -1,10 +1,12 @@
 //! The graph: rows by rising id.
-ghost use Rattle.std.specs.Prelude.{◌≡◌, [], ℕ, List, ◌^◌, ◌≤◌, length, IfOk, OnOk, OnErr};
+ghost use Rattle.std.specs.Prelude.{◌≡◌, [], ℕ, List, ◌^◌, ◌≤◌, length, IfOk};
 ghost use Rattle.std.specs.Option.{option_copied};
 ghost use Rattle.std.specs.Map.{keys_of};
 ghost use Rattle.std.specs.Map.Iter.{ShowsInOrder, deref, deref_pair};
-ghost use Rattle.pg_graph.specs.Rows.{with_row};
 
+mod apply;
+
+use crate::entries::put;
 use crate::{Edges, Memory, VertexId};
 use std::alloc::Global;
 use std::collections::{BTreeMap, btree_map};
@@ -103,7 +105,7 @@ impl Graph {
     {
         let mut rows = BTreeMap::new(alloc);
         for (id, row) in &self.rows {
-            put_row(&mut rows, *id, row.copy()?)?;
+            put(&mut rows, *id, row.copy()?)?;
         }
         Ok(Graph {
             rows,
@@ -119,13 +121,4 @@ impl Graph {
     {
         self.rows.iter()
     }
-}
-
-/// Puts a row at an id, in the place of the one that was there.
-fn put_row(rows: &mut BTreeMap<VertexId, Row>, id: VertexId, row: Row) -> Result<(), Memory>
-    ensures ok { OnOk result (rows.new.entries ≡ with_row id row rows.old.entries) }
-    ensures err { OnErr result (rows.new.entries ≡ rows.old.entries) }
-{
-    rows.insert(id, row)?;
-    Ok(())
 }

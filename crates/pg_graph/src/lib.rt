@@ -4,6 +4,7 @@
 mod draft;
 mod edges;
 mod edit;
+mod entries;
 mod graph;
 mod number;
 

@@ -2,6 +2,7 @@
 ghost use Rattle.std.specs.Prelude.{◌≡◌, ◌+◌, [], length, is_some, IfOk, if◌then◌else◌};
 ghost use Rattle.pg_graph.specs.EdgeList.{IsRising, weight_at, with_edge, without_edge};
 
+use crate::entries::put;
 use crate::{Edges, Memory, Row, VertexId};
 use std::alloc::Global;
 use std::collections::BTreeMap;
@@ -108,7 +109,7 @@ impl DraftRow {
         ensures value { IfOk result (λ row. row ≡ record self { edges = with_edge target weight self.edges }) }
         ensures degree { IfOk result
             (λ row. length row.edges + (if is_some (weight_at target self.edges) then 1 else 0)
-                ≡ length self.edges + 1) }
+            ≡ length self.edges + 1) }
     {
         let DraftRow { input, edges } = self;
         let mut map = edges.into_map(alloc)?;
@@ -124,7 +125,7 @@ impl DraftRow {
         ensures value { IfOk result (λ row. row ≡ record self { edges = without_edge target self.edges }) }
         ensures degree { IfOk result
             (λ row. length row.edges + (if is_some (weight_at target self.edges) then 1 else 0)
-                ≡ length self.edges) }
+            ≡ length self.edges) }
     {
         let DraftRow { input, edges } = self;
         let mut map = edges.into_map(alloc)?;
@@ -155,7 +156,7 @@ fn map_of(alloc: Global, edges: &[(VertexId, i64)]) -> Result<BTreeMap<VertexId,
 {
     let mut map = BTreeMap::new(alloc);
     for (target, weight) in edges {
-        map.insert(*target, *weight)?;
+        put(&mut map, *target, *weight)?;
     }
     Ok(map)
 }

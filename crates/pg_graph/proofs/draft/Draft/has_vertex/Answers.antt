@@ -3,7 +3,6 @@ use Rattle.std.specs.Option.{unwrap_or, option_copied}
 use Rattle.pg_graph.specs.Rows.{row_at}
 use Rattle.pg_graph.proofs.Changing.{row_at-with_changes}
 use Rattle.pg_graph.specs.declared.graph.Row.{Row}
-use Rattle.pg_graph.proofs.Edited.{AddVertex-ok}
 use Rattle.pg_graph.proofs.draft.Draft.has_vertex.Goals as goal
 
 pub returns-in-Some : goal.returns-in-Some

@@ -29,11 +29,11 @@ invariant_of-self c =
     let there = row_now _ _ _ _ c.self.invariant c.args.source _ c.in_ok-row.ensures.row in
     let less = one_less _ _ _ (sym c.has_edge.ensures ∙ c.if-not-has_edge.false) c.in_ok-row-2.ensures.degree in
     let left = edges_left _ _ _ _ c.self.invariant c.args.source c.in_ok-row.row there in
-    replaced _ _ _ _ c.self.invariant c.args.source _ _ _ c.take_row.ensures.taken c.in_ok-put_change.ensures.ok c.in_ok-row.row there c.in_ok-row-2.row (c.self.inside.edges - 1) refl (omega (arith, less, left)) (omega (arith, c.self.invariant.edges_fit))
+    replaced _ _ _ _ c.self.invariant c.args.source _ _ _ c.take_row.ensures.taken c.in_ok-put.ensures.ok c.in_ok-row.row there c.in_ok-row-2.row (c.self.inside.edges - 1) refl (omega (arith, less, left)) (omega (arith, c.self.invariant.edges_fit))
 
 pub returns-clause-ok : goal.returns-clause-ok
 returns-clause-ok c =
     let there = row_now _ _ _ _ c.self.invariant c.args.source _ c.in_ok-row.ensures.row in
-    becomes _ _ _ _ c.self.invariant c.args.source _ c.self.view_is (RemoveEdge c.args.source c.args.target) c.put_change.new.changes.entries _
+    becomes _ _ _ _ c.self.invariant c.args.source _ c.self.view_is (RemoveEdge c.args.source c.args.target) c.put.new.map.entries _
     (RemoveEdge-ok _ _ c.in_ok-row.row there c.args.target (sym c.has_edge.ensures ∙ c.if-not-has_edge.false))
-    (put_back _ _ _ _ c.self.invariant c.args.source _ _ _ c.take_row.ensures.taken c.in_ok-put_change.ensures.ok ∙ ap (λ row. with_change c.args.source (Some row) (with_changes c.self.inside.changes.entries c.self.inside.graph.now)) c.in_ok-row-2.ensures.value)
+    (put_back _ _ _ _ c.self.invariant c.args.source _ _ _ c.take_row.ensures.taken c.in_ok-put.ensures.ok ∙ ap (λ row. with_change c.args.source (Some row) (with_changes c.self.inside.changes.entries c.self.inside.graph.now)) c.in_ok-row-2.ensures.value)

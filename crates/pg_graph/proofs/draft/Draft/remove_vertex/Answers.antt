@@ -1,4 +1,4 @@
-use Rattle.std.proofs.Common.{◌-◌, refl, ap, arith}
+use Rattle.std.proofs.Common.{◌-◌, refl, arith}
 use Rattle.std.proofs.lemmas.Result.{err_from_is_err_and}
 use Rattle.pg_graph.specs.declared.edit.Edit.TheVariants.{RemoveVertex}
 use Rattle.pg_graph.proofs.Drafting.{row_now, vertex_left, edges_left, put_back, removed, becomes, refused_row}
@@ -25,11 +25,11 @@ invariant_of-self c =
     let there = row_now _ _ _ _ c.self.invariant c.args.id _ c.in_ok-row.ensures.row in
     let some = vertex_left _ _ _ _ c.self.invariant c.args.id c.in_ok-row.row there in
     let left = edges_left _ _ _ _ c.self.invariant c.args.id c.in_ok-row.row there in
-    removed _ _ _ _ c.self.invariant c.args.id _ _ _ c.take_row.ensures.taken c.in_ok-put_change.ensures.ok c.in_ok-row.row there (c.self.inside.vertices - 1) (c.self.inside.edges - c.degree.result) refl (omega (arith, some)) (omega (arith, c.degree.ensures, left))
+    removed _ _ _ _ c.self.invariant c.args.id _ _ _ c.take_row.ensures.taken c.in_ok-put.ensures.ok c.in_ok-row.row there (c.self.inside.vertices - 1) (c.self.inside.edges - c.degree.result) refl (omega (arith, some)) (omega (arith, c.degree.ensures, left))
 
 pub returns-clause-ok : goal.returns-clause-ok
 returns-clause-ok c =
     let there = row_now _ _ _ _ c.self.invariant c.args.id _ c.in_ok-row.ensures.row in
-    becomes _ _ _ _ c.self.invariant c.args.id _ c.self.view_is (RemoveVertex c.args.id) c.put_change.new.changes.entries _
+    becomes _ _ _ _ c.self.invariant c.args.id _ c.self.view_is (RemoveVertex c.args.id) c.put.new.map.entries _
     (RemoveVertex-ok _ _ c.in_ok-row.row there)
-    (put_back _ _ _ _ c.self.invariant c.args.id _ _ _ c.take_row.ensures.taken c.in_ok-put_change.ensures.ok)
+    (put_back _ _ _ _ c.self.invariant c.args.id _ _ _ c.take_row.ensures.taken c.in_ok-put.ensures.ok)

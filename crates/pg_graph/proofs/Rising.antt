@@ -1,5 +1,5 @@
 -- Entries by rising number: what an insertion and a removal make of them, and that look-ups tell them apart.
-use Rattle.std.proofs.Common.{◌≡◌, ℕ, ◌+◌, ◌<◌, take, drop, get_or, subst, append_assoc, Bool, true, false, cond, List, [], ◌∷◌, ◌++◌, length, Option, Some, None, Ordering, refl, inl, inr, sym, ap, ◌∙◌, ⊎_elim, arith}
+use Rattle.std.proofs.Common.{◌≡◌, ℕ, ◌+◌, ◌<◌, take, drop, get_or, subst, append_assoc, Bool, true, false, cond, List, [], ◌∷◌, ◌++◌, length, Option, Some, None, Ordering, refl, sym, ap, ◌∙◌, ⊎_elim, arith}
 use Rattle.std.specs.declared.cmp.Ordering.TheVariants.{Less, Equal, Greater}
 use Rattle.std.specs.Ordering.{nat_cmp, match_ordering, is_eq}
 use Rattle.std.specs.Cmp.{nat_cmp_total, eq_by_cmp_equiv}
@@ -8,7 +8,7 @@ use Rattle.std.specs.Map.{lookup, keys_of, remove_entry, values_of}
 use Rattle.std.specs.List.{AllByRecursion, sum_by}
 use Rattle.std.specs.List.Sorted.{IsStrictlySortedBy}
 use Rattle.std.specs.Option.{unwrap_or, option_map, is_some}
-use Rattle.std.proofs.lemmas.Bool.{cases_Bool, cases_eq, true≢false}
+use Rattle.std.proofs.lemmas.Bool.{cases_eq, true≢false}
 use Rattle.std.proofs.lemmas.Bool.Decides.{nat_tests}
 use Rattle.std.proofs.lemmas.List.{take_more, take-append-drop}
 use Rattle.std.proofs.lemmas.List.Sums.{sum_by-cons}
@@ -66,6 +66,13 @@ module _ {X : Type 0} where
       let above = below_head x.0 xs e ys (sorted_head nat_cmp x.0 (keys_of (xs ++ e ∷ ys)) rising) in
       let later = insert_entry-last xs e ys (sorted_tail nat_cmp x.0 (keys_of (xs ++ e ∷ ys)) rising) in
       ap (λ r. put_by r x xs e.0 e.1) above ∙ ap (λ l. x ∷ l) later
+
+  -- the next entry goes to the end of those that are put already
+  pub next_put : (all done done' left left' : List (ℕ × X)) (k : ℕ) (v v' : X) → Rises all → done ++ left ≡ all → left ≡ (k, v) ∷ left' → v' ≡ v → done' ≡ insert_entry nat_cmp done k v' → done' ++ left' ≡ all
+  next_put all done done' left left' k v v' rising so_far next same put =
+      let whole : done ++ (k, v) ∷ left' ≡ all = ap (λ l. done ++ l) (sym next) ∙ so_far in
+      let last = insert_entry-last done (k, v) left' (subst Rises (sym whole) rising) in
+      ap (λ l. l ++ left') (put ∙ ap (λ x. insert_entry nat_cmp done k x) same ∙ last) ∙ append_assoc done ((k, v) ∷ []) left' ∙ whole
 
   -- the next entry goes to the end of those before it
   pub insert_entry-take : (es : List (ℕ × X)) (i : ℕ) (e : ℕ × X) → Rises es → i < length es → e ≡ get_or es i e → insert_entry nat_cmp (take i es) e.0 e.1 ≡ take (i + 1) es
