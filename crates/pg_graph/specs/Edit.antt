@@ -56,6 +56,10 @@ batch_edited rows edits =
 abbrev pub memory_fault : EditFault
 memory_fault = record { position = 0; kind = Memory }
 
+-- the fault of a batch with too many edits
+abbrev pub too_long_fault : EditFault
+too_long_fault = record { position = batch_limit + 1; kind = BatchTooLong }
+
 -- want of memory, or the fault of the batch
 abbrev pub RefusesBatch : Rows → List Edit → EditFault → Type 0
 RefusesBatch rows edits fault = (fault ≡ memory_fault) ⊎ (batch_edited rows edits ≡ Err fault)

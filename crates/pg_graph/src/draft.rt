@@ -1,5 +1,5 @@
 //! Edits of a graph, gathered beside it.
-ghost use Rattle.std.specs.Prelude.{◌≡◌, ◌⊎◌, is_some, Some, None, Ok, IfOk, IfErr};
+ghost use Rattle.std.specs.Prelude.{◌≡◌, ◌<◌, ◌⊎◌, length, is_some, Some, None, Ok, Err, IfOk, IfErr};
 ghost use Rattle.std.specs.BTreeMap.{is_at};
 ghost use Rattle.std.specs.Map.{remove_entry};
 ghost use Rattle.std.specs.Ordering.{nat_cmp};
@@ -56,7 +56,7 @@ impl<'a> Model for Draft<'a> {
 
 impl<'a> Draft<'a> {
     ghost use Rattle.pg_graph.specs.Draft.{BecomesBy, Makes, RefusesEdit};
-    ghost use Rattle.pg_graph.specs.Edit.{batch_edited, RefusesBatch};
+    ghost use Rattle.pg_graph.specs.Edit.{batch_edited, batch_limit, too_long_fault, RefusesBatch};
     ghost use Rattle.pg_graph.specs.Rows.{row_at};
 
     /// A graph with no edits.
@@ -71,10 +71,11 @@ impl<'a> Draft<'a> {
         }
     }
 
-    /// A graph with the edits of a batch, of which there are at most 100,000.
+    /// A graph with all edits of a batch. More than 100,000 are refused first.
     pub(crate) fn of(alloc: Global, graph: &'a Graph, batch: &Batch) -> Result<Draft<'a>, EditFault>
         ensures ok { IfOk result (λ draft. (draft.0 ≡ graph.now) × (batch_edited graph.now batch.now ≡ Ok draft.1)) }
         ensures err { IfErr result (RefusesBatch graph.now batch.now) }
+        ensures too_long { batch_limit < length batch.now → result ≡ Err too_long_fault }
     {
         let edits = batch.as_slice();
         if edits.len() > BATCH_LIMIT {
@@ -223,10 +224,7 @@ impl<'a> Draft<'a> {
     {
         match self.changes.get(&id) {
             Some(change) => change.is_some(),
-            None => {
-                let graph = self.graph;
-                graph.row(id).is_some()
-            }
+            None => self.graph.row(id).is_some(),
         }
     }
 }

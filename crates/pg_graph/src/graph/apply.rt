@@ -1,5 +1,5 @@
 //! A batch of edits, made of a graph at once.
-ghost use Rattle.std.specs.Prelude.{◌≡◌, Ok, Some, None, IfOk, IfErr, OnOk, OnErr, OnSome, IsSome};
+ghost use Rattle.std.specs.Prelude.{◌≡◌, ◌<◌, length, Ok, Err, Some, None, IfOk, IfErr, OnOk, OnErr, OnSome, IsSome};
 ghost use Rattle.pg_graph.specs.Changes.{AreNew, HasRoomFor, added_ids, bare_row, marked, with_change, with_changes};
 ghost use Rattle.pg_graph.specs.Rows.{row_at};
 
@@ -12,7 +12,7 @@ use std::collections::BTreeMap;
 
 impl Graph {
     ghost use Rattle.pg_graph.specs.Draft.{Makes};
-    ghost use Rattle.pg_graph.specs.Edit.{batch_edited, RefusesBatch};
+    ghost use Rattle.pg_graph.specs.Edit.{batch_edited, batch_limit, too_long_fault, RefusesBatch};
 
     /// Makes all edits of a batch, in their order, or none. The first edit that has no result
     /// decides which fault is answered; a batch of more than 100,000 edits is refused first.
@@ -22,17 +22,13 @@ impl Graph {
     pub fn apply(&mut self, alloc: Global, batch: &Batch) -> Result<(), EditFault>
         ensures ok { OnOk result (batch_edited self.old batch.now ≡ Ok self.new) }
         ensures refused { IfErr result (RefusesBatch self.old batch.now) }
+        ensures too_long { batch_limit < length batch.now → result ≡ Err too_long_fault }
         ensures err { OnErr result (self.new ≡ self.old) }
     {
         let draft = Draft::of(alloc, self, batch)?;
-        let changes = match draft.into_changes(alloc) {
-            Ok(changes) => changes,
-            Err(_) => return Err(EditFault::memory()),
-        };
-        match self.change(alloc, changes) {
-            Ok(()) => Ok(()),
-            Err(_) => Err(EditFault::memory()),
-        }
+        let changes = draft.into_changes(alloc)?;
+        self.change(alloc, changes)?;
+        Ok(())
     }
 
     /// Makes all changes, or none where a growth is refused.
