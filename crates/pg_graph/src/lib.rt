@@ -13,3 +13,6 @@ pub use edit::{Batch, Edit, EditFault, EditKind};
 pub use graph::{Graph, Row};
 pub use number::{Edition, PartitionId, Superstep, VertexId, WorkerId};
 pub use std::alloc::AllocError as Memory;
+
+#[cfg(test)]
+mod tests;
