@@ -38,7 +38,7 @@ impl Row {
 #[derive(Drop)]
 pub struct Graph {
     rows: BTreeMap<VertexId, Row>,
-    edges: u64,
+    total_edges: u64,
 }
 
 impl Model for Graph {
@@ -49,7 +49,7 @@ impl Model for Graph {
 
     ghost view = { λ g. g.rows.entries };
 
-    ghost invariant = { λ g. (g.edges ≡ edge_count g.rows.entries) × (vertex_count g.rows.entries ≤ 2 ^ 20) × (g.edges ≤ 2 ^ 24) };
+    ghost invariant = { λ g. (g.total_edges ≡ edge_count g.rows.entries) × (vertex_count g.rows.entries ≤ 2 ^ 20) × (g.total_edges ≤ 2 ^ 24) };
 }
 
 impl Graph {
@@ -61,7 +61,7 @@ impl Graph {
     {
         Graph {
             rows: BTreeMap::new(alloc),
-            edges: 0,
+            total_edges: 0,
         }
     }
 
@@ -86,7 +86,7 @@ impl Graph {
         ensures value { result ≡ edge_count self.now }
         ensures limit { result ≤ 2 ^ 24 }
     {
-        self.edges
+        self.total_edges
     }
 
     /// The ids, rising.
@@ -109,7 +109,7 @@ impl Graph {
         }
         Ok(Graph {
             rows,
-            edges: self.edges,
+            total_edges: self.edges(),
         })
     }
 

@@ -64,7 +64,10 @@ fn sample(alloc: Global) -> Result<Graph, Fail> {
 fn makes_each_edit(rt: HostRuntime) -> Result<(), Fail> {
     let (one, two, three) = (id(1)?, id(2)?, id(3)?);
     let mut graph = sample(rt.alloc())?;
-    assert_eq!(rt; text_of(rt.alloc(), &graph)?.as_str(), "1:10[1=7,2=5,]2:-20[9=-9223372036854775808,]");
+    assert_eq!(rt;
+        text_of(rt.alloc(), &graph)?.as_str(),
+        "1:10[1=7,2=5,]2:-20[9=-9223372036854775808,]"
+    );
     let edits = [
         Edit::AddVertex(three, 30),
         Edit::AddEdge(three, two, 1),
@@ -76,7 +79,10 @@ fn makes_each_edit(rt: HostRuntime) -> Result<(), Fail> {
         Edit::AddVertex(two, 22),
     ];
     apply_all(rt.alloc(), &mut graph, &edits)?;
-    assert_eq!(rt; text_of(rt.alloc(), &graph)?.as_str(), "1:11[2=6,3=8,]2:22[]3:30[2=1,]");
+    assert_eq!(rt;
+        text_of(rt.alloc(), &graph)?.as_str(),
+        "1:11[2=6,3=8,]2:22[]3:30[2=1,]"
+    );
     assert_eq!(rt; graph.vertices(), 3);
     assert_eq!(rt; graph.edges(), 3);
     Ok(())
@@ -143,10 +149,14 @@ fn limits_the_vertices(rt: HostRuntime) -> Result<(), Fail> {
         graph.apply(rt.alloc(), &batch)?;
     }
     assert_eq!(rt; graph.vertices(), 1 << 20);
-    let fault = apply_all(rt.alloc(), &mut graph, &[Edit::AddVertex(id(1 << 40)?, 0)]).expect_err(&rt, "a fault");
+    let fault = apply_all(rt.alloc(), &mut graph, &[Edit::AddVertex(id(1 << 40)?, 0)]).expect_err(
+        &rt, "a fault",
+    );
     assert_eq!(rt; fault.position, 1);
     assert_eq!(rt; fault.kind.number(), 7);
-    let fault = apply_all(rt.alloc(), &mut graph, &[Edit::AddVertex(id(0)?, 0)]).expect_err(&rt, "a fault");
+    let fault = apply_all(rt.alloc(), &mut graph, &[Edit::AddVertex(id(0)?, 0)]).expect_err(
+        &rt, "a fault",
+    );
     assert_eq!(rt; fault.kind.number(), 2);
     Ok(())
 }
@@ -157,7 +167,10 @@ fn copies_and_looks_up(rt: HostRuntime) -> Result<(), Fail> {
     let mut graph = sample(rt.alloc())?;
     let copy = graph.copy(rt.alloc())?;
     apply_all(rt.alloc(), &mut graph, &[Edit::RemoveVertex(one)])?;
-    assert_eq!(rt; text_of(rt.alloc(), &copy)?.as_str(), "1:10[1=7,2=5,]2:-20[9=-9223372036854775808,]");
+    assert_eq!(rt;
+        text_of(rt.alloc(), &copy)?.as_str(),
+        "1:10[1=7,2=5,]2:-20[9=-9223372036854775808,]"
+    );
     assert_eq!(rt; copy.edges(), 3);
     assert!(rt; graph.row(one).is_none());
 
@@ -169,5 +182,70 @@ fn copies_and_looks_up(rt: HostRuntime) -> Result<(), Fail> {
     let edges = two_edges(rt.alloc(), one, nine)?.copy()?;
     assert_eq!(rt; edges.as_slice(), [(one, 3), (nine, -4)].as_slice());
     assert_eq!(rt; edges.weight(nine), Some(-4));
+    Ok(())
+}
+
+#[test]
+fn limits_the_edges(rt: HostRuntime) -> Result<(), Fail> {
+    let mut graph = Graph::new(rt.alloc());
+    let mut left: u64 = 1 << 24;
+    for source in 0..168 {
+        let source = id(source)?;
+        let mut batch = Batch::new(rt.alloc());
+        batch.push(Edit::AddVertex(source, 0))?;
+        for target in 0..99_999 {
+            if left > 0 {
+                batch.push(Edit::AddEdge(source, id(target)?, 0))?;
+                left -= 1;
+            }
+        }
+        graph.apply(rt.alloc(), &batch)?;
+    }
+    assert_eq!(rt; graph.edges(), 1 << 24);
+    let fault = apply_all(
+        rt.alloc(),
+        &mut graph,
+        &[Edit::AddEdge(id(0)?, id(1 << 40)?, 0)],
+    )
+    .expect_err(&rt, "a fault");
+    assert_eq!(rt; fault.kind.number(), 7);
+    let fault = apply_all(rt.alloc(), &mut graph, &[Edit::AddEdge(id(0)?, id(1)?, 0)]).expect_err(
+        &rt, "a fault",
+    );
+    assert_eq!(rt; fault.kind.number(), 4);
+    Ok(())
+}
+
+// A batch that adds many vertices, moves edges, and removes vertices with theirs. Run with each
+// allocation failing in turn, it shows that a refused growth leaves the graph.
+#[test]
+fn a_refused_growth_leaves_the_graph(rt: HostRuntime) -> Result<(), Fail> {
+    let mut graph = Graph::new(rt.alloc());
+    let mut first = Batch::new(rt.alloc());
+    let mut second = Batch::new(rt.alloc());
+    for number in 0..60 {
+        let (even, odd) = (id(2 * number)?, id(2 * number + 1)?);
+        first.push(Edit::AddVertex(even, 0))?;
+        first.push(Edit::AddEdge(even, odd, 1))?;
+        second.push(Edit::AddVertex(odd, 0))?;
+        second.push(Edit::AddEdge(odd, even, 1))?;
+        second.push(Edit::RemoveEdge(even, odd))?;
+        second.push(Edit::RemoveVertex(even))?;
+    }
+    graph.apply(rt.alloc(), &first)?;
+    let before = text_of(rt.alloc(), &graph)?;
+    if let Err(fault) = graph.apply(rt.alloc(), &second) {
+        assert_eq!(rt; fault.position, 0);
+        assert_eq!(rt; fault.kind.number(), 1);
+        assert_eq!(rt; graph.vertices(), 60);
+        assert_eq!(rt; graph.edges(), 60);
+        assert_eq!(rt; text_of(rt.alloc(), &graph)?.as_str(), before.as_str());
+        graph.apply(rt.alloc(), &second)?;
+    }
+    assert_eq!(rt; graph.vertices(), 60);
+    assert_eq!(rt; graph.edges(), 60);
+    let row = graph.row(id(119)?).ok_or("no row")?;
+    assert_eq!(rt; row.edges.weight(id(118)?), Some(1));
+    assert!(rt; graph.row(id(118)?).is_none());
     Ok(())
 }

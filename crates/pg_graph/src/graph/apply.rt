@@ -44,7 +44,7 @@ impl Graph {
         let added = ids_added(alloc, &self.rows, &changes)?;
         add_rows(&mut self.rows, added.as_slice())?;
         settle(&mut self.rows, changes);
-        self.edges = edges;
+        self.total_edges = edges;
         Ok(())
     }
 }
