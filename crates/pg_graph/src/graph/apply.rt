@@ -1,5 +1,5 @@
 //! A batch of edits, made of a graph at once.
-ghost use Rattle.std.specs.Prelude.{◌≡◌, ◌<◌, length, Ok, Err, Some, None, IfOk, IfErr, OnOk, OnErr, OnSome, IsSome};
+ghost use Rattle.std.specs.Prelude.{◌≡◌, ◌<◌, ◌≤◌, length, Ok, Err, Some, None, IfOk, IfErr, OnOk, OnErr, OnSome, IsSome};
 ghost use Rattle.pg_graph.specs.Changes.{AreNew, HasRoomFor, added_ids, bare_row, marked, with_change, with_changes};
 ghost use Rattle.pg_graph.specs.Rows.{row_at};
 
@@ -23,6 +23,7 @@ impl Graph {
         ensures ok { OnOk result (batch_edited self.old batch.now ≡ Ok self.new) }
         ensures refused { IfErr result (RefusesBatch self.old batch.now) }
         ensures too_long { batch_limit < length batch.now → result ≡ Err too_long_fault }
+        ensures position { IfErr result (λ fault. fault.position ≤ length batch.now) }
         ensures err { OnErr result (self.new ≡ self.old) }
     {
         let draft = Draft::of(alloc, self, batch)?;
