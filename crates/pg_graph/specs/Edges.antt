@@ -1,5 +1,5 @@
 -- What an `Edges` holds.
-use Rattle.std.specs.Prelude.{Option, None, Some, []}
+use Rattle.std.specs.Prelude.{None, Some, []}
 use Rattle.std.specs.Arc.{arc_value}
 use Rattle.pg_graph.specs.EdgeList.{EdgeList}
 use Rattle.pg_graph.specs.declared.edges.Edges.TheInside.{Inside}

@@ -1,3 +1,6 @@
+pub mod Changes
+pub mod Draft
+pub mod DraftRow
 pub mod EdgeList
 pub mod Edges
 pub mod Edit

@@ -1,5 +1,5 @@
 //! Edits of a graph, and batches of them.
-ghost use Rattle.std.specs.Prelude.{◌≡◌, [], ◌∷◌, ◌++◌, ℕ, List, length, OnOk, OnErr};
+ghost use Rattle.std.specs.Prelude.{◌≡◌, ◌≢◌, [], ◌∷◌, ◌++◌, ℕ, List, length, OnOk, OnErr};
 
 use crate::{Memory, VertexId};
 use std::alloc::Global;
@@ -61,6 +61,17 @@ impl EditKind {
     }
 }
 
+impl From<Memory> for EditKind {
+    ghost use Rattle.std.specs.Prelude.{◌≡◌};
+    ghost use Rattle.pg_graph.specs.declared.edit.EditKind.TheVariants.{Memory as no_memory};
+
+    ghost from_gives = { λ _ kind. kind ≡ no_memory };
+
+    fn from(_refusal: Memory) -> EditKind {
+        EditKind::Memory
+    }
+}
+
 /// The first edit of a batch that has no result: its place from 1 and why. The place is 0 where a
 /// growth was refused, and 100,001 where the batch is too long.
 #[derive(Clone, Copy, Debug, PartialEq, Eq, Error)]
@@ -68,6 +79,32 @@ impl EditKind {
 pub struct EditFault {
     pub position: u64,
     pub kind: EditKind,
+}
+
+impl EditFault {
+    ghost use Rattle.pg_graph.specs.Edit.{memory_fault};
+
+    /// The edit at this position is refused, or a growth was.
+    pub(crate) fn at(position: u64, kind: EditKind) -> EditFault
+        ensures memory { kind ≡ EditKind.Memory → result ≡ memory_fault }
+        ensures edit { kind ≢ EditKind.Memory → result ≡ record { position = position; kind = kind } }
+    {
+        match kind {
+            EditKind::Memory => EditFault { position: 0, kind },
+            _ => EditFault { position, kind },
+        }
+    }
+}
+
+impl From<Memory> for EditFault {
+    ghost use Rattle.std.specs.Prelude.{◌≡◌};
+    ghost use Rattle.pg_graph.specs.Edit.{memory_fault};
+
+    ghost from_gives = { λ _ fault. fault ≡ memory_fault };
+
+    fn from(refusal: Memory) -> EditFault {
+        EditFault::at(0, EditKind::from(refusal))
+    }
 }
 
 /// A list of edits, which are applied together or not at all.

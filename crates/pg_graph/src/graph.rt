@@ -4,6 +4,9 @@ ghost use Rattle.std.specs.Option.{option_copied};
 ghost use Rattle.std.specs.Map.{keys_of};
 ghost use Rattle.std.specs.Map.Iter.{ShowsInOrder, deref, deref_pair};
 
+mod apply;
+
+use crate::entries::put;
 use crate::{Edges, Memory, VertexId};
 use std::alloc::Global;
 use std::collections::{BTreeMap, btree_map};
@@ -35,7 +38,7 @@ impl Row {
 #[derive(Drop)]
 pub struct Graph {
     rows: BTreeMap<VertexId, Row>,
-    edges: u64,
+    total_edges: u64,
 }
 
 impl Model for Graph {
@@ -46,7 +49,7 @@ impl Model for Graph {
 
     ghost view = { λ g. g.rows.entries };
 
-    ghost invariant = { λ g. (g.edges ≡ edge_count g.rows.entries) × (vertex_count g.rows.entries ≤ 2 ^ 20) × (g.edges ≤ 2 ^ 24) };
+    ghost invariant = { λ g. (g.total_edges ≡ edge_count g.rows.entries) × (vertex_count g.rows.entries ≤ 2 ^ 20) × (g.total_edges ≤ 2 ^ 24) };
 }
 
 impl Graph {
@@ -58,7 +61,7 @@ impl Graph {
     {
         Graph {
             rows: BTreeMap::new(alloc),
-            edges: 0,
+            total_edges: 0,
         }
     }
 
@@ -73,6 +76,7 @@ impl Graph {
     pub fn vertices(&self) -> u64
         ensures value { result ≡ vertex_count self.now }
         ensures limit { result ≤ 2 ^ 20 }
+        ensures rising { HasRisingIds self.now }
     {
         self.rows.len() as u64
     }
@@ -82,7 +86,7 @@ impl Graph {
         ensures value { result ≡ edge_count self.now }
         ensures limit { result ≤ 2 ^ 24 }
     {
-        self.edges
+        self.total_edges
     }
 
     /// The ids, rising.
@@ -92,6 +96,21 @@ impl Graph {
         ensures rising { HasRisingIds self.now }
     {
         self.rows.keys()
+    }
+
+    /// The same graph. Its rows share their edges with those of this one, so it takes O(n) for n
+    /// vertices, however many edges there are.
+    pub fn copy(&self, alloc: Global) -> Result<Graph, Memory>
+        ensures { IfOk result (λ graph. graph ≡ self.now) }
+    {
+        let mut rows = BTreeMap::new(alloc);
+        for (id, row) in &self.rows {
+            put(&mut rows, *id, row.copy()?)?;
+        }
+        Ok(Graph {
+            rows,
+            total_edges: self.edges(),
+        })
     }
 
     /// The rows with their ids, by rising id.

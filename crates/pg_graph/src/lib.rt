@@ -1,8 +1,10 @@
 //! The graph that a service keeps: vertex ids, rows with an input and out-edges, and batches of edits.
 #![tactic(auto)]
 
+mod draft;
 mod edges;
 mod edit;
+mod entries;
 mod graph;
 mod number;
 
@@ -11,3 +13,6 @@ pub use edit::{Batch, Edit, EditFault, EditKind};
 pub use graph::{Graph, Row};
 pub use number::{Edition, PartitionId, Superstep, VertexId, WorkerId};
 pub use std::alloc::AllocError as Memory;
+
+#[cfg(test)]
+mod tests;

@@ -57,15 +57,15 @@ impl fmt::Display for VertexId {
 /// The number of a partition, from 0.
 #[derive(Clone, Copy, Debug, PartialEq, Eq, PartialOrd, Ord)]
 pub struct PartitionId {
-    number: u32,
+    partition: u32,
 }
 
 impl Model for PartitionId {
     ghost Value = { ℕ };
 
-    ghost view = { λ v. v.number };
+    ghost view = { λ v. v.partition };
 
-    ghost inverse = { λ n. record { number = n } };
+    ghost inverse = { λ n. record { partition = n } };
 }
 
 impl PartitionId {
@@ -73,29 +73,29 @@ impl PartitionId {
     pub fn new(number: u32) -> PartitionId
         ensures { result ≡ number }
     {
-        PartitionId { number }
+        PartitionId { partition: number }
     }
 
     /// The number of the partition.
     pub fn number(self) -> u32
         ensures { result ≡ self }
     {
-        self.number
+        self.partition
     }
 }
 
 /// The number of a worker, from 0.
 #[derive(Clone, Copy, Debug, PartialEq, Eq, PartialOrd, Ord)]
 pub struct WorkerId {
-    number: u32,
+    worker: u32,
 }
 
 impl Model for WorkerId {
     ghost Value = { ℕ };
 
-    ghost view = { λ v. v.number };
+    ghost view = { λ v. v.worker };
 
-    ghost inverse = { λ n. record { number = n } };
+    ghost inverse = { λ n. record { worker = n } };
 }
 
 impl WorkerId {
@@ -103,29 +103,29 @@ impl WorkerId {
     pub fn new(number: u32) -> WorkerId
         ensures { result ≡ number }
     {
-        WorkerId { number }
+        WorkerId { worker: number }
     }
 
     /// The number of the worker.
     pub fn number(self) -> u32
         ensures { result ≡ self }
     {
-        self.number
+        self.worker
     }
 }
 
 /// The number of a superstep of a run, from 0.
 #[derive(Clone, Copy, Debug, PartialEq, Eq, PartialOrd, Ord)]
 pub struct Superstep {
-    number: u32,
+    superstep: u32,
 }
 
 impl Model for Superstep {
     ghost Value = { ℕ };
 
-    ghost view = { λ v. v.number };
+    ghost view = { λ v. v.superstep };
 
-    ghost inverse = { λ n. record { number = n } };
+    ghost inverse = { λ n. record { superstep = n } };
 }
 
 impl Superstep {
@@ -133,29 +133,29 @@ impl Superstep {
     pub fn new(number: u32) -> Superstep
         ensures { result ≡ number }
     {
-        Superstep { number }
+        Superstep { superstep: number }
     }
 
     /// The number of the superstep.
     pub fn number(self) -> u32
         ensures { result ≡ self }
     {
-        self.number
+        self.superstep
     }
 }
 
 /// The number of a graph's edition: how many batches it has taken since it was empty.
 #[derive(Clone, Copy, Debug, PartialEq, Eq, PartialOrd, Ord)]
 pub struct Edition {
-    number: u64,
+    edition: u64,
 }
 
 impl Model for Edition {
     ghost Value = { ℕ };
 
-    ghost view = { λ v. v.number };
+    ghost view = { λ v. v.edition };
 
-    ghost inverse = { λ n. record { number = n } };
+    ghost inverse = { λ n. record { edition = n } };
 }
 
 impl Edition {
@@ -163,13 +163,13 @@ impl Edition {
     pub fn new(number: u64) -> Edition
         ensures { result ≡ number }
     {
-        Edition { number }
+        Edition { edition: number }
     }
 
     /// The number of the edition.
     pub fn number(self) -> u64
         ensures { result ≡ self }
     {
-        self.number
+        self.edition
     }
 }

@@ -1,0 +1,173 @@
+//! A row that is being edited.
+ghost use Rattle.std.specs.Prelude.{◌≡◌, ◌+◌, [], length, is_some, IfOk, if◌then◌else◌};
+ghost use Rattle.pg_graph.specs.EdgeList.{IsRising, weight_at, with_edge, without_edge};
+
+use crate::entries::put;
+use crate::{Edges, Memory, Row, VertexId};
+use std::alloc::Global;
+use std::collections::BTreeMap;
+use std::marker::Model;
+
+/// The out-edges of a row that is being edited: those of a graph, or from the first edit on a map.
+#[derive(Drop)]
+pub(crate) enum DraftEdges {
+    Kept(Edges),
+    Edited(BTreeMap<VertexId, i64>),
+}
+
+impl DraftEdges {
+    ghost use Rattle.pg_graph.specs.DraftRow.{edges_in};
+
+    /// The edges as a map, which is made of kept ones in O(d log d) for d edges.
+    fn into_map(self, alloc: Global) -> Result<BTreeMap<VertexId, i64>, Memory>
+        ensures { IfOk result (λ map. map.entries ≡ edges_in self) }
+    {
+        match self {
+            DraftEdges::Kept(edges) => map_of(alloc, edges.as_slice()),
+            DraftEdges::Edited(map) => Ok(map),
+        }
+    }
+}
+
+/// A row that is being edited, at a cost of O(log d) an edge for d edges, once its edges have been
+/// copied. A contract sees the row.
+#[derive(Drop)]
+pub(crate) struct DraftRow {
+    input: i64,
+    edges: DraftEdges,
+}
+
+impl Model for DraftRow {
+    ghost use Rattle.pg_graph.specs.declared.graph.Row.{Row};
+
+    ghost Value = { Row };
+
+    ghost use Rattle.pg_graph.specs.DraftRow.{row_in};
+
+    ghost view = { row_in };
+}
+
+impl DraftRow {
+    ghost use Rattle.pg_graph.specs.declared.graph.Row.{Row};
+
+    /// A row with this input and no edges.
+    pub(crate) fn new(input: i64) -> DraftRow
+        ensures { result ≡ record { input = input; edges = [] } }
+    {
+        DraftRow {
+            input,
+            edges: DraftEdges::Kept(Edges::new()),
+        }
+    }
+
+    /// A row of a graph, which shares its edges until one is edited.
+    pub(crate) fn of(row: &Row) -> Result<DraftRow, Memory>
+        ensures { IfOk result (λ draft. draft ≡ row.now) }
+    {
+        let edges = row.edges.copy()?;
+        Ok(DraftRow {
+            input: row.input,
+            edges: DraftEdges::Kept(edges),
+        })
+    }
+
+    /// How many edges there are.
+    pub(crate) fn degree(&self) -> u64
+        ensures { result ≡ length self.now.edges }
+    {
+        match &self.edges {
+            DraftEdges::Kept(edges) => edges.as_slice().len() as u64,
+            DraftEdges::Edited(map) => map.len() as u64,
+        }
+    }
+
+    /// Whether there is an edge to `target`.
+    pub(crate) fn has_edge(&self, target: VertexId) -> bool
+        ensures { result ≡ is_some (weight_at target self.now.edges) }
+    {
+        match &self.edges {
+            DraftEdges::Kept(edges) => edges.weight(target).is_some(),
+            DraftEdges::Edited(map) => map.contains_key(&target),
+        }
+    }
+
+    /// The row with this input.
+    pub(crate) fn with_input(self, input: i64) -> DraftRow
+        ensures { result ≡ record self { input = input } }
+    {
+        let DraftRow { input: _, edges } = self;
+        DraftRow { input, edges }
+    }
+
+    /// The row with the edge to `target`, in the place of the one that was there.
+    pub(crate) fn with_edge(
+        self,
+        alloc: Global,
+        target: VertexId,
+        weight: i64,
+    ) -> Result<DraftRow, Memory>
+        ensures value { IfOk result (λ row. row ≡ record self { edges = with_edge target weight self.edges }) }
+        ensures degree { IfOk result
+            (λ row. length row.edges + (if is_some (weight_at target self.edges) then 1 else 0)
+            ≡ length self.edges + 1) }
+    {
+        let DraftRow { input, edges } = self;
+        let mut map = edges.into_map(alloc)?;
+        map.insert(target, weight)?;
+        Ok(DraftRow {
+            input,
+            edges: DraftEdges::Edited(map),
+        })
+    }
+
+    /// The row without the edge to `target`.
+    pub(crate) fn without_edge(self, alloc: Global, target: VertexId) -> Result<DraftRow, Memory>
+        ensures value { IfOk result (λ row. row ≡ record self { edges = without_edge target self.edges }) }
+        ensures degree { IfOk result
+            (λ row. length row.edges + (if is_some (weight_at target self.edges) then 1 else 0)
+            ≡ length self.edges) }
+    {
+        let DraftRow { input, edges } = self;
+        let mut map = edges.into_map(alloc)?;
+        map.remove(&target);
+        Ok(DraftRow {
+            input,
+            edges: DraftEdges::Edited(map),
+        })
+    }
+
+    /// The row as a graph holds it.
+    pub(crate) fn into_row(self, alloc: Global) -> Result<Row, Memory>
+        ensures { IfOk result (λ row. row ≡ self) }
+    {
+        let DraftRow { input, edges } = self;
+        let edges = match edges {
+            DraftEdges::Kept(edges) => edges,
+            DraftEdges::Edited(map) => edges_of(alloc, &map)?,
+        };
+        Ok(Row { input, edges })
+    }
+}
+
+/// The map with these edges, which rise by target.
+fn map_of(alloc: Global, edges: &[(VertexId, i64)]) -> Result<BTreeMap<VertexId, i64>, Memory>
+    requires { IsRising edges.now }
+    ensures { IfOk result (λ map. map.entries ≡ edges.now) }
+{
+    let mut map = BTreeMap::new(alloc);
+    for (target, weight) in edges {
+        put(&mut map, *target, *weight)?;
+    }
+    Ok(map)
+}
+
+/// The edges of a map.
+fn edges_of(alloc: Global, map: &BTreeMap<VertexId, i64>) -> Result<Edges, Memory>
+    ensures { IfOk result (λ edges. edges ≡ map.now.entries) }
+{
+    let mut edges = Vec::with_capacity(alloc, map.len())?;
+    for (target, weight) in map {
+        edges.push((*target, *weight))?;
+    }
+    Edges::from_rising(alloc, edges)
+}
