@@ -1,0 +1,12 @@
+pub mod Numbers
+pub mod TextWords
+pub mod TextLines
+pub mod Readings
+pub mod RecordsLeft
+pub mod Fields
+pub mod RecordReadings
+pub mod Graphs
+pub mod NamedFacts
+pub mod Limits
+pub mod BatchLaw
+pub mod BatchSteps

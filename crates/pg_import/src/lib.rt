@@ -1,0 +1,20 @@
+//! Edge lists: text that nobody vouches for, read as edges, and edges made into a batch of edits.
+#![tactic(auto)]
+
+mod batch;
+mod comma;
+mod line;
+mod list;
+mod number;
+mod text;
+
+pub use batch::into_batch;
+pub use comma::read_csv;
+pub use line::{ImportFault, ImportKind, Line};
+pub use list::read_list;
+pub use number::{read_id, read_weight};
+pub use std::alloc::AllocError as Memory;
+pub use text::{Words, bare_line};
+
+#[cfg(test)]
+mod tests;
