@@ -37,8 +37,8 @@ new_from name key r n (e ∷ es) same none =
     by_bool (bytes_eq name (string_bytes e.0))
     (λ t. let k : Some n ≡ None = look true t in cc)
     (λ t.
-      let apart : string_eq key e.0 ≡ false = ap (λ (bytes : List ℕ). bytes_eq bytes (string_bytes e.0)) same ∙ t in
-      ap (λ b. cond b ((e.0, r) ∷ es) (e ∷ insert_entry string_eq es key r)) apart ∙ ap (λ l. e ∷ l) (new_from name key r (n + 1) es same (look false t)))
+    let apart : string_eq key e.0 ≡ false = ap (λ (bytes : List ℕ). bytes_eq bytes (string_bytes e.0)) same ∙ t in
+    ap (λ b. cond b ((e.0, r) ∷ es) (e ∷ insert_entry string_eq es key r)) apart ∙ ap (λ l. e ∷ l) (new_from name key r (n + 1) es same (look false t)))
 
 -- a new name goes last
 pub insert_entry-new : (name : List ℕ) (key : String Global) (r : Registration) (es : Entries) → string_bytes key ≡ name → place_of name (registered_of es) ≡ None → insert_entry string_eq es key r ≡ es ++ (key, r) ∷ []
@@ -48,35 +48,10 @@ pub registered_of-push : (name : List ℕ) (key : String Global) (r : Registrati
 registered_of-push name key r [] same = ap (λ (bytes : List ℕ). (bytes, r) ∷ []) same
 registered_of-push name key r (e ∷ es) same = ap (λ l. (string_bytes e.0, e.1) ∷ l) (registered_of-push name key r es same)
 
-pub refusal_of-bad : (registered : Registered) (name : List ℕ) → is_name name ≡ false → refusal_of registered name ≡ Some BadName
-unfolding refusal_of
-refusal_of-bad registered name bad = rw bad
-
-pub refusal_of-taken : (registered : Registered) (name : List ℕ) → is_name name ≡ true → is_some (place_of name registered) ≡ true → refusal_of registered name ≡ Some NameTaken
-unfolding refusal_of
-refusal_of-taken registered name good taken = rw (good, taken)
-
-pub refusal_of-many : (registered : Registered) (name : List ℕ) → is_name name ≡ true → is_some (place_of name registered) ≡ false → 16 ≤ length registered → refusal_of registered name ≡ Some TooMany
-unfolding refusal_of
-refusal_of-many registered name good free many =
-    let full : nat_le 16 (length registered) ≡ true = search (tests, rules) in
-    rw (good, free, full)
-
-pub refusal_of-none : (registered : Registered) (name : List ℕ) → is_name name ≡ true → is_some (place_of name registered) ≡ false → length registered < 16 → refusal_of registered name ≡ None
-unfolding refusal_of
-refusal_of-none registered name good free few =
-    let room : nat_le 16 (length registered) ≡ false = search (tests, rules) in
-    rw (good, free, room)
-
 pub length-registered_of : (es : Entries) → length (registered_of es) ≡ length es
 length-registered_of es = simp length-map
 
-pub None-from_is_some : {X : Type 0} (o : Option X) → is_some o ≡ false → o ≡ None
-None-from_is_some None h = refl
-None-from_is_some (Some x) h = let k : true ≡ false = h in cc
-
 -- the names after an entry more, under a new name
-pub registered_of-insert : (name : List ℕ) (key : String Global) (r : Registration) (registered : Registered) (es fs : Entries) → registered_of es ≡ registered → string_bytes key ≡ name → is_some (place_of name registered) ≡ false → fs ≡ insert_entry string_eq es key r → registered_of fs ≡ registered ++ (name, r) ∷ []
+pub registered_of-insert : (name : List ℕ) (key : String Global) (r : Registration) (registered : Registered) (es fs : Entries) → registered_of es ≡ registered → string_bytes key ≡ name → place_of name registered ≡ None → fs ≡ insert_entry string_eq es key r → registered_of fs ≡ registered ++ (name, r) ∷ []
 registered_of-insert name key r registered es fs seen same free more =
-    let none = ap (place_of name) seen ∙ None-from_is_some (place_of name registered) free in
-    ap registered_of (more ∙ insert_entry-new name key r es same none) ∙ registered_of-push name key r es same ∙ ap (λ (l : Registered). l ++ (name, r) ∷ []) seen
+    ap registered_of (more ∙ insert_entry-new name key r es same (ap (place_of name) seen ∙ free)) ∙ registered_of-push name key r es same ∙ ap (λ (l : Registered). l ++ (name, r) ∷ []) seen

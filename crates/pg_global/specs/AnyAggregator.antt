@@ -3,7 +3,7 @@ use Rattle.std.proofs.Common.{◌≡◌, ℤ, pos, ◌+ℤ◌, sym, ap, ◌∙�
 use Rattle.std.specs.Prelude.{FitsSigned}
 use Rattle.std.specs.Int.{w64, int_wrap, int_wrapping_add}
 use Rattle.std.proofs.lemmas.Int.{ints, wrapping_add_is, int_wrap_fits, int_wrap-add_left, int_wrap-add_right, SFits-int_wrap}
-use Rattle.pg_global.specs.Laws.{IsAssociative, IsCommutative, IsNeutral}
+use Rattle.pg_global.specs.Laws.{IsAssociative, IsCommutative, IsNeutral, IsClosed}
 use Rattle.pg_global.specs.declared.aggregator.AnyAggregator.{AnyAggregator}
 use Rattle.pg_global.specs.declared.aggregator.AnyAggregator.TheVariants.{LongSum}
 
@@ -46,3 +46,9 @@ operation_of-commutative LongSum x y fx fy =
 pub operation_of-neutral : (a : AnyAggregator) → IsNeutral (FitsSigned w64) (operation_of a) (initial_of a)
 operation_of-neutral LongSum x fx =
     sum_is (pos 0) x (search rules) fx ∙ ap (int_wrap w64) (zero_add x) ∙ int_wrap_fits w64 x fx
+
+pub operation_of-closed : (a : AnyAggregator) → IsClosed (FitsSigned w64) (operation_of a)
+operation_of-closed LongSum = sum_fits
+
+pub initial_of-fits : (a : AnyAggregator) → FitsSigned w64 (initial_of a)
+initial_of-fits LongSum = search rules

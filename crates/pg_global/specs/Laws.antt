@@ -10,3 +10,6 @@ module _ {A : Type 0} (is_value : A → Type 0) (op : A → A → A) where
 
   abbrev pub IsNeutral : A → Type 0
   IsNeutral e = (x : A) → is_value x → op e x ≡ x
+
+  abbrev pub IsClosed : Type 0
+  IsClosed = (x y : A) → is_value x → is_value y → is_value (op x y)

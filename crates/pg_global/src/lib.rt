@@ -5,6 +5,8 @@ mod aggregator;
 mod combiner;
 mod master;
 mod registry;
+#[cfg(test)]
+mod tests;
 
 pub use aggregator::{Aggregator, AnyAggregator, gather};
 pub use combiner::{AnyCombiner, MessageCombiner};

@@ -1,5 +1,5 @@
 //! The aggregators of a job, by name.
-ghost use Rattle.std.specs.Prelude.{◌≡◌, [], ◌∷◌, ◌++◌, ◌⊎◌, ◌≤◌, ◌<◌, length, slice_get, Option, None, Some, true, false, IfOk, IfErr, OnErr};
+ghost use Rattle.std.specs.Prelude.{◌≡◌, [], ◌∷◌, ◌++◌, ◌⊎◌, ◌≤◌, ◌<◌, length, slice_get, Option, None, Some, true, false, ◌≢◌, IfNone, IfOk, IfErr, OnErr};
 ghost use Rattle.std.specs.List.{list_all};
 ghost use Rattle.std.specs.Option.{option_map};
 ghost use Rattle.pg_global.specs.Registry.{Registered, refusal_of, place_of, is_name as name_test, is_name_byte};
@@ -76,12 +76,17 @@ impl Registry {
         ensures ok { IfOk result (λ place. (place ≡ length self.old) × (refusal_of self.old name.now ≡ None)
             × (self.new ≡ self.old ++ (name.now, record { kind = kind; persistent = false }) ∷ [])) }
         ensures refused { IfErr result (λ f. (f ≡ RegisterFault.Memory) ⊎ (refusal_of self.old name.now ≡ Some f)) }
+        ensures memory { result ≡ Err RegisterFault.Memory → refusal_of self.old name.now ≡ None }
         ensures err { OnErr result (self.new ≡ self.old) }
     {
-        self.add(alloc, name, Registration {
-            kind,
-            persistent: false,
-        })
+        self.add(
+            alloc,
+            name,
+            Registration {
+                kind,
+                persistent: false,
+            },
+        )
     }
 
     /// Registers an aggregator that goes on from the value that was visible in the superstep.
@@ -94,12 +99,17 @@ impl Registry {
         ensures ok { IfOk result (λ place. (place ≡ length self.old) × (refusal_of self.old name.now ≡ None)
             × (self.new ≡ self.old ++ (name.now, record { kind = kind; persistent = true }) ∷ [])) }
         ensures refused { IfErr result (λ f. (f ≡ RegisterFault.Memory) ⊎ (refusal_of self.old name.now ≡ Some f)) }
+        ensures memory { result ≡ Err RegisterFault.Memory → refusal_of self.old name.now ≡ None }
         ensures err { OnErr result (self.new ≡ self.old) }
     {
-        self.add(alloc, name, Registration {
-            kind,
-            persistent: true,
-        })
+        self.add(
+            alloc,
+            name,
+            Registration {
+                kind,
+                persistent: true,
+            },
+        )
     }
 
     /// The place of a name.
@@ -139,18 +149,13 @@ impl Registry {
         ensures ok { IfOk result (λ place. (place ≡ length self.old) × (refusal_of self.old name.now ≡ None)
             × (self.new ≡ self.old ++ (name.now, registration) ∷ [])) }
         ensures refused { IfErr result (λ f. (f ≡ RegisterFault.Memory) ⊎ (refusal_of self.old name.now ≡ Some f)) }
+        ensures memory { result ≡ Err RegisterFault.Memory → refusal_of self.old name.now ≡ None }
         ensures err { OnErr result (self.new ≡ self.old) }
     {
-        if !is_name(name) {
-            return Err(RegisterFault::BadName);
-        }
-        if self.place(name).is_some() {
-            return Err(RegisterFault::NameTaken);
+        if let Some(fault) = self.refusal(name) {
+            return Err(fault);
         }
         let place = self.registered.len();
-        if place >= 16 {
-            return Err(RegisterFault::TooMany);
-        }
         let Ok(name) = String::from_str(alloc, name) else {
             return Err(RegisterFault::Memory);
         };
@@ -158,6 +163,26 @@ impl Registry {
             return Err(RegisterFault::Memory);
         };
         Ok(Place::new(place as u8))
+    }
+
+    /// Why a name can't be registered, in the order of testing.
+    #[tactic(auto, unfolding(crate::specs::Registry::refusal_of))]
+    fn refusal(&self, name: &str) -> Option<RegisterFault>
+        ensures value { result ≡ refusal_of self.now name.now }
+        ensures not_memory { result ≢ Some RegisterFault.Memory }
+        ensures free { IfNone result (place_of name.now self.now ≡ None) }
+        ensures room { IfNone result (length self.now < 16) }
+    {
+        if !is_name(name) {
+            return Some(RegisterFault::BadName);
+        }
+        if self.place(name).is_some() {
+            return Some(RegisterFault::NameTaken);
+        }
+        if self.len() >= 16 {
+            return Some(RegisterFault::TooMany);
+        }
+        None
     }
 }
 
@@ -172,6 +197,5 @@ fn is_name(name: &str) -> bool
 fn has_name_bytes(name: &[u8]) -> bool
     ensures { result ≡ list_all is_name_byte name.now }
 {
-    name.iter()
-        .all(|byte| byte.is_ascii_alphanumeric() || *byte == b'_' || *byte == b'-')
+    name.iter().all(|byte| byte.is_ascii_alphanumeric() || *byte == b'_' || *byte == b'-')
 }

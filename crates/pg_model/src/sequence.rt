@@ -1,5 +1,5 @@
 //! A list of values.
-ghost use Rattle.std.specs.Prelude.{◌≡◌, [], ◌∷◌, ◌++◌, List, length, IfNone, OnOk, OnErr};
+ghost use Rattle.std.specs.Prelude.{◌≡◌, [], ◌∷◌, ◌++◌, List, length, take, IfNone, OnOk, OnErr};
 ghost use Rattle.std.specs.Option.{option_to_list};
 
 use pg_graph::Memory;
@@ -41,7 +41,8 @@ impl<T> Sequence<T> {
     pub fn into_vec(self) -> Vec<T>
         ensures { result.items ≡ self }
     {
-        self.items
+        let Sequence { items } = self;
+        items
     }
 
     /// Adds a value at the end.
@@ -61,6 +62,15 @@ impl<T> Sequence<T> {
         ensures none { IfNone result (self.old ≡ []) }
     {
         self.items.pop()
+    }
+
+    /// Keeps the first `len` values, or all where there are fewer, and keeps the memory.
+    pub fn truncate(&mut self, len: usize)
+    where
+        T: Drop,
+        ensures { self.new ≡ take len self.old }
+    {
+        self.items.truncate(len);
     }
 
     /// Takes all values away, and keeps the memory.
@@ -84,5 +94,26 @@ impl<T> Sequence<T> {
         ensures { result.now ≡ self.now }
     {
         self.items.as_slice()
+    }
+}
+
+#[cfg(test)]
+mod tests {
+    use super::*;
+    use std::test::Fail;
+
+    #[test]
+    fn pushes_and_pops(rt: HostRuntime) -> Result<(), Fail> {
+        let mut sequence = Sequence::new(rt.alloc());
+        for value in [5, 7, 9] {
+            sequence.push(value)?;
+        }
+        assert_eq!(rt; sequence.as_slice(), [5, 7, 9].as_slice());
+        assert_eq!(rt; sequence.pop(), Some(9));
+        sequence.truncate(1);
+        assert_eq!(rt; sequence.as_slice(), [5].as_slice());
+        assert_eq!(rt; sequence.pop(), Some(5));
+        assert_eq!(rt; sequence.pop(), None);
+        Ok(())
     }
 }

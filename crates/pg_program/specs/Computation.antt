@@ -15,10 +15,10 @@ module _ {V M : Type 0} where
   pub record Executes (program : Program V M) (vertex vertex' : VertexState V) (inbox : List M) (cx cx' : Context M) : Type 0 where
     pub vertex_is : vertex' ≡ state_after vertex (step_on program vertex inbox cx)
     pub context_is :
-      cx' ≡ record {
-        view = cx.view;
-        writes = cx.writes;
-        sent = cx.sent ++ (step_on program vertex inbox cx).sent;
-        contributed = cx.contributed ++ (step_on program vertex inbox cx).contributed;
-        calls = capped (cx.calls + 1);
-      }
+        cx' ≡ record {
+          view = cx.view;
+          writes = cx.writes;
+          sent = cx.sent ++ (step_on program vertex inbox cx).sent;
+          contributed = cx.contributed ++ (step_on program vertex inbox cx).contributed;
+          calls = capped (cx.calls + 1);
+        }

@@ -1,5 +1,5 @@
 //! What surrounds an execution.
-ghost use Rattle.std.specs.Prelude.{◌≡◌, [], ◌∷◌, ◌++◌, ◌+◌, ◌<◌, true, map, IsSome, IfOk, OnOk, OnErr, Some};
+ghost use Rattle.std.specs.Prelude.{◌≡◌, [], ◌∷◌, ◌++◌, ◌+◌, ◌<◌, true, map, length, take, IsSome, IfOk, OnOk, OnErr, Some};
 ghost use Rattle.pg_model.specs.Job.{has_place};
 ghost use Rattle.pg_model.specs.Superstep.{capped};
 ghost use Rattle.pg_program.specs.Context.{Context, IsShown, IsShownAt};
@@ -45,14 +45,7 @@ impl<M: Drop> Cx<M> {
     }
 
     /// What was seen, what was sent and contributed, in that order, and the meter.
-    pub fn into_parts(
-        self,
-    ) -> (
-        View,
-        Sequence<(VertexId, M)>,
-        Sequence<(Place, i64)>,
-        Meter,
-    )
+    pub fn into_parts(self) -> (View, Sequence<(VertexId, M)>, Sequence<(Place, i64)>, Meter)
         ensures view { result.0 ≡ self.view }
         ensures sent { result.1 ≡ self.sent }
         ensures contributed { result.2 ≡ self.contributed }
@@ -107,8 +100,7 @@ impl<M: Drop> Cx<M> {
         self.sent.push((target, message))
     }
 
-    /// Sends the same message along each out-edge of a vertex, by rising target. Where it answers want of
-    /// memory, some of them may have been sent.
+    /// Sends the same message along each out-edge of a vertex, by rising target.
     pub fn send_to_all_edges<V>(
         &mut self,
         alloc: Global,
@@ -117,10 +109,17 @@ impl<M: Drop> Cx<M> {
     ) -> Result<(), Memory>
     where
         M: Plain,
-        ensures { OnOk result (self.new ≡ record self.old { sent = self.old.sent ++ map (λ e. (e.0, message.now)) vertex.now.edges }) }
+        ensures ok { OnOk result (self.new ≡ record self.old { sent = self.old.sent ++ map (λ e. (e.0, message.now)) vertex.now.edges }) }
+        ensures err { OnErr result (self.new ≡ self.old) }
     {
-        push_to_all(alloc, &mut self.sent, vertex.edges(), message)?;
-        Ok(())
+        let before = self.sent.len();
+        match push_to_all(alloc, &mut self.sent, vertex.edges(), message) {
+            Ok(()) => Ok(()),
+            Err(refused) => {
+                self.sent.truncate(before);
+                Err(refused)
+            }
+        }
     }
 
     /// Contributes a value to an aggregator that the program has declared to write.
@@ -140,14 +139,16 @@ impl<M: Drop> Cx<M> {
     }
 }
 
-/// Adds the same message to the target of each edge.
+/// Adds the same message to the target of each edge. Where it answers want of memory, some of them may
+/// have been added.
 fn push_to_all<M: Plain>(
     alloc: Global,
     sent: &mut Sequence<(VertexId, M)>,
     edges: &[(VertexId, i64)],
     message: &M,
 ) -> Result<(), Memory>
-    ensures { OnOk result (sent.new ≡ sent.old ++ map (λ e. (e.0, message.now)) edges.now) }
+    ensures ok { OnOk result (sent.new ≡ sent.old ++ map (λ e. (e.0, message.now)) edges.now) }
+    ensures err { OnErr result (take (length sent.old) sent.new ≡ sent.old) }
 {
     for edge in edges {
         sent.push((edge.0, message.copy(alloc)?))?;

@@ -7,13 +7,15 @@ mod meter;
 mod own_edges;
 mod plain;
 mod search;
+#[cfg(test)]
+mod tests;
 mod vertex;
 
 pub use computation::Computation;
 pub use context::Cx;
 pub use meter::Meter;
+pub use own_edges::EdgeRoom;
 pub use pg_graph::Memory;
 pub use pg_model::{Declared, Place, View};
 pub use plain::Plain;
-pub use own_edges::EdgeRoom;
 pub use vertex::Vertex;

@@ -1,12 +1,11 @@
 //! Values and messages of programs.
-ghost use Rattle.std.specs.Prelude.{◌≡◌, ◌++◌, ℕ, List, IsTrue, IfOk, OnOk, FitsSigned};
+ghost use Rattle.std.specs.Prelude.{◌≡◌, ◌++◌, ℕ, List, IsTrue, IfOk, OnOk, OnErr, FitsSigned};
 ghost use Rattle.std.specs.Int.{w64};
 ghost use Rattle.std.specs.Fmt.{signed_decimal};
 ghost use Rattle.std.specs.String.{string_bytes};
 
 use pg_graph::Memory;
 use std::alloc::Global;
-use std::fmt::Write;
 
 /// What a value or a message of a program may be: two values are equal only if they are identical.
 pub trait Plain: Eq + Send + Sync + Drop {
@@ -26,7 +25,8 @@ pub trait Plain: Eq + Send + Sync + Drop {
 
     /// Appends the text of the value.
     fn show(&self, text: &mut String) -> Result<(), Memory>
-        ensures { OnOk result (string_bytes text.new ≡ string_bytes text.old ++ shown self.now) };
+        ensures ok { OnOk result (string_bytes text.new ≡ string_bytes text.old ++ shown self.now) }
+        ensures err { OnErr result (string_bytes text.new ≡ string_bytes text.old) };
 
     /// Only identical values are equal.
     ghost exact: { (x y : Self) → is_value x → is_value y → IsTrue (Self.PartialEq.eq x y) → x ≡ y };
@@ -51,6 +51,7 @@ impl Plain for i64 {
 
     fn show(&self, text: &mut String) -> Result<(), Memory> {
         let value = *self;
-        write!(text, "{value}")
+        let shown = value.to_string(*text.allocator())?;
+        text.push_str(shown.as_str())
     }
 }

@@ -31,12 +31,7 @@ impl<V> Vertex<V> {
 
     /// A vertex at the beginning of an execution, which hasn't voted yet. The room grows where the
     /// vertex has more edges than any before it; later changes of edges that are there take no memory.
-    pub fn new(
-        id: VertexId,
-        value: V,
-        edges: Edges,
-        room: EdgeRoom,
-    ) -> Result<Vertex<V>, Memory>
+    pub fn new(id: VertexId, value: V, edges: Edges, room: EdgeRoom) -> Result<Vertex<V>, Memory>
     where
         V: Drop,
         ensures { IfOk result
@@ -84,7 +79,7 @@ impl<V> Vertex<V> {
     pub fn num_edges(&self) -> usize
         ensures { result ≡ length self.now.edges }
     {
-        self.edges.as_slice().len()
+        self.edges().len()
     }
 
     /// The out-edges with their weights, by rising target.

@@ -13,4 +13,4 @@ returns-clause-ok c =
 pub returns-clause-rising : goal.returns-clause-rising
 returns-clause-rising c =
     let P : EdgeList → Type 0 = λ l. IsRising l in
-    subst P (sym (returns-clause-ok c)) (IsRising-with_edge c.args.target c.args.weight c.args.room.now.items c.requires.rising)
+    subst P (sym {A = EdgeList} (returns-clause-ok c)) (IsRising-with_edge c.args.target c.args.weight c.args.room.now.items c.requires.rising)

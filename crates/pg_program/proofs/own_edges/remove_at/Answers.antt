@@ -11,4 +11,4 @@ returns-clause-value c =
 pub returns-clause-rising : goal.returns-clause-rising
 returns-clause-rising c =
     let P : EdgeList → Type 0 = λ l. IsRising l in
-    subst P (sym (returns-clause-value c)) (IsRising-without_edge c.args.target c.args.room.now.items c.requires.rising)
+    subst P (sym {A = EdgeList} (returns-clause-value c)) (IsRising-without_edge c.args.target c.args.room.now.items c.requires.rising)
