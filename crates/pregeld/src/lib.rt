@@ -1,0 +1,17 @@
+//! The service: a graph, the ready programs that run on it, and the commands that reach both.
+#![tactic(auto)]
+
+mod command;
+mod options;
+mod program;
+mod ready;
+mod reply;
+mod service;
+mod session;
+mod sssp;
+
+pub use program::start;
+pub use ready::ReadyMaster;
+pub use service::{Published, Service};
+pub use session::{ServeFault, serve};
+pub use sssp::Sssp;

@@ -1,0 +1,47 @@
+//! The program.
+ghost use Rattle.std.specs.Prelude.{◌≡◌, ◌≤◌};
+
+use crate::options::{NoOptions, options_of};
+use crate::{ServeFault, Service, serve};
+use std::alloc::Global;
+use std::convert::AsStr;
+use std::io::{BufRead, Write};
+
+/// Runs the program on its words, the program's name first, and gives its exit status: 0 at the end of
+/// the input or after help; 1 where memory, the input or the output failed; 2 where the words are at fault.
+pub fn start<S: AsStr, R: BufRead, W: Write, E: Write>(
+    alloc: Global,
+    words: &[S],
+    reader: &mut R,
+    writer: &mut W,
+    errors: &mut E,
+) -> u8
+    ensures { result ≤ 2 }
+{
+    let options = match options_of(alloc, words) {
+        Ok(options) => options,
+        Err(NoOptions::Help(text)) => {
+            return match write!(writer, "{text}") {
+                Ok(_) => 0,
+                Err(_) => fail(errors, "output", 1),
+            };
+        }
+        Err(NoOptions::Memory) => return fail(errors, "memory", 1),
+        Err(NoOptions::Arguments) => return fail(errors, "arguments", 2),
+    };
+    let mut service = Service::new(alloc, options.source, options.limit);
+    match serve(alloc, reader, writer, &mut service) {
+        Ok(()) => 0,
+        Err(ServeFault::Memory) => fail(errors, "memory", 1),
+        Err(ServeFault::Read) => fail(errors, "input", 1),
+        Err(ServeFault::Write) => fail(errors, "output", 1),
+    }
+}
+
+/// Says what failed, and gives the exit status for it. A message that can't be written changes nothing.
+fn fail<E: Write>(errors: &mut E, what: &str, status: u8) -> u8
+    ensures { result ≡ status }
+{
+    let _said = writeln!(errors, "pregeld: {what}");
+    status
+}
