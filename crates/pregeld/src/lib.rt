@@ -15,3 +15,6 @@ pub use ready::ReadyMaster;
 pub use service::{Published, Service};
 pub use session::{ServeFault, serve};
 pub use sssp::Sssp;
+
+#[cfg(test)]
+mod tests;

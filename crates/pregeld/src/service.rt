@@ -1,5 +1,6 @@
 //! A graph that is kept, and the answers of the last refresh on it.
 ghost use Rattle.std.specs.Prelude.{◌≡◌, [], ◌<◌, None, Some, length, IfOk, IfErr, OnOk, OnErr};
+ghost use Rattle.std.specs.Option.{option_copied};
 ghost use Rattle.pg_graph.specs.Edit.{batch_edited};
 ghost use Rattle.pg_model.specs.Run.{answer, executions};
 ghost use Rattle.pg_model.specs.Superstep.{capped};
@@ -68,7 +69,9 @@ impl Service {
     }
 
     /// What was published last.
-    pub fn published(&self) -> Option<&Published> {
+    pub fn published(&self) -> Option<&Published>
+        ensures { option_copied result ≡ self.now.published }
+    {
         self.published.as_ref()
     }
 

@@ -1,0 +1,301 @@
+use crate::{ReadyMaster, ServeFault, Service, Sssp, serve, start};
+use pg_global::{AnyCombiner, NoMaster};
+use pg_graph::{Batch, Edit, Edition, Graph, VertexId};
+use pg_model::{Ending, Run};
+use pg_program::Meter;
+use pg_scratch::{RunFault, run};
+use std::alloc::Global;
+use std::process::Abort;
+use std::test::Fail;
+
+const TWO_HOPS: &[u8] = b"import list 2\n1 2 5\n2 3\nrefresh\ndump\n";
+
+// What the program is given, and what it has to answer.
+#[derive(Clone, Copy)]
+struct Session<'a> {
+    words: &'a [&'a str],
+    input: &'a [u8],
+    status: u8,
+    output: &'a str,
+    errors: &'a str,
+}
+
+// The program on its words and its input answers this.
+fn answers(rt: &impl Abort, alloc: Global, session: &Session<'_>) {
+    let mut reader = session.input;
+    let mut writer = Vec::new(alloc);
+    let mut errors = Vec::new(alloc);
+    let status = start(alloc, session.words, &mut reader, &mut writer, &mut errors);
+    assert_eq!(rt; status, session.status);
+    assert_eq!(rt; writer.as_slice(), session.output.as_bytes());
+    assert_eq!(rt; errors.as_slice(), session.errors.as_bytes());
+}
+
+// Shortest paths from 1 on these lines print this.
+fn prints(rt: &impl Abort, alloc: Global, input: &[u8], output: &str) {
+    let session = Session {
+        words: &["pregeld", "--program", "sssp"],
+        input,
+        status: 0,
+        output,
+        errors: "",
+    };
+    answers(rt, alloc, &session);
+}
+
+#[test]
+fn two_hops(rt: HostRuntime) {
+    let wanted = "edition 1\nrefreshed edition 1 supersteps 3 ending finished calls 5 losses 0\nvalue 1 0\nvalue 2 5\nvalue 3 6\nend 3\n";
+    prints(&rt, rt.alloc(), TWO_HOPS, wanted);
+}
+
+#[test]
+fn no_import(rt: HostRuntime) {
+    let wanted = "refreshed edition 0 supersteps 1 ending finished calls 0 losses 0\nend 0\n";
+    prints(&rt, rt.alloc(), b"refresh\ndump\n", wanted);
+}
+
+#[test]
+fn nothing_published(rt: HostRuntime) {
+    prints(&rt, rt.alloc(), b"dump", "unpublished\n");
+}
+
+#[test]
+fn limit_first(rt: HostRuntime) {
+    let first = Session {
+        words: &["pregeld", "--program", "sssp", "--limit", "1"],
+        input: TWO_HOPS,
+        status: 0,
+        output: "edition 1\nrefreshed edition 1 supersteps 1 ending limit calls 3 losses 0\nvalue 1 0\nvalue 2 9223372036854775807\nvalue 3 9223372036854775807\nend 3\n",
+        errors: "",
+    };
+    answers(&rt, rt.alloc(), &first);
+    let third = Session {
+        words: &["pregeld", "--program", "sssp", "--limit", "3"],
+        input: b"import list 2\n1 2 5\n2 3\nrefresh\n",
+        status: 0,
+        output: "edition 1\nrefreshed edition 1 supersteps 3 ending finished calls 5 losses 0\n",
+        errors: "",
+    };
+    answers(&rt, rt.alloc(), &third);
+}
+
+#[test]
+fn sums_stop_at_both_ends(rt: HostRuntime) {
+    let falling = Session {
+        words: &["pregeld", "--program", "sssp", "--limit", "4"],
+        input: b"import list 1\n1 1 -1\nrefresh\ndump\n",
+        status: 0,
+        output: "edition 1\nrefreshed edition 1 supersteps 4 ending limit calls 4 losses 0\nvalue 1 -3\nend 1\n",
+        errors: "",
+    };
+    answers(&rt, rt.alloc(), &falling);
+    let wanted = "edition 1\nrefreshed edition 1 supersteps 2 ending finished calls 4 losses 0\nvalue 1 0\nvalue 2 9223372036854775807\nvalue 3 9223372036854775807\nend 3\n";
+    let rising = b"import list 2\n1 2 9223372036854775807\n2 3\nrefresh\ndump\n";
+    prints(&rt, rt.alloc(), rising, wanted);
+}
+
+#[test]
+fn sources(rt: HostRuntime) {
+    let session = Session {
+        words: &["pregeld", "--source", "2", "--program", "sssp"],
+        input: TWO_HOPS,
+        status: 0,
+        output: "edition 1\nrefreshed edition 1 supersteps 2 ending finished calls 4 losses 0\nvalue 1 9223372036854775807\nvalue 2 0\nvalue 3 1\nend 3\n",
+        errors: "",
+    };
+    answers(&rt, rt.alloc(), &session);
+}
+
+#[test]
+fn imports(rt: HostRuntime) {
+    let alloc = rt.alloc();
+    prints(
+        &rt,
+        alloc,
+        b"import list 2\n1 2\n1 x\n",
+        "import refused 2 line 2\n",
+    );
+    prints(
+        &rt,
+        alloc,
+        b"import csv 2\n1;2\n3,4\n",
+        "import refused 4 line 1\n",
+    );
+    prints(
+        &rt,
+        alloc,
+        b"import csv 3\nsource,target,weight\n1,2,5\n\"2\", 3\nrefresh\ndump",
+        "edition 1\nrefreshed edition 1 supersteps 3 ending finished calls 5 losses 0\nvalue 1 0\nvalue 2 5\nvalue 3 6\nend 3\n",
+    );
+    prints(&rt, alloc, b"import list 0\n", "edition 1\n");
+}
+
+#[test]
+fn faults_of_lines(rt: HostRuntime) {
+    let alloc = rt.alloc();
+    prints(
+        &rt,
+        alloc,
+        b"fly\nimport list\nimport list 100001\nimport tree 1\n\n# \xff\ndump now\ndump \xff\nimport list 3\n1 2\n2 3\n",
+        "error 1 line 1\nerror 2 line 2\nerror 3 line 3\nerror 3 line 4\nerror 2 line 7\nerror 1 line 8\nerror 4 line 9\n",
+    );
+    prints(
+        &rt,
+        alloc,
+        b" import\tlist 1 \n1 2\n dump\t\r\nhop\n",
+        "edition 1\nunpublished\nerror 1 line 4\n",
+    );
+}
+
+// The words are at fault, and nothing is read or written but the message.
+fn is_fault_of_arguments(rt: &impl Abort, alloc: Global, words: &[&str]) {
+    let session = Session {
+        words,
+        input: TWO_HOPS,
+        status: 2,
+        output: "",
+        errors: "pregeld: arguments\n",
+    };
+    answers(rt, alloc, &session);
+}
+
+#[test]
+fn arguments(rt: HostRuntime) {
+    let alloc = rt.alloc();
+    is_fault_of_arguments(&rt, alloc, &["pregeld"]);
+    is_fault_of_arguments(&rt, alloc, &["pregeld", "--program", "flood"]);
+    is_fault_of_arguments(
+        &rt,
+        alloc,
+        &["pregeld", "--program", "sssp", "--limit", "0"],
+    );
+    is_fault_of_arguments(
+        &rt,
+        alloc,
+        &["pregeld", "--program", "sssp", "--workers", "2"],
+    );
+    is_fault_of_arguments(
+        &rt,
+        alloc,
+        &[
+            "pregeld",
+            "--program",
+            "sssp",
+            "--source",
+            "9223372036854775808",
+        ],
+    );
+}
+
+#[test]
+fn help(rt: HostRuntime) {
+    let alloc = rt.alloc();
+    let mut reader: &[u8] = TWO_HOPS;
+    let mut writer = Vec::new(alloc);
+    let mut errors = Vec::new(alloc);
+    let status = start(
+        alloc,
+        &["pregeld", "--help"],
+        &mut reader,
+        &mut writer,
+        &mut errors,
+    );
+    assert_eq!(&rt; status, 0);
+    assert!(&rt; !writer.is_empty());
+    assert!(&rt; errors.is_empty());
+}
+
+// The graph of 1 to 2 of weight 5 and 2 to 3 of weight 1.
+fn two_hops_batch(alloc: Global) -> Result<Batch, Fail> {
+    let mut batch = Batch::new(alloc);
+    for number in 1..4 {
+        let Some(id) = VertexId::new(number) else {
+            continue;
+        };
+        batch.push(Edit::AddVertex(id, 0))?;
+    }
+    for (source, target, weight) in [(1, 2, 5), (2, 3, 1)] {
+        let (Some(source), Some(target)) = (VertexId::new(source), VertexId::new(target)) else {
+            continue;
+        };
+        batch.push(Edit::AddEdge(source, target, weight))?;
+    }
+    Ok(batch)
+}
+
+// The values and counts of the run on two hops.
+fn is_two_hops(rt: &impl Abort, run: &Run<i64>) {
+    assert_eq!(rt; run.values.as_slice().len(), 3);
+    for ((id, value), wanted) in run.values.as_slice().iter().zip([(1, 0), (2, 5), (3, 6)]) {
+        assert_eq!(rt; (id.number(), *value), wanted);
+    }
+    assert_eq!(rt; run.aggregates.as_slice(), [3].as_slice());
+    assert_eq!(rt; run.ending, Ending::Finished);
+    assert_eq!(rt; (run.supersteps, run.sent, run.dropped), (3, 2, 0));
+}
+
+#[test]
+fn runs(rt: HostRuntime) -> Result<(), Fail> {
+    let alloc = rt.alloc();
+    let batch = two_hops_batch(alloc)?;
+    let mut graph = Graph::new(alloc);
+    assert!(&rt; graph.apply(alloc, &batch).is_ok());
+    let Some(source) = VertexId::new(1) else {
+        return Ok(());
+    };
+    let program = Sssp { source };
+    let combiner = AnyCombiner::NoCombiner;
+    let mut meter = Meter::new();
+    match run(alloc, &graph, &program, &combiner, &ReadyMaster, 1000, &mut meter) {
+        Ok(run) => is_two_hops(&rt, &run),
+        Err(fault) => assert_eq!(&rt; fault, RunFault::Register, "no fault"),
+    }
+    assert_eq!(&rt; meter.count(), 5);
+    match run(alloc, &graph, &program, &combiner, &NoMaster, 1000, &mut meter) {
+        Ok(_) => assert_eq!(&rt; 0, 1, "a refusal"),
+        Err(fault) => assert_eq!(&rt; fault, RunFault::Unregistered),
+    }
+    assert_eq!(&rt; meter.count(), 5);
+    Ok(())
+}
+
+#[test]
+fn services(rt: HostRuntime) -> Result<(), Fail> {
+    let alloc = rt.alloc();
+    let Some(source) = VertexId::new(1) else {
+        return Ok(());
+    };
+    let mut service = Service::new(alloc, source, 1000);
+    assert!(&rt; service.published().is_none());
+    let batch = two_hops_batch(alloc)?;
+    assert_eq!(&rt; service.apply(alloc, &batch).ok(), Some(Edition::new(1)));
+    assert_eq!(&rt; service.graph().vertices(), 3);
+    let refused = service.apply(alloc, &batch);
+    assert!(&rt; refused.is_err_and(|fault| fault.position == 1 && fault.kind.number() == 2));
+    assert!(&rt; service.refresh(alloc).is_ok());
+    match service.published() {
+        None => assert_eq!(&rt; 0, 1, "a publication"),
+        Some(published) => {
+            assert_eq!(&rt; (published.edition, published.calls), (Edition::new(1), 5));
+            is_two_hops(&rt, &published.run);
+        }
+    }
+    Ok(())
+}
+
+#[test]
+fn a_writer_that_is_full(rt: HostRuntime) {
+    let alloc = rt.alloc();
+    let Some(source) = VertexId::new(1) else {
+        return;
+    };
+    let mut service = Service::new(alloc, source, 1000);
+    let mut reader: &[u8] = TWO_HOPS;
+    let mut room = [0_u8; 4];
+    let mut writer = room.as_mut_slice();
+    let served = serve(alloc, &mut reader, &mut writer, &mut service);
+    assert_eq!(&rt; served, Err(ServeFault::Write));
+    assert_eq!(&rt; service.graph().vertices(), 3);
+    assert!(&rt; service.published().is_none());
+}
