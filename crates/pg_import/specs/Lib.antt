@@ -1,0 +1,2 @@
+pub mod ImportKind
+pub mod Number

@@ -1,0 +1,9 @@
+//! Edge lists: text that nobody vouches for, read as edges, and edges made into a batch of edits.
+#![tactic(auto)]
+
+mod line;
+mod number;
+
+pub use line::{ImportFault, ImportKind, Line};
+pub use number::{read_id, read_weight};
+pub use std::alloc::AllocError as Memory;
