@@ -1,2 +1,3 @@
 pub mod ImportKind
 pub mod Number
+pub mod Text

@@ -3,7 +3,9 @@
 
 mod line;
 mod number;
+mod text;
 
 pub use line::{ImportFault, ImportKind, Line};
 pub use number::{read_id, read_weight};
+pub use text::{Words, bare_line};
 pub use std::alloc::AllocError as Memory;
