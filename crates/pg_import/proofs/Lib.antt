@@ -1,2 +1,4 @@
 pub mod Numbers
 pub mod TextWords
+pub mod TextLines
+pub mod Readings

@@ -13,10 +13,10 @@ is_word part = nat_lt 0 (length part)
 abbrev pub word_end : List ℕ → ℕ
 word_end text = position_or_len is_blank text
 
-take-next : (n b : ℕ) (rest : List ℕ) → take (1 + n) (b ∷ rest) ≡ b ∷ take n rest
+pub take-next : (n b : ℕ) (rest : List ℕ) → take (1 + n) (b ∷ rest) ≡ b ∷ take n rest
 take-next n b rest = let e : 1 + n ≡ suc n = omega arith in rw e refl
 
-drop-next : (n b : ℕ) (rest : List ℕ) → drop (1 + n) (b ∷ rest) ≡ drop n rest
+pub drop-next : (n b : ℕ) (rest : List ℕ) → drop (1 + n) (b ∷ rest) ≡ drop n rest
 drop-next n b rest = let e : 1 + n ≡ suc n = omega arith in rw e refl
 
 -- blanks in front are in no word

@@ -1,3 +1,4 @@
 pub mod ImportKind
 pub mod Number
 pub mod Text
+pub mod Import

@@ -14,7 +14,7 @@ skip_blanks (b ∷ rest) = if is_blank b then skip_blanks rest else b ∷ rest
 -- the lines of a text, each with its line feed, which the last one may lack
 abbrev pub raw_lines : List ℕ → List (List ℕ)
 raw_lines [] = []
-raw_lines (b ∷ rest) = if b == 10 then (10 ∷ []) ∷ raw_lines rest else onto_first b (raw_lines rest)
+raw_lines (b ∷ rest) = if b == 10 then (b ∷ []) ∷ raw_lines rest else onto_first b (raw_lines rest)
 
 -- a text without this byte at its end
 abbrev pub strip_last : ℕ → List ℕ → List ℕ

@@ -2,10 +2,12 @@
 #![tactic(auto)]
 
 mod line;
+mod list;
 mod number;
 mod text;
 
 pub use line::{ImportFault, ImportKind, Line};
+pub use list::read_list;
 pub use number::{read_id, read_weight};
 pub use text::{Words, bare_line};
 pub use std::alloc::AllocError as Memory;

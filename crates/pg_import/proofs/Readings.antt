@@ -1,0 +1,23 @@
+-- Readings, one after another.
+use Rattle.std.proofs.Common.{◌≡◌, ℕ, ◌+◌, ◌<◌, List, [], ◌∷◌, ◌++◌, map, length, drop, get_or, Result, Ok, Err, refl, ap, sym, ◌∙◌}
+use Rattle.std.proofs.lemmas.List.{append-nil, at_drop_more}
+use Rattle.pg_import.specs.Import.{Reading, at_line, edges_from, followed_by}
+use Rattle.pg_import.specs.declared.line.ImportFault.{ImportFault}
+use Rattle.pg_import.specs.declared.line.Line.{Line}
+
+pub followed_by-none : (meaning : Result (List Line) ImportFault) → followed_by [] meaning ≡ meaning
+followed_by-none (Ok lines) = refl
+followed_by-none (Err fault) = refl
+
+-- the next reading of a list, and those after it
+pub edges_from-next : {X : Type 0} (f : X → Reading) (xs : List X) (x : X) (number i : ℕ) (lines : List Line) → i < length xs → x ≡ get_or xs i x
+    → followed_by lines (edges_from number (map f (drop i xs))) ≡ followed_by lines (at_line number (f x) (edges_from (number + 1) (map f (drop (i + 1) xs))))
+unfolding edges_from
+edges_from-next f xs x number i lines inside is =
+    let e = at_drop_more (λ ys. followed_by lines (edges_from number (map f ys))) xs i x inside in
+    rw (← is) at e
+
+-- no reading is left
+pub edges_from-end : {X : Type 0} (f : X → Reading) (xs : List X) (number : ℕ) (lines : List Line) → xs ≡ [] → followed_by lines (edges_from number (map f xs)) ≡ Ok lines
+unfolding edges_from
+edges_from-end f xs number lines none = rw none (ap Ok (append-nil lines))
