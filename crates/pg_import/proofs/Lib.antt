@@ -2,3 +2,5 @@ pub mod Numbers
 pub mod TextWords
 pub mod TextLines
 pub mod Readings
+pub mod RecordsLeft
+pub mod Fields

@@ -1,4 +1,6 @@
+pub mod Comma
+pub mod Import
 pub mod ImportKind
 pub mod Number
+pub mod Records
 pub mod Text
-pub mod Import

@@ -1,11 +1,13 @@
 //! Edge lists: text that nobody vouches for, read as edges, and edges made into a batch of edits.
 #![tactic(auto)]
 
+mod comma;
 mod line;
 mod list;
 mod number;
 mod text;
 
+pub use comma::read_csv;
 pub use line::{ImportFault, ImportKind, Line};
 pub use list::read_list;
 pub use number::{read_id, read_weight};

@@ -49,3 +49,9 @@ pub struct ImportFault {
     pub line: u64,
     pub kind: ImportKind,
 }
+
+/// The fault where a growth was refused.
+pub(crate) const NO_MEMORY: ImportFault = ImportFault {
+    line: 0,
+    kind: ImportKind::Memory,
+};
