@@ -4,3 +4,4 @@ pub mod TextLines
 pub mod Readings
 pub mod RecordsLeft
 pub mod Fields
+pub mod RecordReadings

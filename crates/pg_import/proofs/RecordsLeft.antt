@@ -4,7 +4,7 @@ use Rattle.std.specs.Bool.{⊤}
 use Rattle.std.specs.Result.{IsErrAnd}
 use Rattle.std.proofs.lemmas.Bool.{cases_Bool}
 use Rattle.csv.specs.Machine.{Read, ends_at_end, ends_with, after_end, in_field, is_end, next_record, start_field, start_record, step}
-use Rattle.csv.specs.Reading.{ReadRecord, Reached, Ready, default_config, reader_trim, records_from, records_next, source_of, took_first}
+use Rattle.csv.specs.Reading.{ReadRecord, Reached, Ready, default_config, is_bom, reader_config, reader_state, reader_trim, records, records_from, records_next, source_of, strip_bom, took_first}
 use Rattle.csv.specs.declared.reader.Trim.TheVariants as trim
 use Rattle.csv.specs.declared.reader.Reader.{Reader}
 use Rattle.csv.proofs.ReadFacts.{rows-end, rows-more}
@@ -120,8 +120,8 @@ took_next rem a b fields z p at ready config trim left next is state rest =
         trim = trim ∙ at.trim;
         ready = ready;
         known = left ∙ ap Some (sym rest ∙ sym bytes);
-        between = rw (← state) more.2
-      }
+        between = rw (← state) more.2;
+      };
     }
 
 -- a read that found a record took the first of those that were left
@@ -145,3 +145,27 @@ found_record Q rem a b fields (Ok true) answer at reads first same = rw same (ta
 found_record Q rem a b fields (Ok false) answer at reads first same = rw same (records_left-none rem a b fields at (reads at.trim at.ready))
 found_record Q rem a b fields (Err e) (Ok found) at reads first same = absurd same
 found_record Q rem a b fields (Err e) (Err f) at reads first same = tt
+
+length-strip_bom : (text : List ℕ) → length (strip_bom text) ≤ length text
+unfolding strip_bom
+length-strip_bom [] = omega arith
+length-strip_bom (a ∷ []) = omega arith
+length-strip_bom (a ∷ b ∷ []) = omega arith
+length-strip_bom (a ∷ b ∷ c ∷ rest) = elim (cases_Bool (is_bom a b c)) [ inl mark ↦ rw mark (omega arith) | inr none ↦ rw none (omega arith) ]
+
+-- a reader at the start of a text has all of its records left
+pub record StartsText {R : Type 0} (rem : R → Option (List ℕ)) (a : Reader R) (text : List ℕ) : Type 0 where
+  pub at : IsBetweenRecords rem a
+  pub all : records_left rem a ≡ records default_config (strip_bom text)
+  pub bytes : length (bytes_left rem a) ≤ length text
+
+pub starts_text : {R : Type 0} (rem : R → Option (List ℕ)) (a : Reader R) (text : List ℕ) → reader_config a ≡ default_config → reader_trim a ≡ trim.None → Ready a → reader_state a ≡ st.StartRecord
+    → source_of rem a ≡ Some (strip_bom text) → StartsText rem a text
+unfolding records_left
+starts_text rem a text config trim ready start source =
+    let bytes : bytes_left rem a ≡ strip_bom text = rw source refl in
+    record {
+      at = record { config = config; trim = trim; ready = ready; known = source ∙ ap Some (sym bytes); between = rw start refl };
+      all = rw (bytes, start) refl;
+      bytes = rw bytes (length-strip_bom text);
+    }

@@ -46,14 +46,14 @@ pub raw_lines-first : (text : List ℕ) → 0 < length text → raw_lines text �
 unfolding line_end
 raw_lines-first [] more = absurd (omega arith)
 raw_lines-first (b ∷ []) more = elim (cases_Bool (is_line_feed b)) [
-    | inl ends ↦ raw_lines-feed b [] ends ∙ rw (line_end-feed b [] ends) refl
-    | inr other ↦ raw_lines-other b [] other ∙ rw (line_end-other b [] other) refl
-  ]
+  | inl ends ↦ raw_lines-feed b [] ends ∙ rw (line_end-feed b [] ends) refl
+  | inr other ↦ raw_lines-other b [] other ∙ rw (line_end-other b [] other) refl
+]
 raw_lines-first (b ∷ c ∷ rest) more = elim (cases_Bool (is_line_feed b)) [
-    | inl ends ↦ raw_lines-feed b (c ∷ rest) ends ∙ rw (line_end-feed b (c ∷ rest) ends) refl
-    | inr other ↦
-        raw_lines-other b (c ∷ rest) other ∙ rw (line_end-other b (c ∷ rest) other) (onto_first-line b (line_end (c ∷ rest)) (c ∷ rest) (raw_lines-first (c ∷ rest) (omega arith)))
-  ]
+  | inl ends ↦ raw_lines-feed b (c ∷ rest) ends ∙ rw (line_end-feed b (c ∷ rest) ends) refl
+  | inr other ↦
+      raw_lines-other b (c ∷ rest) other ∙ rw (line_end-other b (c ∷ rest) other) (onto_first-line b (line_end (c ∷ rest)) (c ∷ rest) (raw_lines-first (c ∷ rest) (omega arith)))
+]
 
 -- a line that is cut off at a text's first line feed, or at its end
 pub raw_lines-cut : (line rest : List ℕ) (i : ℕ) → length line ≡ min (i + 1) (length (line ++ rest)) → IsFirstMatchOrLen is_line_feed (line ++ rest) i → 0 < length (line ++ rest)
@@ -75,9 +75,9 @@ length-onto_first b (line ∷ lines) = omega arith
 pub length-raw_lines : (text : List ℕ) → length (raw_lines text) ≤ length text
 length-raw_lines [] = omega arith
 length-raw_lines (b ∷ rest) = elim (cases_Bool (is_line_feed b)) [
-    | inl ends ↦ rw ends (omega (arith, length-raw_lines rest))
-    | inr other ↦ rw other (omega (arith, length-raw_lines rest, length-onto_first b (raw_lines rest)))
-  ]
+  | inl ends ↦ rw ends (omega (arith, length-raw_lines rest))
+  | inr other ↦ rw other (omega (arith, length-raw_lines rest, length-onto_first b (raw_lines rest)))
+]
 
 -- one step of `split_inclusive`
 abbrev pub inclusive_steps : {F : Type 0} → Mut F (Bor ℕ × Unit {0}) Bool → SplitInclusive ℕ F → Option (Bor (List ℕ)) → SplitInclusive ℕ F → Type 0

@@ -23,9 +23,9 @@ drop-next n b rest = let e : 1 + n ≡ suc n = omega arith in rw e refl
 pub words_of-skip : (text : List ℕ) → words_of (skip_blanks text) ≡ words_of text
 words_of-skip [] = refl
 words_of-skip (b ∷ rest) = elim (cases_Bool (is_blank b)) [
-    | inl blank ↦ rw blank (words_of-skip rest)
-    | inr other ↦ rw other (rw other refl)
-  ]
+  | inl blank ↦ rw blank (words_of-skip rest)
+  | inr other ↦ rw other (rw other refl)
+]
 
 -- the parts after the first one have the words after it
 pub record FirstPart (text : List ℕ) : Type 0 where
@@ -36,13 +36,13 @@ pub record FirstPart (text : List ℕ) : Type 0 where
 pub first_part : (text : List ℕ) → FirstPart text
 first_part [] = record { others = []; cut = refl; words = refl }
 first_part (b ∷ rest) = elim (cases_Bool (is_blank b)) [
-    | inl blank ↦ record { others = slice_split is_blank rest; cut = rw blank refl; words = rw blank (rw blank refl) }
-    | inr other ↦ record {
-        others = (first_part rest).others;
-        cut = rw (other, (first_part rest).cut, take-next (word_end rest) b rest) refl;
-        words = rw (other, drop-next (word_end rest) b rest) (first_part rest).words
-      }
-  ]
+  | inl blank ↦ record { others = slice_split is_blank rest; cut = rw blank refl; words = rw blank (rw blank refl) }
+  | inr other ↦ record {
+    others = (first_part rest).others;
+    cut = rw (other, (first_part rest).cut, take-next (word_end rest) b rest) refl;
+    words = rw (other, drop-next (word_end rest) b rest) (first_part rest).words;
+  }
+]
 
 -- the first word, where a text begins with one
 pub words_of-word : (text : List ℕ) → 0 < length (take (word_end text) text) → words_of text ≡ take (word_end text) text ∷ words_of (drop (word_end text) text)
@@ -55,9 +55,9 @@ words_of-word text more =
 pub words_of-none : (text : List ℕ) → length (take (word_end (skip_blanks text)) (skip_blanks text)) ≡ 0 → words_of text ≡ []
 words_of-none [] none = refl
 words_of-none (b ∷ rest) none = elim (cases_Bool (is_blank b)) [
-    | inl blank ↦ rw blank (words_of-none rest (rw blank at none))
-    | inr other ↦ absurd (omega (arith, rw (other, other, take-next (word_end rest) b rest) at none))
-  ]
+  | inl blank ↦ rw blank (words_of-none rest (rw blank at none))
+  | inr other ↦ absurd (omega (arith, rw (other, other, take-next (word_end rest) b rest) at none))
+]
 
 -- the first word and what comes after it, as they are cut from what comes after the blanks
 pub words_of-cut : (text ahead word rest : List ℕ) (n : ℕ) → ahead ≡ skip_blanks text → n ≡ word_end ahead → word ≡ take n ahead → rest ≡ drop n ahead → 0 < length word → words_of text ≡ word ∷ words_of rest

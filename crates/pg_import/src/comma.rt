@@ -31,12 +31,10 @@ pub fn read_csv(alloc: Global, text: &[u8]) -> Result<Vec<Line>, ImportFault>
     let mut number = 0;
     while next_record(&mut reader, &mut row)? {
         number += 1;
-        let reading = if number == 1 && is_header(&row) {
-            Ok(None)
-        } else {
-            read_record(&row)
-        };
-        add_reading(&mut lines, number, reading)?;
+        if number == 1 && is_header(&row) {
+            continue;
+        }
+        add_reading(&mut lines, number, read_record(&row))?;
     }
     Ok(lines)
 }

@@ -11,5 +11,5 @@ pub use comma::read_csv;
 pub use line::{ImportFault, ImportKind, Line};
 pub use list::read_list;
 pub use number::{read_id, read_weight};
-pub use text::{Words, bare_line};
 pub use std::alloc::AllocError as Memory;
+pub use text::{Words, bare_line};

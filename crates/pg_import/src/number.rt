@@ -8,7 +8,9 @@ use crate::ImportKind;
 use pg_graph::VertexId;
 
 const GREATEST_ID: u64 = (1 << 63) - 1;
+
 const GREATEST_WEIGHT: u64 = (1 << 63) - 1;
+
 const GREATEST_DEBT: u64 = 1 << 63;
 
 /// The id that a word writes: ASCII digits, leading zeros allowed.

@@ -9,5 +9,5 @@ use Rattle.pg_import.proofs.number.is_numeral.Goals as goal
 pub returns-then-not-is_empty : goal.returns-then-not-is_empty
 returns-then-not-is_empty c =
     let digits : c.all.result ≡ list_all is_ascii_digit c.args.word.now =
-        all_from_yields_List is_ascii_digit _ _ _ c.all.ensures.ran (YieldsList-from_slice c.args.word.now cc) (λ x b q k. search (rules, tests)) in
+    all_from_yields_List is_ascii_digit _ _ _ c.all.ensures.ran (YieldsList-from_slice c.args.word.now cc) (λ x b q k. search (rules, tests)) in
     grind (arith, nat_tests)

@@ -19,5 +19,5 @@ pub returns-clause-goes : goal.returns-clause-goes
 returns-clause-goes c =
     let some : 0 < length c.split_at.result.0.now = grind (arith, nat_tests) in
     let steps : c.args.self.now ≡ c.split_at.result.0.now ∷ words_of c.split_at.result.1.now =
-        sym c.self.view_is ∙ words_of-cut c.self.inside.rest.now _ _ _ _ c.after_blanks-ahead.ensures c.word_len.ensures.place c.split_at.ensures.front c.split_at.ensures.back some in
+    sym c.self.view_is ∙ words_of-cut c.self.inside.rest.now _ _ _ _ c.after_blanks-ahead.ensures c.word_len.ensures.place c.split_at.ensures.front c.split_at.ensures.back some in
     rw steps (search (rules, arith))
