@@ -5,3 +5,5 @@ pub mod Readings
 pub mod RecordsLeft
 pub mod Fields
 pub mod RecordReadings
+pub mod Graphs
+pub mod NamedFacts

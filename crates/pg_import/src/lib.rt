@@ -1,12 +1,14 @@
 //! Edge lists: text that nobody vouches for, read as edges, and edges made into a batch of edits.
 #![tactic(auto)]
 
+mod batch;
 mod comma;
 mod line;
 mod list;
 mod number;
 mod text;
 
+pub use batch::into_batch;
 pub use comma::read_csv;
 pub use line::{ImportFault, ImportKind, Line};
 pub use list::read_list;

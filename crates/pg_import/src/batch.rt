@@ -1,0 +1,92 @@
+//! The batch of edits that brings the edges of a list into a graph.
+ghost use Rattle.std.specs.Prelude.{◌≡◌, true, not, IfOk};
+ghost use Rattle.pg_graph.specs.Rows.{Rows};
+ghost use Rattle.pg_import.specs.Batch.{Makes, batch_of, has_edge, has_vertex, with_line_edge, with_lines, with_vertex};
+ghost use Rattle.pg_import.specs.Named.{Shows};
+
+use crate::{Line, Memory};
+use pg_graph::{Batch, Edit, Graph, VertexId};
+use std::alloc::Global;
+use std::collections::BTreeSet;
+
+/// The batch of a list of edges on a graph: for each line in order its source and then its target are
+/// added with input 0 where they aren't there yet, and then its edge is added, or set where it is
+/// there by then.
+///
+/// Costs O(k log(n + k)) for k lines and a graph of n vertices and edges.
+pub fn into_batch(alloc: Global, lines: &[Line], graph: &Graph) -> Result<Batch, Memory>
+    ensures value { IfOk result (λ batch. batch ≡ batch_of lines.now graph.now) }
+    ensures makes { IfOk result (λ batch. Makes graph.now batch (with_lines lines.now graph.now)) }
+{
+    let mut batch = Batch::new(alloc);
+    let mut named = Named::new(alloc, graph);
+    for line in lines {
+        if named.add_vertex(line.source)? {
+            batch.push(Edit::AddVertex(line.source, 0))?;
+        }
+        if named.add_vertex(line.target)? {
+            batch.push(Edit::AddVertex(line.target, 0))?;
+        }
+        let edit = if named.add_edge(line)? {
+            Edit::AddEdge(line.source, line.target, line.weight)
+        } else {
+            Edit::SetEdge(line.source, line.target, line.weight)
+        };
+        batch.push(edit)?;
+    }
+    Ok(batch)
+}
+
+// What lines have named so far that a graph doesn't have.
+#[derive(Drop)]
+struct Named<'a> {
+    graph: &'a Graph,
+    vertices: BTreeSet<VertexId>,
+    edges: BTreeSet<(VertexId, VertexId)>,
+}
+
+impl<'a> Named<'a> {
+    // Nothing yet.
+    fn new(alloc: Global, graph: &'a Graph) -> Named<'a>
+        ensures { Shows result graph.now }
+    {
+        Named {
+            graph,
+            vertices: BTreeSet::new(alloc),
+            edges: BTreeSet::new(alloc),
+        }
+    }
+
+    // Names a vertex, and says whether it wasn't there yet.
+    fn add_vertex(&mut self, id: VertexId) -> Result<bool, Memory>
+        ensures { IfOk result (λ added. (rows : Rows) → Shows self.old rows
+            → (added ≡ not (has_vertex id rows)) × Shows self.new (with_vertex id rows)) }
+    {
+        if self.graph.row(id).is_some() {
+            return Ok(false);
+        }
+        let added = self.vertices.insert(id)?;
+        Ok(added)
+    }
+
+    // Names the edge of a line, and says whether it wasn't there yet.
+    fn add_edge(&mut self, line: &Line) -> Result<bool, Memory>
+        ensures { IfOk result (λ added. (rows : Rows) → Shows self.old rows → has_vertex line.now.source rows ≡ true
+            → (added ≡ not (has_edge line.now.source line.now.target rows)) × Shows self.new (with_line_edge line.now rows)) }
+    {
+        if has_edge(self.graph, line.source, line.target) {
+            return Ok(false);
+        }
+        let added = self.edges.insert((line.source, line.target))?;
+        Ok(added)
+    }
+}
+
+fn has_edge(graph: &Graph, source: VertexId, target: VertexId) -> bool
+    ensures { result ≡ has_edge source target graph.now }
+{
+    match graph.row(source) {
+        Some(row) => row.edges.weight(target).is_some(),
+        None => false,
+    }
+}
