@@ -1,21 +1,20 @@
 -- What is in a graph once a line, or a part of one, was added.
-use Rattle.std.proofs.Common.{◌≡◌, ℕ, ℤ, ◌<◌, ◌||◌, ◌&&◌, Bool, true, false, cond, List, [], ◌∷◌, pos, Option, None, Some, Ordering, Less, Equal, Greater, ◌⊎◌, refl, ap, sym, ◌∙◌, inl, inr, arith, rules}
+use Rattle.std.proofs.Common.{◌≡◌, ℕ, ◌&&◌, Bool, true, false, cond, List, [], ◌∷◌, pos, Option, None, Some, Ordering, Less, Equal, Greater, ◌⊎◌, refl, ap, sym, ◌∙◌, inl, inr}
 use Rattle.std.specs.BTreeMap.{insert_entry, is_at}
-use Rattle.std.specs.Cmp.{IsTotalOrder}
 use Rattle.std.specs.Map.{lookup}
 use Rattle.std.specs.Option.{is_some, option_and_then}
-use Rattle.std.specs.Ordering.{is_eq, match_ordering, nat_cmp, ordering_reverse, ordering_then}
+use Rattle.std.specs.Ordering.{is_eq, nat_cmp, ordering_reverse, ordering_then}
 use Rattle.std.proofs.lemmas.Bool.{cases_Bool}
 use Rattle.std.proofs.lemmas.Cmp.{nat_cmp_total}
 use Rattle.std.proofs.lemmas.Map.Lookups.{exact_unsigned}
-use Rattle.pg_graph.specs.EdgeList.{EdgeList, weight_at, with_edge}
+use Rattle.pg_graph.specs.EdgeList.{weight_at, with_edge}
 use Rattle.pg_graph.specs.Rows.{Rows, row_at, with_row}
 use Rattle.pg_graph.specs.declared.graph.Row.{Row}
-use Rattle.pg_import.specs.Batch.{has_edge, has_vertex, with_line_edge, with_vertex}
+use Rattle.pg_import.specs.Batch.{has_edge, has_vertex, with_ends, with_line_edge, with_vertex}
 use Rattle.pg_import.specs.declared.line.Line.{Line}
 
 -- ---- a look-up in a list of entries where one was put, in order or not
-cases_Ordering : (o : Ordering) → (o ≡ Less) ⊎ (o ≡ Equal) ⊎ (o ≡ Greater)
+pub cases_Ordering : (o : Ordering) → (o ≡ Less) ⊎ (o ≡ Equal) ⊎ (o ≡ Greater)
 cases_Ordering Less = inl refl
 cases_Ordering Equal = inr (inl refl)
 cases_Ordering Greater = inr (inr refl)
@@ -44,22 +43,22 @@ is_at-same k e q same = is_at-sym q e ∙ sym (ap is_eq (nat_cmp_total.congr k e
 lookup-insert_same : {X : Type 0} (entries : List (ℕ × X)) (k : ℕ) (v : X) → lookup (is_at (nat_cmp k)) (insert_entry nat_cmp entries k v) ≡ Some v
 lookup-insert_same [] k v = rw (cmp-refl k) refl
 lookup-insert_same (e ∷ entries) k v = elim (cases_Ordering (nat_cmp k e.0)) [
-    | inl less ↦ rw (less, cmp-refl k) refl
-    | inr more ↦ elim more [
-      | inl equal ↦ rw (equal, equal) refl
-      | inr greater ↦ rw (greater, greater) (lookup-insert_same entries k v)
-    ]
+  | inl less ↦ rw (less, cmp-refl k) refl
+  | inr more ↦ elim more [
+    | inl equal ↦ rw (equal, equal) refl
+    | inr greater ↦ rw (greater, greater) (lookup-insert_same entries k v)
   ]
+]
 
 lookup-insert_other : {X : Type 0} (entries : List (ℕ × X)) (k q : ℕ) (v : X) → is_at (nat_cmp q) k ≡ false → lookup (is_at (nat_cmp q)) (insert_entry nat_cmp entries k v) ≡ lookup (is_at (nat_cmp q)) entries
 lookup-insert_other [] k q v apart = rw apart refl
 lookup-insert_other (e ∷ entries) k q v apart = elim (cases_Ordering (nat_cmp k e.0)) [
-    | inl less ↦ rw (less, apart) refl
-    | inr more ↦ elim more [
-      | inl equal ↦ let gone : is_at (nat_cmp q) e.0 ≡ false = is_at-same k e.0 q equal ∙ apart in rw (equal, gone) refl
-      | inr greater ↦ rw (greater, lookup-insert_other entries k q v apart) refl
-    ]
+  | inl less ↦ rw (less, apart) refl
+  | inr more ↦ elim more [
+    | inl equal ↦ let gone : is_at (nat_cmp q) e.0 ≡ false = is_at-same k e.0 q equal ∙ apart in rw (equal, gone) refl
+    | inr greater ↦ rw (greater, lookup-insert_other entries k q v apart) refl
   ]
+]
 
 Equal-from_is_eq : (o : Ordering) → is_eq o ≡ true → o ≡ Equal
 Equal-from_is_eq Less e = cc e
@@ -73,9 +72,9 @@ same_from_is_at k q there = exact_unsigned k q (Equal-from_is_eq (nat_cmp k q) t
 -- what a look-up gives where an entry was put
 pub lookup-insert_entry : {X : Type 0} (entries : List (ℕ × X)) (k q : ℕ) (v : X) → lookup (is_at (nat_cmp q)) (insert_entry nat_cmp entries k v) ≡ cond (is_at (nat_cmp k) q) (Some v) (lookup (is_at (nat_cmp q)) entries)
 lookup-insert_entry entries k q v = elim (cases_Bool (is_at (nat_cmp k) q)) [
-    | inl there ↦ rw (there, ← same_from_is_at k q there) (lookup-insert_same entries k v)
-    | inr apart ↦ rw apart (lookup-insert_other entries k q v (is_at-sym q k ∙ apart))
-  ]
+  | inl there ↦ rw (there, ← same_from_is_at k q there) (lookup-insert_same entries k v)
+  | inr apart ↦ rw apart (lookup-insert_other entries k q v (is_at-sym q k ∙ apart))
+]
 
 -- ---- vertices
 is_some-cond : {X : Type 0} (b : Bool) (x : X) (o : Option X) → is_some (cond b (Some x) o) ≡ cond b true (is_some o)
@@ -92,9 +91,9 @@ has_vertex-with_row rows id q row = ap is_some (lookup-insert_entry rows id q ro
 -- nothing is new at a vertex that is there
 known_vertex : (rows : Rows) (id q : ℕ) → has_vertex id rows ≡ true → has_vertex q rows ≡ cond (is_at (nat_cmp id) q) true (has_vertex q rows)
 known_vertex rows id q there = elim (cases_Bool (is_at (nat_cmp id) q)) [
-    | inl same ↦ rw (same, ← same_from_is_at id q same, there) refl
-    | inr apart ↦ rw apart refl
-  ]
+  | inl same ↦ rw (same, ← same_from_is_at id q same, there) refl
+  | inr apart ↦ rw apart refl
+]
 
 pub with_vertex-there : (rows : Rows) (id : ℕ) → has_vertex id rows ≡ true → with_vertex id rows ≡ rows
 unfolding with_vertex
@@ -106,9 +105,19 @@ with_vertex-new rows id new = rw new refl
 
 pub has_vertex-with_vertex : (rows : Rows) (id q : ℕ) → has_vertex q (with_vertex id rows) ≡ cond (is_at (nat_cmp id) q) true (has_vertex q rows)
 has_vertex-with_vertex rows id q = elim (cases_Bool (has_vertex id rows)) [
-    | inl there ↦ rw (with_vertex-there rows id there) (known_vertex rows id q there)
-    | inr new ↦ rw (with_vertex-new rows id new) (has_vertex-with_row rows id q _)
-  ]
+  | inl there ↦ rw (with_vertex-there rows id there) (known_vertex rows id q there)
+  | inr new ↦ rw (with_vertex-new rows id new) (has_vertex-with_row rows id q _)
+]
+
+cond-true : (b : Bool) → cond b true true ≡ true
+cond-true true = refl
+cond-true false = refl
+
+-- the source of a line is there once both ends are
+pub has_vertex-with_ends : (line : Line) (rows : Rows) → has_vertex line.source (with_ends line rows) ≡ true
+has_vertex-with_ends line rows =
+    let source : has_vertex line.source (with_vertex line.source rows) ≡ true = has_vertex-with_vertex rows line.source line.source ∙ rw (cmp-refl line.source) refl in
+    has_vertex-with_vertex (with_vertex line.source rows) line.target line.source ∙ rw source (cond-true (is_at (nat_cmp line.target) line.source))
 
 -- ---- edges
 edge_of_row : ℕ → Option Row → Bool
@@ -136,14 +145,14 @@ has_edge-with_row rows id s t row =
 -- a vertex that was added has no edge
 pub has_edge-with_vertex : (rows : Rows) (id s t : ℕ) → has_edge s t (with_vertex id rows) ≡ has_edge s t rows
 has_edge-with_vertex rows id s t = elim (cases_Bool (has_vertex id rows)) [
-    | inl there ↦ rw (with_vertex-there rows id there) refl
-    | inr new ↦ rw (with_vertex-new rows id new) (has_edge-with_row rows id s t _ ∙ elim (cases_Bool (is_at (nat_cmp id) s)) [
-      | inl same ↦
-          let none : has_edge s t rows ≡ false = has_edge-row s t rows ∙ edge_of_row-none t (row_at s rows) (rw (same_from_is_at id s same) at new) in
-          rw (same, none) refl
-      | inr apart ↦ rw apart refl
-    ])
-  ]
+  | inl there ↦ rw (with_vertex-there rows id there) refl
+  | inr new ↦ rw (with_vertex-new rows id new) (has_edge-with_row rows id s t _ ∙ elim (cases_Bool (is_at (nat_cmp id) s)) [
+    | inl same ↦
+        let none : has_edge s t rows ≡ false = has_edge-row s t rows ∙ edge_of_row-none t (row_at s rows) (rw (same_from_is_at id s same) at new) in
+        rw (same, none) refl
+    | inr apart ↦ rw apart refl
+  ])
+]
 
 -- the row of a vertex that is there
 pub row_there : (o : Option Row) → is_some o ≡ true → (row : Row) × (o ≡ Some row)
@@ -165,7 +174,7 @@ edge_added : (line : Line) (rows : Rows) (row : Row) (s t : ℕ) → row_at line
     → has_edge s t (with_line_edge line rows) ≡ cond (is_at (nat_cmp line.source) s && is_at (nat_cmp line.target) t) true (has_edge s t rows)
 edge_added line rows row s t at =
     let put : is_some (weight_at t (with_edge line.target line.weight row.edges)) ≡ cond (is_at (nat_cmp line.target) t) true (is_some (weight_at t row.edges)) =
-        ap is_some (lookup-insert_entry row.edges line.target t line.weight) ∙ is_some-cond (is_at (nat_cmp line.target) t) line.weight (weight_at t row.edges) in
+    ap is_some (lookup-insert_entry row.edges line.target t line.weight) ∙ is_some-cond (is_at (nat_cmp line.target) t) line.weight (weight_at t row.edges) in
     rw (with_line_edge-at line rows row at) (has_edge-with_row rows line.source s t _ ∙ elim (cases_Bool (is_at (nat_cmp line.source) s)) [
       | inl same ↦
           let had : has_edge s t rows ≡ is_some (weight_at t row.edges) = rw (← same_from_is_at line.source s same, at) refl in

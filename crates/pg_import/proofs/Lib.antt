@@ -7,3 +7,6 @@ pub mod Fields
 pub mod RecordReadings
 pub mod Graphs
 pub mod NamedFacts
+pub mod Limits
+pub mod BatchLaw
+pub mod BatchSteps

@@ -1,5 +1,5 @@
 -- Readings, one after another.
-use Rattle.std.proofs.Common.{◌≡◌, ℕ, ◌+◌, ◌<◌, List, [], ◌∷◌, ◌++◌, map, length, drop, get_or, Result, Ok, Err, refl, ap, sym, ◌∙◌}
+use Rattle.std.proofs.Common.{◌≡◌, ℕ, ◌+◌, ◌<◌, List, [], map, length, drop, get_or, Result, Ok, Err, refl, ap}
 use Rattle.std.proofs.lemmas.List.{append-nil, at_drop_more}
 use Rattle.pg_import.specs.Import.{Reading, at_line, edges_from, followed_by}
 use Rattle.pg_import.specs.declared.line.ImportFault.{ImportFault}

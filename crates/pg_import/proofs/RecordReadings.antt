@@ -1,5 +1,5 @@
 -- Records and their readings, one after another.
-use Rattle.std.proofs.Common.{◌≡◌, ℕ, zero, suc, ◌+◌, ◌==◌, true, false, List, [], ◌∷◌, map, Result, Ok, Err, refl, arith, add-one, ◌∙◌, ap, sym}
+use Rattle.std.proofs.Common.{◌≡◌, ℕ, zero, suc, ◌+◌, true, false, List, [], ◌∷◌, map, Result, Ok, Err, refl, arith, add-one, ◌∙◌, ap, sym}
 use Rattle.csv.specs.Reading.{default_config, records, strip_bom}
 use Rattle.pg_import.specs.Comma.{csv_of, is_header, reading_of_record, readings_of, trimmed}
 use Rattle.pg_import.specs.Import.{Reading, at_line, edges_from, followed_by}

@@ -1,8 +1,8 @@
 -- The lines of a text, as `split_inclusive` gives them.
-use Rattle.std.proofs.Common.{◌≡◌, ℕ, suc, ◌+◌, ◌-◌, ◌<◌, ◌≤◌, ◌==◌, Bool, true, false, not, List, [], ◌∷◌, ◌++◌, length, take, drop, get_or, min, Option, MatchOption, Bor, refl, ap, sym, subst, ◌∙◌, arith, inl, inr, ⊎_elim}
+use Rattle.std.proofs.Common.{◌≡◌, ℕ, ◌+◌, ◌<◌, ◌≤◌, ◌==◌, Bool, true, false, List, [], ◌∷◌, ◌++◌, length, take, drop, min, Option, MatchOption, Bor, refl, ap, sym, subst, ◌∙◌, arith, inl, inr, ⊎_elim}
 use denote.Param.Members.{Mut}
 use Rattle.std.specs.Fn.{CalledAt, ComputesKey}
-use Rattle.std.specs.List.{AllWithin, HoldsAt, IsFirstMatchOrLen, onto_first, position_or_len}
+use Rattle.std.specs.List.{IsFirstMatchOrLen, onto_first, position_or_len}
 use Rattle.std.specs.Slice.Iter.{split_inclusive_callee, split_inclusive_rest}
 use Rattle.std.specs.declared.slice.SplitInclusive.{SplitInclusive}
 use Rattle.std.proofs.lemmas.Bool.{cases_Bool, cases_lt}
@@ -11,7 +11,7 @@ use Rattle.std.proofs.lemmas.Grind.{common_steps}
 use Rattle.std.proofs.lemmas.Iterator.{YieldsList}
 use Rattle.std.proofs.lemmas.Iterator.Splits.{YieldsList-from_shown_while}
 use Rattle.std.proofs.lemmas.List.{get_or_past}
-use Rattle.std.proofs.lemmas.List.Sums.{position_or_len_is, prefix_len-le-length}
+use Rattle.std.proofs.lemmas.List.Sums.{position_or_len_is}
 use Rattle.pg_import.specs.Text.{raw_lines}
 use Rattle.pg_import.proofs.TextWords.{drop-next, take-next}
 

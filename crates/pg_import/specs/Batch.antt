@@ -1,12 +1,10 @@
 -- The batch that brings the edges of a list into a graph, and what it makes of the graph.
-use Rattle.std.specs.Prelude.{◌≡◌, ◌⊎◌, ℕ, pos, ◌<◌, Bool, if◌then◌else◌, List, [], ◌∷◌, ◌++◌, length, Option, None, Some, is_some, option_and_then, MatchResult}
+use Rattle.std.specs.Prelude.{◌≡◌, ◌⊎◌, ℕ, pos, ◌<◌, Bool, if◌then◌else◌, List, [], ◌∷◌, ◌++◌, length, fold, None, Some, is_some, option_and_then, MatchResult}
 use Rattle.pg_graph.specs.Edit.{batch_edited, batch_limit, edge_limit, vertex_limit}
 use Rattle.pg_graph.specs.EdgeList.{weight_at, with_edge}
 use Rattle.pg_graph.specs.Rows.{Rows, edge_count, row_at, vertex_count, with_row}
-use Rattle.pg_graph.specs.declared.graph.Row.{Row}
 use Rattle.pg_graph.specs.declared.edit.Edit.{Edit}
 use Rattle.pg_graph.specs.declared.edit.Edit.TheVariants.{AddVertex, AddEdge, SetEdge}
-use Rattle.pg_graph.specs.declared.edit.EditFault.{EditFault}
 use Rattle.pg_graph.specs.declared.edit.EditKind.TheVariants.{BatchTooLong, Full}
 use Rattle.pg_import.specs.declared.line.Line.{Line}
 
@@ -39,8 +37,7 @@ abbrev pub with_line : Line → Rows → Rows
 with_line line rows = with_line_edge line (with_ends line rows)
 
 abbrev pub with_lines : List Line → Rows → Rows
-with_lines [] rows = rows
-with_lines (line ∷ lines) rows = with_lines lines (with_line line rows)
+with_lines lines rows = fold (λ before line. with_line line before) rows lines
 
 -- the edit that a vertex needs, where it isn't there
 unfoldable pub vertex_edits : ℕ → Rows → List Edit

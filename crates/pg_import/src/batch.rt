@@ -1,7 +1,7 @@
 //! The batch of edits that brings the edges of a list into a graph.
-ghost use Rattle.std.specs.Prelude.{◌≡◌, true, not, IfOk};
+ghost use Rattle.std.specs.Prelude.{◌≡◌, ◌∷◌, ◌++◌, [], true, not, IfOk, OnOk};
 ghost use Rattle.pg_graph.specs.Rows.{Rows};
-ghost use Rattle.pg_import.specs.Batch.{Makes, batch_of, has_edge, has_vertex, with_line_edge, with_lines, with_vertex};
+ghost use Rattle.pg_import.specs.Batch.{Makes, batch_of, edge_edit, has_edge, has_vertex, vertex_edits, with_line_edge, with_lines, with_vertex};
 ghost use Rattle.pg_import.specs.Named.{Shows};
 
 use crate::{Line, Memory};
@@ -21,20 +21,36 @@ pub fn into_batch(alloc: Global, lines: &[Line], graph: &Graph) -> Result<Batch,
     let mut batch = Batch::new(alloc);
     let mut named = Named::new(alloc, graph);
     for line in lines {
-        if named.add_vertex(line.source)? {
-            batch.push(Edit::AddVertex(line.source, 0))?;
-        }
-        if named.add_vertex(line.target)? {
-            batch.push(Edit::AddVertex(line.target, 0))?;
-        }
-        let edit = if named.add_edge(line)? {
-            Edit::AddEdge(line.source, line.target, line.weight)
-        } else {
-            Edit::SetEdge(line.source, line.target, line.weight)
-        };
-        batch.push(edit)?;
+        push_vertex(&mut batch, &mut named, line.source)?;
+        push_vertex(&mut batch, &mut named, line.target)?;
+        push_edge(&mut batch, &mut named, line)?;
     }
     Ok(batch)
+}
+
+// Names a vertex, and adds it by an edit where it wasn't there yet.
+#[tactic(auto, unfolding(crate::specs::Batch::vertex_edits))]
+fn push_vertex(batch: &mut Batch, named: &mut Named<'_>, id: VertexId) -> Result<(), Memory>
+    ensures { OnOk result ((rows : Rows) → Shows named.old rows
+        → (batch.new ≡ batch.old ++ vertex_edits id rows) × Shows named.new (with_vertex id rows)) }
+{
+    if named.add_vertex(id)? {
+        batch.push(Edit::AddVertex(id, 0))?;
+    }
+    Ok(())
+}
+
+// Names the edge of a line, and adds it by an edit, or sets it where it was there.
+#[tactic(auto, unfolding(crate::specs::Batch::edge_edit))]
+fn push_edge(batch: &mut Batch, named: &mut Named<'_>, line: &Line) -> Result<(), Memory>
+    ensures { OnOk result ((rows : Rows) → Shows named.old rows → has_vertex line.now.source rows ≡ true
+        → (batch.new ≡ batch.old ++ edge_edit line.now rows ∷ []) × Shows named.new (with_line_edge line.now rows)) }
+{
+    if named.add_edge(line)? {
+        batch.push(Edit::AddEdge(line.source, line.target, line.weight))
+    } else {
+        batch.push(Edit::SetEdge(line.source, line.target, line.weight))
+    }
 }
 
 // What lines have named so far that a graph doesn't have.

@@ -1,12 +1,11 @@
-use Rattle.std.proofs.Common.{Bor, List, ℕ, Some, true, false, ◌≡◌, ◌+◌, sym, refl, ap, ◌∙◌, inl, inr, arith, map, [], ◌∷◌}
+use Rattle.std.proofs.Common.{Bor, List, ℕ, Some, false, ◌≡◌, sym, refl, ◌∙◌, inl, inr, arith, map, []}
 use Rattle.std.proofs.lemmas.List.{append-nil}
 use Rattle.std.proofs.lemmas.Result.{err_from_is_err_and}
 use Rattle.csv.specs.Records.{fields_of}
 use Rattle.pg_import.proofs.Readings.{followed_by-none}
-use Rattle.pg_import.proofs.RecordReadings.{csv_of-left, header_step, meaning_left, meaning_left-none, record_fault, record_step}
+use Rattle.pg_import.proofs.RecordReadings.{csv_of-left, header_step, meaning_left-none, record_fault, record_step}
 use Rattle.pg_import.proofs.RecordsLeft.{starts_text}
 use Rattle.pg_import.specs.Comma.{csv_of, is_header, trimmed}
-use Rattle.pg_import.specs.Import.{followed_by}
 use Rattle.pg_import.specs.Records.{TakesRecord, records_left}
 use Rattle.pg_import.proofs.comma.read_csv.Goals as goal
 use Rattle.pg_import.proofs.comma.read_csv.Goals.{else-number-eq1-via-then-number-eq1+else-is_header, else-number-eq1-via-else-number-eq1}

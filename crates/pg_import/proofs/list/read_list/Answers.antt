@@ -1,8 +1,8 @@
-use Rattle.std.proofs.Common.{◌≡◌, ◌+◌, ◌<◌, List, ℕ, [], map, drop, length, get_or, refl, sym, ap, ◌∙◌, inl, inr, rules, tests, arith}
+use Rattle.std.proofs.Common.{◌≡◌, ◌+◌, List, ℕ, [], map, drop, refl, sym, ap, ◌∙◌, inl, inr, rules, tests, arith}
 use Rattle.std.proofs.lemmas.Iterator.Consumers.{YieldsList-turn, YieldsList-end}
 use Rattle.std.proofs.lemmas.List.{drop_all, length_push}
 use Rattle.std.proofs.lemmas.Result.{err_from_is_err_and}
-use Rattle.pg_import.specs.Import.{Reading, at_line, edges_from, followed_by, list_of, reading_of}
+use Rattle.pg_import.specs.Import.{Reading, edges_from, followed_by, list_of, reading_of}
 use Rattle.pg_import.specs.Text.{line_of, raw_lines, words_of}
 use Rattle.pg_import.proofs.Readings.{edges_from-end, edges_from-next, followed_by-none}
 use Rattle.pg_import.proofs.TextLines.{YieldsList-from_split_inclusive, length-raw_lines}

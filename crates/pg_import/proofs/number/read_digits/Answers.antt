@@ -1,5 +1,4 @@
 use Rattle.std.proofs.Common.{arith, ◌≡◌, true, nat_lt}
-use Rattle.std.proofs.lemmas.Bool.Decides.{nat_tests}
 use Rattle.pg_import.specs.Number.{read_on}
 use Rattle.pg_import.proofs.Numbers.{above_limit}
 use Rattle.pg_import.proofs.number.read_digits.Goals as goal

@@ -1,5 +1,4 @@
-use Rattle.std.proofs.Common.{not, rules, tests, arith, ◌≡◌, cond, nat_lt, Some, None, length}
-use Rattle.std.specs.List.{position_or_len}
+use Rattle.std.proofs.Common.{not, rules, tests, arith}
 use Rattle.std.proofs.lemmas.Bool.Decides.{nat_tests}
 use Rattle.std.proofs.lemmas.Iterator.{YieldsList-from_slice}
 use Rattle.std.proofs.lemmas.Iterator.Search.{position_from_yields_List}
