@@ -15,3 +15,6 @@ pub use list::read_list;
 pub use number::{read_id, read_weight};
 pub use std::alloc::AllocError as Memory;
 pub use text::{Words, bare_line};
+
+#[cfg(test)]
+mod tests;
