@@ -14,6 +14,9 @@ use csv::{ByteRecord, Reader, ReaderBuilder};
 use std::alloc::Global;
 use std::io::Read;
 
+// The number of the record that may be a header.
+const HEADER: u64 = 1;
+
 /// The edges of a text in comma form, in their order, or its first faulty record.
 ///
 /// The first record is passed over where it is a header: it has two fields or more, and neither of the
@@ -31,7 +34,7 @@ pub fn read_csv(alloc: Global, text: &[u8]) -> Result<Vec<Line>, ImportFault>
     let mut number = 0;
     while next_record(&mut reader, &mut row)? {
         number += 1;
-        if number == 1 && is_header(&row) {
+        if number == HEADER && is_header(&row) {
             continue;
         }
         add_reading(&mut lines, number, read_record(&row))?;

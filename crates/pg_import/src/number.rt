@@ -22,10 +22,7 @@ pub fn read_id(word: &[u8]) -> Result<VertexId, ImportKind>
     ensures { result ≡ id_of word.now }
 {
     let number = read_number(word, GREATEST_ID)?;
-    match VertexId::new(number) {
-        Some(id) => Ok(id),
-        None => Err(ImportKind::OutOfRange),
-    }
+    VertexId::new(number).ok_or(ImportKind::OutOfRange)
 }
 
 /// The weight that a word writes: ASCII digits, leading zeros allowed, after a minus or after none.
@@ -53,10 +50,7 @@ fn read_number(word: &[u8], limit: u64) -> Result<u64, ImportKind>
     if !is_numeral(word) {
         return Err(ImportKind::NotNumber);
     }
-    match read_digits(word, limit) {
-        Some(number) => Ok(number),
-        None => Err(ImportKind::OutOfRange),
-    }
+    read_digits(word, limit).ok_or(ImportKind::OutOfRange)
 }
 
 fn is_numeral(word: &[u8]) -> bool

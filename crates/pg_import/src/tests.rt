@@ -123,8 +123,10 @@ fn commas(rt: HostRuntime) {
 
 #[test]
 fn comma_faults(rt: HostRuntime) {
-    let faults: [(&[u8], u64, u8); 16] = [
+    let faults: [(&[u8], u64, u8); 18] = [
         (b"1;2\n3,4\n", 1, 4),
+        (b"1, \"2\"", 1, 2),
+        (b"\"1\"\"\",2", 1, 2),
         (b"source\n1,2", 1, 4),
         (b"a,1\n2,3", 1, 2),
         (b"1,a\n2,3", 1, 2),

@@ -8,7 +8,7 @@ use Rattle.pg_import.proofs.RecordsLeft.{starts_text}
 use Rattle.pg_import.specs.Comma.{csv_of, is_header, trimmed}
 use Rattle.pg_import.specs.Records.{TakesRecord, records_left}
 use Rattle.pg_import.proofs.comma.read_csv.Goals as goal
-use Rattle.pg_import.proofs.comma.read_csv.Goals.{else-number-eq1-via-then-number-eq1+else-is_header, else-number-eq1-via-else-number-eq1}
+use Rattle.pg_import.proofs.comma.read_csv.Goals.{else-number-eq-HEADER-via-then-number-eq-HEADER+else-is_header, else-number-eq-HEADER-via-else-number-eq-HEADER}
 
 pub loop-lines-init : goal.loop-lines-init
 loop-lines-init c =
@@ -31,16 +31,16 @@ loop-lines-preserved-then-is_header c =
     record {
       at = took.goes_on;
       bytes = omega (arith, took.fewer, inv.bytes);
-      so_far = header_step c.loop-lines.number c.loop-lines.lines.items _ _ (fields_of c.next_record.new.row) (csv_of c.args.text.now) c.if-number-eq1.true (sym c.if-is_header.ensures) took.first inv.so_far;
+      so_far = header_step c.loop-lines.number c.loop-lines.lines.items _ _ (fields_of c.next_record.new.row) (csv_of c.args.text.now) c.if-number-eq-HEADER.true (sym c.if-is_header.ensures) took.first inv.so_far;
     }
 
 pub loop-lines-preserved : goal.loop-lines-preserved
 loop-lines-preserved c =
     let took : TakesRecord (λ (s : Bor (List ℕ)). Some s.now) c.loop-lines.reader c.next_record.new.reader (fields_of c.next_record.new.row) = rw c.if-branch.true at c.in_ok-next_record.ensures.ok in
     let inv = c.loop-lines.invariant in
-    let plain : c.loop-lines.number ≡ 0 → is_header (map trimmed (fields_of c.next_record.new.row)) ≡ false = λ zeroth. elim c.else-number-eq1.branch [
-      | else-number-eq1-via-then-number-eq1+else-is_header w ↦ sym w.if-is_header.ensures
-      | else-number-eq1-via-else-number-eq1 w ↦ absurd (omega (arith, w.if-number-eq1.false))
+    let plain : c.loop-lines.number ≡ 0 → is_header (map trimmed (fields_of c.next_record.new.row)) ≡ false = λ zeroth. elim c.else-number-eq-HEADER.branch [
+      | else-number-eq-HEADER-via-then-number-eq-HEADER+else-is_header w ↦ sym w.if-is_header.ensures
+      | else-number-eq-HEADER-via-else-number-eq-HEADER w ↦ absurd (omega (arith, w.if-number-eq-HEADER.false))
     ] in
     record {
       at = took.goes_on;
@@ -53,9 +53,9 @@ pub returns-in_err-add_reading : goal.returns-in_err-add_reading
 returns-in_err-add_reading c =
     let took : TakesRecord (λ (s : Bor (List ℕ)). Some s.now) c.loop-lines.reader c.next_record.new.reader (fields_of c.next_record.new.row) = rw c.if-branch.true at c.in_ok-next_record.ensures.ok in
     let inv = c.loop-lines.invariant in
-    let plain : c.loop-lines.number ≡ 0 → is_header (map trimmed (fields_of c.next_record.new.row)) ≡ false = λ zeroth. elim c.else-number-eq1.branch [
-      | else-number-eq1-via-then-number-eq1+else-is_header w ↦ sym w.if-is_header.ensures
-      | else-number-eq1-via-else-number-eq1 w ↦ absurd (omega (arith, w.if-number-eq1.false))
+    let plain : c.loop-lines.number ≡ 0 → is_header (map trimmed (fields_of c.next_record.new.row)) ≡ false = λ zeroth. elim c.else-number-eq-HEADER.branch [
+      | else-number-eq-HEADER-via-then-number-eq-HEADER+else-is_header w ↦ sym w.if-is_header.ensures
+      | else-number-eq-HEADER-via-else-number-eq-HEADER w ↦ absurd (omega (arith, w.if-number-eq-HEADER.false))
     ] in
     let p = err_from_is_err_and c.from_residual-in_err-add_reading.result c.from_residual-in_err-add_reading.ensures.1 in
     rw (p.1, p.2) (elim c.in_err-add_reading.ensures.err [
