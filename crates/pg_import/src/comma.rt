@@ -19,9 +19,9 @@ const HEADER: u64 = 1;
 
 /// The edges of a text in comma form, in their order, or its first faulty record.
 ///
-/// The first record is passed over where it is a header: it has two fields or more, and neither of the
-/// first two begins with a digit. A fault's line is the number of the record, the header counted. Costs
-/// O(n) for n bytes.
+/// Blanks and tabs at the ends of a field are passed over. The first record is too where it is a
+/// header: it has two fields or more, and neither of the first two begins with a digit. A fault's line
+/// is the number of the record, the header counted. Costs O(n) for n bytes.
 pub fn read_csv(alloc: Global, text: &[u8]) -> Result<Vec<Line>, ImportFault>
     ensures { Gives (λ lines. lines.items) result (csv_of text.now) }
 {
