@@ -11,7 +11,8 @@ const GREATEST_ID: u64 = (1 << 63) - 1;
 
 const GREATEST_WEIGHT: u64 = (1 << 63) - 1;
 
-const GREATEST_DEBT: u64 = 1 << 63;
+// The least weight is this below zero.
+const LEAST_WEIGHT: u64 = 1 << 63;
 
 /// The id that a word writes: ASCII digits, leading zeros allowed.
 ///
@@ -33,7 +34,7 @@ pub fn read_weight(word: &[u8]) -> Result<i64, ImportKind>
     ensures { result ≡ weight_of word.now }
 {
     if let [b'-', digits @ ..] = word {
-        let number = read_number(digits, GREATEST_DEBT)?;
+        let number = read_number(digits, LEAST_WEIGHT)?;
         return 0i64
             .checked_sub_unsigned(number)
             .ok_or(ImportKind::OutOfRange);

@@ -123,8 +123,9 @@ fn commas(rt: HostRuntime) {
 
 #[test]
 fn comma_faults(rt: HostRuntime) {
-    let faults: [(&[u8], u64, u8); 18] = [
+    let faults: [(&[u8], u64, u8); 19] = [
         (b"1;2\n3,4\n", 1, 4),
+        (b"\"a\nb\",c\n1,2\nx,2", 3, 2),
         (b"1, \"2\"", 1, 2),
         (b"\"1\"\"\",2", 1, 2),
         (b"source\n1,2", 1, 4),

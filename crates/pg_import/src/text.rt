@@ -83,7 +83,7 @@ fn word_len(text: &[u8]) -> usize
         .unwrap_or(text.len())
 }
 
-pub(crate) fn is_blank(byte: u8) -> bool
+fn is_blank(byte: u8) -> bool
     ensures { result ≡ is_blank byte }
 {
     byte == b' ' || byte == b'\t'
