@@ -1,5 +1,5 @@
 //! Edits of a graph, gathered beside it.
-ghost use Rattle.std.specs.Prelude.{◌≡◌, ◌<◌, ◌⊎◌, length, is_some, Some, None, Ok, Err, IfOk, IfErr};
+ghost use Rattle.std.specs.Prelude.{◌≡◌, ◌<◌, ◌≤◌, ◌⊎◌, length, is_some, Some, None, Ok, Err, IfOk, IfErr};
 ghost use Rattle.std.specs.BTreeMap.{is_at};
 ghost use Rattle.std.specs.Map.{remove_entry};
 ghost use Rattle.std.specs.Ordering.{nat_cmp};
@@ -76,6 +76,7 @@ impl<'a> Draft<'a> {
         ensures ok { IfOk result (λ draft. (draft.0 ≡ graph.now) × (batch_edited graph.now batch.now ≡ Ok draft.1)) }
         ensures err { IfErr result (RefusesBatch graph.now batch.now) }
         ensures too_long { batch_limit < length batch.now → result ≡ Err too_long_fault }
+        ensures position { IfErr result (λ fault. fault.position ≤ length batch.now) }
     {
         let edits = batch.as_slice();
         if edits.len() > BATCH_LIMIT {

@@ -17,8 +17,8 @@ impl Graph {
     /// Makes all edits of a batch, in their order, or none. The first edit that has no result
     /// decides which fault is answered; a batch of more than 100,000 edits is refused first.
     ///
-    /// With k edits and n vertices it takes O(k log n), and one copy of the edges of each vertex
-    /// where edges are edited.
+    /// With k edits of a graph of n vertices it takes O(k log(n + k)), and O(d log d) for each
+    /// vertex whose edges are edited, where d is how many it has. Other edges are shared as before.
     pub fn apply(&mut self, alloc: Global, batch: &Batch) -> Result<(), EditFault>
         ensures ok { OnOk result (batch_edited self.old batch.now ≡ Ok self.new) }
         ensures refused { IfErr result (RefusesBatch self.old batch.now) }

@@ -1,7 +1,7 @@
 use Rattle.std.proofs.Common.{◌≡◌, ◌<◌, ◌≤◌, Err, length, inl, inr, sym, ap, ◌∙◌, ⊎_elim, arith}
 use Rattle.pg_graph.specs.Edit.{all_edited, edited, batch_limit}
 use Rattle.pg_graph.specs.declared.edit.EditKind.TheVariants.{Memory}
-use Rattle.pg_graph.proofs.Batches.{too_long, short_enough, next_made, next_refused, all_made, refused_at}
+use Rattle.pg_graph.proofs.Batches.{too_long, short_enough, next_made, next_refused, all_made, refused_at, refused_within}
 use Rattle.pg_graph.proofs.draft.Draft.of.Goals as goal
 
 pub returns-then-edits-gt-BATCH_LIMIT-clause-err : goal.returns-then-edits-gt-BATCH_LIMIT-clause-err
@@ -37,3 +37,9 @@ returns-clause-ok c = (
       ∙ sym c.loop-edit.invariant.edited
       ∙ all_made c.loop-edit.position c.loop-edit.draft.1 c.as_slice-edits.result.now c.loop-edit.edit-index c.loop-edit-test.false,
 )
+
+pub returns-then-edits-gt-BATCH_LIMIT-clause-position : goal.returns-then-edits-gt-BATCH_LIMIT-clause-position
+returns-then-edits-gt-BATCH_LIMIT-clause-position c = refused_within c.args.graph.now c.args.batch.now c.at.result (returns-then-edits-gt-BATCH_LIMIT-clause-err c)
+
+pub returns-in-Err-clause-position : goal.returns-in-Err-clause-position
+returns-in-Err-clause-position c = refused_within c.args.graph.now c.args.batch.now c.at-in-Err.result (returns-in-Err-clause-err c)
