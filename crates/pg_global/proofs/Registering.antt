@@ -1,18 +1,14 @@
 -- What an entry more of a registry is to its names.
-use Rattle.std.proofs.Common.{◌≡◌, ℕ, ◌+◌, ◌<◌, ◌≤◌, Bool, true, false, cond, not, ◌&&◌, List, [], ◌∷◌, ◌++◌, length, map, Option, None, Some, is_some, refl, sym, ap, ◌∙◌, String, Global, arith, rules, tests}
+use Rattle.std.proofs.Common.{◌≡◌, ℕ, ◌+◌, Bool, true, false, cond, List, [], ◌∷◌, ◌++◌, length, None, Some, refl, sym, ap, ◌∙◌, String, Global}
 use Rattle.std.specs.List.{position, position_from}
-use Rattle.std.specs.Prelude.{nat_le}
 use Rattle.std.specs.Map.{keys_of}
 use Rattle.std.specs.Str.{bytes_eq}
 use Rattle.std.specs.String.{string_bytes, string_eq}
-use Rattle.std.specs.Option.{option_map}
 use Rattle.std.proofs.lemmas.List.{length-map}
 use Rattle.std.proofs.lemmas.Iterator.Adapters.{position_from-zero}
 use Rattle.indexmap.specs.IndexMap.{insert_entry}
 use Rattle.pg_global.specs.Names.{registered_of}
-use Rattle.pg_global.specs.Registry.{Registered, is_name, place_of, refusal_of}
-use Rattle.pg_global.specs.declared.registry.RegisterFault.{RegisterFault}
-use Rattle.pg_global.specs.declared.registry.RegisterFault.TheVariants.{BadName, NameTaken, TooMany}
+use Rattle.pg_global.specs.Registry.{Registered, place_of}
 use Rattle.pg_global.specs.declared.registry.Registration.{Registration}
 
 abbrev Entries : Type 0

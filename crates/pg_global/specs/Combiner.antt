@@ -1,5 +1,5 @@
 -- The laws of combiners, and the combiners over whole numbers of 64 bits.
-use Rattle.std.specs.Prelude.{◌≡◌, ℤ, Option, None, Some, FitsSigned}
+use Rattle.std.specs.Prelude.{ℤ, Option, None, Some, FitsSigned}
 use Rattle.std.specs.Int.{w64}
 use Rattle.pg_model.specs.Job.{Combining}
 use Rattle.pg_global.specs.Laws.{IsAssociative, IsCommutative, IsNeutral, IsClosed}

@@ -1,6 +1,6 @@
 -- Masters, and the job that a program, a combiner and a master make.
 use Rattle.std.specs.Prelude.{ℕ, ℤ, Bool, false, List, map, length, ◌==◌, ◌/◌, ◌^◌, ◌&&◌, Option}
-use Rattle.pg_model.specs.Job.{Program, Combining, Totals, Decision, Deciding, Job}
+use Rattle.pg_model.specs.Job.{Program, Combining, Decision, Deciding, Job}
 use Rattle.pg_model.specs.declared.view.Declared.{Declared}
 use Rattle.pg_global.specs.Registry.{Registered, aggregating_of}
 

@@ -1,5 +1,5 @@
 //! Combiners: how messages to one vertex are made into one.
-ghost use Rattle.std.specs.Prelude.{◌≡◌, ℤ, Option, None, IsSome, is_some, IfSome, IfOk, OnOk};
+ghost use Rattle.std.specs.Prelude.{◌≡◌, Option, IsSome, is_some, IfSome, IfOk, OnOk};
 ghost use Rattle.pg_model.specs.Job.{Combining};
 ghost use Rattle.pg_global.specs.Combiner.{IsLawful};
 

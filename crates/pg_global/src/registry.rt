@@ -1,5 +1,5 @@
 //! The aggregators of a job, by name.
-ghost use Rattle.std.specs.Prelude.{◌≡◌, [], ◌∷◌, ◌++◌, ◌⊎◌, ◌≤◌, ◌<◌, length, slice_get, Option, None, Some, true, false, ◌≢◌, IfNone, IfOk, IfErr, OnErr};
+ghost use Rattle.std.specs.Prelude.{◌≡◌, [], ◌∷◌, ◌++◌, ◌⊎◌, ◌≤◌, ◌<◌, length, slice_get, None, Some, true, false, ◌≢◌, IfNone, IfOk, IfErr, OnErr};
 ghost use Rattle.std.specs.List.{list_all};
 ghost use Rattle.std.specs.Option.{option_map};
 ghost use Rattle.pg_global.specs.Registry.{Registered, refusal_of, place_of, is_name as name_test, is_name_byte};
@@ -44,7 +44,7 @@ pub struct Registry {
 }
 
 impl Model for Registry {
-    ghost use Rattle.std.specs.Prelude.{List, ◌≤◌, length};
+    ghost use Rattle.std.specs.Prelude.{◌≤◌, length};
     ghost use Rattle.pg_global.specs.Registry.{Registered};
 
     ghost Value = { Registered };

@@ -1,5 +1,5 @@
 //! What one execution of a vertex gives.
-ghost use Rattle.std.specs.Prelude.{◌≡◌, ℕ, ◌<◌, ◌^◌};
+ghost use Rattle.std.specs.Prelude.{◌≡◌, ℕ};
 
 use crate::Sequence;
 use pg_graph::{Edges, VertexId};

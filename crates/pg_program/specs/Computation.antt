@@ -1,6 +1,6 @@
 -- What one execution of a program does.
-use Rattle.std.specs.Prelude.{◌≡◌, ℕ, ◌+◌, List, ◌++◌}
-use Rattle.pg_model.specs.Job.{Inputs, Program}
+use Rattle.std.specs.Prelude.{◌≡◌, ◌+◌, List, ◌++◌}
+use Rattle.pg_model.specs.Job.{Program}
 use Rattle.pg_model.specs.Superstep.{state_after, capped}
 use Rattle.pg_model.specs.declared.configuration.VertexState.{VertexState}
 use Rattle.pg_model.specs.declared.record.Record.{Record}

@@ -1,5 +1,5 @@
 -- What surrounds an execution: what it sees of the run, what was sent and contributed so far, and the count of calls.
-use Rattle.std.specs.Prelude.{◌≡◌, ℕ, ℤ, Bool, true, List, Option, Some, is_some, IsSome}
+use Rattle.std.specs.Prelude.{◌≡◌, ℕ, ℤ, true, List, Some, is_some}
 use Rattle.std.specs.List.{slice_get}
 use Rattle.pg_model.specs.Job.{has_place}
 use Rattle.pg_model.specs.declared.view.Declared.{Declared}

@@ -1,5 +1,5 @@
 -- Where an edge stands among edges by rising target.
-use Rattle.std.specs.Prelude.{◌≡◌, ℕ, ℤ, ◌<◌, ◌≤◌, length, Option, None, Result, Ok, Err}
+use Rattle.std.specs.Prelude.{◌≡◌, ℕ, ◌<◌, ◌≤◌, length, Result, Ok, Err}
 use Rattle.std.specs.List.{HoldsAt, AllWithin}
 use Rattle.pg_graph.specs.EdgeList.{EdgeList}
 

@@ -1,5 +1,5 @@
 //! What surrounds an execution.
-ghost use Rattle.std.specs.Prelude.{◌≡◌, [], ◌∷◌, ◌++◌, ◌+◌, ◌<◌, true, map, length, take, IsSome, IfOk, OnOk, OnErr, Some};
+ghost use Rattle.std.specs.Prelude.{◌≡◌, [], ◌∷◌, ◌++◌, ◌+◌, true, map, length, take, IsSome, OnOk, OnErr, Some};
 ghost use Rattle.pg_model.specs.Job.{has_place};
 ghost use Rattle.pg_model.specs.Superstep.{capped};
 ghost use Rattle.pg_program.specs.Context.{Context, IsShown, IsShownAt};

@@ -1,5 +1,5 @@
 //! The out-edges of a vertex in one execution.
-ghost use Rattle.std.specs.Prelude.{◌≡◌, [], true, false, ◌≤◌, length, cond, is_some, IfOk, OnOk, OnErr, vec_capacity};
+ghost use Rattle.std.specs.Prelude.{◌≡◌, true, false, ◌≤◌, length, cond, is_some, IfOk, OnOk, OnErr, vec_capacity};
 ghost use Rattle.pg_graph.specs.EdgeList.{EdgeList, IsRising, weight_at, with_edge, without_edge};
 ghost use Rattle.pg_program.specs.Edges.{IsPlaceOf};
 

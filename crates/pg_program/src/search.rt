@@ -1,5 +1,4 @@
 //! A binary search among edges.
-ghost use Rattle.std.specs.Prelude.{◌≡◌, ◌<◌, ◌≤◌, length, MatchResult, slice_index_or};
 ghost use Rattle.pg_graph.specs.EdgeList.{IsRising};
 ghost use Rattle.pg_program.specs.Edges.{IsPlaceOf};
 

@@ -1,6 +1,5 @@
-use Rattle.std.proofs.Common.{◌≡◌, sym, ◌∙◌, All, FitsSigned, pos, below_more, arith, rules}
+use Rattle.std.proofs.Common.{sym, ◌∙◌, All, FitsSigned, pos, below_more, arith, rules}
 use Rattle.std.specs.Int.{w64}
-use Rattle.std.specs.List.{fold}
 use Rattle.std.proofs.lemmas.Grind.{common_steps}
 use Rattle.std.proofs.lemmas.Int.{to_z-of_z}
 use Rattle.std.proofs.lemmas.List.{get_or_default}

@@ -1,5 +1,5 @@
-use Rattle.std.proofs.Common.{◌≡◌, sym, subst}
-use Rattle.pg_graph.specs.EdgeList.{EdgeList, IsRising, without_edge}
+use Rattle.std.proofs.Common.{sym, subst}
+use Rattle.pg_graph.specs.EdgeList.{EdgeList, IsRising}
 use Rattle.pg_program.proofs.EdgePlaces.{without_edge-found, IsRising-without_edge}
 use Rattle.pg_program.proofs.own_edges.remove_at.Goals as goal
 

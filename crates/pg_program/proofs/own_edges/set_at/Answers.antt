@@ -1,7 +1,7 @@
-use Rattle.std.proofs.Common.{◌≡◌, sym, subst, arith}
+use Rattle.std.proofs.Common.{sym, subst, arith}
 use Rattle.std.proofs.lemmas.Grind.{common_steps}
 use Rattle.std.proofs.lemmas.Int.{to_z-of_z}
-use Rattle.pg_graph.specs.EdgeList.{EdgeList, IsRising, with_edge}
+use Rattle.pg_graph.specs.EdgeList.{EdgeList, IsRising}
 use Rattle.pg_program.proofs.EdgePlaces.{with_edge-found, IsRising-with_edge}
 use Rattle.pg_program.proofs.own_edges.set_at.Goals as goal
 

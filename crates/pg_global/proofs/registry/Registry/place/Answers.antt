@@ -1,4 +1,4 @@
-use Rattle.std.proofs.Common.{◌≡◌, ap, sym, ◌∙◌, Some}
+use Rattle.std.proofs.Common.{ap, sym, ◌∙◌, Some}
 use Rattle.pg_global.specs.Registry.{place_of}
 use Rattle.pg_global.proofs.Registering.{place_of-registered}
 use Rattle.pg_global.proofs.registry.Registry.place.Goals as goal

@@ -1,4 +1,3 @@
-use Rattle.std.proofs.Common.{sym}
 use Rattle.pg_program.proofs.EdgePlaces.{without_edge-missing}
 use Rattle.pg_program.proofs.own_edges.OwnEdges.remove.Goals as goal
 

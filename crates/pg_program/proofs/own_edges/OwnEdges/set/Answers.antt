@@ -1,4 +1,4 @@
-use Rattle.std.proofs.Common.{◌≡◌, sym, ap, ◌∙◌, is_some, pos}
+use Rattle.std.proofs.Common.{sym, ap, ◌∙◌, is_some, pos}
 use Rattle.pg_graph.specs.EdgeList.{EdgeList, weight_at}
 use Rattle.pg_program.proofs.EdgePlaces.{weight_at-found, weight_at-missing}
 use Rattle.pg_program.proofs.own_edges.OwnEdges.set.Goals as goal
