@@ -18,14 +18,12 @@ pub trait MessageCombiner<M: Plain>: Sync {
         ensures { result ≡ is_some (combining self.now) };
 
     /// Combines a message into what the messages before it came to. Nothing is said of that message
-    /// where it answers want of memory.
+    /// where it answers want of memory, or where it doesn't combine.
     fn combine(&self, alloc: Global, into: &mut M, other: &M) -> Result<(), Memory>
-        requires { IsSome (combining self.now) }
         ensures { OnOk result (IfSome (combining self.now) (λ c. into.new ≡ c.combine into.old other.now)) };
 
-    /// What no message comes to.
+    /// What no message comes to, where it combines.
     fn initial_message(&self, alloc: Global) -> Result<M, Memory>
-        requires { IsSome (combining self.now) }
         ensures { IfOk result (λ m. IfSome (combining self.now) (λ c. m ≡ c.initial)) };
 
     ghost lawful: { (c : Self) → IsLawful M.is_value (combining c) };
@@ -53,13 +51,13 @@ impl MessageCombiner<i64> for AnyCombiner {
 
     fn combine(&self, _alloc: Global, _into: &mut i64, _other: &i64) -> Result<(), Memory> {
         match self {
-            AnyCombiner::NoCombiner => unreachable!(),
+            AnyCombiner::NoCombiner => Ok(()),
         }
     }
 
     fn initial_message(&self, _alloc: Global) -> Result<i64, Memory> {
         match self {
-            AnyCombiner::NoCombiner => unreachable!(),
+            AnyCombiner::NoCombiner => Ok(0),
         }
     }
 }

@@ -80,12 +80,12 @@ module _ (registrations : List Registration) (values : List ℤ) (cs : List (ℕ
       let n : length (map aggregating_of registrations) ≡ length registrations = simp length-map in
       ⊎_elim
       (λ w.
-        let r : Registration = w.0 in
-        let there : slice_get (map aggregating_of registrations) c.0 ≡ Some (aggregating_of r) = slice_get-map aggregating_of registrations c.0 ∙ ap (option_map aggregating_of) w.2 in
-        adds.here r w.2
-        ∙ ap (λ (l : List ℤ). set l c.0 (operation_of r.kind (get_or l c.0 (pos 0)) c.1)) so_far
-        ∙ ap (λ (a : Aggregating). set (gathered_from 0 (map aggregating_of registrations) values cs) c.0 (a.aggregate (get_or (gathered_from 0 (map aggregating_of registrations) values cs) c.0 (pos 0)) c.1)) (sym (get_or_from_slice_get (map aggregating_of registrations) c.0 (aggregating_of r) (aggregating_of r) there))
-        ∙ sym (gathered_from-at cs c 0 (map aggregating_of registrations) values c.0 (aggregating_of r) (pos 0) (omega arith) (omega (arith, w.1)) (omega (arith, w.1))))
+      let r : Registration = w.0 in
+      let there : slice_get (map aggregating_of registrations) c.0 ≡ Some (aggregating_of r) = slice_get-map aggregating_of registrations c.0 ∙ ap (option_map aggregating_of) w.2 in
+      adds.here r w.2
+      ∙ ap (λ (l : List ℤ). set l c.0 (operation_of r.kind (get_or l c.0 (pos 0)) c.1)) so_far
+      ∙ ap (λ (a : Aggregating). set (gathered_from 0 (map aggregating_of registrations) values cs) c.0 (a.aggregate (get_or (gathered_from 0 (map aggregating_of registrations) values cs) c.0 (pos 0)) c.1)) (sym (get_or_from_slice_get (map aggregating_of registrations) c.0 (aggregating_of r) (aggregating_of r) there))
+      ∙ sym (gathered_from-at cs c 0 (map aggregating_of registrations) values c.0 (aggregating_of r) (pos 0) (omega arith) (omega (arith, w.1)) (omega (arith, w.1))))
       (λ w. adds.past w.0 ∙ so_far ∙ sym (gathered_from-past cs c 0 (map aggregating_of registrations) values (omega (arith, w.0))))
       (slice_get_cases registrations c.0).1
 
@@ -103,8 +103,8 @@ module _ (registrations : List Registration) (values : List ℤ) (same : length 
       let here : Registration = get_or registrations i r in
       let start : ℤ = gathered_at (aggregating_of here) (get_or values i value) [] in
       let now : starts_from i ≡ start ∷ starts_from (i + 1) =
-          ap (λ (l : List Registration). gathered_from i (map aggregating_of l) (drop i values) []) (drop_more registrations i r inside)
-          ∙ ap (λ (l : List ℤ). gathered_from i (map aggregating_of (here ∷ drop (i + 1) registrations)) l []) (drop_more values i value (omega arith)) in
+      ap (λ (l : List Registration). gathered_from i (map aggregating_of l) (drop i values) []) (drop_more registrations i r inside)
+      ∙ ap (λ (l : List ℤ). gathered_from i (map aggregating_of (here ∷ drop (i + 1) registrations)) l []) (drop_more values i value (omega arith)) in
       ap (λ l. l ++ starts_from (i + 1)) pushed ∙ append_assoc done (start ∷ []) (starts_from (i + 1)) ∙ ap (λ l. done ++ l) (sym now) ∙ so_far
 
   pub starts-all : (done : List ℤ) (i : ℕ) → length registrations ≤ i → done ++ starts_from i ≡ starts_from 0 → done ≡ starts_from 0

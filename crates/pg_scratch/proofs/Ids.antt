@@ -32,9 +32,9 @@ none_has (x ∷ ids) id h =
 pub has_id-missing : (ids : List ℕ) (id i : ℕ) → IsPartitionPoint (λ y. nat_cmp y id ≡ Less) (λ y. nat_cmp y id ≡ Greater) ids i → has_id ids id ≡ false
 has_id-missing ids id i parts =
     none_has ids id (λ k d l. ⊎_elim
-      (λ (less : k < i). apart_from_Less _ _ (parts.0 k d (omega arith) less))
-      (λ (more : i ≤ k). apart_from_Greater _ _ (parts.1 k d more l))
-      (cases_lt k i))
+    (λ (less : k < i). apart_from_Less _ _ (parts.0 k d (omega arith) less))
+    (λ (more : i ≤ k). apart_from_Greater _ _ (parts.1 k d more l))
+    (cases_lt k i))
 
 pub slice_get-found : (ids : List ℕ) (id i : ℕ) → i < length ids → HoldsAt (λ y. nat_cmp y id ≡ Equal) ids i → slice_get ids i ≡ Some id
 slice_get-found ids id i within here = slice_get-get_or ids i 0 within ∙ ap Some (exact_unsigned _ _ (here 0))

@@ -135,21 +135,21 @@ module _ {V M : Type 0} (program : Program V M) (first now : List (Standing V M)
         bound = slice_get_within first low x here;
         standings = passed.standings ∙ sym (changed_below-stays (ran program cx_first.view) first low x here stays);
         context = passed.context
-          ∙ context_after-idle program before x (ran_context-fits program cx_first (take low first)) still
-          ∙ ran_context-push program cx_first (take low first) x
-          ∙ ap (ran_context program cx_first) (sym (take-next first low x here));
+            ∙ context_after-idle program before x (ran_context-fits program cx_first (take low first)) still
+            ∙ ran_context-push program cx_first (take low first) x
+            ∙ ap (ran_context program cx_first) (sym (take-next first low x here));
         ahead = ahead;
         covers = λ i y at active more. passed.covers i y at active (omega arith);
         within = λ p h. let l = passed.within p h in omega arith;
         lists = λ i y at less awake.
-          ⊎_elim
-          (λ (l : i < low). passed.lists i y at l awake)
-          (λ (l : low ≤ i).
+            ⊎_elim
+            (λ (l : i < low). passed.lists i y at l awake)
+            (λ (l : low ≤ i).
             let same : i ≡ low = omega arith in
             let is : y ≡ x = same_place first low i x y here at (sym same) in
             let asleep : (ran program cx_first.view y).state.halted ≡ true = ap (λ (z : Standing V M). (ran program cx_first.view z).state.halted) is ∙ ap (λ (z : Standing V M). z.state.halted) (sym stays) ∙ idle_halted program cx_first.view x still in
             let k : false ≡ true = sym awake ∙ asleep in cc)
-          (cases_lt i low);
+            (cases_lt i low);
       }
 
   -- idle vertices are passed over
@@ -184,32 +184,32 @@ module _ {V M : Type 0} (program : Program V M) (first now : List (Standing V M)
         context = context ∙ ap (λ (c : Context M). context_after program c x) passed.context ∙ ran_context-push program cx_first (take place first) x ∙ ap (ran_context program cx_first) (sym (take-next first place x here));
         ahead = λ j a b. let l = below_from_sorted work k j 0 rising (omega arith) b in omega arith;
         covers = λ i y at active more.
-          let w = passed.covers i y at active (omega arith) in
-          let apart : k < w.0 = ⊎_elim (λ (l : k < w.0). l) (λ (l : w.0 ≤ k). let same : w.0 ≡ k = omega (arith, w.1) in absurd (omega (arith, w.3, ap (λ (n : ℕ). get_or work n 0) same))) (cases_lt k w.0) in
-          (w.0, omega arith, w.2, w.3);
+            let w = passed.covers i y at active (omega arith) in
+            let apart : k < w.0 = ⊎_elim (λ (l : k < w.0). l) (λ (l : w.0 ≤ k). let same : w.0 ≡ k = omega (arith, w.1) in absurd (omega (arith, w.3, ap (λ (n : ℕ). get_or work n 0) same))) (cases_lt k w.0) in
+            (w.0, omega arith, w.2, w.3);
         within = λ p h.
-          by_bool (has_id unhalted p)
-          (λ t. let l = passed.within p t in omega arith)
-          (λ t.
+            by_bool (has_id unhalted p)
+            (λ t. let l = passed.within p t in omega arith)
+            (λ t.
             by_bool (ran program cx_first.view x).state.halted
             (λ asleep. let e : false ≡ true = sym t ∙ ap (λ l. has_id l p) (sym (grows ∙ ap (λ b. cond b unhalted (unhalted ++ place ∷ [])) asleep)) ∙ h in cc)
             (λ awake.
-              let new : (place == p) ≡ true = sym (ap (λ b. b || (place == p)) t) ∙ sym (has_id-push unhalted place p) ∙ ap (λ l. has_id l p) (sym (grows ∙ ap (λ b. cond b unhalted (unhalted ++ place ∷ [])) awake)) ∙ h in
-              let same : place ≡ p = search (tests, rules) in omega arith));
+            let new : (place == p) ≡ true = sym (ap (λ b. b || (place == p)) t) ∙ sym (has_id-push unhalted place p) ∙ ap (λ l. has_id l p) (sym (grows ∙ ap (λ b. cond b unhalted (unhalted ++ place ∷ [])) awake)) ∙ h in
+            let same : place ≡ p = search (tests, rules) in omega arith));
         lists = λ i y at less awake.
-          ⊎_elim
-          (λ (l : i < place).
+            ⊎_elim
+            (λ (l : i < place).
             let old = passed.lists i y at l awake in
             by_bool (ran program cx_first.view x).state.halted
             (λ asleep. ap (λ l. has_id l i) (grows ∙ ap (λ b. cond b unhalted (unhalted ++ place ∷ [])) asleep) ∙ old)
             (λ woken. ap (λ l. has_id l i) (grows ∙ ap (λ b. cond b unhalted (unhalted ++ place ∷ [])) woken) ∙ has_id-push unhalted place i ∙ or_left (has_id unhalted i) (place == i) old))
-          (λ (l : place ≤ i).
+            (λ (l : place ≤ i).
             let same : i ≡ place = omega arith in
             let is_x : y ≡ x = same_place first place i x y here at (sym same) in
             let woken : (ran program cx_first.view x).state.halted ≡ false = ap (λ (z : Standing V M). (ran program cx_first.view z).state.halted) (sym is_x) ∙ awake in
             let equal : (place == i) ≡ true = search (tests, rules) in
             ap (λ l. has_id l i) (grows ∙ ap (λ b. cond b unhalted (unhalted ++ place ∷ [])) woken) ∙ has_id-push unhalted place i ∙ or_true (has_id unhalted i) (place == i) equal)
-          (cases_lt i place);
+            (cases_lt i place);
       }
 
 -- ---- a pass from its beginning to its end
@@ -264,14 +264,14 @@ module _ {V M : Type 0} (program : Program V M) (first : List (Standing V M)) (c
         record {
           within = λ p h. let l = whole.within p h in omega (arith, same_length);
           covers = λ i y at active.
-            let l = slice_get_within now i y at in
-            let f = element first i (omega (arith, same_length)) in
-            let x : Standing V M = f.0 in
-            let there : Some (ran program cx_first.view x) ≡ Some y =
-                sym (ap (option_map (ran program cx_first.view)) f.1) ∙ sym (slice_get-map (ran program cx_first.view) first i) ∙ ap (λ (l : List (Standing V M)). slice_get l i) (sym passed_standings) ∙ at in
-            let is_y : ran program cx_first.view x ≡ y = (cc) in
-            let awake : (ran program cx_first.view x).state.halted ≡ false = only_halted (ran program cx_first.view x).state.halted (ap is_active is_y ∙ active) in
-            whole.lists i x f.1 (slice_get_within first i x f.1) awake;
+              let l = slice_get_within now i y at in
+              let f = element first i (omega (arith, same_length)) in
+              let x : Standing V M = f.0 in
+              let there : Some (ran program cx_first.view x) ≡ Some y =
+              sym (ap (option_map (ran program cx_first.view)) f.1) ∙ sym (slice_get-map (ran program cx_first.view) first i) ∙ ap (λ (l : List (Standing V M)). slice_get l i) (sym passed_standings) ∙ at in
+              let is_y : ran program cx_first.view x ≡ y = (cc) in
+              let awake : (ran program cx_first.view x).state.halted ≡ false = only_halted (ran program cx_first.view x).state.halted (ap is_active is_y ∙ active) in
+              whole.lists i x f.1 (slice_get_within first i x f.1) awake;
         }
 
 -- ---- one turn of the pass
@@ -312,22 +312,24 @@ module _ {V M : Type 0} (program : Program V M) (first now : List (Standing V M)
         omega (arith, l, ap length passed.standings, length-changed_below (ran program cx_first.view) low first)
 
     pub pass_on : (after : List (Standing V M)) (cx' : Context M) (unhalted' : List ℕ)
-      → ((x : Standing V M) → slice_get now (get_or work k 0) ≡ Some x → after ≡ set now (get_or work k 0) (ran program cx.view x))
-      → ((x : Standing V M) → slice_get now (get_or work k 0) ≡ Some x → cx' ≡ context_after program cx x)
-      → ((x : Standing V M) → slice_get now (get_or work k 0) ≡ Some x → unhalted' ≡ with_unhalted unhalted (get_or work k 0) (ran program cx.view x))
-      → (low : ℕ) × PassedTo program first after cx_first cx' work unhalted' (k + 1) low
+        → ((x : Standing V M) → slice_get now (get_or work k 0) ≡ Some x → after ≡ set now (get_or work k 0) (ran program cx.view x))
+        → ((x : Standing V M) → slice_get now (get_or work k 0) ≡ Some x → cx' ≡ context_after program cx x)
+        → ((x : Standing V M) → slice_get now (get_or work k 0) ≡ Some x → unhalted' ≡ with_unhalted unhalted (get_or work k 0) (ran program cx.view x))
+        → (low : ℕ) × PassedTo program first after cx_first cx' work unhalted' (k + 1) low
     pass_on after cx' unhalted' step context grows =
         let at : ℕ = get_or work k 0 in
         let within = lists.within at (place_listed work k inside) in
         let there = skip_to program first now cx_first cx work unhalted k low at passed (passed.ahead k (omega arith) inside) (omega arith)
-              (λ j a b. ⊎_elim (λ (l : k < j). let r = below_from_sorted work k j 0 rising l b in omega arith) (λ (l : j ≤ k). let e : j ≡ k = omega arith in omega (arith, ap (λ (n : ℕ). get_or work n 0) e)) (cases_lt k j)) in
+        (λ j a b. ⊎_elim (λ (l : k < j). let r = below_from_sorted work k j 0 rising l b in omega arith) (λ (l : j ≤ k). let e : j ≡ k = omega arith in omega (arith, ap (λ (n : ℕ). get_or work n 0) e)) (cases_lt k j)) in
         let f = element first at within in
         let x : Standing V M = f.0 in
-        let here : slice_get now at ≡ Some x = ap (λ (l : List (Standing V M)). slice_get l at) there.standings ∙ changed_below-at (ran program cx_first.view) first at x f.1 in
-        (suc at, visited program first now cx_first cx work unhalted k at x after cx' unhalted' there rising inside refl f.1
-          (step x here ∙ ap (λ (v : View). set now at (ran program v x)) same_view)
-          (context x here)
-          (grows x here ∙ ap (λ (v : View). with_unhalted unhalted at (ran program v x)) same_view))
+        let here : slice_get now at ≡ Some x = ap (λ (l : List (Standing V M)). slice_get l at) there.standings ∙ changed_below-at (ran program cx_first.view) first at x f.1 in (
+          suc at,
+          visited program first now cx_first cx work unhalted k at x after cx' unhalted' there rising inside refl f.1
+              (step x here ∙ ap (λ (v : View). set now at (ran program v x)) same_view)
+              (context x here)
+              (grows x here ∙ ap (λ (v : View). with_unhalted unhalted at (ran program v x)) same_view),
+        )
 
 module _ {V M : Type 0} (program : Program V M) (first : List (Standing V M)) (cx_first : Context M) (work : List ℕ) (fits : cx_first.calls < 2 ^ 64) (lists : ListsActive first work) where
   pub passed_first : (unhalted : List ℕ) → unhalted ≡ [] → (low : ℕ) × PassedTo program first first cx_first cx_first work unhalted 0 low

@@ -61,15 +61,15 @@ shows_declared declared s n v registered places =
     let none : declared.reads / 2 ^ n ≡ 0 = (let t = and_left (declared.reads / 2 ^ n == 0) (declared.writes / 2 ^ n == 0) registered in search (tests, rules)) in
     record {
       aggregates = λ place declares.
-        ⊎_elim
-        (λ (l : place < n).
+          ⊎_elim
+          (λ (l : place < n).
           let f = element v.values place (omega arith) in
           record {
             value = f.0;
             at = slice_get-shown declared.reads 0 v.values place f.0 f.1 ∙ ap (λ (k : ℕ). Some (cond (has_place declared.reads k) (Some f.0) None)) (let e : 0 + place ≡ place = omega arith in e) ∙ ap (λ b. Some (cond b (Some f.0) None)) declares;
           })
-        (λ (l : n ≤ place). let k : false ≡ true = sym (none_past declared.reads n place none l) ∙ declares in cc)
-        (cases_lt place n);
+          (λ (l : n ≤ place). let k : false ≡ true = sym (none_past declared.reads n place none l) ∙ declares in cc)
+          (cases_lt place n);
       total_vertices = some_cond declared.total_vertices v.total_vertices;
       total_edges = some_cond declared.total_edges v.total_edges;
     }
@@ -96,28 +96,28 @@ configuration_same {V} {M} {a} {a'} {b} {b'} {m} {m'} {n} {n'} is_a is_b is_m is
 
 module _ {V M : Type 0} (job : Job V M) (totals : Totals) (s : ℕ) (c : Configuration V M) (v : Visible) (w : View) where
   pub next-is : (vertices : List ℕ) (stood : List (Standing V M)) (standings : List (Standing V M)) (gathered : List ℤ) (all : List (ℕ × M)) (contributed : List (ℕ × ℤ)) (sent dropped : ℕ)
-    → v ≡ visible_in job.deciding totals s c.gathered
-    → w ≡ view_of job.program.declared s v
-    → vertices ≡ ids c.standings
-    → stood ≡ map (ran job.program w) c.standings
-    → all ≡ sends job.program w c.standings
-    → contributed ≡ contributions job.program w c.standings
-    → standings ≡ with_messages job.combining all stood
-    → gathered ≡ gathered_from 0 job.aggregators v.values contributed
-    → sent ≡ capped (c.sent + length all)
-    → dropped ≡ capped (c.dropped + dropped_count vertices all)
-    → record { standings = standings; gathered = gathered; sent = sent; dropped = dropped } ≡ next job totals s c
+      → v ≡ visible_in job.deciding totals s c.gathered
+      → w ≡ view_of job.program.declared s v
+      → vertices ≡ ids c.standings
+      → stood ≡ map (ran job.program w) c.standings
+      → all ≡ sends job.program w c.standings
+      → contributed ≡ contributions job.program w c.standings
+      → standings ≡ with_messages job.combining all stood
+      → gathered ≡ gathered_from 0 job.aggregators v.values contributed
+      → sent ≡ capped (c.sent + length all)
+      → dropped ≡ capped (c.dropped + dropped_count vertices all)
+      → record { standings = standings; gathered = gathered; sent = sent; dropped = dropped } ≡ next job totals s c
   unfolding next
   next-is vertices stood standings gathered all contributed sent dropped is_v is_w is_vertices is_stood is_all is_contributed is_standings is_gathered is_sent is_dropped =
       let view_is : w ≡ view_of job.program.declared s (visible_in job.deciding totals s c.gathered) = is_w ∙ ap (view_of job.program.declared s) is_v in
       let all_is : all ≡ sends job.program (view_of job.program.declared s (visible_in job.deciding totals s c.gathered)) c.standings = is_all ∙ ap (λ (x : View). sends job.program x c.standings) view_is in
       let standings_is =
-          is_standings ∙ ap (with_messages job.combining all) is_stood ∙ received-ran job.program w job.combining all c.standings
-          ∙ ap (λ (x : View). map (λ y. record { state = state_after y.state (outcome job.program x y); inbox = delivered job.combining y.state.id all }) c.standings) view_is
-          ∙ ap (λ (l : List (ℕ × M)). map (λ y. record { state = state_after y.state (outcome job.program (view_of job.program.declared s (visible_in job.deciding totals s c.gathered)) y); inbox = delivered job.combining y.state.id l }) c.standings) all_is in
+      is_standings ∙ ap (with_messages job.combining all) is_stood ∙ received-ran job.program w job.combining all c.standings
+      ∙ ap (λ (x : View). map (λ y. record { state = state_after y.state (outcome job.program x y); inbox = delivered job.combining y.state.id all }) c.standings) view_is
+      ∙ ap (λ (l : List (ℕ × M)). map (λ y. record { state = state_after y.state (outcome job.program (view_of job.program.declared s (visible_in job.deciding totals s c.gathered)) y); inbox = delivered job.combining y.state.id l }) c.standings) all_is in
       let gathered_is =
-          is_gathered ∙ ap (gathered_from 0 job.aggregators v.values) (is_contributed ∙ ap (λ (x : View). contributions job.program x c.standings) view_is)
-          ∙ ap (λ (x : Visible). gathered_from 0 job.aggregators x.values (contributions job.program (view_of job.program.declared s (visible_in job.deciding totals s c.gathered)) c.standings)) is_v in
+      is_gathered ∙ ap (gathered_from 0 job.aggregators v.values) (is_contributed ∙ ap (λ (x : View). contributions job.program x c.standings) view_is)
+      ∙ ap (λ (x : Visible). gathered_from 0 job.aggregators x.values (contributions job.program (view_of job.program.declared s (visible_in job.deciding totals s c.gathered)) c.standings)) is_v in
       let sent_is = is_sent ∙ ap (λ (l : List (ℕ × M)). capped (c.sent + length l)) all_is in
       let dropped_is = is_dropped ∙ ap (λ (is : List ℕ). capped (c.dropped + dropped_count is all)) is_vertices ∙ ap (λ (l : List (ℕ × M)). capped (c.dropped + dropped_count (ids c.standings) l)) all_is in
       configuration_same standings_is gathered_is sent_is dropped_is
@@ -143,11 +143,11 @@ module _ {V M : Type 0} where
   pub nobody_active : (xs : List (Standing V M)) (work : List ℕ) (k : ℕ) → ListsActive xs work → length work ≤ k → ((j : ℕ) (x : Standing V M) → j < k → slice_get xs (get_or work j 0) ≡ Some x → is_active x ≡ false) → false ≡ not (list_all (λ x. not (is_active x)) xs)
   nobody_active xs work k lists done idle =
       sym (ap not (all_idle xs (λ i x at.
-        by_bool (is_active x)
-        (λ active.
-          let w = listed_place work i (lists.covers i x at active) in
-          idle w.0 x (omega (arith, w.1)) (ap (slice_get xs) w.2 ∙ at))
-        (λ still. still))))
+      by_bool (is_active x)
+      (λ active.
+      let w = listed_place work i (lists.covers i x at active) in
+      idle w.0 x (omega (arith, w.1)) (ap (slice_get xs) w.2 ∙ at))
+      (λ still. still))))
 
   -- one place more was looked at
   pub idle_more : (xs : List (Standing V M)) (work : List ℕ) (k : ℕ) (found : Bool) → ((j : ℕ) (x : Standing V M) → j < k → slice_get xs (get_or work j 0) ≡ Some x → is_active x ≡ false) → ((x : Standing V M) → slice_get xs (get_or work k 0) ≡ Some x → found ≡ is_active x) → found ≡ false → (j : ℕ) (x : Standing V M) → j < k + 1 → slice_get xs (get_or work j 0) ≡ Some x → is_active x ≡ false

@@ -91,9 +91,9 @@ module _ {V M : Type 0} (program : Program V M) (combining : Option (Combining M
       (say.contributed_by ∙ contributed_is program w declared.writes calls cx cx' c.standings say.begins context_from)
       (say.standings_are ∙ say.stood_is ∙ ap (λ (l : List (ℕ × M)). with_messages combining l ran_first) say.delivered_is)
       (say.gathered_by
-        ∙ ap (λ (l : List (ℕ × ℤ)). gathered_from 0 (map aggregating_of registrations) values l) say.read_is
-        ∙ ap (λ (l : List ℤ). gathered_from 0 (map aggregating_of registrations) l contributed) say.values_are
-        ∙ ap (λ (l : List Aggregating). gathered_from 0 l v.values contributed) (ap (map aggregating_of) registered ∙ aggregators_of master.registrations))
+      ∙ ap (λ (l : List (ℕ × ℤ)). gathered_from 0 (map aggregating_of registrations) values l) say.read_is
+      ∙ ap (λ (l : List ℤ). gathered_from 0 (map aggregating_of registrations) l contributed) say.values_are
+      ∙ ap (λ (l : List Aggregating). gathered_from 0 l v.values contributed) (ap (map aggregating_of) registered ∙ aggregators_of master.registrations))
       say.sent_by
       (say.dropped_by ∙ ap (λ (l : List (ℕ × M)). capped (c.dropped + dropped_count vertices l)) say.delivered_is)
 
@@ -108,10 +108,10 @@ module _ {V M : Type 0} (program : Program V M) (combining : Option (Combining M
       let now : ListsActive standings before = subst P (sym say.standings_are) lists in
       record {
         vertices_are = ready.vertices_are
-          ∙ sym (ids-ran program w c.standings)
-          ∙ ap (λ (l : List (Standing V M)). ids l) (sym ran_from)
-          ∙ sym (ids-received combining delivered ran_first)
-          ∙ ap (λ (l : List (Standing V M)). ids l) (sym say.stood_is ∙ sym say.standings_are);
+            ∙ sym (ids-ran program w c.standings)
+            ∙ ap (λ (l : List (Standing V M)). ids l) (sym ran_from)
+            ∙ sym (ids-received combining delivered ran_first)
+            ∙ ap (λ (l : List (Standing V M)). ids l) (sym say.stood_is ∙ sym say.standings_are);
         vertices_rise = ready.vertices_rise;
         gathered = ap length say.gathered_by ∙ length-gathered_from 0 (map aggregating_of registrations) values read (many ∙ sym shown) ∙ many;
         lists = record {

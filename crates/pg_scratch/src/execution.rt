@@ -44,11 +44,11 @@ fn execute<P: Computation>(
     requires writes { cx.old.writes ≡ (P.program program.now).declared.writes }
     ensures standing { OnOk result (standing.new ≡ ran (P.program program.now) cx.old.view standing.old) }
     ensures context { OnOk result (cx.new ≡ record {
-        view = cx.old.view;
-        writes = cx.old.writes;
-        sent = cx.old.sent ++ (outcome (P.program program.now) cx.old.view standing.old).sent;
-        contributed = cx.old.contributed ++ (outcome (P.program program.now) cx.old.view standing.old).contributed;
-        calls = capped (cx.old.calls + 1);
+      view = cx.old.view;
+      writes = cx.old.writes;
+      sent = cx.old.sent ++ (outcome (P.program program.now) cx.old.view standing.old).sent;
+      contributed = cx.old.contributed ++ (outcome (P.program program.now) cx.old.view standing.old).contributed;
+      calls = capped (cx.old.calls + 1);
     }) }
 {
     let Bench { stand_in, room } = bench;

@@ -92,11 +92,7 @@ fn add(registrations: &[Registration], gathered: &mut Vec<i64>, contribution: &(
 }
 
 /// What each place starts from.
-fn begin(
-    alloc: Global,
-    registrations: &[Registration],
-    visible: &[i64],
-) -> Result<Vec<i64>, Memory>
+fn begin(alloc: Global, registrations: &[Registration], visible: &[i64]) -> Result<Vec<i64>, Memory>
     requires { length registrations.now ≡ length visible.now }
     ensures { IfOk result (λ v. v.items ≡ gathered_from 0 (map aggregating_of registrations.now) visible.now []) }
 {

@@ -55,7 +55,7 @@ fn ending_of<V, M>(
     requires { ListsActive progress.now.configuration.standings progress.now.work.items }
     ensures { result ≡ cond halt (Some Ending.MasterHalted)
         (cond (list_all (λ x. not (active_test x)) progress.now.configuration.standings) (Some Ending.Finished)
-            (cond (supersteps == limit) (Some Ending.LimitReached) None)) }
+        (cond (supersteps == limit) (Some Ending.LimitReached) None)) }
 {
     if halt {
         return Some(Ending::MasterHalted);
@@ -78,12 +78,12 @@ fn answer_of<V: Drop, M: Drop>(
     supersteps: u32,
 ) -> Result<Run<V>, Memory>
     ensures { IfOk result (λ r. r ≡ record {
-        values = map (λ x. (x.state.id, x.state.value)) configuration.standings;
-        aggregates = configuration.gathered;
-        ending = ending;
-        supersteps = supersteps;
-        sent = configuration.sent;
-        dropped = configuration.dropped;
+      values = map (λ x. (x.state.id, x.state.value)) configuration.standings;
+      aggregates = configuration.gathered;
+      ending = ending;
+      supersteps = supersteps;
+      sent = configuration.sent;
+      dropped = configuration.dropped;
     }) }
 {
     let Configuration {
@@ -122,10 +122,10 @@ fn begin<P: Computation>(
     meter: Meter,
 ) -> Result<Progress<P::Value, P::Message>, Memory>
     ensures standings { IfOk result (λ p. p.configuration ≡ record {
-        standings = map (beginning (P.program program.now)) graph.now;
-        gathered = map (λ r. (aggregating_of r).initial) registrations.now;
-        sent = 0;
-        dropped = 0;
+      standings = map (beginning (P.program program.now)) graph.now;
+      gathered = map (λ r. (aggregating_of r).initial) registrations.now;
+      sent = 0;
+      dropped = 0;
     }) }
     ensures work { IfOk result (λ p. p.work.items ≡ range_with_len 0 (length graph.now)) }
     ensures meter { IfOk result (λ p. p.meter ≡ meter) }

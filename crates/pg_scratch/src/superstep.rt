@@ -72,10 +72,10 @@ pub(crate) fn superstep<P: Computation, C: MessageCombiner<P::Message>, M: Maste
     requires fits { progress.meter < 2 ^ 64 }
     ensures configuration { IfOk result (λ r. (limit : ℕ)
         → r.0.configuration ≡ next (job_of (P.program job.now.program.now) (C.combining job.now.combiner.now) (M.master job.now.master.now) limit)
-            (record { vertices = job.now.total_vertices; edges = job.now.total_edges }) superstep progress.configuration) }
+        (record { vertices = job.now.total_vertices; edges = job.now.total_edges }) superstep progress.configuration) }
     ensures halt { IfOk result (λ r. (limit : ℕ)
         → r.1 ≡ (visible (job_of (P.program job.now.program.now) (C.combining job.now.combiner.now) (M.master job.now.master.now) limit)
-            (record { vertices = job.now.total_vertices; edges = job.now.total_edges }) superstep progress.configuration).halt) }
+        (record { vertices = job.now.total_vertices; edges = job.now.total_edges }) superstep progress.configuration).halt) }
     ensures ready { IfOk result (λ r. IsReady job.now.ids.now (length job.now.registrations.now) r.0.configuration r.0.work.items) }
     ensures meter { IfOk result (λ r. r.0.meter ≡ capped (progress.meter + count_by active_test progress.configuration.standings)) }
 {

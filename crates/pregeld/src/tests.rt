@@ -45,7 +45,8 @@ fn prints(rt: &impl Abort, alloc: Global, input: &[u8], output: &str) {
 
 #[test]
 fn two_hops(rt: HostRuntime) {
-    let wanted = "edition 1\nrefreshed edition 1 supersteps 3 ending finished calls 5 losses 0\nvalue 1 0\nvalue 2 5\nvalue 3 6\nend 3\n";
+    let wanted =
+        "edition 1\nrefreshed edition 1 supersteps 3 ending finished calls 5 losses 0\nvalue 1 0\nvalue 2 5\nvalue 3 6\nend 3\n";
     prints(&rt, rt.alloc(), TWO_HOPS, wanted);
 }
 
@@ -90,7 +91,8 @@ fn sums_stop_at_both_ends(rt: HostRuntime) {
         errors: "",
     };
     answers(&rt, rt.alloc(), &falling);
-    let wanted = "edition 1\nrefreshed edition 1 supersteps 2 ending finished calls 4 losses 0\nvalue 1 0\nvalue 2 9223372036854775807\nvalue 3 9223372036854775807\nend 3\n";
+    let wanted =
+        "edition 1\nrefreshed edition 1 supersteps 2 ending finished calls 4 losses 0\nvalue 1 0\nvalue 2 9223372036854775807\nvalue 3 9223372036854775807\nend 3\n";
     let rising = b"import list 2\n1 2 9223372036854775807\n2 3\nrefresh\ndump\n";
     prints(&rt, rt.alloc(), rising, wanted);
 }
@@ -247,12 +249,22 @@ fn runs(rt: HostRuntime) -> Result<(), Fail> {
     let program = Sssp { source };
     let combiner = AnyCombiner::NoCombiner;
     let mut meter = Meter::new();
-    match run(alloc, &graph, &program, &combiner, &ReadyMaster, 1000, &mut meter) {
+    match run(
+        alloc,
+        &graph,
+        &program,
+        &combiner,
+        &ReadyMaster,
+        1000,
+        &mut meter,
+    ) {
         Ok(run) => is_two_hops(&rt, &run),
         Err(fault) => assert_eq!(&rt; fault, RunFault::Register, "no fault"),
     }
     assert_eq!(&rt; meter.count(), 5);
-    match run(alloc, &graph, &program, &combiner, &NoMaster, 1000, &mut meter) {
+    match run(
+        alloc, &graph, &program, &combiner, &NoMaster, 1000, &mut meter,
+    ) {
         Ok(_) => assert_eq!(&rt; 0, 1, "a refusal"),
         Err(fault) => assert_eq!(&rt; fault, RunFault::Unregistered),
     }
