@@ -1,2 +1,6 @@
+pub mod Command
+pub mod Reading
 pub mod Ready
+pub mod Reply
 pub mod Service
+pub mod Session

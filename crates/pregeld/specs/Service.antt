@@ -1,16 +1,55 @@
--- What a service keeps.
-use Rattle.std.specs.Prelude.{ℕ, ◌+◌, Option}
+-- What a service keeps, and what an edit and a refresh make of it.
+use Rattle.std.specs.Prelude.{◌≡◌, ◌⊎◌, ℕ, ℤ, ◌+◌, nat_lt, if◌then◌else◌, List, Option, Some, Result, Err}
+use Rattle.std.specs.Ordering.{int_eq}
+use Rattle.pg_graph.specs.Edit.{batch_edited, memory_fault}
 use Rattle.pg_graph.specs.Rows.{Rows}
+use Rattle.pg_graph.specs.declared.edit.Edit.{Edit}
+use Rattle.pg_graph.specs.declared.edit.EditFault.{EditFault}
+use Rattle.pg_graph.specs.declared.edit.EditKind.TheVariants.{Full}
+use Rattle.pg_model.specs.Job.{Job}
+use Rattle.pg_model.specs.Needed.{needed_count}
+use Rattle.pg_model.specs.Publications.{Publication}
+use Rattle.pg_model.specs.Run.{answer}
 use Rattle.pg_model.specs.Superstep.{capped}
-use Rattle.pregeld.specs.declared.service.Published.{Published}
+use Rattle.pregeld.specs.declared.answers.Report.{Report}
 
 pub record ServiceState : Type 0 where
   pub source : ℕ
   pub limit : ℕ
   pub graph : Rows
   pub edition : ℕ
-  pub published : Option Published
+  pub published : Option (Publication ℤ)
 
--- editions are counted up to 2^64 - 1
-abbrev pub next_edition : ℕ → ℕ
-next_edition edition = capped (edition + 1)
+-- no edition is greater
+abbrev pub edition_limit : ℕ
+edition_limit = 18446744073709551615
+
+-- the fault of a batch where no edition is left for it
+abbrev pub no_edition_left : EditFault
+no_edition_left = record { position = 0; kind = Full }
+
+-- the graph of the next edition, or why a batch makes none
+unfoldable pub next_graph : ℕ → Rows → List Edit → Result Rows EditFault
+next_graph edition graph batch = if nat_lt edition edition_limit then batch_edited graph batch else Err no_edition_left
+
+-- why a batch makes no edition: want of memory, or a fault of its own
+abbrev pub RefusesEdition : ℕ → Rows → List Edit → EditFault → Type 0
+RefusesEdition edition graph batch fault = (fault ≡ memory_fault) ⊎ (next_graph edition graph batch ≡ Err fault)
+
+module _ (job : Job ℤ ℤ) where
+  -- what a refresh publishes
+  abbrev pub publication_of : ℕ → Rows → Publication ℤ
+  publication_of edition graph = record { edition = edition; answer = answer job graph }
+
+  -- what it reports, beside the graph of the run that was kept, if any
+  abbrev pub report_of : Option Rows → ℕ → Rows → Report
+  report_of kept edition graph =
+      let run = answer job graph in
+      record {
+        edition = edition;
+        supersteps = run.supersteps;
+        ending = run.ending;
+        sent = run.sent;
+        dropped = run.dropped;
+        calls = capped (needed_count int_eq int_eq job kept graph);
+      }

@@ -1,4 +1,10 @@
 //! What a line asks for.
+ghost use Rattle.std.specs.Prelude.{◌≡◌};
+ghost use Rattle.std.specs.Char.{is_ascii};
+ghost use Rattle.std.specs.List.{list_all};
+ghost use Rattle.pregeld.specs.Command.{alone, command_of, form_of, import_of, named};
+ghost use Rattle.pregeld.specs.Reply.{fault_number};
+
 use pg_import::{Words, bare_line, read_id};
 
 /// The most lines of an import.
@@ -19,7 +25,9 @@ pub(crate) enum LineFault {
 
 impl LineFault {
     /// The number that is printed for the fault.
-    pub(crate) fn number(self) -> u8 {
+    pub(crate) fn number(self) -> u8
+        ensures { result ≡ fault_number self }
+    {
         match self {
             LineFault::NoCommand => 1,
             LineFault::WordCount => 2,
@@ -43,8 +51,8 @@ pub(crate) enum Form {
 pub(crate) enum Command {
     /// Nothing: the line is empty or a comment.
     Nothing,
-    /// To read an edge list from so many lines that follow.
-    Import { form: Form, lines: u32 },
+    /// To read an edge list in this form from so many lines that follow.
+    Import(Form, u32),
     /// To run the program on the graph as it stands.
     Refresh,
     /// To print all published values.
@@ -52,29 +60,52 @@ pub(crate) enum Command {
 }
 
 /// The command of a line, which may end in its line feed.
-pub(crate) fn command_of(raw: &[u8]) -> Result<Command, LineFault> {
+#[tactic(auto, unfolding(crate::specs::Command::command_in))]
+pub(crate) fn command_of(raw: &[u8]) -> Result<Command, LineFault>
+    ensures { result ≡ command_of raw.now }
+{
     let line = bare_line(raw);
     let mut words = Words::new(line);
     let Some(first) = words.next() else {
         return Ok(Command::Nothing);
     };
-    if first.first() == Some(&b'#') {
+    if let [b'#', ..] = first {
         return Ok(Command::Nothing);
     }
-    if !line.is_ascii() {
+    if !is_ascii(line) {
         return Err(LineFault::NoCommand);
     }
-    match first {
-        b"import" => import_of(words),
-        b"refresh" => alone(words, Command::Refresh),
-        b"dump" => alone(words, Command::Dump),
-        _ => Err(LineFault::NoCommand),
+    named(first, words)
+}
+
+fn is_ascii(line: &[u8]) -> bool
+    ensures { result ≡ list_all is_ascii line.now }
+{
+    line.iter().all(|byte| byte.is_ascii())
+}
+
+/// The command that a first word names, with the words after it.
+#[tactic(auto, unfolding(crate::specs::Command::named))]
+fn named(first: &[u8], words: Words<'_>) -> Result<Command, LineFault>
+    ensures { result ≡ named first.now words.entry }
+{
+    if first == b"import".as_slice() {
+        return import_of(words);
     }
+    if first == b"refresh".as_slice() {
+        return alone(Command::Refresh, words);
+    }
+    if first == b"dump".as_slice() {
+        return alone(Command::Dump, words);
+    }
+    Err(LineFault::NoCommand)
 }
 
 /// A command with no words after it.
-fn alone(words: Words<'_>, command: Command) -> Result<Command, LineFault> {
-    let mut words = words;
+#[tactic(auto, unfolding(crate::specs::Command::alone))]
+fn alone(command: Command, mut words: Words<'_>) -> Result<Command, LineFault>
+    ensures { result ≡ alone command words.entry }
+{
     match words.next() {
         None => Ok(command),
         Some(_) => Err(LineFault::WordCount),
@@ -82,22 +113,41 @@ fn alone(words: Words<'_>, command: Command) -> Result<Command, LineFault> {
 }
 
 /// An import, of a form and a number of lines.
-fn import_of(words: Words<'_>) -> Result<Command, LineFault> {
-    let mut words = words;
-    let (Some(form), Some(number), None) = (words.next(), words.next(), words.next()) else {
+#[tactic(auto, unfolding(crate::specs::Command::import_of))]
+fn import_of(mut words: Words<'_>) -> Result<Command, LineFault>
+    ensures { result ≡ import_of words.entry }
+{
+    let Some(form) = words.next() else {
         return Err(LineFault::WordCount);
     };
-    let form = match form {
-        b"list" => Form::List,
-        b"csv" => Form::Csv,
-        _ => return Err(LineFault::BadWord),
+    let Some(lines) = words.next() else {
+        return Err(LineFault::WordCount);
     };
-    let Ok(number) = read_id(number) else {
+    if words.next().is_some() {
+        return Err(LineFault::WordCount);
+    }
+    let Some(form) = form_of(form) else {
         return Err(LineFault::BadWord);
     };
-    if number.number() > LINE_LIMIT {
+    let Ok(lines) = read_id(lines) else {
+        return Err(LineFault::BadWord);
+    };
+    let lines = lines.number();
+    if lines > LINE_LIMIT {
         return Err(LineFault::BadWord);
     }
-    let lines = number.number() as u32;
-    Ok(Command::Import { form, lines })
+    Ok(Command::Import(form, lines as u32))
+}
+
+/// The form that a word names.
+fn form_of(word: &[u8]) -> Option<Form>
+    ensures { result ≡ form_of word.now }
+{
+    if word == b"list".as_slice() {
+        return Some(Form::List);
+    }
+    if word == b"csv".as_slice() {
+        return Some(Form::Csv);
+    }
+    None
 }

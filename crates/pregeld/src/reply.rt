@@ -1,4 +1,8 @@
 //! What a command is answered with.
+ghost use Rattle.std.specs.Prelude.{◌≡◌};
+ghost use Rattle.pregeld.specs.Reply.{refusal_number};
+
+use crate::Report;
 use crate::command::LineFault;
 use pg_graph::{EditFault, Edition};
 use pg_import::ImportFault;
@@ -16,77 +20,84 @@ pub(crate) enum Reply {
     /// A batch was refused.
     BatchRefused(EditFault),
     /// The answers of a run were published.
-    Refreshed {
-        edition: Edition,
-        supersteps: u32,
-        ending: Ending,
-        calls: u64,
-    },
+    Refreshed(Report),
     /// A run was refused.
     RefreshRefused(RunFault),
     /// Nothing was published.
     Unpublished,
     /// All values were printed, so many.
     End(usize),
-    /// A line has a fault.
-    Fault {
-        fault: LineFault,
-        line: u64,
-    },
+    /// This line has a fault.
+    Fault(LineFault, u64),
 }
 
 impl fmt::Display for Reply {
+    ghost use Rattle.std.specs.Prelude.{Some};
+    ghost use Rattle.pregeld.specs.Reply.{text_of};
+
+    ghost output = { λ reply. Some (text_of reply) };
+
+    #[tactic(auto, unfolding(crate::specs::Reply::text_of))]
     fn fmt<W: fmt::Write>(&self, f: &mut fmt::Formatter<W>) -> fmt::Result {
         match *self {
             Reply::Edition(edition) => write!(f, "edition {}", edition.number()),
             Reply::ImportRefused(fault) => {
-                write!(
-                    f,
-                    "import refused {} line {}",
-                    fault.kind.number(),
-                    fault.line
-                )
+                let (number, line) = (fault.kind.number(), fault.line);
+                write!(f, "import refused {number} line {line}")
             }
             Reply::BatchRefused(fault) => {
-                write!(
-                    f,
-                    "refused {} position {}",
-                    fault.kind.number(),
-                    fault.position
-                )
+                let (number, position) = (fault.kind.number(), fault.position);
+                write!(f, "refused {number} position {position}")
             }
-            Reply::Refreshed {
-                edition,
-                supersteps,
-                ending,
-                calls,
-            } => {
-                let number = edition.number();
-                let ending = ending_name(ending);
-                write!(
-                    f,
-                    "refreshed edition {number} supersteps {supersteps} ending {ending} calls {calls} losses 0"
-                )
-            }
+            Reply::Refreshed(report) => write!(f, "{report}"),
             Reply::RefreshRefused(fault) => write!(f, "refused {}", refusal_number(fault)),
-            Reply::Unpublished => f.write_str("unpublished"),
+            Reply::Unpublished => write!(f, "unpublished"),
             Reply::End(count) => write!(f, "end {count}"),
-            Reply::Fault { fault, line } => write!(f, "error {} line {line}", fault.number()),
+            Reply::Fault(fault, line) => write!(f, "error {} line {line}", fault.number()),
         }
     }
 }
 
-/// The word for an ending.
-fn ending_name(ending: Ending) -> &'static str {
-    match ending {
-        Ending::MasterHalted => "halted",
-        Ending::Finished => "finished",
-        Ending::LimitReached => "limit",
+impl fmt::Display for Report {
+    ghost use Rattle.std.specs.Prelude.{Some};
+    ghost use Rattle.pregeld.specs.Reply.{report_text};
+
+    ghost output = { λ report. Some (report_text report) };
+
+    #[tactic(auto, unfolding(crate::specs::Reply::report_text))]
+    fn fmt<W: fmt::Write>(&self, f: &mut fmt::Formatter<W>) -> fmt::Result {
+        let (edition, supersteps, calls) = (self.edition.number(), self.supersteps, self.calls);
+        let ending = EndingName(self.ending);
+        write!(
+            f,
+            "refreshed edition {edition} supersteps {supersteps} ending {ending} calls {calls} losses 0"
+        )
     }
 }
 
-/// The number of a refusal of a run.
-fn refusal_number(fault: RunFault) -> u8 {
+/// The word for an ending.
+#[derive(Clone, Copy)]
+struct EndingName(Ending);
+
+impl fmt::Display for EndingName {
+    ghost use Rattle.std.specs.Prelude.{Some};
+    ghost use Rattle.pregeld.specs.Reply.{ending_name};
+
+    ghost output = { λ name. Some (ending_name name.0) };
+
+    fn fmt<W: fmt::Write>(&self, f: &mut fmt::Formatter<W>) -> fmt::Result {
+        match self.0 {
+            Ending::MasterHalted => write!(f, "halted"),
+            Ending::Finished => write!(f, "finished"),
+            Ending::LimitReached => write!(f, "limit"),
+        }
+    }
+}
+
+/// The number of a refused run.
+fn refusal_number(fault: RunFault) -> u8
+    ensures { result ≡ refusal_number fault }
+{
     match fault {
         RunFault::Memory => 1,
         RunFault::Unregistered => 2,

@@ -1,29 +1,19 @@
 //! A graph that is kept, and the answers of the last refresh on it.
-ghost use Rattle.std.specs.Prelude.{◌≡◌, [], ◌<◌, None, Some, length, IfOk, IfErr, OnOk, OnErr};
+ghost use Rattle.std.specs.Prelude.{◌≡◌, [], ◌+◌, ◌<◌, None, Some, length, Ok, IfOk, IfErr, OnOk, OnErr};
 ghost use Rattle.std.specs.Option.{option_copied};
-ghost use Rattle.pg_graph.specs.Edit.{batch_edited};
-ghost use Rattle.pg_model.specs.Run.{answer, executions};
-ghost use Rattle.pg_model.specs.Superstep.{capped};
+ghost use Rattle.pg_graph.specs.Rows.{HasRisingIds};
+ghost use Rattle.pg_model.specs.Run.{answer};
 ghost use Rattle.pregeld.specs.Ready.{job};
-ghost use Rattle.pregeld.specs.Service.{ServiceState, next_edition};
+ghost use Rattle.pregeld.specs.Service.{RefusesEdition, next_graph, publication_of, report_of};
 
-use crate::{ReadyMaster, Sssp};
+use crate::{Answers, ReadyMaster, Report, Sssp};
 use pg_global::AnyCombiner;
-use pg_graph::{Batch, EditFault, Edition, Graph, VertexId};
+use pg_graph::{Batch, EditFault, EditKind, Edition, Graph, VertexId};
 use pg_model::Run;
 use pg_program::Meter;
 use pg_scratch::{RunFault, run};
 use std::alloc::Global;
 use std::marker::Model;
-
-/// What a refresh has published: the edition of the graph that it ran on, the answer of the run, and how
-/// many times compute was called.
-#[derive(Drop)]
-pub struct Published {
-    pub edition: Edition,
-    pub run: Run<i64>,
-    pub calls: u64,
-}
 
 /// A service: a graph with its edition, the program that runs on it with the limit of supersteps, and
 /// what was published last.
@@ -33,7 +23,7 @@ pub struct Service {
     limit: u32,
     graph: Graph,
     edition: Edition,
-    published: Option<Published>,
+    published: Option<Answers>,
     ghost has_limit: { 0 < limit },
 }
 
@@ -68,25 +58,43 @@ impl Service {
         &self.graph
     }
 
+    /// The edition of the graph: how many batches were applied.
+    pub fn edition(&self) -> Edition
+        ensures { result ≡ self.now.edition }
+    {
+        self.edition
+    }
+
     /// What was published last.
-    pub fn published(&self) -> Option<&Published>
+    pub fn answers(&self) -> Option<&Answers>
         ensures { option_copied result ≡ self.now.published }
     {
         self.published.as_ref()
     }
 
-    /// Applies a batch, all of it or none. The edition is one more with each batch that was applied.
+    /// Applies a batch, all of it or none, and gives the edition that it makes, which is one more than
+    /// the one before, also for an empty batch.
     ///
     /// # Errors
     ///
-    /// The first edit that has no result, or want of memory; the service stays as it was.
-    pub fn apply(&mut self, alloc: Global, batch: &Batch) -> Result<Edition, EditFault>
-        ensures ok { IfOk result (λ edition. (batch_edited self.old.graph batch.now ≡ Ok self.new.graph) × (edition ≡ next_edition self.old.edition)) }
-        ensures rest { OnOk result (self.new ≡ record self.old { graph = self.new.graph; edition = next_edition self.old.edition }) }
+    /// At edition 2^64 - 1, which is the last, `Full` at position 0. Else the first edit that has no
+    /// result. Or want of memory. The service stays as it was.
+    ///
+    /// # Cost
+    ///
+    /// That of `Graph::apply`.
+    #[tactic(auto, unfolding(crate::specs::Service::next_graph))]
+    pub fn edit(&mut self, alloc: Global, batch: &Batch) -> Result<Edition, EditFault>
+        ensures ok { IfOk result (λ edition. (next_graph self.old.edition self.old.graph batch.now ≡ Ok self.new.graph) × (edition ≡ self.old.edition + 1)) }
+        ensures rest { OnOk result (self.new ≡ record self.old { graph = self.new.graph; edition = self.old.edition + 1 }) }
+        ensures refused { IfErr result (RefusesEdition self.old.edition self.old.graph batch.now) }
         ensures err { OnErr result (self.new ≡ self.old) }
     {
+        let Some(number) = self.edition.number().checked_add(1) else {
+            return Err(NO_EDITION_LEFT);
+        };
         self.graph.apply(alloc, batch)?;
-        self.edition = Edition::new(self.edition.number().saturating_add(1));
+        self.edition = Edition::new(number);
         Ok(self.edition)
     }
 
@@ -95,32 +103,37 @@ impl Service {
     /// # Errors
     ///
     /// Want of memory; the service stays as it was.
-    pub fn refresh(&mut self, alloc: Global) -> Result<(), RunFault>
-        ensures answer { OnOk result (self.new ≡ record self.old {
-          published = Some (record {
-            edition = self.old.edition;
-            run = answer (job self.old.source self.old.limit) self.old.graph;
-            calls = capped (executions (job self.old.source self.old.limit) self.old.graph);
-          });
-        }) }
+    ///
+    /// # Cost
+    ///
+    /// That of a whole run: each superstep costs what it executes and sends.
+    pub fn refresh(&mut self, alloc: Global) -> Result<Report, RunFault>
+        ensures report { IfOk result (λ report. report ≡ report_of (job self.old.source self.old.limit) None self.old.edition self.old.graph) }
+        ensures published { OnOk result (self.new ≡ record self.old { published = Some (publication_of (job self.old.source self.old.limit) self.old.edition self.old.graph) }) }
         ensures registered { IfErr result (λ fault. fault ≡ RunFault.Memory) }
         ensures err { OnErr result (self.new ≡ self.old) }
     {
         let (run, calls) = self.run_now(alloc)?;
-        self.published = Some(Published {
-            edition: self.edition,
-            run,
+        let edition = self.edition;
+        let report = Report {
+            edition,
+            supersteps: run.supersteps,
+            ending: run.ending,
+            sent: run.sent,
+            dropped: run.dropped,
             calls,
-        });
-        Ok(())
+        };
+        self.published = Some(Answers::new(edition, run));
+        Ok(report)
     }
 
     /// The run on the graph as it stands, with the number of calls of compute.
     fn run_now(&self, alloc: Global) -> Result<(Run<i64>, u64), RunFault>
         ensures answer { IfOk result (λ r. r.0 ≡ answer (job self.now.source self.now.limit) self.now.graph) }
-        ensures calls { IfOk result (λ r. r.1 ≡ capped (executions (job self.now.source self.now.limit) self.now.graph)) }
+        ensures calls { IfOk result (λ r. r.1 ≡ (report_of (job self.now.source self.now.limit) None self.now.edition self.now.graph).calls) }
         ensures registered { IfErr result (λ fault. fault ≡ RunFault.Memory) }
     {
+        rises(&self.graph);
         let mut meter = Meter::new();
         let run = run(
             alloc,
@@ -136,4 +149,17 @@ impl Service {
             Err(fault) => Err(fault),
         }
     }
+}
+
+/// The fault of a batch where no edition is left for it.
+const NO_EDITION_LEFT: EditFault = EditFault {
+    position: 0,
+    kind: EditKind::Full,
+};
+
+/// The ids of a graph rise. Costs O(1).
+fn rises(graph: &Graph)
+    ensures { HasRisingIds graph.now }
+{
+    let _ids = graph.ids();
 }

@@ -1,7 +1,16 @@
 //! A session: commands from a reader, and their answers to a writer.
+ghost use Rattle.std.specs.Prelude.{◌≡◌, ◌≢◌, List, ℕ, Some, Ok, flat_map, IfOk, IfErr, IfSome, OnOk};
+ghost use Rattle.std.specs.Io.KnownBytes.{Appends};
+ghost use Rattle.pg_import.specs.Import.{Gives};
+ghost use Rattle.pregeld.specs.Reading.{AnswersLine, FailsLine, Imports, Keeps, Refreshes, RepliesTo, lines_left};
+ghost use Rattle.pregeld.specs.Reply.{line_of_reply, line_of_value};
+ghost use Rattle.pregeld.specs.Session.{BreaksOff, Serves, State, dump_text, edges_of};
+
 use crate::Service;
+use crate::block::{Block, next_line, take_block};
 use crate::command::{Command, Form, LineFault, command_of};
 use crate::reply::Reply;
+use pg_graph::VertexId;
 use pg_import::{ImportFault, ImportKind, Line, into_batch, read_csv, read_list};
 use std::alloc::Global;
 use std::io::{self, BufRead, Write};
@@ -23,7 +32,9 @@ pub enum ServeFault {
 
 impl ServeFault {
     /// The fault of a reader.
-    fn of_reader(error: &io::Error) -> ServeFault {
+    pub(crate) fn of_reader(error: &io::Error) -> ServeFault
+        ensures { result ≢ ServeFault.Write }
+    {
         match error.kind() {
             io::ErrorKind::OutOfMemory => ServeFault::Memory,
             _ => ServeFault::Read,
@@ -36,8 +47,9 @@ impl ServeFault {
 ///
 /// # Errors
 ///
-/// Want of memory while a line is read, a reader that fails, a writer that fails. The service stands as
-/// after the last command that was carried out.
+/// Want of memory while a line is read; a reader that fails, or has 2^64 lines; a writer that fails. The
+/// service stands as after the last command that was carried out: a command whose answer couldn't be
+/// written was carried out, an import whose lines couldn't be read to their end wasn't.
 ///
 /// # Cost
 ///
@@ -47,23 +59,29 @@ pub fn serve<R: BufRead, W: Write>(
     reader: &mut R,
     writer: &mut W,
     service: &mut Service,
-) -> Result<(), ServeFault> {
+) -> Result<(), ServeFault>
+    ensures ok { OnOk result (IfSome (R.remaining reader.old) (λ input.
+        Serves input service.old service.new (W.contents writer.old) (W.contents writer.new))) }
+    ensures err { IfErr result (λ fault. IfSome (R.remaining reader.old) (λ input.
+        BreaksOff fault input service.old service.new (W.contents writer.old) (W.contents writer.new))) }
+{
     let mut number = 0_u64;
     for _turn in 0..u64::MAX {
-        let mut line = Vec::new(alloc);
-        match reader.read_until(b'\n', &mut line) {
-            Ok(0) => return Ok(()),
-            Ok(_) => {}
-            Err(error) => return Err(ServeFault::of_reader(&error)),
-        }
-        number = number.saturating_add(1);
-        let taken = answer_line(alloc, number, line.as_slice(), reader, writer, service)?;
-        number = number.saturating_add(taken);
+        let Some(line) = next_line(alloc, reader)? else {
+            return Ok(());
+        };
+        let Some(here) = number.checked_add(1) else {
+            return Err(ServeFault::Read);
+        };
+        number = match answer_line(alloc, here, line.as_slice(), reader, writer, service) {
+            Ok(reached) => reached,
+            Err(fault) => return Err(fault),
+        };
     }
-    Ok(())
+    Err(ServeFault::Read)
 }
 
-/// Answers one line, and gives the number of lines after it that it has taken.
+/// Answers the line of this number, and gives the number of the last line that it has taken.
 fn answer_line<R: BufRead, W: Write>(
     alloc: Global,
     number: u64,
@@ -71,69 +89,98 @@ fn answer_line<R: BufRead, W: Write>(
     reader: &mut R,
     writer: &mut W,
     service: &mut Service,
-) -> Result<u64, ServeFault> {
+) -> Result<u64, ServeFault>
+    ensures ok { IfOk result (λ reached. (state : State) (lines : List (List ℕ)) → Keeps service.old state → lines_left (R.remaining reader.old) ≡ Some lines
+        → AnswersLine line.now (record { number = number; state = state; lines = lines }) service.old service.new reached
+        (lines_left (R.remaining reader.new)) (W.contents writer.old) (W.contents writer.new)) }
+    ensures err { IfErr result (λ fault. (state : State) (lines : List (List ℕ)) → Keeps service.old state → lines_left (R.remaining reader.old) ≡ Some lines
+        → FailsLine fault line.now (record { number = number; state = state; lines = lines }) service.old service.new
+        (W.contents writer.old) (W.contents writer.new)) }
+{
     match command_of(line) {
-        Ok(Command::Nothing) => Ok(0),
-        Ok(Command::Import { form, lines }) => {
-            let reply = import(alloc, number, form, lines, reader, service)?;
-            say(writer, reply)?;
-            Ok(u64::from(lines))
+        Ok(Command::Nothing) => Ok(number),
+        Ok(Command::Import(form, lines)) => {
+            let (reply, reached) = import(alloc, number, form, lines, reader, service)?;
+            match say(writer, reply) {
+                Ok(()) => Ok(reached),
+                Err(fault) => Err(fault),
+            }
         }
-        Ok(Command::Refresh) => {
-            say(writer, refresh(alloc, service))?;
-            Ok(0)
-        }
-        Ok(Command::Dump) => {
-            dump(writer, service)?;
-            Ok(0)
-        }
-        Err(fault) => {
-            let line = number;
-            say(writer, Reply::Fault { fault, line })?;
-            Ok(0)
-        }
-    }
-}
-
-/// Writes an answer, and hands it on.
-fn say<W: Write>(writer: &mut W, reply: Reply) -> Result<(), ServeFault> {
-    if writeln!(writer, "{reply}").is_err() || writer.flush().is_err() {
-        return Err(ServeFault::Write);
-    }
-    Ok(())
-}
-
-/// Runs the program and publishes the answer.
-fn refresh(alloc: Global, service: &mut Service) -> Reply {
-    if let Err(fault) = service.refresh(alloc) {
-        return Reply::RefreshRefused(fault);
-    }
-    match service.published() {
-        None => Reply::Unpublished,
-        Some(published) => Reply::Refreshed {
-            edition: published.edition,
-            supersteps: published.run.supersteps,
-            ending: published.run.ending,
-            calls: published.calls,
+        Ok(Command::Refresh) => match say(writer, refresh(alloc, service)) {
+            Ok(()) => Ok(number),
+            Err(fault) => Err(fault),
+        },
+        Ok(Command::Dump) => match dump(writer, service) {
+            Ok(()) => Ok(number),
+            Err(fault) => Err(fault),
+        },
+        Err(fault) => match say(writer, Reply::Fault(fault, number)) {
+            Ok(()) => Ok(number),
+            Err(fault) => Err(fault),
         },
     }
 }
 
+/// Writes an answer, and hands it on.
+fn say<W: Write>(writer: &mut W, reply: Reply) -> Result<(), ServeFault>
+    ensures ok { OnOk result (Appends (W.contents writer.old) (W.contents writer.new) (line_of_reply reply)) }
+    ensures err { IfErr result (λ fault. fault ≡ ServeFault.Write) }
+{
+    let Ok(()) = writeln!(writer, "{reply}") else {
+        return Err(ServeFault::Write);
+    };
+    let Ok(()) = writer.flush() else {
+        return Err(ServeFault::Write);
+    };
+    Ok(())
+}
+
 /// Prints the published values by rising id, and their number.
-fn dump<W: Write>(writer: &mut W, service: &Service) -> Result<(), ServeFault> {
-    let Some(published) = service.published() else {
+fn dump<W: Write>(writer: &mut W, service: &Service) -> Result<(), ServeFault>
+    ensures ok { OnOk result (Appends (W.contents writer.old) (W.contents writer.new) (dump_text service.now.published)) }
+    ensures err { IfErr result (λ fault. fault ≡ ServeFault.Write) }
+{
+    let Some(answers) = service.answers() else {
         return say(writer, Reply::Unpublished);
     };
-    let values = published.run.values.as_slice();
-    for (id, value) in values {
-        let Ok(_) = writeln!(writer, "value {id} {value}") else {
-            return Err(ServeFault::Write);
-        };
-    }
+    let values = answers.run().values.as_slice();
+    say_values(writer, values)?;
     say(writer, Reply::End(values.len()))
 }
 
-/// Reads the lines of an edge list and applies it as one batch.
+/// Writes a line for each vertex and its value.
+fn say_values<W: Write>(writer: &mut W, values: &[(VertexId, i64)]) -> Result<(), ServeFault>
+    ensures ok { OnOk result (Appends (W.contents writer.old) (W.contents writer.new) (flat_map line_of_value values.now)) }
+    ensures err { IfErr result (λ fault. fault ≡ ServeFault.Write) }
+{
+    for (id, value) in values {
+        say_value(writer, id, value)?;
+    }
+    Ok(())
+}
+
+/// Writes the line of a vertex and its value.
+fn say_value<W: Write>(writer: &mut W, id: &VertexId, value: &i64) -> Result<(), ServeFault>
+    ensures ok { OnOk result (Appends (W.contents writer.old) (W.contents writer.new) (line_of_value (id.now, value.now))) }
+    ensures err { IfErr result (λ fault. fault ≡ ServeFault.Write) }
+{
+    let Ok(()) = writeln!(writer, "value {id} {value}") else {
+        return Err(ServeFault::Write);
+    };
+    Ok(())
+}
+
+/// Runs the program and publishes the answer.
+fn refresh(alloc: Global, service: &mut Service) -> Reply
+    ensures { Refreshes service.old result service.new }
+{
+    match service.refresh(alloc) {
+        Ok(report) => Reply::Refreshed(report),
+        Err(fault) => Reply::RefreshRefused(fault),
+    }
+}
+
+/// Reads the lines of an edge list and applies it as one batch. Gives the number of the last line too.
 fn import<R: BufRead>(
     alloc: Global,
     number: u64,
@@ -141,17 +188,23 @@ fn import<R: BufRead>(
     lines: u32,
     reader: &mut R,
     service: &mut Service,
-) -> Result<Reply, ServeFault> {
-    let mut block = Vec::new(alloc);
-    let reply = match take_block(lines, reader, &mut block)? {
-        Block::CutShort => {
-            let (fault, line) = (LineFault::CutShort, number);
-            Reply::Fault { fault, line }
-        }
-        Block::NoMemory => Reply::ImportRefused(NO_MEMORY),
-        Block::Whole => import_block(alloc, form, block.as_slice(), service),
+) -> Result<(Reply, u64), ServeFault>
+    ensures ok { IfOk result (λ r. (state : State) (rest : List (List ℕ)) → Keeps service.old state → lines_left (R.remaining reader.old) ≡ Some rest
+        → RepliesTo (Ok (Command.Import form lines)) (record { number = number; state = state; lines = rest }) service.old r.0 r.1 service.new (lines_left (R.remaining reader.new))) }
+    ensures err { IfErr result (λ fault. (fault ≢ ServeFault.Write) × (service.new ≡ service.old)) }
+{
+    let Some(reached) = number.checked_add(u64::from(lines)) else {
+        return Err(ServeFault::Read);
     };
-    Ok(reply)
+    let mut block = Vec::new(alloc);
+    match take_block(lines, reader, &mut block)? {
+        Block::CutShort => Ok((Reply::Fault(LineFault::CutShort, number), number)),
+        Block::NoMemory => Ok((Reply::ImportRefused(NO_MEMORY), reached)),
+        Block::Whole => Ok((
+            import_block(alloc, form, block.as_slice(), service),
+            reached,
+        )),
+    }
 }
 
 /// The fault of a list for which there is no memory.
@@ -161,7 +214,9 @@ const NO_MEMORY: ImportFault = ImportFault {
 };
 
 /// Applies the text of an edge list as one batch.
-fn import_block(alloc: Global, form: Form, text: &[u8], service: &mut Service) -> Reply {
+fn import_block(alloc: Global, form: Form, text: &[u8], service: &mut Service) -> Reply
+    ensures { Imports (edges_of form text.now) service.old result service.new }
+{
     let edges = match read_block(alloc, form, text) {
         Ok(edges) => edges,
         Err(fault) => return Reply::ImportRefused(fault),
@@ -169,74 +224,18 @@ fn import_block(alloc: Global, form: Form, text: &[u8], service: &mut Service) -
     let Ok(batch) = into_batch(alloc, edges.as_slice(), service.graph()) else {
         return Reply::ImportRefused(NO_MEMORY);
     };
-    match service.apply(alloc, &batch) {
+    match service.edit(alloc, &batch) {
         Ok(edition) => Reply::Edition(edition),
         Err(fault) => Reply::BatchRefused(fault),
     }
 }
 
 /// The edges of a text.
-fn read_block(alloc: Global, form: Form, text: &[u8]) -> Result<Vec<Line>, ImportFault> {
+fn read_block(alloc: Global, form: Form, text: &[u8]) -> Result<Vec<Line>, ImportFault>
+    ensures { Gives (λ lines. lines.items) result (edges_of form text.now) }
+{
     match form {
         Form::List => read_list(alloc, text),
         Form::Csv => read_csv(alloc, text),
-    }
-}
-
-/// What became of the lines of an edge list.
-#[derive(Clone, Copy, Debug, PartialEq, Eq)]
-enum Block {
-    /// All are there.
-    Whole,
-    /// The input ended before.
-    CutShort,
-    /// They were read, and there is no memory for them.
-    NoMemory,
-}
-
-/// Reads so many lines.
-fn take_block<R: BufRead>(
-    lines: u32,
-    reader: &mut R,
-    block: &mut Vec<u8>,
-) -> Result<Block, ServeFault> {
-    let mut state = Block::Whole;
-    for _line in 0..lines {
-        state = match state {
-            Block::Whole => take_line(reader, block)?,
-            _ => skip_line(reader)?,
-        };
-        if state == Block::CutShort {
-            return Ok(Block::CutShort);
-        }
-    }
-    Ok(state)
-}
-
-/// Reads one line more. Where there is no memory for it, its rest is set aside.
-fn take_line<R: BufRead>(reader: &mut R, block: &mut Vec<u8>) -> Result<Block, ServeFault> {
-    let before = block.len();
-    match reader.read_until(b'\n', block) {
-        Ok(0) => Ok(Block::CutShort),
-        Ok(_) => Ok(Block::Whole),
-        Err(error) if error.kind() == io::ErrorKind::OutOfMemory => {
-            if block.len() > before && block.last() == Some(&b'\n') {
-                return Ok(Block::NoMemory);
-            }
-            match reader.skip_until(b'\n') {
-                Ok(_) => Ok(Block::NoMemory),
-                Err(error) => Err(ServeFault::of_reader(&error)),
-            }
-        }
-        Err(error) => Err(ServeFault::of_reader(&error)),
-    }
-}
-
-/// Sets one line aside.
-fn skip_line<R: BufRead>(reader: &mut R) -> Result<Block, ServeFault> {
-    match reader.skip_until(b'\n') {
-        Ok(0) => Ok(Block::CutShort),
-        Ok(_) => Ok(Block::NoMemory),
-        Err(error) => Err(ServeFault::of_reader(&error)),
     }
 }

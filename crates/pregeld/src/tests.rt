@@ -279,18 +279,21 @@ fn services(rt: HostRuntime) -> Result<(), Fail> {
         return Ok(());
     };
     let mut service = Service::new(alloc, source, 1000);
-    assert!(&rt; service.published().is_none());
+    assert!(&rt; service.answers().is_none());
     let batch = two_hops_batch(alloc)?;
-    assert_eq!(&rt; service.apply(alloc, &batch).ok(), Some(Edition::new(1)));
+    assert_eq!(&rt; service.edit(alloc, &batch).ok(), Some(Edition::new(1)));
     assert_eq!(&rt; service.graph().vertices(), 3);
-    let refused = service.apply(alloc, &batch);
+    let refused = service.edit(alloc, &batch);
     assert!(&rt; refused.is_err_and(|fault| fault.position == 1 && fault.kind.number() == 2));
-    assert!(&rt; service.refresh(alloc).is_ok());
-    match service.published() {
+    match service.refresh(alloc) {
+        Ok(report) => assert_eq!(&rt; (report.edition, report.calls), (Edition::new(1), 5)),
+        Err(fault) => assert_eq!(&rt; fault, RunFault::Register, "no fault"),
+    }
+    match service.answers() {
         None => assert_eq!(&rt; 0, 1, "a publication"),
-        Some(published) => {
-            assert_eq!(&rt; (published.edition, published.calls), (Edition::new(1), 5));
-            is_two_hops(&rt, &published.run);
+        Some(answers) => {
+            assert_eq!(&rt; answers.edition(), Edition::new(1));
+            is_two_hops(&rt, answers.run());
         }
     }
     Ok(())
@@ -309,5 +312,5 @@ fn a_writer_that_is_full(rt: HostRuntime) {
     let served = serve(alloc, &mut reader, &mut writer, &mut service);
     assert_eq!(&rt; served, Err(ServeFault::Write));
     assert_eq!(&rt; service.graph().vertices(), 3);
-    assert!(&rt; service.published().is_none());
+    assert!(&rt; service.answers().is_none());
 }

@@ -1,0 +1,221 @@
+-- What a service answers beside what a session may be answered.
+use Rattle.std.proofs.Common.{◌≡◌, ◌⊎◌, ℕ, ℤ, ◌+◌, ◌<◌, ◌≤◌, Bool, true, false, nat_lt, List, [], ◌∷◌, ◌++◌, length, take, drop, Option, None, Some, option_to_list, Result, Ok, Err, refl, sym, ap, subst, ◌∙◌, inl, inr, ⊎_elim, arith}
+use Rattle.std.specs.Io.KnownBytes.{Appends}
+use Rattle.std.specs.List.{concat, last_or}
+use Rattle.std.proofs.lemmas.Bool.Decides.{nat_tests}
+use Rattle.pg_graph.specs.Edit.{memory_fault}
+use Rattle.pg_graph.specs.Rows.{Rows}
+use Rattle.pg_graph.specs.declared.edit.EditFault.{EditFault}
+use Rattle.pg_import.specs.Batch.{batch_of}
+use Rattle.pg_import.specs.Import.{no_memory}
+use Rattle.pg_import.specs.declared.line.ImportFault.{ImportFault}
+use Rattle.pg_import.specs.declared.line.Line.{Line}
+use Rattle.pg_model.specs.Publications.{Publication}
+use Rattle.pg_scratch.specs.declared.runner.RunFault.TheVariants.{Memory}
+use Rattle.pregeld.specs.Command.{command_of}
+use Rattle.pregeld.specs.Ready.{job}
+use Rattle.pregeld.specs.Reading.{AnswersLine, FailsLine, Imports, Keeps, Refreshes, RepliesTo, TakesLines, edited_service, imported_service}
+use Rattle.pregeld.specs.Reply.{line_of_reply}
+use Rattle.pregeld.specs.Service.{ServiceState, next_graph, publication_of, report_of}
+use Rattle.pregeld.specs.Session.{Answer, Answers, Place, State, after, answer_to, answered, dump_text, edited, edges_of, imported, opened, past, refresh_answer}
+use Rattle.pregeld.specs.declared.block.Block.TheVariants.{Whole, CutShort, NoMemory}
+use Rattle.pregeld.specs.declared.command.Command.{Command}
+use Rattle.pregeld.specs.declared.command.Command.TheVariants.{Nothing, Import, Refresh, Dump}
+use Rattle.pregeld.specs.declared.command.Form.{Form}
+use Rattle.pregeld.specs.declared.command.LineFault.{LineFault}
+use Rattle.pregeld.specs.declared.command.LineFault.TheVariants as fault
+use Rattle.pregeld.specs.declared.reply.Reply.{Reply}
+use Rattle.pregeld.specs.declared.reply.Reply.TheVariants.{Edition, ImportRefused, BatchRefused, Refreshed, RefreshRefused, Fault}
+use Rattle.pregeld.specs.declared.session.ServeFault.{ServeFault}
+use Rattle.pregeld.specs.declared.session.ServeFault.TheVariants.{Write}
+
+-- ---- publications
+
+last-append : {A : Type 0} (o : Option A) (xs : List A) (x : A) → last_or o (xs ++ x ∷ []) ≡ Some x
+last-append o [] x = refl
+last-append o (y ∷ xs) x = last-append (Some y) xs x
+
+last-one : {A : Type 0} (o : Option A) → last_or None (option_to_list o) ≡ o
+last-one None = refl
+last-one (Some x) = refl
+
+-- what a session begins with is what its service keeps
+pub opened_keeps : (service : ServiceState) → Keeps service (opened service)
+opened_keeps service = record { service_is = ap (λ p. record service { published = p }) (sym (last-one service.published)); no_run = refl }
+
+-- ---- one line that answers a command
+
+pub line_answered : (line : List ℕ) (command : Result Command LineFault) (here : Place) (old new : ServiceState) (reply : Reply) (number : ℕ) (left : Option (List (List ℕ))) (before now : Option (List ℕ))
+    → command_of line ≡ command → RepliesTo command here old reply number new left → Appends before now (line_of_reply reply) → AnswersLine line here old new number left before now
+line_answered line command here old new reply number left before now asks r wrote = record {
+  answer = answered reply r.next;
+  answers = subst (λ c. Answers (job old.source old.limit) c here (answered reply r.next)) (sym asks) r.answers;
+  service_is = r.service_is;
+  no_run = r.no_run;
+  number_is = r.number_is;
+  left_is = r.left_is;
+  wrote = wrote;
+}
+
+-- the line can't be written
+pub line_unwritten : (fault : ServeFault) (line : List ℕ) (command : Result Command LineFault) (here : Place) (old new : ServiceState) (reply : Reply) (number : ℕ) (left : Option (List (List ℕ))) (before now : Option (List ℕ))
+    → command_of line ≡ command → RepliesTo command here old reply number new left → fault ≡ Write → FailsLine fault line here old new before now
+line_unwritten fault line command here old new reply number left before now asks r failed =
+    inr (failed, answered reply r.next, subst (λ c. Answers (job old.source old.limit) c here (answered reply r.next)) (sym asks) r.answers, r.service_is)
+
+-- a line with a fault changes nothing
+pub fault_replies : (fault : LineFault) (here : Place) (old : ServiceState) (left : Option (List (List ℕ))) → Keeps old here.state → left ≡ Some here.lines
+    → RepliesTo (Err fault) here old (Fault fault here.number) here.number old left
+unfolding answer_to
+fault_replies fault here old left keeps left_is =
+    record { next = here; answers = inl refl; service_is = keeps.service_is; no_run = keeps.no_run; number_is = refl; left_is = left_is }
+
+-- ---- refreshes
+
+refreshes_at : (s : ServiceState) (here : Place) (reply : Reply) (new : ServiceState) (left : Option (List (List ℕ))) → here.state.kept ≡ None → left ≡ Some here.lines
+    → Refreshes (after s here.state) reply new → RepliesTo (Ok Refresh) here (after s here.state) reply here.number new left
+unfolding answer_to
+refreshes_at s here reply new left no_run left_is (inl done) =
+    let own = job s.source s.limit in
+    let next : Place = (refresh_answer own here).next in
+    let told : Refreshed (report_of own here.state.kept here.state.edition here.state.graph) ≡ reply = rw no_run (sym done.0) in
+    record {
+      next = next;
+      answers = inl (ap (λ r. answered r next) (sym told));
+      service_is = done.1 ∙ ap (λ p. record (after s here.state) { published = p }) (sym (last-append None here.state.publications (publication_of own here.state.edition here.state.graph)));
+      no_run = no_run;
+      number_is = refl;
+      left_is = left_is;
+    }
+refreshes_at s here reply new left no_run left_is (inr refused) = record {
+  next = record here { state = record here.state { kept = None } };
+  answers = inr (ap (λ r. answered r (record here { state = record here.state { kept = None } })) refused.0);
+  service_is = refused.1;
+  no_run = refl;
+  number_is = refl;
+  left_is = left_is;
+}
+
+pub refresh_replies : (here : Place) (old : ServiceState) (reply : Reply) (new : ServiceState) (left : Option (List (List ℕ))) → Keeps old here.state → left ≡ Some here.lines
+    → Refreshes old reply new → RepliesTo (Ok Refresh) here old reply here.number new left
+refresh_replies here old reply new left keeps left_is =
+    subst (λ o. Refreshes o reply new → RepliesTo (Ok Refresh) here o reply here.number new left) (sym keeps.service_is) (refreshes_at old here reply new left keeps.no_run left_is)
+
+-- ---- dumps
+
+dump_at : (line : List ℕ) (s : ServiceState) (here : Place) (left : Option (List (List ℕ))) (before now : Option (List ℕ)) → command_of line ≡ Ok Dump → here.state.kept ≡ None → left ≡ Some here.lines
+    → Appends before now (dump_text (after s here.state).published) → AnswersLine line here (after s here.state) (after s here.state) here.number left before now
+unfolding answer_to
+dump_at line s here left before now is_dump no_run left_is wrote = record {
+  answer = record { text = dump_text (last_or None here.state.publications); next = here };
+  answers = inl (ap (λ c. answer_to (job s.source s.limit) c here) (sym is_dump));
+  service_is = refl;
+  no_run = no_run;
+  number_is = refl;
+  left_is = left_is;
+  wrote = wrote;
+}
+
+pub dump_answered : (line : List ℕ) (here : Place) (old : ServiceState) (left : Option (List (List ℕ))) (before now : Option (List ℕ)) → command_of line ≡ Ok Dump → Keeps old here.state → left ≡ Some here.lines
+    → Appends before now (dump_text old.published) → AnswersLine line here old old here.number left before now
+dump_answered line here old left before now is_dump keeps left_is =
+    subst (λ o. Appends before now (dump_text o.published) → AnswersLine line here o o here.number left before now) (sym keeps.service_is) (dump_at line old here left before now is_dump keeps.no_run left_is)
+
+-- the values can't be written
+pub dump_unwritten : (fault : ServeFault) (line : List ℕ) (here : Place) (old : ServiceState) (before now : Option (List ℕ)) → command_of line ≡ Ok Dump → Keeps old here.state → fault ≡ Write
+    → FailsLine fault line here old old before now
+unfolding answer_to
+dump_unwritten fault line here old before now is_dump keeps failed =
+    inr (failed, record { text = dump_text (last_or None here.state.publications); next = here }, inl (ap (λ c. answer_to (job old.source old.limit) c here) (sym is_dump)), keeps.service_is)
+
+-- ---- lines that ask for nothing
+
+pub nothing_answered : (line : List ℕ) (here : Place) (old : ServiceState) (left : Option (List (List ℕ))) (before now : Option (List ℕ)) → command_of line ≡ Ok Nothing → Keeps old here.state → left ≡ Some here.lines
+    → Appends before now [] → AnswersLine line here old old here.number left before now
+unfolding answer_to
+nothing_answered line here old left before now is_nothing keeps left_is wrote = record {
+  answer = record { text = []; next = here };
+  answers = inl (ap (λ c. answer_to (job old.source old.limit) c here) (sym is_nothing));
+  service_is = keeps.service_is;
+  no_run = keeps.no_run;
+  number_is = refl;
+  left_is = left_is;
+  wrote = wrote;
+}
+
+-- ---- imports
+
+-- an import that is cut short applies nothing
+pub cut_short_replies : (form : Form) (n : ℕ) (here : Place) (old : ServiceState) (text block : List ℕ) (left : Option (List (List ℕ))) → Keeps old here.state
+    → TakesLines n CutShort here.lines text block left → RepliesTo (Ok (Import form n)) here old (Fault fault.CutShort here.number) here.number old left
+unfolding answer_to
+cut_short_replies form n here old text block left keeps taken =
+    let short : nat_lt (length here.lines) n ≡ true = grind (arith, nat_tests) in
+    record {
+      next = record here { lines = [] };
+      answers = inl (rw short refl);
+      service_is = keeps.service_is;
+      no_run = keeps.no_run;
+      number_is = refl;
+      left_is = taken.1;
+    }
+
+-- an import for which there is no memory applies nothing
+pub no_memory_replies : (form : Form) (n : ℕ) (here : Place) (old : ServiceState) (text block : List ℕ) (left : Option (List (List ℕ))) → Keeps old here.state
+    → TakesLines n NoMemory here.lines text block left → RepliesTo (Ok (Import form n)) here old (ImportRefused no_memory) (here.number + n) old left
+no_memory_replies form n here old text block left keeps taken = record {
+  next = past n here;
+  answers = inr (taken.0, inl refl);
+  service_is = keeps.service_is;
+  no_run = keeps.no_run;
+  number_is = refl;
+  left_is = taken.1;
+}
+
+-- what a service makes of a batch is what a session makes of it
+record Agrees (s : ServiceState) (place : Place) (answer : Answer) (told : Reply × ServiceState) : Type 0 where
+  answer_is : answer ≡ answered told.0 answer.next
+  service_is : told.1 ≡ after s answer.next.state
+  kept_is : answer.next.state.kept ≡ place.state.kept
+  number_is : answer.next.number ≡ place.number
+  lines_is : answer.next.lines ≡ place.lines
+
+edited_agrees : (r : Result Rows EditFault) (s : ServiceState) (place : Place) → Agrees s place (edited r place) (edited_service r (after s place.state))
+edited_agrees (Ok graph) s place = record { answer_is = refl; service_is = refl; kept_is = refl; number_is = refl; lines_is = refl }
+edited_agrees (Err fault) s place = record { answer_is = refl; service_is = refl; kept_is = refl; number_is = refl; lines_is = refl }
+
+imported_agrees : (edges : Result (List Line) ImportFault) (s : ServiceState) (place : Place) → Agrees s place (imported edges place) (imported_service edges (after s place.state))
+imported_agrees (Ok edges) s place = edited_agrees (next_graph place.state.edition place.state.graph (batch_of edges place.state.graph)) s place
+imported_agrees (Err fault) s place = record { answer_is = refl; service_is = refl; kept_is = refl; number_is = refl; lines_is = refl }
+
+imports_at : (form : Form) (n : ℕ) (s : ServiceState) (here : Place) (block : List ℕ) (reply : Reply) (new : ServiceState) (left : Option (List (List ℕ))) → here.state.kept ≡ None
+    → TakesLines n Whole here.lines [] block left → Imports (edges_of form block) (after s here.state) reply new
+    → RepliesTo (Ok (Import form n)) here (after s here.state) reply (here.number + n) new left
+unfolding answer_to
+imports_at form n s here block reply new left no_run taken (inl done) =
+    let there : nat_lt (length here.lines) n ≡ false = grind (arith, nat_tests, taken.0) in
+    let edges : Result (List Line) ImportFault = edges_of form (concat (take n here.lines)) in
+    let agrees : Agrees s (past n here) (imported edges (past n here)) (imported_service edges (after s here.state)) = imported_agrees edges s (past n here) in
+    let same : (reply, new) ≡ imported_service edges (after s here.state) = rw taken.1 at done in
+    record {
+      next = (imported edges (past n here)).next;
+      answers = inl (rw there (ap (λ r. answered r (imported edges (past n here)).next) (ap (λ (p : Reply × ServiceState). p.0) same) ∙ sym agrees.answer_is));
+      service_is = ap (λ (p : Reply × ServiceState). p.1) same ∙ agrees.service_is;
+      no_run = agrees.kept_is ∙ no_run;
+      number_is = agrees.number_is;
+      left_is = taken.2 ∙ ap Some (sym agrees.lines_is);
+    }
+imports_at form n s here block reply new left no_run taken (inr refused) = record {
+  next = past n here;
+  answers = inr (taken.0, ⊎_elim (λ e. inl (ap (λ r. answered r (past n here)) e)) (λ e. inr (ap (λ r. answered r (past n here)) e)) refused.1);
+  service_is = refused.0;
+  no_run = no_run;
+  number_is = refl;
+  left_is = taken.2;
+}
+
+pub import_replies : (form : Form) (n : ℕ) (here : Place) (old : ServiceState) (block : List ℕ) (reply : Reply) (new : ServiceState) (left : Option (List (List ℕ))) → Keeps old here.state
+    → TakesLines n Whole here.lines [] block left → Imports (edges_of form block) old reply new
+    → RepliesTo (Ok (Import form n)) here old reply (here.number + n) new left
+import_replies form n here old block reply new left keeps taken =
+    subst (λ o. Imports (edges_of form block) o reply new → RepliesTo (Ok (Import form n)) here o reply (here.number + n) new left) (sym keeps.service_is) (imports_at form n old here block reply new left keeps.no_run taken)

@@ -1,0 +1,61 @@
+-- What a line asks for.
+use Rattle.std.specs.Prelude.{ℕ, Bool, ◌==◌, nat_lt, if◌then◌else◌, List, [], ◌∷◌, Option, None, Some, Result, Ok, Err, codes}
+use Rattle.std.specs.Char.{is_ascii}
+use Rattle.std.specs.Str.{bytes_eq}
+use Rattle.std.specs.List.{list_all}
+use Rattle.pg_import.specs.Import.{begins_with}
+use Rattle.pg_import.specs.Number.{id_of}
+use Rattle.pg_import.specs.Text.{line_of, words_of}
+use Rattle.pg_import.specs.declared.line.ImportKind.{ImportKind}
+use Rattle.pregeld.specs.declared.command.Command.{Command}
+use Rattle.pregeld.specs.declared.command.Command.TheVariants.{Nothing, Import, Refresh, Dump}
+use Rattle.pregeld.specs.declared.command.Form.{Form}
+use Rattle.pregeld.specs.declared.command.Form.TheVariants.{List as ListForm, Csv}
+use Rattle.pregeld.specs.declared.command.LineFault.{LineFault}
+use Rattle.pregeld.specs.declared.command.LineFault.TheVariants.{NoCommand, WordCount, BadWord}
+
+-- no import has more lines
+abbrev pub line_limit : ℕ
+line_limit = 100000
+
+-- the form that a word names
+abbrev pub form_of : List ℕ → Option Form
+form_of word = if bytes_eq word (codes "list") then Some ListForm else if bytes_eq word (codes "csv") then Some Csv else None
+
+-- an import in this form, where the number of its lines is one, and not too large
+abbrev pub import_in : Option Form → Result ℕ ImportKind → Result Command LineFault
+import_in None number = Err BadWord
+import_in (Some form) (Err kind) = Err BadWord
+import_in (Some form) (Ok number) = if nat_lt line_limit number then Err BadWord else Ok (Import form number)
+
+-- the words after `import`: a form and a number of lines
+unfoldable pub import_of : List (List ℕ) → Result Command LineFault
+import_of [] = Err WordCount
+import_of (form ∷ []) = Err WordCount
+import_of (form ∷ number ∷ []) = import_in (form_of form) (id_of number)
+import_of (form ∷ number ∷ more ∷ words) = Err WordCount
+
+-- a command that has no words after it
+unfoldable pub alone : Command → List (List ℕ) → Result Command LineFault
+alone command [] = Ok command
+alone command (word ∷ words) = Err WordCount
+
+-- the command that a first word names, with the words after it
+unfoldable pub named : List ℕ → List (List ℕ) → Result Command LineFault
+named first words =
+    if bytes_eq first (codes "import") then import_of words
+    else if bytes_eq first (codes "refresh") then alone Refresh words
+    else if bytes_eq first (codes "dump") then alone Dump words
+    else Err NoCommand
+
+-- the command of words: none asks for nothing, nor does a comment, which begins with `#`; a command has no byte above 127
+unfoldable pub command_in : Bool → List (List ℕ) → Result Command LineFault
+command_in plain [] = Ok Nothing
+command_in plain (first ∷ words) =
+    if begins_with (λ b. b == 35) first then Ok Nothing
+    else if plain then named first words
+    else Err NoCommand
+
+-- the command of a line, which may end in its line feed
+abbrev pub command_of : List ℕ → Result Command LineFault
+command_of line = command_in (list_all is_ascii (line_of line)) (words_of (line_of line))

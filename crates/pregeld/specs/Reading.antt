@@ -1,0 +1,110 @@
+-- What a session's reader has left, and what its service keeps.
+use Rattle.std.specs.Prelude.{◌≡◌, ◌≢◌, ◌⊎◌, ℕ, Bool, true, false, ◌+◌, ◌<◌, ◌≤◌, List, [], ◌∷◌, ◌++◌, length, take, drop, Option, None, Some, option_map, Result, Ok, Err}
+use Rattle.std.specs.List.{concat}
+use Rattle.std.specs.Io.BufRead.{drop_through}
+use Rattle.std.specs.Io.KnownBytes.{Appends}
+use Rattle.pg_graph.specs.Edit.{memory_fault}
+use Rattle.pg_graph.specs.Rows.{Rows}
+use Rattle.pg_graph.specs.declared.edit.EditFault.{EditFault}
+use Rattle.pg_import.specs.Batch.{batch_of}
+use Rattle.pg_import.specs.Import.{no_memory}
+use Rattle.pg_import.specs.Text.{raw_lines}
+use Rattle.pg_import.specs.declared.line.ImportFault.{ImportFault}
+use Rattle.pg_import.specs.declared.line.Line.{Line}
+use Rattle.pg_scratch.specs.declared.runner.RunFault.TheVariants.{Memory}
+use Rattle.pregeld.specs.Command.{command_of}
+use Rattle.pregeld.specs.Ready.{job}
+use Rattle.pregeld.specs.Service.{ServiceState, next_graph, publication_of, report_of}
+use Rattle.pregeld.specs.Session.{Answer, Answers, Place, State, after, answered}
+use Rattle.pregeld.specs.declared.block.Block.{Block}
+use Rattle.pregeld.specs.declared.block.Block.TheVariants.{Whole, CutShort, NoMemory}
+use Rattle.pregeld.specs.declared.command.Command.{Command}
+use Rattle.pregeld.specs.declared.command.LineFault.{LineFault}
+use Rattle.pregeld.specs.declared.reply.Reply.{Reply}
+use Rattle.pregeld.specs.declared.reply.Reply.TheVariants.{Edition, ImportRefused, BatchRefused, Refreshed, RefreshRefused}
+use Rattle.pregeld.specs.declared.session.ServeFault.{ServeFault}
+use Rattle.pregeld.specs.declared.session.ServeFault.TheVariants.{Write}
+
+-- the lines of the bytes that are left, where those are known
+abbrev pub lines_left : Option (List ℕ) → Option (List (List ℕ))
+lines_left known = option_map raw_lines known
+
+-- so many lines were taken: onto a text, or set aside for want of memory, or there were fewer
+abbrev pub TakesLines : ℕ → Block → List (List ℕ) → List ℕ → List ℕ → Option (List (List ℕ)) → Type 0
+TakesLines n Whole lines old new left = (n ≤ length lines) × (new ≡ old ++ concat (take n lines)) × (left ≡ Some (drop n lines))
+TakesLines n NoMemory lines old new left = (n ≤ length lines) × (left ≡ Some (drop n lines))
+TakesLines n CutShort lines old new left = (length lines < n) × (left ≡ Some [])
+
+-- so many lines were set aside, or there were fewer
+abbrev pub SkipsLines : ℕ → Block → List (List ℕ) → Option (List (List ℕ)) → Type 0
+SkipsLines n Whole lines left = ⊥
+SkipsLines n NoMemory lines left = (n ≤ length lines) × (left ≡ Some (drop n lines))
+SkipsLines n CutShort lines left = (length lines < n) × (left ≡ Some [])
+
+-- what is left of the line that a text begins with was set aside, or the text is at its end
+abbrev pub SkipsLine : Bool → List ℕ → Option (List ℕ) → Type 0
+SkipsLine true text left = (0 < length text) × (left ≡ Some (drop_through 10 text))
+SkipsLine false text left = (text ≡ []) × (left ≡ Some [])
+
+-- the next line of a reader, or none where it has no line left
+abbrev pub NextLine : Option (List ℕ) → List (List ℕ) → Option (List (List ℕ)) → Type 0
+NextLine None lines left = lines ≡ []
+NextLine (Some line) lines left = (rest : List (List ℕ)) × (lines ≡ line ∷ rest) × (left ≡ Some rest)
+
+-- ---- what a service is answered with
+
+-- the answer to an import of these edges, and the service after it
+abbrev pub edited_service : Result Rows EditFault → ServiceState → Reply × ServiceState
+edited_service (Err fault) service = (BatchRefused fault, service)
+edited_service (Ok graph) service =
+    let edition = service.edition + 1 in
+    (Edition edition, record service { graph = graph; edition = edition })
+
+abbrev pub imported_service : Result (List Line) ImportFault → ServiceState → Reply × ServiceState
+imported_service (Err fault) service = (ImportRefused fault, service)
+imported_service (Ok edges) service = edited_service (next_graph service.edition service.graph (batch_of edges service.graph)) service
+
+-- an import may be answered so, or for want of memory
+abbrev pub Imports : Result (List Line) ImportFault → ServiceState → Reply → ServiceState → Type 0
+Imports edges old reply new =
+    ((reply, new) ≡ imported_service edges old)
+    ⊎ ((new ≡ old) × ((reply ≡ ImportRefused no_memory) ⊎ (reply ≡ BatchRefused memory_fault)))
+
+-- a refresh may be answered so, or for want of memory
+abbrev pub Refreshes : ServiceState → Reply → ServiceState → Type 0
+Refreshes old reply new =
+    let own = job old.source old.limit in
+    ((reply ≡ Refreshed (report_of own None old.edition old.graph)) × (new ≡ record old { published = Some (publication_of own old.edition old.graph) }))
+    ⊎ ((reply ≡ RefreshRefused Memory) × (new ≡ old))
+
+-- ---- a service beside a session
+
+-- a service keeps what a session has come to, which has no run to reuse
+pub record Keeps (service : ServiceState) (state : State) : Type 0 where
+  pub service_is : service ≡ after service state
+  pub no_run : state.kept ≡ None
+
+-- a command was answered with this line, and the session goes on past the line of this number
+pub record RepliesTo (command : Result Command LineFault) (here : Place) (old : ServiceState) (reply : Reply) (number : ℕ) (new : ServiceState) (left : Option (List (List ℕ))) : Type 0 where
+  pub next : Place
+  pub answers : Answers (job old.source old.limit) command here (answered reply next)
+  pub service_is : new ≡ after old next.state
+  pub no_run : next.state.kept ≡ None
+  pub number_is : next.number ≡ number
+  pub left_is : left ≡ Some next.lines
+
+-- a line was answered so, and the session goes on there
+pub record AnswersLine (line : List ℕ) (here : Place) (old new : ServiceState) (number : ℕ) (left : Option (List (List ℕ))) (before now : Option (List ℕ)) : Type 0 where
+  pub answer : Answer
+  pub answers : Answers (job old.source old.limit) (command_of line) here answer
+  pub service_is : new ≡ after old answer.next.state
+  pub no_run : answer.next.state.kept ≡ None
+  pub number_is : answer.next.number ≡ number
+  pub left_is : left ≡ Some answer.next.lines
+  pub wrote : Appends before now answer.text
+
+-- a line couldn't be carried out, or its answer couldn't be written
+abbrev pub FailsLine : ServeFault → List ℕ → Place → ServiceState → ServiceState → Option (List ℕ) → Option (List ℕ) → Type 0
+FailsLine fault line here old new before now =
+    ((fault ≢ Write) × (new ≡ old) × (now ≡ before))
+    ⊎ ((fault ≡ Write) × (answer : Answer) × Answers (job old.source old.limit) (command_of line) here answer × (new ≡ after old answer.next.state))

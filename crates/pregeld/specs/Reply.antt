@@ -1,0 +1,65 @@
+-- The texts of answers.
+use Rattle.std.specs.Prelude.{ℕ, ℤ, List, [], ◌∷◌, ◌++◌, length, flat_map, decimal, codes}
+use Rattle.std.specs.Fmt.{signed_decimal}
+use Rattle.pg_graph.specs.EditKind as edit
+use Rattle.pg_import.specs.ImportKind as import
+use Rattle.pg_model.specs.declared.run.Ending.{Ending}
+use Rattle.pg_model.specs.declared.run.Ending.TheVariants.{MasterHalted, Finished, LimitReached}
+use Rattle.pg_scratch.specs.declared.runner.RunFault.{RunFault}
+use Rattle.pg_scratch.specs.declared.runner.RunFault.TheVariants as run
+use Rattle.pregeld.specs.declared.command.LineFault.{LineFault}
+use Rattle.pregeld.specs.declared.command.LineFault.TheVariants.{NoCommand, WordCount, BadWord, CutShort}
+use Rattle.pregeld.specs.declared.reply.Reply.{Reply}
+use Rattle.pregeld.specs.declared.reply.Reply.TheVariants.{Edition, ImportRefused, BatchRefused, Refreshed, RefreshRefused, Unpublished, End, Fault}
+use Rattle.pregeld.specs.declared.answers.Report.{Report}
+
+-- the word for an ending
+abbrev pub ending_name : Ending → List ℕ
+ending_name MasterHalted = codes "halted"
+ending_name Finished = codes "finished"
+ending_name LimitReached = codes "limit"
+
+-- the number of a refused run
+abbrev pub refusal_number : RunFault → ℕ
+refusal_number run.Memory = 1
+refusal_number run.Unregistered = 2
+refusal_number run.Register = 3
+
+-- the number of a line's fault
+abbrev pub fault_number : LineFault → ℕ
+fault_number NoCommand = 1
+fault_number WordCount = 2
+fault_number BadWord = 3
+fault_number CutShort = 4
+
+-- the answer to a refresh
+unfoldable pub report_text : Report → List ℕ
+report_text report =
+    codes "refreshed edition " ++ (decimal report.edition
+    ++ (codes " supersteps " ++ (decimal report.supersteps
+    ++ (codes " ending " ++ (ending_name report.ending
+    ++ (codes " calls " ++ (decimal report.calls
+    ++ codes " losses 0")))))))
+
+-- an answer, without its line feed
+unfoldable pub text_of : Reply → List ℕ
+text_of (Edition edition) = codes "edition " ++ decimal edition
+text_of (ImportRefused fault) = codes "import refused " ++ decimal (import.number_of fault.kind) ++ codes " line " ++ decimal fault.line
+text_of (BatchRefused fault) = codes "refused " ++ decimal (edit.number_of fault.kind) ++ codes " position " ++ decimal fault.position
+text_of (Refreshed report) = report_text report
+text_of (RefreshRefused fault) = codes "refused " ++ decimal (refusal_number fault)
+text_of Unpublished = codes "unpublished"
+text_of (End count) = codes "end " ++ decimal count
+text_of (Fault fault line) = codes "error " ++ decimal (fault_number fault) ++ codes " line " ++ decimal line
+
+-- an answer as a line
+abbrev pub line_of_reply : Reply → List ℕ
+line_of_reply reply = text_of reply ++ 10 ∷ []
+
+-- the line of a vertex and its value
+abbrev pub line_of_value : ℕ × ℤ → List ℕ
+line_of_value v = codes "value " ++ decimal v.0 ++ codes " " ++ signed_decimal v.1 ++ 10 ∷ []
+
+-- all values by rising id, and how many there are
+abbrev pub values_text : List (ℕ × ℤ) → List ℕ
+values_text values = flat_map line_of_value values ++ line_of_reply (End (length values))

@@ -1,0 +1,137 @@
+//! Lines of the input.
+ghost use Rattle.std.specs.Prelude.{◌≡◌, ◌≢◌, ◌++◌, ◌-◌, List, ℕ, Some, length, slice_get, option_map, IfOk, IfErr, MatchBool};
+ghost use Rattle.std.specs.Io.{StopsAt};
+ghost use Rattle.pg_import.specs.Text.{raw_lines};
+ghost use Rattle.pregeld.specs.Reading.{NextLine, SkipsLine, SkipsLines, TakesLines, lines_left};
+
+use crate::ServeFault;
+use std::alloc::Global;
+use std::io::{self, BufRead};
+
+/// What became of lines that were to be read.
+#[derive(Clone, Copy, Debug, PartialEq, Eq)]
+pub(crate) enum Block {
+    /// All are there.
+    Whole,
+    /// The input ended before.
+    CutShort,
+    /// They were read, and there is no memory for them.
+    NoMemory,
+}
+
+/// The next line of the input, with its line feed, or none at the end.
+///
+/// # Errors
+///
+/// Want of memory for the line, or a reader that fails.
+pub(crate) fn next_line<R: BufRead>(
+    alloc: Global,
+    reader: &mut R,
+) -> Result<Option<Vec<u8>>, ServeFault>
+    ensures ok { IfOk result (λ line. (lines : List (List ℕ)) → lines_left (R.remaining reader.old) ≡ Some lines
+        → NextLine (option_map (λ bytes. bytes.items) line) lines (lines_left (R.remaining reader.new))) }
+    ensures err { IfErr result (λ fault. fault ≢ ServeFault.Write) }
+{
+    let mut line = Vec::new(alloc);
+    match reader.read_until(b'\n', &mut line) {
+        Ok(0) => Ok(None),
+        Ok(_) => Ok(Some(line)),
+        Err(error) => Err(ServeFault::of_reader(&error)),
+    }
+}
+
+/// Reads so many lines onto a text. Where there is no memory for them, they are set aside.
+///
+/// # Errors
+///
+/// A reader that fails.
+pub(crate) fn take_block<R: BufRead>(
+    count: u32,
+    reader: &mut R,
+    text: &mut Vec<u8>,
+) -> Result<Block, ServeFault>
+    ensures ok { IfOk result (λ block. (lines : List (List ℕ)) → lines_left (R.remaining reader.old) ≡ Some lines
+        → TakesLines count block lines text.old.items text.new.items (lines_left (R.remaining reader.new))) }
+    ensures err { IfErr result (λ fault. fault ≢ ServeFault.Write) }
+{
+    for taken in 0..count {
+        match take_line(reader, text)? {
+            Block::Whole => {}
+            Block::CutShort => return Ok(Block::CutShort),
+            Block::NoMemory => return skip_lines(count - taken - 1, reader),
+        }
+    }
+    Ok(Block::Whole)
+}
+
+/// Reads one line onto a text. Where there is no memory for it, its rest is set aside.
+fn take_line<R: BufRead>(reader: &mut R, text: &mut Vec<u8>) -> Result<Block, ServeFault>
+    ensures ok { IfOk result (λ block. (lines : List (List ℕ)) → lines_left (R.remaining reader.old) ≡ Some lines
+        → TakesLines 1 block lines text.old.items text.new.items (lines_left (R.remaining reader.new))) }
+    ensures err { IfErr result (λ fault. fault ≢ ServeFault.Write) }
+{
+    let before = text.len();
+    match reader.read_until(b'\n', text) {
+        Ok(0) => Ok(Block::CutShort),
+        Ok(_) => Ok(Block::Whole),
+        Err(error) => match error.kind() {
+            io::ErrorKind::OutOfMemory => set_aside(reader, &text[before..]),
+            _ => Err(ServeFault::Read),
+        },
+    }
+}
+
+/// Sets aside the rest of a line of which `front` has been read.
+fn set_aside<R: BufRead>(reader: &mut R, front: &[u8]) -> Result<Block, ServeFault>
+    ensures ok { IfOk result (λ block. (rest old new : List ℕ) → R.remaining reader.old ≡ Some rest → StopsAt front.now 10
+        → TakesLines 1 block (raw_lines (front.now ++ rest)) old new (lines_left (R.remaining reader.new))) }
+    ensures err { IfErr result (λ fault. fault ≢ ServeFault.Write) }
+{
+    if ends_line(front) {
+        return Ok(Block::NoMemory);
+    }
+    if skip_line(reader)? {
+        return Ok(Block::NoMemory);
+    }
+    if front.is_empty() {
+        return Ok(Block::CutShort);
+    }
+    Ok(Block::NoMemory)
+}
+
+/// Whether a text ends in a line feed.
+fn ends_line(text: &[u8]) -> bool
+    ensures { MatchBool result (slice_get text.now (length text.now - 1) ≡ Some 10) (slice_get text.now (length text.now - 1) ≢ Some 10) }
+{
+    match text.last() {
+        Some(last) => *last == b'\n',
+        None => false,
+    }
+}
+
+/// Sets so many lines aside.
+fn skip_lines<R: BufRead>(count: u32, reader: &mut R) -> Result<Block, ServeFault>
+    ensures ok { IfOk result (λ block. (lines : List (List ℕ)) → lines_left (R.remaining reader.old) ≡ Some lines
+        → SkipsLines count block lines (lines_left (R.remaining reader.new))) }
+    ensures err { IfErr result (λ fault. fault ≢ ServeFault.Write) }
+{
+    for _skipped in 0..count {
+        if !skip_line(reader)? {
+            return Ok(Block::CutShort);
+        }
+    }
+    Ok(Block::NoMemory)
+}
+
+/// Sets aside what is left of a line, or finds the input at its end.
+fn skip_line<R: BufRead>(reader: &mut R) -> Result<bool, ServeFault>
+    ensures ok { IfOk result (λ there. (rest : List ℕ) → R.remaining reader.old ≡ Some rest
+        → SkipsLine there rest (R.remaining reader.new)) }
+    ensures err { IfErr result (λ fault. fault ≢ ServeFault.Write) }
+{
+    match reader.skip_until(b'\n') {
+        Ok(0) => Ok(false),
+        Ok(_) => Ok(true),
+        Err(error) => Err(ServeFault::of_reader(&error)),
+    }
+}

@@ -1,0 +1,150 @@
+// Sessions whose reader or writer fails in mid-stream.
+use crate::{ServeFault, Service, serve};
+use pg_graph::VertexId;
+use std::alloc::Global;
+use std::io;
+use std::io::{BufReader, Read, Write};
+use std::process::Abort;
+use std::test::Fail;
+
+// Every command, a comment, faults and a block of each form.
+const INPUT: &[u8] =
+    b"dump\n# a list\nimport list 2\n1 2 5\n2 3\nrefresh\nimport csv 1\n3,1\nfly\nrefresh\ndump\n";
+
+const OUTPUT: &[u8] =
+    b"unpublished\nedition 1\nrefreshed edition 1 supersteps 3 ending finished calls 5 losses 0\nedition 2\nerror 1 line 9\nrefreshed edition 2 supersteps 4 ending finished calls 6 losses 0\nvalue 1 0\nvalue 2 5\nvalue 3 6\nend 3\n";
+
+// Gives its text a byte a call, and fails at the nth call.
+#[derive(Drop)]
+struct NthReader<'a> {
+    text: &'a [u8],
+    calls_left: usize,
+}
+
+impl<'a> Read for NthReader<'a> {
+    fn read(&mut self, buf: &mut [u8]) -> io::Result<usize> {
+        if self.calls_left == 0 {
+            return Err(io::Error::from(io::ErrorKind::BrokenPipe));
+        }
+        self.calls_left -= 1;
+        match (self.text.split_first(), buf.first_mut()) {
+            (Some((byte, rest)), Some(place)) => {
+                *place = *byte;
+                self.text = rest;
+                Ok(1)
+            }
+            _ => Ok(0),
+        }
+    }
+}
+
+// Keeps what it is given, and fails at the nth call.
+#[derive(Drop)]
+struct NthWriter {
+    written: Vec<u8>,
+    calls_left: usize,
+}
+
+impl Write for NthWriter {
+    fn write(&mut self, buf: &[u8]) -> io::Result<usize> {
+        if self.calls_left == 0 {
+            return Err(io::Error::from(io::ErrorKind::BrokenPipe));
+        }
+        self.calls_left -= 1;
+        self.written.extend_from_slice(buf)?;
+        Ok(buf.len())
+    }
+
+    fn flush(&mut self) -> io::Result<()> {
+        Ok(())
+    }
+}
+
+// How many lines of `whole` there are in a text that it begins with, or none where it doesn't.
+fn lines_of_front(whole: &[u8], text: &[u8]) -> Option<usize> {
+    if !whole.starts_with(text) {
+        return None;
+    }
+    Some(text.iter().filter(|byte| **byte == b'\n').count())
+}
+
+// The edition that a session has come to with so many lines of the output.
+fn edition_after(lines: usize) -> u64 {
+    match lines {
+        0 | 1 => 0,
+        2 | 3 => 1,
+        _ => 2,
+    }
+}
+
+fn service(alloc: Global) -> Result<Service, Fail> {
+    let source = VertexId::new(1).ok_or("an id")?;
+    Ok(Service::new(alloc, source, 1000))
+}
+
+// A session whose nth read fails has answered the commands that were read until then, and no other.
+fn read_fails_at(rt: &impl Abort, alloc: Global, calls: usize) -> Result<bool, Fail> {
+    let mut service = service(alloc)?;
+    let broken = NthReader {
+        text: INPUT,
+        calls_left: calls,
+    };
+    let mut reader = BufReader::with_capacity(alloc, 16, broken)?;
+    let mut writer = Vec::new(alloc);
+    let served = serve(alloc, &mut reader, &mut writer, &mut service);
+    let lines = lines_of_front(OUTPUT, writer.as_slice()).ok_or("another output")?;
+    assert_eq!(rt; service.edition().number(), edition_after(lines));
+    if served == Ok(()) {
+        assert_eq!(rt; writer.as_slice(), OUTPUT);
+        return Ok(true);
+    }
+    assert_eq!(rt; served, Err(ServeFault::Read));
+    assert!(rt; writer.is_empty() || writer.last() == Some(&b'\n'));
+    Ok(false)
+}
+
+#[test]
+fn each_read_fails_in_turn(rt: HostRuntime) -> Result<(), Fail> {
+    let alloc = rt.alloc();
+    let mut whole = 0;
+    for calls in 0..INPUT.len() + 2 {
+        if read_fails_at(&rt, alloc, calls)? {
+            whole += 1;
+        }
+    }
+    assert_eq!(&rt; whole, 1);
+    Ok(())
+}
+
+// A session whose nth write fails has carried out the command whose answer couldn't be written, and none after it.
+fn write_fails_at(rt: &impl Abort, alloc: Global, calls: usize) -> Result<bool, Fail> {
+    let mut service = service(alloc)?;
+    let mut reader = INPUT;
+    let mut writer = NthWriter {
+        written: Vec::new(alloc),
+        calls_left: calls,
+    };
+    let served = serve(alloc, &mut reader, &mut writer, &mut service);
+    let lines = lines_of_front(OUTPUT, writer.written.as_slice()).ok_or("another output")?;
+    if served == Ok(()) {
+        assert_eq!(rt; writer.written.as_slice(), OUTPUT);
+        return Ok(true);
+    }
+    assert_eq!(rt; served, Err(ServeFault::Write));
+    assert_eq!(rt; service.edition().number(), edition_after(lines + 1));
+    Ok(false)
+}
+
+#[test]
+fn each_write_fails_in_turn(rt: HostRuntime) -> Result<(), Fail> {
+    let alloc = rt.alloc();
+    let mut failed = 0;
+    for calls in 0..1000 {
+        if write_fails_at(&rt, alloc, calls)? {
+            break;
+        }
+        failed += 1;
+    }
+    assert!(&rt; 9 < failed && failed < 1000);
+    Ok(())
+}
