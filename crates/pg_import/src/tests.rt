@@ -1,7 +1,8 @@
 use crate::{
     ImportFault, Line, Words, bare_line, into_batch, read_csv, read_id, read_list, read_weight,
 };
-use pg_graph::{Edit, Graph};
+use pg_graph::{Batch, Edit, Graph};
+use std::alloc::Global;
 use std::fmt::Write;
 use std::process::Abort;
 use std::test::Fail;
@@ -26,6 +27,20 @@ fn has_fault(rt: &impl Abort, answer: Result<Vec<Line>, ImportFault>, fault: (u6
         Ok(lines) => assert_eq!(rt; lines.len(), usize::MAX, "no fault"),
         Err(found) => assert_eq!(rt; (found.line, found.kind.number()), fault),
     }
+}
+
+// Each row as `id:input[target=weight,]`.
+fn text_of(alloc: Global, graph: &Graph) -> Result<String, Fail> {
+    let mut text = String::new(alloc);
+    for (id, row) in graph.iter() {
+        let input = row.input;
+        write!(text, "{id}:{input}[")?;
+        for (target, weight) in row.edges.as_slice() {
+            write!(text, "{target}={weight},")?;
+        }
+        write!(text, "]")?;
+    }
+    Ok(text)
 }
 
 #[test]
@@ -170,6 +185,44 @@ fn batches(rt: HostRuntime) -> Result<(), Fail> {
         Edit::SetEdge(five, five, 2),
     ];
     assert_eq!(rt; batch.as_slice(), edits.as_slice());
+    Ok(())
+}
+
+// 1 and 3 are there, and so is the edge from 1 to 2, whose target isn't.
+#[test]
+fn adds_only_what_the_graph_lacks(rt: HostRuntime) -> Result<(), Fail> {
+    let alloc = rt.alloc();
+    let one = read_id(b"1").expect(&rt, "an id");
+    let two = read_id(b"2").expect(&rt, "an id");
+    let three = read_id(b"3").expect(&rt, "an id");
+    let nine = read_id(b"9").expect(&rt, "an id");
+    let mut before = Batch::new(alloc);
+    for edit in [
+        Edit::AddVertex(one, 10),
+        Edit::AddEdge(one, two, 5),
+        Edit::AddVertex(three, 30),
+        Edit::AddEdge(three, nine, 2),
+    ] {
+        before.push(edit)?;
+    }
+    let mut graph = Graph::new(alloc);
+    graph.apply(alloc, &before)?;
+    let lines = read_list(alloc, b"1 2 7\n3 1 -4\n3 1 6\n2 3")?;
+    let batch = into_batch(alloc, lines.as_slice(), &graph)?;
+    let edits = [
+        Edit::AddVertex(two, 0),
+        Edit::SetEdge(one, two, 7),
+        Edit::AddEdge(three, one, -4),
+        Edit::SetEdge(three, one, 6),
+        Edit::AddEdge(two, three, 1),
+    ];
+    assert_eq!(rt; batch.as_slice(), edits.as_slice());
+    graph.apply(alloc, &batch)?;
+    assert_eq!(rt;
+        text_of(alloc, &graph)?.as_str(),
+        "1:10[2=7,]2:0[3=1,]3:30[1=6,9=2,]"
+    );
+    assert_eq!(rt; (graph.vertices(), graph.edges()), (3, 4));
     Ok(())
 }
 

@@ -1,6 +1,5 @@
 -- The other ready programs, worked: answers and needed executions of small graphs, computed from the definitions.
-use Rattle.std.proofs.Common.{◌≡◌, ℕ, ℤ, pos, List, [], ◌∷◌, Option, None, Some, refl, Bool, ◌&&◌}
-use Rattle.std.specs.Cmp.Lexicographic.{pointwise}
+use Rattle.std.proofs.Common.{◌≡◌, ℕ, ℤ, pos, List, [], ◌∷◌, None, Some, refl}
 use Rattle.std.specs.Ordering.{int_eq}
 use Rattle.pg_graph.specs.Rows.{Rows}
 use Rattle.pg_graph.specs.EdgeList.{EdgeList}
@@ -11,7 +10,6 @@ use Rattle.pg_model.specs.Run.{first, configuration, length_from, executions_bel
 use Rattle.pg_model.specs.Needed.{inputs_at, needed_below, needed_count}
 use Rattle.pg_model.specs.Programs.{cc, cc_step, max_value, max_step, max_aggregators, indegree, indegree_step, indegree_aggregators, pagerank, pagerank_step, pagerank_aggregators, pagerank_deciding, peel, peel_step, peel_aggregators, tally, tally_step, leaves_all}
 use Rattle.pg_model.specs.declared.run.Ending.TheVariants.{MasterHalted, Finished}
-use Rattle.pg_model.specs.declared.run.Run.{Run}
 
 abbrev plain : Program ℤ ℤ → List Aggregating → Job ℤ ℤ
 plain program aggregators = record { program = program; combining = None; aggregators = aggregators; deciding = leaves_all; limit = 1000 }

@@ -1,5 +1,5 @@
 -- Shortest paths, worked: answers and needed executions of small graphs, computed from the definitions.
-use Rattle.std.proofs.Common.{◌≡◌, ℕ, ℤ, pos, negsuc, List, [], ◌∷◌, Option, None, Some, refl}
+use Rattle.std.proofs.Common.{◌≡◌, ℕ, ℤ, pos, negsuc, [], ◌∷◌, Option, None, Some, refl}
 use Rattle.pg_graph.specs.Rows.{Rows}
 use Rattle.pg_graph.specs.EdgeList.{EdgeList}
 use Rattle.pg_graph.specs.declared.graph.Row.{Row}
@@ -11,7 +11,6 @@ use Rattle.pg_model.specs.Run.{first, configuration, length_from, executions_bel
 use Rattle.pg_model.specs.Needed.{inputs_at, needed_below, needed_count}
 use Rattle.pg_model.specs.Programs.{infinity, sssp, sssp_step, sssp_aggregators, leaves_all}
 use Rattle.pg_model.specs.declared.run.Ending.TheVariants.{Finished, LimitReached}
-use Rattle.pg_model.specs.declared.run.Run.{Run}
 
 abbrev from_1 : Option (Combining ℤ) → ℕ → Job ℤ ℤ
 from_1 combining limit = record { program = sssp 1; combining = combining; aggregators = sssp_aggregators; deciding = leaves_all; limit = limit }

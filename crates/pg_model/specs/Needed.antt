@@ -1,10 +1,9 @@
 -- The inputs of an execution, and the executions that a run needs beside a run that was kept (this project's).
-use Rattle.std.specs.Prelude.{◌≡◌, ℕ, ◌+◌, ◌==◌, nat_lt, zero, suc, Bool, true, false, cond, not, ◌&&◌, List, [], ◌∷◌, map, ℤ, Option, None, Some, ◌≢◌}
+use Rattle.std.specs.Prelude.{◌≡◌, ℕ, ◌+◌, ◌==◌, nat_lt, zero, suc, Bool, true, false, cond, not, ◌&&◌, List, ℤ, Option, None, Some, ◌≢◌}
 use Rattle.std.specs.List.{find, count_by}
 use Rattle.std.specs.Option.{option_and_then, option_eq}
 use Rattle.std.specs.Ordering.{int_eq}
 use Rattle.std.specs.Cmp.Lexicographic.{pointwise}
-use Rattle.pg_graph.specs.EdgeList.{EdgeList}
 use Rattle.pg_graph.specs.Rows.{Rows}
 use Rattle.pg_model.specs.Job.{Inputs, Job}
 use Rattle.pg_model.specs.Superstep.{is_active, inputs_of, view_in}

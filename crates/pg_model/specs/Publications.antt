@@ -1,5 +1,5 @@
 -- What was published: editions with their answers, in a list that only grows at its end.
-use Rattle.std.specs.Prelude.{◌≡◌, ℕ, List, [], ◌∷◌, ◌++◌}
+use Rattle.std.specs.Prelude.{◌≡◌, ℕ, List, ◌++◌}
 use Rattle.pg_model.specs.declared.run.Run.{Run}
 
 -- an edition of the graph, and the answer of the run on it

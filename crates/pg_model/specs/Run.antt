@@ -1,10 +1,10 @@
 -- A run: supersteps 0, 1, 2 and so on until one ends it, and its answer (Pregel, section 2).
-use Rattle.std.specs.Prelude.{ℕ, zero, suc, ◌+◌, ◌-◌, pred, Bool, false, List, [], map, Option, Some, is_some, cond}
+use Rattle.std.specs.Prelude.{ℕ, zero, suc, ◌+◌, ◌-◌, false, List, [], map, Option, is_some, cond}
 use Rattle.std.specs.Option.{unwrap_or}
 use Rattle.std.specs.List.{count_by}
 use Rattle.pg_graph.specs.Rows.{Rows, vertex_count, edge_count}
 use Rattle.pg_graph.specs.declared.graph.Row.{Row}
-use Rattle.pg_model.specs.Job.{Program, Aggregating, Totals, Job}
+use Rattle.pg_model.specs.Job.{Program, Totals, Job}
 use Rattle.pg_model.specs.Superstep.{is_active, next, ending}
 use Rattle.pg_model.specs.declared.configuration.Standing.{Standing}
 use Rattle.pg_model.specs.declared.configuration.Configuration.{Configuration}

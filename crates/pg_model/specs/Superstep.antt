@@ -1,5 +1,5 @@
 -- One superstep over the whole graph (Pregel, section 2: the model of computation).
-use Rattle.std.specs.Prelude.{ℕ, ◌+◌, ◌-◌, ◌^◌, ◌==◌, min, Bool, true, false, cond, not, ◌&&◌, ◌||◌, List, [], ◌∷◌, map, length, ℤ, Option, None, Some}
+use Rattle.std.specs.Prelude.{ℕ, ◌+◌, ◌-◌, ◌^◌, ◌==◌, min, Bool, cond, not, ◌||◌, List, [], ◌∷◌, map, length, ℤ, Option, None, Some}
 use Rattle.std.specs.List.{filter, flat_map, fold, count_by, list_any, list_all}
 use Rattle.pg_model.specs.Job.{Inputs, Program, Combining, Aggregating, Totals, Deciding, Decision, Job, has_place}
 use Rattle.pg_model.specs.declared.configuration.VertexState.{VertexState}

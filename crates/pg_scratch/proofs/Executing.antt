@@ -1,7 +1,7 @@
 -- One execution, and the vertices that aren't executed.
-use Rattle.std.proofs.Common.{◌≡◌, ℕ, ◌+◌, Bool, true, false, cond, not, ◌||◌, List, [], ◌∷◌, ◌++◌, length, refl, sym, ap, ◌∙◌, subst, arith, rules, tests, min}
+use Rattle.std.proofs.Common.{◌≡◌, ℕ, ◌+◌, Bool, true, false, cond, not, ◌||◌, List, [], ◌∷◌, ◌++◌, refl, sym, ap, ◌∙◌, arith, rules, tests}
 use Rattle.std.proofs.lemmas.List.{append-nil}
-use Rattle.pg_model.specs.Job.{Inputs, Program}
+use Rattle.pg_model.specs.Job.{Program}
 use Rattle.pg_model.specs.Superstep.{is_active, is_empty, idle, inputs_of, outcome, state_after, capped}
 use Rattle.pg_model.specs.declared.configuration.Standing.{Standing}
 use Rattle.pg_model.specs.declared.configuration.VertexState.{VertexState}

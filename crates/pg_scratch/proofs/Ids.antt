@@ -1,7 +1,7 @@
 -- A search among rising ids.
-use Rattle.std.proofs.Common.{◌≡◌, ◌≢◌, ℕ, zero, suc, ◌+◌, ◌<◌, ◌≤◌, true, false, ◌||◌, List, [], ◌∷◌, length, get_or, Some, Ordering, refl, ⊎_elim, sym, ap, ◌∙◌, arith, rules, tests}
+use Rattle.std.proofs.Common.{◌≡◌, ℕ, suc, ◌<◌, ◌≤◌, false, ◌||◌, List, [], ◌∷◌, length, get_or, Some, refl, ⊎_elim, ap, ◌∙◌, arith}
 use Rattle.std.specs.Prelude.{◌==◌}
-use Rattle.std.specs.List.{HoldsAt, AllWithin, slice_get}
+use Rattle.std.specs.List.{HoldsAt, slice_get}
 use Rattle.std.specs.List.Sorted.{IsPartitionPoint, IsStrictlySortedBy, IsNonDecreasingBy}
 use Rattle.std.specs.Ordering.{nat_cmp, ordering_index}
 use Rattle.std.specs.declared.cmp.Ordering.TheVariants.{Less, Equal, Greater}

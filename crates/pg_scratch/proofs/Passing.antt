@@ -1,25 +1,24 @@
 -- A pass over the places of a list, which leaves out idle vertices alone.
-use Rattle.std.proofs.Common.{◌≡◌, ℕ, zero, suc, ◌+◌, ◌-◌, ◌^◌, ◌<◌, ◌≤◌, min, Bool, true, false, cond, not, ◌||◌, List, [], ◌∷◌, ◌++◌, length, map, get_or, set, take, drop, Option, None, Some, refl, sym, ap, ◌∙◌, subst, inl, inr, ⊎_elim, arith, rules, tests}
+use Rattle.std.proofs.Common.{◌≡◌, ℕ, zero, suc, ◌+◌, ◌-◌, ◌^◌, ◌<◌, ◌≤◌, Bool, true, false, cond, not, ◌||◌, List, [], ◌∷◌, ◌++◌, length, map, get_or, set, take, drop, None, Some, refl, sym, ap, ◌∙◌, subst, ⊎_elim, arith, rules, tests}
 use Rattle.std.specs.Prelude.{◌==◌, ℤ}
-use Rattle.std.specs.List.{slice_get, count_by, flat_map}
+use Rattle.std.specs.List.{slice_get, count_by}
 use Rattle.std.specs.List.Sorted.{IsStrictlySortedBy}
 use Rattle.std.specs.Option.{option_map}
 use Rattle.std.specs.Ordering.{nat_cmp}
 use Rattle.std.proofs.lemmas.Bool.{cases_lt}
 use Rattle.std.proofs.lemmas.List.{flat_map_more, append-nil, length-map}
-use Rattle.std.proofs.lemmas.List.Concat.{flat_map-append}
 use Rattle.std.proofs.lemmas.List.Sums.{sum_by_push}
 use Rattle.std.proofs.lemmas.Map.Keys.{below_from_sorted}
-use Rattle.std.proofs.lemmas.Option.{slice_get-map, slice_get_within, slice_get-get_or, get_or_from_slice_get}
+use Rattle.std.proofs.lemmas.Option.{slice_get-map, slice_get_within}
 use Rattle.pg_model.specs.Job.{Program}
-use Rattle.pg_model.specs.Superstep.{is_active, outcome, state_after, has_id, capped, sends, contributions}
+use Rattle.pg_model.specs.Superstep.{is_active, outcome, has_id, capped, sends, contributions}
 use Rattle.pg_model.specs.declared.configuration.Standing.{Standing}
 use Rattle.pg_model.specs.declared.view.View.{View}
 use Rattle.pg_model.specs.declared.view.Declared.{Declared}
 use Rattle.pg_program.specs.Context.{Context, ShowsDeclared}
 use Rattle.pg_scratch.specs.Pass.{ran, context_after, ran_context, with_unhalted}
 use Rattle.pg_scratch.specs.Worklist.{ListsActive}
-use Rattle.pg_scratch.proofs.Delivering.{has_id-push, slice_get-set}
+use Rattle.pg_scratch.proofs.Delivering.{has_id-push}
 use Rattle.pg_scratch.proofs.Executing.{ran-idle, idle_halted, context_after-idle}
 
 -- ---- lists of which the first i elements are changed

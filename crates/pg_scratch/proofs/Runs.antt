@@ -1,7 +1,7 @@
 -- A run from its first superstep to its last.
-use Rattle.std.proofs.Common.{◌≡◌, ℕ, zero, suc, ℤ, ◌+◌, ◌-◌, ◌^◌, ◌<◌, ◌≤◌, min, Bool, true, false, cond, not, ◌||◌, List, [], ◌∷◌, ◌++◌, length, map, Option, None, Some, is_some, ⊎_elim, refl, sym, ap, ◌∙◌, subst, add-one, arith, rules, tests}
+use Rattle.std.proofs.Common.{◌≡◌, ℕ, zero, suc, ℤ, ◌+◌, ◌-◌, ◌^◌, ◌<◌, ◌≤◌, Bool, true, false, cond, not, ◌||◌, List, [], ◌∷◌, ◌++◌, length, map, Option, None, Some, is_some, ⊎_elim, refl, sym, ap, ◌∙◌, subst, arith, rules, tests}
 use Rattle.std.specs.Prelude.{◌==◌}
-use Rattle.std.specs.List.{slice_get, count_by, list_all, range_with_len, AllByRecursion}
+use Rattle.std.specs.List.{count_by, list_all, range_with_len, AllByRecursion}
 use Rattle.std.specs.List.Sorted.{IsStrictlySortedBy}
 use Rattle.std.specs.Map.{keys_of}
 use Rattle.std.specs.Option.{unwrap_or}
@@ -11,9 +11,8 @@ use Rattle.std.proofs.lemmas.Bool.{cases_lt}
 use Rattle.std.proofs.lemmas.Bool.Decides.{nat_tests}
 use Rattle.std.proofs.lemmas.List.{length-map}
 use Rattle.std.proofs.lemmas.Option.{slice_get_within}
-use Rattle.pg_graph.specs.Rows.{Rows, vertex_count, edge_count}
-use Rattle.pg_graph.specs.declared.graph.Row.{Row}
-use Rattle.pg_model.specs.Job.{Program, Combining, Aggregating, Totals, Job}
+use Rattle.pg_graph.specs.Rows.{Rows}
+use Rattle.pg_model.specs.Job.{Program, Combining, Totals, Job}
 use Rattle.pg_model.specs.Run.{totals_of, beginning, first, configuration, ending_after, run_length, executions_below, executions, executed, answer, values_of}
 use Rattle.pg_model.specs.Superstep.{is_active, ids, has_id, visible, next, capped}
 use Rattle.pg_model.specs.declared.configuration.Standing.{Standing}

@@ -1,22 +1,21 @@
 -- What a superstep's parts come to.
-use Rattle.std.proofs.Common.{◌≡◌, ℕ, zero, suc, ℤ, ◌+◌, ◌-◌, ◌*◌, ◌/◌, ◌%◌, ◌^◌, ◌<◌, ◌≤◌, min, Bool, true, false, cond, not, ◌&&◌, ◌||◌, List, [], ◌∷◌, ◌++◌, length, map, get_or, Option, None, Some, ⊎_elim, refl, sym, ap, ◌∙◌, subst, arith, rules, tests}
+use Rattle.std.proofs.Common.{◌≡◌, ℕ, zero, suc, ℤ, ◌+◌, ◌*◌, ◌/◌, ◌%◌, ◌^◌, ◌<◌, ◌≤◌, Bool, true, false, cond, not, ◌&&◌, List, [], ◌∷◌, length, map, get_or, Option, None, Some, ⊎_elim, refl, sym, ap, ◌∙◌, arith, rules, tests}
 use Rattle.std.specs.Prelude.{◌==◌, is_some}
-use Rattle.std.specs.List.{AllByRecursion, slice_get, count_by, list_all}
+use Rattle.std.specs.List.{AllByRecursion, slice_get, list_all}
 use Rattle.std.proofs.Math.Nat.{lt-div-mul-add, div-eq_of_lt, pow-le-pow_right, zero-mul}
 use Rattle.std.proofs.lemmas.Bool.{cases_lt}
 use Rattle.std.proofs.lemmas.Nat.{pow_pos}
-use Rattle.pg_model.specs.Job.{Program, Combining, Aggregating, Totals, Deciding, Job, has_place}
-use Rattle.pg_model.specs.Superstep.{is_active, ids, outcome, state_after, sends, contributions, delivered, dropped_count, shown, view_of, visible_in, gathered_from, next, standings_after, capped}
+use Rattle.pg_model.specs.Job.{Program, Combining, Totals, Job, has_place}
+use Rattle.pg_model.specs.Superstep.{is_active, ids, outcome, state_after, sends, contributions, delivered, dropped_count, shown, view_of, visible_in, gathered_from, next, capped}
 use Rattle.pg_model.specs.declared.configuration.Standing.{Standing}
 use Rattle.pg_model.specs.declared.configuration.Configuration.{Configuration}
 use Rattle.pg_model.specs.declared.view.Declared.{Declared}
 use Rattle.pg_model.specs.declared.view.View.{View}
 use Rattle.pg_model.specs.declared.view.Visible.{Visible}
-use Rattle.pg_program.specs.Context.{Context, ShowsDeclared, IsShown}
+use Rattle.pg_program.specs.Context.{ShowsDeclared}
 use Rattle.pg_global.specs.Master.{has_places}
 use Rattle.pg_scratch.specs.Inbox.{with_messages}
 use Rattle.pg_scratch.specs.Pass.{ran}
-use Rattle.pg_scratch.specs.Progress.{IsReady}
 use Rattle.pg_scratch.specs.Worklist.{ListsActive}
 use Rattle.pg_scratch.proofs.Passing.{element, listed_place, place_listed}
 

@@ -1,5 +1,5 @@
 -- Lists of the places of active vertices, so that a superstep costs what its active vertices cost.
-use Rattle.std.specs.Prelude.{◌≡◌, ℕ, ◌<◌, true, List, length, Option, Some}
+use Rattle.std.specs.Prelude.{◌≡◌, ℕ, ◌<◌, true, List, length, Some}
 use Rattle.std.specs.List.{slice_get}
 use Rattle.pg_model.specs.Superstep.{is_active, has_id}
 use Rattle.pg_model.specs.declared.configuration.Standing.{Standing}

@@ -11,6 +11,8 @@ mod gathering;
 mod inbox;
 mod runner;
 mod superstep;
+#[cfg(test)]
+mod tests;
 mod worklist;
 
 pub use runner::{RunFault, run};

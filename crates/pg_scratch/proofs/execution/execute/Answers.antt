@@ -1,4 +1,4 @@
-use Rattle.std.proofs.Common.{◌≡◌, false, refl, ap, ◌∙◌}
+use Rattle.std.proofs.Common.{false, refl, ap, ◌∙◌}
 use Rattle.pg_model.specs.declared.configuration.VertexState.{VertexState}
 use Rattle.pg_scratch.proofs.Executing.{ran-executed, context-executed}
 use Rattle.pg_scratch.proofs.execution.execute.Goals as goal

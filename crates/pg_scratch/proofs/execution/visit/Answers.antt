@@ -1,4 +1,4 @@
-use Rattle.std.proofs.Common.{◌≡◌, sym, ◌∙◌}
+use Rattle.std.proofs.Common.{sym, ◌∙◌}
 use Rattle.pg_scratch.proofs.Executing.{ran-idle, context_after-idle, context_after-active}
 use Rattle.pg_scratch.proofs.execution.visit.Goals as goal
 

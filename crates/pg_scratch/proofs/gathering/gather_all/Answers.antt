@@ -1,4 +1,4 @@
-use Rattle.std.proofs.Common.{◌≡◌, ap, ◌∙◌, map}
+use Rattle.std.proofs.Common.{ap, ◌∙◌, map}
 use Rattle.pg_model.specs.Superstep.{gathered_from}
 use Rattle.pg_global.specs.Registry.{aggregating_of}
 use Rattle.pg_scratch.proofs.Contributing.{length-so_far, gathered-added, added-next}

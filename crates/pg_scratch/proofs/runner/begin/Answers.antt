@@ -1,4 +1,4 @@
-use Rattle.std.proofs.Common.{◌≡◌, ℕ, ◌+◌, ap, sym, ◌∙◌, List, length, [], ◌∷◌, ◌++◌, arith}
+use Rattle.std.proofs.Common.{◌≡◌, ℕ, ◌+◌, ap, sym, ◌∙◌, length, [], ◌∷◌, ◌++◌, arith}
 use Rattle.std.specs.List.{range_with_len}
 use Rattle.pg_scratch.proofs.Runs.{range-push}
 use Rattle.pg_scratch.proofs.runner.begin.Goals as goal

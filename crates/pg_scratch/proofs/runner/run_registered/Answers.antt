@@ -1,4 +1,4 @@
-use Rattle.std.proofs.Common.{◌≡◌, ℕ, ◌+◌, ap, sym, ◌∙◌, List, length, arith}
+use Rattle.std.proofs.Common.{◌≡◌, ℕ, ap, sym, ◌∙◌, length, arith}
 use Rattle.pg_graph.specs.Rows.{vertex_count}
 use Rattle.pg_model.specs.Job.{Totals}
 use Rattle.pg_model.specs.Run.{totals_of}

@@ -1,5 +1,5 @@
 use Rattle.pg_scratch.proofs.Passing.{place_listed}
-use Rattle.pg_scratch.proofs.Stepping.{anyone_active, nobody_active, idle_more}
+use Rattle.pg_scratch.proofs.Stepping.{anyone_active, nobody_active}
 use Rattle.pg_scratch.proofs.superstep.is_anyone_active.Goals as goal
 
 pub is_active_at-requires : goal.is_active_at-requires

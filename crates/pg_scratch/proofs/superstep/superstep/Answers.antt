@@ -1,7 +1,5 @@
-use Rattle.std.proofs.Common.{◌≡◌, ℕ, ◌+◌, ap, sym, ◌∙◌}
-use Rattle.pg_model.specs.Superstep.{capped, ids}
-use Rattle.pg_model.specs.declared.configuration.Standing.{Standing}
-use Rattle.pg_scratch.proofs.Stepping.{shows_declared, ids-ran, empty-ran}
+use Rattle.std.proofs.Common.{ℕ, ◌+◌, ap, ◌∙◌}
+use Rattle.pg_model.specs.Superstep.{capped}
 use Rattle.pg_scratch.proofs.Whole.{stepped, counted, still_ready, shown_in, received_none, ids_stay}
 use Rattle.pg_scratch.proofs.superstep.superstep.Goals as goal
 
