@@ -5,6 +5,7 @@ ghost use Rattle.std.specs.Map.{remove_entry};
 ghost use Rattle.std.specs.Ordering.{nat_cmp};
 ghost use Rattle.pg_graph.specs.Changes.{changed_row_at};
 
+mod listed;
 mod row;
 
 use crate::entries::put;
