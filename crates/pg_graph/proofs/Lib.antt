@@ -1,3 +1,4 @@
+pub mod AtPlace
 pub mod Batches
 pub mod Changing
 pub mod Drafting

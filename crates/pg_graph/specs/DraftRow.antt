@@ -2,12 +2,13 @@
 use Rattle.pg_graph.specs.EdgeList.{EdgeList}
 use Rattle.pg_graph.specs.declared.graph.Row.{Row}
 use Rattle.pg_graph.specs.declared.draft.row.DraftEdges.{DraftEdges}
-use Rattle.pg_graph.specs.declared.draft.row.DraftEdges.TheVariants.{Kept, Edited}
+use Rattle.pg_graph.specs.declared.draft.row.DraftEdges.TheVariants.{Kept, Listed, Mapped}
 use Rattle.pg_graph.specs.declared.draft.row.DraftRow.TheInside.{Inside}
 
 abbrev pub edges_in : DraftEdges → EdgeList
 edges_in (Kept edges) = edges
-edges_in (Edited edges) = edges.entries
+edges_in (Listed edges) = edges
+edges_in (Mapped edges) = edges.entries
 
 abbrev pub row_in : Inside → Row
 row_in row = record { input = row.input; edges = edges_in row.edges }

@@ -5,4 +5,5 @@ pub mod EdgeList
 pub mod Edges
 pub mod Edit
 pub mod EditKind
+pub mod Places
 pub mod Rows

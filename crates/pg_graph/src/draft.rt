@@ -5,6 +5,7 @@ ghost use Rattle.std.specs.Map.{remove_entry};
 ghost use Rattle.std.specs.Ordering.{nat_cmp};
 ghost use Rattle.pg_graph.specs.Changes.{changed_row_at};
 
+mod listed;
 mod row;
 
 use crate::entries::put;
@@ -31,9 +32,9 @@ pub(crate) struct Changes {
     pub(crate) edges: u64,
 }
 
-/// A graph with edits that aren't made of it yet. Each costs O(log k) for k changed vertices, beside
-/// one copy of the edges of each vertex where edges are edited. A contract sees the graph, and what
-/// the edits have made of it.
+/// A graph with edits that aren't made of it yet. Each costs O(log(n + k)) for n vertices and k changed
+/// ones, and O(log d) where it edits one of d edges. Beside that, all edits of the edges of one vertex
+/// cost O(d log d) together. A contract sees the graph, and what the edits have made of it.
 #[derive(Drop)]
 pub(crate) struct Draft<'a> {
     graph: &'a Graph,

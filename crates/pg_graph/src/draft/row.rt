@@ -2,35 +2,100 @@
 ghost use Rattle.std.specs.Prelude.{◌≡◌, ◌+◌, [], length, is_some, IfOk, if◌then◌else◌};
 ghost use Rattle.pg_graph.specs.EdgeList.{IsRising, weight_at, with_edge, without_edge};
 
+use super::listed::ListedEdges;
 use crate::entries::put;
 use crate::{Edges, Memory, Row, VertexId};
 use std::alloc::Global;
 use std::collections::BTreeMap;
 use std::marker::Model;
 
-/// The out-edges of a row that is being edited: those of a graph, or from the first edit on a map.
+/// The out-edges of a row that is being edited: those of a graph, from the first edit on a list of
+/// their own, and a map where the list has had all edits that it takes.
 #[derive(Drop)]
 pub(crate) enum DraftEdges {
     Kept(Edges),
-    Edited(BTreeMap<VertexId, i64>),
+    Listed(ListedEdges),
+    Mapped(BTreeMap<VertexId, i64>),
 }
 
 impl DraftEdges {
     ghost use Rattle.pg_graph.specs.DraftRow.{edges_in};
 
-    /// The edges as a map, which is made of kept ones in O(d log d) for d edges.
+    /// The edges with the one to `target`, in the place of the one that was there.
+    fn with_edge(self, alloc: Global, target: VertexId, weight: i64) -> Result<DraftEdges, Memory>
+        ensures value { IfOk result (λ edges. edges_in edges ≡ with_edge target weight (edges_in self)) }
+        ensures degree { IfOk result
+            (λ edges. length (edges_in edges) + (if is_some (weight_at target (edges_in self)) then 1 else 0)
+            ≡ length (edges_in self) + 1) }
+    {
+        match self.opened(alloc)? {
+            DraftEdges::Listed(mut listed) => {
+                listed.put(target, weight)?;
+                Ok(DraftEdges::Listed(listed))
+            }
+            edges => {
+                let mut map = edges.into_map(alloc)?;
+                map.insert(target, weight)?;
+                Ok(DraftEdges::Mapped(map))
+            }
+        }
+    }
+
+    /// The edges without the one to `target`.
+    fn without_edge(self, alloc: Global, target: VertexId) -> Result<DraftEdges, Memory>
+        ensures value { IfOk result (λ edges. edges_in edges ≡ without_edge target (edges_in self)) }
+        ensures degree { IfOk result
+            (λ edges. length (edges_in edges) + (if is_some (weight_at target (edges_in self)) then 1 else 0)
+            ≡ length (edges_in self)) }
+    {
+        match self.opened(alloc)? {
+            DraftEdges::Listed(mut listed) => {
+                listed.remove(target);
+                Ok(DraftEdges::Listed(listed))
+            }
+            edges => {
+                let mut map = edges.into_map(alloc)?;
+                map.remove(&target);
+                Ok(DraftEdges::Mapped(map))
+            }
+        }
+    }
+
+    /// The same edges, on a list that takes one more edit or on a map. A list is made in O(d) for d
+    /// edges, and a map in O(d log d).
+    fn opened(self, alloc: Global) -> Result<DraftEdges, Memory>
+        ensures { IfOk result (λ edges. edges_in edges ≡ edges_in self) }
+    {
+        match self {
+            DraftEdges::Kept(edges) => {
+                let listed = ListedEdges::of(alloc, edges.as_slice())?;
+                Ok(DraftEdges::Listed(listed))
+            }
+            DraftEdges::Listed(listed) => {
+                if listed.is_worn() {
+                    let map = map_of(alloc, listed.as_slice())?;
+                    return Ok(DraftEdges::Mapped(map));
+                }
+                Ok(DraftEdges::Listed(listed))
+            }
+            DraftEdges::Mapped(map) => Ok(DraftEdges::Mapped(map)),
+        }
+    }
+
+    /// The edges as a map, in O(d log d) for d edges that aren't on one.
     fn into_map(self, alloc: Global) -> Result<BTreeMap<VertexId, i64>, Memory>
         ensures { IfOk result (λ map. map.entries ≡ edges_in self) }
     {
         match self {
             DraftEdges::Kept(edges) => map_of(alloc, edges.as_slice()),
-            DraftEdges::Edited(map) => Ok(map),
+            DraftEdges::Listed(listed) => map_of(alloc, listed.as_slice()),
+            DraftEdges::Mapped(map) => Ok(map),
         }
     }
 }
 
-/// A row that is being edited, at a cost of O(log d) an edge for d edges, once its edges have been
-/// copied. A contract sees the row.
+/// A row that is being edited. With d edges, all edits of it together cost O(d log d), and each of
+/// them O(log d) beside. A contract sees the row.
 #[derive(Drop)]
 pub(crate) struct DraftRow {
     input: i64,
@@ -77,7 +142,8 @@ impl DraftRow {
     {
         match &self.edges {
             DraftEdges::Kept(edges) => edges.as_slice().len() as u64,
-            DraftEdges::Edited(map) => map.len() as u64,
+            DraftEdges::Listed(listed) => listed.as_slice().len() as u64,
+            DraftEdges::Mapped(map) => map.len() as u64,
         }
     }
 
@@ -87,7 +153,8 @@ impl DraftRow {
     {
         match &self.edges {
             DraftEdges::Kept(edges) => edges.weight(target).is_some(),
-            DraftEdges::Edited(map) => map.contains_key(&target),
+            DraftEdges::Listed(listed) => listed.has(target),
+            DraftEdges::Mapped(map) => map.contains_key(&target),
         }
     }
 
@@ -112,12 +179,8 @@ impl DraftRow {
             ≡ length self.edges + 1) }
     {
         let DraftRow { input, edges } = self;
-        let mut map = edges.into_map(alloc)?;
-        map.insert(target, weight)?;
-        Ok(DraftRow {
-            input,
-            edges: DraftEdges::Edited(map),
-        })
+        let edges = edges.with_edge(alloc, target, weight)?;
+        Ok(DraftRow { input, edges })
     }
 
     /// The row without the edge to `target`.
@@ -128,12 +191,8 @@ impl DraftRow {
             ≡ length self.edges) }
     {
         let DraftRow { input, edges } = self;
-        let mut map = edges.into_map(alloc)?;
-        map.remove(&target);
-        Ok(DraftRow {
-            input,
-            edges: DraftEdges::Edited(map),
-        })
+        let edges = edges.without_edge(alloc, target)?;
+        Ok(DraftRow { input, edges })
     }
 
     /// The row as a graph holds it.
@@ -143,7 +202,8 @@ impl DraftRow {
         let DraftRow { input, edges } = self;
         let edges = match edges {
             DraftEdges::Kept(edges) => edges,
-            DraftEdges::Edited(map) => edges_of(alloc, &map)?,
+            DraftEdges::Listed(listed) => listed.into_edges(alloc)?,
+            DraftEdges::Mapped(map) => edges_of(alloc, &map)?,
         };
         Ok(Row { input, edges })
     }
