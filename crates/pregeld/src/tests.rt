@@ -5,6 +5,7 @@ use pg_model::{Ending, Run};
 use pg_program::Meter;
 use pg_scratch::{RunFault, run};
 use std::alloc::Global;
+use std::io::Write;
 use std::process::Abort;
 use std::test::Fail;
 
@@ -131,6 +132,77 @@ fn imports(rt: HostRuntime) {
         "edition 1\nrefreshed edition 1 supersteps 3 ending finished calls 5 losses 0\nvalue 1 0\nvalue 2 5\nvalue 3 6\nend 3\n",
     );
     prints(&rt, alloc, b"import list 0\n", "edition 1\n");
+    prints(&rt, alloc, b"import list 1\n1 2", "edition 1\n");
+    prints(
+        &rt,
+        alloc,
+        b"import list 5\n# edges\n1\t2\r\n1 2 7\n\n3 1 -4\nrefresh\ndump\n",
+        "edition 1\nrefreshed edition 1 supersteps 2 ending finished calls 4 losses 0\nvalue 1 0\nvalue 2 7\nvalue 3 9223372036854775807\nend 3\n",
+    );
+}
+
+#[test]
+fn import_limits(rt: HostRuntime) {
+    let alloc = rt.alloc();
+    prints(
+        &rt,
+        alloc,
+        b"import list 1\n1 9223372036854775808\n",
+        "import refused 3 line 1\n",
+    );
+    prints(
+        &rt,
+        alloc,
+        b"import list 1\n1 2 -9223372036854775808\n",
+        "edition 1\n",
+    );
+    prints(
+        &rt,
+        alloc,
+        b"import list 1\n1 2 \xff\n",
+        "import refused 2 line 1\n",
+    );
+    prints(&rt, alloc, b"import list 1\n# \xff\n", "edition 1\n");
+}
+
+// A list of so many edges, none of which shares a vertex with another.
+fn edges_apart(alloc: Global, count: u64) -> Result<Vec<u8>, Fail> {
+    let mut text = Vec::new(alloc);
+    writeln!(&mut text, "import list {count}")?;
+    for edge in 0..count {
+        let source = edge.saturating_mul(2);
+        let target = source.saturating_add(1);
+        writeln!(&mut text, "{source} {target}")?;
+    }
+    Ok(text)
+}
+
+#[test]
+fn the_longest_batch(rt: HostRuntime) -> Result<(), Fail> {
+    let alloc = rt.alloc();
+    let longest = edges_apart(alloc, 33_333)?;
+    prints(&rt, alloc, longest.as_slice(), "edition 1\n");
+    let longer = edges_apart(alloc, 33_334)?;
+    prints(&rt, alloc, longer.as_slice(), "refused 6 position 100001\n");
+    Ok(())
+}
+
+#[test]
+fn a_number_of_a_megabyte(rt: HostRuntime) -> Result<(), Fail> {
+    let alloc = rt.alloc();
+    let mut text = Vec::new(alloc);
+    text.extend_from_slice(b"import list 1\n")?;
+    for _digit in 0..1_048_576 {
+        text.push(b'9')?;
+    }
+    text.extend_from_slice(b" 1\ndump\n")?;
+    prints(
+        &rt,
+        alloc,
+        text.as_slice(),
+        "import refused 3 line 1\nunpublished\n",
+    );
+    Ok(())
 }
 
 #[test]

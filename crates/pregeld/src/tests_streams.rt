@@ -106,10 +106,10 @@ fn read_fails_at(rt: &impl Abort, alloc: Global, calls: usize) -> Result<bool, F
 #[test]
 fn each_read_fails_in_turn(rt: HostRuntime) -> Result<(), Fail> {
     let alloc = rt.alloc();
-    let mut whole = 0;
+    let mut whole = 0_usize;
     for calls in 0..INPUT.len() + 2 {
         if read_fails_at(&rt, alloc, calls)? {
-            whole += 1;
+            whole = whole.saturating_add(1);
         }
     }
     assert_eq!(&rt; whole, 1);
@@ -131,19 +131,22 @@ fn write_fails_at(rt: &impl Abort, alloc: Global, calls: usize) -> Result<bool, 
         return Ok(true);
     }
     assert_eq!(rt; served, Err(ServeFault::Write));
-    assert_eq!(rt; service.edition().number(), edition_after(lines + 1));
+    assert_eq!(rt;
+        service.edition().number(),
+        edition_after(lines.saturating_add(1))
+    );
     Ok(false)
 }
 
 #[test]
 fn each_write_fails_in_turn(rt: HostRuntime) -> Result<(), Fail> {
     let alloc = rt.alloc();
-    let mut failed = 0;
+    let mut failed = 0_usize;
     for calls in 0..1000 {
         if write_fails_at(&rt, alloc, calls)? {
             break;
         }
-        failed += 1;
+        failed = failed.saturating_add(1);
     }
     assert!(&rt; 9 < failed && failed < 1000);
     Ok(())
