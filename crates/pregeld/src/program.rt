@@ -16,7 +16,8 @@ pub fn start<S: AsStr, R: BufRead, W: Write, E: Write>(
     writer: &mut W,
     errors: &mut E,
 ) -> u8
-    ensures { result ≤ 2 }
+    ensures status { result ≤ 2 }
+    ensures untouched { result ≡ 2 → (reader.new ≡ reader.old) × (writer.new ≡ writer.old) }
 {
     let options = match options_of(alloc, words) {
         Ok(options) => options,
