@@ -1,4 +1,6 @@
+pub mod Arguments
 pub mod Command
+pub mod Program
 pub mod Reading
 pub mod Ready
 pub mod Reply

@@ -1,5 +1,5 @@
 -- What a service keeps, and what an edit and a refresh make of it.
-use Rattle.std.specs.Prelude.{◌≡◌, ◌⊎◌, ℕ, ℤ, ◌+◌, nat_lt, if◌then◌else◌, List, Option, Some, Result, Err}
+use Rattle.std.specs.Prelude.{◌≡◌, ◌⊎◌, ℕ, ℤ, ◌+◌, nat_lt, if◌then◌else◌, List, [], Option, None, Some, Result, Err}
 use Rattle.std.specs.Ordering.{int_eq}
 use Rattle.pg_graph.specs.Edit.{batch_edited, memory_fault}
 use Rattle.pg_graph.specs.Rows.{Rows}
@@ -19,6 +19,10 @@ pub record ServiceState : Type 0 where
   pub graph : Rows
   pub edition : ℕ
   pub published : Option (Publication ℤ)
+
+-- a service as it begins: an empty graph, and nothing published
+abbrev pub fresh : ℕ → ℕ → ServiceState
+fresh source limit = record { source = source; limit = limit; graph = []; edition = 0; published = None }
 
 -- no edition is greater
 abbrev pub edition_limit : ℕ

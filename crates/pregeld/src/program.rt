@@ -1,5 +1,7 @@
 //! The program.
-ghost use Rattle.std.specs.Prelude.{◌≡◌, ◌≤◌};
+ghost use Rattle.std.specs.Prelude.{◌≡◌, ◌≤◌, map};
+ghost use Rattle.pregeld.specs.Arguments.{AreAtFault};
+ghost use Rattle.pregeld.specs.Program.{EndsWell};
 
 use crate::options::{NoOptions, options_of};
 use crate::{ServeFault, Service, serve};
@@ -8,7 +10,8 @@ use std::convert::AsStr;
 use std::io::{BufRead, Write};
 
 /// Runs the program on its words, the program's name first, and gives its exit status: 0 at the end of
-/// the input or after help; 1 where memory, the input or the output failed; 2 where the words are at fault.
+/// the input or after help; 1 where memory, the input or the output failed; 2 where the words are at
+/// fault, and then nothing was read or written. With 1 and 2 `errors` is told why, if it can be written.
 pub fn start<S: AsStr, R: BufRead, W: Write, E: Write>(
     alloc: Global,
     words: &[S],
@@ -17,7 +20,9 @@ pub fn start<S: AsStr, R: BufRead, W: Write, E: Write>(
     errors: &mut E,
 ) -> u8
     ensures status { result ≤ 2 }
+    ensures fault { result ≡ 2 → AreAtFault (map S.text words.now) }
     ensures untouched { result ≡ 2 → (reader.new ≡ reader.old) × (writer.new ≡ writer.old) }
+    ensures done { result ≡ 0 → EndsWell (map S.text words.now) (R.remaining reader.old) (W.contents writer.old) (W.contents writer.new) }
 {
     let options = match options_of(alloc, words) {
         Ok(options) => options,

@@ -1,10 +1,10 @@
 //! A graph that is kept, and the answers of the last refresh on it.
-ghost use Rattle.std.specs.Prelude.{◌≡◌, [], ◌+◌, ◌<◌, None, Some, length, Ok, IfOk, IfErr, OnOk, OnErr};
+ghost use Rattle.std.specs.Prelude.{◌≡◌, ◌+◌, ◌<◌, None, Some, length, Ok, IfOk, IfErr, OnOk, OnErr};
 ghost use Rattle.std.specs.Option.{option_copied};
 ghost use Rattle.pg_graph.specs.Rows.{HasRisingIds};
 ghost use Rattle.pg_model.specs.Run.{answer};
 ghost use Rattle.pregeld.specs.Ready.{job};
-ghost use Rattle.pregeld.specs.Service.{RefusesEdition, next_graph, publication_of, report_of};
+ghost use Rattle.pregeld.specs.Service.{RefusesEdition, fresh, next_graph, publication_of, report_of};
 
 use crate::{Answers, ReadyMaster, Report, Sssp};
 use pg_global::AnyCombiner;
@@ -40,7 +40,7 @@ impl Service {
     /// supersteps.
     pub fn new(alloc: Global, source: VertexId, limit: u32) -> Service
         requires { 0 < limit }
-        ensures { result ≡ record { source = source; limit = limit; graph = []; edition = 0; published = None } }
+        ensures { result ≡ fresh source limit }
     {
         Service {
             program: Sssp { source },

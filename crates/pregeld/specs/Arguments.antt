@@ -1,0 +1,86 @@
+-- The words of the program's command line, and what they ask for.
+use Rattle.std.specs.Prelude.{◌≡◌, ◌≢◌, ◌⊎◌, ⊤, ℕ, ◌<◌, ◌^◌, true, List, [], ◌∷◌, map, Option, None, Some, codes}
+use Rattle.std.specs.Str.Parse.{IsNumeral, digits_value, without_leading_plus}
+use Rattle.clap.specs.Words.{App, IsAmong, Rule, Text, fault_of, matches_of, new_app, new_rule, one_of, with_rule}
+use Rattle.clap.specs.declared.builder.action.ArgAction.TheVariants.{Set}
+use Rattle.clap.specs.declared.builder.value_parser.ValueParser.TheVariants.{Names, Unsigned}
+use Rattle.clap.specs.declared.error.kind.ErrorKind.{ErrorKind}
+use Rattle.clap.specs.declared.error.kind.ErrorKind.TheVariants.{DisplayHelp}
+use Rattle.pregeld.specs.declared.options.NoOptions.{NoOptions}
+use Rattle.pregeld.specs.declared.options.NoOptions.TheVariants.{Help, Memory, Arguments}
+use denote.Ref.{Bor}
+
+-- ---- the options that the program takes
+
+-- the names that `--program` may have
+abbrev pub ProgramNames : Type 0
+ProgramNames = Bor (List (Bor (List ℕ)))
+
+abbrev pub AreNames : ProgramNames → Type 0
+AreNames names = map (λ name. name.now) names.now ≡ codes "sssp" ∷ []
+
+abbrev pub program_rule : ProgramNames → Rule
+program_rule names = record (new_rule (codes "program")) { long = Some (codes "program"); action = Some Set; parser = Some (Names names); required = true }
+
+abbrev pub source_rule : Rule
+source_rule = record (new_rule (codes "source")) { long = Some (codes "source"); action = Some Set; parser = Some (Unsigned 0 9223372036854775807); defaults = codes "1" ∷ [] }
+
+abbrev pub limit_rule : Rule
+limit_rule = record (new_rule (codes "limit")) { long = Some (codes "limit"); action = Some Set; parser = Some (Unsigned 1 10000); defaults = codes "1000" ∷ [] }
+
+unfoldable pub program : ProgramNames → App
+program names = with_rule (with_rule (with_rule (new_app (codes "pregeld")) (program_rule names)) source_rule) limit_rule
+
+-- ---- what words ask for
+
+-- a text, where there is one, writes a number of so many bits
+abbrev pub Writes : Option Text → ℕ → ℕ → Type 0
+Writes None bits number = ⊥
+Writes (Some text) bits number =
+    (IsNumeral 10 (without_leading_plus text) × (digits_value 10 (without_leading_plus text) < 2 ^ bits)) × (number ≡ digits_value 10 (without_leading_plus text))
+
+-- the texts of the options write a source and a limit
+pub record Name (source_text limit_text : Option Text) (source limit : ℕ) : Type 0 where
+  pub source_is : Writes source_text 64 source
+  pub source_fits : source < 2 ^ 63
+  pub limit_is : Writes limit_text 32 limit
+  pub limit_fits : 0 < limit
+
+module _ (names : ProgramNames) (words : List Text) where
+  -- the words name this source and this limit
+  abbrev pub NameBoth : ℕ → ℕ → Type 0
+  NameBoth source limit = Name (one_of (codes "source") (matches_of (program names) words)) (one_of (codes "limit") (matches_of (program names) words)) source limit
+
+  -- the words have no fault, and name this source and this limit
+  pub record AskFor (source limit : ℕ) : Type 0 where
+    pub no_fault : fault_of (program names) words ≡ []
+    pub named : NameBoth source limit
+
+  -- the words have a fault, other than that they ask for help
+  pub record HaveFault : Type 0 where
+    pub kind : ErrorKind
+    pub found : IsAmong kind (fault_of (program names) words)
+    pub no_help : kind ≢ DisplayHelp
+
+  -- the words have no fault, but name no source or no limit
+  pub record NameNothing : Type 0 where
+    pub no_fault : fault_of (program names) words ≡ []
+    pub unnamed : (source limit : ℕ) → NameBoth source limit → ⊥
+
+-- the words ask for runs from this source with this limit of supersteps
+abbrev pub AsksForRuns : List Text → ℕ → ℕ → Type 0
+AsksForRuns words source limit = (names : ProgramNames) × AreNames names × AskFor names words source limit
+
+-- the words ask for help
+abbrev pub AsksForHelp : List Text → Type 0
+AsksForHelp words = (names : ProgramNames) × AreNames names × IsAmong DisplayHelp (fault_of (program names) words)
+
+-- the words are at fault
+abbrev pub AreAtFault : List Text → Type 0
+AreAtFault words = (names : ProgramNames) × AreNames names × (HaveFault names words ⊎ NameNothing names words)
+
+-- why there are no options
+abbrev pub Explains : List Text → NoOptions → Type 0
+Explains words (Help error) = AsksForHelp words
+Explains words Memory = ⊤
+Explains words Arguments = AreAtFault words
