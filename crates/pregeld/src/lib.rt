@@ -18,8 +18,3 @@ pub use ready::ReadyMaster;
 pub use service::Service;
 pub use session::{ServeFault, serve};
 pub use sssp::Sssp;
-
-#[cfg(test)]
-mod tests;
-#[cfg(test)]
-mod tests_streams;

@@ -1,6 +1,6 @@
 // Sessions whose reader or writer fails in mid-stream.
-use crate::{ServeFault, Service, serve};
 use pg_graph::VertexId;
+use pregeld::{ServeFault, Service, serve};
 use std::alloc::Global;
 use std::io;
 use std::io::{BufReader, Read, Write};

@@ -1,9 +1,9 @@
-use crate::{ReadyMaster, ServeFault, Service, Sssp, serve, start};
 use pg_global::{AnyCombiner, NoMaster};
 use pg_graph::{Batch, Edit, Edition, Graph, VertexId};
 use pg_model::{Ending, Run};
 use pg_program::Meter;
 use pg_scratch::{RunFault, run};
+use pregeld::{ReadyMaster, ServeFault, Service, Sssp, serve, start};
 use std::alloc::Global;
 use std::io::Write;
 use std::process::Abort;

@@ -1,0 +1,7 @@
+//! Runs of the program and of its parts, by calls: what no contract says, and what crosses crates.
+#![tactic(auto)]
+
+#[cfg(test)]
+mod runs;
+#[cfg(test)]
+mod streams;
