@@ -14,10 +14,10 @@ use Rattle.pg_model.specs.Publications.{Publication}
 use Rattle.pg_scratch.specs.declared.runner.RunFault.TheVariants.{Memory}
 use Rattle.pregeld.specs.Command.{command_of}
 use Rattle.pregeld.specs.Ready.{job}
-use Rattle.pregeld.specs.Reading.{AnswersLine, FailsLine, Imports, Keeps, Refreshes, RepliesTo, TakesLines, edited_service, imported_service}
+use Rattle.pregeld.specs.Reading.{AnswersLine, FailsLine, Imports, Keeps, Refreshes, RepliesTo, TakesLines}
 use Rattle.pregeld.specs.Reply.{line_of_reply}
 use Rattle.pregeld.specs.Service.{ServiceState, next_graph, publication_of, report_of}
-use Rattle.pregeld.specs.Session.{Answer, Answers, Place, State, after, answer_to, answered, dump_text, edited, edges_of, imported, opened, past, refresh_answer}
+use Rattle.pregeld.specs.Session.{Answer, Answers, Imported, Place, State, after, answer_to, answered, dump_text, edges_of, imported, opened, past, refresh_answer}
 use Rattle.pregeld.specs.declared.block.Block.TheVariants.{Whole, CutShort, NoMemory}
 use Rattle.pregeld.specs.declared.command.Command.{Command}
 use Rattle.pregeld.specs.declared.command.Command.TheVariants.{Nothing, Import, Refresh, Dump}
@@ -172,38 +172,22 @@ no_memory_replies form n here old text block left keeps taken = record {
   left_is = taken.1;
 }
 
--- what a service makes of a batch is what a session makes of it
-record Agrees (s : ServiceState) (place : Place) (answer : Answer) (told : Reply × ServiceState) : Type 0 where
-  answer_is : answer ≡ answered told.0 answer.next
-  service_is : told.1 ≡ after s answer.next.state
-  kept_is : answer.next.state.kept ≡ place.state.kept
-  number_is : answer.next.number ≡ place.number
-  lines_is : answer.next.lines ≡ place.lines
-
-edited_agrees : (r : Result Rows EditFault) (s : ServiceState) (place : Place) → Agrees s place (edited r place) (edited_service r (after s place.state))
-edited_agrees (Ok graph) s place = record { answer_is = refl; service_is = refl; kept_is = refl; number_is = refl; lines_is = refl }
-edited_agrees (Err fault) s place = record { answer_is = refl; service_is = refl; kept_is = refl; number_is = refl; lines_is = refl }
-
-imported_agrees : (edges : Result (List Line) ImportFault) (s : ServiceState) (place : Place) → Agrees s place (imported edges place) (imported_service edges (after s place.state))
-imported_agrees (Ok edges) s place = edited_agrees (next_graph place.state.edition place.state.graph (batch_of edges place.state.graph)) s place
-imported_agrees (Err fault) s place = record { answer_is = refl; service_is = refl; kept_is = refl; number_is = refl; lines_is = refl }
-
 imports_at : (form : Form) (n : ℕ) (s : ServiceState) (here : Place) (block : List ℕ) (reply : Reply) (new : ServiceState) (left : Option (List (List ℕ))) → here.state.kept ≡ None
     → TakesLines n Whole here.lines [] block left → Imports (edges_of form block) (after s here.state) reply new
     → RepliesTo (Ok (Import form n)) here (after s here.state) reply (here.number + n) new left
 unfolding answer_to
 imports_at form n s here block reply new left no_run taken (inl done) =
     let there : nat_lt (length here.lines) n ≡ false = grind (arith, nat_tests, taken.0) in
-    let edges : Result (List Line) ImportFault = edges_of form (concat (take n here.lines)) in
-    let agrees : Agrees s (past n here) (imported edges (past n here)) (imported_service edges (after s here.state)) = imported_agrees edges s (past n here) in
-    let same : (reply, new) ≡ imported_service edges (after s here.state) = rw taken.1 at done in
+    let now : Imported = imported (edges_of form (concat (take n here.lines))) here.state.edition here.state.graph in
+    let next : Place = record (past n here) { state = record here.state { edition = now.edition; graph = now.graph } } in
+    let same : (reply ≡ now.reply) × (new ≡ record (after s here.state) { edition = now.edition; graph = now.graph }) = rw taken.1 at done in
     record {
-      next = (imported edges (past n here)).next;
-      answers = inl (rw there (ap (λ r. answered r (imported edges (past n here)).next) (ap (λ (p : Reply × ServiceState). p.0) same) ∙ sym agrees.answer_is));
-      service_is = ap (λ (p : Reply × ServiceState). p.1) same ∙ agrees.service_is;
-      no_run = agrees.kept_is ∙ no_run;
-      number_is = agrees.number_is;
-      left_is = taken.2 ∙ ap Some (sym agrees.lines_is);
+      next = next;
+      answers = inl (rw there (ap (λ r. answered r next) same.0));
+      service_is = same.1;
+      no_run = no_run;
+      number_is = refl;
+      left_is = taken.2;
     }
 imports_at form n s here block reply new left no_run taken (inr refused) = record {
   next = past n here;

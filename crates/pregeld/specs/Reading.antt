@@ -15,7 +15,7 @@ use Rattle.pg_scratch.specs.declared.runner.RunFault.TheVariants.{Memory}
 use Rattle.pregeld.specs.Command.{command_of}
 use Rattle.pregeld.specs.Ready.{job}
 use Rattle.pregeld.specs.Service.{ServiceState, next_graph, publication_of, report_of}
-use Rattle.pregeld.specs.Session.{Answer, Answers, Place, State, after, answered}
+use Rattle.pregeld.specs.Session.{Answer, Answers, Place, State, after, answered, imported}
 use Rattle.pregeld.specs.declared.block.Block.{Block}
 use Rattle.pregeld.specs.declared.block.Block.TheVariants.{Whole, CutShort, NoMemory}
 use Rattle.pregeld.specs.declared.command.Command.{Command}
@@ -53,21 +53,11 @@ NextLine (Some line) lines left = (rest : List (List ℕ)) × (lines ≡ line �
 
 -- ---- what a service is answered with
 
--- the answer to an import of these edges, and the service after it
-abbrev pub edited_service : Result Rows EditFault → ServiceState → Reply × ServiceState
-edited_service (Err fault) service = (BatchRefused fault, service)
-edited_service (Ok graph) service =
-    let edition = service.edition + 1 in
-    (Edition edition, record service { graph = graph; edition = edition })
-
-abbrev pub imported_service : Result (List Line) ImportFault → ServiceState → Reply × ServiceState
-imported_service (Err fault) service = (ImportRefused fault, service)
-imported_service (Ok edges) service = edited_service (next_graph service.edition service.graph (batch_of edges service.graph)) service
-
 -- an import may be answered so, or for want of memory
 abbrev pub Imports : Result (List Line) ImportFault → ServiceState → Reply → ServiceState → Type 0
 Imports edges old reply new =
-    ((reply, new) ≡ imported_service edges old)
+    let now = imported edges old.edition old.graph in
+    ((reply ≡ now.reply) × (new ≡ record old { edition = now.edition; graph = now.graph }))
     ⊎ ((new ≡ old) × ((reply ≡ ImportRefused no_memory) ⊎ (reply ≡ BatchRefused memory_fault)))
 
 -- a refresh may be answered so, or for want of memory

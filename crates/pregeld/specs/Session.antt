@@ -66,23 +66,29 @@ abbrev pub edges_of : Form → List ℕ → Result (List Line) ImportFault
 edges_of ListForm block = list_of block
 edges_of Csv block = csv_of block
 
+-- what an import is answered, and the edition and the graph after it
+pub record Imported : Type 0 where
+  pub reply : Reply
+  pub edition : ℕ
+  pub graph : Rows
+
 -- the next edition, or the fault of the batch
-abbrev pub edited : Result Rows EditFault → Place → Answer
-edited (Err fault) place = answered (BatchRefused fault) place
-edited (Ok graph) place =
-    let edition = place.state.edition + 1 in
-    answered (Edition edition) (record place { state = record place.state { graph = graph; edition = edition } })
+abbrev pub edited : Result Rows EditFault → ℕ → Rows → Imported
+edited (Err fault) edition graph = record { reply = BatchRefused fault; edition = edition; graph = graph }
+edited (Ok made) edition graph = record { reply = Edition (edition + 1); edition = edition + 1; graph = made }
 
 -- edges become a batch, or the block has a fault
-abbrev pub imported : Result (List Line) ImportFault → Place → Answer
-imported (Err fault) place = answered (ImportRefused fault) place
-imported (Ok edges) place = edited (next_graph place.state.edition place.state.graph (batch_of edges place.state.graph)) place
+abbrev pub imported : Result (List Line) ImportFault → ℕ → Rows → Imported
+imported (Err fault) edition graph = record { reply = ImportRefused fault; edition = edition; graph = graph }
+imported (Ok edges) edition graph = edited (next_graph edition graph (batch_of edges graph)) edition graph
 
 -- an import takes so many lines, or is cut short by the end of the input, and then nothing is applied
 abbrev pub import_answer : Form → ℕ → Place → Answer
 import_answer form n place =
     if nat_lt (length place.lines) n then answered (Fault CutShort place.number) (record place { lines = [] })
-    else imported (edges_of form (concat (take n place.lines))) (past n place)
+    else
+      let now = imported (edges_of form (concat (take n place.lines))) place.state.edition place.state.graph in
+      answered now.reply (record (past n place) { state = record place.state { edition = now.edition; graph = now.graph } })
 
 -- ---- all commands
 
