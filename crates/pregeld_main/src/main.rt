@@ -1,26 +1,56 @@
 //! The program: commands on standard input, answers on standard output.
 #![tactic(auto)]
 
+ghost use Rattle.std.specs.Prelude.{◌≤◌};
+
 use pregeld::start;
 use std::env;
 use std::io::{self, BufReader, BufWriter, Write};
 use std::process::ExitCode;
 
-fn main(rt: HostRuntime) -> io::Result<ExitCode> {
+fn main(rt: HostRuntime) -> ExitCode {
+    let mut errors = rt.stderr();
+    match run(&rt, &mut errors) {
+        Ok(status) => ExitCode::from(status),
+        Err(error) => ExitCode::from(refuse(&mut errors, &error)),
+    }
+}
+
+/// Runs the program on its words and its standard streams, and gives its exit status.
+///
+/// # Errors
+///
+/// Want of memory before the first command, words that aren't UTF-8, or output that can't be written
+/// after the last one.
+fn run<E: Write>(rt: &HostRuntime, errors: &mut E) -> io::Result<u8> {
     let mut words = Vec::new(rt.alloc());
-    for word in env::args(&rt)? {
+    for word in env::args(rt)? {
         words.push(word)?;
     }
     let mut reader = BufReader::new(rt.alloc(), rt.stdin())?;
     let mut writer = BufWriter::new(rt.alloc(), rt.stdout())?;
-    let mut errors = rt.stderr();
     let status = start(
         rt.alloc(),
         words.as_slice(),
         &mut reader,
         &mut writer,
-        &mut errors,
+        errors,
     );
-    writer.flush()?;
-    Ok(ExitCode::from(status))
+    if status == 0 {
+        writer.flush()?;
+    }
+    Ok(status)
+}
+
+/// Says why the program ends, and gives the exit status for it.
+fn refuse<E: Write>(errors: &mut E, error: &io::Error) -> u8
+    ensures { result ≤ 2 }
+{
+    let (what, status) = match error.kind() {
+        io::ErrorKind::OutOfMemory => ("memory", 1),
+        io::ErrorKind::InvalidData => ("arguments", 2),
+        _ => ("output", 1),
+    };
+    let _said = writeln!(errors, "pregeld: {what}");
+    status
 }
