@@ -1,6 +1,6 @@
 -- What the words of the command line ask for, by what `clap` finds in them.
-use Rattle.std.proofs.Common.{◌≡◌, ◌≢◌, ◌⊎◌, ℕ, true, List, [], ◌∷◌, codes, refl, sym, ap, subst, ◌∙◌, inl, inr}
-use Rattle.clap.specs.Words.{App, IsAmong, Text, fault_of, found_of, is_simple, is_simple_and_free, matches_of, one_of, one_text, rows_of}
+use Rattle.std.proofs.Common.{◌≡◌, ◌⊎◌, ℕ, true, List, [], codes, refl, sym, ap, subst, ◌∙◌, inl, inr}
+use Rattle.clap.specs.Words.{App, IsAmong, Text, fault_of, is_simple, is_simple_and_free, matches_of, one_of, one_text, rows_of}
 use Rattle.clap.specs.declared.error.kind.ErrorKind.{ErrorKind}
 use Rattle.clap.specs.declared.error.kind.ErrorKind.TheVariants.{DisplayHelp, OutOfMemory}
 use Rattle.clap.specs.declared.parser.matches.Found.{Found}

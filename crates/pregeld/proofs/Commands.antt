@@ -1,23 +1,15 @@
 -- What a service answers beside what a session may be answered.
-use Rattle.std.proofs.Common.{◌≡◌, ◌⊎◌, ℕ, ℤ, ◌+◌, ◌<◌, ◌≤◌, Bool, true, false, nat_lt, List, [], ◌∷◌, ◌++◌, length, take, drop, Option, None, Some, option_to_list, Result, Ok, Err, refl, sym, ap, subst, ◌∙◌, inl, inr, ⊎_elim, arith}
+use Rattle.std.proofs.Common.{◌≡◌, ℕ, ◌+◌, true, false, nat_lt, List, [], ◌∷◌, ◌++◌, length, take, Option, None, Some, option_to_list, Result, Ok, Err, refl, sym, ap, subst, ◌∙◌, inl, inr, ⊎_elim, arith}
 use Rattle.std.specs.Io.KnownBytes.{Appends}
 use Rattle.std.specs.List.{concat, last_or}
 use Rattle.std.proofs.lemmas.Bool.Decides.{nat_tests}
-use Rattle.pg_graph.specs.Edit.{memory_fault}
-use Rattle.pg_graph.specs.Rows.{Rows}
-use Rattle.pg_graph.specs.declared.edit.EditFault.{EditFault}
-use Rattle.pg_import.specs.Batch.{batch_of}
 use Rattle.pg_import.specs.Import.{no_memory}
-use Rattle.pg_import.specs.declared.line.ImportFault.{ImportFault}
-use Rattle.pg_import.specs.declared.line.Line.{Line}
-use Rattle.pg_model.specs.Publications.{Publication}
-use Rattle.pg_scratch.specs.declared.runner.RunFault.TheVariants.{Memory}
 use Rattle.pregeld.specs.Command.{command_of}
 use Rattle.pregeld.specs.Ready.{job}
 use Rattle.pregeld.specs.Reading.{AnswersLine, FailsLine, Imports, Keeps, Refreshes, RepliesTo, TakesLines}
 use Rattle.pregeld.specs.Reply.{line_of_reply}
-use Rattle.pregeld.specs.Service.{ServiceState, next_graph, publication_of, report_of}
-use Rattle.pregeld.specs.Session.{Answer, Answers, Imported, Place, State, after, answer_to, answered, dump_text, edges_of, imported, opened, past, refresh_answer}
+use Rattle.pregeld.specs.Service.{ServiceState, publication_of, report_of}
+use Rattle.pregeld.specs.Session.{Answers, Imported, Place, after, answer_to, answered, dump_text, edges_of, imported, opened, past, refresh_answer}
 use Rattle.pregeld.specs.declared.block.Block.TheVariants.{Whole, CutShort, NoMemory}
 use Rattle.pregeld.specs.declared.command.Command.{Command}
 use Rattle.pregeld.specs.declared.command.Command.TheVariants.{Nothing, Import, Refresh, Dump}
@@ -25,7 +17,7 @@ use Rattle.pregeld.specs.declared.command.Form.{Form}
 use Rattle.pregeld.specs.declared.command.LineFault.{LineFault}
 use Rattle.pregeld.specs.declared.command.LineFault.TheVariants as fault
 use Rattle.pregeld.specs.declared.reply.Reply.{Reply}
-use Rattle.pregeld.specs.declared.reply.Reply.TheVariants.{Edition, ImportRefused, BatchRefused, Refreshed, RefreshRefused, Fault}
+use Rattle.pregeld.specs.declared.reply.Reply.TheVariants.{ImportRefused, Refreshed, Fault}
 use Rattle.pregeld.specs.declared.session.ServeFault.{ServeFault}
 use Rattle.pregeld.specs.declared.session.ServeFault.TheVariants.{Write}
 

@@ -1,5 +1,5 @@
 -- What the ready master registers is lawful, and is what the programs have declared.
-use Rattle.std.proofs.Common.{◌≡◌, ℕ, subst, Bool, true, false, Option, None, Some, refl, sym, ◌∙◌, [], true≢false}
+use Rattle.std.proofs.Common.{◌≡◌, ℕ, subst, true, false, Option, None, refl, sym, ◌∙◌, [], true≢false}
 use Rattle.std.specs.Prelude.{IsSome}
 use Rattle.pg_model.specs.Programs.{sssp}
 use Rattle.pg_global.specs.Master.{is_registered}

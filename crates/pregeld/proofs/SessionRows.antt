@@ -14,7 +14,7 @@ use Rattle.pregeld.specs.Command.{alone, command_in, command_of, import_of, name
 use Rattle.pregeld.specs.Ready.{job}
 use Rattle.pregeld.specs.Reply.{report_text, text_of}
 use Rattle.pregeld.specs.Service.{next_graph}
-use Rattle.pregeld.specs.Session.{Place, State, answer_to}
+use Rattle.pregeld.specs.Session.{State, answer_to}
 
 -- what is answered to the next lines, so many
 abbrev answers : ℕ → ℕ → ℕ → State → List (List ℕ) → List ℕ

@@ -1,5 +1,5 @@
 -- What the program promises with its exit status.
-use Rattle.std.specs.Prelude.{◌≡◌, ◌⊎◌, ℕ, List, Option, IfSome}
+use Rattle.std.specs.Prelude.{◌⊎◌, ℕ, List, Option, IfSome}
 use Rattle.clap.specs.Words.{Text}
 use Rattle.pregeld.specs.Arguments.{AsksForHelp, AsksForRuns}
 use Rattle.pregeld.specs.Service.{ServiceState, fresh}

@@ -1,12 +1,9 @@
 -- What a session's reader has left, and what its service keeps.
-use Rattle.std.specs.Prelude.{◌≡◌, ◌≢◌, ◌⊎◌, ℕ, Bool, true, false, ◌+◌, ◌<◌, ◌≤◌, List, [], ◌∷◌, ◌++◌, length, take, drop, Option, None, Some, option_map, Result, Ok, Err}
+use Rattle.std.specs.Prelude.{◌≡◌, ◌≢◌, ◌⊎◌, ℕ, Bool, true, false, ◌<◌, ◌≤◌, List, [], ◌∷◌, ◌++◌, length, take, drop, Option, None, Some, option_map, Result}
 use Rattle.std.specs.List.{concat}
 use Rattle.std.specs.Io.BufRead.{drop_through}
 use Rattle.std.specs.Io.KnownBytes.{Appends}
 use Rattle.pg_graph.specs.Edit.{memory_fault}
-use Rattle.pg_graph.specs.Rows.{Rows}
-use Rattle.pg_graph.specs.declared.edit.EditFault.{EditFault}
-use Rattle.pg_import.specs.Batch.{batch_of}
 use Rattle.pg_import.specs.Import.{no_memory}
 use Rattle.pg_import.specs.Text.{raw_lines}
 use Rattle.pg_import.specs.declared.line.ImportFault.{ImportFault}
@@ -14,14 +11,14 @@ use Rattle.pg_import.specs.declared.line.Line.{Line}
 use Rattle.pg_scratch.specs.declared.runner.RunFault.TheVariants.{Memory}
 use Rattle.pregeld.specs.Command.{command_of}
 use Rattle.pregeld.specs.Ready.{job}
-use Rattle.pregeld.specs.Service.{ServiceState, next_graph, publication_of, report_of}
+use Rattle.pregeld.specs.Service.{ServiceState, publication_of, report_of}
 use Rattle.pregeld.specs.Session.{Answer, Answers, Place, State, after, answered, imported}
 use Rattle.pregeld.specs.declared.block.Block.{Block}
 use Rattle.pregeld.specs.declared.block.Block.TheVariants.{Whole, CutShort, NoMemory}
 use Rattle.pregeld.specs.declared.command.Command.{Command}
 use Rattle.pregeld.specs.declared.command.LineFault.{LineFault}
 use Rattle.pregeld.specs.declared.reply.Reply.{Reply}
-use Rattle.pregeld.specs.declared.reply.Reply.TheVariants.{Edition, ImportRefused, BatchRefused, Refreshed, RefreshRefused}
+use Rattle.pregeld.specs.declared.reply.Reply.TheVariants.{ImportRefused, BatchRefused, Refreshed, RefreshRefused}
 use Rattle.pregeld.specs.declared.session.ServeFault.{ServeFault}
 use Rattle.pregeld.specs.declared.session.ServeFault.TheVariants.{Write}
 

@@ -1,5 +1,5 @@
 -- The master of the ready programs, and the job that a service runs.
-use Rattle.std.specs.Prelude.{ℕ, ℤ, true, List, [], ◌∷◌, Option, None, codes}
+use Rattle.std.specs.Prelude.{ℕ, ℤ, true, [], ◌∷◌, None, codes}
 use Rattle.pg_model.specs.Job.{Job}
 use Rattle.pg_model.specs.Programs.{sssp}
 use Rattle.pg_global.specs.Master.{Master, leaves_all, job_of}

@@ -1,5 +1,5 @@
 -- What a service keeps, and what an edit and a refresh make of it.
-use Rattle.std.specs.Prelude.{◌≡◌, ◌⊎◌, ℕ, ℤ, ◌+◌, nat_lt, if◌then◌else◌, List, [], Option, None, Some, Result, Err}
+use Rattle.std.specs.Prelude.{◌≡◌, ◌⊎◌, ℕ, ℤ, nat_lt, if◌then◌else◌, List, [], Option, None, Result, Err}
 use Rattle.std.specs.Ordering.{int_eq}
 use Rattle.pg_graph.specs.Edit.{batch_edited, memory_fault}
 use Rattle.pg_graph.specs.Rows.{Rows}

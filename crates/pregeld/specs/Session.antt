@@ -87,8 +87,8 @@ abbrev pub import_answer : Form → ℕ → Place → Answer
 import_answer form n place =
     if nat_lt (length place.lines) n then answered (Fault CutShort place.number) (record place { lines = [] })
     else
-      let now = imported (edges_of form (concat (take n place.lines))) place.state.edition place.state.graph in
-      answered now.reply (record (past n place) { state = record place.state { edition = now.edition; graph = now.graph } })
+    let now = imported (edges_of form (concat (take n place.lines))) place.state.edition place.state.graph in
+    answered now.reply (record (past n place) { state = record place.state { edition = now.edition; graph = now.graph } })
 
 -- ---- all commands
 

@@ -1,7 +1,7 @@
 use Rattle.std.proofs.Common.{◌≡◌, ◌∙◌, ap₂, codes}
 use Rattle.std.proofs.lemmas.Result.{IfOk-weaker}
 use Rattle.clap.specs.Words.{app_of, new_app, with_rule}
-use Rattle.pregeld.specs.Arguments.{limit_rule, program, program_rule, source_rule}
+use Rattle.pregeld.specs.Arguments.{program, program_rule, source_rule}
 use Rattle.pregeld.proofs.options.command.Goals as goal
 
 pub returns : goal.returns

@@ -1,4 +1,4 @@
-use Rattle.std.proofs.Common.{◌≡◌, ◌∙◌, inl, inr, map, sym}
+use Rattle.std.proofs.Common.{◌∙◌, inl, inr, map, sym}
 use Rattle.clap.specs.Words.{app_of, found_of, kind_of}
 use Rattle.pregeld.proofs.AskedWords.{asks, asks_nothing, fault_found, help_asked, plain_by, simple_by}
 use Rattle.pregeld.proofs.options.options_of.Goals as goal

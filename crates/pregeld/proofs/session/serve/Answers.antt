@@ -1,4 +1,4 @@
-use Rattle.std.proofs.Common.{◌≡◌, ◌+◌, List, ℕ, None, Some, option_map, rules, subst, ap, ◌∙◌}
+use Rattle.std.proofs.Common.{◌≡◌, ◌+◌, List, ℕ, option_map, rules, subst}
 use Rattle.pregeld.specs.Reading.{AnswersLine, FailsLine, NextLine, lines_left}
 use Rattle.pregeld.specs.declared.session.ServeFault.TheVariants.{Read}
 use Rattle.pregeld.proofs.Serving.{at_end, at_first, between_lines, breaks_off, goes_on, if_failed, if_known, keeps_midway}
