@@ -1,7 +1,8 @@
 -- The lines of a text, as `split_inclusive` gives them.
-use Rattle.std.proofs.Common.{◌≡◌, ℕ, ◌+◌, ◌<◌, ◌≤◌, ◌==◌, Bool, true, false, List, [], ◌∷◌, ◌++◌, length, take, drop, min, Option, MatchOption, Bor, refl, ap, sym, subst, ◌∙◌, arith, inl, inr, ⊎_elim}
+use Rattle.std.proofs.Common.{◌≡◌, ℕ, ◌+◌, ◌<◌, ◌≤◌, ◌==◌, Bool, List, [], ◌∷◌, ◌++◌, length, take, drop, min, Option, MatchOption, Bor, refl, ap, sym, subst, ◌∙◌, arith, inl, inr, ⊎_elim}
 use denote.Param.Members.{Mut}
 use Rattle.std.specs.Fn.{CalledAt, ComputesKey}
+use Rattle.std.specs.Io.BufRead.{drop_through, take_through}
 use Rattle.std.specs.List.{IsFirstMatchOrLen, onto_first, position_or_len}
 use Rattle.std.specs.Slice.Iter.{split_inclusive_callee, split_inclusive_rest}
 use Rattle.std.specs.declared.slice.SplitInclusive.{SplitInclusive}
@@ -19,53 +20,40 @@ use Rattle.pg_import.proofs.TextWords.{drop-next, take-next}
 abbrev pub is_line_feed : ℕ → Bool
 is_line_feed b = b == 10
 
-raw_lines-feed : (b : ℕ) (rest : List ℕ) → is_line_feed b ≡ true → raw_lines (b ∷ rest) ≡ (b ∷ []) ∷ raw_lines rest
-raw_lines-feed b rest ends = rw ends refl
-
-raw_lines-other : (b : ℕ) (rest : List ℕ) → is_line_feed b ≡ false → raw_lines (b ∷ rest) ≡ onto_first b (raw_lines rest)
-raw_lines-other b rest other = rw other refl
-
--- how long the first line of a text is, where a line feed ends it
-unfoldable pub line_end : List ℕ → ℕ
-line_end text = 1 + position_or_len is_line_feed text
-
-line_end-feed : (b : ℕ) (rest : List ℕ) → is_line_feed b ≡ true → line_end (b ∷ rest) ≡ 1
-unfolding line_end
-line_end-feed b rest ends = rw ends refl
-
-line_end-other : (b : ℕ) (rest : List ℕ) → is_line_feed b ≡ false → line_end (b ∷ rest) ≡ 1 + line_end rest
-unfolding line_end
-line_end-other b rest other = rw other refl
-
--- one more byte in front of a first line
-onto_first-line : (b n : ℕ) (rest : List ℕ) → raw_lines rest ≡ take n rest ∷ raw_lines (drop n rest) → onto_first b (raw_lines rest) ≡ take (1 + n) (b ∷ rest) ∷ raw_lines (drop (1 + n) (b ∷ rest))
-onto_first-line b n rest first = rw (first, take-next n b rest, drop-next n b rest) refl
-
--- the first line is a text's front up to its first line feed
-pub raw_lines-first : (text : List ℕ) → 0 < length text → raw_lines text ≡ take (line_end text) text ∷ raw_lines (drop (line_end text) text)
-unfolding line_end
-raw_lines-first [] more = absurd (omega arith)
-raw_lines-first (b ∷ []) more = elim (cases_Bool (is_line_feed b)) [
-  | inl ends ↦ raw_lines-feed b [] ends ∙ rw (line_end-feed b [] ends) refl
-  | inr other ↦ raw_lines-other b [] other ∙ rw (line_end-other b [] other) refl
+-- a text that isn't empty begins with its first line
+pub raw_lines-through : (text : List ℕ) → 0 < length text → raw_lines text ≡ take_through 10 text ∷ raw_lines (drop_through 10 text)
+raw_lines-through [] more = absurd (omega arith)
+raw_lines-through (b ∷ []) more = elim (cases_Bool (is_line_feed b)) [ inl ends ↦ rw ends refl | inr other ↦ rw other refl ]
+raw_lines-through (b ∷ c ∷ rest) more = elim (cases_Bool (is_line_feed b)) [
+  | inl ends ↦ rw ends refl
+  | inr other ↦ rw other (ap (onto_first b) (raw_lines-through (c ∷ rest) (omega arith)))
 ]
-raw_lines-first (b ∷ c ∷ rest) more = elim (cases_Bool (is_line_feed b)) [
-  | inl ends ↦ raw_lines-feed b (c ∷ rest) ends ∙ rw (line_end-feed b (c ∷ rest) ends) refl
-  | inr other ↦
-      raw_lines-other b (c ∷ rest) other ∙ rw (line_end-other b (c ∷ rest) other) (onto_first-line b (line_end (c ∷ rest)) (c ∷ rest) (raw_lines-first (c ∷ rest) (omega arith)))
+
+-- the first line ends with the first line feed, or with the text
+take_through-place : (text : List ℕ) → take_through 10 text ≡ take (1 + position_or_len is_line_feed text) text
+take_through-place [] = refl
+take_through-place (b ∷ rest) = elim (cases_Bool (is_line_feed b)) [
+  | inl ends ↦ rw ends refl
+  | inr other ↦ rw (other, take-next (1 + position_or_len is_line_feed rest) b rest) (ap (λ line. b ∷ line) (take_through-place rest))
+]
+
+drop_through-place : (text : List ℕ) → drop_through 10 text ≡ drop (1 + position_or_len is_line_feed text) text
+drop_through-place [] = refl
+drop_through-place (b ∷ rest) = elim (cases_Bool (is_line_feed b)) [
+  | inl ends ↦ rw ends refl
+  | inr other ↦ rw (other, drop-next (1 + position_or_len is_line_feed rest) b rest) (drop_through-place rest)
 ]
 
 -- a line that is cut off at a text's first line feed, or at its end
 pub raw_lines-cut : (line rest : List ℕ) (i : ℕ) → length line ≡ min (i + 1) (length (line ++ rest)) → IsFirstMatchOrLen is_line_feed (line ++ rest) i → 0 < length (line ++ rest)
     → raw_lines (line ++ rest) ≡ line ∷ raw_lines rest
-unfolding line_end
 raw_lines-cut line rest i size first more =
     let text = line ++ rest in
     let inside : i ≤ length text = ⊎_elim (λ past. absurd (cc (rw (get_or_past text (length text) 10 (omega arith)) at (first.0 (length text) 10 (omega arith) past)))) (λ within. within) (cases_lt (length text) i) in
     let place : position_or_len is_line_feed text ≡ i = position_or_len_is is_line_feed text i 0 inside (λ k h. first.0 k 0 (omega arith) h) (λ h. first.1 h 0) in
     let front : take (1 + i) text ≡ line = grind (arith, common_steps) in
     let back : drop (1 + i) text ≡ rest = grind (arith, common_steps) in
-    rw (place, front, back) at (raw_lines-first text more)
+    rw (take_through-place text, drop_through-place text, place, front, back) at (raw_lines-through text more)
 
 length-onto_first : (b : ℕ) (lines : List (List ℕ)) → length (onto_first b lines) ≤ length lines + 1
 length-onto_first b [] = omega arith

@@ -7,7 +7,7 @@ use Rattle.pg_import.specs.Batch.{has_edge, has_vertex}
 use Rattle.pg_import.specs.declared.batch.Named.{Named}
 
 -- a graph that has just what the first graph had and what was named
-pub record Shows (named : Named) (rows : Rows) : Type 0 where
-  pub vertices : (id : ℕ) → has_vertex id rows ≡ (has_vertex id named.graph.now || contains nat_cmp named.vertices id)
+pub record Shows (graph : Rows) (named : Named) (rows : Rows) : Type 0 where
+  pub vertices : (id : ℕ) → has_vertex id rows ≡ (has_vertex id graph || contains nat_cmp named.vertices id)
   pub edges : (source target : ℕ) → has_edge source target rows
-      ≡ (has_edge source target named.graph.now || contains (λ a b. ordering_then (nat_cmp a.0 b.0) (nat_cmp a.1 b.1)) named.edges (source, target))
+      ≡ (has_edge source target graph || contains (λ a b. ordering_then (nat_cmp a.0 b.0) (nat_cmp a.1 b.1)) named.edges (source, target))

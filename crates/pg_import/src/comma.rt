@@ -6,7 +6,6 @@ ghost use Rattle.pg_import.specs.Comma.{csv_of, is_header, reading_of_record, tr
 ghost use Rattle.pg_import.specs.Import.{Gives, begins_with, no_memory};
 ghost use Rattle.pg_import.specs.Records.{IsBetweenRecords, TakesRecord, records_left};
 
-use crate::line::NO_MEMORY;
 use crate::list::{add_reading, read_edge};
 use crate::text::after_blanks;
 use crate::{ImportFault, ImportKind, Line};
@@ -50,7 +49,9 @@ fn next_record<R: Read>(reader: &mut Reader<R>, row: &mut ByteRecord) -> Result<
         MatchBool found (TakesRecord R.remaining reader.old reader.new (fields_of row.new)) (records_left R.remaining reader.old ≡ [])) }
     ensures err { IfErr result (λ fault. fault ≡ no_memory) }
 {
-    reader.read_byte_record(row).map_err(|_| NO_MEMORY)
+    reader
+        .read_byte_record(row)
+        .map_err(|_| ImportFault::NO_MEMORY)
 }
 
 fn is_header(row: &ByteRecord) -> bool

@@ -50,8 +50,10 @@ pub struct ImportFault {
     pub kind: ImportKind,
 }
 
-/// The fault where a growth was refused.
-pub(crate) const NO_MEMORY: ImportFault = ImportFault {
-    line: 0,
-    kind: ImportKind::Memory,
-};
+impl ImportFault {
+    /// The fault where a growth was refused.
+    pub const NO_MEMORY: ImportFault = ImportFault {
+        line: 0,
+        kind: ImportKind::Memory,
+    };
+}

@@ -6,7 +6,6 @@ ghost use Rattle.pg_import.specs.Text.{words_of};
 ghost use Rattle.pg_import.specs.declared.line.ImportFault.{ImportFault};
 ghost use Rattle.pg_import.specs.declared.line.Line.{Line};
 
-use crate::line::NO_MEMORY;
 use crate::{ImportFault, ImportKind, Line, Words, bare_line, read_id, read_weight};
 use std::alloc::Global;
 
@@ -86,7 +85,7 @@ pub(crate) fn add_reading(
         Ok(None) => Ok(()),
         Ok(Some(line)) => match lines.push(line) {
             Ok(()) => Ok(()),
-            Err(_) => Err(NO_MEMORY),
+            Err(_) => Err(ImportFault::NO_MEMORY),
         },
         Err(kind) => Err(ImportFault { line: number, kind }),
     }

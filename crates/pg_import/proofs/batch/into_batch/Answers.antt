@@ -11,10 +11,11 @@ loop-line-preserved c =
     let line = c.line-item.result in
     let i = c.loop-line.line-index in
     let before = with_lines (take i lines) c.args.graph.now in
-    let source = c.in_ok-push_vertex.ensures before c.loop-line.invariant.shows in
-    let target = c.in_ok-push_vertex-2.ensures (with_vertex line.source before) source.1 in
-    let edge = c.in_ok-push_edge.ensures (with_ends line before) target.1 (has_vertex-with_ends line before) in
-    let after = with_lines-more lines line i c.args.graph.now (omega arith) c.line-item.is in
+    let graph = c.args.graph.now in
+    let source = c.in_ok-push_vertex.ensures graph before c.row-source.ensures c.loop-line.invariant.shows in
+    let target = c.in_ok-push_vertex-2.ensures graph (with_vertex line.source before) c.row-target.ensures source.1 in
+    let edge = c.in_ok-push_edge.ensures graph (with_ends line before) c.row-source.ensures target.1 (has_vertex-with_ends line before) in
+    let after = with_lines-more lines line i graph (omega arith) c.line-item.is in
     record {
       shows = rw after edge.1;
       so_far = rw (after, edge.0, target.0, source.0) (batch_of-more lines line i before c.loop-line.batch (batch_of lines c.args.graph.now) (omega arith) c.line-item.is c.loop-line.invariant.so_far);

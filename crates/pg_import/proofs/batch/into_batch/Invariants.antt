@@ -5,6 +5,6 @@ use Rattle.pg_import.proofs.batch.into_batch.Given as goal
 
 abbrev pub invariant-loop-line : goal.invariant-loop-line
 invariant-loop-line l = record {
-  shows : Shows l.named (with_lines (take l.line-index l.lines) l.graph);
+  shows : Shows l.graph l.named (with_lines (take l.line-index l.lines) l.graph);
   so_far : l.batch ++ batch_of (drop l.line-index l.lines) (with_lines (take l.line-index l.lines) l.graph) ≡ batch_of l.lines l.graph;
 }
