@@ -36,8 +36,8 @@ RefusesEdit edit before kind = (kind ≡ Memory) ⊎ (edited before.1 edit ≡ E
 -- the changes make one graph of another, and the number is that of its edges
 pub record Makes (graph now : Rows) (changes : Changing) : Type 0 where
   pub graph_rises : HasRisingIds graph
-  pub changes_rise : ChangesRise changes.rows.entries
-  pub made : with_changes changes.rows.entries graph ≡ now
+  pub changes_rise : ChangesRise changes.rows.items
+  pub made : with_changes changes.rows.items graph ≡ now
   pub edges_counted : changes.edges ≡ edge_count now
   pub vertices_fit : vertex_count now ≤ vertex_limit
   pub edges_fit : edge_count now ≤ edge_limit

@@ -24,11 +24,11 @@ const EDGE_LIMIT: u64 = 1 << 24;
 /// No batch has more edits.
 const BATCH_LIMIT: usize = 100_000;
 
-/// What becomes of vertices: a row, or none where a vertex is removed. Then a graph has this many
-/// edges.
+/// What becomes of vertices, by rising id: a row, or none where a vertex is removed. Then a graph has
+/// this many edges.
 #[derive(Drop)]
 pub(crate) struct Changes {
-    pub(crate) rows: BTreeMap<VertexId, Option<Row>>,
+    pub(crate) rows: Vec<(VertexId, Option<Row>)>,
     pub(crate) edges: u64,
 }
 
@@ -99,9 +99,9 @@ impl<'a> Draft<'a> {
     pub(crate) fn into_changes(self, alloc: Global) -> Result<Changes, Memory>
         ensures { IfOk result (Makes self.entry.0 self.entry.1) }
     {
-        let mut changes = BTreeMap::new(alloc);
+        let mut changes = Vec::with_capacity(alloc, self.changes.len())?;
         for (id, change) in self.changes {
-            put(&mut changes, id, finished(alloc, change)?)?;
+            changes.push((id, finished(alloc, change)?))?;
         }
         Ok(Changes {
             rows: changes,
