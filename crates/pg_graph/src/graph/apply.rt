@@ -1,6 +1,7 @@
 //! A batch of edits, made of a graph at once.
 ghost use Rattle.std.specs.Prelude.{◌≡◌, ◌<◌, ◌≤◌, length, Ok, Err, Some, None, IfOk, IfErr, OnOk, OnErr, OnSome, IsSome};
 ghost use Rattle.pg_graph.specs.Changes.{AreNew, ChangesRise, HasRoomFor, added_ids, bare_row, marked, with_change, with_changes};
+ghost use Rattle.pg_graph.specs.Draft.{Makes};
 ghost use Rattle.pg_graph.specs.Rows.{row_at};
 
 use super::{Graph, Row};
@@ -11,7 +12,6 @@ use std::alloc::Global;
 use std::collections::BTreeMap;
 
 impl Graph {
-    ghost use Rattle.pg_graph.specs.Draft.{Makes};
     ghost use Rattle.pg_graph.specs.Edit.{batch_edited, batch_limit, too_long_fault, RefusesBatch};
 
     /// Makes all edits of a batch, in their order, or none. The first edit that has no result
@@ -38,16 +38,36 @@ impl Graph {
         ensures ok { OnOk result (self.new ≡ with_changes changes.rows.items self.old) }
         ensures err { OnErr result (self.new ≡ self.old) }
     {
+        make_room(alloc, &mut self.rows, &changes)?;
         let Changes {
             rows: changes,
+            adds_vertices: _,
             edges,
         } = changes;
-        let added = ids_added(alloc, &self.rows, changes.as_slice())?;
-        add_rows(&mut self.rows, added.as_slice())?;
         settle(&mut self.rows, changes);
         self.total_edges = edges;
         Ok(())
     }
+}
+
+/// Adds a row for each vertex that changes add, so that the changes let nothing grow, or leaves the
+/// rows where one is refused.
+fn make_room(
+    alloc: Global,
+    rows: &mut BTreeMap<VertexId, Row>,
+    changes: &Changes,
+) -> Result<(), Memory>
+    requires { Makes rows.old.entries (with_changes changes.now.rows.items rows.old.entries) changes.now }
+    ensures room { OnOk result (HasRoomFor changes.now.rows.items rows.new.entries) }
+    ensures made { OnOk result (with_changes changes.now.rows.items rows.new.entries ≡ with_changes changes.now.rows.items rows.old.entries) }
+    ensures err { OnErr result (rows.new.entries ≡ rows.old.entries) }
+{
+    if !changes.adds_vertices {
+        return Ok(());
+    }
+    let added = ids_added(alloc, rows, changes.rows.as_slice())?;
+    add_rows(rows, added.as_slice())?;
+    Ok(())
 }
 
 /// The ids that changes add to the rows, rising.
