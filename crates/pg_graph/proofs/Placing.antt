@@ -156,6 +156,12 @@ marked-added mark (change ∷ changes) rows q row found gone = by (is_at (nat_cm
         ∙ lookup_head (is_at (nat_cmp q)) (change.0, mark) (marked mark (added_ids changes rows)) at
     by false at e later = at_rest (is_some change.1 && not (is_some (row_at change.0 rows))) at (later e gone)
 
+-- what the changes from one place on add
+pub added_next : (changes : Changes) (rows : Rows) (i : ℕ) (change : ℕ × Option Row) → i < length changes → change ≡ get_or changes i change
+    → added_ids (drop i changes) rows ≡ cond (is_some change.1 && not (is_some (row_at change.0 rows))) (change.0 ∷ added_ids (drop (i + 1) changes) rows) (added_ids (drop (i + 1) changes) rows)
+added_next changes rows i change within here =
+    at_drop_more (λ l. added_ids l rows) changes i change within ∙ sym (ap (λ e. added_ids (e ∷ drop (i + 1) changes) rows) here)
+
 module _ (changes : Changes) (rows : Rows) (rows_rise : HasRisingIds rows) (changes_rise : ChangesRise changes) where
   pub added_new : AreNew (added_ids changes rows) rows
   added_new = record {

@@ -24,11 +24,12 @@ const EDGE_LIMIT: u64 = 1 << 24;
 /// No batch has more edits.
 const BATCH_LIMIT: usize = 100_000;
 
-/// What becomes of vertices: a row, or none where a vertex is removed. Then a graph has this many
-/// edges.
+/// What becomes of vertices, by rising id: a row, or none where a vertex is removed. It says whether
+/// one may be new to the graph, and how many edges the graph has then.
 #[derive(Drop)]
 pub(crate) struct Changes {
-    pub(crate) rows: BTreeMap<VertexId, Option<Row>>,
+    pub(crate) rows: Vec<(VertexId, Option<Row>)>,
+    pub(crate) adds_vertices: bool,
     pub(crate) edges: u64,
 }
 
@@ -41,6 +42,7 @@ pub(crate) struct Draft<'a> {
     changes: BTreeMap<VertexId, Option<DraftRow>>,
     vertices: u64,
     edges: u64,
+    adds_vertices: bool,
 }
 
 impl<'a> Model for Draft<'a> {
@@ -69,6 +71,7 @@ impl<'a> Draft<'a> {
             changes: BTreeMap::new(alloc),
             vertices: graph.vertices(),
             edges: graph.edges(),
+            adds_vertices: false,
         }
     }
 
@@ -99,12 +102,13 @@ impl<'a> Draft<'a> {
     pub(crate) fn into_changes(self, alloc: Global) -> Result<Changes, Memory>
         ensures { IfOk result (Makes self.entry.0 self.entry.1) }
     {
-        let mut changes = BTreeMap::new(alloc);
+        let mut changes = Vec::with_capacity(alloc, self.changes.len())?;
         for (id, change) in self.changes {
-            put(&mut changes, id, finished(alloc, change)?)?;
+            changes.push((id, finished(alloc, change)?))?;
         }
         Ok(Changes {
             rows: changes,
+            adds_vertices: self.adds_vertices,
             edges: self.edges,
         })
     }
@@ -136,6 +140,7 @@ impl<'a> Draft<'a> {
         }
         put(&mut self.changes, id, Some(DraftRow::new(input)))?;
         self.vertices += 1;
+        self.adds_vertices = true;
         Ok(self)
     }
 

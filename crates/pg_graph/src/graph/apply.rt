@@ -1,6 +1,7 @@
 //! A batch of edits, made of a graph at once.
 ghost use Rattle.std.specs.Prelude.{◌≡◌, ◌<◌, ◌≤◌, length, Ok, Err, Some, None, IfOk, IfErr, OnOk, OnErr, OnSome, IsSome};
-ghost use Rattle.pg_graph.specs.Changes.{AreNew, HasRoomFor, added_ids, bare_row, marked, with_change, with_changes};
+ghost use Rattle.pg_graph.specs.Changes.{AreNew, ChangesRise, HasRoomFor, added_ids, bare_row, marked, with_change, with_changes};
+ghost use Rattle.pg_graph.specs.Draft.{Makes};
 ghost use Rattle.pg_graph.specs.Rows.{row_at};
 
 use super::{Graph, Row};
@@ -11,7 +12,6 @@ use std::alloc::Global;
 use std::collections::BTreeMap;
 
 impl Graph {
-    ghost use Rattle.pg_graph.specs.Draft.{Makes};
     ghost use Rattle.pg_graph.specs.Edit.{batch_edited, batch_limit, too_long_fault, RefusesBatch};
 
     /// Makes all edits of a batch, in their order, or none. The first edit that has no result
@@ -34,29 +34,49 @@ impl Graph {
 
     /// Makes all changes, or none where a growth is refused.
     fn change(&mut self, alloc: Global, changes: Changes) -> Result<(), Memory>
-        requires { Makes self.old (with_changes changes.rows.entries self.old) changes }
-        ensures ok { OnOk result (self.new ≡ with_changes changes.rows.entries self.old) }
+        requires { Makes self.old (with_changes changes.rows.items self.old) changes }
+        ensures ok { OnOk result (self.new ≡ with_changes changes.rows.items self.old) }
         ensures err { OnErr result (self.new ≡ self.old) }
     {
+        make_room(alloc, &mut self.rows, &changes)?;
         let Changes {
             rows: changes,
+            adds_vertices: _,
             edges,
         } = changes;
-        let added = ids_added(alloc, &self.rows, &changes)?;
-        add_rows(&mut self.rows, added.as_slice())?;
         settle(&mut self.rows, changes);
         self.total_edges = edges;
         Ok(())
     }
 }
 
+/// Adds a row for each vertex that changes add, so that the changes let nothing grow, or leaves the
+/// rows where one is refused.
+fn make_room(
+    alloc: Global,
+    rows: &mut BTreeMap<VertexId, Row>,
+    changes: &Changes,
+) -> Result<(), Memory>
+    requires { Makes rows.old.entries (with_changes changes.now.rows.items rows.old.entries) changes.now }
+    ensures room { OnOk result (HasRoomFor changes.now.rows.items rows.new.entries) }
+    ensures made { OnOk result (with_changes changes.now.rows.items rows.new.entries ≡ with_changes changes.now.rows.items rows.old.entries) }
+    ensures err { OnErr result (rows.new.entries ≡ rows.old.entries) }
+{
+    if !changes.adds_vertices {
+        return Ok(());
+    }
+    let added = ids_added(alloc, rows, changes.rows.as_slice())?;
+    add_rows(rows, added.as_slice())?;
+    Ok(())
+}
+
 /// The ids that changes add to the rows, rising.
 fn ids_added(
     alloc: Global,
     rows: &BTreeMap<VertexId, Row>,
-    changes: &BTreeMap<VertexId, Option<Row>>,
+    changes: &[(VertexId, Option<Row>)],
 ) -> Result<Vec<VertexId>, Memory>
-    ensures { IfOk result (λ ids. ids.items ≡ added_ids changes.now.entries rows.now.entries) }
+    ensures { IfOk result (λ ids. ids.items ≡ added_ids changes.now rows.now.entries) }
 {
     let mut added = Vec::new(alloc);
     for (id, change) in changes {
@@ -96,9 +116,10 @@ fn remove_rows(rows: &mut BTreeMap<VertexId, Row>, ids: &[VertexId])
 }
 
 /// Makes all changes, where each vertex that gets a row has one, so that nothing grows.
-fn settle(rows: &mut BTreeMap<VertexId, Row>, changes: BTreeMap<VertexId, Option<Row>>)
-    requires { HasRoomFor changes.entries rows.old.entries }
-    ensures { rows.new.entries ≡ with_changes changes.entries rows.old.entries }
+fn settle(rows: &mut BTreeMap<VertexId, Row>, changes: Vec<(VertexId, Option<Row>)>)
+    requires rise { ChangesRise changes.items }
+    requires room { HasRoomFor changes.items rows.old.entries }
+    ensures { rows.new.entries ≡ with_changes changes.items rows.old.entries }
 {
     for (id, change) in changes {
         change_row(rows, id, change);
