@@ -10,7 +10,9 @@ use Rattle.pg_import.specs.Text.{raw_lines}
 use Rattle.pregeld.specs.Reading.{SkipsLine, SkipsLines, TakesLines, lines_left}
 use Rattle.pregeld.specs.declared.block.Block.{Block}
 use Rattle.pregeld.specs.declared.block.Block.TheVariants.{Whole, CutShort, NoMemory}
-use Rattle.pregeld.proofs.FirstLines.{past_feed, past_no_feed, raw_lines-through, some_taken}
+use Rattle.std.proofs.BufReadLemmas.{take_through_nonempty}
+use Rattle.pg_import.proofs.TextLines.{raw_lines-through}
+use Rattle.pregeld.proofs.FirstLines.{past_feed, past_no_feed}
 
 same_lines : (text : List ℕ) (lines : List (List ℕ)) → lines_left (Some text) ≡ Some lines → raw_lines text ≡ lines
 same_lines text lines e = cc
@@ -25,7 +27,7 @@ next_of_read None left lines none line n none_is there read gone size some = abs
 next_of_read (Some text) left lines none line n none_is there onto gone size some =
     let read : line ≡ take_through 10 text = onto ∙ ap (λ t. t ++ take_through 10 text) none_is in
     let longer : 0 < length (take_through 10 text) = subst (λ l. 0 < length l) read (omega (arith, size, some)) in
-    let first : raw_lines text ≡ line ∷ raw_lines (drop_through 10 text) = raw_lines-through text (some_taken text longer) ∙ ap (λ l. l ∷ raw_lines (drop_through 10 text)) (sym read) in
+    let first : raw_lines text ≡ line ∷ raw_lines (drop_through 10 text) = raw_lines-through text (take_through_nonempty 10 text longer) ∙ ap (λ l. l ∷ raw_lines (drop_through 10 text)) (sym read) in
     (raw_lines (drop_through 10 text), sym (same_lines text lines there) ∙ first, ap lines_left gone)
 
 -- the same, onto a text
@@ -36,7 +38,7 @@ take_of_read None left lines old new n there read gone size some = absurd cc
 take_of_read (Some text) left lines old new n there read gone size some =
     let front : List ℕ = take_through 10 text in
     let longer : 0 < length front = by_size in
-    let first : lines ≡ front ∷ raw_lines (drop_through 10 text) = sym (same_lines text lines there) ∙ raw_lines-through text (some_taken text longer) in
+    let first : lines ≡ front ∷ raw_lines (drop_through 10 text) = sym (same_lines text lines there) ∙ raw_lines-through text (take_through_nonempty 10 text longer) in
     rw first (omega arith, read ∙ ap (λ t. old ++ t) (sym (append-nil front)), ap lines_left gone)
   where
     sizes : length old + n ≡ length old + length (take_through 10 text)

@@ -1,27 +1,10 @@
 -- The first line of a text, and what is left after it.
-use Rattle.std.proofs.Common.{◌≡◌, ◌≢◌, ℕ, ◌-◌, ◌<◌, ◌==◌, true, false, List, [], ◌∷◌, ◌++◌, length, take, Some, refl, ap, sym, ◌∙◌, arith, inl, inr, All, subst, suc, slice_get}
-use Rattle.std.specs.List.{onto_first}
+use Rattle.std.proofs.Common.{◌≡◌, ◌≢◌, ℕ, ◌-◌, ◌==◌, true, false, List, [], ◌∷◌, ◌++◌, length, take, Some, refl, ap, sym, ◌∙◌, arith, All, subst, suc, slice_get}
 use Rattle.std.specs.Io.{StopsAt}
-use Rattle.std.specs.Io.BufRead.{drop_through, take_through}
-use Rattle.std.proofs.lemmas.Bool.{cases_Bool}
+use Rattle.std.specs.Io.BufRead.{drop_through}
 use Rattle.std.proofs.lemmas.Bool.Decides.{nat_tests}
 use Rattle.std.proofs.lemmas.Grind.{common_steps}
 use Rattle.std.proofs.lemmas.List.Elements.{All-head, All-tail}
-use Rattle.pg_import.specs.Text.{raw_lines}
-
--- a text that isn't empty begins with its first line
-pub raw_lines-through : (text : List ℕ) → 0 < length text → raw_lines text ≡ take_through 10 text ∷ raw_lines (drop_through 10 text)
-raw_lines-through [] more = absurd (omega arith)
-raw_lines-through (b ∷ []) more = elim (cases_Bool (b == 10)) [ inl ends ↦ rw ends refl | inr other ↦ rw other refl ]
-raw_lines-through (b ∷ c ∷ rest) more = elim (cases_Bool (b == 10)) [
-  | inl ends ↦ rw ends refl
-  | inr other ↦ rw other (ap (onto_first b) (raw_lines-through (c ∷ rest) (omega arith)))
-]
-
--- only a text that isn't empty has a first line of some length
-pub some_taken : (text : List ℕ) → 0 < length (take_through 10 text) → 0 < length text
-some_taken [] more = more
-some_taken (b ∷ rest) more = omega arith
 
 not_feed : (b : ℕ) → b ≢ 10 → (b == 10) ≡ false
 not_feed b other = grind (arith, nat_tests)

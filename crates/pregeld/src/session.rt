@@ -11,7 +11,7 @@ use crate::block::{Block, next_line, take_block};
 use crate::command::{Command, Form, LineFault, command_of};
 use crate::reply::Reply;
 use pg_graph::VertexId;
-use pg_import::{ImportFault, ImportKind, Line, into_batch, read_csv, read_list};
+use pg_import::{ImportFault, Line, into_batch, read_csv, read_list};
 use std::alloc::Global;
 use std::io::{self, BufRead, Write};
 use thiserror::Error;
@@ -199,19 +199,13 @@ fn import<R: BufRead>(
     let mut block = Vec::new(alloc);
     match take_block(lines, reader, &mut block)? {
         Block::CutShort => Ok((Reply::Fault(LineFault::CutShort, number), number)),
-        Block::NoMemory => Ok((Reply::ImportRefused(NO_MEMORY), reached)),
+        Block::NoMemory => Ok((Reply::ImportRefused(ImportFault::NO_MEMORY), reached)),
         Block::Whole => Ok((
             import_block(alloc, form, block.as_slice(), service),
             reached,
         )),
     }
 }
-
-/// The fault of a list for which there is no memory.
-const NO_MEMORY: ImportFault = ImportFault {
-    line: 0,
-    kind: ImportKind::Memory,
-};
 
 /// Applies the text of an edge list as one batch.
 fn import_block(alloc: Global, form: Form, text: &[u8], service: &mut Service) -> Reply
@@ -222,7 +216,7 @@ fn import_block(alloc: Global, form: Form, text: &[u8], service: &mut Service) -
         Err(fault) => return Reply::ImportRefused(fault),
     };
     let Ok(batch) = into_batch(alloc, edges.as_slice(), service.graph()) else {
-        return Reply::ImportRefused(NO_MEMORY);
+        return Reply::ImportRefused(ImportFault::NO_MEMORY);
     };
     match service.edit(alloc, &batch) {
         Ok(edition) => Reply::Edition(edition),
