@@ -280,21 +280,18 @@ fn help(rt: HostRuntime) {
     assert!(&rt; errors.is_empty());
 }
 
+fn id(number: u64) -> Result<VertexId, Fail> {
+    Ok(VertexId::new(number).ok_or("a number above 2^63 - 1")?)
+}
+
 // The graph of 1 to 2 of weight 5 and 2 to 3 of weight 1.
 fn two_hops_batch(alloc: Global) -> Result<Batch, Fail> {
     let mut batch = Batch::new(alloc);
     for number in 1..4 {
-        let Some(id) = VertexId::new(number) else {
-            continue;
-        };
-        batch.push(Edit::AddVertex(id, 0))?;
+        batch.push(Edit::AddVertex(id(number)?, 0))?;
     }
-    for (source, target, weight) in [(1, 2, 5), (2, 3, 1)] {
-        let (Some(source), Some(target)) = (VertexId::new(source), VertexId::new(target)) else {
-            continue;
-        };
-        batch.push(Edit::AddEdge(source, target, weight))?;
-    }
+    batch.push(Edit::AddEdge(id(1)?, id(2)?, 5))?;
+    batch.push(Edit::AddEdge(id(2)?, id(3)?, 1))?;
     Ok(batch)
 }
 
@@ -315,13 +312,10 @@ fn runs(rt: HostRuntime) -> Result<(), Fail> {
     let batch = two_hops_batch(alloc)?;
     let mut graph = Graph::new(alloc);
     assert!(&rt; graph.apply(alloc, &batch).is_ok());
-    let Some(source) = VertexId::new(1) else {
-        return Ok(());
-    };
-    let program = Sssp { source };
+    let program = Sssp { source: id(1)? };
     let combiner = AnyCombiner::NoCombiner;
     let mut meter = Meter::new();
-    match run(
+    let answer = run(
         alloc,
         &graph,
         &program,
@@ -329,17 +323,13 @@ fn runs(rt: HostRuntime) -> Result<(), Fail> {
         &ReadyMaster,
         1000,
         &mut meter,
-    ) {
-        Ok(run) => is_two_hops(&rt, &run),
-        Err(fault) => assert_eq!(&rt; fault, RunFault::Register, "no fault"),
-    }
+    );
+    is_two_hops(&rt, &answer.expect(&rt, "an answer"));
     assert_eq!(&rt; meter.count(), 5);
-    match run(
+    let refused = run(
         alloc, &graph, &program, &combiner, &NoMaster, 1000, &mut meter,
-    ) {
-        Ok(_) => assert_eq!(&rt; 0, 1, "a refusal"),
-        Err(fault) => assert_eq!(&rt; fault, RunFault::Unregistered),
-    }
+    );
+    assert_eq!(&rt; refused.err(), Some(RunFault::Unregistered));
     assert_eq!(&rt; meter.count(), 5);
     Ok(())
 }
@@ -347,37 +337,25 @@ fn runs(rt: HostRuntime) -> Result<(), Fail> {
 #[test]
 fn services(rt: HostRuntime) -> Result<(), Fail> {
     let alloc = rt.alloc();
-    let Some(source) = VertexId::new(1) else {
-        return Ok(());
-    };
-    let mut service = Service::new(alloc, source, 1000);
+    let mut service = Service::new(alloc, id(1)?, 1000);
     assert!(&rt; service.answers().is_none());
     let batch = two_hops_batch(alloc)?;
     assert_eq!(&rt; service.edit(alloc, &batch).ok(), Some(Edition::new(1)));
     assert_eq!(&rt; service.graph().vertices(), 3);
     let refused = service.edit(alloc, &batch);
     assert!(&rt; refused.is_err_and(|fault| fault.position == 1 && fault.kind.number() == 2));
-    match service.refresh(alloc) {
-        Ok(report) => assert_eq!(&rt; (report.edition, report.calls), (Edition::new(1), 5)),
-        Err(fault) => assert_eq!(&rt; fault, RunFault::Register, "no fault"),
-    }
-    match service.answers() {
-        None => assert_eq!(&rt; 0, 1, "a publication"),
-        Some(answers) => {
-            assert_eq!(&rt; answers.edition(), Edition::new(1));
-            is_two_hops(&rt, answers.run());
-        }
-    }
+    let report = service.refresh(alloc).expect(&rt, "a report");
+    assert_eq!(&rt; (report.edition, report.calls), (Edition::new(1), 5));
+    let answers = service.answers().expect(&rt, "a publication");
+    assert_eq!(&rt; answers.edition(), Edition::new(1));
+    is_two_hops(&rt, answers.run());
     Ok(())
 }
 
 #[test]
-fn a_writer_that_is_full(rt: HostRuntime) {
+fn a_writer_that_is_full(rt: HostRuntime) -> Result<(), Fail> {
     let alloc = rt.alloc();
-    let Some(source) = VertexId::new(1) else {
-        return;
-    };
-    let mut service = Service::new(alloc, source, 1000);
+    let mut service = Service::new(alloc, id(1)?, 1000);
     let mut reader: &[u8] = TWO_HOPS;
     let mut room = [0_u8; 4];
     let mut writer = room.as_mut_slice();
@@ -385,4 +363,5 @@ fn a_writer_that_is_full(rt: HostRuntime) {
     assert_eq!(&rt; served, Err(ServeFault::Write));
     assert_eq!(&rt; service.graph().vertices(), 3);
     assert!(&rt; service.answers().is_none());
+    Ok(())
 }
