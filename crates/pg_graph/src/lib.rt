@@ -6,11 +6,13 @@ mod edges;
 mod edit;
 mod entries;
 mod graph;
+mod missing;
 mod number;
 
 pub use edges::Edges;
 pub use edit::{Batch, Edit, EditFault, EditKind};
 pub use graph::{Graph, Row};
+pub use missing::Missing;
 pub use number::{Edition, PartitionId, Superstep, VertexId, WorkerId};
 pub use std::alloc::AllocError as Memory;
 

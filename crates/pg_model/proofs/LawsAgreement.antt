@@ -6,9 +6,9 @@ use Rattle.pg_graph.specs.Rows.{Rows}
 use Rattle.pg_model.specs.Agreement.{IsSeenAlike}
 use Rattle.pg_model.specs.Job.{Job, Program, Inputs, has_place}
 use Rattle.pg_model.specs.Superstep.{is_active, idle, inputs_of, outcome, state_after, shown, view_of}
-use Rattle.pg_model.specs.Run.{configuration, run_length}
+use Rattle.pg_model.specs.Run.{present_at, view_at, run_length}
 use Rattle.pg_model.specs.Needed.{standing_at, inputs_if_active, inputs_at}
-use Rattle.pg_model.proofs.LawsInputs.{view_at, executed_from_inputs}
+use Rattle.pg_model.proofs.LawsInputs.{executed_from_inputs}
 use Rattle.pg_model.specs.declared.configuration.Standing.{Standing}
 use Rattle.pg_model.specs.declared.view.Declared.{Declared}
 use Rattle.pg_model.specs.declared.view.View.{View}
@@ -120,14 +120,14 @@ module _ {V M : Type 0} where
 
 module _ {V M : Type 0} where
   -- an execution gives the program's step on its inputs
-  pub outcome_of_inputs : (job : Job V M) (rows : Rows) (s id : ℕ) (x : Standing V M) (i : Inputs V M) → standing_at id (configuration job rows s).standings ≡ Some x → inputs_at job rows s id ≡ Some i → outcome job.program (view_at job rows s) x ≡ job.program.step i
+  pub outcome_of_inputs : (job : Job V M) (rows : Rows) (s id : ℕ) (x : Standing V M) (i : Inputs V M) → standing_at id (present_at job rows s) ≡ Some x → inputs_at job rows s id ≡ Some i → outcome job.program (view_at job rows s) x ≡ job.program.step i
   outcome_of_inputs job rows s id x i at e =
       let r = executed_from_inputs job rows s id i e in
       let same : r.0 ≡ x = same_Some r.0 x (sym r.1.present ∙ at) in
       sym (ap (outcome job.program (view_at job rows s)) same) ∙ (outcome-active job.program (view_at job rows s) r.0 r.1.active ∙ ap job.program.step r.2)
 
   -- and leaves the state that this step says
-  pub next_state_of_inputs : (job : Job V M) (rows : Rows) (s id : ℕ) (x : Standing V M) (i : Inputs V M) → standing_at id (configuration job rows s).standings ≡ Some x → inputs_at job rows s id ≡ Some i → state_after x.state (outcome job.program (view_at job rows s) x) ≡ record { id = i.id; value = (job.program.step i).value; edges = (job.program.step i).edges; halted = (job.program.step i).halted }
+  pub next_state_of_inputs : (job : Job V M) (rows : Rows) (s id : ℕ) (x : Standing V M) (i : Inputs V M) → standing_at id (present_at job rows s) ≡ Some x → inputs_at job rows s id ≡ Some i → state_after x.state (outcome job.program (view_at job rows s) x) ≡ record { id = i.id; value = (job.program.step i).value; edges = (job.program.step i).edges; halted = (job.program.step i).halted }
   next_state_of_inputs job rows s id x i at e =
       let r = executed_from_inputs job rows s id i e in
       let same : r.0 ≡ x = same_Some r.0 x (sym r.1.present ∙ at) in
@@ -136,12 +136,12 @@ module _ {V M : Type 0} where
       λ j. record { id = named j; value = (made j).value; edges = (made j).edges; halted = (made j).halted }
 
   -- two runs of one program give the same record wherever an execution reads the same in both: this is why a record may be kept
-  pub same_record : (job job' : Job V M) (rows rows' : Rows) (s s' id id' : ℕ) (x x' : Standing V M) (i : Inputs V M) → job.program ≡ job'.program → standing_at id (configuration job rows s).standings ≡ Some x → inputs_at job rows s id ≡ Some i → standing_at id' (configuration job' rows' s').standings ≡ Some x' → inputs_at job' rows' s' id' ≡ Some i → outcome job.program (view_at job rows s) x ≡ outcome job'.program (view_at job' rows' s') x'
+  pub same_record : (job job' : Job V M) (rows rows' : Rows) (s s' id id' : ℕ) (x x' : Standing V M) (i : Inputs V M) → job.program ≡ job'.program → standing_at id (present_at job rows s) ≡ Some x → inputs_at job rows s id ≡ Some i → standing_at id' (present_at job' rows' s') ≡ Some x' → inputs_at job' rows' s' id' ≡ Some i → outcome job.program (view_at job rows s) x ≡ outcome job'.program (view_at job' rows' s') x'
   same_record job job' rows rows' s s' id id' x x' i program at e at' e' =
       outcome_of_inputs job rows s id x i at e ∙ (ap (λ (p : Program V M). p.step i) program ∙ sym (outcome_of_inputs job' rows' s' id' x' i at' e'))
 
   -- two runs of one job read the same at a vertex that stands alike in both and sees the same
-  pub same_inputs_at : (job : Job V M) (rows rows' : Rows) (s id : ℕ) → s < run_length job rows → s < run_length job rows' → view_at job rows s ≡ view_at job rows' s → standing_at id (configuration job rows s).standings ≡ standing_at id (configuration job rows' s).standings → inputs_at job rows s id ≡ inputs_at job rows' s id
+  pub same_inputs_at : (job : Job V M) (rows rows' : Rows) (s id : ℕ) → s < run_length job rows → s < run_length job rows' → view_at job rows s ≡ view_at job rows' s → standing_at id (present_at job rows s) ≡ standing_at id (present_at job rows' s) → inputs_at job rows s id ≡ inputs_at job rows' s id
   unfolding inputs_at
   same_inputs_at job rows rows' s id within within' view at =
       let both : ltb s (run_length job rows) ≡ ltb s (run_length job rows') = lt-ltb s (run_length job rows) within ∙ sym (lt-ltb s (run_length job rows') within') in

@@ -1,16 +1,21 @@
--- Vertices and places stay: every configuration of a run has the ids of the graph and a value for each aggregator.
-use Rattle.std.proofs.Common.{◌≡◌, ℕ, zero, suc, ◌+◌, List, [], ◌∷◌, ℤ, map, length, refl, ap, ap₂, sym, ◌∙◌, subst, arith, option_map}
+-- Ids and places through a run: where messages to nobody are dropped, the ids stay those of the graph; where they make
+-- vertices, ids are only added, and only such as were sent to. There is a value for each aggregator all along.
+use Rattle.std.proofs.Common.{◌≡◌, ℕ, zero, suc, ◌+◌, ◌<◌, ◌||◌, Bool, true, false, List, [], ◌∷◌, ℤ, map, length, refl, ap, ap₂, sym, ◌∙◌, subst, arith, option_map, ◌⊎◌, inl, inr, Option, true≢false}
+use Rattle.std.proofs.lemmas.Bool.{cases_Bool}
 use Rattle.std.proofs.lemmas.List.{length-map}
 use Rattle.std.specs.Ordering.{nat_cmp}
 use Rattle.std.specs.Map.{keys_of}
 use Rattle.std.specs.List.Sorted.{IsStrictlySortedBy}
 use Rattle.pg_graph.specs.Rows.{Rows, HasRisingIds}
 use Rattle.pg_graph.specs.declared.graph.Row.{Row}
-use Rattle.pg_model.specs.Job.{Job, Program, Totals, Aggregating}
-use Rattle.pg_model.specs.Superstep.{ids, next, visible_in, gathered_from, view_in, state_after, outcome, delivered, sends}
+use Rattle.pg_graph.specs.declared.missing.Missing.{Missing}
+use Rattle.pg_graph.specs.declared.missing.Missing.TheVariants.{Drop}
+use Rattle.pg_model.specs.Job.{Job, Program, Combining, Totals, Aggregating}
+use Rattle.pg_model.specs.Superstep.{ids, has_id, next, totals_of, present, visible_in, gathered_from, view_in, state_after, outcome, delivered, sends, astray, waiting_after}
 use Rattle.pg_model.specs.Needed.{standing_at}
-use Rattle.pg_model.specs.Run.{first, beginning, configuration, totals_of}
+use Rattle.pg_model.specs.Run.{first, beginning, configuration, present_at, view_at}
 use Rattle.pg_model.specs.declared.configuration.Standing.{Standing}
+use Rattle.pg_model.proofs.LawsMade.{AreWaiting, AreWaiting-none, AreWaiting-after, present-rise, present-none, has_id-present, waiting_sent}
 use Rattle.pg_model.proofs.LawsStandings.{standing_at-map}
 use Rattle.pg_model.specs.declared.view.View.{View}
 use Rattle.pg_model.specs.declared.configuration.Configuration.{Configuration}
@@ -29,12 +34,28 @@ length-gathered_from place (a ∷ rest) (value ∷ values) contributed e =
     let e' : length values ≡ length rest = omega arith in
     ap suc (length-gathered_from (place + 1) rest values contributed e')
 
--- what a superstep that begins with xs makes of one of them
+-- what a superstep of the vertices xs makes of one of them
 abbrev pub standing_after : {V M : Type 0} → Job V M → View → List (Standing V M) → Standing V M → Standing V M
 standing_after job view xs x = record {
   state = state_after x.state (outcome job.program view x);
   inbox = delivered job.combining x.state.id (sends job.program view xs);
 }
+
+-- the vertices that have a state stand by rising id, and so does what waits for others
+pub record IsInOrder {V M : Type 0} (c : Configuration V M) : Type 0 where
+  pub standings : IsStrictlySortedBy nat_cmp (ids c.standings)
+  pub waiting : AreWaiting (ids c.standings) c.waiting
+
+or_true : (a : Bool) → (a || true) ≡ true
+or_true true = refl
+or_true false = refl
+
+or_right : (a b : Bool) → (a || b) ≡ true → a ≡ false → b ≡ true
+or_right true b h e = absurd (true≢false e)
+or_right false b h e = h
+
+waiting-drop : {M : Type 0} (missing : Missing) (combining : Option (Combining M)) (strays : List (ℕ × M)) → missing ≡ Drop → waiting_after missing combining strays ≡ []
+waiting-drop missing combining strays drops = ap (λ m. waiting_after m combining strays) drops
 
 module _ {V M : Type 0} where
   -- what leaves each vertex its id leaves the ids
@@ -47,35 +68,114 @@ module _ {V M : Type 0} where
   ids-beginning program (row ∷ rows) = ap (◌∷◌ row.0) (ids-beginning program rows)
 
   module _ (job : Job V M) where
-    -- a superstep leaves the ids
-    pub ids-next : (totals : Totals) (s : ℕ) (c : Configuration V M) → ids (next job totals s c).standings ≡ ids c.standings
+    -- after a superstep the ids are those of its vertices
+    pub ids-next : (s : ℕ) (c : Configuration V M) → ids (next job s c).standings ≡ ids (present job.program c)
     unfolding next
-    ids-next totals s c = ids-map _ (λ x. refl) c.standings
+    ids-next s c = ids-map _ (λ x. refl) (present job.program c)
 
-    -- and makes of each vertex its outcome's state, with what was sent to it
-    pub standing_at-next : (totals : Totals) (s : ℕ) (c : Configuration V M) (id : ℕ) → standing_at id (next job totals s c).standings ≡ option_map (standing_after job (view_in job totals s c) c.standings) (standing_at id c.standings)
+    -- and each of them has its outcome's state, with what was sent to it
+    pub standing_at-next : (s : ℕ) (c : Configuration V M) (id : ℕ) → standing_at id (next job s c).standings ≡ option_map (standing_after job (view_in job s c) (present job.program c)) (standing_at id (present job.program c))
     unfolding next
-    standing_at-next totals s c id = standing_at-map _ (λ x. refl) id c.standings
+    standing_at-next s c id = standing_at-map _ (λ x. refl) id (present job.program c)
+
+    -- the order is kept
+    pub IsInOrder-next : (s : ℕ) (c : Configuration V M) → IsInOrder c → IsInOrder (next job s c)
+    unfolding next
+    IsInOrder-next s c h =
+        let xs : List (Standing V M) = present job.program c in
+        let all : List (ℕ × M) = sends job.program (view_in job s c) xs in
+        record {
+          standings = subst (IsStrictlySortedBy nat_cmp) (sym (ids-next s c)) (present-rise job.program c h.standings h.waiting);
+          waiting = subst (λ is. AreWaiting is (waiting_after job.missing job.combining (astray (ids xs) all))) (sym (ids-next s c)) (AreWaiting-after job.missing job.combining (ids xs) all);
+        }
 
     module _ (rows : Rows) where
-      -- every configuration has the graph's ids, in their order
-      pub ids-configuration : (s : ℕ) → ids (configuration job rows s).standings ≡ keys_of rows
-      unfolding first configuration
-      ids-configuration zero = ids-beginning job.program rows
-      ids-configuration (suc s) = ids-next (totals_of rows) s (configuration job rows s) ∙ ids-configuration s
+      IsInOrder-first : HasRisingIds rows → IsInOrder (first job rows)
+      unfolding first
+      IsInOrder-first rising = record {
+        standings = subst (IsStrictlySortedBy nat_cmp) (sym (ids-beginning job.program rows)) rising;
+        waiting = AreWaiting-none (ids (map (beginning job.program) rows));
+      }
 
-      -- where the rows' ids rise, so do the vertices'
-      pub ids_rise : HasRisingIds rows → (s : ℕ) → IsStrictlySortedBy nat_cmp (ids (configuration job rows s).standings)
-      ids_rise rising s = subst (IsStrictlySortedBy nat_cmp) (sym (ids-configuration s)) rising
+      -- where the rows' ids rise, every configuration is in order
+      pub in_order : HasRisingIds rows → (s : ℕ) → IsInOrder (configuration job rows s)
+      unfolding configuration
+      in_order rising zero = IsInOrder-first rising
+      in_order rising (suc s) = IsInOrder-next s (configuration job rows s) (in_order rising s)
+
+      -- and so are the vertices of every superstep
+      pub ids_rise : HasRisingIds rows → (s : ℕ) → IsStrictlySortedBy nat_cmp (ids (present_at job rows s))
+      ids_rise rising s = let h = in_order rising s in present-rise job.program (configuration job rows s) h.standings h.waiting
+
+      -- ---- where messages to nobody are dropped
+
+      -- nothing ever waits
+      pub none_waits : job.missing ≡ Drop → (s : ℕ) → (configuration job rows s).waiting ≡ []
+      unfolding first configuration next
+      none_waits drops zero = refl
+      none_waits drops (suc s) = waiting-drop job.missing job.combining _ drops
+
+      -- the vertices of a superstep are those that have a state
+      pub present-drop : job.missing ≡ Drop → (s : ℕ) → present_at job rows s ≡ (configuration job rows s).standings
+      present-drop drops s = present-none job.program (configuration job rows s) (none_waits drops s)
+
+      -- every configuration has the graph's ids, in their order
+      pub ids-configuration : job.missing ≡ Drop → (s : ℕ) → ids (configuration job rows s).standings ≡ keys_of rows
+      unfolding first configuration
+      ids-configuration drops zero = ids-beginning job.program rows
+      ids-configuration drops (suc s) =
+          ids-next s (configuration job rows s) ∙ (ap (λ (xs : List (Standing V M)). ids xs) (present-drop drops s) ∙ ids-configuration drops s)
 
       -- there are as many vertices in every configuration as rows
-      pub length-standings : (s : ℕ) → length (configuration job rows s).standings ≡ length rows
-      length-standings s =
-          sym (length-map (configuration job rows s).standings (λ (x : Standing V M). x.state.id)) ∙ (ap length (ids-configuration s) ∙ length-map rows (λ (row : ℕ × Row). row.0))
+      pub length-standings : job.missing ≡ Drop → (s : ℕ) → length (configuration job rows s).standings ≡ length rows
+      length-standings drops s =
+          sym (length-map (configuration job rows s).standings (λ (x : Standing V M). x.state.id)) ∙ (ap length (ids-configuration drops s) ∙ length-map rows (λ (row : ℕ × Row). row.0))
+
+      -- ---- where they make vertices
+
+      -- an id that has a state keeps one
+      pub ids-grow : (s id : ℕ) → has_id (ids (configuration job rows s).standings) id ≡ true → has_id (ids (configuration job rows (suc s)).standings) id ≡ true
+      unfolding configuration
+      ids-grow s id h =
+          let c : Configuration V M = configuration job rows s in
+          ap (λ is. has_id is id) (ids-next s c) ∙ (has_id-present job.program c id ∙ (ap (λ b. has_id (map (λ w. w.0) c.waiting) id || b) h ∙ or_true (has_id (map (λ w. w.0) c.waiting) id)))
+
+      -- an id was sent to at least two supersteps ago
+      pub record WasSentTo (s id : ℕ) : Type 0 where
+        pub before : ℕ
+        pub earlier : before + 1 < s
+        pub sent : has_id (map (λ m. m.0) (sends job.program (view_at job rows before) (present_at job rows before))) id ≡ true
+
+      waited : (s id : ℕ) → has_id (map (λ w. w.0) (configuration job rows s).waiting) id ≡ true → WasSentTo (suc s) id
+      unfolding first configuration next
+      waited zero id h = absurd (true≢false (sym h))
+      waited (suc s) id h = record {
+        before = s;
+        earlier = omega arith;
+        sent = waiting_sent job.missing job.combining (ids (present_at job rows s)) (sends job.program (view_at job rows s) (present_at job rows s)) id h;
+      }
+
+      -- an id that has a state is the graph's, or was sent to
+      pub id_from : (s id : ℕ) → has_id (ids (configuration job rows s).standings) id ≡ true → (has_id (keys_of rows) id ≡ true) ⊎ WasSentTo s id
+      unfolding first configuration
+      id_from zero id h = inl (sym (ap (λ is. has_id is id) (ids-beginning job.program rows)) ∙ h)
+      id_from (suc s) id h =
+          let c : Configuration V M = configuration job rows s in
+          let either = sym (has_id-present job.program c id) ∙ (sym (ap (λ is. has_id is id) (ids-next s c)) ∙ h) in
+          elim (cases_Bool (has_id (map (λ w. w.0) c.waiting) id)) [
+            | inl waits ↦ inr (waited s id waits)
+            | inr not ↦
+                elim (id_from s id (or_right (has_id (map (λ w. w.0) c.waiting) id) (has_id (ids c.standings) id) either not)) [
+                  | inl theirs ↦ inl theirs
+                  | inr was ↦ inr (record { before = was.before; earlier = omega (arith, was.earlier); sent = was.sent })
+                ]
+          ]
+
+      -- ---- under both
 
       -- there is a gathered value for each aggregator in every configuration
       pub length-gathered : KeepsPlaces job → (s : ℕ) → length (configuration job rows s).gathered ≡ length job.aggregators
       unfolding first configuration next visible_in
       length-gathered keeps zero = length-map job.aggregators (λ (a : Aggregating). a.initial)
       length-gathered keeps (suc s) =
-          length-gathered_from 0 job.aggregators _ _ (keeps s (totals_of rows) (configuration job rows s).gathered (length-gathered keeps s))
+          length-gathered_from 0 job.aggregators _ _ (keeps s (totals_of (configuration job rows s)) (configuration job rows s).gathered (length-gathered keeps s))

@@ -4,8 +4,8 @@ use Rattle.std.specs.Option.{unwrap_or}
 use Rattle.std.proofs.lemmas.Bool.{cond_both, cases_lt, cases_order, both_ways}
 use Rattle.pg_graph.specs.Rows.{Rows}
 use Rattle.pg_model.specs.Job.{Job}
-use Rattle.pg_model.specs.Superstep.{visible, is_all_idle}
-use Rattle.pg_model.specs.Run.{configuration, totals_of, ending_after, length_from, run_length, answer}
+use Rattle.pg_model.specs.Superstep.{is_all_idle}
+use Rattle.pg_model.specs.Run.{configuration, visible_at, ending_after, length_from, run_length, answer}
 use Rattle.pg_model.specs.declared.run.Ending.{Ending}
 use Rattle.pg_model.specs.declared.run.Ending.TheVariants.{MasterHalted, Finished, LimitReached}
 
@@ -27,7 +27,7 @@ module _ {V M : Type 0} (job : Job V M) (rows : Rows) where
   -- the run ends at its limit at the latest
   pub ends_at_limit : (s : ℕ) → s + 1 ≡ job.limit → is_some (ending_after job rows s) ≡ true
   ends_at_limit s e =
-      last_test {X = Ending} (visible job (totals_of rows) s (configuration job rows s)).halt (is_all_idle job (totals_of rows) (configuration job rows (s + 1)).standings) (s + 1 == job.limit) MasterHalted Finished LimitReached (eq-eqb (s + 1) job.limit e)
+      last_test {X = Ending} (visible_at job rows s).halt (is_all_idle (configuration job rows (s + 1))) (s + 1 == job.limit) MasterHalted Finished LimitReached (eq-eqb (s + 1) job.limit e)
 
   from-le-length_from : (left s : ℕ) → s ≤ length_from job rows left s
   unfolding length_from

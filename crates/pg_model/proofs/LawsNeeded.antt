@@ -6,12 +6,11 @@ use Rattle.std.specs.Ordering.{int_eq}
 use Rattle.std.proofs.lemmas.Bool.{eq-eqb}
 use Rattle.std.proofs.lemmas.Bool.Decides.{Decides-int_eq}
 use Rattle.pg_graph.specs.Rows.{Rows, HasRisingIds}
-use Rattle.pg_graph.specs.declared.graph.Row.{Row}
 use Rattle.pg_model.specs.Job.{Job, Inputs}
-use Rattle.pg_model.specs.Superstep.{is_active}
-use Rattle.pg_model.specs.Run.{configuration, run_length, executions_below, executions, executed}
-use Rattle.pg_model.specs.Needed.{standing_at, inputs_at, view_eq, edge_eq, inputs_eq, is_changed, is_needed, needed_below, needed_count}
-use Rattle.pg_model.proofs.LawsIds.{ids-configuration, ids_rise}
+use Rattle.pg_model.specs.Superstep.{is_active, ids}
+use Rattle.pg_model.specs.Run.{present_at, run_length, executions_below, executions}
+use Rattle.pg_model.specs.Needed.{standing_at, inputs_at, view_eq, edge_eq, inputs_eq, is_changed, is_needed, needed_in, needed_below, needed_count}
+use Rattle.pg_model.proofs.LawsIds.{ids_rise}
 use Rattle.pg_model.proofs.LawsInputs.{inputs_of_executed, no_inputs_idle}
 use Rattle.pg_model.proofs.LawsLists.{all_weaker, all-filter, all_pass, filter-map, same_count, count_by-map, count-none}
 use Rattle.pg_model.proofs.LawsStandings.{found_by_id}
@@ -22,7 +21,7 @@ use Rattle.pg_model.specs.declared.view.View.{View}
 
 module _ {V M : Type 0} (job : Job V M) (rows : Rows) where
   -- a vertex of the run has inputs where it is active
-  has_inputs : (s : ℕ) (x : Standing V M) → s < run_length job rows → standing_at x.state.id (configuration job rows s).standings ≡ Some x → is_some (inputs_at job rows s x.state.id) ≡ is_active x
+  has_inputs : (s : ℕ) (x : Standing V M) → s < run_length job rows → standing_at x.state.id (present_at job rows s) ≡ Some x → is_some (inputs_at job rows s x.state.id) ≡ is_active x
   has_inputs s x within at = by (is_active x) refl
     where
       by : (b : Bool) → is_active x ≡ b → is_some (inputs_at job rows s x.state.id) ≡ is_active x
@@ -30,21 +29,14 @@ module _ {V M : Type 0} (job : Job V M) (rows : Rows) where
       by false e = ap is_some (no_inputs_idle job rows s x.state.id x at e) ∙ sym e
 
   -- of the vertices whose ids pass a test, as many have inputs in a superstep of the run as are executed in it
-  pub count-inputs_of : HasRisingIds rows → (s : ℕ) → s < run_length job rows → (picks : ℕ → Bool) → count_by (λ row. is_some (inputs_at job rows s row.0)) (filter (λ row. picks row.0) rows) ≡ count_by is_active (filter (λ x. picks x.state.id) (configuration job rows s).standings)
+  pub count-inputs_of : HasRisingIds rows → (s : ℕ) → s < run_length job rows → (picks : ℕ → Bool) → count_by (λ id. is_some (inputs_at job rows s id)) (filter picks (ids (present_at job rows s))) ≡ count_by is_active (filter (λ x. picks x.state.id) (present_at job rows s))
   count-inputs_of rising s within picks =
-      let xs : List (Standing V M) = (configuration job rows s).standings in
+      let xs : List (Standing V M) = present_at job rows s in
       let test : ℕ → Bool = λ id. is_some (inputs_at job rows s id) in
       let some : Standing V M → Bool = λ x. picks x.state.id in
-      sym (count_by-map test (λ (row : ℕ × Row). row.0) (filter (λ (row : ℕ × Row). picks row.0) rows))
-      ∙ (ap (count_by test) (sym (filter-map picks (λ (row : ℕ × Row). row.0) rows) ∙ (ap (filter picks) (sym (ids-configuration job rows s)) ∙ filter-map picks (λ (x : Standing V M). x.state.id) xs))
+      ap (count_by test) (filter-map picks (λ (x : Standing V M). x.state.id) xs)
       ∙ (count_by-map test (λ (x : Standing V M). x.state.id) (filter some xs)
-      ∙ same_count (λ (x : Standing V M). test x.state.id) is_active (filter some xs) (all_weaker (λ (x : Standing V M). standing_at x.state.id xs ≡ Some x) (λ (x : Standing V M). test x.state.id ≡ is_active x) (λ x at. has_inputs s x within at) (filter some xs) (all-filter (λ (x : Standing V M). standing_at x.state.id xs ≡ Some x) some xs (found_by_id xs (ids_rise job rows rising s))))))
-
-  -- and so of all vertices
-  pub count-inputs : HasRisingIds rows → (s : ℕ) → s < run_length job rows → count_by (λ row. is_some (inputs_at job rows s row.0)) rows ≡ executed job rows (configuration job rows s).standings
-  count-inputs rising s within =
-      sym (ap (count_by (λ (row : ℕ × Row). is_some (inputs_at job rows s row.0))) (all_pass (λ (row : ℕ × Row). true) (λ x. refl) rows))
-      ∙ (count-inputs_of rising s within (λ id. true) ∙ ap (count_by is_active) (all_pass (λ (x : Standing V M). true) (λ x. refl) (configuration job rows s).standings))
+      ∙ same_count (λ (x : Standing V M). test x.state.id) is_active (filter some xs) (all_weaker (λ (x : Standing V M). standing_at x.state.id xs ≡ Some x) (λ (x : Standing V M). test x.state.id ≡ is_active x) (λ x at. has_inputs s x within at) (filter some xs) (all-filter (λ (x : Standing V M). standing_at x.state.id xs ≡ Some x) some xs (found_by_id xs (ids_rise job rows rising s)))))
 
 module _ {V M : Type 0} (value_eq : V → V → Bool) (message_eq : M → M → Bool) where
   changed_from_none : (new : Option (Inputs V M)) → is_changed value_eq message_eq None new ≡ is_some new
@@ -56,13 +48,18 @@ module _ {V M : Type 0} (value_eq : V → V → Bool) (message_eq : M → M → 
     pub is_needed-none : (s id : ℕ) → is_needed value_eq message_eq job None rows s id ≡ is_some (inputs_at job rows s id)
     is_needed-none s id = changed_from_none (inputs_at job rows s id)
 
+    -- beside no run, as many are needed of some vertices as are executed of them
+    pub needed_in-none : HasRisingIds rows → (s : ℕ) → s < run_length job rows → (picks : ℕ → Bool) → needed_in value_eq message_eq job None rows picks s ≡ count_by is_active (filter (λ x. picks x.state.id) (present_at job rows s))
+    needed_in-none rising s within picks =
+        ap (λ (test : ℕ → Bool). count_by test (filter picks (ids (present_at job rows s)))) (λ i id. is_needed-none s id i) ∙ count-inputs_of job rows rising s within picks
+
     -- beside no run, every execution of the run is needed
     pub needed_below-none : HasRisingIds rows → (s : ℕ) → s ≤ run_length job rows → needed_below value_eq message_eq job None rows s ≡ executions_below job rows s
     unfolding needed_below executions_below
     needed_below-none rising zero within = refl
     needed_below-none rising (suc s) within =
-        let each : count_by (λ (row : ℕ × Row). is_needed value_eq message_eq job None rows s row.0) rows ≡ count_by (λ (row : ℕ × Row). is_some (inputs_at job rows s row.0)) rows = ap (λ (test : ℕ × Row → Bool). count_by test rows) (λ i row. is_needed-none s row.0 i) in
-        ap₂ ◌+◌ (needed_below-none rising s (omega arith)) (each ∙ count-inputs job rows rising s within)
+        let each = needed_in-none rising s (omega arith) (λ id. true) ∙ ap (count_by is_active) (all_pass (λ (x : Standing V M). true) (λ x. refl) (present_at job rows s)) in
+        ap₂ ◌+◌ (needed_below-none rising s (omega arith)) each
 
     -- so as many are needed as the run has
     pub needed_count-none : HasRisingIds rows → needed_count value_eq message_eq job None rows ≡ executions job rows
@@ -106,7 +103,8 @@ module _ {V M : Type 0} (value_eq : V → V → Bool) (message_eq : M → M → 
     unfolding needed_below
     needed_below-same zero = refl
     needed_below-same (suc s) =
-        let none : count_by (λ (row : ℕ × Row). is_needed value_eq message_eq job (Some rows) rows s row.0) rows ≡ 0 = ap (λ (test : ℕ × Row → Bool). count_by test rows) (λ i row. unchanged (inputs_at job rows s row.0) i) ∙ count-none rows in
+        let is : List ℕ = filter (λ id. true) (ids (present_at job rows s)) in
+        let none : count_by (λ id. is_needed value_eq message_eq job (Some rows) rows s id) is ≡ 0 = ap (λ (test : ℕ → Bool). count_by test is) (λ i id. unchanged (inputs_at job rows s id) i) ∙ count-none is in
         ap₂ ◌+◌ (needed_below-same s) none
 
     -- not in the whole run

@@ -6,9 +6,11 @@ pub mod LawsIds
 pub mod LawsInputs
 pub mod LawsLength
 pub mod LawsLists
+pub mod LawsMade
 pub mod LawsNeeded
 pub mod LawsPublications
 pub mod LawsShares
 pub mod LawsStandings
+mod MadeVertices
 mod ReadyPrograms
 mod ShortestPaths

@@ -4,6 +4,7 @@ use Rattle.std.specs.Ordering.{int_eq}
 use Rattle.pg_graph.specs.Rows.{Rows}
 use Rattle.pg_graph.specs.EdgeList.{EdgeList}
 use Rattle.pg_graph.specs.declared.graph.Row.{Row}
+use Rattle.pg_graph.specs.declared.missing.Missing.TheVariants.{Drop}
 use Rattle.pg_model.specs.Job.{Job, Aggregating, Program}
 use Rattle.pg_model.specs.Superstep.{visible_in, view_of, outcome, gathered_from, next}
 use Rattle.pg_model.specs.Run.{first, configuration, length_from, executions_below, executions, answer}
@@ -12,7 +13,7 @@ use Rattle.pg_model.specs.Programs.{cc, cc_step, max_value, max_step, max_aggreg
 use Rattle.pg_model.specs.declared.run.Ending.TheVariants.{MasterHalted, Finished}
 
 abbrev plain : Program ℤ ℤ → List Aggregating → Job ℤ ℤ
-plain program aggregators = record { program = program; combining = None; aggregators = aggregators; deciding = leaves_all; limit = 1000 }
+plain program aggregators = record { program = program; combining = None; aggregators = aggregators; deciding = leaves_all; missing = Drop; limit = 1000 }
 
 abbrev row : EdgeList → Row
 row edges = record { input = pos 0; edges = edges }
@@ -83,7 +84,7 @@ star-needed = refl
 
 -- ---- pagerank that ends once the ranks stay: 1 and 2 point at each other, and then with a vertex 3 beside them
 abbrev ranking : Job ℤ ℤ
-ranking = record { program = pagerank 30; combining = None; aggregators = pagerank_aggregators; deciding = pagerank_deciding (pos 1); limit = 1000 }
+ranking = record { program = pagerank 30; combining = None; aggregators = pagerank_aggregators; deciding = pagerank_deciding (pos 1); missing = Drop; limit = 1000 }
 
 abbrev pair : Rows
 pair = (1, row (to 2 ∷ [])) ∷ (2, row (to 1 ∷ [])) ∷ []
@@ -113,7 +114,7 @@ three-needed = refl
 
 -- ---- the inbox is by sender: 1 and 2, of inputs 10 and 20, both send to 3
 abbrev tallying : Job (ℤ × List ℤ) ℤ
-tallying = record { program = tally; combining = None; aggregators = []; deciding = leaves_all; limit = 1000 }
+tallying = record { program = tally; combining = None; aggregators = []; deciding = leaves_all; missing = Drop; limit = 1000 }
 
 abbrev two_senders : Rows
 two_senders =

@@ -3,6 +3,7 @@ use Rattle.std.proofs.Common.{◌≡◌, ℕ, ℤ, pos, negsuc, [], ◌∷◌, O
 use Rattle.pg_graph.specs.Rows.{Rows}
 use Rattle.pg_graph.specs.EdgeList.{EdgeList}
 use Rattle.pg_graph.specs.declared.graph.Row.{Row}
+use Rattle.pg_graph.specs.declared.missing.Missing.TheVariants.{Drop}
 use Rattle.std.specs.Ordering.{int_eq}
 use Rattle.pg_model.specs.Aggregators.{least_message}
 use Rattle.pg_model.specs.Job.{Job, Combining}
@@ -13,7 +14,7 @@ use Rattle.pg_model.specs.Programs.{infinity, sssp, sssp_step, sssp_aggregators,
 use Rattle.pg_model.specs.declared.run.Ending.TheVariants.{Finished, LimitReached}
 
 abbrev from_1 : Option (Combining ℤ) → ℕ → Job ℤ ℤ
-from_1 combining limit = record { program = sssp 1; combining = combining; aggregators = sssp_aggregators; deciding = leaves_all; limit = limit }
+from_1 combining limit = record { program = sssp 1; combining = combining; aggregators = sssp_aggregators; deciding = leaves_all; missing = Drop; limit = limit }
 
 abbrev row : EdgeList → Row
 row edges = record { input = pos 0; edges = edges }

@@ -1,6 +1,7 @@
--- A job: a program, a combiner, aggregators, a master and a limit, each as pure functions.
+-- A job: a program, a combiner, aggregators and a master, each as pure functions, what becomes of messages to nobody, and a limit.
 use Rattle.std.specs.Prelude.{ℕ, ◌/◌, ◌%◌, ◌^◌, ◌==◌, Bool, List, Option, ℤ}
 use Rattle.pg_graph.specs.EdgeList.{EdgeList}
+use Rattle.pg_graph.specs.declared.missing.Missing.{Missing}
 use Rattle.pg_model.specs.declared.record.Record.{Record}
 use Rattle.pg_model.specs.declared.view.Declared.{Declared}
 use Rattle.pg_model.specs.declared.view.View.{View}
@@ -31,7 +32,7 @@ pub record Aggregating : Type 0 where
   pub initial : ℤ
   pub persistent : Bool
 
--- the numbers of vertices and edges of the graph as the run began
+-- the numbers of vertices and edges as a superstep begins
 pub record Totals : Type 0 where
   pub vertices : ℕ
   pub edges : ℕ
@@ -50,6 +51,7 @@ pub record Job (V M : Type 0) : Type 0 where
   pub combining : Option (Combining M)
   pub aggregators : List Aggregating
   pub deciding : Deciding
+  pub missing : Missing
   pub limit : ℕ
 
 -- whether a set of places has a place

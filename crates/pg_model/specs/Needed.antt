@@ -1,13 +1,13 @@
 -- The inputs of an execution, and the executions that a run needs beside a run that was kept (this project's).
 use Rattle.std.specs.Prelude.{◌≡◌, ℕ, ◌+◌, ◌==◌, nat_lt, zero, suc, Bool, true, false, cond, not, ◌&&◌, List, ℤ, Option, None, Some, ◌≢◌}
-use Rattle.std.specs.List.{find, count_by}
+use Rattle.std.specs.List.{find, filter, count_by}
 use Rattle.std.specs.Option.{option_and_then, option_eq}
 use Rattle.std.specs.Ordering.{int_eq}
 use Rattle.std.specs.Cmp.Lexicographic.{pointwise}
 use Rattle.pg_graph.specs.Rows.{Rows}
 use Rattle.pg_model.specs.Job.{Inputs, Job}
-use Rattle.pg_model.specs.Superstep.{is_active, inputs_of, view_in}
-use Rattle.pg_model.specs.Run.{totals_of, configuration, run_length}
+use Rattle.pg_model.specs.Superstep.{is_active, ids, inputs_of}
+use Rattle.pg_model.specs.Run.{present_at, view_at, run_length}
 use Rattle.pg_model.specs.declared.configuration.Standing.{Standing}
 use Rattle.pg_model.specs.declared.view.View.{View}
 
@@ -24,7 +24,7 @@ module _ {V M : Type 0} where
     -- what vertex id reads in superstep s, where the run has that superstep and executes it there
     unfoldable pub inputs_at : Rows → ℕ → ℕ → Option (Inputs V M)
     inputs_at rows s id =
-        cond (nat_lt s (run_length job rows)) (option_and_then (inputs_if_active (view_in job (totals_of rows) s (configuration job rows s))) (standing_at id (configuration job rows s).standings)) None
+        cond (nat_lt s (run_length job rows)) (option_and_then (inputs_if_active (view_at job rows s)) (standing_at id (present_at job rows s))) None
 
     -- the same of a graph that was kept, if any
     abbrev pub kept_inputs_at : Option Rows → ℕ → ℕ → Option (Inputs V M)
@@ -60,10 +60,14 @@ module _ {V M : Type 0} where
       abbrev pub is_needed : ℕ → ℕ → Bool
       is_needed s id = is_changed (kept_inputs_at job kept s id) (inputs_at job rows s id)
 
+      -- how many executions are needed in superstep s, of those vertices whose ids a test picks
+      abbrev pub needed_in : (ℕ → Bool) → ℕ → ℕ
+      needed_in picks s = count_by (is_needed s) (filter picks (ids (present_at job rows s)))
+
       -- how many executions are needed in the supersteps below s
       unfoldable pub needed_below : ℕ → ℕ
       needed_below zero = 0
-      needed_below (suc s) = needed_below s + count_by (λ row. is_needed s row.0) rows
+      needed_below (suc s) = needed_below s + needed_in (λ id. true) s
 
       -- how many executions the run needs
       abbrev pub needed_count : ℕ

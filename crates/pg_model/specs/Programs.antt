@@ -1,5 +1,5 @@
 -- The ready programs: what each has declared, the value that a vertex begins with, and its step.
-use Rattle.std.specs.Prelude.{ℕ, ◌==◌, nat_lt, nat_le, Bool, true, false, cond, ◌&&◌, ◌||◌, not, List, [], ◌∷◌, map, length, ℤ, pos, ◌+ℤ◌, ◌-ℤ◌, ◌*ℤ◌, int_lt, int_le, int_div, nat_abs}
+use Rattle.std.specs.Prelude.{ℕ, ◌==◌, nat_lt, nat_le, Bool, true, false, cond, ◌&&◌, ◌||◌, not, List, [], ◌∷◌, map, length, min, drop, ℤ, pos, ◌+ℤ◌, ◌-ℤ◌, ◌*ℤ◌, int_lt, int_le, int_div, nat_abs}
 use Rattle.std.specs.Option.{unwrap_or}
 use Rattle.std.specs.Ordering.{int_eq}
 use Rattle.std.specs.Int.{w64, int_min, int_max, int_wrapping_add, saturate_signed}
@@ -191,3 +191,22 @@ tally_step i =
 
 abbrev pub tally : Program (ℤ × List ℤ) ℤ
 tally = record { declared = only_writes 0; initial = λ id input. (input, []); step = tally_step }
+
+-- ---- Shed: a vertex takes away its first edge, and then tells how many edges are left in all
+unfoldable pub shed_step : Inputs ℤ ℤ → Record ℤ ℤ
+shed_step i =
+    let is_first : Bool = i.view.superstep == 0 in
+    record {
+      value = cond is_first i.value (pos (min (unwrap_or i.view.total_edges 0) 9223372036854775807));
+      edges = cond is_first (drop 1 i.edges) i.edges;
+      halted = not is_first;
+      sent = [];
+      contributed = [];
+    }
+
+abbrev pub shed : Program ℤ ℤ
+shed = record {
+  declared = record { reads = 0; writes = 0; total_vertices = false; total_edges = true };
+  initial = λ id input. input;
+  step = shed_step;
+}

@@ -1,19 +1,19 @@
--- A run: supersteps 0, 1, 2 and so on until one ends it, and its answer (Pregel, section 2).
+-- A run: supersteps 0, 1, 2 and so on until one ends it, and its answer (Pregel, section 2). The configurations go
+-- on beyond the end of the run; what stands there means nothing.
 use Rattle.std.specs.Prelude.{ℕ, zero, suc, ◌+◌, ◌-◌, false, List, [], map, Option, is_some, cond}
 use Rattle.std.specs.Option.{unwrap_or}
 use Rattle.std.specs.List.{count_by}
-use Rattle.pg_graph.specs.Rows.{Rows, vertex_count, edge_count}
+use Rattle.pg_graph.specs.Rows.{Rows}
 use Rattle.pg_graph.specs.declared.graph.Row.{Row}
-use Rattle.pg_model.specs.Job.{Program, Totals, Job}
-use Rattle.pg_model.specs.Superstep.{is_active, next, ending}
+use Rattle.pg_model.specs.Job.{Program, Job}
+use Rattle.pg_model.specs.Superstep.{is_active, present, visible, view_in, next, ending}
 use Rattle.pg_model.specs.declared.configuration.Standing.{Standing}
 use Rattle.pg_model.specs.declared.configuration.Configuration.{Configuration}
 use Rattle.pg_model.specs.declared.run.Ending.{Ending}
 use Rattle.pg_model.specs.declared.run.Ending.TheVariants.{LimitReached}
 use Rattle.pg_model.specs.declared.run.Run.{Run}
-
-abbrev pub totals_of : Rows → Totals
-totals_of rows = record { vertices = vertex_count rows; edges = edge_count rows }
+use Rattle.pg_model.specs.declared.view.View.{View}
+use Rattle.pg_model.specs.declared.view.Visible.{Visible}
 
 -- a vertex as the run begins: the program's initial value, the row's edges, not halted, nothing received
 abbrev pub beginning : {V M : Type 0} → Program V M → ℕ × Row → Standing V M
@@ -27,6 +27,7 @@ module _ {V M : Type 0} (job : Job V M) where
   unfoldable pub first : Rows → Configuration V M
   first rows = record {
     standings = map (beginning job.program) rows;
+    waiting = [];
     gathered = map (λ a. a.initial) job.aggregators;
     sent = 0;
     dropped = 0;
@@ -36,11 +37,21 @@ module _ {V M : Type 0} (job : Job V M) where
     -- what stands at the start of superstep s
     unfoldable pub configuration : ℕ → Configuration V M
     configuration zero = first rows
-    configuration (suc s) = next job (totals_of rows) s (configuration s)
+    configuration (suc s) = next job s (configuration s)
+
+    -- the vertices of superstep s, and what they see in it
+    abbrev pub present_at : ℕ → List (Standing V M)
+    present_at s = present job.program (configuration s)
+
+    abbrev pub visible_at : ℕ → Visible
+    visible_at s = visible job s (configuration s)
+
+    abbrev pub view_at : ℕ → View
+    view_at s = view_in job s (configuration s)
 
     -- the ending that the test after superstep s finds, if any
     abbrev pub ending_after : ℕ → Option Ending
-    ending_after s = ending job (totals_of rows) s (configuration s) (configuration (s + 1))
+    ending_after s = ending job s (configuration s) (configuration (s + 1))
 
     -- the first number of supersteps above s, at most `left` more, with which the run ends
     unfoldable pub length_from : ℕ → ℕ → ℕ
@@ -58,7 +69,7 @@ module _ {V M : Type 0} (job : Job V M) where
     -- how many executions there are in the supersteps below s
     unfoldable pub executions_below : ℕ → ℕ
     executions_below zero = 0
-    executions_below (suc s) = executions_below s + executed (configuration s).standings
+    executions_below (suc s) = executions_below s + executed (present_at s)
 
     -- how many executions the run has
     abbrev pub executions : ℕ

@@ -1,6 +1,8 @@
 -- One superstep over the whole graph (Pregel, section 2: the model of computation).
-use Rattle.std.specs.Prelude.{ℕ, ◌+◌, ◌-◌, ◌^◌, ◌==◌, min, Bool, cond, not, ◌||◌, List, [], ◌∷◌, map, length, ℤ, Option, None, Some}
-use Rattle.std.specs.List.{filter, flat_map, fold, count_by, list_any, list_all}
+use Rattle.std.specs.Prelude.{ℕ, ◌+◌, ◌-◌, ◌^◌, ◌==◌, nat_lt, min, Bool, false, cond, not, ◌||◌, ◌&&◌, List, [], ◌∷◌, map, length, ℤ, pos, Option, None, Some}
+use Rattle.std.specs.List.{filter, flat_map, fold, sum_by, list_any, list_all}
+use Rattle.pg_graph.specs.declared.missing.Missing.{Missing}
+use Rattle.pg_graph.specs.declared.missing.Missing.TheVariants.{Drop, Create}
 use Rattle.pg_model.specs.Job.{Inputs, Program, Combining, Aggregating, Totals, Deciding, Decision, Job, has_place}
 use Rattle.pg_model.specs.declared.configuration.VertexState.{VertexState}
 use Rattle.pg_model.specs.declared.configuration.Standing.{Standing}
@@ -40,9 +42,30 @@ abbrev pub is_empty : {X : Type 0} → List X → Bool
 is_empty xs = length xs == 0
 
 module _ {V M : Type 0} where
+  -- among vertices by rising id
+  abbrev pub placed : Standing V M → List (Standing V M) → List (Standing V M)
+  placed x [] = x ∷ []
+  placed x (y ∷ ys) = cond (nat_lt x.state.id y.state.id) (x ∷ y ∷ ys) (y ∷ placed x ys)
+
+  -- a vertex that its first messages make: its initial value for input 0, no edges, not halted
+  abbrev pub made : Program V M → ℕ × List M → Standing V M
+  made program w = record { state = record { id = w.0; value = program.initial w.0 (pos 0); edges = []; halted = false }; inbox = w.1 }
+
+  -- the vertices of the superstep that begins with c: those that have a state, and those that messages make
+  abbrev pub present : Program V M → Configuration V M → List (Standing V M)
+  present program c = fold (λ xs w. placed (made program w) xs) c.standings c.waiting
+
+  -- how many vertices have a state, and how many out-edges they have
+  abbrev pub totals_of : Configuration V M → Totals
+  totals_of c = record { vertices = length c.standings; edges = capped (sum_by (λ x. length x.state.edges) c.standings) }
+
   -- a vertex is executed where it isn't halted or has a message
   abbrev pub is_active : Standing V M → Bool
   is_active x = not x.state.halted || not (is_empty x.inbox)
+
+  -- nobody is active, and nothing waits
+  abbrev pub is_all_idle : Configuration V M → Bool
+  is_all_idle c = list_all (λ x. not (is_active x)) c.standings && is_empty c.waiting
 
   -- a vertex that isn't executed stays, and sends and contributes nothing
   abbrev pub idle : VertexState V → Record V M
@@ -73,6 +96,12 @@ module _ {V M : Type 0} where
 abbrev pub has_id : List ℕ → ℕ → Bool
 has_id ids id = list_any (λ other. other == id) ids
 
+-- rising ids with one more, where it isn't among them
+abbrev pub with_id : List ℕ → ℕ → List ℕ
+with_id [] id = id ∷ []
+with_id (other ∷ others) id =
+    cond (nat_lt id other) (id ∷ other ∷ others) (cond (id == other) (other ∷ others) (other ∷ with_id others id))
+
 module _ {M : Type 0} where
   -- the messages to a vertex, in the order of the sends
   abbrev pub messages_to : ℕ → List (ℕ × M) → List M
@@ -88,9 +117,23 @@ module _ {M : Type 0} where
   abbrev pub delivered : Option (Combining M) → ℕ → List (ℕ × M) → List M
   delivered combining id sent = combined combining (messages_to id sent)
 
-  -- how many messages go to none of the ids
-  abbrev pub dropped_count : List ℕ → List (ℕ × M) → ℕ
-  dropped_count ids sent = count_by (λ m. not (has_id ids m.0)) sent
+  -- the messages that go to none of the ids
+  abbrev pub astray : List ℕ → List (ℕ × M) → List (ℕ × M)
+  astray ids sent = filter (λ m. not (has_id ids m.0)) sent
+
+  -- the targets of messages, rising, each once
+  abbrev pub targets : List (ℕ × M) → List ℕ
+  targets sent = fold with_id [] (map (λ m. m.0) sent)
+
+  -- what waits after a superstep in which these messages went astray
+  abbrev pub waiting_after : Missing → Option (Combining M) → List (ℕ × M) → List (ℕ × List M)
+  waiting_after Drop combining strays = []
+  waiting_after Create combining strays = map (λ id. (id, delivered combining id strays)) (targets strays)
+
+  -- how many of them are dropped
+  abbrev pub dropped_count : Missing → List (ℕ × M) → ℕ
+  dropped_count Drop strays = length strays
+  dropped_count Create strays = 0
 
 -- the contributions at a place, in their order
 abbrev pub at_place : ℕ → List (ℕ × ℤ) → List ℤ
@@ -106,10 +149,10 @@ gathered_from place [] values contributions = []
 gathered_from place (a ∷ rest) [] contributions = []
 gathered_from place (a ∷ rest) (value ∷ values) contributions = gathered_at a value (at_place place contributions) ∷ gathered_from (place + 1) rest values contributions
 
-module _ {V M : Type 0} (job : Job V M) (totals : Totals) where
+module _ {V M : Type 0} (job : Job V M) where
   -- what the master shows in superstep s, which begins with c
   abbrev pub visible : ℕ → Configuration V M → Visible
-  visible s c = visible_in job.deciding totals s c.gathered
+  visible s c = visible_in job.deciding (totals_of c) s c.gathered
 
   -- what the program sees in it
   abbrev pub view_in : ℕ → Configuration V M → View
@@ -125,19 +168,18 @@ module _ {V M : Type 0} (job : Job V M) (totals : Totals) where
   unfoldable pub next : ℕ → Configuration V M → Configuration V M
   next s c =
       let view : View = view_in s c in
-      let all : List (ℕ × M) = sends job.program view c.standings in
+      let xs : List (Standing V M) = present job.program c in
+      let all : List (ℕ × M) = sends job.program view xs in
+      let strays : List (ℕ × M) = astray (ids xs) all in
       record {
-        standings = standings_after view c.standings;
-        gathered = gathered_from 0 job.aggregators (visible s c).values (contributions job.program view c.standings);
+        standings = standings_after view xs;
+        waiting = waiting_after job.missing job.combining strays;
+        gathered = gathered_from 0 job.aggregators (visible s c).values (contributions job.program view xs);
         sent = capped (c.sent + length all);
-        dropped = capped (c.dropped + dropped_count (ids c.standings) all);
+        dropped = capped (c.dropped + dropped_count job.missing strays);
       }
-
-  -- nobody is active
-  abbrev pub is_all_idle : List (Standing V M) → Bool
-  is_all_idle xs = list_all (λ x. not (is_active x)) xs
 
   -- the test after superstep s, which began with c and left d: the master halted, all is idle, the limit is reached
   abbrev pub ending : ℕ → Configuration V M → Configuration V M → Option Ending
   ending s c d =
-      cond (visible s c).halt (Some MasterHalted) (cond (is_all_idle d.standings) (Some Finished) (cond (s + 1 == job.limit) (Some LimitReached) None))
+      cond (visible s c).halt (Some MasterHalted) (cond (is_all_idle d) (Some Finished) (cond (s + 1 == job.limit) (Some LimitReached) None))

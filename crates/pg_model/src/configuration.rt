@@ -21,12 +21,14 @@ pub struct Standing<V, M> {
 /// What stands at the start of a superstep.
 #[derive(Drop)]
 pub struct Configuration<V, M> {
-    /// By rising id.
+    /// The vertices that have a state, by rising id.
     pub standings: Sequence<Standing<V, M>>,
+    /// What waits for ids that have no state, by rising id; no inbox is empty.
+    pub waiting: Sequence<(VertexId, Sequence<M>)>,
     /// The gathered aggregates, by place.
     pub gathered: Sequence<i64>,
     /// How many messages were sent so far, before combining; it stops at 2^64 - 1.
     pub sent: u64,
-    /// How many of them went to no vertex; it stops at 2^64 - 1.
+    /// How many of them were dropped; it stops at 2^64 - 1.
     pub dropped: u64,
 }

@@ -7,7 +7,7 @@ use pg_graph::VertexId;
 pub enum Ending {
     /// The master called halt.
     MasterHalted,
-    /// All vertices are halted and no vertex has a message.
+    /// All vertices are halted and no id has a message.
     Finished,
     /// As many supersteps were executed as the limit says.
     LimitReached,
@@ -25,6 +25,6 @@ pub struct Run<V> {
     pub supersteps: u32,
     /// How many messages were sent, before combining; it stops at 2^64 - 1.
     pub sent: u64,
-    /// How many of them went to no vertex; it stops at 2^64 - 1.
+    /// How many of them were dropped; it stops at 2^64 - 1.
     pub dropped: u64,
 }

@@ -12,8 +12,8 @@ pub struct Declared {
     pub total_edges: bool,
 }
 
-/// What the master shows in one superstep: a value for each place, whether it halted, and the numbers
-/// of vertices and edges of the graph as the run began.
+/// What the master shows in one superstep: a value for each place, whether it halted, and how many vertices
+/// and edges there are as the superstep begins.
 #[derive(Drop)]
 pub struct Visible {
     pub values: Sequence<i64>,

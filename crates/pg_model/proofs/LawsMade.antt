@@ -1,0 +1,282 @@
+-- Vertices that messages make: who waits, where they stand, and how the ids grow.
+use Rattle.std.proofs.Common.{◌≡◌, ℕ, ◌<◌, Bool, true, false, cond, not, ◌||◌, ◌==◌, ltb, List, [], ◌∷◌, map, Option, None, Some, refl, ap, sym, ◌∙◌, subst, arith, inl, inr, fold, filter}
+use Rattle.std.specs.List.{AllByRecursion}
+use Rattle.std.specs.List.Sorted.{IsStrictlySortedBy}
+use Rattle.std.specs.Ordering.{nat_cmp}
+use Rattle.std.specs.declared.cmp.Ordering.TheVariants.{Less}
+use Rattle.std.proofs.lemmas.Bool.{cases_Bool}
+use Rattle.std.proofs.lemmas.Bool.Decides.{nat_tests}
+use Rattle.pg_graph.specs.declared.missing.Missing.{Missing}
+use Rattle.pg_graph.specs.declared.missing.Missing.TheVariants.{Drop, Create}
+use Rattle.pg_model.proofs.LawsLists.{all_weaker, all_from_map}
+use Rattle.pg_model.specs.Job.{Combining, Program, Job}
+use Rattle.pg_model.specs.Superstep.{ids, is_empty, has_id, with_id, messages_to, combined, delivered, astray, targets, waiting_after, placed, made, present}
+use Rattle.pg_model.specs.declared.configuration.Standing.{Standing}
+use Rattle.pg_model.specs.declared.configuration.Configuration.{Configuration}
+
+-- ---- truth values
+
+or_swap : (a b c : Bool) → (a || (b || c)) ≡ (b || (a || c))
+or_swap true true c = refl
+or_swap true false c = refl
+or_swap false b c = refl
+
+or_assoc : (a b c : Bool) → ((a || b) || c) ≡ (a || (b || c))
+or_assoc true b c = refl
+or_assoc false b c = refl
+
+or_false : (b : Bool) → (b || false) ≡ b
+or_false true = refl
+or_false false = refl
+
+or_twice : (a b : Bool) → (a || b) ≡ (a || (a || b))
+or_twice true b = refl
+or_twice false b = refl
+
+-- ---- rising ids
+
+less_at : (a b : ℕ) → a < b → nat_cmp a b ≡ Less
+less_at a b h = grind (arith, nat_tests)
+
+lt_from_Less : (a b : ℕ) → nat_cmp a b ≡ Less → a < b
+lt_from_Less a b e = grind (arith, nat_tests)
+
+less_both : (a b c : ℕ) → ltb a b ≡ true → nat_cmp b c ≡ Less → nat_cmp a c ≡ Less
+less_both a b c h k = grind (arith, nat_tests)
+
+less_here : (a b : ℕ) → ltb a b ≡ true → nat_cmp a b ≡ Less
+less_here a b h = grind (arith, nat_tests)
+
+above_other : (a b : ℕ) → ltb a b ≡ false → (b == a) ≡ false → nat_cmp b a ≡ Less
+above_other a b h k = grind (arith, nat_tests)
+
+above_unlike : (a b : ℕ) → ltb a b ≡ false → (a == b) ≡ false → nat_cmp b a ≡ Less
+above_unlike a b h k = grind (arith, nat_tests)
+
+same_id : (a b : ℕ) → (a == b) ≡ true → a ≡ b
+same_id a b h = grind (arith, nat_tests)
+
+apart_from_less : (a b : ℕ) → nat_cmp a b ≡ Less → (a == b) ≡ false
+apart_from_less a b h = grind (arith, nat_tests)
+
+or_none : (a b : Bool) → (a || b) ≡ false → (a ≡ false) × (b ≡ false)
+or_none true b h = absurd (cc)
+or_none false b h = (refl, h)
+
+-- what holds of rising ids and of one more holds of all of them
+pub all-with_id : (P : ℕ → Type 0) (is : List ℕ) (id : ℕ) → AllByRecursion P is → P id → AllByRecursion P (with_id is id)
+all-with_id P [] id h p = (p, tt)
+all-with_id P (other ∷ others) id h p = by (ltb id other) (id == other) (all-with_id P others id h.1 p)
+  where
+    by : (a b : Bool) → AllByRecursion P (with_id others id) → AllByRecursion P (cond a (id ∷ other ∷ others) (cond b (other ∷ others) (other ∷ with_id others id)))
+    by true b rest = (p, h)
+    by false true rest = h
+    by false false rest = (h.0, rest)
+
+-- an id is put where it keeps the order
+pub with_id-rise : (is : List ℕ) (id : ℕ) → IsStrictlySortedBy nat_cmp is → IsStrictlySortedBy nat_cmp (with_id is id)
+unfolding IsStrictlySortedBy
+with_id-rise [] id h = (tt, tt)
+with_id-rise (other ∷ others) id h = by (ltb id other) refl (id == other) refl (with_id-rise others id h.1)
+  where
+    by : (a : Bool) → ltb id other ≡ a → (b : Bool) → (id == other) ≡ b → IsStrictlySortedBy nat_cmp (with_id others id) → IsStrictlySortedBy nat_cmp (cond a (id ∷ other ∷ others) (cond b (other ∷ others) (other ∷ with_id others id)))
+    by true e b e' rest =
+        ((less_here id other e, all_weaker (λ y. nat_cmp other y ≡ Less) (λ y. nat_cmp id y ≡ Less) (λ y l. less_both id other y e l) others h.0), h)
+    by false e true e' rest = h
+    by false e false e' rest =
+        (all-with_id (λ y. nat_cmp other y ≡ Less) others id h.0 (above_unlike id other e e'), rest)
+
+-- who is there then: that id, and those before
+pub has_id-with_id : (is : List ℕ) (id other : ℕ) → has_id (with_id is id) other ≡ ((id == other) || has_id is other)
+has_id-with_id [] id other = refl
+has_id-with_id (first ∷ is) id other = by (ltb id first) (id == first) refl (has_id-with_id is id other)
+  where
+    by : (a b : Bool) → (id == first) ≡ b → has_id (with_id is id) other ≡ ((id == other) || has_id is other) → has_id (cond a (id ∷ first ∷ is) (cond b (first ∷ is) (first ∷ with_id is id))) other ≡ ((id == other) || has_id (first ∷ is) other)
+    by true b e rest = refl
+    by false true e rest =
+        let same : id ≡ first = same_id id first e in
+        ap (λ (n : ℕ). (first == other) || has_id is other) same
+        ∙ or_twice (first == other) (has_id is other)
+        ∙ ap (λ (n : ℕ). (n == other) || ((first == other) || has_id is other)) (sym same)
+    by false false e rest =
+        ap (λ b. (first == other) || b) rest ∙ or_swap (first == other) (id == other) (has_id is other)
+
+rise_from : (is : List ℕ) (ns : List ℕ) → IsStrictlySortedBy nat_cmp is → IsStrictlySortedBy nat_cmp (fold with_id is ns)
+rise_from is [] h = h
+rise_from is (n ∷ ns) h = rise_from (with_id is n) ns (with_id-rise is n h)
+
+module _ {M : Type 0} where
+  -- targets rise
+  pub targets-rise : (sent : List (ℕ × M)) → IsStrictlySortedBy nat_cmp (targets sent)
+  unfolding IsStrictlySortedBy
+  targets-rise sent = rise_from [] (map (λ (m : ℕ × M). m.0) sent) tt
+
+  all_from : (P : ℕ → Type 0) (is : List ℕ) (sent : List (ℕ × M)) → AllByRecursion P is → AllByRecursion (λ (m : ℕ × M). P m.0) sent → AllByRecursion P (fold with_id is (map (λ (m : ℕ × M). m.0) sent))
+  all_from P is [] h k = h
+  all_from P is (m ∷ sent) h k = all_from P (with_id is m.0) sent (all-with_id P is m.0 h k.0) k.1
+
+  -- what holds of each message's target holds of each target
+  pub all-targets : (P : ℕ → Type 0) (sent : List (ℕ × M)) → AllByRecursion (λ (m : ℕ × M). P m.0) sent → AllByRecursion P (targets sent)
+  all-targets P sent h = all_from P [] sent tt h
+
+  -- ---- messages that go astray
+
+  -- they go to none of the ids
+  pub astray-apart : (is : List ℕ) (sent : List (ℕ × M)) → AllByRecursion (λ (m : ℕ × M). has_id is m.0 ≡ false) (astray is sent)
+  astray-apart is [] = tt
+  astray-apart is (m ∷ sent) = by (has_id is m.0) refl (astray-apart is sent)
+    where
+      by : (b : Bool) → has_id is m.0 ≡ b → AllByRecursion (λ (x : ℕ × M). has_id is x.0 ≡ false) (astray is sent) → AllByRecursion (λ (x : ℕ × M). has_id is x.0 ≡ false) (cond (not b) (m ∷ astray is sent) (astray is sent))
+      by true e rest = rest
+      by false e rest = (e, rest)
+
+  received_too : (id : ℕ) (m : ℕ × M) (sent : List (ℕ × M)) → is_empty (messages_to id sent) ≡ false → is_empty (messages_to id (m ∷ sent)) ≡ false
+  received_too id m sent h = by (m.0 == id)
+    where
+      by : (b : Bool) → is_empty (map (λ (x : ℕ × M). x.1) (cond b (m ∷ filter (λ (x : ℕ × M). x.0 == id) sent) (filter (λ (x : ℕ × M). x.0 == id) sent))) ≡ false
+      by true = grind (arith, nat_tests)
+      by false = h
+
+  -- each message's target receives something
+  pub all_receive : (sent : List (ℕ × M)) → AllByRecursion (λ (m : ℕ × M). is_empty (messages_to m.0 sent) ≡ false) sent
+  all_receive [] = tt
+  all_receive (m ∷ sent) = (
+    first_receives (m.0 == m.0) (grind (arith, nat_tests)),
+    all_weaker (λ (x : ℕ × M). is_empty (messages_to x.0 sent) ≡ false) (λ (x : ℕ × M). is_empty (messages_to x.0 (m ∷ sent)) ≡ false) (λ x h. received_too x.0 m sent h) sent (all_receive sent),
+  )
+    where
+      first_receives : (b : Bool) → b ≡ true → is_empty (map (λ (x : ℕ × M). x.1) (cond b (m ∷ filter (λ (x : ℕ × M). x.0 == m.0) sent) (filter (λ (x : ℕ × M). x.0 == m.0) sent))) ≡ false
+      first_receives true e = grind (arith, nat_tests)
+      first_receives false e = absurd (cc)
+
+  combined-some : (combining : Option (Combining M)) (ms : List M) → is_empty ms ≡ false → is_empty (combined combining ms) ≡ false
+  combined-some None ms h = h
+  combined-some (Some c) [] h = h
+  combined-some (Some c) (m ∷ ms) h = refl
+
+  ids_of_inboxes : (f : ℕ → List M) (is : List ℕ) → map (λ (w : ℕ × List M). w.0) (map (λ id. (id, f id)) is) ≡ is
+  ids_of_inboxes f [] = refl
+  ids_of_inboxes f (id ∷ is) = ap (λ l. id ∷ l) (ids_of_inboxes f is)
+
+  all_inboxes : (P : ℕ × List M → Type 0) (f : ℕ → List M) (is : List ℕ) → AllByRecursion (λ id. P (id, f id)) is → AllByRecursion P (map (λ id. (id, f id)) is)
+  all_inboxes P f [] h = tt
+  all_inboxes P f (id ∷ is) h = (h.0, all_inboxes P f is h.1)
+
+  -- what waits stands by rising id, for ids that the messages' targets were apart from, and no inbox is empty
+  pub record AreWaiting (is : List ℕ) (waiting : List (ℕ × List M)) : Type 0 where
+    pub rise : IsStrictlySortedBy nat_cmp (map (λ w. w.0) waiting)
+    pub apart : AllByRecursion (λ w. has_id is w.0 ≡ false) waiting
+    pub some : AllByRecursion (λ w. is_empty w.1 ≡ false) waiting
+
+  pub AreWaiting-none : (is : List ℕ) → AreWaiting is []
+  unfolding IsStrictlySortedBy
+  AreWaiting-none is = record { rise = tt; apart = tt; some = tt }
+
+  pub AreWaiting-after : (missing : Missing) (combining : Option (Combining M)) (is : List ℕ) (sent : List (ℕ × M)) → AreWaiting is (waiting_after missing combining (astray is sent))
+  AreWaiting-after Drop combining is sent = AreWaiting-none is
+  AreWaiting-after Create combining is sent =
+      let strays : List (ℕ × M) = astray is sent in
+      let f : ℕ → List M = λ id. delivered combining id strays in
+      record {
+        rise = subst (IsStrictlySortedBy nat_cmp) (sym (ids_of_inboxes f (targets strays))) (targets-rise strays);
+        apart = all_inboxes (λ w. has_id is w.0 ≡ false) f (targets strays) (all-targets (λ id. has_id is id ≡ false) strays (astray-apart is sent));
+        some = all_inboxes (λ w. is_empty w.1 ≡ false) f (targets strays) (all-targets (λ id. is_empty (f id) ≡ false) strays (all_weaker (λ (m : ℕ × M). is_empty (messages_to m.0 strays) ≡ false) (λ (m : ℕ × M). is_empty (f m.0) ≡ false) (λ m h. combined-some combining (messages_to m.0 strays) h) strays (all_receive strays)));
+      }
+
+  has_target : (is : List ℕ) (sent : List (ℕ × M)) (id : ℕ) → has_id (fold with_id is (map (λ (m : ℕ × M). m.0) sent)) id ≡ (has_id (map (λ (m : ℕ × M). m.0) sent) id || has_id is id)
+  has_target is [] id = refl
+  has_target is (m ∷ sent) id =
+      has_target (with_id is m.0) sent id
+      ∙ ap (λ b. has_id (map (λ (x : ℕ × M). x.0) sent) id || b) (has_id-with_id is m.0 id)
+      ∙ or_swap (has_id (map (λ (x : ℕ × M). x.0) sent) id) (m.0 == id) (has_id is id)
+      ∙ sym (or_assoc (m.0 == id) (has_id (map (λ (x : ℕ × M). x.0) sent) id) (has_id is id))
+
+  astray_sent : (is : List ℕ) (sent : List (ℕ × M)) (id : ℕ) → has_id (map (λ (m : ℕ × M). m.0) (astray is sent)) id ≡ true → has_id (map (λ (m : ℕ × M). m.0) sent) id ≡ true
+  astray_sent is [] id h = h
+  astray_sent is (m ∷ sent) id h = by (has_id is m.0) (m.0 == id) refl (astray_sent is sent id) h
+    where
+      there : List (ℕ × M) → Bool
+      there l = has_id (map (λ (x : ℕ × M). x.0) l) id
+
+      by : (b a : Bool) → (m.0 == id) ≡ a → (there (astray is sent) ≡ true → there sent ≡ true) → has_id (map (λ (x : ℕ × M). x.0) (cond (not b) (m ∷ astray is sent) (astray is sent))) id ≡ true → (a || there sent) ≡ true
+      by b true e rest k = refl
+      by true false e rest k = rest k
+      by false false e rest k = rest (sym (ap (λ c. c || there (astray is sent)) e) ∙ k)
+
+  -- who waits was sent to
+  pub waiting_sent : (missing : Missing) (combining : Option (Combining M)) (is : List ℕ) (sent : List (ℕ × M)) (id : ℕ) → has_id (map (λ w. w.0) (waiting_after missing combining (astray is sent))) id ≡ true → has_id (map (λ m. m.0) sent) id ≡ true
+  waiting_sent Drop combining is sent id h = absurd (cc)
+  waiting_sent Create combining is sent id h =
+      let strays : List (ℕ × M) = astray is sent in
+      let there : has_id (map (λ (m : ℕ × M). m.0) strays) id ≡ true = sym (or_false (has_id (map (λ (m : ℕ × M). m.0) strays) id)) ∙ (sym (has_target [] strays id) ∙ (sym (ap (λ l. has_id l id) (ids_of_inboxes (λ id. delivered combining id strays) (targets strays))) ∙ h)) in
+      astray_sent is sent id there
+
+module _ {V M : Type 0} where
+  -- ---- those that have a state, and those that messages make
+
+  all-placed : (P : ℕ → Type 0) (x : Standing V M) (xs : List (Standing V M)) → P x.state.id → AllByRecursion P (ids xs) → AllByRecursion P (ids (placed x xs))
+  all-placed P x [] p h = (p, tt)
+  all-placed P x (y ∷ ys) p h = by (ltb x.state.id y.state.id) (all-placed P x ys p h.1)
+    where
+      by : (a : Bool) → AllByRecursion P (ids (placed x ys)) → AllByRecursion P (ids (cond a (x ∷ y ∷ ys) (y ∷ placed x ys)))
+      by true rest = (p, h)
+      by false rest = (h.0, rest)
+
+  placed-rise : (x : Standing V M) (xs : List (Standing V M)) → has_id (ids xs) x.state.id ≡ false → IsStrictlySortedBy nat_cmp (ids xs) → IsStrictlySortedBy nat_cmp (ids (placed x xs))
+  unfolding IsStrictlySortedBy
+  placed-rise x [] new h = (tt, tt)
+  placed-rise x (y ∷ ys) new h =
+      let both = or_none (y.state.id == x.state.id) (has_id (ids ys) x.state.id) new in
+      by (ltb x.state.id y.state.id) refl both.0 (placed-rise x ys both.1 h.1)
+    where
+      by : (a : Bool) → ltb x.state.id y.state.id ≡ a → (y.state.id == x.state.id) ≡ false → IsStrictlySortedBy nat_cmp (ids (placed x ys)) → IsStrictlySortedBy nat_cmp (ids (cond a (x ∷ y ∷ ys) (y ∷ placed x ys)))
+      by true e unlike rest =
+          ((less_here x.state.id y.state.id e, all_weaker (λ i. nat_cmp y.state.id i ≡ Less) (λ i. nat_cmp x.state.id i ≡ Less) (λ i l. less_both x.state.id y.state.id i e l) (ids ys) h.0), h)
+      by false e unlike rest =
+          (all-placed (λ i. nat_cmp y.state.id i ≡ Less) x ys (above_other x.state.id y.state.id e unlike) h.0, rest)
+
+  has_id-placed : (x : Standing V M) (xs : List (Standing V M)) (id : ℕ) → has_id (ids (placed x xs)) id ≡ ((x.state.id == id) || has_id (ids xs) id)
+  has_id-placed x [] id = refl
+  has_id-placed x (y ∷ ys) id = by (ltb x.state.id y.state.id) (has_id-placed x ys id)
+    where
+      by : (a : Bool) → has_id (ids (placed x ys)) id ≡ ((x.state.id == id) || has_id (ids ys) id) → has_id (ids (cond a (x ∷ y ∷ ys) (y ∷ placed x ys))) id ≡ ((x.state.id == id) || has_id (ids (y ∷ ys)) id)
+      by true rest = refl
+      by false rest =
+          ap (λ b. (y.state.id == id) || b) rest ∙ or_swap (y.state.id == id) (x.state.id == id) (has_id (ids ys) id)
+
+  module _ (program : Program V M) where
+    -- those that wait beside these vertices, placed among them
+    abbrev with_made : List (Standing V M) → List (ℕ × List M) → List (Standing V M)
+    with_made xs ws = fold (λ xs w. placed (made program w) xs) xs ws
+
+    apart_still : (w : ℕ × List M) (xs : List (Standing V M)) (ws : List (ℕ × List M)) → AllByRecursion (λ id. nat_cmp w.0 id ≡ Less) (map (λ (v : ℕ × List M). v.0) ws) → AllByRecursion (λ (v : ℕ × List M). has_id (ids xs) v.0 ≡ false) ws → AllByRecursion (λ (v : ℕ × List M). has_id (ids (placed (made program w) xs)) v.0 ≡ false) ws
+    apart_still w xs [] h k = tt
+    apart_still w xs (v ∷ ws) h k =
+        (has_id-placed (made program w) xs v.0 ∙ (ap (λ b. b || has_id (ids xs) v.0) (apart_from_less w.0 v.0 h.0) ∙ k.0), apart_still w xs ws h.1 k.1)
+
+    with_made-rise : (xs : List (Standing V M)) (ws : List (ℕ × List M)) → IsStrictlySortedBy nat_cmp (ids xs) → IsStrictlySortedBy nat_cmp (map (λ (w : ℕ × List M). w.0) ws) → AllByRecursion (λ (w : ℕ × List M). has_id (ids xs) w.0 ≡ false) ws → IsStrictlySortedBy nat_cmp (ids (with_made xs ws))
+    unfolding IsStrictlySortedBy
+    with_made-rise xs [] h k apart = h
+    with_made-rise xs (w ∷ ws) h k apart =
+        with_made-rise (placed (made program w) xs) ws (placed-rise (made program w) xs apart.0 h) k.1 (apart_still w xs ws k.0 apart.1)
+
+    has_id-with_made : (xs : List (Standing V M)) (ws : List (ℕ × List M)) (id : ℕ) → has_id (ids (with_made xs ws)) id ≡ (has_id (map (λ (w : ℕ × List M). w.0) ws) id || has_id (ids xs) id)
+    has_id-with_made xs [] id = refl
+    has_id-with_made xs (w ∷ ws) id =
+        has_id-with_made (placed (made program w) xs) ws id
+        ∙ ap (λ b. has_id (map (λ (v : ℕ × List M). v.0) ws) id || b) (has_id-placed (made program w) xs id)
+        ∙ or_swap (has_id (map (λ (v : ℕ × List M). v.0) ws) id) (w.0 == id) (has_id (ids xs) id)
+        ∙ sym (or_assoc (w.0 == id) (has_id (map (λ (v : ℕ × List M). v.0) ws) id) (has_id (ids xs) id))
+
+    module _ (c : Configuration V M) where
+      -- the vertices of a superstep stand by rising id
+      pub present-rise : IsStrictlySortedBy nat_cmp (ids c.standings) → AreWaiting (ids c.standings) c.waiting → IsStrictlySortedBy nat_cmp (ids (present program c))
+      present-rise h waits = with_made-rise c.standings c.waiting h waits.rise waits.apart
+
+      -- they are those that have a state, and those that wait
+      pub has_id-present : (id : ℕ) → has_id (ids (present program c)) id ≡ (has_id (map (λ w. w.0) c.waiting) id || has_id (ids c.standings) id)
+      has_id-present id = has_id-with_made c.standings c.waiting id
+
+      -- where nobody waits, they are those that have a state
+      pub present-none : c.waiting ≡ [] → present program c ≡ c.standings
+      present-none none = ap (with_made c.standings) none
