@@ -1,2 +1,1 @@
-pub mod Monoids
 pub mod Registering

@@ -1,9 +1,10 @@
 -- What an entry more of a registry is to its names.
-use Rattle.std.proofs.Common.{◌≡◌, ℕ, ◌+◌, Bool, true, false, cond, List, [], ◌∷◌, ◌++◌, length, None, Some, refl, sym, ap, ◌∙◌, String, Global}
+use Rattle.std.proofs.Common.{◌≡◌, ℕ, ◌+◌, Bool, true, false, cond, List, [], ◌∷◌, ◌++◌, length, None, Some, refl, sym, ap, ◌∙◌, inl, inr, String, Global}
 use Rattle.std.specs.List.{position, position_from}
 use Rattle.std.specs.Map.{keys_of}
 use Rattle.std.specs.Str.{bytes_eq}
 use Rattle.std.specs.String.{string_bytes, string_eq}
+use Rattle.std.proofs.lemmas.Bool.{cases_Bool}
 use Rattle.std.proofs.lemmas.List.{length-map}
 use Rattle.std.proofs.lemmas.Iterator.Adapters.{position_from-zero}
 use Rattle.indexmap.specs.IndexMap.{insert_entry}
@@ -13,10 +14,6 @@ use Rattle.pg_global.specs.declared.registry.Registration.{Registration}
 
 abbrev Entries : Type 0
 Entries = List (String Global × Registration)
-
-by_bool : {P : Type 0} (b : Bool) → (b ≡ true → P) → (b ≡ false → P) → P
-by_bool true x y = x refl
-by_bool false x y = y refl
 
 -- the place of a name from n on, among the entries and among the names
 position_from-names : (name : List ℕ) (n : ℕ) (es : Entries) → position_from (λ k. bytes_eq name (string_bytes k)) n (keys_of es) ≡ position_from (bytes_eq name) n (keys_of (registered_of es))
@@ -30,11 +27,12 @@ new_from : (name : List ℕ) (key : String Global) (r : Registration) (n : ℕ) 
 new_from name key r n [] same none = refl
 new_from name key r n (e ∷ es) same none =
     let look = λ (b : Bool) (t : bytes_eq name (string_bytes e.0) ≡ b). sym (ap (λ o. cond o (Some n) (position_from (bytes_eq name) (n + 1) (keys_of (registered_of es)))) t) ∙ none in
-    by_bool (bytes_eq name (string_bytes e.0))
-    (λ t. let k : Some n ≡ None = look true t in cc)
-    (λ t.
-    let apart : string_eq key e.0 ≡ false = ap (λ (bytes : List ℕ). bytes_eq bytes (string_bytes e.0)) same ∙ t in
-    ap (λ b. cond b ((e.0, r) ∷ es) (e ∷ insert_entry string_eq es key r)) apart ∙ ap (λ l. e ∷ l) (new_from name key r (n + 1) es same (look false t)))
+    elim (cases_Bool (bytes_eq name (string_bytes e.0))) [
+      | inl t ↦ let k : Some n ≡ None = look true t in cc
+      | inr t ↦
+          let apart : string_eq key e.0 ≡ false = ap (λ (bytes : List ℕ). bytes_eq bytes (string_bytes e.0)) same ∙ t in
+          ap (λ b. cond b ((e.0, r) ∷ es) (e ∷ insert_entry string_eq es key r)) apart ∙ ap (λ l. e ∷ l) (new_from name key r (n + 1) es same (look false t))
+    ]
 
 -- a new name goes last
 pub insert_entry-new : (name : List ℕ) (key : String Global) (r : Registration) (es : Entries) → string_bytes key ≡ name → place_of name (registered_of es) ≡ None → insert_entry string_eq es key r ≡ es ++ (key, r) ∷ []

@@ -1,6 +1,7 @@
 pub mod AnyAggregator
+pub mod Bits
 pub mod Combiner
-pub mod Laws
 pub mod Master
+pub mod Monoids
 pub mod Names
 pub mod Registry

@@ -2,7 +2,7 @@
 ghost use Rattle.std.specs.Prelude.{◌≡◌, ◌++◌, ℤ, List, FitsSigned, IsPermutation};
 ghost use Rattle.std.specs.Int.{w64};
 ghost use Rattle.std.specs.List.{fold};
-ghost use Rattle.pg_global.specs.Laws.{IsAssociative, IsCommutative, IsNeutral, IsClosed};
+ghost use Rattle.pg_model.specs.Folds.{IsCommutativeMonoid};
 
 /// How contributions are made into one value (Pregel, section 3.3). The operation is associative and
 /// commutative, and the initial value is neutral, on the numbers of 64 bits.
@@ -21,15 +21,7 @@ pub trait Aggregator {
     fn initial_value(&self) -> i64
         ensures { result ≡ initial self.now };
 
-    ghost associative: { (a : Self) → IsAssociative (FitsSigned w64) (operation a) };
-
-    ghost commutative: { (a : Self) → IsCommutative (FitsSigned w64) (operation a) };
-
-    ghost neutral: { (a : Self) → IsNeutral (FitsSigned w64) (operation a) (initial a) };
-
-    ghost closed: { (a : Self) → IsClosed (FitsSigned w64) (operation a) };
-
-    ghost initial_fits: { (a : Self) → FitsSigned w64 (initial a) };
+    ghost lawful: { (a : Self) → IsCommutativeMonoid (FitsSigned w64) (operation a) (initial a) };
 }
 
 /// The aggregators over whole numbers of 64 bits.
@@ -37,34 +29,43 @@ pub trait Aggregator {
 pub enum AnyAggregator {
     /// The sum in two's complement, from 0.
     LongSum,
+    /// The least, from the greatest number.
+    LongMin,
+    /// The greatest, from the least number.
+    LongMax,
+    /// The bits that all have, from -1.
+    BitAnd,
+    /// The bits that any has, from 0.
+    BitOr,
 }
 
 impl Aggregator for AnyAggregator {
-    ghost use Rattle.pg_global.specs.AnyAggregator.{operation_of, initial_of, operation_of-associative, operation_of-commutative, operation_of-neutral, operation_of-closed, initial_of-fits};
+    ghost use Rattle.pg_global.specs.AnyAggregator.{operation_of, initial_of};
+    ghost use Rattle.pg_global.specs.Monoids.{operation_of-lawful};
 
     ghost operation = { operation_of };
 
     ghost initial = { initial_of };
 
-    ghost associative = { operation_of-associative };
-
-    ghost commutative = { operation_of-commutative };
-
-    ghost neutral = { operation_of-neutral };
-
-    ghost closed = { operation_of-closed };
-
-    ghost initial_fits = { initial_of-fits };
+    ghost lawful = { operation_of-lawful };
 
     fn aggregate(&self, a: i64, b: i64) -> i64 {
         match self {
             AnyAggregator::LongSum => a.wrapping_add(b),
+            AnyAggregator::LongMin => a.min(b),
+            AnyAggregator::LongMax => a.max(b),
+            AnyAggregator::BitAnd => a & b,
+            AnyAggregator::BitOr => a | b,
         }
     }
 
     fn initial_value(&self) -> i64 {
         match self {
             AnyAggregator::LongSum => 0,
+            AnyAggregator::LongMin => i64::MAX,
+            AnyAggregator::LongMax => i64::MIN,
+            AnyAggregator::BitAnd => -1,
+            AnyAggregator::BitOr => 0,
         }
     }
 }

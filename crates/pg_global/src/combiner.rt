@@ -18,12 +18,14 @@ pub trait MessageCombiner<M: Plain>: Sync {
         ensures { result ≡ is_some (combining self.now) };
 
     /// Combines a message into what the messages before it came to. Nothing is said of that message
-    /// where it answers want of memory, or where it doesn't combine.
+    /// where it answers want of memory.
     fn combine(&self, alloc: Global, into: &mut M, other: &M) -> Result<(), Memory>
+        requires { IsSome (combining self.now) }
         ensures { OnOk result (IfSome (combining self.now) (λ c. into.new ≡ c.combine into.old other.now)) };
 
-    /// What no message comes to, where it combines.
+    /// What no message comes to.
     fn initial_message(&self, alloc: Global) -> Result<M, Memory>
+        requires { IsSome (combining self.now) }
         ensures { IfOk result (λ m. IfSome (combining self.now) (λ c. m ≡ c.initial)) };
 
     ghost lawful: { (c : Self) → IsLawful M.is_value (combining c) };
@@ -34,10 +36,17 @@ pub trait MessageCombiner<M: Plain>: Sync {
 pub enum AnyCombiner {
     /// Messages aren't combined.
     NoCombiner,
+    /// The least message.
+    Min,
+    /// The greatest message.
+    Max,
+    /// The sum of the messages in two's complement.
+    Sum,
 }
 
 impl MessageCombiner<i64> for AnyCombiner {
-    ghost use Rattle.pg_global.specs.Combiner.{combining_of, combining_of-lawful};
+    ghost use Rattle.pg_global.specs.Combiner.{combining_of};
+    ghost use Rattle.pg_global.specs.Monoids.{combining_of-lawful};
 
     ghost combining = { combining_of };
 
@@ -46,18 +55,27 @@ impl MessageCombiner<i64> for AnyCombiner {
     fn combines(&self) -> bool {
         match self {
             AnyCombiner::NoCombiner => false,
+            AnyCombiner::Min | AnyCombiner::Max | AnyCombiner::Sum => true,
         }
     }
 
-    fn combine(&self, _alloc: Global, _into: &mut i64, _other: &i64) -> Result<(), Memory> {
-        match self {
-            AnyCombiner::NoCombiner => Ok(()),
-        }
+    fn combine(&self, _alloc: Global, into: &mut i64, other: &i64) -> Result<(), Memory> {
+        let (before, message) = (*into, *other);
+        *into = match self {
+            AnyCombiner::NoCombiner => unreachable!(),
+            AnyCombiner::Min => before.min(message),
+            AnyCombiner::Max => before.max(message),
+            AnyCombiner::Sum => before.wrapping_add(message),
+        };
+        Ok(())
     }
 
     fn initial_message(&self, _alloc: Global) -> Result<i64, Memory> {
         match self {
-            AnyCombiner::NoCombiner => Ok(0),
+            AnyCombiner::NoCombiner => unreachable!(),
+            AnyCombiner::Min => Ok(i64::MAX),
+            AnyCombiner::Max => Ok(i64::MIN),
+            AnyCombiner::Sum => Ok(0),
         }
     }
 }

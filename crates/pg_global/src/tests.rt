@@ -64,6 +64,37 @@ fn gathers_in_any_order(rt: HostRuntime) {
             i64::MIN
         );
     }
+    let rows = [
+        (AnyAggregator::LongSum, 0, 15),
+        (AnyAggregator::LongMin, i64::MAX, -3),
+        (AnyAggregator::LongMax, i64::MIN, 12),
+        (AnyAggregator::BitAnd, -1, 4),
+        (AnyAggregator::BitOr, 0, -1),
+    ];
+    for (kind, initial, wanted) in rows {
+        assert_eq!(rt; kind.initial_value(), initial);
+        assert_eq!(rt; gather(&kind, initial, &[12, -3, 6]), wanted, "by {kind:?}");
+    }
+}
+
+#[test]
+fn combines(rt: HostRuntime) -> Result<(), Fail> {
+    let alloc = rt.alloc();
+    assert!(rt; !AnyCombiner::NoCombiner.combines());
+    let rows = [
+        (AnyCombiner::Min, i64::MAX, i64::MIN),
+        (AnyCombiner::Max, i64::MIN, -1),
+        (AnyCombiner::Sum, 0, i64::MAX),
+    ];
+    for (combiner, initial, wanted) in rows {
+        if combiner.combines() {
+            assert_eq!(rt; combiner.initial_message(alloc)?, initial);
+            let mut message = i64::MIN;
+            combiner.combine(alloc, &mut message, &-1)?;
+            assert_eq!(rt; message, wanted, "by {combiner:?}");
+        }
+    }
+    Ok(())
 }
 
 #[test]

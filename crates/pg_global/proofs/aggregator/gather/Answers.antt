@@ -4,7 +4,6 @@ use Rattle.std.proofs.lemmas.Grind.{common_steps}
 use Rattle.std.proofs.lemmas.Int.{to_z-of_z}
 use Rattle.std.proofs.lemmas.List.{get_or_default}
 use Rattle.pg_model.proofs.LawsFolds.{fold-IsPermutation}
-use Rattle.pg_global.proofs.Monoids.{IsCommutativeMonoid-from_laws}
 use Rattle.pg_global.proofs.aggregator.gather.Goals as goal
 
 pub loop-contribution-preserved : goal.loop-contribution-preserved
@@ -18,9 +17,7 @@ returns-clause-value g c = grind (arith, common_steps, to_z-of_z)
 
 pub returns-clause-order : goal.returns-clause-order
 returns-clause-order g c =
-    let laws = g.met.A.Aggregator in
     let aggregator = c.args.aggregator.now in
     let contributions = c.args.contributions.now in
     let fit : All (FitsSigned w64) contributions = λ k d h. rw (get_or_default contributions k d (pos 0) h) (c.loop-contribution.invariant.fits k (omega arith)) in
-    let monoid = IsCommutativeMonoid-from_laws (FitsSigned w64) _ _ (laws.associative aggregator) (laws.commutative aggregator) (laws.neutral aggregator) (laws.closed aggregator) (laws.initial_fits aggregator) in
-    λ others moved. returns-clause-value g c ∙ sym (fold-IsPermutation monoid c.args.from contributions others c.ranges.from fit moved)
+    λ others moved. returns-clause-value g c ∙ sym (fold-IsPermutation (g.met.A.Aggregator.lawful aggregator) c.args.from contributions others c.ranges.from fit moved)
