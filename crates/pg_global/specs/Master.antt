@@ -1,5 +1,6 @@
 -- Masters, and the job that a program, a combiner and a master make.
 use Rattle.std.specs.Prelude.{ℕ, ℤ, Bool, false, List, map, length, ◌==◌, ◌/◌, ◌^◌, ◌&&◌, Option}
+use Rattle.pg_graph.specs.declared.missing.Missing.{Missing}
 use Rattle.pg_model.specs.Job.{Program, Combining, Decision, Deciding, Job}
 use Rattle.pg_model.specs.declared.view.Declared.{Declared}
 use Rattle.pg_global.specs.Registry.{Registered, aggregating_of}
@@ -27,13 +28,14 @@ decided master state =
 abbrev pub leaves_all : Registered → Master
 leaves_all registrations = record { registrations = registrations; deciding = λ s totals gathered. record { values = gathered; halt = false } }
 
--- the job of a program, a combiner, a master and a limit
-abbrev pub job_of : {V M : Type 0} → Program V M → Option (Combining M) → Master → ℕ → Job V M
-job_of program combining master limit = record {
+-- the job of a program, a combiner and a master, with a policy for messages to nobody and a limit
+abbrev pub job_of : {V M : Type 0} → Program V M → Option (Combining M) → Master → Missing → ℕ → Job V M
+job_of program combining master missing limit = record {
   program = program;
   combining = combining;
   aggregators = map (λ e. aggregating_of e.1) master.registrations;
   deciding = master.deciding;
+  missing = missing;
   limit = limit;
 }
 

@@ -9,8 +9,8 @@ use pg_model::{Place, Sequence, Visible};
 use std::alloc::Global;
 use std::marker::Model;
 
-/// What a master works on: the superstep, the numbers of vertices and edges of the graph as the run began,
-/// and the values that the vertices are going to see, at first those gathered in the superstep before.
+/// What a master works on: the superstep, the numbers of vertices and edges as it begins, and the values
+/// that the vertices are going to see, at first those gathered in the superstep before.
 #[derive(Drop)]
 pub struct MasterState {
     superstep: Superstep,
@@ -73,14 +73,14 @@ impl MasterState {
         self.superstep
     }
 
-    /// The number of vertices of the graph as the run began.
+    /// How many vertices have a state as the superstep begins.
     pub fn total_vertices(&self) -> u64
         ensures { result ≡ self.now.total_vertices }
     {
         self.total_vertices
     }
 
-    /// The number of edges of the graph as the run began.
+    /// How many out-edges they have, those to missing targets too, at most 2^64 - 1.
     pub fn total_edges(&self) -> u64
         ensures { result ≡ self.now.total_edges }
     {

@@ -10,12 +10,13 @@ use Rattle.pg_graph.specs.Rows.{Rows, HasRisingIds}
 use Rattle.pg_graph.specs.declared.graph.Row.{Row}
 use Rattle.pg_graph.specs.declared.missing.Missing.{Missing}
 use Rattle.pg_graph.specs.declared.missing.Missing.TheVariants.{Drop}
+use Rattle.pg_model.specs.InOrder.{AreWaiting, IsInOrder}
 use Rattle.pg_model.specs.Job.{Job, Program, Combining, Totals, Aggregating}
 use Rattle.pg_model.specs.Superstep.{ids, has_id, next, totals_of, present, visible_in, gathered_from, view_in, state_after, outcome, delivered, sends, astray, waiting_after}
 use Rattle.pg_model.specs.Needed.{standing_at}
 use Rattle.pg_model.specs.Run.{first, beginning, configuration, present_at, view_at}
 use Rattle.pg_model.specs.declared.configuration.Standing.{Standing}
-use Rattle.pg_model.proofs.LawsMade.{AreWaiting, AreWaiting-none, AreWaiting-after, present-rise, present-none, has_id-present, waiting_sent}
+use Rattle.pg_model.proofs.LawsMade.{AreWaiting-none, AreWaiting-after, present-rise, present-none, has_id-present, waiting_sent}
 use Rattle.pg_model.proofs.LawsStandings.{standing_at-map}
 use Rattle.pg_model.specs.declared.view.View.{View}
 use Rattle.pg_model.specs.declared.configuration.Configuration.{Configuration}
@@ -40,11 +41,6 @@ standing_after job view xs x = record {
   state = state_after x.state (outcome job.program view x);
   inbox = delivered job.combining x.state.id (sends job.program view xs);
 }
-
--- the vertices that have a state stand by rising id, and so does what waits for others
-pub record IsInOrder {V M : Type 0} (c : Configuration V M) : Type 0 where
-  pub standings : IsStrictlySortedBy nat_cmp (ids c.standings)
-  pub waiting : AreWaiting (ids c.standings) c.waiting
 
 or_true : (a : Bool) → (a || true) ≡ true
 or_true true = refl

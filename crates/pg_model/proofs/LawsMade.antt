@@ -1,16 +1,16 @@
 -- Vertices that messages make: who waits, where they stand, and how the ids grow.
-use Rattle.std.proofs.Common.{◌≡◌, ℕ, ◌<◌, Bool, true, false, cond, not, ◌||◌, ◌==◌, ltb, List, [], ◌∷◌, map, Option, None, Some, refl, ap, sym, ◌∙◌, subst, arith, inl, inr, fold, filter}
+use Rattle.std.proofs.Common.{◌≡◌, ℕ, ◌<◌, Bool, true, false, cond, not, ◌||◌, ◌==◌, ltb, List, [], ◌∷◌, map, Option, None, Some, refl, ap, sym, ◌∙◌, subst, arith, fold, filter}
 use Rattle.std.specs.List.{AllByRecursion}
 use Rattle.std.specs.List.Sorted.{IsStrictlySortedBy}
 use Rattle.std.specs.Ordering.{nat_cmp}
 use Rattle.std.specs.declared.cmp.Ordering.TheVariants.{Less}
-use Rattle.std.proofs.lemmas.Bool.{cases_Bool}
 use Rattle.std.proofs.lemmas.Bool.Decides.{nat_tests}
 use Rattle.pg_graph.specs.declared.missing.Missing.{Missing}
 use Rattle.pg_graph.specs.declared.missing.Missing.TheVariants.{Drop, Create}
-use Rattle.pg_model.proofs.LawsLists.{all_weaker, all_from_map}
-use Rattle.pg_model.specs.Job.{Combining, Program, Job}
-use Rattle.pg_model.specs.Superstep.{ids, is_empty, has_id, with_id, messages_to, combined, delivered, astray, targets, waiting_after, placed, made, present}
+use Rattle.pg_model.proofs.LawsLists.{all_weaker}
+use Rattle.pg_model.specs.InOrder.{AreWaiting}
+use Rattle.pg_model.specs.Job.{Combining, Program}
+use Rattle.pg_model.specs.Superstep.{ids, is_empty, has_id, with_id, messages_to, combined, delivered, astray, targets, waiting_after, placed, made, with_made, present}
 use Rattle.pg_model.specs.declared.configuration.Standing.{Standing}
 use Rattle.pg_model.specs.declared.configuration.Configuration.{Configuration}
 
@@ -162,13 +162,7 @@ module _ {M : Type 0} where
   all_inboxes P f [] h = tt
   all_inboxes P f (id ∷ is) h = (h.0, all_inboxes P f is h.1)
 
-  -- what waits stands by rising id, for ids that the messages' targets were apart from, and no inbox is empty
-  pub record AreWaiting (is : List ℕ) (waiting : List (ℕ × List M)) : Type 0 where
-    pub rise : IsStrictlySortedBy nat_cmp (map (λ w. w.0) waiting)
-    pub apart : AllByRecursion (λ w. has_id is w.0 ≡ false) waiting
-    pub some : AllByRecursion (λ w. is_empty w.1 ≡ false) waiting
-
-  pub AreWaiting-none : (is : List ℕ) → AreWaiting is []
+  pub AreWaiting-none : (is : List ℕ) → AreWaiting {M = M} is []
   unfolding IsStrictlySortedBy
   AreWaiting-none is = record { rise = tt; apart = tt; some = tt }
 
@@ -245,22 +239,18 @@ module _ {V M : Type 0} where
           ap (λ b. (y.state.id == id) || b) rest ∙ or_swap (y.state.id == id) (x.state.id == id) (has_id (ids ys) id)
 
   module _ (program : Program V M) where
-    -- those that wait beside these vertices, placed among them
-    abbrev with_made : List (Standing V M) → List (ℕ × List M) → List (Standing V M)
-    with_made xs ws = fold (λ xs w. placed (made program w) xs) xs ws
-
     apart_still : (w : ℕ × List M) (xs : List (Standing V M)) (ws : List (ℕ × List M)) → AllByRecursion (λ id. nat_cmp w.0 id ≡ Less) (map (λ (v : ℕ × List M). v.0) ws) → AllByRecursion (λ (v : ℕ × List M). has_id (ids xs) v.0 ≡ false) ws → AllByRecursion (λ (v : ℕ × List M). has_id (ids (placed (made program w) xs)) v.0 ≡ false) ws
     apart_still w xs [] h k = tt
     apart_still w xs (v ∷ ws) h k =
         (has_id-placed (made program w) xs v.0 ∙ (ap (λ b. b || has_id (ids xs) v.0) (apart_from_less w.0 v.0 h.0) ∙ k.0), apart_still w xs ws h.1 k.1)
 
-    with_made-rise : (xs : List (Standing V M)) (ws : List (ℕ × List M)) → IsStrictlySortedBy nat_cmp (ids xs) → IsStrictlySortedBy nat_cmp (map (λ (w : ℕ × List M). w.0) ws) → AllByRecursion (λ (w : ℕ × List M). has_id (ids xs) w.0 ≡ false) ws → IsStrictlySortedBy nat_cmp (ids (with_made xs ws))
+    with_made-rise : (xs : List (Standing V M)) (ws : List (ℕ × List M)) → IsStrictlySortedBy nat_cmp (ids xs) → IsStrictlySortedBy nat_cmp (map (λ (w : ℕ × List M). w.0) ws) → AllByRecursion (λ (w : ℕ × List M). has_id (ids xs) w.0 ≡ false) ws → IsStrictlySortedBy nat_cmp (ids (with_made program xs ws))
     unfolding IsStrictlySortedBy
     with_made-rise xs [] h k apart = h
     with_made-rise xs (w ∷ ws) h k apart =
         with_made-rise (placed (made program w) xs) ws (placed-rise (made program w) xs apart.0 h) k.1 (apart_still w xs ws k.0 apart.1)
 
-    has_id-with_made : (xs : List (Standing V M)) (ws : List (ℕ × List M)) (id : ℕ) → has_id (ids (with_made xs ws)) id ≡ (has_id (map (λ (w : ℕ × List M). w.0) ws) id || has_id (ids xs) id)
+    has_id-with_made : (xs : List (Standing V M)) (ws : List (ℕ × List M)) (id : ℕ) → has_id (ids (with_made program xs ws)) id ≡ (has_id (map (λ (w : ℕ × List M). w.0) ws) id || has_id (ids xs) id)
     has_id-with_made xs [] id = refl
     has_id-with_made xs (w ∷ ws) id =
         has_id-with_made (placed (made program w) xs) ws id
@@ -279,4 +269,4 @@ module _ {V M : Type 0} where
 
       -- where nobody waits, they are those that have a state
       pub present-none : c.waiting ≡ [] → present program c ≡ c.standings
-      present-none none = ap (with_made c.standings) none
+      present-none none = ap (with_made program c.standings) none

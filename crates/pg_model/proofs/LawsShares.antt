@@ -14,7 +14,7 @@ use Rattle.pg_model.specs.Job.{Job, Program, Aggregating}
 use Rattle.pg_model.specs.Superstep.{ids, is_active, outcome, state_after, sends, contributions, at_place, gathered_at, next}
 use Rattle.pg_model.specs.Run.{configuration, present_at, view_at, executed, executions_below, run_length}
 use Rattle.pg_model.specs.Needed.{is_needed, needed_in}
-use Rattle.pg_model.specs.Order.{Sending, sendings_from, sendings}
+use Rattle.pg_model.specs.Order.{sendings_from, sendings}
 use Rattle.pg_model.specs.Share.{belongs, standings_of_share, present_in_share, records_in, records_below, share, sendings_of}
 use Rattle.pg_model.proofs.LawsAgreement.{outcome-idle}
 use Rattle.pg_model.proofs.LawsFolds.{gathered_at-IsPermutation}

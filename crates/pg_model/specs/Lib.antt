@@ -1,6 +1,7 @@
 pub mod Aggregators
 pub mod Agreement
 pub mod Folds
+pub mod InOrder
 pub mod Job
 pub mod Needed
 pub mod Order

@@ -51,13 +51,21 @@ module _ {V M : Type 0} where
   abbrev pub made : Program V M → ℕ × List M → Standing V M
   made program w = record { state = record { id = w.0; value = program.initial w.0 (pos 0); edges = []; halted = false }; inbox = w.1 }
 
-  -- the vertices of the superstep that begins with c: those that have a state, and those that messages make
+  -- these vertices, and those that messages make
+  abbrev pub with_made : Program V M → List (Standing V M) → List (ℕ × List M) → List (Standing V M)
+  with_made program xs waiting = fold (λ ys w. placed (made program w) ys) xs waiting
+
+  -- the vertices of the superstep that begins with c
   abbrev pub present : Program V M → Configuration V M → List (Standing V M)
-  present program c = fold (λ xs w. placed (made program w) xs) c.standings c.waiting
+  present program c = with_made program c.standings c.waiting
+
+  -- how many out-edges vertices have
+  abbrev pub edges_of : List (Standing V M) → ℕ
+  edges_of xs = sum_by (λ x. length x.state.edges) xs
 
   -- how many vertices have a state, and how many out-edges they have
   abbrev pub totals_of : Configuration V M → Totals
-  totals_of c = record { vertices = length c.standings; edges = capped (sum_by (λ x. length x.state.edges) c.standings) }
+  totals_of c = record { vertices = length c.standings; edges = capped (edges_of c.standings) }
 
   -- a vertex is executed where it isn't halted or has a message
   abbrev pub is_active : Standing V M → Bool

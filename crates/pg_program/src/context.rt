@@ -68,7 +68,7 @@ impl<M: Drop> Cx<M> {
         self.view.superstep
     }
 
-    /// The number of vertices of the graph as the run began, for a program that has declared it.
+    /// How many vertices have a state as the superstep begins, for a program that has declared it.
     pub fn total_vertices(&self) -> u64
         requires { IsSome self.now.view.total_vertices }
         ensures { self.now.view.total_vertices ≡ Some result }
@@ -76,7 +76,8 @@ impl<M: Drop> Cx<M> {
         self.view.total_vertices.unwrap()
     }
 
-    /// The number of edges of the graph as the run began, for a program that has declared it.
+    /// How many out-edges they have, those to missing targets too, at most 2^64 - 1; for a program that has
+    /// declared it.
     pub fn total_edges(&self) -> u64
         requires { IsSome self.now.view.total_edges }
         ensures { self.now.view.total_edges ≡ Some result }
