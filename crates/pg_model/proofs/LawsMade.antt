@@ -1,9 +1,10 @@
 -- Vertices that messages make: who waits, where they stand, and how the ids grow.
-use Rattle.std.proofs.Common.{◌≡◌, ℕ, ◌<◌, Bool, true, false, cond, not, ◌||◌, ◌==◌, ltb, List, [], ◌∷◌, map, Option, None, Some, refl, ap, sym, ◌∙◌, subst, arith, fold, filter}
+use Rattle.std.proofs.Common.{◌≡◌, ℕ, ◌<◌, Bool, true, false, cond, not, ◌||◌, ◌==◌, ltb, List, [], ◌∷◌, map, Option, None, Some, refl, ap, sym, ◌∙◌, subst, arith, fold, filter, true≢false, ap₂, inl, inr}
 use Rattle.std.specs.List.{AllByRecursion}
 use Rattle.std.specs.List.Sorted.{IsStrictlySortedBy}
 use Rattle.std.specs.Ordering.{nat_cmp}
 use Rattle.std.specs.declared.cmp.Ordering.TheVariants.{Less}
+use Rattle.std.proofs.lemmas.Bool.{cases_order}
 use Rattle.std.proofs.lemmas.Bool.Decides.{nat_tests}
 use Rattle.pg_graph.specs.declared.missing.Missing.{Missing}
 use Rattle.pg_graph.specs.declared.missing.Missing.TheVariants.{Drop, Create}
@@ -62,6 +63,44 @@ apart_from_less a b h = grind (arith, nat_tests)
 or_none : (a b : Bool) → (a || b) ≡ false → (a ≡ false) × (b ≡ false)
 or_none true b h = absurd (cc)
 or_none false b h = (refl, h)
+
+apart_from_above : (i a : ℕ) → nat_cmp a i ≡ Less → (i == a) ≡ false
+apart_from_above i a e = grind (arith, nat_tests)
+
+-- an id below all others isn't among them
+not_below : (a : ℕ) (is : List ℕ) → AllByRecursion (λ y. nat_cmp a y ≡ Less) is → has_id is a ≡ false
+not_below a [] h = refl
+not_below a (i ∷ is) h = ap (λ b. b || has_id is a) (apart_from_above i a h.0) ∙ not_below a is h.1
+
+has_itself : (a : ℕ) (is : List ℕ) → has_id (a ∷ is) a ≡ true
+has_itself a is = ap (λ b. b || has_id is a) (let e : (a == a) ≡ true = grind (arith, nat_tests) in e)
+
+not_below_first : (a y : ℕ) (ys : List ℕ) → a < y → AllByRecursion (λ z. nat_cmp y z ≡ Less) ys → has_id (y ∷ ys) a ≡ false
+not_below_first a y ys l h =
+    not_below a (y ∷ ys) (less_at a y l, all_weaker (λ z. nat_cmp y z ≡ Less) (λ z. nat_cmp a z ≡ Less) (λ z k. less_at a z (omega (arith, l, lt_from_Less y z k))) ys h)
+
+-- rising ids are told by what they have
+pub same_rising : (xs ys : List ℕ) → IsStrictlySortedBy nat_cmp xs → IsStrictlySortedBy nat_cmp ys → ((id : ℕ) → has_id xs id ≡ has_id ys id) → xs ≡ ys
+unfolding IsStrictlySortedBy
+same_rising [] [] h k same = refl
+same_rising [] (y ∷ ys) h k same = absurd (true≢false (sym (same y ∙ has_itself y ys)))
+same_rising (x ∷ xs) [] h k same = absurd (true≢false (sym (has_itself x xs) ∙ same x))
+same_rising (x ∷ xs) (y ∷ ys) h k same =
+    let heads : x ≡ y =
+    elim (cases_order x y) [
+      | inl e ↦ e
+      | inr (inl less) ↦ absurd (true≢false (sym (has_itself x xs) ∙ (same x ∙ not_below_first x y ys less k.0)))
+      | inr (inr more) ↦ absurd (true≢false (sym (has_itself y ys) ∙ (sym (same y) ∙ not_below_first y x xs more h.0)))
+    ] in
+    ap₂ ◌∷◌ heads (same_rising xs ys h.1 k.1 (λ id. later heads id (x == id) refl))
+  where
+    later : x ≡ y → (id : ℕ) (b : Bool) → (x == id) ≡ b → has_id xs id ≡ has_id ys id
+    later heads id true e =
+        let here : x ≡ id = same_id x id e in
+        let there : y ≡ id = sym heads ∙ here in
+        subst (λ n. has_id xs n ≡ false) here (not_below x xs h.0) ∙ sym (subst (λ n. has_id ys n ≡ false) there (not_below y ys k.0))
+    later heads id false e =
+        sym (ap (λ b. b || has_id xs id) e) ∙ (same id ∙ ap (λ b. b || has_id ys id) (ap (λ n. n == id) (sym heads) ∙ e))
 
 -- what holds of rising ids and of one more holds of all of them
 pub all-with_id : (P : ℕ → Type 0) (is : List ℕ) (id : ℕ) → AllByRecursion P is → P id → AllByRecursion P (with_id is id)
@@ -185,6 +224,15 @@ module _ {M : Type 0} where
       ∙ or_swap (has_id (map (λ (x : ℕ × M). x.0) sent) id) (m.0 == id) (has_id is id)
       ∙ sym (or_assoc (m.0 == id) (has_id (map (λ (x : ℕ × M). x.0) sent) id) (has_id is id))
 
+  -- an id is a target where a message goes to it
+  pub has_id-targets : (sent : List (ℕ × M)) (id : ℕ) → has_id (targets sent) id ≡ has_id (map (λ m. m.0) sent) id
+  has_id-targets sent id = has_target [] sent id ∙ or_false (has_id (map (λ (m : ℕ × M). m.0) sent) id)
+
+  -- rising ids are the targets where they have the same ids
+  pub targets-are : (is : List ℕ) (sent : List (ℕ × M)) → IsStrictlySortedBy nat_cmp is → ((id : ℕ) → has_id is id ≡ has_id (map (λ m. m.0) sent) id) → is ≡ targets sent
+  targets-are is sent rise same =
+      same_rising is (targets sent) rise (targets-rise sent) (λ id. same id ∙ sym (has_id-targets sent id))
+
   astray_sent : (is : List ℕ) (sent : List (ℕ × M)) (id : ℕ) → has_id (map (λ (m : ℕ × M). m.0) (astray is sent)) id ≡ true → has_id (map (λ (m : ℕ × M). m.0) sent) id ≡ true
   astray_sent is [] id h = h
   astray_sent is (m ∷ sent) id h = by (has_id is m.0) (m.0 == id) refl (astray_sent is sent id) h
@@ -244,7 +292,7 @@ module _ {V M : Type 0} where
     apart_still w xs (v ∷ ws) h k =
         (has_id-placed (made program w) xs v.0 ∙ (ap (λ b. b || has_id (ids xs) v.0) (apart_from_less w.0 v.0 h.0) ∙ k.0), apart_still w xs ws h.1 k.1)
 
-    with_made-rise : (xs : List (Standing V M)) (ws : List (ℕ × List M)) → IsStrictlySortedBy nat_cmp (ids xs) → IsStrictlySortedBy nat_cmp (map (λ (w : ℕ × List M). w.0) ws) → AllByRecursion (λ (w : ℕ × List M). has_id (ids xs) w.0 ≡ false) ws → IsStrictlySortedBy nat_cmp (ids (with_made program xs ws))
+    pub with_made-rise : (xs : List (Standing V M)) (ws : List (ℕ × List M)) → IsStrictlySortedBy nat_cmp (ids xs) → IsStrictlySortedBy nat_cmp (map (λ (w : ℕ × List M). w.0) ws) → AllByRecursion (λ (w : ℕ × List M). has_id (ids xs) w.0 ≡ false) ws → IsStrictlySortedBy nat_cmp (ids (with_made program xs ws))
     unfolding IsStrictlySortedBy
     with_made-rise xs [] h k apart = h
     with_made-rise xs (w ∷ ws) h k apart =

@@ -1,22 +1,23 @@
 -- A pass over the places of a list, which leaves out idle vertices alone.
-use Rattle.std.proofs.Common.{◌≡◌, ℕ, zero, suc, ◌+◌, ◌-◌, ◌^◌, ◌<◌, ◌≤◌, Bool, true, false, cond, not, ◌||◌, List, [], ◌∷◌, ◌++◌, length, map, get_or, set, take, drop, None, Some, refl, sym, ap, ◌∙◌, subst, ⊎_elim, arith, rules, tests}
-use Rattle.std.specs.Prelude.{◌==◌, ℤ}
+use Rattle.std.proofs.Common.{◌≡◌, ℕ, zero, suc, ◌+◌, ◌-◌, ◌^◌, ◌<◌, ◌≤◌, Bool, true, false, cond, not, ◌||◌, List, [], ◌∷◌, ◌++◌, length, map, get_or, set, take, drop, Option, None, Some, refl, sym, ap, ◌∙◌, subst, ⊎_elim, arith, rules, tests}
+use Rattle.std.specs.Prelude.{◌==◌, ℤ, IfSome}
 use Rattle.std.specs.List.{slice_get, count_by}
 use Rattle.std.specs.List.Sorted.{IsStrictlySortedBy}
 use Rattle.std.specs.Option.{option_map}
 use Rattle.std.specs.Ordering.{nat_cmp}
 use Rattle.std.proofs.lemmas.Bool.{cases_lt}
 use Rattle.std.proofs.lemmas.List.{flat_map_more, append-nil, length-map}
-use Rattle.std.proofs.lemmas.List.Sums.{sum_by_push}
+use Rattle.std.proofs.lemmas.List.Sums.{sum_by_push, sum_by-cons, sum_by-set}
 use Rattle.std.proofs.lemmas.Map.Keys.{below_from_sorted}
-use Rattle.std.proofs.lemmas.Option.{slice_get-map, slice_get_within}
+use Rattle.std.proofs.lemmas.Option.{slice_get-map, slice_get_within, get_or_from_slice_get}
 use Rattle.pg_model.specs.Job.{Program}
-use Rattle.pg_model.specs.Superstep.{is_active, outcome, has_id, capped, sends, contributions}
+use Rattle.pg_model.specs.Superstep.{is_active, outcome, has_id, capped, edges_of, sends, contributions}
 use Rattle.pg_model.specs.declared.configuration.Standing.{Standing}
 use Rattle.pg_model.specs.declared.view.View.{View}
 use Rattle.pg_model.specs.declared.view.Declared.{Declared}
 use Rattle.pg_program.specs.Context.{Context, ShowsDeclared}
 use Rattle.pg_scratch.specs.Pass.{ran, context_after, ran_context, with_unhalted}
+use Rattle.pg_scratch.specs.Totals.{Counts, Exchanges}
 use Rattle.pg_scratch.specs.Worklist.{ListsActive}
 use Rattle.pg_scratch.proofs.Delivering.{has_id-push}
 use Rattle.pg_scratch.proofs.Executing.{ran-idle, idle_halted, context_after-idle}
@@ -93,7 +94,7 @@ module _ {V M : Type 0} (program : Program V M) (cx : Context M) where
       ∙ ap (λ (n : ℕ). P (cx.sent ++ []) (cx.contributed ++ []) n) stays
 
 -- ---- the state of a pass: k places of the list are done, and all vertices below `low`
-pub record PassedTo {V M : Type 0} (program : Program V M) (first now : List (Standing V M)) (cx_first cx : Context M) (work unhalted : List ℕ) (k low : ℕ) : Type 0 where
+pub record PassedTo {V M : Type 0} (program : Program V M) (first now : List (Standing V M)) (cx_first cx : Context M) (work unhalted : List ℕ) (edges : Option ℕ) (k low : ℕ) : Type 0 where
   pub bound : low ≤ length first
   pub standings : now ≡ changed_below (ran program cx_first.view) low first
   pub context : cx ≡ ran_context program cx_first (take low first)
@@ -101,6 +102,7 @@ pub record PassedTo {V M : Type 0} (program : Program V M) (first now : List (St
   pub covers : (i : ℕ) (x : Standing V M) → slice_get first i ≡ Some x → is_active x ≡ true → low ≤ i → (j : ℕ) × (k ≤ j) × (j < length work) × (get_or work j 0 ≡ i)
   pub within : (p : ℕ) → has_id unhalted p ≡ true → p < low
   pub lists : (i : ℕ) (x : Standing V M) → slice_get first i ≡ Some x → i < low → (ran program cx_first.view x).state.halted ≡ false → has_id unhalted i ≡ true
+  pub counts : Counts edges (edges_of now)
 
 by_bool : {P : Type 0} (b : Bool) → (b ≡ true → P) → (b ≡ false → P) → P
 by_bool true x y = x refl
@@ -124,9 +126,37 @@ element [] i h = absurd (omega arith)
 element (x ∷ xs) zero h = (x, refl)
 element (x ∷ xs) (suc i) h = element xs i (omega arith)
 
-module _ {V M : Type 0} (program : Program V M) (first now : List (Standing V M)) (cx_first cx : Context M) (work unhalted : List ℕ) (k : ℕ) where
+-- ---- the number of edges, as a vertex is exchanged
+less_and_more : (n k : ℕ) → k ≤ n → n ≡ n - k + k
+less_and_more n k h = omega arith
+
+module _ {V M : Type 0} where
+  edges_within : (xs : List (Standing V M)) (i : ℕ) (x : Standing V M) → slice_get xs i ≡ Some x → length x.state.edges ≤ edges_of xs
+  edges_within [] i x at = let k : None ≡ Some x = at in cc
+  edges_within (y ∷ xs) zero x at =
+      let same : y ≡ x = (let k : Some y ≡ Some x = at in cc) in
+      omega (arith, sum_by-cons (λ (z : Standing V M). length z.state.edges) y xs, ap (λ (z : Standing V M). length z.state.edges) same)
+  edges_within (y ∷ xs) (suc i) x at = omega (arith, sum_by-cons (λ (z : Standing V M). length z.state.edges) y xs, edges_within xs i x at)
+
+  exchanged_at : (now after : List (Standing V M)) (i : ℕ) (x y : Standing V M) (edges edges' : Option ℕ) → slice_get now i ≡ Some x → after ≡ set now i y → Exchanges edges edges' x y → Counts edges (edges_of now) → Counts edges' (edges_of after)
+  exchanged_at now after i x y edges edges' at step exchanges counts =
+      let size : Standing V M → ℕ = λ z. length z.state.edges in
+      let within = edges_within now i x at in
+      let rest = edges_of now - size x in
+      let both : edges_of now ≡ rest + size x = less_and_more (edges_of now) (size x) within in
+      let moved = sum_by-set size now i y x (slice_get_within now i x at) in
+      let there : size (get_or now i x) ≡ size x = ap size (get_or_from_slice_get now i x x at) in
+      let left : edges_of after ≡ rest + size y = ap (λ (l : List (Standing V M)). edges_of l) step ∙ omega (arith, moved, there, both) in
+      subst (Counts edges') (sym left) (exchanges rest (subst (Counts edges) both counts))
+
+  -- no vertex has more edges than all have
+  pub known_within : (now : List (Standing V M)) (i : ℕ) (x : Standing V M) (edges : Option ℕ) → slice_get now i ≡ Some x → Counts edges (edges_of now) → IfSome edges (λ n. length x.state.edges ≤ n)
+  known_within now i x None at counts = tt
+  known_within now i x (Some n) at counts = omega (arith, edges_within now i x at, counts)
+
+module _ {V M : Type 0} (program : Program V M) (first now : List (Standing V M)) (cx_first cx : Context M) (work unhalted : List ℕ) (edges : Option ℕ) (k : ℕ) where
   -- an idle vertex is passed over
-  advance_idle : (low : ℕ) (x : Standing V M) → PassedTo program first now cx_first cx work unhalted k low → slice_get first low ≡ Some x → is_active x ≡ false → ((j : ℕ) → k ≤ j → j < length work → low < get_or work j 0) → PassedTo program first now cx_first cx work unhalted k (suc low)
+  advance_idle : (low : ℕ) (x : Standing V M) → PassedTo program first now cx_first cx work unhalted edges k low → slice_get first low ≡ Some x → is_active x ≡ false → ((j : ℕ) → k ≤ j → j < length work → low < get_or work j 0) → PassedTo program first now cx_first cx work unhalted edges k (suc low)
   advance_idle low x passed here still ahead =
       let stays = ran-idle program cx_first.view x still in
       let before = ran_context program cx_first (take low first) in
@@ -149,34 +179,35 @@ module _ {V M : Type 0} (program : Program V M) (first now : List (Standing V M)
             let asleep : (ran program cx_first.view y).state.halted ≡ true = ap (λ (z : Standing V M). (ran program cx_first.view z).state.halted) is ∙ ap (λ (z : Standing V M). z.state.halted) (sym stays) ∙ idle_halted program cx_first.view x still in
             let k : false ≡ true = sym awake ∙ asleep in cc)
             (cases_lt i low);
+        counts = passed.counts;
       }
 
   -- idle vertices are passed over
-  skip : (n low target : ℕ) → target ≡ low + n → PassedTo program first now cx_first cx work unhalted k low → target ≤ length first → ((j : ℕ) → k ≤ j → j < length work → target ≤ get_or work j 0) → ((i : ℕ) (x : Standing V M) → slice_get first i ≡ Some x → low ≤ i → i < target → is_active x ≡ false) → PassedTo program first now cx_first cx work unhalted k target
-  skip zero low target is passed inside ahead still = let e : low ≡ target = omega arith in subst (λ (t : ℕ). PassedTo program first now cx_first cx work unhalted k t) e passed
+  skip : (n low target : ℕ) → target ≡ low + n → PassedTo program first now cx_first cx work unhalted edges k low → target ≤ length first → ((j : ℕ) → k ≤ j → j < length work → target ≤ get_or work j 0) → ((i : ℕ) (x : Standing V M) → slice_get first i ≡ Some x → low ≤ i → i < target → is_active x ≡ false) → PassedTo program first now cx_first cx work unhalted edges k target
+  skip zero low target is passed inside ahead still = let e : low ≡ target = omega arith in subst (λ (t : ℕ). PassedTo program first now cx_first cx work unhalted edges k t) e passed
   skip (suc n) low target is passed inside ahead still =
       let last = low + n in
       let before = skip n low last refl passed (omega arith) (λ j a b. let l = ahead j a b in omega arith) (λ i x at more less. still i x at more (omega arith)) in
       let e : suc last ≡ target = omega arith in
       let inside_last : last < length first = omega arith in
       let some = element first last inside_last in
-      subst (λ (t : ℕ). PassedTo program first now cx_first cx work unhalted k t) e
+      subst (λ (t : ℕ). PassedTo program first now cx_first cx work unhalted edges k t) e
       (advance_idle last some.0 before some.1 (still last some.0 some.1 (omega arith) (omega arith)) (λ j a b. let l = ahead j a b in omega arith))
 
   -- all vertices below the next place of the list are passed over
-  quiet_until : (low target : ℕ) → PassedTo program first now cx_first cx work unhalted k low → ((j : ℕ) → k ≤ j → j < length work → target ≤ get_or work j 0) → (i : ℕ) (x : Standing V M) → slice_get first i ≡ Some x → low ≤ i → i < target → is_active x ≡ false
+  quiet_until : (low target : ℕ) → PassedTo program first now cx_first cx work unhalted edges k low → ((j : ℕ) → k ≤ j → j < length work → target ≤ get_or work j 0) → (i : ℕ) (x : Standing V M) → slice_get first i ≡ Some x → low ≤ i → i < target → is_active x ≡ false
   quiet_until low target passed ahead i x at more less =
       by_bool (is_active x)
       (λ active. let w = passed.covers i x at active more in let l = ahead w.0 w.1 w.2 in absurd (omega (arith, w.3)))
       (λ still. still)
 
-  pub skip_to : (low target : ℕ) → PassedTo program first now cx_first cx work unhalted k low → low ≤ target → target ≤ length first → ((j : ℕ) → k ≤ j → j < length work → target ≤ get_or work j 0) → PassedTo program first now cx_first cx work unhalted k target
+  pub skip_to : (low target : ℕ) → PassedTo program first now cx_first cx work unhalted edges k low → low ≤ target → target ≤ length first → ((j : ℕ) → k ≤ j → j < length work → target ≤ get_or work j 0) → PassedTo program first now cx_first cx work unhalted edges k target
   skip_to low target passed more inside ahead =
       skip (target - low) low target (omega arith) passed inside ahead (quiet_until low target passed ahead)
 
   -- the vertex at the next place of the list is visited
-  pub visited : (place : ℕ) (x : Standing V M) (after : List (Standing V M)) (cx' : Context M) (unhalted' : List ℕ) → PassedTo program first now cx_first cx work unhalted k place → IsStrictlySortedBy nat_cmp work → k < length work → get_or work k 0 ≡ place → slice_get first place ≡ Some x → after ≡ set now place (ran program cx_first.view x) → cx' ≡ context_after program cx x → unhalted' ≡ with_unhalted unhalted place (ran program cx_first.view x) → PassedTo program first after cx_first cx' work unhalted' (k + 1) (suc place)
-  visited place x after cx' unhalted' passed rising inside is here step context grows =
+  pub visited : (place : ℕ) (x : Standing V M) (after : List (Standing V M)) (cx' : Context M) (unhalted' : List ℕ) (edges' : Option ℕ) → PassedTo program first now cx_first cx work unhalted edges k place → IsStrictlySortedBy nat_cmp work → k < length work → get_or work k 0 ≡ place → slice_get first place ≡ Some x → after ≡ set now place (ran program cx_first.view x) → cx' ≡ context_after program cx x → unhalted' ≡ with_unhalted unhalted place (ran program cx_first.view x) → Exchanges edges edges' x (ran program cx_first.view x) → PassedTo program first after cx_first cx' work unhalted' edges' (k + 1) (suc place)
+  visited place x after cx' unhalted' edges' passed rising inside is here step context grows exchanges =
       record {
         bound = slice_get_within first place x here;
         standings = step ∙ ap (λ (l : List (Standing V M)). set l place (ran program cx_first.view x)) passed.standings ∙ sym (changed_below-more (ran program cx_first.view) first place x here);
@@ -209,6 +240,9 @@ module _ {V M : Type 0} (program : Program V M) (first now : List (Standing V M)
             let equal : (place == i) ≡ true = search (tests, rules) in
             ap (λ l. has_id l i) (grows ∙ ap (λ b. cond b unhalted (unhalted ++ place ∷ [])) woken) ∙ has_id-push unhalted place i ∙ or_true (has_id unhalted i) (place == i) equal)
             (cases_lt i place);
+        counts =
+            let at : slice_get now place ≡ Some x = ap (λ (l : List (Standing V M)). slice_get l place) passed.standings ∙ changed_below-at (ran program cx_first.view) first place x here in
+            exchanged_at now after place x (ran program cx_first.view x) edges edges' at step exchanges passed.counts;
       }
 
 -- ---- a pass from its beginning to its end
@@ -233,8 +267,8 @@ only_halted true h = sym h
 only_halted false h = refl
 
 module _ {V M : Type 0} (program : Program V M) (first : List (Standing V M)) (cx_first : Context M) (work : List ℕ) where
-  pub passed_none : cx_first.calls < 2 ^ 64 → ListsActive first work → PassedTo program first first cx_first cx_first work [] 0 0
-  passed_none fits lists =
+  pub passed_none : (edges : Option ℕ) → cx_first.calls < 2 ^ 64 → ListsActive first work → Counts edges (edges_of first) → PassedTo program first first cx_first cx_first work [] edges 0 0
+  passed_none edges fits lists counts =
       record {
         bound = omega arith;
         standings = sym (changed_below-zero (ran program cx_first.view) first);
@@ -243,14 +277,18 @@ module _ {V M : Type 0} (program : Program V M) (first : List (Standing V M)) (c
         covers = λ i x at active more. let w = listed_place work i (lists.covers i x at active) in (w.0, omega arith, w.1, w.2);
         within = λ p h. let k : false ≡ true = h in cc;
         lists = λ i x at less awake. absurd (omega arith);
+        counts = counts;
       }
 
-  module _ (now : List (Standing V M)) (cx : Context M) (unhalted : List ℕ) (k low : ℕ) (done : length work ≤ k) (passed : PassedTo program first now cx_first cx work unhalted k low) where
-    whole : PassedTo program first now cx_first cx work unhalted k (length first)
-    whole = skip_to program first now cx_first cx work unhalted k low (length first) passed passed.bound (omega arith) (λ j a b. absurd (omega arith))
+  module _ (now : List (Standing V M)) (cx : Context M) (unhalted : List ℕ) (edges : Option ℕ) (k low : ℕ) (done : length work ≤ k) (passed : PassedTo program first now cx_first cx work unhalted edges k low) where
+    whole : PassedTo program first now cx_first cx work unhalted edges k (length first)
+    whole = skip_to program first now cx_first cx work unhalted edges k low (length first) passed passed.bound (omega arith) (λ j a b. absurd (omega arith))
 
     pub passed_standings : now ≡ map (ran program cx_first.view) first
     passed_standings = whole.standings ∙ changed_below-all (ran program cx_first.view) first
+
+    pub passed_counts : Counts edges (edges_of now)
+    passed_counts = whole.counts
 
     pub passed_context : cx ≡ ran_context program cx_first first
     passed_context = whole.context ∙ ap (ran_context program cx_first) (take_whole first)
@@ -288,7 +326,7 @@ ran_context-writes : {V M : Type 0} (program : Program V M) (cx : Context M) (xs
 unfolding ran_context
 ran_context-writes program cx xs = refl
 
-module _ {V M : Type 0} (program : Program V M) (first now : List (Standing V M)) (cx_first cx : Context M) (work unhalted : List ℕ) (k low : ℕ) (lists : ListsActive first work) (rising : IsStrictlySortedBy nat_cmp work) (passed : PassedTo program first now cx_first cx work unhalted k low) where
+module _ {V M : Type 0} (program : Program V M) (first now : List (Standing V M)) (cx_first cx : Context M) (work unhalted : List ℕ) (edges : Option ℕ) (k low : ℕ) (lists : ListsActive first work) (rising : IsStrictlySortedBy nat_cmp work) (passed : PassedTo program first now cx_first cx work unhalted edges k low) where
   pub same_view : cx.view ≡ cx_first.view
   same_view = ap (λ (c : Context M). c.view) passed.context ∙ ran_context-view program cx_first (take low first)
 
@@ -310,38 +348,40 @@ module _ {V M : Type 0} (program : Program V M) (first now : List (Standing V M)
         let l = lists.within (get_or work k 0) (place_listed work k inside) in
         omega (arith, l, ap length passed.standings, length-changed_below (ran program cx_first.view) low first)
 
-    pub pass_on : (after : List (Standing V M)) (cx' : Context M) (unhalted' : List ℕ)
+    pub pass_on : (after : List (Standing V M)) (cx' : Context M) (unhalted' : List ℕ) (edges' : Option ℕ)
         → ((x : Standing V M) → slice_get now (get_or work k 0) ≡ Some x → after ≡ set now (get_or work k 0) (ran program cx.view x))
         → ((x : Standing V M) → slice_get now (get_or work k 0) ≡ Some x → cx' ≡ context_after program cx x)
         → ((x : Standing V M) → slice_get now (get_or work k 0) ≡ Some x → unhalted' ≡ with_unhalted unhalted (get_or work k 0) (ran program cx.view x))
-        → (low : ℕ) × PassedTo program first after cx_first cx' work unhalted' (k + 1) low
-    pass_on after cx' unhalted' step context grows =
+        → ((x : Standing V M) → slice_get now (get_or work k 0) ≡ Some x → Exchanges edges edges' x (ran program cx.view x))
+        → (low : ℕ) × PassedTo program first after cx_first cx' work unhalted' edges' (k + 1) low
+    pass_on after cx' unhalted' edges' step context grows exchanges =
         let at : ℕ = get_or work k 0 in
         let within = lists.within at (place_listed work k inside) in
-        let there = skip_to program first now cx_first cx work unhalted k low at passed (passed.ahead k (omega arith) inside) (omega arith)
+        let there = skip_to program first now cx_first cx work unhalted edges k low at passed (passed.ahead k (omega arith) inside) (omega arith)
         (λ j a b. ⊎_elim (λ (l : k < j). let r = below_from_sorted work k j 0 rising l b in omega arith) (λ (l : j ≤ k). let e : j ≡ k = omega arith in omega (arith, ap (λ (n : ℕ). get_or work n 0) e)) (cases_lt k j)) in
         let f = element first at within in
         let x : Standing V M = f.0 in
         let here : slice_get now at ≡ Some x = ap (λ (l : List (Standing V M)). slice_get l at) there.standings ∙ changed_below-at (ran program cx_first.view) first at x f.1 in (
           suc at,
-          visited program first now cx_first cx work unhalted k at x after cx' unhalted' there rising inside refl f.1
+          visited program first now cx_first cx work unhalted edges k at x after cx' unhalted' edges' there rising inside refl f.1
               (step x here ∙ ap (λ (v : View). set now at (ran program v x)) same_view)
               (context x here)
-              (grows x here ∙ ap (λ (v : View). with_unhalted unhalted at (ran program v x)) same_view),
+              (grows x here ∙ ap (λ (v : View). with_unhalted unhalted at (ran program v x)) same_view)
+              (let P : View → Type 0 = λ v. Exchanges edges edges' x (ran program v x) in subst P same_view (exchanges x here)),
         )
 
-module _ {V M : Type 0} (program : Program V M) (first : List (Standing V M)) (cx_first : Context M) (work : List ℕ) (fits : cx_first.calls < 2 ^ 64) (lists : ListsActive first work) where
-  pub passed_first : (unhalted : List ℕ) → unhalted ≡ [] → (low : ℕ) × PassedTo program first first cx_first cx_first work unhalted 0 low
+module _ {V M : Type 0} (program : Program V M) (first : List (Standing V M)) (cx_first : Context M) (work : List ℕ) (edges : Option ℕ) (fits : cx_first.calls < 2 ^ 64) (lists : ListsActive first work) (counts : Counts edges (edges_of first)) where
+  pub passed_first : (unhalted : List ℕ) → unhalted ≡ [] → (low : ℕ) × PassedTo program first first cx_first cx_first work unhalted edges 0 low
   passed_first unhalted none =
-      let P : List ℕ → Type 0 = λ l. PassedTo program first first cx_first cx_first work l 0 0 in
-      (0, subst P (sym none) (passed_none program first cx_first work fits lists))
+      let P : List ℕ → Type 0 = λ l. PassedTo program first first cx_first cx_first work l edges 0 0 in
+      (0, subst P (sym none) (passed_none program first cx_first work edges fits lists counts))
 
   -- where the list is empty, nobody is executed
   pub nobody-standings : length work ≡ 0 → first ≡ map (ran program cx_first.view) first
-  nobody-standings none = passed_standings program first cx_first work first cx_first [] 0 0 (omega arith) (passed_none program first cx_first work fits lists)
+  nobody-standings none = passed_standings program first cx_first work first cx_first [] edges 0 0 (omega arith) (passed_none program first cx_first work edges fits lists counts)
 
   pub nobody-context : length work ≡ 0 → cx_first ≡ ran_context program cx_first first
-  nobody-context none = passed_context program first cx_first work first cx_first [] 0 0 (omega arith) (passed_none program first cx_first work fits lists)
+  nobody-context none = passed_context program first cx_first work first cx_first [] edges 0 0 (omega arith) (passed_none program first cx_first work edges fits lists counts)
 
 -- what a test for an empty list says
 pub zero-from_test : (n : ℕ) (b : Bool) → b ≡ (n == 0) → b ≡ true → n ≡ 0

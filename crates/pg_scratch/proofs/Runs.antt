@@ -3,7 +3,6 @@ use Rattle.std.proofs.Common.{◌≡◌, ℕ, zero, suc, ℤ, ◌+◌, ◌-◌, 
 use Rattle.std.specs.Prelude.{◌==◌}
 use Rattle.std.specs.List.{count_by, list_all, range_with_len, AllByRecursion}
 use Rattle.std.specs.List.Sorted.{IsStrictlySortedBy}
-use Rattle.std.specs.Map.{keys_of}
 use Rattle.std.specs.Option.{unwrap_or}
 use Rattle.std.specs.Ordering.{nat_cmp}
 use Rattle.std.specs.declared.cmp.Ordering.TheVariants.{Less}
@@ -11,22 +10,28 @@ use Rattle.std.proofs.lemmas.Bool.{cases_lt}
 use Rattle.std.proofs.lemmas.Bool.Decides.{nat_tests}
 use Rattle.std.proofs.lemmas.List.{length-map}
 use Rattle.std.proofs.lemmas.Option.{slice_get_within}
-use Rattle.pg_graph.specs.Rows.{Rows}
-use Rattle.pg_model.specs.Job.{Program, Combining, Totals, Job}
-use Rattle.pg_model.specs.Run.{totals_of, beginning, first, configuration, ending_after, run_length, executions_below, executions, executed, answer, values_of}
-use Rattle.pg_model.specs.Superstep.{is_active, ids, has_id, visible, next, capped}
+use Rattle.std.proofs.lemmas.List.Sums.{sum_by-cons}
+use Rattle.pg_graph.specs.Rows.{Rows, HasRisingIds, edge_count}
+use Rattle.pg_graph.specs.declared.graph.Row.{Row}
+use Rattle.pg_graph.specs.declared.missing.Missing.{Missing}
+use Rattle.pg_model.specs.InOrder.{IsInOrder}
+use Rattle.pg_model.specs.Job.{Program, Combining, Job}
+use Rattle.pg_model.specs.Run.{beginning, first, configuration, present_at, ending_after, run_length, executions_below, executions, executed, answer, values_of}
+use Rattle.pg_model.specs.Superstep.{is_active, is_all_idle, ids, has_id, edges_of, present, visible, next, capped}
 use Rattle.pg_model.specs.declared.configuration.Standing.{Standing}
 use Rattle.pg_model.specs.declared.configuration.Configuration.{Configuration}
 use Rattle.pg_model.specs.declared.run.Ending.{Ending}
 use Rattle.pg_model.specs.declared.run.Ending.TheVariants.{MasterHalted, Finished, LimitReached}
 use Rattle.pg_model.specs.declared.run.Run.{Run}
+use Rattle.pg_model.proofs.LawsIds.{in_order}
 use Rattle.pg_model.proofs.LawsLength.{run_length_is, ends_at_limit}
 use Rattle.pg_global.specs.Master.{Master, job_of}
 use Rattle.pg_global.specs.Registry.{Registered, aggregating_of}
 use Rattle.pg_global.specs.declared.registry.Registration.{Registration}
-use Rattle.pg_scratch.specs.Progress.{IsReady}
 use Rattle.pg_scratch.specs.Running.{IsRunning}
+use Rattle.pg_scratch.specs.Stages.{HasStepped, IsPrepared}
 use Rattle.pg_scratch.specs.Worklist.{ListsActive}
+use Rattle.pg_scratch.specs.declared.superstep.Progress.{Progress}
 
 by_bool : {P : Type 0} (b : Bool) → (b ≡ true → P) → (b ≡ false → P) → P
 by_bool true x y = x refl
@@ -79,41 +84,51 @@ ListsActive-all xs n same =
     }
 
 -- ---- as the run begins
-module _ {V M : Type 0} (program : Program V M) (combining : Option (Combining M)) (master : Master) (limit : ℕ) (rows : Rows) (registrations : List Registration) (registered : registrations ≡ map (λ e. e.1) master.registrations) where
-  initial_from : (rs : Registered) → map (λ r. (aggregating_of r).initial) (map (λ e. e.1) rs) ≡ map (λ a. a.initial) (map (λ e. aggregating_of e.1) rs)
-  initial_from [] = refl
-  initial_from (r ∷ rs) = ap (λ l. (aggregating_of r.1).initial ∷ l) (initial_from rs)
+initial_from : (rs : Registered) → map (λ r. (aggregating_of r).initial) (map (λ e. e.1) rs) ≡ map (λ a. a.initial) (map (λ e. aggregating_of e.1) rs)
+initial_from [] = refl
+initial_from (r ∷ rs) = ap (λ l. (aggregating_of r.1).initial ∷ l) (initial_from rs)
 
-  pub first_is : (c : Configuration V M) → c ≡ record { standings = map (beginning program) rows; gathered = map (λ r. (aggregating_of r).initial) registrations; sent = 0; dropped = 0 } → c ≡ first (job_of program combining master limit) rows
+beginning-edges : {V M : Type 0} (program : Program V M) (rows : Rows) → edges_of (map (beginning program) rows) ≡ edge_count rows
+beginning-edges program [] = refl
+beginning-edges program (row ∷ rows) =
+    sum_by-cons (λ x. length x.state.edges) (beginning program row) (map (beginning program) rows)
+    ∙ (ap (λ n. length row.1.edges + n) (beginning-edges program rows) ∙ sym (sum_by-cons (λ (e : ℕ × Row). length e.1.edges) row rows))
+
+-- a run before its first superstep
+pub record IsBeginning {V M : Type 0} (program : Program V M) (registrations : List Registration) (rows : Rows) (count : ℕ) (p : Progress V M) : Type 0 where
+  pub configuration : p.configuration ≡ record { standings = map (beginning program) rows; waiting = []; gathered = map (λ r. (aggregating_of r).initial) registrations; sent = 0; dropped = 0 }
+  pub ids : p.ids.items ≡ ids p.configuration.standings
+  pub work : p.work.items ≡ range_with_len 0 (length rows)
+  pub edges : p.edges ≡ edge_count rows
+  pub meter : p.meter ≡ count
+
+module _ {V M : Type 0} (program : Program V M) (combining : Option (Combining M)) (master : Master) (missing : Missing) (limit : ℕ) where
+  first_is : (rows : Rows) (registrations : List Registration) → registrations ≡ map (λ e. e.1) master.registrations → record { standings = map (beginning program) rows; waiting = []; gathered = map (λ r. (aggregating_of r).initial) registrations; sent = 0; dropped = 0 } ≡ first (job_of program combining master missing limit) rows
   unfolding first
-  first_is c is =
-      let P : List ℤ → Configuration V M = λ g. record { standings = map (beginning program) rows; gathered = g; sent = 0; dropped = 0 } in
-      is ∙ ap P (ap (map (λ r. (aggregating_of r).initial)) registered ∙ initial_from master.registrations)
+  first_is rows registrations registered =
+      let gathered = ap (map (λ r. (aggregating_of r).initial)) registered ∙ initial_from master.registrations in
+      λ i. record { standings = map (beginning program) rows; waiting = []; gathered = gathered i; sent = 0; dropped = 0 }
 
-  ids_begin : (rs : Rows) → keys_of rs ≡ ids (map (beginning program) rs)
-  ids_begin [] = refl
-  ids_begin (r ∷ rs) = ap (λ l. r.0 ∷ l) (ids_begin rs)
-
-  pub running_first : (vertices : List ℕ) (c : Configuration V M) (work : List ℕ) (count meter : ℕ) → vertices ≡ keys_of rows → IsStrictlySortedBy nat_cmp vertices → c ≡ record { standings = map (beginning program) rows; gathered = map (λ r. (aggregating_of r).initial) registrations; sent = 0; dropped = 0 } → work ≡ range_with_len 0 (length rows) → meter ≡ count → count < 2 ^ 64 → IsRunning (job_of program combining master limit) rows vertices (length registrations) count 0 c work meter
+  pub running_first : (rows : Rows) (registrations : List Registration) (count : ℕ) (p : Progress V M) → IsPrepared program master registrations → HasRisingIds rows → p.edges < 2 ^ 64 → count < 2 ^ 64 → IsBeginning program registrations rows count p → IsRunning (job_of program combining master missing limit) rows (length registrations) count 0 p
   unfolding configuration executions_below
-  running_first vertices c work count meter vertices_are rising is listed counted fits =
+  running_first rows registrations count p prepared rising small fits begins =
+      let job : Job V M = job_of program combining master missing limit in
       let many : length (map (beginning program) rows) ≡ length rows = simp length-map in
-      let gathered : length (map (λ r. (aggregating_of r).initial) registrations) ≡ length registrations = simp length-map in
-      let stand = ap (λ (x : Configuration V M). x.standings) is in
-      let P : List (Standing V M) → Type 0 = λ xs. ListsActive xs work in
-      let Q : List ℕ → Type 0 = λ l. ListsActive (map (beginning program) rows) l in
-      let R : List ℕ → Type 0 = λ l. IsStrictlySortedBy nat_cmp l in
+      let stands = begins.configuration ∙ first_is rows registrations prepared.registered in
+      let vertices = ap (λ (x : Configuration V M). x.standings) begins.configuration in
+      let total : edges_of p.configuration.standings ≡ edge_count rows = ap (λ (xs : List (Standing V M)). edges_of xs) vertices ∙ beginning-edges program rows in
       record {
-        stands = first_is c is;
+        stands = stands;
         ready = record {
-          vertices_are = vertices_are ∙ ids_begin rows ∙ ap (λ (xs : List (Standing V M)). ids xs) (sym stand);
-          vertices_rise = rising;
-          gathered = ap (λ (x : Configuration V M). length x.gathered) is ∙ gathered;
-          lists = subst P (sym stand) (subst Q (sym listed) (ListsActive-all (map (beginning program) rows) (length rows) many));
-          in_order = subst R (sym listed) (range-rising 0 (length rows));
+          in_order = subst (λ (c : Configuration V M). IsInOrder c) (sym stands) (in_order job rows rising 0);
+          ids_are = begins.ids;
+          lists = subst (λ (xs : List (Standing V M)). ListsActive xs p.work.items) (sym vertices) (subst (λ l. ListsActive (map (beginning program) rows) l) (sym begins.work) (ListsActive-all (map (beginning program) rows) (length rows) many));
+          work_rises = subst (IsStrictlySortedBy nat_cmp) (sym begins.work) (range-rising 0 (length rows));
+          edges = omega (arith, begins.edges, total, small);
+          gathered = ap (λ (x : Configuration V M). length x.gathered) begins.configuration ∙ length-map registrations _;
         };
         goes_on = λ before h. absurd (omega arith);
-        counted = counted ∙ (let e : count ≡ capped (count + 0) = omega arith in e);
+        counted = omega (arith, begins.meter, fits);
       }
 
 -- ---- one superstep more
@@ -123,67 +138,59 @@ one_less s = omega arith
 above : (s : ℕ) → s + 1 ≡ suc s
 above s = omega arith
 
-module _ {V M : Type 0} (job : Job V M) (rows : Rows) where
+module _ {V M : Type 0} (job : Job V M) (rows : Rows) (places first_count s : ℕ) (before after : Progress V M) (halt : Bool) (running : IsRunning job rows places first_count s before) (step : HasStepped job places s before after halt) where
   -- what stands after superstep s
-  next_stands : (totals : Totals) → totals ≡ totals_of rows → (s : ℕ) (c d : Configuration V M) → c ≡ configuration job rows s → d ≡ next job totals s c → d ≡ configuration job rows (s + 1)
+  stands_next : after.configuration ≡ configuration job rows (s + 1)
   unfolding configuration
-  next_stands totals same s c d stands is =
+  stands_next =
       let P : ℕ → Configuration V M = λ n. configuration job rows n in
-      is ∙ ap (λ (t : Totals). next job t s c) same ∙ ap (next job (totals_of rows) s) stands ∙ sym (ap P (above s))
+      step.configuration ∙ (ap (next job s) running.stands ∙ sym (ap P (above s)))
 
-  more_executions : (s : ℕ) → executions_below job rows (s + 1) ≡ executions_below job rows s + executed job rows (configuration job rows s).standings
+  counted_next : after.meter ≡ capped (first_count + executions_below job rows (s + 1))
   unfolding executions_below
-  more_executions s = let P : ℕ → ℕ = λ n. executions_below job rows n in ap P (above s)
-
-  counted_more : (first_count s meter after : ℕ) (c : Configuration V M) → c ≡ configuration job rows s → meter ≡ capped (first_count + executions_below job rows s) → after ≡ capped (meter + count_by is_active c.standings) → after ≡ capped (first_count + executions_below job rows (s + 1))
-  counted_more first_count s meter after c stands counted is =
-      let more = more_executions s in
-      let P : Configuration V M → ℕ = λ x. count_by is_active x.standings in
-      let same : count_by is_active c.standings ≡ executed job rows (configuration job rows s).standings = ap P stands in
-      omega (arith, counted, is, more, same)
+  counted_next =
+      let more : executions_below job rows (s + 1) ≡ executions_below job rows s + executed job rows (present_at job rows s) = (let P : ℕ → ℕ = λ n. executions_below job rows n in ap P (above s)) in
+      let same : count_by is_active (present job.program before.configuration) ≡ executed job rows (present_at job rows s) = (λ i. count_by is_active (present job.program (running.stands i))) in
+      omega (arith, step.counted, running.counted, more, same)
 
   -- the test after superstep s
-  pub ending_is : (totals : Totals) → totals ≡ totals_of rows → (s : ℕ) (c d : Configuration V M) (halt : Bool) (found : Option Ending) → c ≡ configuration job rows s → d ≡ next job totals s c → halt ≡ (visible job totals s c).halt → found ≡ cond halt (Some MasterHalted) (cond (list_all (λ x. not (is_active x)) d.standings) (Some Finished) (cond (s + 1 == job.limit) (Some LimitReached) None)) → found ≡ ending_after job rows s
-  ending_is totals same s c d halt found stands is halts finds =
-      let after = next_stands totals same s c d stands is in
-      let P : Bool → Configuration V M → Option Ending = λ h x. cond h (Some MasterHalted) (cond (list_all (λ x. not (is_active x)) x.standings) (Some Finished) (cond (s + 1 == job.limit) (Some LimitReached) None)) in
-      let Q : Totals → Configuration V M → Bool = λ t x. (visible job t s x).halt in
-      finds ∙ ap (λ h. P h d) (halts ∙ ap (λ t. Q t c) same ∙ ap (Q (totals_of rows)) stands) ∙ ap (P (visible job (totals_of rows) s (configuration job rows s)).halt) after
+  pub ending_is : (found : Option Ending) → found ≡ cond halt (Some MasterHalted) (cond (is_all_idle after.configuration) (Some Finished) (cond (s + 1 == job.limit) (Some LimitReached) None)) → found ≡ ending_after job rows s
+  ending_is found finds =
+      let P : Bool → Configuration V M → Option Ending = λ h x. cond h (Some MasterHalted) (cond (is_all_idle x) (Some Finished) (cond (s + 1 == job.limit) (Some LimitReached) None)) in
+      finds ∙ (λ i. P ((step.halts ∙ (λ j. (visible job s (running.stands j)).halt)) i) (stands_next i))
 
-  module _ (vertices : List ℕ) (places first_count : ℕ) where
-    pub running_on : (totals : Totals) → totals ≡ totals_of rows → (s meter after : ℕ) (c d : Configuration V M) (work rest : List ℕ) → IsRunning job rows vertices places first_count s c work meter → d ≡ next job totals s c → IsReady vertices places d rest → after ≡ capped (meter + count_by is_active c.standings) → ending_after job rows s ≡ None → IsRunning job rows vertices places first_count (s + 1) d rest after
-    running_on totals same s meter after c d work rest running is ready is_counted none =
-        record {
-          stands = next_stands totals same s c d running.stands is;
-          ready = ready;
-          goes_on = λ before less. ⊎_elim (λ (l : before < s). running.goes_on before l) (λ (l : s ≤ before). let e : s ≡ before = omega arith in let P : ℕ → Type 0 = λ n. is_some (ending_after job rows n) ≡ false in subst P e (ap is_some none)) (cases_lt before s);
-          counted = counted_more first_count s meter after c running.stands running.counted is_counted;
-        }
+  pub running_on : ending_after job rows s ≡ None → IsRunning job rows places first_count (s + 1) after
+  running_on none =
+      record {
+        stands = stands_next;
+        ready = step.ready;
+        goes_on = λ earlier less. ⊎_elim (λ (l : earlier < s). running.goes_on earlier l) (λ (l : s ≤ earlier). let e : s ≡ earlier = omega arith in let P : ℕ → Type 0 = λ n. is_some (ending_after job rows n) ≡ false in subst P e (ap is_some none)) (cases_lt earlier s);
+        counted = counted_next;
+      }
 
-    length_now : (s meter : ℕ) (c : Configuration V M) (work : List ℕ) → IsRunning job rows vertices places first_count s c work meter → s < job.limit → (ending : Ending) → Some ending ≡ ending_after job rows s → run_length job rows ≡ s + 1
-    length_now s meter c work running within ending ends =
+  module _ (within : s < job.limit) (ending : Ending) (ends : Some ending ≡ ending_after job rows s) where
+    length_now : run_length job rows ≡ s + 1
+    length_now =
         let P : ℕ → Type 0 = λ n. is_some (ending_after job rows n) ≡ true in
-        run_length_is job rows (s + 1) (omega arith) (omega arith) (subst P (sym (one_less s)) (ap is_some (sym ends))) (λ before less. running.goes_on before (omega arith))
+        run_length_is job rows (s + 1) (omega arith) (omega arith) (subst P (sym (one_less s)) (ap is_some (sym ends))) (λ earlier less. running.goes_on earlier (omega arith))
 
-    pub answers : (totals : Totals) → totals ≡ totals_of rows → (s meter : ℕ) (c d : Configuration V M) (work : List ℕ) (ending : Ending) (run : Run V) → IsRunning job rows vertices places first_count s c work meter → s < job.limit → d ≡ next job totals s c → Some ending ≡ ending_after job rows s → run ≡ record { values = values_of job rows d; aggregates = d.gathered; ending = ending; supersteps = s + 1; sent = d.sent; dropped = d.dropped } → run ≡ answer job rows
+    pub answers : (run : Run V) → run ≡ record { values = values_of job rows after.configuration; aggregates = after.configuration.gathered; ending = ending; supersteps = s + 1; sent = after.configuration.sent; dropped = after.configuration.dropped } → run ≡ answer job rows
     unfolding answer
-    answers totals same s meter c d work ending run running within is ends finds =
-        let long = length_now s meter c work running within ending ends in
-        let after = next_stands totals same s c d running.stands is in
+    answers run finds =
         let P : Configuration V M → Ending → ℕ → Run V = λ x e n. record { values = values_of job rows x; aggregates = x.gathered; ending = e; supersteps = n; sent = x.sent; dropped = x.dropped } in
         let Q : ℕ → Run V = λ n. P (configuration job rows n) (unwrap_or (ending_after job rows (n - 1)) LimitReached) n in
         let R : ℕ → Ending = λ n. unwrap_or (ending_after job rows n) LimitReached in
         let found : ending ≡ R (s + 1 - 1) = ap (λ (o : Option Ending). unwrap_or o LimitReached) ends ∙ sym (ap R (one_less s)) in
-        finds ∙ ap (λ x. P x ending (s + 1)) after ∙ ap (λ e. P (configuration job rows (s + 1)) e (s + 1)) found ∙ sym (ap Q long)
+        finds ∙ ((λ i. P (stands_next i) (found i) (s + 1)) ∙ sym (ap Q length_now))
 
-    pub counts : (totals : Totals) → totals ≡ totals_of rows → (s meter after : ℕ) (c : Configuration V M) (work : List ℕ) (ending : Ending) → IsRunning job rows vertices places first_count s c work meter → s < job.limit → after ≡ capped (meter + count_by is_active c.standings) → Some ending ≡ ending_after job rows s → after ≡ capped (first_count + executions job rows)
-    counts totals same s meter after c work ending running within is_counted ends =
-        let long = length_now s meter c work running within ending ends in
+    pub counts : after.meter ≡ capped (first_count + executions job rows)
+    counts =
         let P : ℕ → ℕ = λ n. capped (first_count + executions_below job rows n) in
-        counted_more first_count s meter after c running.stands running.counted is_counted ∙ sym (ap P long)
+        counted_next ∙ sym (ap P length_now)
 
-    pub ends_by_limit : (s meter : ℕ) (c : Configuration V M) (work : List ℕ) → IsRunning job rows vertices places first_count s c work meter → 0 < s → s ≡ job.limit → ⊥
-    ends_by_limit s meter c work running some limit_is =
-        let t = ends_at_limit job rows (s - 1) (omega arith) in
-        let f = running.goes_on (s - 1) (omega arith) in
-        let k : true ≡ false = sym t ∙ f in cc
+-- a run is past none of its ends
+pub ends_by_limit : {V M : Type 0} (job : Job V M) (rows : Rows) (places first_count s : ℕ) (p : Progress V M) → IsRunning job rows places first_count s p → 0 < s → s ≡ job.limit → ⊥
+ends_by_limit job rows places first_count s p running some limit_is =
+    let t = ends_at_limit job rows (s - 1) (omega arith) in
+    let f = running.goes_on (s - 1) (omega arith) in
+    let k : true ≡ false = sym t ∙ f in cc

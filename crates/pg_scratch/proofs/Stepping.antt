@@ -1,9 +1,9 @@
 -- What a superstep's parts come to.
-use Rattle.std.proofs.Common.{◌≡◌, ℕ, zero, suc, ℤ, ◌+◌, ◌*◌, ◌/◌, ◌%◌, ◌^◌, ◌<◌, ◌≤◌, Bool, true, false, cond, not, ◌&&◌, List, [], ◌∷◌, length, map, get_or, Option, None, Some, ⊎_elim, refl, sym, ap, ◌∙◌, arith, rules, tests}
+use Rattle.std.proofs.Common.{◌≡◌, ℕ, zero, suc, ℤ, ◌+◌, ◌*◌, ◌/◌, ◌%◌, ◌^◌, ◌<◌, ◌≤◌, Bool, true, false, cond, not, ◌&&◌, List, [], ◌∷◌, length, map, get_or, Option, None, Some, ⊎_elim, refl, sym, ap, ◌∙◌, subst, arith, rules, tests}
 use Rattle.std.specs.Prelude.{◌==◌, is_some}
 use Rattle.std.specs.List.{AllByRecursion, slice_get, list_all}
 use Rattle.std.proofs.Math.Nat.{lt-div-mul-add, div-eq_of_lt, pow-le-pow_right, zero-mul}
-use Rattle.std.proofs.lemmas.Bool.{cases_lt}
+use Rattle.std.proofs.lemmas.Bool.{cases_Bool, cases_lt}
 use Rattle.std.proofs.lemmas.Nat.{pow_pos}
 use Rattle.pg_model.specs.Job.{Program, Combining, Totals, Job, has_place}
 use Rattle.pg_model.specs.Superstep.{is_active, ids, outcome, state_after, sends, contributions, delivered, dropped_count, shown, view_of, visible_in, gathered_from, next, capped}
@@ -18,10 +18,6 @@ use Rattle.pg_scratch.specs.Inbox.{with_messages}
 use Rattle.pg_scratch.specs.Pass.{ran}
 use Rattle.pg_scratch.specs.Worklist.{ListsActive}
 use Rattle.pg_scratch.proofs.Passing.{element, listed_place, place_listed}
-
-by_bool : {P : Type 0} (b : Bool) → (b ≡ true → P) → (b ≡ false → P) → P
-by_bool true x y = x refl
-by_bool false x y = y refl
 
 and_left : (a b : Bool) → (a && b) ≡ true → a ≡ true
 and_left true b h = refl
@@ -73,53 +69,10 @@ shows_declared declared s n v registered places =
       total_edges = some_cond declared.total_edges v.total_edges;
     }
 
--- ---- the vertices after their executions
-module _ {V M : Type 0} (program : Program V M) (view : View) where
-  pub ids-ran : (xs : List (Standing V M)) → ids (map (ran program view) xs) ≡ ids xs
-  ids-ran [] = refl
-  ids-ran (x ∷ xs) = ap (λ l. x.state.id ∷ l) (ids-ran xs)
-
-  pub empty-ran : (xs : List (Standing V M)) → AllByRecursion (λ (x : Standing V M). x.inbox ≡ []) (map (ran program view) xs)
-  empty-ran [] = tt
-  empty-ran (x ∷ xs) = (refl, empty-ran xs)
-
-  received-ran : (combining : Option (Combining M)) (sent : List (ℕ × M)) (xs : List (Standing V M)) → with_messages combining sent (map (ran program view) xs) ≡ map (λ x. record { state = state_after x.state (outcome program view x); inbox = delivered combining x.state.id sent }) xs
-  received-ran combining sent [] = refl
-  received-ran combining sent (x ∷ xs) = ap (λ l. record { state = state_after x.state (outcome program view x); inbox = delivered combining x.state.id sent } ∷ l) (received-ran combining sent xs)
-
--- ---- the configuration after a superstep, from its parts
-configuration_same : {V M : Type 0} {a a' : List (Standing V M)} {b b' : List ℤ} {m m' n n' : ℕ} → a ≡ a' → b ≡ b' → m ≡ m' → n ≡ n' → ◌≡◌ {A = Configuration V M} (record { standings = a; gathered = b; sent = m; dropped = n }) (record { standings = a'; gathered = b'; sent = m'; dropped = n' })
-configuration_same {V} {M} {a} {a'} {b} {b'} {m} {m'} {n} {n'} is_a is_b is_m is_n =
-    let P : List (Standing V M) → List ℤ → ℕ → ℕ → Configuration V M = λ x y k l. record { standings = x; gathered = y; sent = k; dropped = l } in
-    ap (λ (x : List (Standing V M)). P x b m n) is_a ∙ ap (λ (y : List ℤ). P a' y m n) is_b ∙ ap (λ (k : ℕ). P a' b' k n) is_m ∙ ap (λ (l : ℕ). P a' b' m' l) is_n
-
-module _ {V M : Type 0} (job : Job V M) (totals : Totals) (s : ℕ) (c : Configuration V M) (v : Visible) (w : View) where
-  pub next-is : (vertices : List ℕ) (stood : List (Standing V M)) (standings : List (Standing V M)) (gathered : List ℤ) (all : List (ℕ × M)) (contributed : List (ℕ × ℤ)) (sent dropped : ℕ)
-      → v ≡ visible_in job.deciding totals s c.gathered
-      → w ≡ view_of job.program.declared s v
-      → vertices ≡ ids c.standings
-      → stood ≡ map (ran job.program w) c.standings
-      → all ≡ sends job.program w c.standings
-      → contributed ≡ contributions job.program w c.standings
-      → standings ≡ with_messages job.combining all stood
-      → gathered ≡ gathered_from 0 job.aggregators v.values contributed
-      → sent ≡ capped (c.sent + length all)
-      → dropped ≡ capped (c.dropped + dropped_count vertices all)
-      → record { standings = standings; gathered = gathered; sent = sent; dropped = dropped } ≡ next job totals s c
-  unfolding next
-  next-is vertices stood standings gathered all contributed sent dropped is_v is_w is_vertices is_stood is_all is_contributed is_standings is_gathered is_sent is_dropped =
-      let view_is : w ≡ view_of job.program.declared s (visible_in job.deciding totals s c.gathered) = is_w ∙ ap (view_of job.program.declared s) is_v in
-      let all_is : all ≡ sends job.program (view_of job.program.declared s (visible_in job.deciding totals s c.gathered)) c.standings = is_all ∙ ap (λ (x : View). sends job.program x c.standings) view_is in
-      let standings_is =
-      is_standings ∙ ap (with_messages job.combining all) is_stood ∙ received-ran job.program w job.combining all c.standings
-      ∙ ap (λ (x : View). map (λ y. record { state = state_after y.state (outcome job.program x y); inbox = delivered job.combining y.state.id all }) c.standings) view_is
-      ∙ ap (λ (l : List (ℕ × M)). map (λ y. record { state = state_after y.state (outcome job.program (view_of job.program.declared s (visible_in job.deciding totals s c.gathered)) y); inbox = delivered job.combining y.state.id l }) c.standings) all_is in
-      let gathered_is =
-      is_gathered ∙ ap (gathered_from 0 job.aggregators v.values) (is_contributed ∙ ap (λ (x : View). contributions job.program x c.standings) view_is)
-      ∙ ap (λ (x : Visible). gathered_from 0 job.aggregators x.values (contributions job.program (view_of job.program.declared s (visible_in job.deciding totals s c.gathered)) c.standings)) is_v in
-      let sent_is = is_sent ∙ ap (λ (l : List (ℕ × M)). capped (c.sent + length l)) all_is in
-      let dropped_is = is_dropped ∙ ap (λ (is : List ℕ). capped (c.dropped + dropped_count is all)) is_vertices ∙ ap (λ (l : List (ℕ × M)). capped (c.dropped + dropped_count (ids c.standings) l)) all_is in
-      configuration_same standings_is gathered_is sent_is dropped_is
+-- what it sees shows that
+pub shown_in : {V M : Type 0} (program : Program V M) (declared : Declared) (s n : ℕ) (v : Visible) (w : View) → has_places program.declared n ≡ true → length v.values ≡ n → declared ≡ program.declared → w ≡ view_of declared s v → ShowsDeclared program.declared w
+shown_in program declared s n v w registered places declares view_is =
+    subst (λ x. ShowsDeclared program.declared x) (sym (view_is ∙ ap (λ (d : Declared). view_of d s v) declares)) (shows_declared program.declared s n v registered places)
 
 -- ---- whether anyone is active
 module _ {V M : Type 0} where
@@ -142,11 +95,12 @@ module _ {V M : Type 0} where
   pub nobody_active : (xs : List (Standing V M)) (work : List ℕ) (k : ℕ) → ListsActive xs work → length work ≤ k → ((j : ℕ) (x : Standing V M) → j < k → slice_get xs (get_or work j 0) ≡ Some x → is_active x ≡ false) → false ≡ not (list_all (λ x. not (is_active x)) xs)
   nobody_active xs work k lists done idle =
       sym (ap not (all_idle xs (λ i x at.
-      by_bool (is_active x)
+      ⊎_elim
       (λ active.
       let w = listed_place work i (lists.covers i x at active) in
       idle w.0 x (omega (arith, w.1)) (ap (slice_get xs) w.2 ∙ at))
-      (λ still. still))))
+      (λ still. still)
+      (cases_Bool (is_active x)))))
 
   -- one place more was looked at
   pub idle_more : (xs : List (Standing V M)) (work : List ℕ) (k : ℕ) (found : Bool) → ((j : ℕ) (x : Standing V M) → j < k → slice_get xs (get_or work j 0) ≡ Some x → is_active x ≡ false) → ((x : Standing V M) → slice_get xs (get_or work k 0) ≡ Some x → found ≡ is_active x) → found ≡ false → (j : ℕ) (x : Standing V M) → j < k + 1 → slice_get xs (get_or work j 0) ≡ Some x → is_active x ≡ false

@@ -1,138 +1,170 @@
--- A whole superstep, from what each of its calls says.
-use Rattle.std.proofs.Common.{◌≡◌, ℕ, ℤ, ◌+◌, List, [], ◌∷◌, length, map, Option, refl, sym, ap, ◌∙◌, subst, true}
-use Rattle.std.specs.List.{AllByRecursion, count_by}
+-- A whole superstep, from what its stages leave.
+use Rattle.std.proofs.Common.{◌≡◌, ℕ, ℤ, ◌+◌, min, Bool, List, [], ◌∷◌, length, map, Option, refl, sym, ap, ◌∙◌, subst, arith}
+use Rattle.std.specs.List.{AllByRecursion, count_by, sum_by}
 use Rattle.std.specs.List.Sorted.{IsStrictlySortedBy}
 use Rattle.std.specs.Ordering.{nat_cmp}
 use Rattle.std.proofs.lemmas.List.{length-map}
-use Rattle.pg_model.specs.Job.{Program, Combining, Aggregating, Totals, Job}
-use Rattle.pg_model.specs.Superstep.{is_active, ids, has_id, sends, contributions, dropped_count, view_of, visible_in, gathered_from, next, capped}
+use Rattle.std.proofs.lemmas.List.Sums.{sum_by-cons}
+use Rattle.pg_model.specs.Job.{Program, Combining, Aggregating, Job}
+use Rattle.pg_model.specs.InOrder.{IsInOrder}
+use Rattle.pg_model.specs.Superstep.{is_active, ids, edges_of, outcome, state_after, sends, contributions, delivered, astray, waiting_after, dropped_count, present, standings_after, view_of, view_in, visible, gathered_from, next, capped}
 use Rattle.pg_model.specs.declared.configuration.Standing.{Standing}
 use Rattle.pg_model.specs.declared.configuration.Configuration.{Configuration}
-use Rattle.pg_model.specs.declared.view.Declared.{Declared}
 use Rattle.pg_model.specs.declared.view.View.{View}
 use Rattle.pg_model.specs.declared.view.Visible.{Visible}
-use Rattle.pg_program.specs.Context.{Context, ShowsDeclared}
-use Rattle.pg_global.specs.Master.{Master, job_of, has_places}
+use Rattle.pg_model.proofs.LawsIds.{IsInOrder-next, ids-next, length-gathered_from}
+use Rattle.pg_global.specs.Master.{Master, job_of}
 use Rattle.pg_global.specs.Registry.{Registered, aggregating_of}
 use Rattle.pg_global.specs.declared.registry.Registration.{Registration}
 use Rattle.pg_scratch.specs.Inbox.{with_messages}
+use Rattle.pg_program.specs.Context.{Context}
 use Rattle.pg_scratch.specs.Pass.{ran, ran_context}
-use Rattle.pg_scratch.specs.Progress.{IsReady}
+use Rattle.pg_scratch.specs.Roster.{IsInPlace}
+use Rattle.pg_scratch.specs.Stages.{HasPlayed, HasReceived, HasStepped, IsReady}
 use Rattle.pg_scratch.specs.Worklist.{ListsActive}
-use Rattle.pg_scratch.proofs.Contributing.{length-gathered_from}
-use Rattle.pg_scratch.proofs.Stepping.{ids-ran, empty-ran, shows_declared, next-is}
+use Rattle.pg_scratch.specs.declared.roster.Roster.{Roster}
+use Rattle.pg_scratch.specs.declared.superstep.Played.{Played}
+use Rattle.pg_scratch.specs.declared.superstep.Progress.{Progress}
+use Rattle.pg_scratch.specs.declared.superstep.Received.{Received}
 
 aggregators_of : (rs : Registered) → map aggregating_of (map (λ e. e.1) rs) ≡ map (λ e. aggregating_of e.1) rs
 aggregators_of [] = refl
 aggregators_of (r ∷ rs) = ap (λ l. aggregating_of r.1 ∷ l) (aggregators_of rs)
 
-ids-received : {V M : Type 0} (combining : Option (Combining M)) (sent : List (ℕ × M)) (xs : List (Standing V M)) → ids (with_messages combining sent xs) ≡ ids xs
-ids-received combining sent [] = refl
-ids-received combining sent (x ∷ xs) = ap (λ l. x.state.id ∷ l) (ids-received combining sent xs)
+-- ---- the vertices after their executions, and with what they receive
+module _ {V M : Type 0} (program : Program V M) (view : View) where
+  pub ids-ran : (xs : List (Standing V M)) → ids (map (ran program view) xs) ≡ ids xs
+  ids-ran [] = refl
+  ids-ran (x ∷ xs) = ap (λ l. x.state.id ∷ l) (ids-ran xs)
 
-module _ {V M : Type 0} (program : Program V M) (view : View) (writes calls : ℕ) (cx cx' : Context M) (xs : List (Standing V M)) (begins : cx ≡ record { view = view; writes = writes; sent = []; contributed = []; calls = calls }) (after : cx' ≡ ran_context program cx xs) where
-  context_is : cx' ≡ ran_context program (record { view = view; writes = writes; sent = []; contributed = []; calls = calls }) xs
-  context_is = after ∙ ap (λ (c : Context M). ran_context program c xs) begins
+  pub empty-ran : (xs : List (Standing V M)) → AllByRecursion (λ (x : Standing V M). x.inbox ≡ []) (map (ran program view) xs)
+  empty-ran [] = tt
+  empty-ran (x ∷ xs) = (refl, empty-ran xs)
 
-  sent_is : cx'.sent ≡ sends program view xs
+  received-ran : (combining : Option (Combining M)) (sent : List (ℕ × M)) (xs : List (Standing V M)) → with_messages combining sent (map (ran program view) xs) ≡ map (λ x. record { state = state_after x.state (outcome program view x); inbox = delivered combining x.state.id sent }) xs
+  received-ran combining sent [] = refl
+  received-ran combining sent (x ∷ xs) = ap (λ l. record { state = state_after x.state (outcome program view x); inbox = delivered combining x.state.id sent } ∷ l) (received-ran combining sent xs)
+
+totals-map : {X Y : Type 0} (size : Y → ℕ) (f : X → Y) (xs : List X) → sum_by size (map f xs) ≡ sum_by (λ x. size (f x)) xs
+totals-map size f [] = refl
+totals-map size f (x ∷ xs) = sum_by-cons size (f x) (map f xs) ∙ (ap (λ n. size (f x) + n) (totals-map size f xs) ∙ sym (sum_by-cons (λ y. size (f y)) x xs))
+
+edges-received : {V M : Type 0} (combining : Option (Combining M)) (sent : List (ℕ × M)) (xs : List (Standing V M)) → edges_of (with_messages combining sent xs) ≡ edges_of xs
+edges-received combining sent xs = totals-map (λ x. length x.state.edges) (λ x. record { state = x.state; inbox = delivered combining x.state.id sent }) xs
+
+-- ---- what the executions leave, from the context
+module _ {V M : Type 0} (program : Program V M) (view : View) (writes calls : ℕ) (xs : List (Standing V M)) (cx cx' : Context M) (begins : cx ≡ record { view = view; writes = writes; sent = []; contributed = []; calls = calls }) (context : cx' ≡ ran_context program cx xs) where
+  pub context_is : cx' ≡ record { view = view; writes = writes; sent = sends program view xs; contributed = contributions program view xs; calls = capped (calls + count_by is_active xs) }
   unfolding ran_context
-  sent_is = ap (λ (c : Context M). c.sent) context_is
+  context_is = context ∙ (λ i. ran_context program (begins i) xs)
 
-  contributed_is : cx'.contributed ≡ contributions program view xs
-  unfolding ran_context
-  contributed_is = ap (λ (c : Context M). c.contributed) context_is
+-- ---- what the executions leave can receive
+module _ {V M : Type 0} (program : Program V M) (view : View) (first : Roster V M) (calls : ℕ) (p : Played V M) (plays : HasPlayed program view first calls p) where
+  pub played_ids : IsInPlace first → p.roster.ids.items ≡ ids p.roster.standings.items
+  played_ids place =
+      plays.ids_stay ∙ (place.ids_are ∙ (sym (ids-ran program view first.standings.items) ∙ (λ i. ids (sym plays.standings i))))
 
-  calls_are : cx'.calls ≡ capped (calls + count_by is_active xs)
-  unfolding ran_context
-  calls_are = ap (λ (c : Context M). c.calls) context_is
+  pub played_empty : AllByRecursion (λ (x : Standing V M). x.inbox ≡ []) p.roster.standings.items
+  played_empty =
+      subst (λ (l : List (Standing V M)). AllByRecursion (λ (x : Standing V M). x.inbox ≡ []) l) (sym plays.standings) (empty-ran program view first.standings.items)
 
--- what the calls of a superstep say, one after another
-pub record Calls {V M : Type 0} (program : Program V M) (combining : Option (Combining M)) (master : Master) (totals : Totals) (registrations : List Registration) (vertices : List ℕ) (s calls : ℕ) (c : Configuration V M) (v : Visible) (w : View) (declared : Declared) (cx cx' : Context M) (first ran_first stood : List (Standing V M)) (all delivered : List (ℕ × M)) (contributed read : List (ℕ × ℤ)) (values gathered : List ℤ) (sent dropped : ℕ) (standings : List (Standing V M)) : Type 0 where
-  pub visible : v ≡ visible_in master.deciding totals s c.gathered
-  pub places : length v.values ≡ length c.gathered
-  pub declares : declared ≡ program.declared
-  pub view_is : w ≡ view_of declared s v
-  pub begins : cx ≡ record { view = w; writes = declared.writes; sent = []; contributed = []; calls = calls }
-  pub first_is : first ≡ c.standings
-  pub ran_is : ran_first ≡ map (ran program cx.view) first
-  pub context : cx' ≡ ran_context program cx first
-  pub all_is : all ≡ cx'.sent
-  pub contributed_by : contributed ≡ cx'.contributed
-  pub read_is : read ≡ contributed
-  pub values_are : values ≡ v.values
-  pub gathered_by : gathered ≡ gathered_from 0 (map aggregating_of registrations) values read
-  pub sent_by : sent ≡ capped (c.sent + length all)
-  pub delivered_is : delivered ≡ all
-  pub stood_is : stood ≡ with_messages combining delivered ran_first
-  pub dropped_by : dropped ≡ capped (c.dropped + dropped_count vertices delivered)
-  pub standings_are : standings ≡ stood
+-- ---- the aggregators of a job are those that are registered
+pub aggregators-registered : (master : Master) (registrations : List Registration) → registrations ≡ map (λ e. e.1) master.registrations → map aggregating_of registrations ≡ map (λ e. aggregating_of e.1) master.registrations
+aggregators-registered master registrations registered = ap (map aggregating_of) registered ∙ aggregators_of master.registrations
 
-module _ {V M : Type 0} (program : Program V M) (combining : Option (Combining M)) (master : Master) (totals : Totals) (registrations : List Registration) (vertices : List ℕ) (s calls : ℕ) (c : Configuration V M) (v : Visible) (w : View) (declared : Declared) (cx cx' : Context M) (first ran_first stood : List (Standing V M)) (all delivered : List (ℕ × M)) (contributed read : List (ℕ × ℤ)) (values gathered : List ℤ) (sent dropped : ℕ) (standings : List (Standing V M))
-    (registered : registrations ≡ map (λ e. e.1) master.registrations)
-    (say : Calls program combining master totals registrations vertices s calls c v w declared cx cx' first ran_first stood all delivered contributed read values gathered sent dropped standings) where
-  seen : cx.view ≡ w
-  seen = ap (λ (x : Context M). x.view) say.begins
+pub as_many-registered : (master : Master) (registrations : List Registration) → registrations ≡ map (λ e. e.1) master.registrations → length (map (λ e. aggregating_of e.1) master.registrations) ≡ length registrations
+as_many-registered master registrations registered =
+    sym (ap length (aggregators-registered master registrations registered)) ∙ length-map registrations aggregating_of
 
-  ran_from : ran_first ≡ map (ran program w) c.standings
-  ran_from = say.ran_is ∙ ap (λ (x : View). map (ran program x) first) seen ∙ ap (λ (l : List (Standing V M)). map (ran program w) l) say.first_is
+-- ---- a superstep, by what its stages are lent and give
+pub record Stages (V M : Type 0) : Type 0 where
+  pub shown : Visible
+  pub view : View
+  pub roster : Roster V M
+  pub played : Played V M
+  pub gathered : List ℤ
+  pub received : Received V M
 
-  context_from : cx' ≡ ran_context program cx c.standings
-  context_from = say.context ∙ ap (λ (l : List (Standing V M)). ran_context program cx l) say.first_is
+module _ {V M : Type 0} (job : Job V M) (places s : ℕ) (before after : Progress V M) where
+  -- the stages of the superstep, and what stands after it
+  pub record AreStages (t : Stages V M) : Type 0 where
+    pub shown_is : t.shown ≡ visible job s before.configuration
+    pub shown_places : length t.shown.values ≡ length before.configuration.gathered
+    pub view_is : t.view ≡ view_of job.program.declared s t.shown
+    pub roster_is : t.roster.standings.items ≡ present job.program before.configuration
+    pub in_place : IsInPlace t.roster
+    pub plays : HasPlayed job.program t.view t.roster before.meter t.played
+    pub gathered_is : t.gathered ≡ gathered_from 0 job.aggregators t.shown.values t.played.contributed
+    pub receives : HasReceived job.combining job.missing t.played.roster t.played.sent t.received
+    pub standings : after.configuration.standings ≡ t.received.roster.standings.items
+    pub waiting : after.configuration.waiting ≡ t.received.astray.waiting
+    pub gathered : after.configuration.gathered ≡ t.gathered
+    pub sent : after.configuration.sent ≡ capped (before.configuration.sent + length t.played.sent)
+    pub dropped : after.configuration.dropped ≡ capped (before.configuration.dropped + t.received.astray.dropped)
+    pub ids_are : after.ids.items ≡ t.received.roster.ids.items
+    pub work_is : after.work.items ≡ t.received.roster.work.items
+    pub edges_are : after.edges ≡ t.played.edges
+    pub meter_is : after.meter ≡ t.played.meter
 
-  pub stepped : vertices ≡ ids c.standings → (limit : ℕ) → record { standings = standings; gathered = gathered; sent = sent; dropped = dropped } ≡ next (job_of program combining master limit) totals s c
-  stepped vertices_are limit =
-      let job : Job V M = job_of program combining master limit in
-      next-is job totals s c v w vertices ran_first standings gathered all contributed sent dropped
-      say.visible
-      (say.view_is ∙ ap (λ (d : Declared). view_of d s v) say.declares)
-      vertices_are
-      ran_from
-      (say.all_is ∙ sent_is program w declared.writes calls cx cx' c.standings say.begins context_from)
-      (say.contributed_by ∙ contributed_is program w declared.writes calls cx cx' c.standings say.begins context_from)
-      (say.standings_are ∙ say.stood_is ∙ ap (λ (l : List (ℕ × M)). with_messages combining l ran_first) say.delivered_is)
-      (say.gathered_by
-      ∙ ap (λ (l : List (ℕ × ℤ)). gathered_from 0 (map aggregating_of registrations) values l) say.read_is
-      ∙ ap (λ (l : List ℤ). gathered_from 0 (map aggregating_of registrations) l contributed) say.values_are
-      ∙ ap (λ (l : List Aggregating). gathered_from 0 l v.values contributed) (ap (map aggregating_of) registered ∙ aggregators_of master.registrations))
-      say.sent_by
-      (say.dropped_by ∙ ap (λ (l : List (ℕ × M)). capped (c.dropped + dropped_count vertices l)) say.delivered_is)
+  module _ (t : Stages V M) (say : AreStages t) where
+    xs : List (Standing V M)
+    xs = present job.program before.configuration
 
-  pub counted : (meter : ℕ) → meter ≡ cx'.calls → meter ≡ capped (calls + count_by is_active c.standings)
-  counted meter is = is ∙ calls_are program w declared.writes calls cx cx' c.standings say.begins context_from
+    view_now : t.view ≡ view_in job s before.configuration
+    view_now = say.view_is ∙ ap (view_of job.program.declared s) say.shown_is
 
-  pub still_ready : (old before work : List ℕ) → IsReady vertices (length registrations) c old → ListsActive stood before → ((place : ℕ) → has_id work place ≡ has_id before place) → IsStrictlySortedBy nat_cmp work → IsReady vertices (length registrations) (record { standings = standings; gathered = gathered; sent = sent; dropped = dropped }) work
-  still_ready old before work ready lists same rising =
-      let many : length (map aggregating_of registrations) ≡ length registrations = simp length-map in
-      let shown : length values ≡ length registrations = ap length say.values_are ∙ say.places ∙ ready.gathered in
-      let P : List (Standing V M) → Type 0 = λ l. ListsActive l before in
-      let now : ListsActive standings before = subst P (sym say.standings_are) lists in
-      record {
-        vertices_are = ready.vertices_are
-            ∙ sym (ids-ran program w c.standings)
-            ∙ ap (λ (l : List (Standing V M)). ids l) (sym ran_from)
-            ∙ sym (ids-received combining delivered ran_first)
-            ∙ ap (λ (l : List (Standing V M)). ids l) (sym say.stood_is ∙ sym say.standings_are);
-        vertices_rise = ready.vertices_rise;
-        gathered = ap length say.gathered_by ∙ length-gathered_from 0 (map aggregating_of registrations) values read (many ∙ sym shown) ∙ many;
-        lists = record {
-          within = λ place h. now.within place (sym (same place) ∙ h);
-          covers = λ place x at active. same place ∙ now.covers place x at active;
-        };
-        in_order = rising;
-      }
+    sent_now : t.played.sent ≡ sends job.program (view_in job s before.configuration) (present job.program before.configuration)
+    sent_now = say.plays.sent ∙ (λ i. sends job.program (view_now i) (say.roster_is i))
 
--- the program sees what it has declared, and nothing was received since
-module _ {V M : Type 0} (program : Program V M) where
-  pub shown_in : (declared : Declared) (s n : ℕ) (v : Visible) (w : View) (cx : Context M) → has_places program.declared n ≡ true → length v.values ≡ n → declared ≡ program.declared → w ≡ view_of declared s v → cx.view ≡ w → ShowsDeclared program.declared cx.view
-  shown_in declared s n v w cx registered places declares view_is seen =
-      let P : View → Type 0 = λ x. ShowsDeclared program.declared x in
-      subst P (sym (seen ∙ view_is ∙ ap (λ (d : Declared). view_of d s v) declares)) (shows_declared program.declared s n v registered places)
+    contributed_now : t.played.contributed ≡ contributions job.program (view_in job s before.configuration) (present job.program before.configuration)
+    contributed_now = say.plays.contributed ∙ (λ i. contributions job.program (view_now i) (say.roster_is i))
 
-  pub received_none : (view : View) (xs now : List (Standing V M)) → now ≡ map (ran program view) xs → AllByRecursion (λ (x : Standing V M). x.inbox ≡ []) now
-  received_none view xs now is =
-      let P : List (Standing V M) → Type 0 = λ l. AllByRecursion (λ (x : Standing V M). x.inbox ≡ []) l in
-      subst P (sym is) (empty-ran program view xs)
+    ids_now : t.played.roster.ids.items ≡ ids (present job.program before.configuration)
+    ids_now = say.plays.ids_stay ∙ (say.in_place.ids_are ∙ (λ i. ids (say.roster_is i)))
 
-  pub ids_stay : (view : View) (first xs now : List (Standing V M)) (vertices : List ℕ) → vertices ≡ ids first → xs ≡ first → now ≡ map (ran program view) xs → vertices ≡ ids now
-  ids_stay view first xs now vertices are same is =
-      are ∙ ap (λ (l : List (Standing V M)). ids l) (sym same) ∙ sym (ids-ran program view xs) ∙ ap (λ (l : List (Standing V M)). ids l) (sym is)
+    strays_now : astray t.played.roster.ids.items t.played.sent ≡ astray (ids (present job.program before.configuration)) (sends job.program (view_in job s before.configuration) (present job.program before.configuration))
+    strays_now = λ i. astray (ids_now i) (sent_now i)
+
+    standings_now : after.configuration.standings ≡ standings_after job (view_in job s before.configuration) (present job.program before.configuration)
+    standings_now =
+        say.standings
+        ∙ (say.receives.standings
+        ∙ (ap (with_messages job.combining t.played.sent) say.plays.standings
+        ∙ (received-ran job.program t.view job.combining t.played.sent t.roster.standings.items
+        ∙ (λ i. map (λ x. record { state = state_after x.state (outcome job.program (view_now i) x); inbox = delivered job.combining x.state.id (sent_now i) }) (say.roster_is i)))))
+
+    gathered_now : after.configuration.gathered ≡ gathered_from 0 job.aggregators (visible job s before.configuration).values (contributions job.program (view_in job s before.configuration) (present job.program before.configuration))
+    gathered_now = say.gathered ∙ (say.gathered_is ∙ (λ i. gathered_from 0 job.aggregators (say.shown_is i).values (contributed_now i)))
+
+    pub next-is : after.configuration ≡ next job s before.configuration
+    unfolding next
+    next-is =
+        let waits = say.waiting ∙ (say.receives.waiting ∙ ap (waiting_after job.missing job.combining) strays_now) in
+        let sends_in_all = say.sent ∙ ap (λ l. capped (before.configuration.sent + length l)) sent_now in
+        let drops = say.dropped ∙ ap (λ n. capped (before.configuration.dropped + n)) (say.receives.dropped ∙ ap (dropped_count job.missing) strays_now) in
+        λ i. record { standings = standings_now i; waiting = waits i; gathered = gathered_now i; sent = sends_in_all i; dropped = drops i }
+
+    pub still_ready : length job.aggregators ≡ places → IsReady places before → IsReady places after
+    still_ready many ready =
+        let shown : length t.shown.values ≡ length job.aggregators = say.shown_places ∙ (ready.gathered ∙ sym many) in
+        record {
+          in_order = subst (λ (c : Configuration V M). IsInOrder c) (sym next-is) (IsInOrder-next job s before.configuration ready.in_order);
+          ids_are =
+              say.ids_are ∙ (say.receives.ids_stay ∙ (ids_now ∙ (sym (ids-next job s before.configuration) ∙ (λ i. ids (sym next-is i).standings))));
+          lists = subst (λ l. ListsActive after.configuration.standings l) (sym say.work_is) (subst (λ (l : List (Standing V M)). ListsActive l t.received.roster.work.items) (sym say.standings) say.receives.lists);
+          work_rises = subst (IsStrictlySortedBy nat_cmp) (sym say.work_is) say.receives.work_rises;
+          edges =
+              say.edges_are
+              ∙ (say.plays.edges
+              ∙ ap capped (sym (edges-received job.combining t.played.sent t.played.roster.standings.items) ∙ (λ i. edges_of (sym (say.standings ∙ say.receives.standings) i))));
+          gathered =
+              ap length (say.gathered ∙ say.gathered_is)
+              ∙ (length-gathered_from 0 job.aggregators t.shown.values t.played.contributed shown ∙ many);
+        }
+
+    counted_now : after.meter ≡ capped (before.meter + count_by is_active (present job.program before.configuration))
+    counted_now = say.meter_is ∙ (say.plays.counted ∙ (λ i. capped (before.meter + count_by is_active (say.roster_is i))))
+
+    pub stepped : (halt : Bool) → halt ≡ t.shown.halt → length job.aggregators ≡ places → IsReady places before → HasStepped job places s before after halt
+    stepped halt is many ready =
+        record { configuration = next-is; halts = is ∙ (λ i. (say.shown_is i).halt); ready = still_ready many ready; counted = counted_now }

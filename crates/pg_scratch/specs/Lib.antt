@@ -1,6 +1,9 @@
 pub mod Adding
+pub mod Astray
 pub mod Inbox
 pub mod Pass
-pub mod Progress
+pub mod Roster
 pub mod Running
+pub mod Stages
+pub mod Totals
 pub mod Worklist

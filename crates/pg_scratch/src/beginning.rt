@@ -1,8 +1,5 @@
 //! What stands as a run begins, and its answer.
 ghost use Rattle.std.specs.Prelude.{◌≡◌, [], ◌∷◌, ◌++◌, ◌≤◌, false, map, length, IfOk};
-ghost use Rattle.std.specs.Ordering.{nat_cmp};
-ghost use Rattle.std.specs.List.Sorted.{IsStrictlySortedBy};
-ghost use Rattle.std.specs.Map.{keys_of};
 ghost use Rattle.pg_model.specs.Run.{beginning};
 ghost use Rattle.pg_global.specs.Registry.{aggregating_of};
 
@@ -11,18 +8,6 @@ use pg_graph::{Graph, Memory, Row, VertexId};
 use pg_model::{Sequence, Standing, VertexState};
 use pg_program::Computation;
 use std::alloc::Global;
-
-/// The ids of a graph, rising.
-pub(crate) fn ids_of(alloc: Global, graph: &Graph) -> Result<Vec<VertexId>, Memory>
-    ensures ids { IfOk result (λ ids. ids.items ≡ keys_of graph.now) }
-    ensures rising { IfOk result (λ ids. IsStrictlySortedBy nat_cmp ids.items) }
-{
-    let mut ids = Vec::with_capacity(alloc, graph.vertices() as usize)?;
-    for (id, _) in graph.iter() {
-        ids.push(*id)?;
-    }
-    Ok(ids)
-}
 
 /// The vertices as a run begins.
 pub(crate) fn standings_of<P: Computation>(

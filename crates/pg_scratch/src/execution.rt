@@ -1,15 +1,17 @@
 //! The executions of a superstep.
-ghost use Rattle.std.specs.Prelude.{◌≡◌, ℕ, [], ◌∷◌, ◌++◌, ◌+◌, ◌<◌, ◌^◌, true, false, cond, not, List, length, map, slice_get, slice_set, Some, OnOk, IfOk};
+ghost use Rattle.std.specs.Prelude.{◌≡◌, ℕ, [], ◌∷◌, ◌++◌, ◌+◌, ◌<◌, ◌^◌, true, false, cond, not, List, length, map, slice_get, slice_set, Some, OnOk, IfOk, IfSome, ◌≤◌};
 ghost use Rattle.std.specs.Ordering.{nat_cmp};
 ghost use Rattle.std.specs.List.Sorted.{IsStrictlySortedBy};
 ghost use Rattle.pg_model.specs.Job.{Program};
-ghost use Rattle.pg_model.specs.Superstep.{is_active as active_test, outcome, capped};
+ghost use Rattle.pg_model.specs.Superstep.{is_active as active_test, outcome, capped, edges_of};
 ghost use Rattle.pg_model.specs.declared.configuration.Standing.{Standing};
 ghost use Rattle.pg_program.specs.Computation.{Executes};
 ghost use Rattle.pg_program.specs.Context.{Context, ShowsDeclared};
 ghost use Rattle.pg_scratch.specs.Pass.{ran, context_after, ran_context, with_unhalted};
+ghost use Rattle.pg_scratch.specs.Totals.{Counts, Exchanges};
 ghost use Rattle.pg_scratch.specs.Worklist.{ListsActive};
 
+use crate::totals::{exact, exchanged};
 use pg_graph::Memory;
 use pg_model::{Standing, VertexState};
 use pg_program::{Computation, Cx, EdgeRoom, Plain, Vertex};
@@ -22,6 +24,14 @@ use std::mem;
 struct Bench<V> {
     stand_in: VertexState<V>,
     room: EdgeRoom,
+}
+
+/// What a pass over the vertices finds: the places of those that aren't halted then, and how many edges all
+/// vertices have, where it is known.
+#[derive(Drop)]
+pub(crate) struct Findings {
+    pub unhalted: Vec<usize>,
+    pub edges: Option<u64>,
 }
 
 /// Whether a vertex is executed.
@@ -67,33 +77,39 @@ fn execute<P: Computation>(
     Ok(Bench { stand_in, room })
 }
 
-/// Executes the active vertices, whose places are on the list `work`, by rising place. Gives the places of
-/// those that aren't halted then.
+/// Executes the active vertices, whose places are on the list `work`, by rising place. `edges` is how many
+/// edges the vertices have before, at most 2^64 - 1.
 pub(crate) fn execute_all<P: Computation>(
     alloc: Global,
     program: &P,
     standings: &mut Vec<Standing<P::Value, P::Message>>,
     work: &[usize],
+    edges: u64,
     cx: &mut Cx<P::Message>,
-) -> Result<Vec<usize>, Memory>
+) -> Result<Findings, Memory>
     requires lists { ListsActive standings.old.items work.now }
     requires rising { IsStrictlySortedBy nat_cmp work.now }
+    requires edges { edges ≡ capped (edges_of standings.old.items) }
     requires shown { ShowsDeclared (P.program program.now).declared cx.old.view }
     requires writes { cx.old.writes ≡ (P.program program.now).declared.writes }
     requires fits { cx.old.calls < 2 ^ 64 }
     ensures standings { OnOk result (standings.new.items ≡ map (ran (P.program program.now) cx.old.view) standings.old.items) }
     ensures context { OnOk result (cx.new ≡ ran_context (P.program program.now) cx.old standings.old.items) }
-    ensures lists { IfOk result (λ unhalted. ListsActive standings.new.items unhalted.items) }
+    ensures lists { IfOk result (λ found. ListsActive standings.new.items found.unhalted.items) }
+    ensures edges { IfOk result (λ found. Counts found.edges (edges_of standings.new.items)) }
 {
-    let mut unhalted = Vec::new(alloc);
+    let mut found = Findings {
+        unhalted: Vec::new(alloc),
+        edges: exact(edges),
+    };
     if work.is_empty() {
-        return Ok(unhalted);
+        return Ok(found);
     }
     let mut bench = bench_of(alloc, &standings[work[0]])?;
     for place in work {
-        bench = execute_at(alloc, program, standings, *place, bench, cx, &mut unhalted)?;
+        bench = execute_at(alloc, program, standings, *place, bench, cx, &mut found)?;
     }
-    Ok(unhalted)
+    Ok(found)
 }
 
 /// A bench whose state is a copy of a vertex's.
@@ -130,7 +146,31 @@ fn visit<P: Computation>(
     Ok(bench)
 }
 
-/// Executes the vertex at a place, if it is active, and adds the place to `unhalted` where it isn't halted then.
+/// Executes a vertex, if it is active, and keeps the number of all edges.
+fn visit_counted<P: Computation>(
+    alloc: Global,
+    program: &P,
+    standing: &mut Standing<P::Value, P::Message>,
+    bench: Bench<P::Value>,
+    cx: &mut Cx<P::Message>,
+    edges: &mut Option<u64>,
+) -> Result<Bench<P::Value>, Memory>
+    requires shown { ShowsDeclared (P.program program.now).declared cx.old.view }
+    requires writes { cx.old.writes ≡ (P.program program.now).declared.writes }
+    requires fits { cx.old.calls < 2 ^ 64 }
+    requires edges { IfSome edges.old (λ n. length standing.old.state.edges ≤ n) }
+    ensures standing { OnOk result (standing.new ≡ ran (P.program program.now) cx.old.view standing.old) }
+    ensures context { OnOk result (cx.new ≡ context_after (P.program program.now) cx.old standing.old) }
+    ensures edges { OnOk result (Exchanges edges.old edges.new standing.old (ran (P.program program.now) cx.old.view standing.old)) }
+{
+    let before = standing.state.edges.as_slice().len();
+    let bench = visit(alloc, program, standing, bench, cx)?;
+    let after = standing.state.edges.as_slice().len();
+    *edges = exchanged(*edges, before, after);
+    Ok(bench)
+}
+
+/// Executes the vertex at a place, if it is active, and notes what it finds there.
 fn execute_at<P: Computation>(
     alloc: Global,
     program: &P,
@@ -138,23 +178,27 @@ fn execute_at<P: Computation>(
     place: usize,
     bench: Bench<P::Value>,
     cx: &mut Cx<P::Message>,
-    unhalted: &mut Vec<usize>,
+    found: &mut Findings,
 ) -> Result<Bench<P::Value>, Memory>
     requires within { place < length standings.old.items }
     requires shown { ShowsDeclared (P.program program.now).declared cx.old.view }
     requires writes { cx.old.writes ≡ (P.program program.now).declared.writes }
     requires fits { cx.old.calls < 2 ^ 64 }
+    requires edges { (x : Standing P.Value P.Message) → slice_get standings.old.items place ≡ Some x
+        → IfSome found.old.edges (λ n. length x.state.edges ≤ n) }
     ensures standings { OnOk result ((x : Standing P.Value P.Message) → slice_get standings.old.items place ≡ Some x
         → standings.new.items ≡ slice_set standings.old.items place (ran (P.program program.now) cx.old.view x)) }
     ensures context { OnOk result ((x : Standing P.Value P.Message) → slice_get standings.old.items place ≡ Some x
         → cx.new ≡ context_after (P.program program.now) cx.old x) }
     ensures unhalted { OnOk result ((x : Standing P.Value P.Message) → slice_get standings.old.items place ≡ Some x
-        → unhalted.new.items ≡ with_unhalted unhalted.old.items place (ran (P.program program.now) cx.old.view x)) }
+        → found.new.unhalted.items ≡ with_unhalted found.old.unhalted.items place (ran (P.program program.now) cx.old.view x)) }
+    ensures edges { OnOk result ((x : Standing P.Value P.Message) → slice_get standings.old.items place ≡ Some x
+        → Exchanges found.old.edges found.new.edges x (ran (P.program program.now) cx.old.view x)) }
 {
     let standing = &mut standings[place];
-    let bench = visit(alloc, program, standing, bench, cx)?;
+    let bench = visit_counted(alloc, program, standing, bench, cx, &mut found.edges)?;
     if !standing.state.halted {
-        unhalted.push(place)?;
+        found.unhalted.push(place)?;
     }
     Ok(bench)
 }

@@ -1,21 +1,19 @@
 //! A run from scratch.
 ghost use Rattle.std.specs.Prelude.{◌≡◌, [], ℕ, ◌+◌, ◌<◌, ◌≤◌, ◌^◌, ◌==◌, true, false, cond, not, map, length, Option, Some, None, IsSome, IfOk, IfErr, OnOk, OnErr, IsErrOf};
-ghost use Rattle.std.specs.List.{list_all};
 ghost use Rattle.std.specs.List.{range_with_len};
-ghost use Rattle.std.specs.List.Sorted.{IsStrictlySortedBy};
-ghost use Rattle.std.specs.Map.{keys_of};
-ghost use Rattle.std.specs.Ordering.{nat_cmp};
-ghost use Rattle.pg_graph.specs.Rows.{vertex_count, edge_count};
+ghost use Rattle.pg_graph.specs.Rows.{HasRisingIds, edge_count};
 ghost use Rattle.pg_model.specs.Run.{answer, executions, beginning};
-ghost use Rattle.pg_model.specs.Superstep.{is_active as active_test, capped};
+ghost use Rattle.pg_model.specs.Superstep.{ids as ids_of, is_all_idle, capped};
 ghost use Rattle.pg_global.specs.Master.{job_of, is_registered, has_places};
 ghost use Rattle.pg_global.specs.Registry.{first_refusal, aggregating_of};
+ghost use Rattle.pg_scratch.specs.Stages.{IsPrepared};
 ghost use Rattle.pg_scratch.specs.Worklist.{ListsActive};
 
-use crate::beginning::{ids_of, initial_values, registrations_of, standings_of};
-use crate::superstep::{Job, Progress, is_anyone_active, superstep};
+use crate::beginning::{initial_values, registrations_of, standings_of};
+use crate::roster::ids_of;
+use crate::superstep::{Progress, Runner, is_anyone_active, superstep};
 use pg_global::{MasterCompute, MessageCombiner, RegisterFault, Registration, Registry};
-use pg_graph::{Graph, Memory, Superstep, VertexId};
+use pg_graph::{Graph, Memory, Missing, Superstep, VertexId};
 use pg_model::{Configuration, Declared, Ending, Run, Sequence, Standing, VertexState};
 use pg_program::{Computation, Meter};
 use std::alloc::Global;
@@ -45,7 +43,8 @@ impl From<Memory> for RunFault {
     }
 }
 
-/// Why the run ends after a superstep, if it does: the master halted; all is idle; the limit is reached.
+/// Why the run ends after a superstep, if it does: the master halted; nobody is active and nothing waits; the
+/// limit is reached.
 fn ending_of<V, M>(
     halt: bool,
     progress: &Progress<V, M>,
@@ -54,14 +53,15 @@ fn ending_of<V, M>(
 ) -> Option<Ending>
     requires { ListsActive progress.now.configuration.standings progress.now.work.items }
     ensures { result ≡ cond halt (Some Ending.MasterHalted)
-        (cond (list_all (λ x. not (active_test x)) progress.now.configuration.standings) (Some Ending.Finished)
+        (cond (is_all_idle progress.now.configuration) (Some Ending.Finished)
         (cond (supersteps == limit) (Some Ending.LimitReached) None)) }
 {
     if halt {
         return Some(Ending::MasterHalted);
     }
     let standings = progress.configuration.standings.as_slice();
-    if !is_anyone_active(standings, progress.work.as_slice()) {
+    let is_anyone_active = is_anyone_active(standings, progress.work.as_slice());
+    if !is_anyone_active && progress.configuration.waiting.len() == 0 {
         return Some(Ending::Finished);
     }
     if supersteps == limit {
@@ -88,12 +88,30 @@ fn answer_of<V: Drop, M: Drop>(
 {
     let Configuration {
         standings,
+        waiting: _,
         gathered,
         sent,
         dropped,
     } = configuration;
+    Ok(Run {
+        values: values_of(alloc, standings.into_vec())?,
+        aggregates: gathered,
+        ending,
+        supersteps,
+        sent,
+        dropped,
+    })
+}
+
+/// The values of vertices, with their ids.
+fn values_of<V: Drop, M: Drop>(
+    alloc: Global,
+    standings: Vec<Standing<V, M>>,
+) -> Result<Sequence<(VertexId, V)>, Memory>
+    ensures { IfOk result (λ values. values ≡ map (λ x. (x.state.id, x.state.value)) standings.items) }
+{
     let mut values = Vec::with_capacity(alloc, standings.len())?;
-    for standing in standings.into_vec() {
+    for standing in standings {
         let Standing { state, inbox: _ } = standing;
         let VertexState {
             id,
@@ -103,14 +121,7 @@ fn answer_of<V: Drop, M: Drop>(
         } = state;
         values.push((id, value))?;
     }
-    Ok(Run {
-        values: Sequence::from_vec(values),
-        aggregates: gathered,
-        ending,
-        supersteps,
-        sent,
-        dropped,
-    })
+    Ok(Sequence::from_vec(values))
 }
 
 /// The run as its first superstep begins.
@@ -121,28 +132,38 @@ fn begin<P: Computation>(
     registrations: &[Registration],
     meter: Meter,
 ) -> Result<Progress<P::Value, P::Message>, Memory>
-    ensures standings { IfOk result (λ p. p.configuration ≡ record {
+    ensures configuration { IfOk result (λ p. p.configuration ≡ record {
       standings = map (beginning (P.program program.now)) graph.now;
+      waiting = [];
       gathered = map (λ r. (aggregating_of r).initial) registrations.now;
       sent = 0;
       dropped = 0;
     }) }
+    ensures rising { HasRisingIds graph.now }
+    ensures ids { IfOk result (λ p. p.ids.items ≡ ids_of p.configuration.standings) }
     ensures work { IfOk result (λ p. p.work.items ≡ range_with_len 0 (length graph.now)) }
+    ensures edges { IfOk result (λ p. (p.edges ≡ edge_count graph.now) × (p.edges < 2 ^ 64)) }
     ensures meter { IfOk result (λ p. p.meter ≡ meter) }
 {
+    let vertices = graph.vertices() as usize;
+    let standings = standings_of(alloc, graph, program)?;
+    let ids = ids_of(alloc, standings.as_slice())?;
     let configuration = Configuration {
-        standings: Sequence::from_vec(standings_of(alloc, graph, program)?),
+        standings: Sequence::from_vec(standings),
+        waiting: Sequence::new(alloc),
         gathered: initial_values(alloc, registrations)?,
         sent: 0,
         dropped: 0,
     };
-    let mut work = Vec::with_capacity(alloc, graph.vertices() as usize)?;
-    for place in 0..graph.vertices() as usize {
+    let mut work = Vec::with_capacity(alloc, vertices)?;
+    for place in 0..vertices {
         work.push(place)?;
     }
     Ok(Progress {
         configuration,
+        ids,
         work,
+        edges: graph.edges(),
         meter,
     })
 }
@@ -151,29 +172,25 @@ fn begin<P: Computation>(
 fn run_registered<P: Computation, C: MessageCombiner<P::Message>, M: MasterCompute>(
     alloc: Global,
     graph: &Graph,
-    job: &Job<'_, P, C, M>,
-    limit: u32,
+    runner: &Runner<'_, P, C, M>,
     meter: Meter,
 ) -> Result<(Run<P::Value>, Meter), Memory>
-    requires limit { 0 < limit }
-    requires registrations { job.now.registrations.now ≡ map (λ e. e.1) (M.master job.now.master.now).registrations }
-    requires few { length job.now.registrations.now ≤ 16 }
-    requires declared { has_places (P.program job.now.program.now).declared (length job.now.registrations.now) ≡ true }
-    requires ids { job.now.ids.now ≡ keys_of graph.now }
-    requires rising { IsStrictlySortedBy nat_cmp job.now.ids.now }
-    requires total_vertices { job.now.total_vertices ≡ vertex_count graph.now }
-    requires total_edges { job.now.total_edges ≡ edge_count graph.now }
+    requires limit { 0 < runner.now.limit }
+    requires prepared { IsPrepared (P.program runner.now.program.now) (M.master runner.now.master.now) runner.now.registrations.now }
     requires fits { meter < 2 ^ 64 }
-    ensures answer { IfOk result (λ r. r.0 ≡ answer (job_of (P.program job.now.program.now) (C.combining job.now.combiner.now) (M.master job.now.master.now) limit) graph.now) }
-    ensures meter { IfOk result (λ r. r.1 ≡ capped (meter + executions (job_of (P.program job.now.program.now) (C.combining job.now.combiner.now) (M.master job.now.master.now) limit) graph.now)) }
+    ensures { let job = job_of (P.program runner.now.program.now) (C.combining runner.now.combiner.now)
+        (M.master runner.now.master.now) runner.now.missing runner.now.limit in
+        IfOk result (λ r. (r.0 ≡ answer job graph.now) × (r.1 ≡ capped (meter + executions job graph.now))) }
 {
-    let mut progress = begin(alloc, graph, job.program, job.registrations, meter)?;
-    for done in 0..limit {
-        let (next, halt) = superstep(alloc, job, Superstep::new(done), progress)?;
-        if let Some(ending) = ending_of(halt, &next, done + 1, limit) {
+    let mut progress = begin(alloc, graph, runner.program, runner.registrations, meter)?;
+    for done in 0..runner.limit {
+        let (next, halt) = superstep(alloc, runner, Superstep::new(done), progress)?;
+        if let Some(ending) = ending_of(halt, &next, done + 1, runner.limit) {
             let Progress {
                 configuration,
+                ids: _,
                 work: _,
+                edges: _,
                 meter,
             } = next;
             let run = answer_of(alloc, configuration, ending, done + 1)?;
@@ -208,10 +225,12 @@ fn are_within(declared: Declared, count: usize) -> bool
 }
 
 /// Runs a program on a graph from scratch, superstep by superstep: until the master halts, or no vertex is
-/// active, or `limit` supersteps are done (Pregel, section 2).
+/// active and no message waits, or `limit` supersteps are done (Pregel, section 2).
 ///
 /// The messages for a vertex come in the order of their senders, and are combined from the first on, where
-/// the combiner combines. The meter is raised by one for each call of compute, and stays at its largest value.
+/// the combiner combines. `missing` says what becomes of messages to ids that have no state: they are
+/// dropped, or make a vertex of them, which the answer has and the graph hasn't. The meter is raised by one
+/// for each call of compute, and stays at its largest value.
 ///
 /// # Errors
 ///
@@ -221,14 +240,15 @@ fn are_within(declared: Declared, count: usize) -> bool
 /// # Cost
 ///
 /// Time for the vertices and edges once, for each superstep the vertices that are active or get a message
-/// and the messages times the logarithm of the number of vertices; memory for the run's state and the
-/// messages of one superstep.
+/// and the messages times the logarithm of the number of vertices, and one walk over the vertices for each
+/// superstep that makes vertices; memory for the run's state and the messages of one superstep.
 pub fn run<P: Computation, C: MessageCombiner<P::Message>, M: MasterCompute>(
     alloc: Global,
     graph: &Graph,
     program: &P,
     combiner: &C,
     master: &M,
+    missing: Missing,
     limit: u32,
     meter: &mut Meter,
 ) -> Result<Run<P::Value>, RunFault>
@@ -236,8 +256,10 @@ pub fn run<P: Computation, C: MessageCombiner<P::Message>, M: MasterCompute>(
     ensures register { IsErrOf result RunFault.Register → IsSome (first_refusal [] (M.master master.now).registrations) }
     ensures unregistered { IsErrOf result RunFault.Unregistered → (first_refusal [] (M.master master.now).registrations ≡ None) × (is_registered (P.program program.now) (M.master master.now) ≡ false) }
     ensures registered { IfOk result (λ _. (first_refusal [] (M.master master.now).registrations ≡ None) × (is_registered (P.program program.now) (M.master master.now) ≡ true)) }
-    ensures answer { IfOk result (λ r. r ≡ answer (job_of (P.program program.now) (C.combining combiner.now) (M.master master.now) limit) graph.now) }
-    ensures meter { OnOk result (meter.new ≡ capped (meter.old + executions (job_of (P.program program.now) (C.combining combiner.now) (M.master master.now) limit) graph.now)) }
+    ensures answer { let job = job_of (P.program program.now) (C.combining combiner.now) (M.master master.now) missing limit in
+        IfOk result (λ r. r ≡ answer job graph.now) }
+    ensures meter { let job = job_of (P.program program.now) (C.combining combiner.now) (M.master master.now) missing limit in
+        OnOk result (meter.new ≡ capped (meter.old + executions job graph.now)) }
     ensures unmetered { OnErr result (meter.new ≡ meter.old) }
 {
     let registry = registered(alloc, master)?;
@@ -245,18 +267,16 @@ pub fn run<P: Computation, C: MessageCombiner<P::Message>, M: MasterCompute>(
         return Err(RunFault::Unregistered);
     }
     let registrations = registrations_of(alloc, &registry)?;
-    let ids = ids_of(alloc, graph)?;
     let _count = meter.count();
-    let job = Job {
+    let runner = Runner {
         program,
         combiner,
         master,
         registrations: registrations.as_slice(),
-        ids: ids.as_slice(),
-        total_vertices: graph.vertices(),
-        total_edges: graph.edges(),
+        missing,
+        limit,
     };
-    let (answer, counted) = run_registered(alloc, graph, &job, limit, meter.copy())?;
+    let (answer, counted) = run_registered(alloc, graph, &runner, meter.copy())?;
     *meter = counted;
     Ok(answer)
 }

@@ -1,40 +1,67 @@
 //! One superstep.
-ghost use Rattle.std.specs.Prelude.{◌≡◌, ℕ, ◌+◌, ◌<◌, ◌≤◌, ◌^◌, true, not, length, map, slice_get, Some, IfOk};
-ghost use Rattle.std.specs.List.{count_by, list_all};
-ghost use Rattle.pg_model.specs.Superstep.{is_active as active_test, visible, next, capped};
+ghost use Rattle.std.specs.Prelude.{◌≡◌, [], ℕ, ◌<◌, ◌^◌, not, length, IfOk};
+ghost use Rattle.std.specs.List.{list_all, AllByRecursion};
+ghost use Rattle.std.specs.List.Sorted.{IsStrictlySortedBy};
+ghost use Rattle.std.specs.Ordering.{nat_cmp};
+ghost use Rattle.pg_model.specs.Superstep.{is_active as active_test, capped, edges_of, ids as ids_of};
 ghost use Rattle.pg_model.specs.declared.configuration.Standing.{Standing};
-ghost use Rattle.pg_global.specs.Master.{job_of, has_places};
-ghost use Rattle.pg_scratch.specs.Progress.{IsReady};
+ghost use Rattle.pg_program.specs.Context.{ShowsDeclared};
+ghost use Rattle.pg_global.specs.Master.{job_of};
+ghost use Rattle.pg_scratch.specs.Roster.{IsInPlace};
+ghost use Rattle.pg_scratch.specs.Stages.{HasPlayed, HasReceived, HasStepped, IsReady, IsPrepared};
 ghost use Rattle.pg_scratch.specs.Worklist.{ListsActive};
 
+use crate::astray::{Astray, settle};
 use crate::delivery::deliver;
-use crate::execution::{execute_all, is_active};
+use crate::execution::execute_all;
 use crate::gathering::{gather_all, view_of, visible_in};
-use crate::worklist::put_in_order;
+use crate::roster::{Roster, with_waiting};
+use crate::totals::capped_total;
+use crate::worklist::{is_active_at, put_in_order};
 use pg_global::{MasterCompute, MessageCombiner, Registration};
-use pg_graph::{Memory, Superstep, VertexId};
-use pg_model::{Configuration, Sequence, Standing};
-use pg_program::{Computation, Cx, Meter};
+use pg_graph::{Memory, Missing, Superstep, VertexId};
+use pg_model::{Configuration, Place, Sequence, Standing, View};
+use pg_program::{Computation, Cx, Meter, Plain};
 use std::alloc::Global;
 
-/// What stays the same in all supersteps of a run.
+/// What a run is made with: all that stays the same in its supersteps.
 #[derive(Drop)]
-pub(crate) struct Job<'a, P, C, M> {
+pub(crate) struct Runner<'a, P, C, M> {
     pub program: &'a P,
     pub combiner: &'a C,
     pub master: &'a M,
     pub registrations: &'a [Registration],
-    pub ids: &'a [VertexId],
-    pub total_vertices: u64,
-    pub total_edges: u64,
+    pub missing: Missing,
+    pub limit: u32,
 }
 
-/// A run between two supersteps: what stands, the places of the active vertices, and the meter.
+/// A run between two supersteps: what stands, the ids of the vertices that have a state, the places of the
+/// active ones, how many edges they have (at most 2^64 - 1), and the meter.
 #[derive(Drop)]
 pub(crate) struct Progress<V, M> {
     pub configuration: Configuration<V, M>,
+    pub ids: Vec<VertexId>,
     pub work: Vec<usize>,
+    pub edges: u64,
     pub meter: Meter,
+}
+
+/// What the executions of a superstep leave: the vertices, with the places of those that aren't halted,
+/// what they sent and contributed, how many edges they have then, and the meter.
+#[derive(Drop)]
+pub(crate) struct Played<V, M> {
+    pub roster: Roster<V, M>,
+    pub sent: Sequence<(VertexId, M)>,
+    pub contributed: Sequence<(Place, i64)>,
+    pub edges: u64,
+    pub meter: Meter,
+}
+
+/// What the messages of a superstep make of its vertices, and of those that are no vertices.
+#[derive(Drop)]
+pub(crate) struct Received<V, M> {
+    pub roster: Roster<V, M>,
+    pub astray: Astray<M>,
 }
 
 /// Whether any vertex is active, by the list of the places of the active ones.
@@ -50,86 +77,167 @@ pub(crate) fn is_anyone_active<V, M>(standings: &[Standing<V, M>], work: &[usize
     false
 }
 
-/// Whether the vertex at a place is active.
-fn is_active_at<V, M>(standings: &[Standing<V, M>], place: usize) -> bool
-    requires { place < length standings.now }
-    ensures { (x : Standing V M) → slice_get standings.now place ≡ Some x → result ≡ active_test x }
+/// Executes the active vertices.
+fn play<P: Computation>(
+    alloc: Global,
+    program: &P,
+    view: View,
+    roster: Roster<P::Value, P::Message>,
+    edges: u64,
+    meter: Meter,
+) -> Result<Played<P::Value, P::Message>, Memory>
+    requires shown { ShowsDeclared (P.program program.now).declared view }
+    requires in_place { IsInPlace roster }
+    requires edges { edges ≡ capped (edges_of roster.standings.items) }
+    requires fits { meter < 2 ^ 64 }
+    ensures { IfOk result (λ p. HasPlayed (P.program program.now) view roster meter p) }
 {
-    is_active(&standings[place])
+    let Roster {
+        mut standings,
+        ids,
+        work,
+    } = roster;
+    let mut cx = Cx::new(alloc, view, program.declared(), meter);
+    let found = execute_all(
+        alloc,
+        program,
+        &mut standings,
+        work.as_slice(),
+        edges,
+        &mut cx,
+    )?;
+    let (_, sent, contributed, meter) = cx.into_parts();
+    let edges = capped_total(found.edges, standings.as_slice());
+    Ok(Played {
+        roster: Roster {
+            standings,
+            ids,
+            work: found.unhalted,
+        },
+        sent,
+        contributed,
+        edges,
+        meter,
+    })
+}
+
+/// Delivers the messages of a superstep to its vertices, and settles those that go astray.
+fn receive<V: Drop, M: Plain, C: MessageCombiner<M>>(
+    alloc: Global,
+    combiner: &C,
+    missing: Missing,
+    roster: Roster<V, M>,
+    sent: Sequence<(VertexId, M)>,
+) -> Result<Received<V, M>, Memory>
+    requires ids { roster.ids.items ≡ ids_of roster.standings.items }
+    requires rising { IsStrictlySortedBy nat_cmp roster.ids.items }
+    requires empty { AllByRecursion (λ (x : Standing V M). x.inbox ≡ []) roster.standings.items }
+    requires lists { ListsActive roster.standings.items roster.work.items }
+    ensures { IfOk result (λ r. HasReceived (C.combining combiner.now) missing roster sent r) }
+{
+    let Roster {
+        mut standings,
+        ids,
+        mut work,
+    } = roster;
+    let mut strays = Vec::new(alloc);
+    deliver(
+        alloc,
+        combiner,
+        ids.as_slice(),
+        &mut standings,
+        sent.into_vec(),
+        &mut strays,
+        &mut work,
+    )?;
+    put_in_order(&mut work);
+    let astray = settle(alloc, combiner, missing, strays)?;
+    Ok(Received {
+        roster: Roster {
+            standings,
+            ids,
+            work,
+        },
+        astray,
+    })
 }
 
 /// Executes a superstep. Gives what stands after it, and whether the master halted.
 pub(crate) fn superstep<P: Computation, C: MessageCombiner<P::Message>, M: MasterCompute>(
     alloc: Global,
-    job: &Job<'_, P, C, M>,
+    runner: &Runner<'_, P, C, M>,
     superstep: Superstep,
     progress: Progress<P::Value, P::Message>,
 ) -> Result<(Progress<P::Value, P::Message>, bool), Memory>
-    requires registrations { job.now.registrations.now ≡ map (λ e. e.1) (M.master job.now.master.now).registrations }
-    requires few { length job.now.registrations.now ≤ 16 }
-    requires declared { has_places (P.program job.now.program.now).declared (length job.now.registrations.now) ≡ true }
-    requires ready { IsReady job.now.ids.now (length job.now.registrations.now) progress.configuration progress.work.items }
+    requires prepared { IsPrepared (P.program runner.now.program.now) (M.master runner.now.master.now) runner.now.registrations.now }
+    requires ready { IsReady (length runner.now.registrations.now) progress }
     requires fits { progress.meter < 2 ^ 64 }
-    ensures configuration { IfOk result (λ r. (limit : ℕ)
-        → r.0.configuration ≡ next (job_of (P.program job.now.program.now) (C.combining job.now.combiner.now) (M.master job.now.master.now) limit)
-        (record { vertices = job.now.total_vertices; edges = job.now.total_edges }) superstep progress.configuration) }
-    ensures halt { IfOk result (λ r. (limit : ℕ)
-        → r.1 ≡ (visible (job_of (P.program job.now.program.now) (C.combining job.now.combiner.now) (M.master job.now.master.now) limit)
-        (record { vertices = job.now.total_vertices; edges = job.now.total_edges }) superstep progress.configuration).halt) }
-    ensures ready { IfOk result (λ r. IsReady job.now.ids.now (length job.now.registrations.now) r.0.configuration r.0.work.items) }
-    ensures meter { IfOk result (λ r. r.0.meter ≡ capped (progress.meter + count_by active_test progress.configuration.standings)) }
+    ensures { let job = job_of (P.program runner.now.program.now) (C.combining runner.now.combiner.now)
+        (M.master runner.now.master.now) runner.now.missing runner.now.limit in
+        IfOk result (λ r. HasStepped job (length runner.now.registrations.now) superstep progress r.0 r.1) }
 {
     let Progress {
         configuration,
+        ids,
         work,
+        edges,
         meter,
     } = progress;
     let Configuration {
         standings,
+        waiting,
         gathered,
         sent,
-        mut dropped,
+        dropped,
     } = configuration;
-    let declared = job.program.declared();
-    let visible = visible_in(
-        alloc,
-        job.master,
-        superstep,
-        job.total_vertices,
-        job.total_edges,
-        gathered,
-    )?;
-    let view = view_of(alloc, declared, superstep, &visible)?;
-    let mut cx = Cx::new(alloc, view, declared, meter);
-    let mut standings = standings.into_vec();
-    let mut work = execute_all(alloc, job.program, &mut standings, work.as_slice(), &mut cx)?;
-    let (_, now_sent, contributed, meter) = cx.into_parts();
+    let vertices = standings.len() as u64;
+    let visible = visible_in(alloc, runner.master, superstep, vertices, edges, gathered)?;
+    let view = view_of(alloc, runner.program.declared(), superstep, &visible)?;
+    let standings = standings.into_vec();
+    let roster = Roster {
+        standings,
+        ids,
+        work,
+    };
+    let roster = with_waiting(alloc, runner.program, roster, waiting)?;
+    let Played {
+        roster,
+        sent: now_sent,
+        contributed,
+        edges,
+        meter,
+    } = play(alloc, runner.program, view, roster, edges, meter)?;
     let gathered = gather_all(
         alloc,
-        job.registrations,
+        runner.registrations,
         visible.values.as_slice(),
         contributed.as_slice(),
     )?;
     let sent = sent.saturating_add(now_sent.len() as u64);
-    deliver(
+    let Received { roster, astray } = receive(
         alloc,
-        job.combiner,
-        job.ids,
-        &mut standings,
-        now_sent.into_vec(),
-        &mut dropped,
-        &mut work,
+        runner.combiner,
+        runner.missing,
+        roster,
+        now_sent,
     )?;
-    put_in_order(&mut work);
+    let Roster {
+        standings,
+        ids,
+        work,
+    } = roster;
     let configuration = Configuration {
         standings: Sequence::from_vec(standings),
+        waiting: astray.waiting,
         gathered,
         sent,
-        dropped,
+        dropped: dropped.saturating_add(astray.dropped),
     };
     let progress = Progress {
         configuration,
+        ids,
         work,
+        edges,
         meter,
     };
     Ok((progress, visible.halt))

@@ -267,7 +267,7 @@ fn distances<C: MessageCombiner<i64>>(
     let program = FirstDistance { source: id(1)? };
     let mut meter = Meter::new();
     let answer = run(
-        alloc, graph, &program, combiner, &NoMaster, limit, &mut meter,
+        alloc, graph, &program, combiner, &NoMaster, missing, limit, &mut meter,
     )?;
     text_of(alloc, &answer, meter.count())
 }

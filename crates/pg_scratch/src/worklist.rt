@@ -1,8 +1,15 @@
 //! The list of the places that a superstep visits.
-ghost use Rattle.std.specs.Prelude.{◌≡◌, ℕ};
+ghost use Rattle.std.specs.Prelude.{◌≡◌, ℕ, ◌<◌, length, slice_get, Some, IfOk};
 ghost use Rattle.std.specs.Ordering.{nat_cmp};
 ghost use Rattle.std.specs.List.Sorted.{IsStrictlySortedBy};
-ghost use Rattle.pg_model.specs.Superstep.{has_id};
+ghost use Rattle.pg_model.specs.Superstep.{has_id, is_active as active_test};
+ghost use Rattle.pg_model.specs.declared.configuration.Standing.{Standing};
+ghost use Rattle.pg_scratch.specs.Worklist.{ListsActive};
+
+use crate::execution::is_active;
+use pg_graph::{Memory, VertexId};
+use pg_model::Standing;
+use std::alloc::Global;
 
 /// Puts places in order, each of them once.
 pub(crate) fn put_in_order(places: &mut Vec<usize>)
@@ -11,4 +18,38 @@ pub(crate) fn put_in_order(places: &mut Vec<usize>)
 {
     places.sort_unstable();
     places.dedup();
+}
+
+/// Puts ids in order, each of them once.
+pub(crate) fn put_ids_in_order(ids: &mut Vec<VertexId>)
+    ensures rising { IsStrictlySortedBy nat_cmp ids.new.items }
+    ensures same { (id : ℕ) → has_id ids.new.items id ≡ has_id ids.old.items id }
+{
+    ids.sort_unstable();
+    ids.dedup();
+}
+
+/// The places of the active vertices, in order.
+pub(crate) fn active_places<V, M>(
+    alloc: Global,
+    standings: &[Standing<V, M>],
+) -> Result<Vec<usize>, Memory>
+    ensures lists { IfOk result (λ places. ListsActive standings.now places.items) }
+    ensures in_order { IfOk result (λ places. IsStrictlySortedBy nat_cmp places.items) }
+{
+    let mut places = Vec::new(alloc);
+    for place in 0..standings.len() {
+        if is_active_at(standings, place) {
+            places.push(place)?;
+        }
+    }
+    Ok(places)
+}
+
+/// Whether the vertex at a place is active.
+pub(crate) fn is_active_at<V, M>(standings: &[Standing<V, M>], place: usize) -> bool
+    requires { place < length standings.now }
+    ensures { (x : Standing V M) → slice_get standings.now place ≡ Some x → result ≡ active_test x }
+{
+    is_active(&standings[place])
 }

@@ -10,5 +10,5 @@ loop-place-preserved g c =
 
 pub returns-clause-work : goal.returns-clause-work
 returns-clause-work g c =
-    let e : c.loop-place.place ≡ length c.args.graph.now = omega (arith, c.loop-place-test.false, c.loop-place.auto, c.vertices-place-end.ensures.value) in
+    let e : c.loop-place.place ≡ length c.args.graph.now = omega (arith, c.loop-place-test.false, c.loop-place.auto, c.vertices-vertices.ensures.value) in
     c.loop-place.invariant ∙ ap (range_with_len 0) e

@@ -1,91 +1,63 @@
-use Rattle.std.proofs.Common.{ℕ, ◌+◌, ap, ◌∙◌}
-use Rattle.pg_model.specs.Superstep.{capped}
-use Rattle.pg_scratch.proofs.Whole.{stepped, counted, still_ready, shown_in, received_none, ids_stay}
+use Rattle.std.proofs.Common.{ℕ, ◌+◌, ℤ, List, length, ap, sym, ◌∙◌, refl}
+use Rattle.pg_model.specs.Job.{Totals, Aggregating}
+use Rattle.pg_model.specs.Superstep.{capped, edges_of, visible_in, view_of, gathered_from, with_made}
+use Rattle.pg_model.specs.declared.view.Declared.{Declared}
+use Rattle.pg_model.specs.declared.configuration.Standing.{Standing}
+use Rattle.pg_global.specs.Master.{job_of}
+use Rattle.pg_scratch.proofs.Merging.{edges-made}
+use Rattle.pg_scratch.proofs.Stepping.{shown_in}
+use Rattle.pg_scratch.proofs.Whole.{played_ids, played_empty, aggregators-registered, as_many-registered, stepped}
 use Rattle.pg_scratch.proofs.superstep.superstep.Goals as goal
 
-pub execute_all-requires-clause-shown : goal.execute_all-requires-clause-shown
-execute_all-requires-clause-shown g c =
-    λ _ _. shown_in (g.P.Computation.program c.args.job.now.program.now) c.declared-declared.result c.args.superstep _ c.in_ok-visible.visible c.in_ok-view.view c.new-cx.result c.requires.declared (c.in_ok-visible.ensures.places ∙ c.requires.ready.gathered) c.declared-declared.ensures c.in_ok-view.ensures (ap (λ x. x.view) c.new-cx.ensures)
+pub play-requires-clause-shown : goal.play-requires-clause-shown
+play-requires-clause-shown g c =
+    λ _ _. shown_in (g.P.Computation.program c.args.runner.now.program.now) c.declared.result c.args.superstep (length c.args.runner.now.registrations.now) c.in_ok-visible.visible c.in_ok-view.view c.requires.prepared.declared (c.in_ok-visible.ensures.places ∙ c.requires.ready.gathered) c.declared.ensures c.in_ok-view.ensures
 
-pub deliver-requires-clause-ids : goal.deliver-requires-clause-ids
-deliver-requires-clause-ids g c =
-    λ _ _. ids_stay (g.P.Computation.program c.args.job.now.program.now) c.new-cx.result.view c.args.progress.configuration.standings c.into_vec-standings.result.items c.execute_all.new.standings.items c.args.job.now.ids.now c.requires.ready.vertices_are c.into_vec-standings.ensures c.in_ok-work.ensures.standings
+pub play-requires-clause-edges : goal.play-requires-clause-edges
+play-requires-clause-edges g c =
+    let program = g.P.Computation.program c.args.runner.now.program.now in
+    λ _ _. c.requires.ready.edges
+    ∙ ap capped (sym (edges-made program c.args.progress.configuration.standings c.args.progress.configuration.waiting)
+    ∙ ap (λ (l : List (Standing g.row.P-Value.Denot g.row.P-Message.Denot)). edges_of (with_made program l c.args.progress.configuration.waiting)) (sym c.into_vec-standings.ensures)
+    ∙ ap (λ (l : List (Standing g.row.P-Value.Denot g.row.P-Message.Denot)). edges_of l) (sym c.in_ok-roster.ensures.standings))
 
-pub deliver-requires-clause-empty : goal.deliver-requires-clause-empty
-deliver-requires-clause-empty g c =
-    λ _ _. received_none (g.P.Computation.program c.args.job.now.program.now) c.new-cx.result.view c.into_vec-standings.result.items c.execute_all.new.standings.items c.in_ok-work.ensures.standings
+pub receive-requires-clause-ids : goal.receive-requires-clause-ids
+receive-requires-clause-ids g c =
+    λ _ _. played_ids (g.P.Computation.program c.args.runner.now.program.now) c.in_ok-view.view c.in_ok-roster.roster c.args.progress.meter c.in_ok-roster-2.field-0 c.in_ok-roster-2.ensures c.in_ok-roster.ensures.in_place
 
-pub returns-clause-configuration : goal.returns-clause-configuration
-returns-clause-configuration g c =
-    stepped (g.P.Computation.program c.args.job.now.program.now) (g.C.MessageCombiner.combining c.args.job.now.combiner.now) (g.M.MasterCompute.master c.args.job.now.master.now) (record { vertices = c.args.job.now.total_vertices; edges = c.args.job.now.total_edges }) c.args.job.now.registrations.now c.args.job.now.ids.now c.args.superstep c.args.progress.meter c.args.progress.configuration c.in_ok-visible.visible c.in_ok-view.view c.declared-declared.result c.new-cx.result c.execute_all.new.cx c.into_vec-standings.result.items c.execute_all.new.standings.items c.deliver.new.standings.items c.into_parts-now_sent.result.1 c.into_vec.result.items c.into_parts-now_sent.result.2 c.as_slice-3.result.now c.as_slice-2.result.now c.in_ok-gathered.gathered c.saturating_add-sent.result c.deliver.new.dropped c.from_vec.result
-    c.requires.registrations (record {
-      visible = c.in_ok-visible.ensures.value;
-      places = c.in_ok-visible.ensures.places;
-      declares = c.declared-declared.ensures;
-      view_is = c.in_ok-view.ensures;
-      begins = c.new-cx.ensures;
-      first_is = c.into_vec-standings.ensures;
-      ran_is = c.in_ok-work.ensures.standings;
-      context = c.in_ok-work.ensures.context;
-      all_is = c.into_parts-now_sent.ensures.sent;
-      contributed_by = c.into_parts-now_sent.ensures.contributed;
-      read_is = c.as_slice-3.ensures;
-      values_are = c.as_slice-2.ensures;
-      gathered_by = c.in_ok-gathered.ensures;
-      sent_by = c.saturating_add-sent.ensures ∙ ap (λ (n : ℕ). capped (c.args.progress.configuration.sent + n)) c.len.ensures;
-      delivered_is = c.into_vec.ensures;
-      stood_is = c.in_ok-deliver.ensures.standings;
-      dropped_by = c.in_ok-deliver.ensures.dropped;
-      standings_are = c.from_vec.ensures;
+pub receive-requires-clause-empty : goal.receive-requires-clause-empty
+receive-requires-clause-empty g c =
+    λ _ _. played_empty (g.P.Computation.program c.args.runner.now.program.now) c.in_ok-view.view c.in_ok-roster.roster c.args.progress.meter c.in_ok-roster-2.field-0 c.in_ok-roster-2.ensures
+
+pub returns : goal.returns
+returns g c =
+    let program = g.P.Computation.program c.args.runner.now.program.now in
+    let combining = g.C.MessageCombiner.combining c.args.runner.now.combiner.now in
+    let master = g.M.MasterCompute.master c.args.runner.now.master.now in
+    let before = c.args.progress.configuration in
+    let many = as_many-registered master c.args.runner.now.registrations.now c.requires.prepared.registered in
+    stepped (job_of program combining master c.args.runner.now.missing c.args.runner.now.limit) (length c.args.runner.now.registrations.now) c.args.superstep c.args.progress _
+    (record { shown = c.in_ok-visible.visible; view = c.in_ok-view.view; roster = c.in_ok-roster.roster; played = c.in_ok-roster-2.field-0; gathered = c.in_ok-gathered.gathered; received = c.in_ok-roster-3.field-0 })
+    (record {
+      shown_is = c.in_ok-visible.ensures.value
+          ∙ (λ i. visible_in master.deciding (record { vertices = c.len-vertices.ensures i; edges = c.requires.ready.edges i }) c.args.superstep before.gathered);
+      shown_places = c.in_ok-visible.ensures.places;
+      view_is = c.in_ok-view.ensures ∙ ap (λ (d : Declared). view_of d c.args.superstep c.in_ok-visible.visible) c.declared.ensures;
+      roster_is = c.in_ok-roster.ensures.standings
+          ∙ ap (λ (l : List (Standing g.row.P-Value.Denot g.row.P-Message.Denot)). with_made program l before.waiting) c.into_vec-standings.ensures;
+      in_place = c.in_ok-roster.ensures.in_place;
+      plays = c.in_ok-roster-2.ensures;
+      gathered_is = c.in_ok-gathered.ensures
+          ∙ (λ i. gathered_from 0 (aggregators-registered master c.args.runner.now.registrations.now c.requires.prepared.registered i) (c.as_slice.ensures i) (c.as_slice-2.ensures i));
+      receives = c.in_ok-roster-3.ensures;
+      standings = c.from_vec.ensures;
+      waiting = refl;
+      gathered = refl;
+      sent = c.saturating_add-sent.ensures ∙ ap (λ (n : ℕ). capped (before.sent + n)) c.len.ensures;
+      dropped = c.saturating_add.ensures;
+      ids_are = refl;
+      work_is = refl;
+      edges_are = refl;
+      meter_is = refl;
     })
-    c.requires.ready.vertices_are
-
-pub returns-clause-ready : goal.returns-clause-ready
-returns-clause-ready g c =
-    still_ready (g.P.Computation.program c.args.job.now.program.now) (g.C.MessageCombiner.combining c.args.job.now.combiner.now) (g.M.MasterCompute.master c.args.job.now.master.now) (record { vertices = c.args.job.now.total_vertices; edges = c.args.job.now.total_edges }) c.args.job.now.registrations.now c.args.job.now.ids.now c.args.superstep c.args.progress.meter c.args.progress.configuration c.in_ok-visible.visible c.in_ok-view.view c.declared-declared.result c.new-cx.result c.execute_all.new.cx c.into_vec-standings.result.items c.execute_all.new.standings.items c.deliver.new.standings.items c.into_parts-now_sent.result.1 c.into_vec.result.items c.into_parts-now_sent.result.2 c.as_slice-3.result.now c.as_slice-2.result.now c.in_ok-gathered.gathered c.saturating_add-sent.result c.deliver.new.dropped c.from_vec.result
-    c.requires.registrations (record {
-      visible = c.in_ok-visible.ensures.value;
-      places = c.in_ok-visible.ensures.places;
-      declares = c.declared-declared.ensures;
-      view_is = c.in_ok-view.ensures;
-      begins = c.new-cx.ensures;
-      first_is = c.into_vec-standings.ensures;
-      ran_is = c.in_ok-work.ensures.standings;
-      context = c.in_ok-work.ensures.context;
-      all_is = c.into_parts-now_sent.ensures.sent;
-      contributed_by = c.into_parts-now_sent.ensures.contributed;
-      read_is = c.as_slice-3.ensures;
-      values_are = c.as_slice-2.ensures;
-      gathered_by = c.in_ok-gathered.ensures;
-      sent_by = c.saturating_add-sent.ensures ∙ ap (λ (n : ℕ). capped (c.args.progress.configuration.sent + n)) c.len.ensures;
-      delivered_is = c.into_vec.ensures;
-      stood_is = c.in_ok-deliver.ensures.standings;
-      dropped_by = c.in_ok-deliver.ensures.dropped;
-      standings_are = c.from_vec.ensures;
-    })
-    c.args.progress.work.items c.deliver.new.receivers.items c.put_in_order.new.places.items c.requires.ready c.in_ok-deliver.ensures.lists c.put_in_order.ensures.same c.put_in_order.ensures.rising
-
-pub returns-clause-meter : goal.returns-clause-meter
-returns-clause-meter g c =
-    counted (g.P.Computation.program c.args.job.now.program.now) (g.C.MessageCombiner.combining c.args.job.now.combiner.now) (g.M.MasterCompute.master c.args.job.now.master.now) (record { vertices = c.args.job.now.total_vertices; edges = c.args.job.now.total_edges }) c.args.job.now.registrations.now c.args.job.now.ids.now c.args.superstep c.args.progress.meter c.args.progress.configuration c.in_ok-visible.visible c.in_ok-view.view c.declared-declared.result c.new-cx.result c.execute_all.new.cx c.into_vec-standings.result.items c.execute_all.new.standings.items c.deliver.new.standings.items c.into_parts-now_sent.result.1 c.into_vec.result.items c.into_parts-now_sent.result.2 c.as_slice-3.result.now c.as_slice-2.result.now c.in_ok-gathered.gathered c.saturating_add-sent.result c.deliver.new.dropped c.from_vec.result
-    c.requires.registrations (record {
-      visible = c.in_ok-visible.ensures.value;
-      places = c.in_ok-visible.ensures.places;
-      declares = c.declared-declared.ensures;
-      view_is = c.in_ok-view.ensures;
-      begins = c.new-cx.ensures;
-      first_is = c.into_vec-standings.ensures;
-      ran_is = c.in_ok-work.ensures.standings;
-      context = c.in_ok-work.ensures.context;
-      all_is = c.into_parts-now_sent.ensures.sent;
-      contributed_by = c.into_parts-now_sent.ensures.contributed;
-      read_is = c.as_slice-3.ensures;
-      values_are = c.as_slice-2.ensures;
-      gathered_by = c.in_ok-gathered.ensures;
-      sent_by = c.saturating_add-sent.ensures ∙ ap (λ (n : ℕ). capped (c.args.progress.configuration.sent + n)) c.len.ensures;
-      delivered_is = c.into_vec.ensures;
-      stood_is = c.in_ok-deliver.ensures.standings;
-      dropped_by = c.in_ok-deliver.ensures.dropped;
-      standings_are = c.from_vec.ensures;
-    })
-    c.into_parts-now_sent.result.3 c.into_parts-now_sent.ensures.calls
+    c.in_ok-visible.visible.halt refl many c.requires.ready

@@ -1,0 +1,28 @@
+use Rattle.std.proofs.Common.{ap, sym, ◌∙◌, subst, ℕ}
+use Rattle.std.specs.Ordering.{nat_cmp}
+use Rattle.std.specs.List.Sorted.{IsStrictlySortedBy}
+use Rattle.pg_model.specs.Superstep.{targets}
+use Rattle.pg_model.proofs.LawsMade.{targets-rise}
+use Rattle.pg_scratch.proofs.Settling.{blank_ids, blank_empty, blank_idle, blank_inboxes}
+use Rattle.pg_scratch.proofs.astray.waiting_of.Goals as goal
+
+pub deliver-requires-clause-ids : goal.deliver-requires-clause-ids
+deliver-requires-clause-ids g c =
+    λ _ _. c.as_slice-3.ensures.value ∙ (sym c.as_slice-2.ensures.value ∙ blank_ids _ c.as_slice-2.result.now c.in_ok-blanks.ensures)
+
+pub deliver-requires-clause-rising : goal.deliver-requires-clause-rising
+deliver-requires-clause-rising g c =
+    λ _ _. subst (IsStrictlySortedBy nat_cmp) (sym (c.as_slice-3.ensures.value ∙ (c.in_ok-ids.ensures ∙ ap (targets {M = g.row.M.Denot}) c.as_slice.ensures.value))) (targets-rise c.args.strays.items)
+
+pub deliver-requires-clause-empty : goal.deliver-requires-clause-empty
+deliver-requires-clause-empty g c = λ _ _. blank_empty _ c.as_slice-2.result.now c.in_ok-blanks.ensures
+
+pub deliver-requires-clause-lists : goal.deliver-requires-clause-lists
+deliver-requires-clause-lists g c =
+    λ _ _. blank_idle _ c.as_slice-2.result.now c.new-receivers.result.items c.in_ok-blanks.ensures c.new-receivers.ensures.items
+
+pub returns : goal.returns
+returns g c =
+    blank_inboxes (g.C.MessageCombiner.combining c.args.combiner.now) c.args.strays.items c.as_slice-2.result.now (targets c.args.strays.items) c.in_ok-blanks.blanks.items c.deliver.new.standings.items c.in_ok-inboxes.inboxes c.in_ok-blanks.ensures
+    (c.as_slice-2.ensures.value ∙ (c.in_ok-ids.ensures ∙ ap (targets {M = g.row.M.Denot}) c.as_slice.ensures.value))
+    c.in_ok-deliver.ensures.standings c.in_ok-inboxes.ensures

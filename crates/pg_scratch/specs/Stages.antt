@@ -1,0 +1,61 @@
+-- The stages of a superstep, and a run between two supersteps.
+use Rattle.std.specs.Prelude.{◌≡◌, ℕ, ◌+◌, ◌≤◌, true, Bool, List, map, length, Option}
+use Rattle.std.specs.List.{count_by}
+use Rattle.std.specs.List.Sorted.{IsStrictlySortedBy}
+use Rattle.std.specs.Ordering.{nat_cmp}
+use Rattle.pg_graph.specs.declared.missing.Missing.{Missing}
+use Rattle.pg_model.specs.InOrder.{IsInOrder}
+use Rattle.pg_model.specs.Job.{Program, Combining, Job}
+use Rattle.pg_model.specs.Superstep.{is_active, ids, edges_of, totals_of, present, sends, contributions, astray, waiting_after, dropped_count, visible, next, capped}
+use Rattle.pg_model.specs.declared.view.View.{View}
+use Rattle.pg_global.specs.Master.{Master, has_places}
+use Rattle.pg_global.specs.declared.registry.Registration.{Registration}
+use Rattle.pg_scratch.specs.Inbox.{with_messages}
+use Rattle.pg_scratch.specs.Pass.{ran}
+use Rattle.pg_scratch.specs.Roster.{IsInPlace}
+use Rattle.pg_scratch.specs.Worklist.{ListsActive}
+use Rattle.pg_scratch.specs.declared.roster.Roster.{Roster}
+use Rattle.pg_scratch.specs.declared.superstep.Played.{Played}
+use Rattle.pg_scratch.specs.declared.superstep.Progress.{Progress}
+use Rattle.pg_scratch.specs.declared.superstep.Received.{Received}
+
+-- the registrations are the master's, few enough, and have each declared place
+pub record IsPrepared {V M : Type 0} (program : Program V M) (master : Master) (registrations : List Registration) : Type 0 where
+  pub registered : registrations ≡ map (λ e. e.1) master.registrations
+  pub few : length registrations ≤ 16
+  pub declared : has_places program.declared (length registrations) ≡ true
+
+-- a run between two supersteps, with so many aggregators: ids, places and edges are those of its configuration
+pub record IsReady {V M : Type 0} (places : ℕ) (p : Progress V M) : Type 0 where
+  pub in_order : IsInOrder p.configuration
+  pub ids_are : p.ids.items ≡ ids p.configuration.standings
+  pub lists : ListsActive p.configuration.standings p.work.items
+  pub work_rises : IsStrictlySortedBy nat_cmp p.work.items
+  pub edges : p.edges ≡ (totals_of p.configuration).edges
+  pub gathered : length p.configuration.gathered ≡ places
+
+-- the vertices were executed, seeing this view
+pub record HasPlayed {V M : Type 0} (program : Program V M) (view : View) (first : Roster V M) (calls : ℕ) (p : Played V M) : Type 0 where
+  pub standings : p.roster.standings.items ≡ map (ran program view) first.standings.items
+  pub ids_stay : p.roster.ids.items ≡ first.ids.items
+  pub lists : ListsActive p.roster.standings.items p.roster.work.items
+  pub sent : p.sent ≡ sends program view first.standings.items
+  pub contributed : p.contributed ≡ contributions program view first.standings.items
+  pub edges : p.edges ≡ capped (edges_of p.roster.standings.items)
+  pub counted : p.meter ≡ capped (calls + count_by is_active first.standings.items)
+
+-- these messages were delivered, and settled where they went astray
+pub record HasReceived {V M : Type 0} (combining : Option (Combining M)) (missing : Missing) (first : Roster V M) (sent : List (ℕ × M)) (r : Received V M) : Type 0 where
+  pub standings : r.roster.standings.items ≡ with_messages combining sent first.standings.items
+  pub ids_stay : r.roster.ids.items ≡ first.ids.items
+  pub lists : ListsActive r.roster.standings.items r.roster.work.items
+  pub work_rises : IsStrictlySortedBy nat_cmp r.roster.work.items
+  pub waiting : r.astray.waiting ≡ waiting_after missing combining (astray first.ids.items sent)
+  pub dropped : r.astray.dropped ≡ dropped_count missing (astray first.ids.items sent)
+
+-- a superstep was executed, and each execution counted
+pub record HasStepped {V M : Type 0} (job : Job V M) (places s : ℕ) (before after : Progress V M) (halt : Bool) : Type 0 where
+  pub configuration : after.configuration ≡ next job s before.configuration
+  pub halts : halt ≡ (visible job s before.configuration).halt
+  pub ready : IsReady places after
+  pub counted : after.meter ≡ capped (before.meter + count_by is_active (present job.program before.configuration))
