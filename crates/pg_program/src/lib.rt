@@ -7,6 +7,7 @@ mod meter;
 mod own_edges;
 mod plain;
 mod search;
+mod tally;
 #[cfg(test)]
 mod tests;
 mod vertex;
@@ -18,4 +19,5 @@ pub use own_edges::EdgeRoom;
 pub use pg_graph::Memory;
 pub use pg_model::{Declared, Place, View};
 pub use plain::Plain;
+pub use tally::Tally;
 pub use vertex::Vertex;
