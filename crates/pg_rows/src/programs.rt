@@ -50,11 +50,29 @@ const TRIANGLE: Small<'static> = Small {
     ],
 };
 
+// What a run that ends by itself has to answer.
+fn finished<'a>(
+    values: &'a [i64],
+    aggregates: &'a [i64],
+    supersteps: u32,
+    sent: u64,
+    calls: u64,
+) -> Wanted<'a> {
+    Wanted {
+        values,
+        aggregates,
+        ending: Ending::Finished,
+        supersteps,
+        sent,
+        calls,
+    }
+}
+
 fn id(rt: &impl Abort, number: u64) -> VertexId {
     VertexId::new(number).expect(rt, "an id")
 }
 
-fn graph_of(rt: &impl Abort, alloc: Global, small: Small<'_>) -> Result<Graph, Fail> {
+fn graph_of(rt: &impl Abort, alloc: Global, small: &Small<'_>) -> Result<Graph, Fail> {
     let mut batch = Batch::new(alloc);
     for (number, input) in small.vertices {
         batch.push(Edit::AddVertex(id(rt, *number), *input))?;
@@ -73,8 +91,8 @@ fn answers(
     alloc: Global,
     program: ReadyProgram,
     combiner: AnyCombiner,
-    small: Small<'_>,
-    wanted: Wanted<'_>,
+    small: &Small<'_>,
+    wanted: &Wanted<'_>,
 ) -> Result<(), Fail> {
     let graph = graph_of(rt, alloc, small)?;
     let master = ReadyMaster { program };
@@ -120,8 +138,8 @@ fn pagerank_halts(rt: HostRuntime) -> Result<(), Fail> {
         rt.alloc(),
         pagerank(30, 1),
         AnyCombiner::NoCombiner,
-        PAIR,
-        pair,
+        &PAIR,
+        &pair,
     )?;
     let small = Small {
         vertices: &[(1, 0), (2, 0), (3, 0)],
@@ -140,48 +158,40 @@ fn pagerank_halts(rt: HostRuntime) -> Result<(), Fail> {
         rt.alloc(),
         pagerank(30, 1),
         AnyCombiner::NoCombiner,
-        small,
-        three,
+        &small,
+        &three,
     )
 }
 
 #[test]
 fn pagerank_rounds(rt: HostRuntime) -> Result<(), Fail> {
-    let none = Wanted {
-        values: &[500_000_000_000, 500_000_000_000],
-        aggregates: &[0],
-        ending: Ending::Finished,
-        supersteps: 1,
-        sent: 0,
-        calls: 2,
-    };
+    let none = finished(&[500_000_000_000, 500_000_000_000], &[0], 1, 0, 2);
     answers(
         &rt,
         rt.alloc(),
         pagerank(0, 0),
         AnyCombiner::NoCombiner,
-        PAIR,
-        none,
+        &PAIR,
+        &none,
     )?;
     let small = Small {
         vertices: PAIR.vertices,
         edges: &[(1, 2, 1)],
     };
-    let dangling = Wanted {
-        values: &[75_000_000_000, 138_750_000_000],
-        aggregates: &[361_250_000_000],
-        ending: Ending::Finished,
-        supersteps: 3,
-        sent: 2,
-        calls: 6,
-    };
+    let dangling = finished(
+        &[75_000_000_000, 138_750_000_000],
+        &[361_250_000_000],
+        3,
+        2,
+        6,
+    );
     answers(
         &rt,
         rt.alloc(),
         pagerank(2, 0),
         AnyCombiner::NoCombiner,
-        small,
-        dangling,
+        &small,
+        &dangling,
     )
 }
 
@@ -220,73 +230,45 @@ fn components(rt: HostRuntime) -> Result<(), Fail> {
         vertices: TWO_HOPS.vertices,
         edges: &[(1, 2, 1), (2, 1, 1), (2, 3, 1), (3, 2, 1)],
     };
-    let wanted = Wanted {
-        values: &[1, 1, 1],
-        aggregates: &[],
-        ending: Ending::Finished,
-        supersteps: 4,
-        sent: 8,
-        calls: 10,
-    };
+    let wanted = finished(&[1, 1, 1], &[], 4, 8, 10);
     answers(
         &rt,
         rt.alloc(),
         ReadyProgram::Cc(Cc),
         AnyCombiner::NoCombiner,
-        path,
-        wanted,
+        &path,
+        &wanted,
     )
 }
 
 #[test]
 fn peeling(rt: HostRuntime) -> Result<(), Fail> {
-    let core = Wanted {
-        values: &[1, 1, 1, 0],
-        aggregates: &[1],
-        ending: Ending::Finished,
-        supersteps: 2,
-        sent: 1,
-        calls: 5,
-    };
+    let core = finished(&[1, 1, 1, 0], &[1], 2, 1, 5);
     answers(
         &rt,
         rt.alloc(),
         peel(2),
         AnyCombiner::NoCombiner,
-        TRIANGLE,
-        core,
+        &TRIANGLE,
+        &core,
     )?;
-    let all = Wanted {
-        values: &[1, 1, 1, 1],
-        aggregates: &[0],
-        ending: Ending::Finished,
-        supersteps: 1,
-        sent: 0,
-        calls: 4,
-    };
+    let all = finished(&[1, 1, 1, 1], &[0], 1, 0, 4);
     answers(
         &rt,
         rt.alloc(),
         peel(0),
         AnyCombiner::NoCombiner,
-        TRIANGLE,
-        all,
+        &TRIANGLE,
+        &all,
     )?;
-    let none = Wanted {
-        values: &[0, 0, 0, 0],
-        aggregates: &[4],
-        ending: Ending::Finished,
-        supersteps: 2,
-        sent: 8,
-        calls: 8,
-    };
+    let none = finished(&[0, 0, 0, 0], &[4], 2, 8, 8);
     answers(
         &rt,
         rt.alloc(),
         peel(1_000_000),
         AnyCombiner::NoCombiner,
-        TRIANGLE,
-        none,
+        &TRIANGLE,
+        &none,
     )
 }
 
@@ -296,23 +278,16 @@ fn combined_inbox(rt: HostRuntime) -> Result<(), Fail> {
         vertices: TRIANGLE.vertices,
         edges: &[(1, 2, 1), (1, 3, 1), (2, 4, 1)],
     };
-    let wanted = Wanted {
-        values: &[0, 1, 1, 2],
-        aggregates: &[4],
-        ending: Ending::Finished,
-        supersteps: 3,
-        sent: 3,
-        calls: 7,
-    };
+    let wanted = finished(&[0, 1, 1, 2], &[4], 3, 3, 7);
     let program = ReadyProgram::Sssp(Sssp { source: id(&rt, 1) });
-    answers(&rt, rt.alloc(), program, AnyCombiner::Min, small, wanted)?;
+    answers(&rt, rt.alloc(), program, AnyCombiner::Min, &small, &wanted)?;
     answers(
         &rt,
         rt.alloc(),
         program,
         AnyCombiner::NoCombiner,
-        small,
-        wanted,
+        &small,
+        &wanted,
     )
 }
 
@@ -322,36 +297,22 @@ fn greatest(rt: HostRuntime) -> Result<(), Fail> {
         vertices: &[(1, 5), (2, 9), (3, 1)],
         edges: &[(1, 2, 1), (2, 3, 1), (3, 1, 1)],
     };
-    let wanted = Wanted {
-        values: &[9, 9, 9],
-        aggregates: &[9],
-        ending: Ending::Finished,
-        supersteps: 4,
-        sent: 5,
-        calls: 8,
-    };
+    let wanted = finished(&[9, 9, 9], &[9], 4, 5, 8);
     let program = ReadyProgram::MaxValue(MaxValue);
     answers(
         &rt,
         rt.alloc(),
         program,
         AnyCombiner::NoCombiner,
-        round,
-        wanted,
+        &round,
+        &wanted,
     )?;
     let two = Small {
-        vertices: round.vertices,
+        vertices: &[(1, 5), (2, 9), (3, 1)],
         edges: &[(1, 3, 1), (2, 3, 1)],
     };
-    let wanted = Wanted {
-        values: &[5, 9, 9],
-        aggregates: &[9],
-        ending: Ending::Finished,
-        supersteps: 2,
-        sent: 2,
-        calls: 4,
-    };
-    answers(&rt, rt.alloc(), program, AnyCombiner::Max, two, wanted)
+    let wanted = finished(&[5, 9, 9], &[9], 2, 2, 4);
+    answers(&rt, rt.alloc(), program, AnyCombiner::Max, &two, &wanted)
 }
 
 #[test]
@@ -360,29 +321,25 @@ fn indegrees(rt: HostRuntime) -> Result<(), Fail> {
         vertices: TWO_HOPS.vertices,
         edges: &[(1, 3, 1), (2, 3, 1), (3, 3, 1)],
     };
-    let each = Wanted {
-        values: &[0, 0, 3],
-        aggregates: &[3],
-        ending: Ending::Finished,
-        supersteps: 2,
-        sent: 3,
-        calls: 6,
-    };
+    let each = finished(&[0, 0, 3], &[3], 2, 3, 6);
     let program = ReadyProgram::Indegree(Indegree);
     answers(
         &rt,
         rt.alloc(),
         program,
         AnyCombiner::NoCombiner,
-        small,
-        each,
+        &small,
+        &each,
     )?;
-    let together = Wanted {
-        values: &[0, 0, 1],
-        aggregates: &[1],
-        ..each
-    };
-    answers(&rt, rt.alloc(), program, AnyCombiner::Sum, small, together)
+    let together = finished(&[0, 0, 1], &[1], 2, 3, 6);
+    answers(
+        &rt,
+        rt.alloc(),
+        program,
+        AnyCombiner::Sum,
+        &small,
+        &together,
+    )
 }
 
 // No vertex of the two hops gets two messages at once, so no combiner changes what a program answers.
@@ -390,67 +347,42 @@ fn whatever_the_combiner(
     rt: &impl Abort,
     alloc: Global,
     program: ReadyProgram,
-    wanted: Wanted<'_>,
+    wanted: &Wanted<'_>,
 ) -> Result<(), Fail> {
     answers(
         rt,
         alloc,
         program,
         AnyCombiner::NoCombiner,
-        TWO_HOPS,
+        &TWO_HOPS,
         wanted,
     )?;
-    answers(rt, alloc, program, AnyCombiner::Min, TWO_HOPS, wanted)?;
-    answers(rt, alloc, program, AnyCombiner::Max, TWO_HOPS, wanted)?;
-    answers(rt, alloc, program, AnyCombiner::Sum, TWO_HOPS, wanted)
+    answers(rt, alloc, program, AnyCombiner::Min, &TWO_HOPS, wanted)?;
+    answers(rt, alloc, program, AnyCombiner::Max, &TWO_HOPS, wanted)?;
+    answers(rt, alloc, program, AnyCombiner::Sum, &TWO_HOPS, wanted)
 }
 
 #[test]
 fn two_hops_by_each_combiner(rt: HostRuntime) -> Result<(), Fail> {
-    let distances = Wanted {
-        values: &[0, 5, 6],
-        aggregates: &[3],
-        ending: Ending::Finished,
-        supersteps: 3,
-        sent: 2,
-        calls: 5,
-    };
+    let distances = finished(&[0, 5, 6], &[3], 3, 2, 5);
     let sssp = ReadyProgram::Sssp(Sssp { source: id(&rt, 1) });
-    whatever_the_combiner(&rt, rt.alloc(), sssp, distances)?;
-    let labels = Wanted {
-        values: &[1, 1, 1],
-        aggregates: &[],
-        sent: 3,
-        calls: 6,
-        ..distances
-    };
-    whatever_the_combiner(&rt, rt.alloc(), ReadyProgram::Cc(Cc), labels)?;
-    let zeros = Wanted {
-        values: &[0, 0, 0],
-        aggregates: &[0],
-        supersteps: 2,
-        ..distances
-    };
-    whatever_the_combiner(&rt, rt.alloc(), ReadyProgram::MaxValue(MaxValue), zeros)?;
-    let degrees = Wanted {
-        values: &[0, 1, 1],
-        aggregates: &[2],
-        calls: 6,
-        ..zeros
-    };
-    whatever_the_combiner(&rt, rt.alloc(), ReadyProgram::Indegree(Indegree), degrees)?;
-    let ranks = Wanted {
-        values: &[50_000_000_000, 333_333_333_333, 333_333_333_333],
-        aggregates: &[283_333_333_333],
-        ..degrees
-    };
-    whatever_the_combiner(&rt, rt.alloc(), pagerank(1, 0), ranks)?;
-    let removed = Wanted {
-        values: &[0, 0, 0],
-        aggregates: &[3],
-        ..zeros
-    };
-    whatever_the_combiner(&rt, rt.alloc(), peel(2), removed)
+    whatever_the_combiner(&rt, rt.alloc(), sssp, &distances)?;
+    let labels = finished(&[1, 1, 1], &[], 3, 3, 6);
+    whatever_the_combiner(&rt, rt.alloc(), ReadyProgram::Cc(Cc), &labels)?;
+    let zeros = finished(&[0, 0, 0], &[0], 2, 2, 5);
+    whatever_the_combiner(&rt, rt.alloc(), ReadyProgram::MaxValue(MaxValue), &zeros)?;
+    let degrees = finished(&[0, 1, 1], &[2], 2, 2, 6);
+    whatever_the_combiner(&rt, rt.alloc(), ReadyProgram::Indegree(Indegree), &degrees)?;
+    let ranks = finished(
+        &[50_000_000_000, 333_333_333_333, 333_333_333_333],
+        &[283_333_333_333],
+        2,
+        2,
+        6,
+    );
+    whatever_the_combiner(&rt, rt.alloc(), pagerank(1, 0), &ranks)?;
+    let removed = finished(&[0, 0, 0], &[3], 2, 2, 5);
+    whatever_the_combiner(&rt, rt.alloc(), peel(2), &removed)
 }
 
 #[test]
@@ -460,7 +392,7 @@ fn sender_order(rt: HostRuntime) -> Result<(), Fail> {
         vertices: &[(1, 10), (2, 20), (3, 0)],
         edges: &[(1, 3, 1), (2, 3, 1)],
     };
-    let graph = graph_of(&rt, alloc, small)?;
+    let graph = graph_of(&rt, alloc, &small)?;
     let combiner = AnyCombiner::NoCombiner;
     let mut meter = Meter::new();
     let answer = run(
