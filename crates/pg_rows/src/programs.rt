@@ -89,17 +89,15 @@ fn graph_of(rt: &impl Abort, alloc: Global, small: &Small<'_>) -> Result<Graph, 
 fn answers(
     rt: &impl Abort,
     alloc: Global,
-    program: ReadyProgram,
+    program: &ReadyProgram,
     combiner: AnyCombiner,
     small: &Small<'_>,
     wanted: &Wanted<'_>,
 ) -> Result<(), Fail> {
     let graph = graph_of(rt, alloc, small)?;
-    let master = ReadyMaster { program };
+    let master = ReadyMaster { program: *program };
     let mut meter = Meter::new();
-    let answer = run(
-        alloc, &graph, &program, &combiner, &master, 1000, &mut meter,
-    );
+    let answer = run(alloc, &graph, program, &combiner, &master, 1000, &mut meter);
     let answer = answer.expect(rt, "an answer");
     assert_eq!(rt; answer.values.len(), wanted.values.len());
     for ((id, value), wanted) in answer.values.as_slice().iter().zip(wanted.values) {
@@ -136,7 +134,7 @@ fn pagerank_halts(rt: HostRuntime) -> Result<(), Fail> {
     answers(
         &rt,
         rt.alloc(),
-        pagerank(30, 1),
+        &pagerank(30, 1),
         AnyCombiner::NoCombiner,
         &PAIR,
         &pair,
@@ -156,7 +154,7 @@ fn pagerank_halts(rt: HostRuntime) -> Result<(), Fail> {
     answers(
         &rt,
         rt.alloc(),
-        pagerank(30, 1),
+        &pagerank(30, 1),
         AnyCombiner::NoCombiner,
         &small,
         &three,
@@ -169,7 +167,7 @@ fn pagerank_rounds(rt: HostRuntime) -> Result<(), Fail> {
     answers(
         &rt,
         rt.alloc(),
-        pagerank(0, 0),
+        &pagerank(0, 0),
         AnyCombiner::NoCombiner,
         &PAIR,
         &none,
@@ -188,7 +186,7 @@ fn pagerank_rounds(rt: HostRuntime) -> Result<(), Fail> {
     answers(
         &rt,
         rt.alloc(),
-        pagerank(2, 0),
+        &pagerank(2, 0),
         AnyCombiner::NoCombiner,
         &small,
         &dangling,
@@ -234,7 +232,7 @@ fn components(rt: HostRuntime) -> Result<(), Fail> {
     answers(
         &rt,
         rt.alloc(),
-        ReadyProgram::Cc(Cc),
+        &ReadyProgram::Cc(Cc),
         AnyCombiner::NoCombiner,
         &path,
         &wanted,
@@ -247,7 +245,7 @@ fn peeling(rt: HostRuntime) -> Result<(), Fail> {
     answers(
         &rt,
         rt.alloc(),
-        peel(2),
+        &peel(2),
         AnyCombiner::NoCombiner,
         &TRIANGLE,
         &core,
@@ -256,7 +254,7 @@ fn peeling(rt: HostRuntime) -> Result<(), Fail> {
     answers(
         &rt,
         rt.alloc(),
-        peel(0),
+        &peel(0),
         AnyCombiner::NoCombiner,
         &TRIANGLE,
         &all,
@@ -265,7 +263,7 @@ fn peeling(rt: HostRuntime) -> Result<(), Fail> {
     answers(
         &rt,
         rt.alloc(),
-        peel(1_000_000),
+        &peel(1_000_000),
         AnyCombiner::NoCombiner,
         &TRIANGLE,
         &none,
@@ -280,11 +278,11 @@ fn combined_inbox(rt: HostRuntime) -> Result<(), Fail> {
     };
     let wanted = finished(&[0, 1, 1, 2], &[4], 3, 3, 7);
     let program = ReadyProgram::Sssp(Sssp { source: id(&rt, 1) });
-    answers(&rt, rt.alloc(), program, AnyCombiner::Min, &small, &wanted)?;
+    answers(&rt, rt.alloc(), &program, AnyCombiner::Min, &small, &wanted)?;
     answers(
         &rt,
         rt.alloc(),
-        program,
+        &program,
         AnyCombiner::NoCombiner,
         &small,
         &wanted,
@@ -302,7 +300,7 @@ fn greatest(rt: HostRuntime) -> Result<(), Fail> {
     answers(
         &rt,
         rt.alloc(),
-        program,
+        &program,
         AnyCombiner::NoCombiner,
         &round,
         &wanted,
@@ -312,7 +310,7 @@ fn greatest(rt: HostRuntime) -> Result<(), Fail> {
         edges: &[(1, 3, 1), (2, 3, 1)],
     };
     let wanted = finished(&[5, 9, 9], &[9], 2, 2, 4);
-    answers(&rt, rt.alloc(), program, AnyCombiner::Max, &two, &wanted)
+    answers(&rt, rt.alloc(), &program, AnyCombiner::Max, &two, &wanted)
 }
 
 #[test]
@@ -326,7 +324,7 @@ fn indegrees(rt: HostRuntime) -> Result<(), Fail> {
     answers(
         &rt,
         rt.alloc(),
-        program,
+        &program,
         AnyCombiner::NoCombiner,
         &small,
         &each,
@@ -335,7 +333,7 @@ fn indegrees(rt: HostRuntime) -> Result<(), Fail> {
     answers(
         &rt,
         rt.alloc(),
-        program,
+        &program,
         AnyCombiner::Sum,
         &small,
         &together,
@@ -346,7 +344,7 @@ fn indegrees(rt: HostRuntime) -> Result<(), Fail> {
 fn whatever_the_combiner(
     rt: &impl Abort,
     alloc: Global,
-    program: ReadyProgram,
+    program: &ReadyProgram,
     wanted: &Wanted<'_>,
 ) -> Result<(), Fail> {
     answers(
@@ -366,13 +364,13 @@ fn whatever_the_combiner(
 fn two_hops_by_each_combiner(rt: HostRuntime) -> Result<(), Fail> {
     let distances = finished(&[0, 5, 6], &[3], 3, 2, 5);
     let sssp = ReadyProgram::Sssp(Sssp { source: id(&rt, 1) });
-    whatever_the_combiner(&rt, rt.alloc(), sssp, &distances)?;
+    whatever_the_combiner(&rt, rt.alloc(), &sssp, &distances)?;
     let labels = finished(&[1, 1, 1], &[], 3, 3, 6);
-    whatever_the_combiner(&rt, rt.alloc(), ReadyProgram::Cc(Cc), &labels)?;
+    whatever_the_combiner(&rt, rt.alloc(), &ReadyProgram::Cc(Cc), &labels)?;
     let zeros = finished(&[0, 0, 0], &[0], 2, 2, 5);
-    whatever_the_combiner(&rt, rt.alloc(), ReadyProgram::MaxValue(MaxValue), &zeros)?;
+    whatever_the_combiner(&rt, rt.alloc(), &ReadyProgram::MaxValue(MaxValue), &zeros)?;
     let degrees = finished(&[0, 1, 1], &[2], 2, 2, 6);
-    whatever_the_combiner(&rt, rt.alloc(), ReadyProgram::Indegree(Indegree), &degrees)?;
+    whatever_the_combiner(&rt, rt.alloc(), &ReadyProgram::Indegree(Indegree), &degrees)?;
     let ranks = finished(
         &[50_000_000_000, 333_333_333_333, 333_333_333_333],
         &[283_333_333_333],
@@ -380,9 +378,9 @@ fn two_hops_by_each_combiner(rt: HostRuntime) -> Result<(), Fail> {
         2,
         6,
     );
-    whatever_the_combiner(&rt, rt.alloc(), pagerank(1, 0), &ranks)?;
+    whatever_the_combiner(&rt, rt.alloc(), &pagerank(1, 0), &ranks)?;
     let removed = finished(&[0, 0, 0], &[3], 2, 2, 5);
-    whatever_the_combiner(&rt, rt.alloc(), peel(2), &removed)
+    whatever_the_combiner(&rt, rt.alloc(), &peel(2), &removed)
 }
 
 #[test]
