@@ -85,6 +85,14 @@ fn graph_of(rt: &impl Abort, alloc: Global, small: &Small<'_>) -> Result<Graph, 
     Ok(graph)
 }
 
+// The vertices have these values, by rising id.
+fn values_are(rt: &impl Abort, values: &[(VertexId, i64)], wanted: &[i64]) {
+    assert_eq!(rt; values.len(), wanted.len());
+    for ((id, value), wanted) in values.iter().zip(wanted) {
+        assert_eq!(rt; *value, *wanted, "at {id}");
+    }
+}
+
 // A run of a ready program on a graph answers this.
 fn answers(
     rt: &impl Abort,
@@ -99,10 +107,7 @@ fn answers(
     let mut meter = Meter::new();
     let answer = run(alloc, &graph, program, &combiner, &master, 1000, &mut meter);
     let answer = answer.expect(rt, "an answer");
-    assert_eq!(rt; answer.values.len(), wanted.values.len());
-    for ((id, value), wanted) in answer.values.as_slice().iter().zip(wanted.values) {
-        assert_eq!(rt; *value, *wanted, "by {program:?} and {combiner:?} at {id}");
-    }
+    values_are(rt, answer.values.as_slice(), wanted.values);
     assert_eq!(rt; answer.aggregates.as_slice(), wanted.aggregates);
     assert_eq!(rt; answer.ending, wanted.ending);
     assert_eq!(rt;
