@@ -1,5 +1,5 @@
 -- Bit by bit, `and` and `or` of whole numbers of 64 bits are commutative monoids.
-use Rattle.std.proofs.Common.{◌≡◌, refl, ℕ, ◌<◌, ◌≤◌, ◌^◌, ℤ, pos, negsuc, ap, sym, ◌∙◌, w64, of_z, to_z, arith, rules, min, max}
+use Rattle.std.proofs.Common.{◌≡◌, refl, ℕ, ◌<◌, ◌≤◌, ◌^◌, ℤ, pos, negsuc, ap, sym, ◌∙◌, w64, of_z, to_z, arith, rules, max}
 use Rattle.std.specs.Int.{bit_at, int_bit_and, int_bit_or}
 use Rattle.std.specs.Prelude.{bit_and, bit_or, FitsSigned}
 use Rattle.std.proofs.Math.Facts.{Fits-of_z, sfits_to_z}

@@ -3,6 +3,7 @@
 #![tactic(auto)]
 
 mod configuration;
+mod equality;
 mod record;
 mod run;
 mod sequence;

@@ -1,11 +1,12 @@
 -- Edits of edges by place are the edits by target, and keep the targets rising.
-use Rattle.std.proofs.Common.{◌≡◌, ℕ, zero, suc, ℤ, ◌<◌, ◌≤◌, Bool, true, false, cond, [], ◌∷◌, length, get_or, set, Ok, Err, Some, None, Ordering, refl, sym, ap, ◌∙◌, subst, arith}
+use Rattle.std.proofs.Common.{◌≡◌, ℕ, zero, suc, ℤ, ◌<◌, ◌≤◌, Bool, true, false, cond, [], ◌∷◌, length, get_or, set, Ok, Err, Some, None, Ordering, refl, sym, ap, ◌∙◌, subst, arith, inl, inr}
 use Rattle.std.specs.Ordering.{nat_cmp, is_eq, match_ordering}
 use Rattle.std.specs.declared.cmp.Ordering.TheVariants.{Less, Equal, Greater}
 use Rattle.std.specs.BTreeMap.{is_at}
 use Rattle.std.specs.Map.{keys_of}
 use Rattle.std.specs.List.{insert, remove, AllByRecursion}
 use Rattle.std.specs.List.Sorted.{IsStrictlySortedBy}
+use Rattle.std.proofs.lemmas.Bool.{cases_Bool}
 use Rattle.std.proofs.lemmas.Bool.Decides.{nat_tests}
 use Rattle.std.proofs.lemmas.List.{get_or-map}
 use Rattle.std.proofs.lemmas.Map.Entries.{length-keys_of}
@@ -30,10 +31,6 @@ by_cmp : {P : Type 0} (a b : ℕ) (r : Ordering) → nat_cmp a b ≡ r → (a < 
 by_cmp a b Less h x y z = x (grind (arith, nat_tests))
 by_cmp a b Equal h x y z = y (grind (arith, nat_tests))
 by_cmp a b Greater h x y z = z (grind (arith, nat_tests))
-
-by_bool : {P : Type 0} (b : Bool) → (b ≡ true → P) → (b ≡ false → P) → P
-by_bool true x y = x refl
-by_bool false x y = y refl
 
 module _ (target : ℕ) (weight : ℤ) where
   put_step : (e : ℕ × ℤ) (es : EdgeList) (r : Ordering) → nat_cmp target e.0 ≡ r → with_edge target weight (e ∷ es) ≡ match_ordering r ((target, weight) ∷ e ∷ es) ((e.0, weight) ∷ es) (e ∷ with_edge target weight es)
@@ -108,9 +105,10 @@ module _ (target : ℕ) where
   without_edge-none [] h = refl
   without_edge-none (e ∷ es) h =
       let look = λ (b : Bool) (t : is_at (nat_cmp target) e.0 ≡ b). sym (ap (λ o. cond o (Some e.1) (weight_at target es)) t) ∙ h in
-      by_bool (is_at (nat_cmp target) e.0)
-      (λ t. let k : Some e.1 ≡ None = look true t in cc)
-      (λ t. take_step e es false t ∙ ap (λ l. e ∷ l) (without_edge-none es (look false t)))
+      elim (cases_Bool (is_at (nat_cmp target) e.0)) [
+        | inl t ↦ let k : Some e.1 ≡ None = look true t in cc
+        | inr t ↦ take_step e es false t ∙ ap (λ l. e ∷ l) (without_edge-none es (look false t))
+      ]
 
 -- ---- at a place that a search answered
 below_place : (es : EdgeList) (target i : ℕ) → IsRising es → IsPlaceOf es target (Ok i) → (k : ℕ) (d : ℕ × ℤ) → k < i → (get_or es k d).0 < target

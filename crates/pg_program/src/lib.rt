@@ -8,6 +8,7 @@ mod own_edges;
 mod plain;
 mod search;
 mod shed;
+mod tally;
 #[cfg(test)]
 mod tests;
 mod vertex;
@@ -20,4 +21,5 @@ pub use pg_graph::Memory;
 pub use pg_model::{Declared, Place, View};
 pub use plain::Plain;
 pub use shed::Shed;
+pub use tally::Tally;
 pub use vertex::Vertex;

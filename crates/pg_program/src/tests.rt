@@ -83,12 +83,72 @@ fn id(rt: &impl Abort, number: u64) -> VertexId {
     VertexId::new(number).expect(rt, "an id")
 }
 
+// The text that a value appends.
+fn text_of<T: Plain>(alloc: Global, value: &T) -> Result<String, Memory> {
+    let mut text = String::from_str(alloc, "of ")?;
+    value.copy(alloc)?.show(&mut text)?;
+    Ok(text)
+}
+
 #[test]
 fn shows_numbers(rt: HostRuntime) -> Result<(), Fail> {
-    let mut text = String::from_str(rt.alloc(), "of ")?;
-    i64::MIN.show(&mut text)?;
-    0i64.copy(rt.alloc())?.show(&mut text)?;
+    let alloc = rt.alloc();
+    let mut text = text_of(alloc, &i64::MIN)?;
+    0i64.show(&mut text)?;
     assert_eq!(rt; text.as_str(), "of -92233720368547758080");
+    assert_eq!(rt;
+        text_of(alloc, &u64::MAX)?.as_str(),
+        "of 18446744073709551615"
+    );
+    assert_eq!(rt; text_of(alloc, &true)?.as_str(), "of true");
+    assert_eq!(rt; text_of(alloc, &false)?.as_str(), "of false");
+    Ok(())
+}
+
+#[test]
+fn shows_pairs_and_lists(rt: HostRuntime) -> Result<(), Fail> {
+    let alloc = rt.alloc();
+    let none = (7i64, Sequence::<i64>::new(alloc));
+    assert_eq!(rt; text_of(alloc, &none)?.as_str(), "of (7 [])");
+    let one = Sequence::from_vec(vec![in alloc; (true, 5u64)]?);
+    assert_eq!(rt; text_of(alloc, &one)?.as_str(), "of [(true 5)]");
+    let three = Sequence::from_vec(vec![in alloc; 1i64, -2, 3]?);
+    assert_eq!(rt; text_of(alloc, &three)?.as_str(), "of [1 -2 3]");
+    let shorter = Sequence::from_vec(vec![in alloc; 1i64, -2]?);
+    assert!(rt; three == three.copy(alloc)? && three != shorter);
+    three.fits();
+    Ok(())
+}
+
+// What one execution of `Tally` at vertex 5, of input 30 with an edge to 2, leaves: the text of the value,
+// how many messages it sends, and how many calls it counts.
+fn tally(
+    rt: &impl Abort,
+    alloc: Global,
+    superstep: u32,
+    messages: &[i64],
+) -> Result<(String, usize, u64), Fail> {
+    let value = Tally.initial(alloc, id(rt, 5), 30)?;
+    let mut vertex = Vertex::new(id(rt, 5), value, Edges::new(), EdgeRoom::new(alloc))?;
+    vertex.add_edge(id(rt, 2), 20)?;
+    let view = View {
+        superstep: Superstep::new(superstep),
+        aggregates: Sequence::new(alloc),
+        total_vertices: None,
+        total_edges: None,
+    };
+    let mut cx = Cx::new(alloc, view, Tally.declared(), Meter::new());
+    Tally.compute(alloc, &mut vertex, messages, &mut cx)?;
+    let (_view, sent, _contributed, meter) = cx.into_parts();
+    Ok((text_of(alloc, vertex.value())?, sent.len(), meter.count()))
+}
+
+#[test]
+fn tallies(rt: HostRuntime) -> Result<(), Fail> {
+    let (text, sent, calls) = tally(&rt, rt.alloc(), 0, &[])?;
+    assert_eq!(rt; (text.as_str(), sent, calls), ("of (30 [])", 1, 1));
+    let (text, sent, calls) = tally(&rt, rt.alloc(), 1, &[4, -4])?;
+    assert_eq!(rt; (text.as_str(), sent, calls), ("of (2 [4 -4])", 0, 1));
     Ok(())
 }
 

@@ -3,7 +3,7 @@ use pg_graph::{Batch, Edit, Edition, Graph, VertexId};
 use pg_model::{Ending, Run};
 use pg_program::Meter;
 use pg_scratch::{RunFault, run};
-use pregeld::{ReadyMaster, ServeFault, Service, Sssp, serve, start};
+use pregeld::{ReadyMaster, ReadyProgram, ServeFault, Service, Sssp, serve, start};
 use std::alloc::Global;
 use std::io::Write;
 use std::process::Abort;
@@ -313,16 +313,13 @@ fn runs(rt: HostRuntime) -> Result<(), Fail> {
     let mut graph = Graph::new(alloc);
     assert!(&rt; graph.apply(alloc, &batch).is_ok());
     let program = Sssp { source: id(1)? };
+    let master = ReadyMaster {
+        program: ReadyProgram::Sssp(program),
+    };
     let combiner = AnyCombiner::NoCombiner;
     let mut meter = Meter::new();
     let answer = run(
-        alloc,
-        &graph,
-        &program,
-        &combiner,
-        &ReadyMaster,
-        1000,
-        &mut meter,
+        alloc, &graph, &program, &combiner, &master, 1000, &mut meter,
     );
     is_two_hops(&rt, &answer.expect(&rt, "an answer"));
     assert_eq!(&rt; meter.count(), 5);

@@ -26,7 +26,7 @@ impl MessageCombiner<i64> for Least {
 
     ghost combining = { λ _. Some least_message };
 
-    ghost lawful = { λ _. (IsCommutativeMonoid-int_min.associative, IsCommutativeMonoid-int_min.commutative, IsCommutativeMonoid-int_min.neutral, IsCommutativeMonoid-int_min.stays, IsCommutativeMonoid-int_min.begins) };
+    ghost lawful = { λ _. IsCommutativeMonoid-int_min };
 
     fn combines(&self) -> bool {
         true

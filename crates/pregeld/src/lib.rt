@@ -3,8 +3,14 @@
 
 mod answers;
 mod block;
+mod cc;
 mod command;
+mod folds;
+mod indegree;
+mod max;
 mod options;
+mod pagerank;
+mod peel;
 mod program;
 mod ready;
 mod reply;
@@ -13,8 +19,13 @@ mod session;
 mod sssp;
 
 pub use answers::{Answers, Report};
+pub use cc::Cc;
+pub use indegree::Indegree;
+pub use max::MaxValue;
+pub use pagerank::Pagerank;
+pub use peel::Peel;
 pub use program::start;
-pub use ready::ReadyMaster;
+pub use ready::{ReadyMaster, ReadyProgram};
 pub use service::Service;
 pub use session::{ServeFault, serve};
 pub use sssp::Sssp;

@@ -6,7 +6,7 @@ ghost use Rattle.pg_model.specs.Run.{answer};
 ghost use Rattle.pregeld.specs.Ready.{job};
 ghost use Rattle.pregeld.specs.Service.{RefusesEdition, fresh, next_graph, publication_of, report_of};
 
-use crate::{Answers, ReadyMaster, Report, Sssp};
+use crate::{Answers, ReadyMaster, ReadyProgram, Report, Sssp};
 use pg_global::AnyCombiner;
 use pg_graph::{Batch, EditFault, EditKind, Edition, Graph, VertexId};
 use pg_model::Run;
@@ -134,13 +134,17 @@ impl Service {
         ensures registered { IfErr result (λ fault. fault ≡ RunFault.Memory) }
     {
         rises(&self.graph);
+        let program = ReadyProgram::Sssp(self.program);
+        let master = ReadyMaster {
+            program: ReadyProgram::Sssp(self.program),
+        };
         let mut meter = Meter::new();
         let run = run(
             alloc,
             &self.graph,
-            &self.program,
+            &program,
             &AnyCombiner::NoCombiner,
-            &ReadyMaster,
+            &master,
             self.limit,
             &mut meter,
         );

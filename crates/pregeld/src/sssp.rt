@@ -1,10 +1,11 @@
 //! Shortest paths from one source (Pregel, section 5.2).
 ghost use Rattle.std.specs.Prelude.{◌≡◌, [], ◌∷◌, ◌++◌, ◌+ℤ◌, map, cond, true, pos, OnOk};
 ghost use Rattle.std.specs.Int.{w64, saturate_signed};
-ghost use Rattle.pg_model.specs.Programs.{least_of, infinity};
+ghost use Rattle.pg_model.specs.Programs.{infinity};
 ghost use Rattle.pg_model.specs.Job.{has_place};
 ghost use Rattle.std.specs.Ordering.{int_eq};
 
+use crate::folds::least;
 use pg_graph::{Memory, VertexId};
 use pg_model::{Declared, Place};
 use pg_program::{Computation, Cx, Vertex};
@@ -78,17 +79,6 @@ fn count_reached(known: i64, cx: &mut Cx<i64>) -> Result<(), Memory>
         return Ok(());
     }
     cx.aggregate(Place::new(0), 1)
-}
-
-/// The least of a distance and all messages.
-fn least(own: i64, messages: &[i64]) -> i64
-    ensures { result ≡ least_of own messages.now }
-{
-    let mut least = own;
-    for message in messages {
-        least = least.min(*message);
-    }
-    least
 }
 
 /// Sends to the target of each edge the distance by way of the edge.

@@ -6,6 +6,7 @@ use Rattle.pg_model.specs.Superstep.{capped}
 use Rattle.pg_model.proofs.LawsNeeded.{needed_count-none}
 use Rattle.pregeld.specs.Ready.{job}
 use Rattle.pregeld.specs.Service.{ServiceState}
+use Rattle.pregeld.specs.declared.ready.ReadyProgram.TheVariants.{Sssp}
 use Rattle.pregeld.proofs.Lawful.{only_memory}
 use Rattle.pregeld.proofs.service.Service.run_now.Goals as goal
 
@@ -17,4 +18,4 @@ returns-in-Ok-clause-calls c =
     ran ∙ ap capped (sym (needed_count-none int_eq int_eq own c.args.self.now.graph rising))
 
 pub returns-in-Err-clause-registered : goal.returns-in-Err-clause-registered
-returns-in-Err-clause-registered c = only_memory c.self.inside.program.source c.in-Err.fault (λ e. c.in-Err.ensures.register (ap Err e)) (λ e. c.in-Err.ensures.unregistered (ap Err e))
+returns-in-Err-clause-registered c = only_memory (Sssp c.self.inside.program) c.in-Err.fault (λ e. c.in-Err.ensures.register (ap Err e)) (λ e. c.in-Err.ensures.unregistered (ap Err e))
