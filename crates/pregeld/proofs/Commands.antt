@@ -5,7 +5,7 @@ use Rattle.std.specs.List.{concat, last_or}
 use Rattle.std.proofs.lemmas.Bool.Decides.{nat_tests}
 use Rattle.pg_import.specs.Import.{no_memory}
 use Rattle.pregeld.specs.Command.{command_of}
-use Rattle.pregeld.specs.Ready.{job}
+use Rattle.pregeld.specs.Ready.{ready_job}
 use Rattle.pregeld.specs.Reading.{AnswersLine, FailsLine, Imports, Keeps, Refreshes, RepliesTo, TakesLines}
 use Rattle.pregeld.specs.Reply.{line_of_reply}
 use Rattle.pregeld.specs.Service.{ServiceState, publication_of, report_of}
@@ -41,7 +41,7 @@ pub line_answered : (line : List ℕ) (command : Result Command LineFault) (here
     → command_of line ≡ command → RepliesTo command here old reply number new left → Appends before now (line_of_reply reply) → AnswersLine line here old new number left before now
 line_answered line command here old new reply number left before now asks r wrote = record {
   answer = answered reply r.next;
-  answers = subst (λ c. Answers (job old.source old.limit) c here (answered reply r.next)) (sym asks) r.answers;
+  answers = subst (λ c. Answers (ready_job old.job) c here (answered reply r.next)) (sym asks) r.answers;
   service_is = r.service_is;
   no_run = r.no_run;
   number_is = r.number_is;
@@ -53,7 +53,7 @@ line_answered line command here old new reply number left before now asks r wrot
 pub line_unwritten : (fault : ServeFault) (line : List ℕ) (command : Result Command LineFault) (here : Place) (old new : ServiceState) (reply : Reply) (number : ℕ) (left : Option (List (List ℕ))) (before now : Option (List ℕ))
     → command_of line ≡ command → RepliesTo command here old reply number new left → fault ≡ Write → FailsLine fault line here old new before now
 line_unwritten fault line command here old new reply number left before now asks r failed =
-    inr (failed, answered reply r.next, subst (λ c. Answers (job old.source old.limit) c here (answered reply r.next)) (sym asks) r.answers, r.service_is)
+    inr (failed, answered reply r.next, subst (λ c. Answers (ready_job old.job) c here (answered reply r.next)) (sym asks) r.answers, r.service_is)
 
 -- a line with a fault changes nothing
 pub fault_replies : (fault : LineFault) (here : Place) (old : ServiceState) (left : Option (List (List ℕ))) → Keeps old here.state → left ≡ Some here.lines
@@ -68,7 +68,7 @@ refreshes_at : (s : ServiceState) (here : Place) (reply : Reply) (new : ServiceS
     → Refreshes (after s here.state) reply new → RepliesTo (Ok Refresh) here (after s here.state) reply here.number new left
 unfolding answer_to
 refreshes_at s here reply new left no_run left_is (inl done) =
-    let own = job s.source s.limit in
+    let own = ready_job s.job in
     let next : Place = (refresh_answer own here).next in
     let told : Refreshed (report_of own here.state.kept here.state.edition here.state.graph) ≡ reply = rw no_run (sym done.0) in
     record {
@@ -100,7 +100,7 @@ dump_at : (line : List ℕ) (s : ServiceState) (here : Place) (left : Option (Li
 unfolding answer_to
 dump_at line s here left before now is_dump no_run left_is wrote = record {
   answer = record { text = dump_text (last_or None here.state.publications); next = here };
-  answers = inl (ap (λ c. answer_to (job s.source s.limit) c here) (sym is_dump));
+  answers = inl (ap (λ c. answer_to (ready_job s.job) c here) (sym is_dump));
   service_is = refl;
   no_run = no_run;
   number_is = refl;
@@ -118,7 +118,7 @@ pub dump_unwritten : (fault : ServeFault) (line : List ℕ) (here : Place) (old 
     → FailsLine fault line here old old before now
 unfolding answer_to
 dump_unwritten fault line here old before now is_dump keeps failed =
-    inr (failed, record { text = dump_text (last_or None here.state.publications); next = here }, inl (ap (λ c. answer_to (job old.source old.limit) c here) (sym is_dump)), keeps.service_is)
+    inr (failed, record { text = dump_text (last_or None here.state.publications); next = here }, inl (ap (λ c. answer_to (ready_job old.job) c here) (sym is_dump)), keeps.service_is)
 
 -- ---- lines that ask for nothing
 
@@ -127,7 +127,7 @@ pub nothing_answered : (line : List ℕ) (here : Place) (old : ServiceState) (le
 unfolding answer_to
 nothing_answered line here old left before now is_nothing keeps left_is wrote = record {
   answer = record { text = []; next = here };
-  answers = inl (ap (λ c. answer_to (job old.source old.limit) c here) (sym is_nothing));
+  answers = inl (ap (λ c. answer_to (ready_job old.job) c here) (sym is_nothing));
   service_is = keeps.service_is;
   no_run = keeps.no_run;
   number_is = refl;

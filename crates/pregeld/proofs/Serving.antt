@@ -4,7 +4,7 @@ use Rattle.std.specs.Io.KnownBytes.{Appends}
 use Rattle.pg_import.specs.Text.{raw_lines}
 use Rattle.pg_model.specs.Job.{Job}
 use Rattle.pregeld.specs.Command.{command_of}
-use Rattle.pregeld.specs.Ready.{job}
+use Rattle.pregeld.specs.Ready.{ready_job}
 use Rattle.pregeld.specs.Reading.{AnswersLine, FailsLine, Keeps, lines_left}
 use Rattle.pregeld.specs.Service.{ServiceState}
 use Rattle.pregeld.specs.Session.{Answer, Answers, BreaksOff, Place, Runs, Serves, State, after, opened, stop, go}
@@ -40,7 +40,7 @@ pub record Midway (input : List ℕ) (old now : ServiceState) (number : ℕ) (le
   pub text : List ℕ
   pub state : State
   pub lines : List (List ℕ)
-  pub so_far : SoFar (job old.source old.limit) (start old input) (record { number = number; state = state; lines = lines }) text
+  pub so_far : SoFar (ready_job old.job) (start old input) (record { number = number; state = state; lines = lines }) text
   pub service_is : now ≡ after old state
   pub no_run : state.kept ≡ None
   pub left_is : left ≡ Some lines
@@ -53,7 +53,7 @@ at_first input known service written known_is =
       text = [];
       state = opened service;
       lines = raw_lines input;
-      so_far = not_yet (job service.source service.limit) (start service input);
+      so_far = not_yet (ready_job service.job) (start service input);
       service_is = keeps.service_is;
       no_run = keeps.no_run;
       left_is = ap lines_left known_is;
@@ -70,7 +70,7 @@ pub at_end : (input : List ℕ) (old now : ServiceState) (number : ℕ) (left : 
 at_end input old now number left before written m no_more = record {
   text = m.text;
   place = record { number = number; state = m.state; lines = m.lines };
-  comes = record { runs = whole (job old.source old.limit) (start old input) (record { number = number; state = m.state; lines = m.lines }) m.text m.so_far; service_is = m.service_is };
+  comes = record { runs = whole (ready_job old.job) (start old input) (record { number = number; state = m.state; lines = m.lines }) m.text m.so_far; service_is = m.service_is };
   ends = no_more;
   wrote = m.wrote;
 }
@@ -81,12 +81,12 @@ pub between_lines : (fault : ServeFault) (input : List ℕ) (old now : ServiceSt
 between_lines fault input old now number left before written m = record {
   text = m.text;
   place = record { number = number; state = m.state; lines = m.lines };
-  comes = record { runs = whole (job old.source old.limit) (start old input) (record { number = number; state = m.state; lines = m.lines }) m.text m.so_far; service_is = m.service_is };
+  comes = record { runs = whole (ready_job old.job) (start old input) (record { number = number; state = m.state; lines = m.lines }) m.text m.so_far; service_is = m.service_is };
   wrote = λ other. m.wrote;
 }
 
 module _ (input : List ℕ) (old : ServiceState) (number : ℕ) (state : State) (line : List ℕ) (lines : List (List ℕ)) (text : List ℕ)
-    (so_far : SoFar (job old.source old.limit) (start old input) (record { number = number; state = state; lines = line ∷ lines }) text) where
+    (so_far : SoFar (ready_job old.job) (start old input) (record { number = number; state = state; lines = line ∷ lines }) text) where
   -- one more line is answered
   line_after : (now new : ServiceState) (reached : ℕ) (left : Option (List (List ℕ))) (before written more : Option (List ℕ)) → now ≡ after old state → Appends before written text
       → AnswersLine line (record { number = number + 1; state = state; lines = lines }) (after old state) new reached left written more → Midway input old new reached left before more
@@ -94,8 +94,8 @@ module _ (input : List ℕ) (old : ServiceState) (number : ℕ) (state : State) 
     text = text ++ a.answer.text;
     state = a.answer.next.state;
     lines = a.answer.next.lines;
-    so_far = subst (λ n. SoFar (job old.source old.limit) (start old input) (record { number = n; state = a.answer.next.state; lines = a.answer.next.lines }) (text ++ a.answer.text)) a.number_is
-        (one_more (job old.source old.limit) (start old input) text number state line lines a.answer so_far a.answers);
+    so_far = subst (λ n. SoFar (ready_job old.job) (start old input) (record { number = n; state = a.answer.next.state; lines = a.answer.next.lines }) (text ++ a.answer.text)) a.number_is
+        (one_more (ready_job old.job) (start old input) text number state line lines a.answer so_far a.answers);
     service_is = a.service_is;
     no_run = a.no_run;
     left_is = a.left_is;
@@ -103,13 +103,13 @@ module _ (input : List ℕ) (old : ServiceState) (number : ℕ) (state : State) 
   }
 
   -- a line is answered, and the answer can't be written
-  unwritten : (new : ServiceState) (before now : Option (List ℕ)) (answer : Answer) → Answers (job old.source old.limit) (command_of line) (record { number = number + 1; state = state; lines = lines }) answer
+  unwritten : (new : ServiceState) (before now : Option (List ℕ)) (answer : Answer) → Answers (ready_job old.job) (command_of line) (record { number = number + 1; state = state; lines = lines }) answer
       → new ≡ after old answer.next.state → BreaksOff Write input old new before now
   unwritten new before now answer answers new_is = record {
     text = text ++ answer.text;
     place = answer.next;
     comes = record {
-      runs = whole (job old.source old.limit) (start old input) answer.next (text ++ answer.text) (one_more (job old.source old.limit) (start old input) text number state line lines answer so_far answers);
+      runs = whole (ready_job old.job) (start old input) answer.next (text ++ answer.text) (one_more (ready_job old.job) (start old input) text number state line lines answer so_far answers);
       service_is = new_is;
     };
     wrote = λ other. absurd (other refl);
@@ -130,8 +130,8 @@ module _ (input : List ℕ) (old now : ServiceState) (number : ℕ) (left : Opti
   abbrev here : Place
   here = record { number = number + 1; state = m.state; lines = rest }
 
-  so_far_at : SoFar (job old.source old.limit) (start old input) (record { number = number; state = m.state; lines = line ∷ rest }) m.text
-  so_far_at = subst (λ ls. SoFar (job old.source old.limit) (start old input) (record { number = number; state = m.state; lines = ls }) m.text) first m.so_far
+  so_far_at : SoFar (ready_job old.job) (start old input) (record { number = number; state = m.state; lines = line ∷ rest }) m.text
+  so_far_at = subst (λ ls. SoFar (ready_job old.job) (start old input) (record { number = number; state = m.state; lines = ls }) m.text) first m.so_far
 
   -- a line that is answered leads on
   pub goes_on : (new : ServiceState) (reached : ℕ) (left' : Option (List (List ℕ))) (more : Option (List ℕ)) → AnswersLine line here now new reached left' written more → Midway input old new reached left' before more
@@ -146,5 +146,5 @@ module _ (input : List ℕ) (old now : ServiceState) (number : ℕ) (left : Opti
   breaks_off fault new more (inr failed) =
       subst (λ f. BreaksOff f input old new before more) (sym failed.0)
       (unwritten input old number m.state line rest m.text so_far_at new before more failed.1
-      (subst (λ s. Answers (job s.source s.limit) (command_of line) here failed.1) m.service_is failed.2)
+      (subst (λ s. Answers (ready_job s.job) (command_of line) here failed.1) m.service_is failed.2)
       (subst (λ s. new ≡ after s failed.1.next.state) m.service_is failed.3))

@@ -10,7 +10,7 @@ use Rattle.pg_import.specs.declared.line.ImportFault.{ImportFault}
 use Rattle.pg_import.specs.declared.line.Line.{Line}
 use Rattle.pg_scratch.specs.declared.runner.RunFault.TheVariants.{Memory}
 use Rattle.pregeld.specs.Command.{command_of}
-use Rattle.pregeld.specs.Ready.{job}
+use Rattle.pregeld.specs.Ready.{ready_job}
 use Rattle.pregeld.specs.Service.{ServiceState, publication_of, report_of}
 use Rattle.pregeld.specs.Session.{Answer, Answers, Place, State, after, answered, imported}
 use Rattle.pregeld.specs.declared.block.Block.{Block}
@@ -60,7 +60,7 @@ Imports edges old reply new =
 -- a refresh may be answered so, or for want of memory
 abbrev pub Refreshes : ServiceState → Reply → ServiceState → Type 0
 Refreshes old reply new =
-    let own = job old.source old.limit in
+    let own = ready_job old.job in
     ((reply ≡ Refreshed (report_of own None old.edition old.graph)) × (new ≡ record old { published = Some (publication_of own old.edition old.graph) }))
     ⊎ ((reply ≡ RefreshRefused Memory) × (new ≡ old))
 
@@ -74,7 +74,7 @@ pub record Keeps (service : ServiceState) (state : State) : Type 0 where
 -- a command was answered with this line, and the session goes on past the line of this number
 pub record RepliesTo (command : Result Command LineFault) (here : Place) (old : ServiceState) (reply : Reply) (number : ℕ) (new : ServiceState) (left : Option (List (List ℕ))) : Type 0 where
   pub next : Place
-  pub answers : Answers (job old.source old.limit) command here (answered reply next)
+  pub answers : Answers (ready_job old.job) command here (answered reply next)
   pub service_is : new ≡ after old next.state
   pub no_run : next.state.kept ≡ None
   pub number_is : next.number ≡ number
@@ -83,7 +83,7 @@ pub record RepliesTo (command : Result Command LineFault) (here : Place) (old : 
 -- a line was answered so, and the session goes on there
 pub record AnswersLine (line : List ℕ) (here : Place) (old new : ServiceState) (number : ℕ) (left : Option (List (List ℕ))) (before now : Option (List ℕ)) : Type 0 where
   pub answer : Answer
-  pub answers : Answers (job old.source old.limit) (command_of line) here answer
+  pub answers : Answers (ready_job old.job) (command_of line) here answer
   pub service_is : new ≡ after old answer.next.state
   pub no_run : answer.next.state.kept ≡ None
   pub number_is : answer.next.number ≡ number
@@ -94,4 +94,4 @@ pub record AnswersLine (line : List ℕ) (here : Place) (old new : ServiceState)
 abbrev pub FailsLine : ServeFault → List ℕ → Place → ServiceState → ServiceState → Option (List ℕ) → Option (List ℕ) → Type 0
 FailsLine fault line here old new before now =
     ((fault ≢ Write) × (new ≡ old) × (now ≡ before))
-    ⊎ ((fault ≡ Write) × (answer : Answer) × Answers (job old.source old.limit) (command_of line) here answer × (new ≡ after old answer.next.state))
+    ⊎ ((fault ≡ Write) × (answer : Answer) × Answers (ready_job old.job) (command_of line) here answer × (new ≡ after old answer.next.state))

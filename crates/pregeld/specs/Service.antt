@@ -12,17 +12,17 @@ use Rattle.pg_model.specs.Publications.{Publication}
 use Rattle.pg_model.specs.Run.{answer}
 use Rattle.pg_model.specs.Superstep.{capped}
 use Rattle.pregeld.specs.declared.answers.Report.{Report}
+use Rattle.pregeld.specs.declared.ready.ReadyJob.{ReadyJob}
 
 pub record ServiceState : Type 0 where
-  pub source : ℕ
-  pub limit : ℕ
+  pub job : ReadyJob
   pub graph : Rows
   pub edition : ℕ
   pub published : Option (Publication ℤ)
 
 -- a service as it begins: an empty graph, and nothing published
-abbrev pub fresh : ℕ → ℕ → ServiceState
-fresh source limit = record { source = source; limit = limit; graph = []; edition = 0; published = None }
+abbrev pub fresh : ReadyJob → ServiceState
+fresh job = record { job = job; graph = []; edition = 0; published = None }
 
 -- no edition is greater
 abbrev pub edition_limit : ℕ

@@ -16,7 +16,7 @@ use Rattle.pg_model.specs.Publications.{Publication, Publications}
 use Rattle.pg_scratch.specs.declared.runner.RunFault.TheVariants.{Memory}
 use Rattle.pg_import.specs.Text.{raw_lines}
 use Rattle.pregeld.specs.Command.{command_of}
-use Rattle.pregeld.specs.Ready.{job}
+use Rattle.pregeld.specs.Ready.{ready_job}
 use Rattle.pregeld.specs.Reply.{line_of_reply, values_text}
 use Rattle.pregeld.specs.Service.{ServiceState, next_graph, publication_of, report_of}
 use Rattle.pregeld.specs.declared.command.Command.{Command}
@@ -158,7 +158,7 @@ after service state = record service { graph = state.graph; edition = state.edit
 
 -- a session of a service on an input has come to a place, with this text
 pub record Comes (input : List ℕ) (old new : ServiceState) (text : List ℕ) (place : Place) : Type 0 where
-  pub runs : Runs (job old.source old.limit) (record { number = 0; state = opened old; lines = raw_lines input }) text place
+  pub runs : Runs (ready_job old.job) (record { number = 0; state = opened old; lines = raw_lines input }) text place
   pub service_is : new ≡ after old place.state
 
 -- the whole input was answered, and that is what was written

@@ -25,7 +25,7 @@ pub use max::MaxValue;
 pub use pagerank::Pagerank;
 pub use peel::Peel;
 pub use program::start;
-pub use ready::{ReadyMaster, ReadyProgram};
+pub use ready::{ReadyJob, ReadyMaster, ReadyProgram};
 pub use service::Service;
 pub use session::{ServeFault, serve};
 pub use sssp::Sssp;

@@ -1,20 +1,23 @@
 //! The words of the command line.
-ghost use Rattle.std.specs.Prelude.{◌≡◌, ◌<◌, ℕ, false, codes, map, IfOk, IfErr, IfSome, IfNone, MatchOption};
+ghost use Rattle.std.specs.Prelude.{◌≡◌, ◌<◌, ℕ, false, codes, map, IfOk, IfErr, IfSome, IfNone, Some};
 ghost use Rattle.clap.specs.Words.{Rule, app_of, found_of, one_text, rule_of};
-ghost use Rattle.pregeld.specs.Arguments.{AreNames, AsksForRuns, Explains, Name, ProgramNames, limit_rule, program, program_rule, source_rule};
+ghost use Rattle.pg_graph.specs.declared.missing.Missing.{Missing};
+ghost use Rattle.pregeld.specs.Arguments.{AreMissingNames, AreNames, AreOptionNames, AsksForRuns, Explains, Name, ProgramNames, limit_rule, missing_name, missing_rule, program, program_rule, source_rule};
 
 use clap::builder::ValueParser;
 use clap::error::ErrorKind;
 use clap::{Arg, ArgAction, ArgMatches, Command, Error};
-use pg_graph::VertexId;
+use pg_graph::{Missing, VertexId};
 use std::alloc::{AllocError, Global};
 use std::convert::AsStr;
+use std::str::FromStr;
 
 /// What the program is asked to run.
 #[derive(Clone, Copy, Debug, PartialEq, Eq)]
 pub(crate) struct Options {
     pub source: VertexId,
     pub limit: u32,
+    pub missing: Missing,
 }
 
 /// What stands in place of the options.
@@ -31,7 +34,7 @@ pub(crate) enum NoOptions {
 /// The options that the words name, the program's name first.
 pub(crate) fn options_of<'a, S: AsStr>(alloc: Global, words: &'a [S]) -> Result<Options, NoOptions>
     ensures some { IfOk result (λ options. 0 < options.limit) }
-    ensures ok { IfOk result (λ options. AsksForRuns (map S.text words.entry.now) options.source options.limit) }
+    ensures ok { IfOk result (λ options. AsksForRuns (map S.text words.entry.now) options.source options.limit options.missing) }
     ensures err { IfErr result (Explains (map S.text words.entry.now)) }
 {
     let Ok(command) = command(alloc) else {
@@ -52,8 +55,8 @@ pub(crate) fn options_of<'a, S: AsStr>(alloc: Global, words: &'a [S]) -> Result<
 
 /// The options, from what was parsed.
 fn read_from(matches: &ArgMatches<'_>) -> Option<Options>
-    ensures some { IfSome result (λ options. Name (one_text (found_of matches.now) (codes "source")) (one_text (found_of matches.now) (codes "limit")) options.source options.limit) }
-    ensures none { IfNone result ((source limit : ℕ) → Name (one_text (found_of matches.now) (codes "source")) (one_text (found_of matches.now) (codes "limit")) source limit → ⊥) }
+    ensures some { IfSome result (λ options. Name (one_text (found_of matches.now) (codes "source")) (one_text (found_of matches.now) (codes "limit")) (one_text (found_of matches.now) (codes "missing")) options.source options.limit options.missing) }
+    ensures none { IfNone result ((source limit : ℕ) (missing : Missing) → Name (one_text (found_of matches.now) (codes "source")) (one_text (found_of matches.now) (codes "limit")) (one_text (found_of matches.now) (codes "missing")) source limit missing → ⊥) }
 {
     let Some(source) = matches.get_one::<u64>("source") else {
         return None;
@@ -67,17 +70,70 @@ fn read_from(matches: &ArgMatches<'_>) -> Option<Options>
     if limit == 0 {
         return None;
     }
-    Some(Options { source, limit })
+    let Some(missing) = missing_of(matches) else {
+        return None;
+    };
+    Some(Options {
+        source,
+        limit,
+        missing,
+    })
+}
+
+/// The policy that is named, if there is one.
+fn missing_of(matches: &ArgMatches<'_>) -> Option<Missing>
+    ensures some { IfSome result (λ missing. one_text (found_of matches.now) (codes "missing") ≡ Some (missing_name missing)) }
+    ensures none { IfNone result ((missing : Missing) → one_text (found_of matches.now) (codes "missing") ≡ Some (missing_name missing) → ⊥) }
+{
+    match matches.get_one::<Policy>("missing") {
+        Some(policy) => Some(policy.missing),
+        None => None,
+    }
+}
+
+/// A policy for messages to nobody, as its name says.
+#[derive(Clone, Copy, Debug, PartialEq, Eq)]
+struct Policy {
+    missing: Missing,
+}
+
+/// A text that names no policy.
+#[derive(Clone, Copy, Debug, PartialEq, Eq)]
+struct NoPolicy;
+
+impl FromStr for Policy {
+    ghost use Rattle.std.specs.Prelude.{MatchResult, ◌≡◌};
+    ghost use Rattle.pg_graph.specs.declared.missing.Missing.{Missing};
+    ghost use Rattle.pregeld.specs.Arguments.{missing_name};
+
+    type Err = NoPolicy;
+
+    ghost from_str_gives = { λ text result. MatchResult result (λ policy. text ≡ missing_name policy.missing) (λ _. (missing : Missing) → text ≡ missing_name missing → ⊥) };
+
+    fn from_str(text: &str) -> Result<Policy, NoPolicy> {
+        if text == "drop" {
+            return Ok(Policy {
+                missing: Missing::Drop,
+            });
+        }
+        if text == "create" {
+            return Ok(Policy {
+                missing: Missing::Create,
+            });
+        }
+        Err(NoPolicy)
+    }
 }
 
 /// What the command line takes.
 fn command<'a>(alloc: Global) -> Result<Command<'a>, AllocError>
-    ensures { IfOk result (λ c. (names : ProgramNames) × AreNames names × (app_of c ≡ program names)) }
+    ensures { IfOk result (λ c. (names : ProgramNames) × (missing_names : ProgramNames) × AreOptionNames names missing_names × (app_of c ≡ program names missing_names)) }
 {
     Command::new(alloc, "pregeld")
         .arg(program_option(alloc))?
         .arg(source_option(alloc))?
-        .arg(limit_option(alloc))
+        .arg(limit_option(alloc))?
+        .arg(missing_option(alloc))
 }
 
 /// The names of the vertex programs.
@@ -120,4 +176,20 @@ fn limit_option<'a>(alloc: Global) -> Arg<'a>
         .value_parser(ValueParser::unsigned(1, 10_000))
         .default_value("1000")
         .help("The most supersteps of a run")
+}
+
+/// The names of the policies.
+static POLICIES: [&str; 2] = ["drop", "create"];
+
+/// The option that names the policy for messages to nobody.
+fn missing_option<'a>(alloc: Global) -> Arg<'a>
+    ensures rule { (names : ProgramNames) × AreMissingNames names × (rule_of result ≡ missing_rule names) }
+    ensures local { result.global ≡ false }
+{
+    Arg::new(alloc, "missing")
+        .long("missing")
+        .action(ArgAction::Set)
+        .value_parser(ValueParser::Names(POLICIES.as_slice()))
+        .default_value("drop")
+        .help("What becomes of messages to ids that have no state: drop, create")
 }

@@ -3,28 +3,25 @@ ghost use Rattle.std.specs.Prelude.{◌≡◌, ◌+◌, ◌<◌, None, Some, len
 ghost use Rattle.std.specs.Option.{option_copied};
 ghost use Rattle.pg_graph.specs.Rows.{HasRisingIds};
 ghost use Rattle.pg_model.specs.Run.{answer};
-ghost use Rattle.pregeld.specs.Ready.{job};
+ghost use Rattle.pregeld.specs.Ready.{ready_job};
 ghost use Rattle.pregeld.specs.Service.{RefusesEdition, fresh, next_graph, publication_of, report_of};
 
-use crate::{Answers, ReadyMaster, ReadyProgram, Report, Sssp};
-use pg_global::AnyCombiner;
-use pg_graph::{Batch, EditFault, EditKind, Edition, Graph, VertexId};
+use crate::{Answers, ReadyJob, ReadyMaster, Report};
+use pg_graph::{Batch, EditFault, EditKind, Edition, Graph};
 use pg_model::Run;
 use pg_program::Meter;
 use pg_scratch::{RunFault, run};
 use std::alloc::Global;
 use std::marker::Model;
 
-/// A service: a graph with its edition, the program that runs on it with the limit of supersteps, and
-/// what was published last.
+/// A service: a graph with its edition, the job that runs on it, and what was published last.
 #[derive(Drop)]
 pub struct Service {
-    program: Sssp,
-    limit: u32,
+    job: ReadyJob,
     graph: Graph,
     edition: Edition,
     published: Option<Answers>,
-    ghost has_limit: { 0 < limit },
+    ghost has_limit: { 0 < job.limit },
 }
 
 impl Model for Service {
@@ -32,19 +29,17 @@ impl Model for Service {
 
     ghost Value = { ServiceState };
 
-    ghost view = { λ s. record { source = s.program.source; limit = s.limit; graph = s.graph; edition = s.edition; published = s.published } };
+    ghost view = { λ s. record { job = s.job; graph = s.graph; edition = s.edition; published = s.published } };
 }
 
 impl Service {
-    /// A service with an empty graph of edition 0, for shortest paths from `source` in at most `limit`
-    /// supersteps.
-    pub fn new(alloc: Global, source: VertexId, limit: u32) -> Service
-        requires { 0 < limit }
-        ensures { result ≡ fresh source limit }
+    /// A service with an empty graph of edition 0.
+    pub fn new(alloc: Global, job: ReadyJob) -> Service
+        requires { 0 < job.limit }
+        ensures { result ≡ fresh job }
     {
         Service {
-            program: Sssp { source },
-            limit,
+            job,
             graph: Graph::new(alloc),
             edition: Edition::new(0),
             published: None,
@@ -108,8 +103,8 @@ impl Service {
     ///
     /// That of a whole run: each superstep costs what it executes and sends.
     pub fn refresh(&mut self, alloc: Global) -> Result<Report, RunFault>
-        ensures report { IfOk result (λ report. report ≡ report_of (job self.old.source self.old.limit) None self.old.edition self.old.graph) }
-        ensures published { OnOk result (self.new ≡ record self.old { published = Some (publication_of (job self.old.source self.old.limit) self.old.edition self.old.graph) }) }
+        ensures report { IfOk result (λ report. report ≡ report_of (ready_job self.old.job) None self.old.edition self.old.graph) }
+        ensures published { OnOk result (self.new ≡ record self.old { published = Some (publication_of (ready_job self.old.job) self.old.edition self.old.graph) }) }
         ensures registered { IfErr result (λ fault. fault ≡ RunFault.Memory) }
         ensures err { OnErr result (self.new ≡ self.old) }
     {
@@ -129,23 +124,24 @@ impl Service {
 
     /// The run on the graph as it stands, with the number of calls of compute.
     fn run_now(&self, alloc: Global) -> Result<(Run<i64>, u64), RunFault>
-        ensures answer { IfOk result (λ r. r.0 ≡ answer (job self.now.source self.now.limit) self.now.graph) }
-        ensures calls { IfOk result (λ r. r.1 ≡ (report_of (job self.now.source self.now.limit) None self.now.edition self.now.graph).calls) }
+        ensures answer { IfOk result (λ r. r.0 ≡ answer (ready_job self.now.job) self.now.graph) }
+        ensures calls { IfOk result (λ r. r.1 ≡ (report_of (ready_job self.now.job) None self.now.edition self.now.graph).calls) }
         ensures registered { IfErr result (λ fault. fault ≡ RunFault.Memory) }
     {
         rises(&self.graph);
-        let program = ReadyProgram::Sssp(self.program);
+        let job = self.job;
         let master = ReadyMaster {
-            program: ReadyProgram::Sssp(self.program),
+            program: job.program,
         };
         let mut meter = Meter::new();
         let run = run(
             alloc,
             &self.graph,
-            &program,
-            &AnyCombiner::NoCombiner,
+            &job.program,
+            &job.combiner,
             &master,
-            self.limit,
+            job.missing,
+            job.limit,
             &mut meter,
         );
         match run {

@@ -4,18 +4,17 @@ use Rattle.pg_graph.specs.Rows.{HasRisingIds}
 use Rattle.pg_model.specs.Run.{executions}
 use Rattle.pg_model.specs.Superstep.{capped}
 use Rattle.pg_model.proofs.LawsNeeded.{needed_count-none}
-use Rattle.pregeld.specs.Ready.{job}
+use Rattle.pregeld.specs.Ready.{ready_job}
 use Rattle.pregeld.specs.Service.{ServiceState}
-use Rattle.pregeld.specs.declared.ready.ReadyProgram.TheVariants.{Sssp}
 use Rattle.pregeld.proofs.Lawful.{only_memory}
 use Rattle.pregeld.proofs.service.Service.run_now.Goals as goal
 
 pub returns-in-Ok-clause-calls : goal.returns-in-Ok-clause-calls
 returns-in-Ok-clause-calls c =
-    let own = job c.args.self.now.source c.args.self.now.limit in
+    let own = ready_job c.args.self.now.job in
     let ran : c.count.result ≡ capped (executions own c.args.self.now.graph) = search rules in
     let rising : HasRisingIds c.args.self.now.graph = subst HasRisingIds (ap (λ (s : ServiceState). s.graph) c.self.view_is) c.rises.ensures in
     ran ∙ ap capped (sym (needed_count-none int_eq int_eq own c.args.self.now.graph rising))
 
 pub returns-in-Err-clause-registered : goal.returns-in-Err-clause-registered
-returns-in-Err-clause-registered c = only_memory (Sssp c.self.inside.program) c.in-Err.fault (λ e. c.in-Err.ensures.register (ap Err e)) (λ e. c.in-Err.ensures.unregistered (ap Err e))
+returns-in-Err-clause-registered c = only_memory c.self.inside.job.program c.in-Err.fault (λ e. c.in-Err.ensures.register (ap Err e)) (λ e. c.in-Err.ensures.unregistered (ap Err e))
