@@ -2,6 +2,8 @@
 #![tactic(auto)]
 
 #[cfg(test)]
+mod made;
+#[cfg(test)]
 mod programs;
 #[cfg(test)]
 mod runs;

@@ -1,5 +1,5 @@
 use pg_global::{AnyCombiner, NoMaster};
-use pg_graph::{Batch, Edges, Edit, Graph, Superstep, VertexId};
+use pg_graph::{Batch, Edges, Edit, Graph, Missing, Superstep, VertexId};
 use pg_model::{Ending, Sequence};
 use pg_program::{Computation, Cx, EdgeRoom, Meter, Plain, Tally, Vertex, View};
 use pg_scratch::run;
@@ -105,7 +105,10 @@ fn answers(
     let graph = graph_of(rt, alloc, small)?;
     let master = ReadyMaster { program: *program };
     let mut meter = Meter::new();
-    let answer = run(alloc, &graph, program, &combiner, &master, 1000, &mut meter);
+    let missing = Missing::Drop;
+    let answer = run(
+        alloc, &graph, program, &combiner, &master, missing, 1000, &mut meter,
+    );
     let answer = answer.expect(rt, "an answer");
     values_are(rt, answer.values.as_slice(), wanted.values);
     assert_eq!(rt; answer.aggregates.as_slice(), wanted.aggregates);
@@ -396,10 +399,10 @@ fn sender_order(rt: HostRuntime) -> Result<(), Fail> {
         edges: &[(1, 3, 1), (2, 3, 1)],
     };
     let graph = graph_of(&rt, alloc, &small)?;
-    let combiner = AnyCombiner::NoCombiner;
+    let (combiner, missing) = (AnyCombiner::NoCombiner, Missing::Drop);
     let mut meter = Meter::new();
     let answer = run(
-        alloc, &graph, &Tally, &combiner, &NoMaster, 1000, &mut meter,
+        alloc, &graph, &Tally, &combiner, &NoMaster, missing, 1000, &mut meter,
     );
     let answer = answer.expect(&rt, "an answer");
     assert_eq!(rt; (answer.supersteps, meter.count()), (2, 4));

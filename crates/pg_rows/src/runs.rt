@@ -1,9 +1,9 @@
 use pg_global::{AnyCombiner, NoMaster};
-use pg_graph::{Batch, Edit, Edition, Graph, VertexId};
+use pg_graph::{Batch, Edit, Edition, Graph, Missing, VertexId};
 use pg_model::{Ending, Run};
 use pg_program::Meter;
 use pg_scratch::{RunFault, run};
-use pregeld::{ReadyMaster, ReadyProgram, ServeFault, Service, Sssp, serve, start};
+use pregeld::{ReadyJob, ReadyMaster, ReadyProgram, ServeFault, Service, Sssp, serve, start};
 use std::alloc::Global;
 use std::io::Write;
 use std::process::Abort;
@@ -285,6 +285,18 @@ fn id(number: u64) -> Result<VertexId, Fail> {
 }
 
 // The graph of 1 to 2 of weight 5 and 2 to 3 of weight 1.
+/// Shortest paths from a source.
+pub(crate) fn shortest_paths(source: VertexId) -> ReadyJob
+    ensures { 0 < result.limit }
+{
+    ReadyJob {
+        program: ReadyProgram::Sssp(Sssp { source }),
+        combiner: AnyCombiner::NoCombiner,
+        missing: Missing::Drop,
+        limit: 1000,
+    }
+}
+
 fn two_hops_batch(alloc: Global) -> Result<Batch, Fail> {
     let mut batch = Batch::new(alloc);
     for number in 1..4 {
@@ -316,15 +328,15 @@ fn runs(rt: HostRuntime) -> Result<(), Fail> {
     let master = ReadyMaster {
         program: ReadyProgram::Sssp(program),
     };
-    let combiner = AnyCombiner::NoCombiner;
+    let (combiner, missing) = (AnyCombiner::NoCombiner, Missing::Drop);
     let mut meter = Meter::new();
     let answer = run(
-        alloc, &graph, &program, &combiner, &master, 1000, &mut meter,
+        alloc, &graph, &program, &combiner, &master, missing, 1000, &mut meter,
     );
     is_two_hops(&rt, &answer.expect(&rt, "an answer"));
     assert_eq!(&rt; meter.count(), 5);
     let refused = run(
-        alloc, &graph, &program, &combiner, &NoMaster, 1000, &mut meter,
+        alloc, &graph, &program, &combiner, &NoMaster, missing, 1000, &mut meter,
     );
     assert_eq!(&rt; refused.err(), Some(RunFault::Unregistered));
     assert_eq!(&rt; meter.count(), 5);
@@ -334,7 +346,7 @@ fn runs(rt: HostRuntime) -> Result<(), Fail> {
 #[test]
 fn services(rt: HostRuntime) -> Result<(), Fail> {
     let alloc = rt.alloc();
-    let mut service = Service::new(alloc, id(1)?, 1000);
+    let mut service = Service::new(alloc, shortest_paths(id(1)?));
     assert!(&rt; service.answers().is_none());
     let batch = two_hops_batch(alloc)?;
     assert_eq!(&rt; service.edit(alloc, &batch).ok(), Some(Edition::new(1)));
@@ -352,7 +364,7 @@ fn services(rt: HostRuntime) -> Result<(), Fail> {
 #[test]
 fn a_writer_that_is_full(rt: HostRuntime) -> Result<(), Fail> {
     let alloc = rt.alloc();
-    let mut service = Service::new(alloc, id(1)?, 1000);
+    let mut service = Service::new(alloc, shortest_paths(id(1)?));
     let mut reader: &[u8] = TWO_HOPS;
     let mut room = [0_u8; 4];
     let mut writer = room.as_mut_slice();

@@ -1,4 +1,5 @@
 // Sessions whose reader or writer fails in mid-stream.
+use crate::runs::shortest_paths;
 use pg_graph::VertexId;
 use pregeld::{ServeFault, Service, serve};
 use std::alloc::Global;
@@ -79,7 +80,7 @@ fn edition_after(lines: usize) -> u64 {
 
 fn service(alloc: Global) -> Result<Service, Fail> {
     let source = VertexId::new(1).ok_or("an id")?;
-    Ok(Service::new(alloc, source, 1000))
+    Ok(Service::new(alloc, shortest_paths(source)))
 }
 
 // A session whose nth read fails has answered the commands that were read until then, and no other.

@@ -10,11 +10,12 @@ use pg_global::{
     AnyAggregator, AnyCombiner, MasterCompute, MasterState, MessageCombiner, NoMaster,
     RegisterFault, Registry,
 };
-use pg_graph::{Batch, Edit, Graph, Memory, VertexId};
+use pg_graph::{Batch, Edit, Graph, Memory, Missing, VertexId};
 use pg_model::{Declared, Place, Run};
 use pg_program::{Computation, Cx, Meter, Vertex};
 use std::alloc::Global;
 use std::fmt::Write;
+use std::process::Abort;
 use std::test::Fail;
 
 /// The combiner that keeps the least message.
@@ -264,6 +265,19 @@ fn distances<C: MessageCombiner<i64>>(
 ) -> Result<String, Fail>
     requires { 0 < limit }
 {
+    distances_by(alloc, graph, combiner, Missing::Drop, limit)
+}
+
+// The distances from 1, under a policy for messages to nobody.
+fn distances_by<C: MessageCombiner<i64>>(
+    alloc: Global,
+    graph: &Graph,
+    combiner: &C,
+    missing: Missing,
+    limit: u32,
+) -> Result<String, Fail>
+    requires { 0 < limit }
+{
     let program = FirstDistance { source: id(1)? };
     let mut meter = Meter::new();
     let answer = run(
@@ -284,6 +298,7 @@ fn relayed(alloc: Global, graph: &Graph, halts_at: u32, limit: u32) -> Result<St
         &Relay,
         &AnyCombiner::NoCombiner,
         &master,
+        Missing::Drop,
         limit,
         &mut meter,
     )?;
@@ -383,20 +398,80 @@ fn an_empty_graph_has_one_superstep(rt: HostRuntime) -> Result<(), Fail> {
 #[test]
 fn refusals_leave_the_meter(rt: HostRuntime) -> Result<(), Fail> {
     let alloc = rt.alloc();
-    let combiner = AnyCombiner::NoCombiner;
+    let (combiner, missing) = (AnyCombiner::NoCombiner, Missing::Drop);
     let graph = graph_of(alloc, &[(1, 10), (2, 20)], &[])?;
     let mut meter = Meter::new();
     let master = SetsFive { halts_at: 0 };
-    let answer = run(alloc, &graph, &Relay, &combiner, &master, 1, &mut meter)?;
+    let answer = run(
+        alloc, &graph, &Relay, &combiner, &master, missing, 1, &mut meter,
+    )?;
     assert_eq!(rt; (answer.supersteps, meter.count()), (1, 2));
     // Places 0 and 1 are declared, and not registered.
-    let refused = run(alloc, &graph, &Relay, &combiner, &NoMaster, 1, &mut meter);
+    let refused = run(
+        alloc, &graph, &Relay, &combiner, &NoMaster, missing, 1, &mut meter,
+    );
     assert_eq!(rt; refused.err(), Some(RunFault::Unregistered));
     assert_eq!(rt; meter.count(), 2);
     // So they are here, but what is to be registered has no name.
-    let refused = run(alloc, &graph, &Relay, &combiner, &Nameless, 1, &mut meter);
+    let refused = run(
+        alloc, &graph, &Relay, &combiner, &Nameless, missing, 1, &mut meter,
+    );
     assert_eq!(rt; refused.err(), Some(RunFault::Register));
     assert_eq!(rt; meter.count(), 2);
+    Ok(())
+}
+
+#[test]
+fn messages_make_vertices(rt: HostRuntime) -> Result<(), Fail> {
+    let alloc = rt.alloc();
+    let edges = [(1, 2, 1), (1, 9, 1), (2, 8, 1), (2, 0, 3)];
+    let graph = graph_of(alloc, &[(1, 0), (2, 0)], &edges)?;
+    let limits = [
+        (
+            1,
+            "1=0 2=9223372036854775807 | | LimitReached 1 | sent 2 dropped 0 calls 2",
+        ),
+        (
+            2,
+            "1=0 2=1 9=1 | | LimitReached 2 | sent 4 dropped 0 calls 4",
+        ),
+        (
+            3,
+            "0=4 1=0 2=1 8=2 9=1 | | Finished 3 | sent 4 dropped 0 calls 6",
+        ),
+    ];
+    for (limit, wanted) in limits {
+        let text = distances_by(alloc, &graph, &Least, Missing::Create, limit)?;
+        assert_eq!(rt; text.as_str(), wanted);
+        let text = distances_by(
+            alloc,
+            &graph,
+            &AnyCombiner::NoCombiner,
+            Missing::Create,
+            limit,
+        )?;
+        assert_eq!(rt; text.as_str(), wanted);
+    }
+    Ok(())
+}
+
+// The least of the messages from two senders makes the vertex.
+#[test]
+fn messages_to_nobody_are_combined(rt: HostRuntime) -> Result<(), Fail> {
+    let alloc = rt.alloc();
+    let edges = [(1, 2, 1), (1, 3, 1), (2, 9, 7), (3, 9, -5)];
+    let graph = graph_of(alloc, &[(1, 0), (2, 0), (3, 0)], &edges)?;
+    let text = distances_by(alloc, &graph, &Least, Missing::Create, 10)?;
+    assert_eq!(rt;
+        text.as_str(),
+        "1=0 2=1 3=1 9=-4 | | Finished 3 | sent 4 dropped 0 calls 6"
+    );
+    let combiner = AnyCombiner::NoCombiner;
+    let text = distances_by(alloc, &graph, &combiner, Missing::Create, 10)?;
+    assert_eq!(rt;
+        text.as_str(),
+        "1=0 2=1 3=1 9=8 | | Finished 3 | sent 4 dropped 0 calls 6"
+    );
     Ok(())
 }
 
@@ -404,23 +479,45 @@ fn refusals_leave_the_meter(rt: HostRuntime) -> Result<(), Fail> {
 // the meter, and doesn't change the answer of the next run.
 #[test]
 fn a_refused_growth_leaves_the_meter(rt: HostRuntime) -> Result<(), Fail> {
-    let alloc = rt.alloc();
+    let wanted = [
+        (
+            Missing::Drop,
+            "1=0 2=1 3=1 4=-4 | | Finished 3 | sent 5 dropped 1 calls 7",
+        ),
+        (
+            Missing::Create,
+            "1=0 2=1 3=1 4=-4 9=2 | | Finished 3 | sent 5 dropped 0 calls 8",
+        ),
+    ];
+    for (missing, wanted) in wanted {
+        a_refused_growth(&rt, rt.alloc(), missing, wanted)?;
+    }
+    Ok(())
+}
+
+fn a_refused_growth(
+    rt: &impl Abort,
+    alloc: Global,
+    missing: Missing,
+    wanted: &str,
+) -> Result<(), Fail> {
     let edges = [(1, 2, 1), (1, 3, 1), (2, 4, 1), (3, 4, -5), (3, 9, 1)];
     let graph = graph_of(alloc, &[(1, 0), (2, 0), (3, 0), (4, 0)], &edges)?;
     let program = FirstDistance { source: id(1)? };
     let mut meter = Meter::new();
-    let first = run(alloc, &graph, &program, &Least, &NoMaster, 10, &mut meter);
+    let first = run(
+        alloc, &graph, &program, &Least, &NoMaster, missing, 10, &mut meter,
+    );
     let answer = match first {
         Ok(answer) => answer,
         Err(fault) => {
             assert_eq!(rt; fault, RunFault::Memory);
             assert_eq!(rt; meter.count(), 0);
-            run(alloc, &graph, &program, &Least, &NoMaster, 10, &mut meter)?
+            run(
+                alloc, &graph, &program, &Least, &NoMaster, missing, 10, &mut meter,
+            )?
         }
     };
-    assert_eq!(rt;
-        text_of(alloc, &answer, meter.count())?.as_str(),
-        "1=0 2=1 3=1 4=-4 | | Finished 3 | sent 5 dropped 1 calls 7"
-    );
+    assert_eq!(rt; text_of(alloc, &answer, meter.count())?.as_str(), wanted);
     Ok(())
 }
