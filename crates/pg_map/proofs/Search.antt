@@ -48,7 +48,7 @@ module _ {X : Type 0} where
   key_at : (es : List (ℕ × X)) (i : ℕ) (d : ℕ × X) → i < length es → get_or (keys_of es) i d.0 ≡ (get_or es i d).0
   key_at es i d h = get_or-map (λ (e : ℕ × X). e.0) es i d d.0 h
 
-  rises : (es : List (ℕ × X)) (i j : ℕ) (d : ℕ × X) → IsStrictlySortedBy nat_cmp (keys_of es) → i ≤ j → j < length es → (get_or es i d).0 ≤ (get_or es j d).0
+  pub rises : (es : List (ℕ × X)) (i j : ℕ) (d : ℕ × X) → IsStrictlySortedBy nat_cmp (keys_of es) → i ≤ j → j < length es → (get_or es i d).0 ≤ (get_or es j d).0
   rises es i j d rising h within =
       elim (cases_lt i j) [
         | inl less ↦ omega (arith, below_from_sorted (keys_of es) i j d.0 rising less (omega (arith, length-keys_of es)), key_at es i d (omega arith), key_at es j d within)
