@@ -7,3 +7,4 @@ pub mod Edit
 pub mod EditKind
 pub mod Places
 pub mod Rows
+pub use Rattle.pg_map.specs.Entries

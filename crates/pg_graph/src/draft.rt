@@ -24,12 +24,11 @@ const EDGE_LIMIT: u64 = 1 << 24;
 /// No batch has more edits.
 const BATCH_LIMIT: usize = 100_000;
 
-/// What becomes of vertices, by rising id: a row, or none where a vertex is removed. It says whether
-/// one may be new to the graph, and how many edges the graph has then.
+/// What becomes of vertices, by rising id: a row, or none where a vertex is removed. It says how many
+/// edges the graph has then.
 #[derive(Drop)]
 pub(crate) struct Changes {
     pub(crate) rows: Vec<(VertexId, Option<Row>)>,
-    pub(crate) adds_vertices: bool,
     pub(crate) edges: u64,
 }
 
@@ -42,7 +41,6 @@ pub(crate) struct Draft<'a> {
     changes: BTreeMap<VertexId, Option<DraftRow>>,
     vertices: u64,
     edges: u64,
-    adds_vertices: bool,
 }
 
 impl<'a> Model for Draft<'a> {
@@ -71,7 +69,6 @@ impl<'a> Draft<'a> {
             changes: BTreeMap::new(alloc),
             vertices: graph.vertices(),
             edges: graph.edges(),
-            adds_vertices: false,
         }
     }
 
@@ -108,7 +105,6 @@ impl<'a> Draft<'a> {
         }
         Ok(Changes {
             rows: changes,
-            adds_vertices: self.adds_vertices,
             edges: self.edges,
         })
     }
@@ -140,7 +136,6 @@ impl<'a> Draft<'a> {
         }
         put(&mut self.changes, id, Some(DraftRow::new(input)))?;
         self.vertices += 1;
-        self.adds_vertices = true;
         Ok(self)
     }
 
