@@ -6,7 +6,7 @@ use Rattle.std.specs.Map.{remove_entry}
 use Rattle.std.specs.Option.{option_map, unwrap_or}
 use Rattle.std.proofs.lemmas.Bool.{cases_eq}
 use Rattle.pg_map.specs.Entries.{ChangesRise, with_change, with_changes}
-use Rattle.pg_graph.specs.Changes.{Changes, changed_row_at}
+use Rattle.pg_graph.specs.Changes.{Changes, changed_row_at, degree_of}
 use Rattle.pg_graph.specs.Draft.{IsCounted, BecomesBy, RefusesEdit}
 use Rattle.pg_graph.specs.Edit.{edited, vertex_limit, edge_limit}
 use Rattle.pg_graph.specs.Rows.{Rows, HasRisingIds, row_at, with_row, without_row, vertex_count, edge_count}
@@ -17,17 +17,17 @@ use Rattle.pg_graph.specs.declared.graph.Row.{Row}
 use Rattle.pg_map.proofs.Changing.{rises-changes, value_at-with_changes, with_changes-insert, insert-remove}
 use Rattle.pg_map.proofs.Rising.{find, find-insert_same, find-insert_other, rises-insert, length-insert_absent, length-insert_present, length-remove_present, sum-insert, sum-remove}
 
--- how many edges a row has, if it is there
-abbrev degree_of : Option Row → ℕ
-degree_of row = unwrap_or (option_map (λ (r : Row). length r.edges) row) 0
-
 -- ---- of one graph
 
-edges-with_row : (rows : Rows) (id : ℕ) (row : Row) → HasRisingIds rows → edge_count (with_row id row rows) + degree_of (row_at id rows) ≡ edge_count rows + length row.edges
-edges-with_row rows id row rising = sum-insert (λ (r : Row). length r.edges) rows id row rising
+degree_is : (row : Option Row) → degree_of row ≡ unwrap_or (option_map (λ (r : Row). length r.edges) row) 0
+degree_is None = refl
+degree_is (Some row) = refl
 
-edges-without_row : (rows : Rows) (id : ℕ) → edge_count (without_row id rows) + degree_of (row_at id rows) ≡ edge_count rows
-edges-without_row rows id = sum-remove (λ (r : Row). length r.edges) rows id
+pub edges-with_row : (rows : Rows) (id : ℕ) (row : Row) → HasRisingIds rows → edge_count (with_row id row rows) + degree_of (row_at id rows) ≡ edge_count rows + length row.edges
+edges-with_row rows id row rising = omega (arith, sum-insert (λ (r : Row). length r.edges) rows id row rising, degree_is (row_at id rows))
+
+pub edges-without_row : (rows : Rows) (id : ℕ) → edge_count (without_row id rows) + degree_of (row_at id rows) ≡ edge_count rows
+edges-without_row rows id = omega (arith, sum-remove (λ (r : Row). length r.edges) rows id, degree_is (row_at id rows))
 
 degree-le : (rows : Rows) (id : ℕ) (row : Row) → row_at id rows ≡ Some row → length row.edges ≤ edge_count rows
 degree-le rows id row there = omega (arith, edges-without_row rows id, ap degree_of there)

@@ -1,6 +1,8 @@
 pub mod AtPlace
 pub mod Batches
+pub mod Dealing
 pub mod Drafting
 pub mod Edited
 pub mod Laws
+pub mod RowLaw
 pub mod Search

@@ -1,5 +1,5 @@
 -- Changes of a graph: what becomes of vertices, by rising id.
-use Rattle.std.specs.Prelude.{ℕ, List, Option, unwrap_or}
+use Rattle.std.specs.Prelude.{ℕ, List, length, Option, None, Some, unwrap_or}
 use Rattle.std.specs.BTreeMap.{is_at}
 use Rattle.std.specs.Ordering.{nat_cmp}
 use Rattle.std.specs.Map.{lookup}
@@ -13,3 +13,8 @@ Changes = List (ℕ × Option Row)
 -- what a vertex has after the changes
 abbrev pub changed_row_at : ℕ → Changes → Rows → Option Row
 changed_row_at id changes rows = unwrap_or (lookup (is_at (nat_cmp id)) changes) (row_at id rows)
+
+-- how many edges a row has, if it is there
+abbrev pub degree_of : Option Row → ℕ
+degree_of None = 0
+degree_of (Some row) = length row.edges

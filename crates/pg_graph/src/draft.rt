@@ -6,7 +6,7 @@ ghost use Rattle.std.specs.Ordering.{nat_cmp};
 ghost use Rattle.pg_graph.specs.Changes.{changed_row_at};
 
 mod listed;
-mod row;
+pub(crate) mod row;
 
 use crate::entries::put;
 use crate::{Batch, Edit, EditFault, EditKind, Graph, Memory, Row, VertexId};

@@ -6,6 +6,7 @@ mod edges;
 mod edit;
 mod entries;
 mod graph;
+mod grouped;
 
 pub use edges::Edges;
 pub use edit::{Batch, Edit, EditFault, EditKind};

@@ -10,7 +10,7 @@ use Rattle.pg_map.specs.Entries.{HasRisingIds, ChangesRise, entries_from, with_c
 use Rattle.pg_map.specs.declared.chunk.Chunk.{Chunk}
 use Rattle.pg_map.proofs.Rising.{find}
 use Rattle.pg_map.proofs.Search.{rises}
-use Rattle.pg_map.proofs.Parts.{Below, From, from_weaker, from_first, above_first, below_middle, rises_left, rises_right, none_below, none_from, find-left, find-right, none_kept, all_kept, from-append, changes_in_parts}
+use Rattle.pg_map.proofs.Parts.{Below, From, from_weaker, from_first, above_first, below_middle, rises_left, rises_right, none_below, none_from, find-left, find-right, none_kept, all_kept, from-append, changes_in_parts, split_all}
 
 module _ {X : Type 0} where
   -- ---- one chunk and the others
@@ -203,12 +203,7 @@ module _ {X : Type 0} where
   pub parted : (m : ℕ) (cs : List (ℕ × Option X)) (i : ℕ) → i ≤ length cs
       → ((k : ℕ) (x : ℕ × Option X) → k < i → (get_or cs k x).0 < m) → ((k : ℕ) (x : ℕ × Option X) → i ≤ k → k < length cs → m ≤ (get_or cs k x).0)
       → Below m (take i cs) × From m (drop i cs)
-  parted m [] zero within low high = (tt, tt)
-  parted m [] (suc i) within low high = absurd (omega arith)
-  parted m (c ∷ cs) zero within low high = (tt, (high 0 c (omega arith) (omega arith), (parted m cs 0 (omega arith) (λ k x h. absurd (omega arith)) (λ k x h g. high (suc k) x (omega arith) (omega arith))).1))
-  parted m (c ∷ cs) (suc i) within low high =
-      let rest = parted m cs i (omega arith) (λ k x h. low (suc k) x (omega arith)) (λ k x h g. high (suc k) x (omega arith) (omega arith)) in
-      ((low 0 c (omega arith), rest.0), rest.1)
+  parted m cs i within low high = split_all (λ x. x.0 < m) (λ x. m ≤ x.0) cs i within low high
 
   -- where a search parts them
   pub cut_at : (chunks : List (Chunk X)) (c : Chunk X) (cs : List (Chunk X)) (changes : List (ℕ × Option X)) (i : ℕ) → chunks ≡ c ∷ cs → i ≤ length changes

@@ -1,5 +1,5 @@
 -- Entries in two parts, the ids of one below those of the other: what is found, and what changes make of each.
-use Rattle.std.proofs.Common.{◌≡◌, ℕ, ◌+◌, ◌<◌, ◌≤◌, Bool, true, false, cond, List, [], ◌∷◌, ◌++◌, Option, Some, None, Ordering, is_some, leb, refl, sym, ap, ◌∙◌, subst, arith}
+use Rattle.std.proofs.Common.{◌≡◌, ℕ, zero, suc, ◌+◌, ◌<◌, ◌≤◌, length, get_or, take, drop, Bool, true, false, cond, List, [], ◌∷◌, ◌++◌, Option, Some, None, Ordering, is_some, leb, refl, sym, ap, ◌∙◌, subst, arith}
 use Rattle.std.specs.declared.cmp.Ordering.TheVariants.{Less, Equal, Greater}
 use Rattle.std.specs.Ordering.{nat_cmp, match_ordering}
 use Rattle.std.specs.BTreeMap.{insert_entry, is_at}
@@ -213,3 +213,25 @@ module _ {X : Type 0} where
   changes_in_parts m (c ∷ here) later a b first from below above =
       ap (with_changes (here ++ later)) (change-left c.0 m c.1 a b first.0 above)
       ∙ changes_in_parts m here later (with_change c.0 c.1 a) b first.1 from (below_change c.0 m c.1 a first.0 below) above
+
+-- ---- lists
+
+-- what holds of each element before a place, and of each from it on
+pub split_all : {X : Type 0} (P Q : X → Type 0) (xs : List X) (n : ℕ) → n ≤ length xs → ((k : ℕ) (d : X) → k < n → P (get_or xs k d)) → ((k : ℕ) (d : X) → n ≤ k → k < length xs → Q (get_or xs k d))
+    → AllByRecursion P (take n xs) × AllByRecursion Q (drop n xs)
+split_all P Q [] zero within low high = (tt, tt)
+split_all P Q [] (suc n) within low high = absurd (omega arith)
+split_all P Q (x ∷ xs) zero within low high = (tt, (high 0 x (omega arith) (omega arith), (split_all P Q xs 0 (omega arith) (λ k d h. absurd (omega arith)) (λ k d h g. high (suc k) d (omega arith) (omega arith))).1))
+split_all P Q (x ∷ xs) (suc n) within low high =
+    let rest = split_all P Q xs n (omega arith) (λ k d h. low (suc k) d (omega arith)) (λ k d h g. high (suc k) d (omega arith) (omega arith)) in
+    ((low 0 x (omega arith), rest.0), rest.1)
+
+-- one more entry above all others
+all_push : (k : ℕ) {X : Type 0} (es : List (ℕ × X)) (q : ℕ) (v : X) → AllByRecursion (λ y. nat_cmp k y ≡ Less) (keys_of es) → k < q → AllByRecursion (λ y. nat_cmp k y ≡ Less) (keys_of (es ++ (q, v) ∷ []))
+all_push k [] q v all h = (is_less k q h, tt)
+all_push k (e ∷ es) q v all h = (all.0, all_push k es q v all.1 h)
+
+pub rises_push : {X : Type 0} (es : List (ℕ × X)) (q : ℕ) (v : X) → HasRisingIds es → Below q es → HasRisingIds (es ++ (q, v) ∷ [])
+unfolding IsStrictlySortedBy
+rises_push [] q v rising below = (tt, tt)
+rises_push (e ∷ es) q v rising below = (all_push e.0 es q v rising.0 below.0, rises_push es q v rising.1 below.1)

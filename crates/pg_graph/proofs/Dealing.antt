@@ -1,0 +1,238 @@
+-- The edits of one vertex after another.
+use Rattle.std.proofs.Common.{◌≡◌, ℕ, ◌+◌, ◌<◌, ◌≤◌, ◌⊎◌, inl, inr, Bool, true, false, cond, List, [], ◌∷◌, ◌++◌, length, get_or, take, drop, Option, None, Some, Result, Ok, Err, MatchResult, MatchOption, leb, refl, sym, ap, ◌∙◌, subst, ⊎_elim, arith}
+use Rattle.std.specs.BTreeMap.{is_at}
+use Rattle.std.specs.List.{AllByRecursion, filter}
+use Rattle.std.specs.Ordering.{nat_cmp}
+use Rattle.std.specs.Option.{unwrap_or}
+use Rattle.std.specs.List.Sorted.{IsNonDecreasingBy, IsPartitionPoint}
+use Rattle.std.proofs.lemmas.Bool.{cases_eq, leb-true, leb-false}
+use Rattle.std.proofs.lemmas.List.{append-nil}
+use Rattle.std.proofs.lemmas.List.Elements.{filter-append}
+use Rattle.std.proofs.lemmas.List.Sorted.{IsNonDecreasingBy-drop}
+use Rattle.pg_map.specs.Entries.{ChangesRise, value_at}
+use Rattle.pg_map.proofs.Parts.{split_all, rises_push, find-left, find-right}
+use Rattle.pg_map.proofs.Rising.{at_same, at_other}
+use Rattle.pg_graph.specs.Changes.{Changes, changed_row_at}
+use Rattle.pg_graph.specs.Grouped.{RiseBySource, IsNoLater, IsLeft, IsDone, AreDealt, earlier_of, AreMade, IsFirst}
+use Rattle.pg_graph.specs.RowEdit.{Places, edits_of, is_of, source_of, vertex_after}
+use Rattle.pg_graph.specs.Rows.{Rows, row_at}
+use Rattle.pg_graph.specs.declared.graph.Row.{Row}
+use Rattle.pg_graph.specs.declared.edit.Edit.{Edit}
+use Rattle.pg_graph.specs.declared.edit.EditFault.{EditFault}
+use Rattle.pg_graph.proofs.Batches.{Err_not_Ok, Ok_not_Err, Err_same}
+use Rattle.pg_graph.proofs.RowLaw.{of_same, of_other}
+
+-- ---- the earlier of two faults
+
+earlier_found : (fault : Option EditFault) (found : EditFault) → (earlier_of fault found).position ≤ found.position
+earlier_found None found = omega arith
+earlier_found (Some fault) found = by (leb fault.position found.position) refl
+  where
+    by : (b : Bool) → leb fault.position found.position ≡ b → (cond b fault found).position ≤ found.position
+    by true e = leb-true fault.position found.position e
+    by false e = omega arith
+
+earlier_keeps : (fault : Option EditFault) (found other : EditFault) → IsNoLater fault other → (earlier_of fault found).position ≤ other.position
+earlier_keeps None found other before = absurd before
+earlier_keeps (Some fault) found other before = by (leb fault.position found.position) refl
+  where
+    by : (b : Bool) → leb fault.position found.position ≡ b → (cond b fault found).position ≤ other.position
+    by true e = before
+    by false e = let h = leb-false fault.position found.position e in omega arith
+
+earlier_is : (P : EditFault → Type 0) (fault : Option EditFault) (found : EditFault) → MatchOption fault (Unit {0}) P → P found → P (earlier_of fault found)
+earlier_is P None found old new = new
+earlier_is P (Some fault) found old new = by (leb fault.position found.position)
+  where
+    by : (b : Bool) → P (cond b fault found)
+    by true = old
+    by false = new
+
+-- ---- the edits of a vertex, and those after them
+
+only : (id q : ℕ) (edits : Places) → q ≡ id → AllByRecursion (λ e. source_of e.1 ≡ id) edits → edits_of q edits ≡ edits
+only id q [] same all = refl
+only id q (e ∷ edits) same all = of_same q e.0 e.1 edits (same ∙ sym all.0) ∙ ap (λ l. e ∷ l) (only id q edits same all.1)
+
+none_of : (q : ℕ) (edits : Places) → AllByRecursion (λ e. q ≡ source_of e.1 → ⊥) edits → edits_of q edits ≡ []
+none_of q [] all = refl
+none_of q (e ∷ edits) all = of_other q e.0 e.1 edits all.0 ∙ none_of q edits all.1
+
+all_map : {X : Type 0} (P Q : X → Type 0) (xs : List X) → ((x : X) → P x → Q x) → AllByRecursion P xs → AllByRecursion Q xs
+all_map P Q [] f all = tt
+all_map P Q (x ∷ xs) f all = (f x all.0, all_map P Q xs f all.1)
+
+all_drop : {X : Type 0} (P : X → Type 0) (xs ys : List X) → AllByRecursion P (xs ++ ys) → AllByRecursion P ys
+all_drop P [] ys all = all
+all_drop P (x ∷ xs) ys all = all_drop P xs ys all.1
+
+all_append : {X : Type 0} (P : X → Type 0) (xs ys : List X) → AllByRecursion P xs → AllByRecursion P ys → AllByRecursion P (xs ++ ys)
+all_append P [] ys all more = more
+all_append P (x ∷ xs) ys all more = (all.0, all_append P xs ys all.1 more)
+
+all_both : {X : Type 0} (P Q R : X → Type 0) (xs : List X) → ((x : X) → P x → Q x → R x) → AllByRecursion P xs → AllByRecursion Q xs → AllByRecursion R xs
+all_both P Q R [] f p q = tt
+all_both P Q R (x ∷ xs) f p q = (f x p.0 q.0, all_both P Q R xs f p.1 q.1)
+
+pub record IsTurn (left here later rest : Places) (first : ℕ × Edit) (n : ℕ) : Type 0 where
+  pub next : left ≡ first ∷ rest
+  pub front : here ≡ take n left
+  pub back : later ≡ drop n left
+  pub whole : left ≡ here ++ later
+  pub within : n ≤ length left
+  pub parts : IsPartitionPoint (λ e. leb (source_of e.1) (source_of first.1) ≡ true) (λ e. leb (source_of e.1) (source_of first.1) ≡ false) left n
+
+module _ (rows : Rows) (all left here later rest : Places) (first : ℕ × Edit) (n : ℕ) (changes : Changes) (fault : Option EditFault) (turn : IsTurn left here later rest first n) (dealt : AreDealt rows all left changes fault) where
+  abbrev id : ℕ
+  id = source_of first.1
+
+  lowest : (k : ℕ) (d : ℕ × Edit) → k < length left → id ≤ source_of (get_or left k d).1
+  lowest k d h = subst (λ l. source_of (get_or l 0 d).1 ≤ source_of (get_or left k d).1) turn.next (dealt.left_rise 0 k d (omega arith) h)
+
+  split : AllByRecursion (λ e. source_of e.1 ≡ id) (take n left) × AllByRecursion (λ e. id < source_of e.1) (drop n left)
+  split =
+      split_all (λ e. source_of e.1 ≡ id) (λ e. id < source_of e.1) left n turn.within
+      (λ k d h. let low = leb-true (source_of (get_or left k d).1) id (turn.parts.0 k d (omega arith) h) in let high = lowest k d (omega (arith, turn.within)) in omega arith)
+      (λ k d h g. leb-false (source_of (get_or left k d).1) id (turn.parts.1 k d h g))
+
+  here_of : AllByRecursion (λ e. source_of e.1 ≡ id) here
+  here_of = subst (AllByRecursion (λ e. source_of e.1 ≡ id)) (sym turn.front) split.0
+
+  later_above : AllByRecursion (λ e. id < source_of e.1) later
+  later_above = subst (AllByRecursion (λ e. id < source_of e.1)) (sym turn.back) split.1
+
+  in_parts : (q : ℕ) → edits_of q left ≡ edits_of q here ++ edits_of q later
+  in_parts q = ap (edits_of q) turn.whole ∙ filter-append (is_of q) here later
+
+  none_later : (q : ℕ) → q ≡ id → edits_of q later ≡ []
+  none_later q same = none_of q later (all_map (λ e. id < source_of e.1) (λ e. q ≡ source_of e.1 → ⊥) later (λ e above at. omega arith) later_above)
+
+  all_here : (q : ℕ) → q ≡ id → edits_of q left ≡ here
+  all_here q same = in_parts q ∙ ap (λ l. l ++ edits_of q later) (only id q here same here_of) ∙ ap (λ l. here ++ l) (none_later q same) ∙ append-nil here
+
+  same_later : (q : ℕ) → (q ≡ id → ⊥) → edits_of q left ≡ edits_of q later
+  same_later q apart = in_parts q ∙ ap (λ l. l ++ edits_of q later) (none_of q here (all_map (λ e. source_of e.1 ≡ id) (λ e. q ≡ source_of e.1 → ⊥) here (λ e is at. apart (at ∙ is)) here_of))
+
+  not_done : edits_of id left ≡ [] → ⊥
+  not_done none = let h : first ∷ edits_of id rest ≡ [] = sym (ap (edits_of id) turn.next ∙ of_same id first.0 first.1 rest refl) ∙ none in cc
+
+  is_left : IsLeft id all left changes
+  is_left = ⊎_elim (λ (l : IsLeft id all left changes). l) (λ (d : IsDone rows id all left changes fault). absurd (not_done d.edits)) (dealt.seen id)
+
+  here_is : (q : ℕ) → q ≡ id → here ≡ edits_of q all
+  here_is q same = sym (all_here id refl) ∙ is_left.edits ∙ ap (λ k. edits_of k all) (sym same)
+
+  none_yet : (q : ℕ) → q ≡ id → value_at q changes ≡ None
+  none_yet q same = ap (λ k. value_at k changes) same ∙ is_left.change
+
+  later_rise : RiseBySource later
+  later_rise = subst RiseBySource (sym turn.back) (IsNonDecreasingBy-drop (λ e. source_of e.1) n left dealt.left_rise)
+
+  below_later : AllByRecursion (λ e. AllByRecursion (λ c. c.0 < source_of e.1) changes) later
+  below_later = all_drop (λ e. AllByRecursion (λ c. c.0 < source_of e.1) changes) here later (subst (AllByRecursion (λ e. AllByRecursion (λ c. c.0 < source_of e.1) changes)) turn.whole dealt.below)
+
+  -- a row was found
+  module _ (row : Option Row) (made : Ok row ≡ vertex_after (row_at id rows) here) (changes' : Changes) (grown : changes' ≡ changes ++ (id, row) ∷ []) where
+    at_id : (q : ℕ) → q ≡ id → value_at q changes' ≡ Some row
+    at_id q same =
+        ap (value_at q) grown ∙ find-right q changes ((id, row) ∷ []) (none_yet q same)
+        ∙ ap (λ b. cond b (Some row) None) (ap (λ k. is_at (nat_cmp k) id) same ∙ at_same id)
+
+    elsewhere : (q : ℕ) → (q ≡ id → ⊥) → value_at q changes' ≡ value_at q changes
+    elsewhere q apart = ap (value_at q) grown ∙ find-left q changes ((id, row) ∷ []) (ap (λ b. cond b (Some row) None) (at_other q id apart))
+
+    pub row_found : AreDealt rows all later changes' fault
+    row_found = record {
+      left_rise = later_rise;
+      changes_rise = subst ChangesRise (sym grown) (rises_push changes id row dealt.changes_rise (subst (AllByRecursion (λ e. AllByRecursion (λ c. c.0 < source_of e.1) changes)) turn.next dealt.below).0);
+      below = all_both (λ e. AllByRecursion (λ c. c.0 < source_of e.1) changes) (λ e. id < source_of e.1) (λ e. AllByRecursion (λ c. c.0 < source_of e.1) changes') later
+          (λ e before above. subst (AllByRecursion (λ c. c.0 < source_of e.1)) (sym grown) (all_append (λ c. c.0 < source_of e.1) changes ((id, row) ∷ []) before (above, tt))) below_later later_above;
+      seen = λ q. ⊎_elim
+          (λ (same : q ≡ id). inr (record {
+            edits = none_later q same;
+            told = subst (λ r. MatchResult r (λ x. value_at q changes' ≡ Some x) (IsNoLater fault)) (made ∙ ap (λ k. vertex_after (row_at k rows) here) (sym same) ∙ ap (vertex_after (row_at q rows)) (here_is q same)) (at_id q same);
+          }))
+          (λ (apart : q ≡ id → ⊥). ⊎_elim
+          (λ (l : IsLeft q all left changes). inl (record { edits = sym (same_later q apart) ∙ l.edits; change = elsewhere q apart ∙ l.change }))
+          (λ (d : IsDone rows q all left changes fault). inr (record {
+            edits = sym (same_later q apart) ∙ d.edits;
+            told = still q (vertex_after (row_at q rows) (edits_of q all)) (elsewhere q apart) d.told;
+          }))
+          (dealt.seen q))
+          (cases_eq q id);
+      found = dealt.found;
+    }
+      where
+        still : (q : ℕ) (r : Result (Option Row) EditFault) → value_at q changes' ≡ value_at q changes → MatchResult r (λ x. value_at q changes ≡ Some x) (IsNoLater fault) → MatchResult r (λ x. value_at q changes' ≡ Some x) (IsNoLater fault)
+        still q (Ok x) same told = same ∙ told
+        still q (Err f) same told = told
+
+  -- a fault was found
+  module _ (found : EditFault) (made : Err found ≡ vertex_after (row_at id rows) here) where
+    pub fault_found : AreDealt rows all later changes (Some (earlier_of fault found))
+    fault_found = record {
+      left_rise = later_rise;
+      changes_rise = dealt.changes_rise;
+      below = below_later;
+      seen = λ q. ⊎_elim
+          (λ (same : q ≡ id). inr (record {
+            edits = none_later q same;
+            told = subst (λ r. MatchResult r (λ x. value_at q changes ≡ Some x) (IsNoLater (Some (earlier_of fault found)))) (made ∙ ap (λ k. vertex_after (row_at k rows) here) (sym same) ∙ ap (vertex_after (row_at q rows)) (here_is q same)) (earlier_found fault found);
+          }))
+          (λ (apart : q ≡ id → ⊥). ⊎_elim
+          (λ (l : IsLeft q all left changes). inl (record { edits = sym (same_later q apart) ∙ l.edits; change = l.change }))
+          (λ (d : IsDone rows q all left changes fault). inr (record {
+            edits = sym (same_later q apart) ∙ d.edits;
+            told = still q (vertex_after (row_at q rows) (edits_of q all)) d.told;
+          }))
+          (dealt.seen q))
+          (cases_eq q id);
+      found = earlier_is (λ f. (q : ℕ) × (vertex_after (row_at q rows) (edits_of q all) ≡ Err f)) fault found dealt.found
+          (id, ap (vertex_after (row_at id rows)) (sym (here_is id refl)) ∙ sym made);
+    }
+      where
+        still : (q : ℕ) (r : Result (Option Row) EditFault) → MatchResult r (λ x. value_at q changes ≡ Some x) (IsNoLater fault) → MatchResult r (λ x. value_at q changes ≡ Some x) (IsNoLater (Some (earlier_of fault found)))
+        still q (Ok x) told = told
+        still q (Err f) told = earlier_keeps fault found f told
+
+-- ---- none is dealt with, and all are
+
+pub none_dealt : (rows : Rows) (all : Places) (changes : Changes) → changes ≡ [] → ChangesRise changes → RiseBySource all → AreDealt rows all all changes None
+none_dealt rows all changes none rising rise = record {
+  left_rise = rise;
+  changes_rise = rising;
+  below = nothing all;
+  seen = λ q. inl (record { edits = refl; change = ap (value_at q) none });
+  found = tt;
+}
+  where
+    nothing : (l : Places) → AllByRecursion (λ e. AllByRecursion (λ c. c.0 < source_of e.1) changes) l
+    nothing [] = tt
+    nothing (e ∷ l) = (subst (AllByRecursion (λ c. c.0 < source_of e.1)) (sym none) tt, nothing l)
+
+module _ (rows : Rows) (all left : Places) (changes : Changes) (empty : left ≡ []) where
+  untouched : (q : ℕ) → edits_of q left ≡ edits_of q all → vertex_after (row_at q rows) (edits_of q all) ≡ Ok (row_at q rows)
+  untouched q same = ap (vertex_after (row_at q rows)) (sym same ∙ ap (edits_of q) empty)
+
+  pub all_made : AreDealt rows all left changes None → AreMade rows all changes
+  all_made dealt = record {
+    rise = dealt.changes_rise;
+    told = λ q. ⊎_elim
+        (λ (l : IsLeft q all left changes). untouched q l.edits ∙ ap (λ o. Ok (unwrap_or o (row_at q rows))) (sym l.change))
+        (λ (d : IsDone rows q all left changes None). by q (vertex_after (row_at q rows) (edits_of q all)) d.told)
+        (dealt.seen q);
+  }
+    where
+      by : (q : ℕ) (r : Result (Option Row) EditFault) → MatchResult r (λ x. value_at q changes ≡ Some x) (IsNoLater None) → r ≡ Ok (changed_row_at q changes rows)
+      by q (Ok x) told = ap (λ o. Ok (unwrap_or o (row_at q rows))) (sym told)
+      by q (Err f) told = absurd told
+
+  pub first_of_all : (fault : EditFault) → AreDealt rows all left changes (Some fault) → IsFirst rows all fault
+  first_of_all fault dealt = record {
+    vertex = dealt.found.0;
+    there = dealt.found.1;
+    first = λ q other why. ⊎_elim
+        (λ (l : IsLeft q all left changes). absurd (Ok_not_Err (sym (untouched q l.edits) ∙ why)))
+        (λ (d : IsDone rows q all left changes (Some fault)). let told = subst (λ r. MatchResult r (λ x. value_at q changes ≡ Some x) (IsNoLater (Some fault))) why d.told in told)
+        (dealt.seen q);
+  }
