@@ -1,26 +1,31 @@
 -- The edits of one vertex after another.
-use Rattle.std.proofs.Common.{◌≡◌, ℕ, ◌+◌, ◌<◌, ◌≤◌, ◌⊎◌, inl, inr, Bool, true, false, cond, List, [], ◌∷◌, ◌++◌, length, get_or, take, drop, Option, None, Some, Result, Ok, Err, MatchResult, MatchOption, leb, refl, sym, ap, ◌∙◌, subst, ⊎_elim, arith}
+use Rattle.std.proofs.Common.{◌≡◌, ℕ, ◌+◌, ◌-◌, not, ◌&&◌, is_lt, eqb, ◌<◌, ◌≤◌, ◌⊎◌, inl, inr, Bool, true, false, cond, List, [], ◌∷◌, ◌++◌, length, get_or, take, drop, Option, None, Some, Result, Ok, Err, MatchResult, MatchOption, leb, refl, sym, ap, ◌∙◌, subst, ⊎_elim, arith}
 use Rattle.std.specs.BTreeMap.{is_at}
 use Rattle.std.specs.List.{AllByRecursion, filter}
 use Rattle.std.specs.Ordering.{nat_cmp}
 use Rattle.std.specs.Option.{unwrap_or}
-use Rattle.std.specs.List.Sorted.{IsNonDecreasingBy, IsPartitionPoint}
+use Rattle.std.specs.List.Sorted.{IsNonDecreasingBy, IsPartitionPoint, IsStableByKey, IsStrictlySortedBy, ties}
 use Rattle.std.proofs.lemmas.Bool.{cases_eq, leb-true, leb-false}
-use Rattle.std.proofs.lemmas.List.{append-nil}
+use Rattle.std.proofs.lemmas.List.{append-nil, append_assoc, take_more, take-append-drop}
 use Rattle.std.proofs.lemmas.List.Elements.{filter-append}
 use Rattle.std.proofs.lemmas.List.Sorted.{IsNonDecreasingBy-drop}
-use Rattle.pg_map.specs.Entries.{ChangesRise, value_at}
-use Rattle.pg_map.proofs.Parts.{split_all, rises_push, find-left, find-right}
-use Rattle.pg_map.proofs.Rising.{at_same, at_other}
-use Rattle.pg_graph.specs.Changes.{Changes, changed_row_at}
-use Rattle.pg_graph.specs.Grouped.{RiseBySource, IsNoLater, IsLeft, IsDone, AreDealt, earlier_of, AreMade, IsFirst}
-use Rattle.pg_graph.specs.RowEdit.{Places, edits_of, is_of, source_of, vertex_after}
-use Rattle.pg_graph.specs.Rows.{Rows, row_at}
+use Rattle.std.proofs.lemmas.Bool.Decides.{nat_tests}
+use Rattle.pg_map.specs.Entries.{ChangesRise, value_at, with_change, with_changes}
+use Rattle.pg_map.proofs.Changing.{rises-changes, value_at-with_changes}
+use Rattle.pg_map.proofs.Parts.{split_all, rises_push, rises_left, below_middle, none_below, find-left, find-right}
+use Rattle.pg_map.proofs.Rising.{at_same, at_other, same_entries}
+use Rattle.pg_graph.specs.Changes.{Changes, changed_row_at, degree_of}
+use Rattle.pg_graph.specs.Edit.{all_edited}
+use Rattle.pg_graph.specs.Grouped.{RiseBySource, AreGrouped, IsNoLater, IsLeft, IsDone, AreDealt, earlier_of, AreMade, IsFirst}
+use Rattle.pg_graph.specs.RowEdit.{Places, HasRoom, placed, edits_of, is_of, source_of, vertex_after}
+use Rattle.pg_graph.specs.Rows.{Rows, HasRisingIds, row_at, vertex_count, edge_count}
 use Rattle.pg_graph.specs.declared.graph.Row.{Row}
 use Rattle.pg_graph.specs.declared.edit.Edit.{Edit}
+use Rattle.pg_graph.specs.declared.edit.Edit.TheVariants.{RemoveVertex}
 use Rattle.pg_graph.specs.declared.edit.EditFault.{EditFault}
 use Rattle.pg_graph.proofs.Batches.{Err_not_Ok, Ok_not_Err, Err_same}
-use Rattle.pg_graph.proofs.RowLaw.{of_same, of_other}
+use Rattle.pg_graph.proofs.Drafting.{edges-without_row}
+use Rattle.pg_graph.proofs.RowLaw.{of_same, of_other, edges-change, faults_apart, MakesRows, IsFirstFault, IsByRows, batch_by_rows}
 
 -- ---- the earlier of two faults
 
@@ -197,6 +202,11 @@ module _ (rows : Rows) (all left here later rest : Places) (first : ℕ × Edit)
 
 -- ---- none is dealt with, and all are
 
+pub no_changes : (changes : Changes) → changes ≡ [] → ChangesRise changes
+unfolding IsStrictlySortedBy
+no_changes [] none = tt
+no_changes (c ∷ changes) none = cc
+
 pub none_dealt : (rows : Rows) (all : Places) (changes : Changes) → changes ≡ [] → ChangesRise changes → RiseBySource all → AreDealt rows all all changes None
 none_dealt rows all changes none rising rise = record {
   left_rise = rise;
@@ -236,3 +246,95 @@ module _ (rows : Rows) (all left : Places) (changes : Changes) (empty : left ≡
         (λ (d : IsDone rows q all left changes (Some fault)). let told = subst (λ r. MatchResult r (λ x. value_at q changes ≡ Some x) (IsNoLater (Some fault))) why d.told in told)
         (dealt.seen q);
   }
+
+-- ---- a stable sort groups edits
+
+filter_same : {X : Type 0} (p q : X → Bool) → ((x : X) → p x ≡ q x) → (xs : List X) → filter p xs ≡ filter q xs
+filter_same p q same [] = refl
+filter_same p q same (x ∷ xs) = ap (λ b. cond b (x ∷ filter p xs) (filter p xs)) (same x) ∙ ap (λ l. cond (q x) (x ∷ l) l) (filter_same p q same xs)
+
+tied : (a b : ℕ) → not (is_lt (nat_cmp a b)) && not (is_lt (nat_cmp b a)) ≡ eqb a b
+tied a b = grind (arith, nat_tests)
+
+pub stays_grouped : (edits sorted : Places) → IsStableByKey (λ e. source_of e.1) nat_cmp edits sorted → (q : ℕ) → edits_of q sorted ≡ edits_of q edits
+stays_grouped edits sorted stable q =
+    let as_ties = λ (l : Places). filter_same (λ e. eqb q (source_of e.1)) (ties (λ x y. is_lt (nat_cmp (source_of x.1) (source_of y.1))) (0, RemoveVertex q)) (λ e. sym (tied q (source_of e.1))) l in
+    as_ties sorted ∙ stable (0, RemoveVertex q) ∙ sym (as_ties edits)
+
+-- ---- what is made of the vertices is made of the graph
+
+Ok_same : {X E : Type 0} {x y : X} → ◌≡◌ {A = Result X E} (Ok x) (Ok y) → x ≡ y
+Ok_same h = cc
+
+module _ (rows : Rows) (edits : List Edit) (all : Places) (rising : HasRisingIds rows) (room : HasRoom (vertex_count rows) (edge_count rows) (length edits)) (grouped : AreGrouped edits all) where
+  -- the edits of a vertex, as the law names them
+  placed_is : (q : ℕ) (r : Result (Option Row) EditFault) → vertex_after (row_at q rows) (edits_of q (placed 1 edits)) ≡ r → vertex_after (row_at q rows) (edits_of q all) ≡ r
+  placed_is q r h = ap (vertex_after (row_at q rows)) (grouped.same q) ∙ h
+
+  pub made_of_all : (changes : Changes) → AreMade rows all changes → MakesRows 1 rows edits (with_changes changes rows) × (all_edited 1 rows edits ≡ Ok (with_changes changes rows))
+  made_of_all changes made = by (all_edited 1 rows edits) refl (batch_by_rows 1 rows edits rising room)
+    where
+      same : (now : Rows) → MakesRows 1 rows edits now → now ≡ with_changes changes rows
+      same now makes =
+          same_entries now (with_changes changes rows) makes.rise (rises-changes changes rows rising)
+          (λ q. Ok_same (sym (placed_is q _ (makes.seen q)) ∙ made.told q) ∙ sym (value_at-with_changes changes rows q made.rise rising))
+
+      by : (r : Result Rows EditFault) → all_edited 1 rows edits ≡ r → IsByRows 1 rows edits r → MakesRows 1 rows edits (with_changes changes rows) × (all_edited 1 rows edits ≡ Ok (with_changes changes rows))
+      by (Ok now) e makes = (subst (MakesRows 1 rows edits) (same now makes) makes, e ∙ ap (λ l. Ok l) (same now makes))
+      by (Err fault) e first = absurd (Ok_not_Err (sym (made.told first.vertex) ∙ placed_is first.vertex _ first.there))
+
+  pub first_is : (fault : EditFault) → IsFirst rows all fault → all_edited 1 rows edits ≡ Err fault
+  first_is fault found = by (all_edited 1 rows edits) refl (batch_by_rows 1 rows edits rising room)
+    where
+      there : vertex_after (row_at found.vertex rows) (edits_of found.vertex (placed 1 edits)) ≡ Err fault
+      there = ap (vertex_after (row_at found.vertex rows)) (sym (grouped.same found.vertex)) ∙ found.there
+
+      same : (other : EditFault) → IsFirstFault 1 rows edits other → other ≡ fault
+      same other first =
+          ⊎_elim
+          (λ (at : first.vertex ≡ found.vertex). Err_same (sym first.there ∙ ap (λ q. vertex_after (row_at q rows) (edits_of q (placed 1 edits))) at ∙ there))
+          (λ (apart : first.vertex ≡ found.vertex → ⊥).
+          let before = first.first found.vertex fault there in
+          let after = found.first first.vertex other (placed_is first.vertex _ first.there) in
+          absurd (faults_apart 1 first.vertex found.vertex edits (row_at first.vertex rows) (row_at found.vertex rows) other fault apart first.there there (omega arith)))
+          (cases_eq first.vertex found.vertex)
+
+      by : (r : Result Rows EditFault) → all_edited 1 rows edits ≡ r → IsByRows 1 rows edits r → all_edited 1 rows edits ≡ Err fault
+      by (Ok now) e makes = absurd (Ok_not_Err (sym (makes.seen found.vertex) ∙ there))
+      by (Err other) e first = e ∙ ap (λ f. Err f) (same other first)
+
+-- ---- the edges are counted
+
+with_changes-push : (changes : Changes) (rows : Rows) (key : ℕ) (change : Option Row) → with_changes (changes ++ (key, change) ∷ []) rows ≡ with_change key change (with_changes changes rows)
+with_changes-push [] rows key change = refl
+with_changes-push (c ∷ changes) rows key change = with_changes-push changes (with_change c.0 c.1 rows) key change
+
+module _ (rows : Rows) (changes : Changes) (rising : HasRisingIds rows) (rise : ChangesRise changes) (i : ℕ) (c : ℕ × Option Row) (within : i < length changes) (here : c ≡ get_or changes i c) where
+  abbrev so_far : Rows
+  so_far = with_changes (take i changes) rows
+
+  one_more : take (i + 1) changes ≡ take i changes ++ c ∷ []
+  one_more = take_more changes i c within ∙ ap (λ x. take i changes ++ x ∷ []) (sym here)
+
+  whole : take i changes ++ c ∷ drop (i + 1) changes ≡ changes
+  whole = sym (append_assoc (take i changes) (c ∷ []) (drop (i + 1) changes)) ∙ ap (λ l. l ++ drop (i + 1) changes) (sym one_more) ∙ take-append-drop (i + 1) changes
+
+  parts_rise : ChangesRise (take i changes ++ c ∷ drop (i + 1) changes)
+  parts_rise = subst ChangesRise (sym whole) rise
+
+  unchanged : row_at c.0 so_far ≡ row_at c.0 rows
+  unchanged =
+      value_at-with_changes (take i changes) rows c.0 (rises_left (take i changes) (c ∷ drop (i + 1) changes) parts_rise) rising
+      ∙ ap (λ o. unwrap_or o (row_at c.0 rows)) (none_below c.0 c.0 (take i changes) (omega arith) (below_middle (take i changes) c (drop (i + 1) changes) parts_rise))
+
+  counted : edge_count (with_changes (take (i + 1) changes) rows) + degree_of (row_at c.0 rows) ≡ edge_count so_far + degree_of c.1
+  counted =
+      let step = edges-change so_far (rises-changes (take i changes) rows rising) c.0 c.1 in
+      let now = ap (λ l. edge_count (with_changes l rows)) one_more ∙ ap edge_count (with_changes-push (take i changes) rows c.0 c.1) in
+      omega (arith, step, now, ap degree_of unchanged)
+
+  pub next_counted : (edges before after edges' : ℕ) → edges ≡ edge_count so_far → before ≡ degree_of (row_at c.0 rows) → after ≡ degree_of c.1 → edges' ≡ edges - before + after → before ≤ edges → edges' ≡ edge_count (with_changes (take (i + 1) changes) rows)
+  next_counted edges before after edges' e b a is fits = omega (arith, counted, e, b, a, is, fits)
+
+  pub degree_fits : degree_of (row_at c.0 rows) ≤ edge_count so_far
+  degree_fits = omega (arith, edges-without_row so_far c.0, ap degree_of unchanged)

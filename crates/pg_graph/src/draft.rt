@@ -16,13 +16,13 @@ use std::collections::BTreeMap;
 use std::marker::Model;
 
 /// No graph has more vertices.
-const VERTEX_LIMIT: u64 = 1 << 20;
+pub(crate) const VERTEX_LIMIT: u64 = 1 << 20;
 
 /// No graph has more edges.
-const EDGE_LIMIT: u64 = 1 << 24;
+pub(crate) const EDGE_LIMIT: u64 = 1 << 24;
 
 /// No batch has more edits.
-const BATCH_LIMIT: usize = 100_000;
+pub(crate) const BATCH_LIMIT: usize = 100_000;
 
 /// What becomes of vertices, by rising id: a row, or none where a vertex is removed. It says how many
 /// edges the graph has then.
@@ -57,7 +57,7 @@ impl<'a> Model for Draft<'a> {
 
 impl<'a> Draft<'a> {
     ghost use Rattle.pg_graph.specs.Draft.{BecomesBy, Makes, RefusesEdit};
-    ghost use Rattle.pg_graph.specs.Edit.{batch_edited, batch_limit, too_long_fault, RefusesBatch};
+    ghost use Rattle.pg_graph.specs.Edit.{batch_edited, batch_limit, RefusesBatch};
     ghost use Rattle.pg_graph.specs.Rows.{row_at};
 
     /// A graph with no edits.
@@ -72,17 +72,13 @@ impl<'a> Draft<'a> {
         }
     }
 
-    /// A graph with all edits of a batch. More than 100,000 are refused first.
+    /// A graph with all edits of a batch.
     pub(crate) fn of(alloc: Global, graph: &'a Graph, batch: &Batch) -> Result<Draft<'a>, EditFault>
+        requires { length batch.now ≤ batch_limit }
         ensures ok { IfOk result (λ draft. (draft.0 ≡ graph.now) × (batch_edited graph.now batch.now ≡ Ok draft.1)) }
         ensures err { IfErr result (RefusesBatch graph.now batch.now) }
-        ensures too_long { batch_limit < length batch.now → result ≡ Err too_long_fault }
-        ensures position { IfErr result (λ fault. fault.position ≤ length batch.now) }
     {
         let edits = batch.as_slice();
-        if edits.len() > BATCH_LIMIT {
-            return Err(EditFault::at(BATCH_LIMIT as u64 + 1, EditKind::BatchTooLong));
-        }
         let mut draft = Draft::new(alloc, graph);
         let mut position = 1;
         for edit in edits {

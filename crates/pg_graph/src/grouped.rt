@@ -8,7 +8,7 @@ ghost use Rattle.pg_graph.specs.Draft.{Makes};
 ghost use Rattle.pg_graph.specs.Edit.{batch_edited, RefusesBatch, batch_limit};
 ghost use Rattle.pg_graph.specs.Grouped.{AreGrouped, AreMade, IsFirst, RiseBySource, earlier_of};
 ghost use Rattle.pg_graph.specs.RowEdit.{HasRoom, placed, source_of};
-ghost use Rattle.pg_graph.specs.Rows.{edge_count, vertex_count};
+ghost use Rattle.pg_graph.specs.Rows.{HasRisingIds, edge_count, vertex_count};
 
 mod vertex;
 
@@ -26,6 +26,7 @@ pub(crate) fn changes_by_vertex(
     graph: &Graph,
     batch: &Batch,
 ) -> Result<Changes, EditFault>
+    requires rising { HasRisingIds graph.now }
     requires short { length batch.now ≤ batch_limit }
     requires room { HasRoom (vertex_count graph.now) (edge_count graph.now) (length batch.now) }
     ensures ok { IfOk result (λ changes. Makes graph.now (with_changes changes.rows.items graph.now) changes) }
@@ -33,9 +34,13 @@ pub(crate) fn changes_by_vertex(
     ensures err { IfErr result (RefusesBatch graph.now batch.now) }
 {
     let edits = by_vertex(alloc, batch)?;
-    let rows = dealt_with(alloc, graph, edits.as_slice())??;
-    let edges = edges_after(graph, rows.as_slice())?;
-    Ok(Changes { rows, edges })
+    match dealt_with(alloc, graph, edits.as_slice())? {
+        Ok(rows) => {
+            let edges = edges_after(graph, rows.as_slice())?;
+            Ok(Changes { rows, edges })
+        }
+        Err(fault) => Err(fault),
+    }
 }
 
 /// The edits of a batch with their places from 1, by rising vertex. Those of one vertex keep their order.
@@ -117,7 +122,8 @@ fn earlier(fault: Option<EditFault>, found: EditFault) -> EditFault
 
 /// How many edges a graph has after changes.
 fn edges_after(graph: &Graph, changes: &[(VertexId, Option<Row>)]) -> Result<u64, Memory>
-    requires { ChangesRise changes.now }
+    requires rising { HasRisingIds graph.now }
+    requires changes_rise { ChangesRise changes.now }
     ensures { IfOk result (λ edges. edges ≡ edge_count (with_changes changes.now graph.now)) }
 {
     let mut edges = graph.edges();

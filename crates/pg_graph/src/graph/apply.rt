@@ -1,21 +1,24 @@
 //! A batch of edits, made of a graph at once.
-ghost use Rattle.std.specs.Prelude.{◌≡◌, ◌<◌, ◌≤◌, length, Ok, Err, IfErr, OnOk, OnErr};
+ghost use Rattle.std.specs.Prelude.{◌≡◌, ◌<◌, ◌≤◌, length, Ok, Err, IfOk, IfErr, IsTrue, OnOk, OnErr};
+ghost use Rattle.pg_graph.specs.Edit.{batch_edited, batch_limit, too_long_fault, RefusesBatch};
+ghost use Rattle.pg_graph.specs.RowEdit.{HasRoom};
+ghost use Rattle.pg_graph.specs.Rows.{HasRisingIds, edge_count, vertex_count};
 ghost use Rattle.pg_graph.specs.Draft.{Makes};
 ghost use Rattle.pg_map.specs.Entries.{with_changes};
 
 use super::Graph;
-use crate::draft::{Changes, Draft};
-use crate::{Batch, EditFault, Memory};
+use crate::draft::{BATCH_LIMIT, Changes, Draft, EDGE_LIMIT, VERTEX_LIMIT};
+use crate::grouped::changes_by_vertex;
+use crate::{Batch, EditFault, EditKind, Memory};
 use std::alloc::Global;
 
 impl Graph {
-    ghost use Rattle.pg_graph.specs.Edit.{batch_edited, batch_limit, too_long_fault, RefusesBatch};
-
     /// Makes all edits of a batch, in their order, or none. The first edit that has no result
     /// decides which fault is answered; a batch of more than 100,000 edits is refused first.
     ///
     /// With k edits of a graph of n vertices it takes O(n / 128 + k log(n + k)), and O(d log d) for
     /// each vertex whose edges are edited, where d is how many it has. Other edges are shared as before.
+    /// The edits are made of one vertex after another, unless so many could meet a limit.
     pub fn apply(&mut self, alloc: Global, batch: &Batch) -> Result<(), EditFault>
         ensures ok { OnOk result (batch_edited self.old batch.now ≡ Ok self.new) }
         ensures refused { IfErr result (RefusesBatch self.old batch.now) }
@@ -23,10 +26,25 @@ impl Graph {
         ensures position { IfErr result (λ fault. fault.position ≤ length batch.now) }
         ensures err { OnErr result (self.new ≡ self.old) }
     {
-        let draft = Draft::of(alloc, self, batch)?;
-        let changes = draft.into_changes(alloc)?;
+        let edits = batch.as_slice().len();
+        if edits > BATCH_LIMIT {
+            return Err(EditFault::at(BATCH_LIMIT as u64 + 1, EditKind::BatchTooLong));
+        }
+        let changes = if self.has_room(edits as u64) {
+            changes_by_vertex(alloc, self, batch)?
+        } else {
+            changes_in_order(alloc, self, batch)?
+        };
         self.change(alloc, &changes)?;
         Ok(())
+    }
+
+    /// Whether so many edits can't meet a limit, whichever they are.
+    fn has_room(&self, edits: u64) -> bool
+        ensures room { IsTrue result → HasRoom (vertex_count self.now) (edge_count self.now) edits }
+        ensures rising { HasRisingIds self.now }
+    {
+        edits <= VERTEX_LIMIT - self.vertices() && edits <= EDGE_LIMIT - self.edges()
     }
 
     /// Makes all changes, or none where a growth is refused.
@@ -39,4 +57,16 @@ impl Graph {
         self.total_edges = changes.edges;
         Ok(())
     }
+}
+
+/// What a batch changes, or the first of its edits that has no result, found edit by edit.
+fn changes_in_order(alloc: Global, graph: &Graph, batch: &Batch) -> Result<Changes, EditFault>
+    requires { length batch.now ≤ batch_limit }
+    ensures ok { IfOk result (λ changes. Makes graph.now (with_changes changes.rows.items graph.now) changes) }
+    ensures made { IfOk result (λ changes. batch_edited graph.now batch.now ≡ Ok (with_changes changes.rows.items graph.now)) }
+    ensures err { IfErr result (RefusesBatch graph.now batch.now) }
+{
+    let draft = Draft::of(alloc, graph, batch)?;
+    let changes = draft.into_changes(alloc)?;
+    Ok(changes)
 }
