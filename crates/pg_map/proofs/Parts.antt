@@ -15,7 +15,7 @@ use Rattle.pg_map.proofs.Rising.{find, at_same, at_other}
 less_is : (a b : ℕ) → nat_cmp a b ≡ Less → a < b
 less_is a b h = grind (arith, nat_tests)
 
-is_less : (a b : ℕ) → a < b → nat_cmp a b ≡ Less
+pub is_less : (a b : ℕ) → a < b → nat_cmp a b ≡ Less
 is_less a b h = grind (arith, nat_tests)
 
 is_greater : (a b : ℕ) → b < a → nat_cmp a b ≡ Greater

@@ -12,3 +12,6 @@ pub use number::{Edition, PartitionId, Superstep, VertexId, WorkerId};
 pub use shared::{Map, Share};
 pub use std::alloc::AllocError as Memory;
 pub use walk::{Ids, Iter};
+
+#[cfg(test)]
+mod tests;

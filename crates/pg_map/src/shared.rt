@@ -17,6 +17,12 @@ pub trait Share: Drop {
         ensures { IfOk result (λ copy. copy ≡ self.now) };
 }
 
+impl Share for i64 {
+    fn share(&self) -> Result<i64, Memory> {
+        Ok(*self)
+    }
+}
+
 /// A map from vertex ids. A contract sees the list of (id, value) by rising id.
 ///
 /// The entries lie in chunks that copies share: a copy costs O(1), and a change rebuilds the chunks
