@@ -12,8 +12,8 @@ use Rattle.std.proofs.lemmas.Map.Keys.{sorted_head, sorted_tail}
 use Rattle.std.proofs.lemmas.Map.Lookups.{exact_unsigned}
 use Rattle.pg_graph.specs.EdgeList.{EdgeList, IsRising}
 use Rattle.pg_graph.specs.Places.{IsPlaceOf, IsGapFor}
-use Rattle.pg_graph.proofs.Rising.{rises-insert, rises-remove}
-use Rattle.pg_graph.proofs.Search.{lookup_found, lookup_missing, searchable}
+use Rattle.pg_map.proofs.Rising.{rises-insert, rises-remove}
+use Rattle.pg_map.proofs.Search.{lookup_found, lookup_missing, searchable}
 
 Equal-turned : (a b : ℕ) → nat_cmp a b ≡ Equal → nat_cmp b a ≡ Equal
 Equal-turned a b h = grind (arith, nat_tests)

@@ -5,7 +5,8 @@ use Rattle.std.specs.BTreeMap.{insert_entry, is_at}
 use Rattle.std.specs.Map.{remove_entry}
 use Rattle.std.specs.Option.{option_map, unwrap_or}
 use Rattle.std.proofs.lemmas.Bool.{cases_eq}
-use Rattle.pg_graph.specs.Changes.{Changes, ChangesRise, HasRoomFor, changed_row_at, with_change, with_changes}
+use Rattle.pg_map.specs.Entries.{ChangesRise, with_change, with_changes}
+use Rattle.pg_graph.specs.Changes.{Changes, changed_row_at, degree_of}
 use Rattle.pg_graph.specs.Draft.{IsCounted, BecomesBy, RefusesEdit}
 use Rattle.pg_graph.specs.Edit.{edited, vertex_limit, edge_limit}
 use Rattle.pg_graph.specs.Rows.{Rows, HasRisingIds, row_at, with_row, without_row, vertex_count, edge_count}
@@ -13,20 +14,20 @@ use Rattle.pg_graph.specs.declared.edit.Edit.{Edit}
 use Rattle.pg_graph.specs.declared.edit.EditKind.{EditKind}
 use Rattle.pg_graph.specs.declared.edit.EditKind.TheVariants.{Memory, NoVertex}
 use Rattle.pg_graph.specs.declared.graph.Row.{Row}
-use Rattle.pg_graph.proofs.Changing.{rises-changes, row_at-with_changes, with_changes-insert, insert-remove}
-use Rattle.pg_graph.proofs.Rising.{find, find-insert_same, find-insert_other, rises-insert, length-insert_absent, length-insert_present, length-remove_present, sum-insert, sum-remove}
-
--- how many edges a row has, if it is there
-abbrev degree_of : Option Row → ℕ
-degree_of row = unwrap_or (option_map (λ (r : Row). length r.edges) row) 0
+use Rattle.pg_map.proofs.Changing.{rises-changes, value_at-with_changes, with_changes-insert, insert-remove}
+use Rattle.pg_map.proofs.Rising.{find, find-insert_same, find-insert_other, rises-insert, length-insert_absent, length-insert_present, length-remove_present, sum-insert, sum-remove}
 
 -- ---- of one graph
 
-edges-with_row : (rows : Rows) (id : ℕ) (row : Row) → HasRisingIds rows → edge_count (with_row id row rows) + degree_of (row_at id rows) ≡ edge_count rows + length row.edges
-edges-with_row rows id row rising = sum-insert (λ (r : Row). length r.edges) rows id row rising
+degree_is : (row : Option Row) → degree_of row ≡ unwrap_or (option_map (λ (r : Row). length r.edges) row) 0
+degree_is None = refl
+degree_is (Some row) = refl
 
-edges-without_row : (rows : Rows) (id : ℕ) → edge_count (without_row id rows) + degree_of (row_at id rows) ≡ edge_count rows
-edges-without_row rows id = sum-remove (λ (r : Row). length r.edges) rows id
+pub edges-with_row : (rows : Rows) (id : ℕ) (row : Row) → HasRisingIds rows → edge_count (with_row id row rows) + degree_of (row_at id rows) ≡ edge_count rows + length row.edges
+edges-with_row rows id row rising = omega (arith, sum-insert (λ (r : Row). length r.edges) rows id row rising, degree_is (row_at id rows))
+
+pub edges-without_row : (rows : Rows) (id : ℕ) → edge_count (without_row id rows) + degree_of (row_at id rows) ≡ edge_count rows
+edges-without_row rows id = omega (arith, sum-remove (λ (r : Row). length r.edges) rows id, degree_is (row_at id rows))
 
 degree-le : (rows : Rows) (id : ℕ) (row : Row) → row_at id rows ≡ Some row → length row.edges ≤ edge_count rows
 degree-le rows id row there = omega (arith, edges-without_row rows id, ap degree_of there)
@@ -54,17 +55,7 @@ none_there (Some x) gone = absurd (let f : true ≡ false = gone in cc)
 
 -- ---- of a draft
 
--- where each vertex that gets a row has one, and this one has one if it gets one
-room-put : (changes : Changes) (graph : Rows) (id : ℕ) (change : Option Row) → HasRoomFor changes graph → ((row : Row) → change ≡ Some row → IsSome (row_at id graph)) → HasRoomFor (insert_entry nat_cmp changes id change) graph
-room-put changes graph id change room here q row found =
-    ⊎_elim
-    (λ (e : q ≡ id).
-    let f : Some change ≡ Some (Some row) = sym (ap (λ k. find k (insert_entry nat_cmp changes id change)) e ∙ find-insert_same changes id change) ∙ found in
-    ap (λ k. is_some (row_at k graph)) e ∙ here row cc)
-    (λ (n : q ≡ id → ⊥). room q row (sym (find-insert_other changes id change q n) ∙ found))
-    (cases_eq q id)
-
-module _ (graph : Rows) (changes : Changes) (vertices edges : ℕ) (adds_vertices : Bool) (before : IsCounted graph changes vertices edges adds_vertices) (id : ℕ) where
+module _ (graph : Rows) (changes : Changes) (vertices edges : ℕ) (before : IsCounted graph changes vertices edges) (id : ℕ) where
   abbrev now : Rows
   now = with_changes changes graph
 
@@ -76,7 +67,7 @@ module _ (graph : Rows) (changes : Changes) (vertices edges : ℕ) (adds_vertice
   now_rises = rises-changes changes graph before.graph_rises
 
   pub row_now : (row : Option Row) → changed_row_at id changes graph ≡ row → row_at id now ≡ row
-  row_now row told = row_at-with_changes changes graph id before.changes_rise before.graph_rises ∙ told
+  row_now row told = value_at-with_changes changes graph id before.changes_rise before.graph_rises ∙ told
 
   pub vertex_left : (row : Row) → row_at id now ≡ Some row → 1 ≤ vertices
   vertex_left row there = omega (arith, some_vertex now id row there, before.vertices_counted)
@@ -87,7 +78,7 @@ module _ (graph : Rows) (changes : Changes) (vertices edges : ℕ) (adds_vertice
   pub put_now : (change : Option Row) → with_changes (insert_entry nat_cmp changes id change) graph ≡ with_change id change now
   put_now change = with_changes-insert changes graph id change before.changes_rise before.graph_rises
 
-  pub added : (row : Row) → row_at id now ≡ None → row.edges ≡ [] → vertices + 1 ≤ vertex_limit → IsCounted graph (insert_entry nat_cmp changes id (Some row)) (vertices + 1) edges true
+  pub added : (row : Row) → row_at id now ≡ None → row.edges ≡ [] → vertices + 1 ≤ vertex_limit → IsCounted graph (insert_entry nat_cmp changes id (Some row)) (vertices + 1) edges
   added row gone bare room = record {
     graph_rises = before.graph_rises;
     changes_rise = rises-insert changes id (Some row) before.changes_rise;
@@ -95,17 +86,7 @@ module _ (graph : Rows) (changes : Changes) (vertices edges : ℕ) (adds_vertice
     edges_counted = omega (arith, before.edges_counted, ap edge_count (put_now (Some row)), edges-with_row now id row now_rises, ap degree_of gone, ap length bare);
     vertices_fit = room;
     edges_fit = before.edges_fit;
-    none_added = λ none. absurd (let f : true ≡ false = none in cc);
   }
-
-  -- a vertex that has a row had one in the graph, where none was added
-  row_before : HasRoomFor changes graph → (row : Row) → row_at id now ≡ Some row → IsSome (row_at id graph)
-  row_before room row there = by (find id changes) refl (sym (row_at-with_changes changes graph id before.changes_rise before.graph_rises) ∙ there)
-    where
-      by : (o : Option (Option Row)) → find id changes ≡ o → unwrap_or (find id changes) (row_at id graph) ≡ Some row → IsSome (row_at id graph)
-      by None e told = ap is_some (sym (ap (λ c. unwrap_or c (row_at id graph)) e) ∙ told)
-      by (Some None) e told = absurd (let f : None ≡ Some row = sym (ap (λ c. unwrap_or c (row_at id graph)) e) ∙ told in cc)
-      by (Some (Some old)) e told = room id old e
 
   -- where the change of the vertex was taken out, and this one was put in
   module _ (taken changes' : Changes) (change : Option Row) (took : taken ≡ others) (put : changes' ≡ insert_entry nat_cmp taken id change) where
@@ -118,11 +99,8 @@ module _ (graph : Rows) (changes : Changes) (vertices edges : ℕ) (adds_vertice
     still_rise : ChangesRise changes'
     still_rise = subst ChangesRise (sym in_place) (rises-insert changes id change before.changes_rise)
 
-    still_room : ((row : Row) → change ≡ Some row → IsSome (row_at id graph)) → HasRoomFor changes graph → HasRoomFor changes' graph
-    still_room here room = subst (λ l. HasRoomFor l graph) (sym in_place) (room-put changes graph id change room here)
-
     module _ (row : Row) (there : row_at id now ≡ Some row) where
-      pub replaced : (row' : Row) (edges' : ℕ) → change ≡ Some row' → edges' + length row.edges ≡ edges + length row'.edges → edges' ≤ edge_limit → IsCounted graph changes' vertices edges' adds_vertices
+      pub replaced : (row' : Row) (edges' : ℕ) → change ≡ Some row' → edges' + length row.edges ≡ edges + length row'.edges → edges' ≤ edge_limit → IsCounted graph changes' vertices edges'
       replaced row' edges' some count room =
           let made : with_changes changes' graph ≡ with_row id row' now = put_back ∙ ap (λ o. with_change id o now) some in
           record {
@@ -132,10 +110,9 @@ module _ (graph : Rows) (changes : Changes) (vertices edges : ℕ) (adds_vertice
             edges_counted = omega (arith, before.edges_counted, ap edge_count made, edges-with_row now id row' now_rises, ap degree_of there);
             vertices_fit = before.vertices_fit;
             edges_fit = room;
-            none_added = λ none. still_room (λ r e. row_before (before.none_added none) row there) (before.none_added none);
           }
 
-      pub removed : (vertices' edges' : ℕ) → change ≡ None → vertices' + 1 ≡ vertices → edges' + length row.edges ≡ edges → IsCounted graph changes' vertices' edges' adds_vertices
+      pub removed : (vertices' edges' : ℕ) → change ≡ None → vertices' + 1 ≡ vertices → edges' + length row.edges ≡ edges → IsCounted graph changes' vertices' edges'
       removed vertices' edges' none_left one count =
           let made : with_changes changes' graph ≡ without_row id now = put_back ∙ ap (λ o. with_change id o now) none_left in
           record {
@@ -145,7 +122,6 @@ module _ (graph : Rows) (changes : Changes) (vertices edges : ℕ) (adds_vertice
             edges_counted = omega (arith, before.edges_counted, ap edge_count made, edges-without_row now id, ap degree_of there);
             vertices_fit = omega (arith, before.vertices_fit);
             edges_fit = omega (arith, before.edges_fit);
-            none_added = λ none. still_room (λ r e. absurd (let f : None ≡ Some r = sym none_left ∙ e in cc)) (before.none_added none);
           }
 
   -- of the draft as a contract sees it

@@ -1,9 +1,8 @@
 pub mod AtPlace
 pub mod Batches
-pub mod Changing
+pub mod Dealing
 pub mod Drafting
 pub mod Edited
 pub mod Laws
-pub mod Placing
-pub mod Rising
+pub mod RowLaw
 pub mod Search

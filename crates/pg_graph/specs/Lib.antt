@@ -5,5 +5,8 @@ pub mod EdgeList
 pub mod Edges
 pub mod Edit
 pub mod EditKind
+pub mod Grouped
 pub mod Places
+pub mod RowEdit
 pub mod Rows
+pub use Rattle.pg_map.specs.Entries

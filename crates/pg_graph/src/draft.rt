@@ -6,7 +6,7 @@ ghost use Rattle.std.specs.Ordering.{nat_cmp};
 ghost use Rattle.pg_graph.specs.Changes.{changed_row_at};
 
 mod listed;
-mod row;
+pub(crate) mod row;
 
 use crate::entries::put;
 use crate::{Batch, Edit, EditFault, EditKind, Graph, Memory, Row, VertexId};
@@ -16,20 +16,19 @@ use std::collections::BTreeMap;
 use std::marker::Model;
 
 /// No graph has more vertices.
-const VERTEX_LIMIT: u64 = 1 << 20;
+pub(crate) const VERTEX_LIMIT: u64 = 1 << 20;
 
 /// No graph has more edges.
-const EDGE_LIMIT: u64 = 1 << 24;
+pub(crate) const EDGE_LIMIT: u64 = 1 << 24;
 
 /// No batch has more edits.
-const BATCH_LIMIT: usize = 100_000;
+pub(crate) const BATCH_LIMIT: usize = 100_000;
 
-/// What becomes of vertices, by rising id: a row, or none where a vertex is removed. It says whether
-/// one may be new to the graph, and how many edges the graph has then.
+/// What becomes of vertices, by rising id: a row, or none where a vertex is removed. It says how many
+/// edges the graph has then.
 #[derive(Drop)]
 pub(crate) struct Changes {
     pub(crate) rows: Vec<(VertexId, Option<Row>)>,
-    pub(crate) adds_vertices: bool,
     pub(crate) edges: u64,
 }
 
@@ -42,7 +41,6 @@ pub(crate) struct Draft<'a> {
     changes: BTreeMap<VertexId, Option<DraftRow>>,
     vertices: u64,
     edges: u64,
-    adds_vertices: bool,
 }
 
 impl<'a> Model for Draft<'a> {
@@ -59,7 +57,7 @@ impl<'a> Model for Draft<'a> {
 
 impl<'a> Draft<'a> {
     ghost use Rattle.pg_graph.specs.Draft.{BecomesBy, Makes, RefusesEdit};
-    ghost use Rattle.pg_graph.specs.Edit.{batch_edited, batch_limit, too_long_fault, RefusesBatch};
+    ghost use Rattle.pg_graph.specs.Edit.{batch_edited, batch_limit, RefusesBatch};
     ghost use Rattle.pg_graph.specs.Rows.{row_at};
 
     /// A graph with no edits.
@@ -71,21 +69,16 @@ impl<'a> Draft<'a> {
             changes: BTreeMap::new(alloc),
             vertices: graph.vertices(),
             edges: graph.edges(),
-            adds_vertices: false,
         }
     }
 
-    /// A graph with all edits of a batch. More than 100,000 are refused first.
+    /// A graph with all edits of a batch.
     pub(crate) fn of(alloc: Global, graph: &'a Graph, batch: &Batch) -> Result<Draft<'a>, EditFault>
+        requires { length batch.now ≤ batch_limit }
         ensures ok { IfOk result (λ draft. (draft.0 ≡ graph.now) × (batch_edited graph.now batch.now ≡ Ok draft.1)) }
         ensures err { IfErr result (RefusesBatch graph.now batch.now) }
-        ensures too_long { batch_limit < length batch.now → result ≡ Err too_long_fault }
-        ensures position { IfErr result (λ fault. fault.position ≤ length batch.now) }
     {
         let edits = batch.as_slice();
-        if edits.len() > BATCH_LIMIT {
-            return Err(EditFault::at(BATCH_LIMIT as u64 + 1, EditKind::BatchTooLong));
-        }
         let mut draft = Draft::new(alloc, graph);
         let mut position = 1;
         for edit in edits {
@@ -108,7 +101,6 @@ impl<'a> Draft<'a> {
         }
         Ok(Changes {
             rows: changes,
-            adds_vertices: self.adds_vertices,
             edges: self.edges,
         })
     }
@@ -140,7 +132,6 @@ impl<'a> Draft<'a> {
         }
         put(&mut self.changes, id, Some(DraftRow::new(input)))?;
         self.vertices += 1;
-        self.adds_vertices = true;
         Ok(self)
     }
 

@@ -23,6 +23,24 @@ pub enum Edit {
     RemoveEdge(VertexId, VertexId),
 }
 
+impl Edit {
+    ghost use Rattle.pg_graph.specs.RowEdit.{source_of};
+
+    /// The vertex whose row the edit changes.
+    pub(crate) fn source(self) -> VertexId
+        ensures { result ≡ source_of self }
+    {
+        match self {
+            Edit::AddVertex(id, _) => id,
+            Edit::RemoveVertex(id) => id,
+            Edit::SetInput(id, _) => id,
+            Edit::AddEdge(source, _, _) => source,
+            Edit::SetEdge(source, _, _) => source,
+            Edit::RemoveEdge(source, _) => source,
+        }
+    }
+}
+
 /// Why a batch was refused. Its number is that of the answer `refused`.
 #[derive(Clone, Copy, Debug, PartialEq, Eq)]
 pub enum EditKind {

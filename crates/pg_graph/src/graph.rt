@@ -6,10 +6,9 @@ ghost use Rattle.std.specs.Map.Iter.{ShowsInOrder, deref, deref_pair};
 
 mod apply;
 
-use crate::entries::put;
 use crate::{Edges, Memory, VertexId};
+use pg_map::{Ids, Iter, Map, Share};
 use std::alloc::Global;
-use std::collections::{BTreeMap, btree_map};
 use std::marker::Model;
 
 /// What a graph holds of one vertex: the input that its value begins from, and its out-edges.
@@ -17,6 +16,12 @@ use std::marker::Model;
 pub struct Row {
     pub input: i64,
     pub edges: Edges,
+}
+
+impl Share for Row {
+    fn share(&self) -> Result<Row, Memory> {
+        self.copy()
+    }
 }
 
 impl Row {
@@ -37,7 +42,7 @@ impl Row {
 /// A graph: a finite map from ids to rows. A contract sees the list of (id, row) by rising id.
 #[derive(Drop)]
 pub struct Graph {
-    rows: BTreeMap<VertexId, Row>,
+    rows: Map<Row>,
     total_edges: u64,
 }
 
@@ -47,20 +52,20 @@ impl Model for Graph {
 
     ghost Value = { Rows };
 
-    ghost view = { λ g. g.rows.entries };
+    ghost view = { λ g. g.rows };
 
-    ghost invariant = { λ g. (g.total_edges ≡ edge_count g.rows.entries) × (vertex_count g.rows.entries ≤ 2 ^ 20) × (g.total_edges ≤ 2 ^ 24) };
+    ghost invariant = { λ g. (g.total_edges ≡ edge_count g.rows) × (vertex_count g.rows ≤ 2 ^ 20) × (g.total_edges ≤ 2 ^ 24) };
 }
 
 impl Graph {
     ghost use Rattle.pg_graph.specs.Rows.{Rows, HasRisingIds, row_at, vertex_count, edge_count};
 
     /// The empty graph.
-    pub fn new(alloc: Global) -> Graph
+    pub fn new(_alloc: Global) -> Graph
         ensures { result ≡ [] }
     {
         Graph {
-            rows: BTreeMap::new(alloc),
+            rows: Map::new(),
             total_edges: 0,
         }
     }
@@ -69,7 +74,7 @@ impl Graph {
     pub fn row(&self, id: VertexId) -> Option<&Row>
         ensures { option_copied result ≡ row_at id self.now }
     {
-        self.rows.get(&id)
+        self.rows.get(id)
     }
 
     /// How many vertices there are, at most 2^20.
@@ -90,31 +95,27 @@ impl Graph {
     }
 
     /// The ids, rising.
-    pub fn ids(&self) -> btree_map::Keys<'_, VertexId, Row>
+    pub fn ids(&self) -> Ids<'_, Row>
         ensures rest { result ≡ keys_of self.now }
         ensures runs { ShowsInOrder (deref {X = ℕ}) }
         ensures rising { HasRisingIds self.now }
     {
-        self.rows.keys()
+        self.rows.ids()
     }
 
-    /// The same graph. Its rows share their edges with those of this one, so it takes O(n) for n
-    /// vertices, however many edges there are.
-    pub fn copy(&self, alloc: Global) -> Result<Graph, Memory>
+    /// The same graph, in the same memory. Costs O(1).
+    pub fn copy(&self, _alloc: Global) -> Result<Graph, Memory>
         ensures { IfOk result (λ graph. graph ≡ self.now) }
     {
-        let mut rows = BTreeMap::new(alloc);
-        for (id, row) in &self.rows {
-            put(&mut rows, *id, row.copy()?)?;
-        }
+        let rows = self.rows.share()?;
         Ok(Graph {
             rows,
-            total_edges: self.edges(),
+            total_edges: self.total_edges,
         })
     }
 
     /// The rows with their ids, by rising id.
-    pub fn iter(&self) -> btree_map::Iter<'_, VertexId, Row>
+    pub fn iter(&self) -> Iter<'_, Row>
         ensures rest { result ≡ self.now }
         ensures runs { ShowsInOrder (deref_pair {K = ℕ} {X = Row}) }
         ensures rising { HasRisingIds self.now }

@@ -6,14 +6,14 @@ mod edges;
 mod edit;
 mod entries;
 mod graph;
+mod grouped;
 mod missing;
-mod number;
 
 pub use edges::Edges;
 pub use edit::{Batch, Edit, EditFault, EditKind};
 pub use graph::{Graph, Row};
 pub use missing::Missing;
-pub use number::{Edition, PartitionId, Superstep, VertexId, WorkerId};
+pub use pg_map::{Edition, Ids, Iter, PartitionId, Superstep, VertexId, WorkerId};
 pub use std::alloc::AllocError as Memory;
 
 #[cfg(test)]

@@ -1,7 +1,7 @@
 use Rattle.std.proofs.Common.{◌≡◌, None, Some, arith, ap, sym, ◌∙◌}
-use Rattle.pg_graph.specs.Changes.{with_changes}
+use Rattle.pg_map.specs.Entries.{with_changes}
 use Rattle.pg_graph.specs.Rows.{vertex_count, edge_count}
-use Rattle.pg_graph.proofs.Rising.{find}
+use Rattle.pg_map.proofs.Rising.{find}
 use Rattle.pg_graph.proofs.draft.Draft.new.Goals as goal
 
 pub invariant_of-result : goal.invariant_of-result
@@ -14,5 +14,4 @@ invariant_of-result c =
       edges_counted = omega (arith, c.edges.ensures.value, ap edge_count same);
       vertices_fit = c.vertices.ensures.limit;
       edges_fit = c.edges.ensures.limit;
-      none_added = λ none q row found. absurd (let f : None ≡ Some (Some row) = sym (ap (λ l. find q l) c.new.ensures.empty) ∙ found in cc);
     }

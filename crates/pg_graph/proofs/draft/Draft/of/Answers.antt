@@ -4,11 +4,6 @@ use Rattle.pg_graph.specs.declared.edit.EditKind.TheVariants.{Memory}
 use Rattle.pg_graph.proofs.Batches.{too_long, short_enough, next_made, next_refused, all_made, refused_at, refused_within}
 use Rattle.pg_graph.proofs.draft.Draft.of.Goals as goal
 
-pub returns-then-edits-gt-BATCH_LIMIT-clause-err : goal.returns-then-edits-gt-BATCH_LIMIT-clause-err
-returns-then-edits-gt-BATCH_LIMIT-clause-err c =
-    let long : batch_limit < length c.args.batch.now = omega (arith, ap length c.as_slice-edits.ensures) in
-    refused_at c.args.graph.now c.args.batch.now _ _ c.at.result c.at.ensures.memory c.at.ensures.edit (inr (too_long c.args.graph.now c.args.batch.now long))
-
 pub returns-in-Err-clause-err : goal.returns-in-Err-clause-err
 returns-in-Err-clause-err c =
     let edit = c.edit-item.result in
@@ -18,7 +13,7 @@ returns-in-Err-clause-err c =
     ∙ ap (all_edited 1 c.args.graph.now) (sym c.as_slice-edits.ensures)
     ∙ sym c.loop-edit.invariant.edited
     ∙ next_refused c.loop-edit.position c.loop-edit.draft.1 c.as_slice-edits.result.now c.loop-edit.edit-index edit c.loop-edit-test.true c.edit-item.is c.in-Err.kind why in
-    refused_at c.args.graph.now c.args.batch.now c.loop-edit.position c.in-Err.kind c.at-in-Err.result c.at-in-Err.ensures.memory c.at-in-Err.ensures.edit
+    refused_at c.args.graph.now c.args.batch.now c.loop-edit.position c.in-Err.kind c.at.result c.at.ensures.memory c.at.ensures.edit
     (⊎_elim (λ (m : c.in-Err.kind ≡ Memory). inl m) (λ (why : edited c.loop-edit.draft.1 edit ≡ Err c.in-Err.kind). inr (refused why)) c.in-Err.ensures.err)
 
 pub loop-edit-preserved : goal.loop-edit-preserved
@@ -37,9 +32,3 @@ returns-clause-ok c = (
       ∙ sym c.loop-edit.invariant.edited
       ∙ all_made c.loop-edit.position c.loop-edit.draft.1 c.as_slice-edits.result.now c.loop-edit.edit-index c.loop-edit-test.false,
 )
-
-pub returns-then-edits-gt-BATCH_LIMIT-clause-position : goal.returns-then-edits-gt-BATCH_LIMIT-clause-position
-returns-then-edits-gt-BATCH_LIMIT-clause-position c = refused_within c.args.graph.now c.args.batch.now c.at.result (returns-then-edits-gt-BATCH_LIMIT-clause-err c)
-
-pub returns-in-Err-clause-position : goal.returns-in-Err-clause-position
-returns-in-Err-clause-position c = refused_within c.args.graph.now c.args.batch.now c.at-in-Err.result (returns-in-Err-clause-err c)

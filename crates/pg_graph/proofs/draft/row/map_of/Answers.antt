@@ -2,7 +2,7 @@ use Rattle.std.proofs.Common.{ap, ◌∙◌, arith}
 use Rattle.std.proofs.lemmas.Grind.{common_steps}
 use Rattle.std.proofs.lemmas.Int.{to_z-of_z}
 use Rattle.pg_graph.specs.EdgeList.{with_edge}
-use Rattle.pg_graph.proofs.Rising.{insert_entry-take}
+use Rattle.pg_map.proofs.Rising.{insert_entry-take}
 use Rattle.pg_graph.proofs.draft.row.map_of.Goals as goal
 
 pub loop-target-preserved : goal.loop-target-preserved

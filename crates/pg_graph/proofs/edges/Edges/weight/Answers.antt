@@ -2,7 +2,7 @@ use Rattle.std.proofs.Common.{arith, rules}
 use Rattle.std.proofs.lemmas.Grind.{common_steps}
 use Rattle.std.proofs.lemmas.Int.{to_z-of_z}
 use Rattle.std.proofs.lemmas.List.Sorted.{answers_always}
-use Rattle.pg_graph.proofs.Search.{lookup_found, lookup_missing, searchable}
+use Rattle.pg_map.proofs.Search.{lookup_found, lookup_missing, searchable}
 use Rattle.pg_graph.proofs.edges.Edges.weight.Goals as goal
 
 pub returns-in-Ok : goal.returns-in-Ok

@@ -1,0 +1,56 @@
+-- The edits of a batch by vertex, and how far they are dealt with.
+use Rattle.std.specs.Prelude.{◌≡◌, ℕ, nat_le, cond, ◌<◌, ◌≤◌, ◌⊎◌, List, [], ◌∷◌, Option, None, Some, MatchOption, Result, Ok, Err, MatchResult}
+use Rattle.std.specs.List.{AllByRecursion}
+use Rattle.std.specs.List.Sorted.{IsNonDecreasingBy}
+use Rattle.pg_map.specs.Entries.{ChangesRise, value_at}
+use Rattle.pg_graph.specs.Changes.{Changes, changed_row_at}
+use Rattle.pg_graph.specs.RowEdit.{Places, edits_of, placed, source_of, vertex_after}
+use Rattle.pg_graph.specs.Rows.{Rows, row_at}
+use Rattle.pg_graph.specs.declared.graph.Row.{Row}
+use Rattle.pg_graph.specs.declared.edit.Edit.{Edit}
+use Rattle.pg_graph.specs.declared.edit.EditFault.{EditFault}
+
+abbrev pub RiseBySource : Places → Type 0
+RiseBySource edits = IsNonDecreasingBy (λ e. source_of e.1) edits
+
+-- the edits of a batch by rising vertex, those of one vertex in their order
+pub record AreGrouped (edits : List Edit) (grouped : Places) : Type 0 where
+  pub rise : RiseBySource grouped
+  pub same : (q : ℕ) → edits_of q grouped ≡ edits_of q (placed 1 edits)
+
+-- a fault that was found is no later than this one
+abbrev pub IsNoLater : Option EditFault → EditFault → Type 0
+IsNoLater None other = ⊥
+IsNoLater (Some fault) other = fault.position ≤ other.position
+
+-- the edits of a vertex are all left
+pub record IsLeft (q : ℕ) (all left : Places) (changes : Changes) : Type 0 where
+  pub edits : edits_of q left ≡ edits_of q all
+  pub change : value_at q changes ≡ None
+
+-- or none is, and what they make is among the changes, or a fault
+pub record IsDone (rows : Rows) (q : ℕ) (all left : Places) (changes : Changes) (fault : Option EditFault) : Type 0 where
+  pub edits : edits_of q left ≡ []
+  pub told : MatchResult (vertex_after (row_at q rows) (edits_of q all)) (λ row. value_at q changes ≡ Some row) (IsNoLater fault)
+
+pub record AreDealt (rows : Rows) (all left : Places) (changes : Changes) (fault : Option EditFault) : Type 0 where
+  pub left_rise : RiseBySource left
+  pub changes_rise : ChangesRise changes
+  pub below : AllByRecursion (λ e. AllByRecursion (λ c. c.0 < source_of e.1) changes) left
+  pub seen : (q : ℕ) → IsLeft q all left changes ⊎ IsDone rows q all left changes fault
+  pub found : MatchOption fault (Unit {0}) (λ f. (q : ℕ) × (vertex_after (row_at q rows) (edits_of q all) ≡ Err f))
+
+-- of two faults the earlier one, if there is a first
+abbrev pub earlier_of : Option EditFault → EditFault → EditFault
+earlier_of None found = found
+earlier_of (Some fault) found = cond (nat_le fault.position found.position) fault found
+
+-- each vertex has what its edits make of it, or what it had; or this is the first fault of all
+pub record AreMade (rows : Rows) (all : Places) (changes : Changes) : Type 0 where
+  pub rise : ChangesRise changes
+  pub told : (q : ℕ) → vertex_after (row_at q rows) (edits_of q all) ≡ Ok (changed_row_at q changes rows)
+
+pub record IsFirst (rows : Rows) (all : Places) (fault : EditFault) : Type 0 where
+  pub vertex : ℕ
+  pub there : vertex_after (row_at vertex rows) (edits_of vertex all) ≡ Err fault
+  pub first : (q : ℕ) (other : EditFault) → vertex_after (row_at q rows) (edits_of q all) ≡ Err other → fault.position ≤ other.position

@@ -1,0 +1,146 @@
+//! A batch that can't meet a limit: its edits are made of one vertex after another.
+ghost use Rattle.std.specs.Prelude.{◌≡◌, ◌≤◌, ℕ, true, false, length, nat_le, Ok, Err, IfOk, IfErr, MatchResult};
+ghost use Rattle.pg_map.specs.Entries.{ChangesRise, with_changes};
+ghost use Rattle.std.specs.List.Sorted.{IsPartitionPoint};
+ghost use Rattle.std.specs.Option.{option_copied};
+ghost use Rattle.pg_graph.specs.Changes.{degree_of};
+ghost use Rattle.pg_graph.specs.Draft.{Makes};
+ghost use Rattle.pg_graph.specs.Edit.{batch_edited, RefusesBatch, batch_limit};
+ghost use Rattle.pg_graph.specs.Grouped.{AreGrouped, AreMade, IsFirst, RiseBySource, earlier_of};
+ghost use Rattle.pg_graph.specs.RowEdit.{HasRoom, placed, source_of};
+ghost use Rattle.pg_graph.specs.Rows.{HasRisingIds, edge_count, vertex_count};
+
+mod vertex;
+
+use crate::draft::Changes;
+use crate::{Batch, Edit, EditFault, Graph, Memory, Row, VertexId};
+use std::alloc::{AllocError, Global};
+use vertex::vertex_after;
+
+/// What a batch that can't meet a limit changes, or the first of its edits that has no result.
+///
+/// With k edits it sorts them by vertex in O(k log k), looks up each vertex once, and copies the edges
+/// of each whose edges are edited.
+pub(crate) fn changes_by_vertex(
+    alloc: Global,
+    graph: &Graph,
+    batch: &Batch,
+) -> Result<Changes, EditFault>
+    requires rising { HasRisingIds graph.now }
+    requires short { length batch.now ≤ batch_limit }
+    requires room { HasRoom (vertex_count graph.now) (edge_count graph.now) (length batch.now) }
+    ensures ok { IfOk result (λ changes. Makes graph.now (with_changes changes.rows.items graph.now) changes) }
+    ensures made { IfOk result (λ changes. batch_edited graph.now batch.now ≡ Ok (with_changes changes.rows.items graph.now)) }
+    ensures err { IfErr result (RefusesBatch graph.now batch.now) }
+{
+    let edits = by_vertex(alloc, batch)?;
+    match dealt_with(alloc, graph, edits.as_slice())? {
+        Ok(rows) => {
+            let edges = edges_after(graph, rows.as_slice())?;
+            Ok(Changes { rows, edges })
+        }
+        Err(fault) => Err(fault),
+    }
+}
+
+/// The edits of a batch with their places from 1, by rising vertex. Those of one vertex keep their order.
+fn by_vertex(alloc: Global, batch: &Batch) -> Result<Vec<(u64, Edit)>, Memory>
+    requires { length batch.now ≤ batch_limit }
+    ensures { IfOk result (λ edits. AreGrouped batch.now edits.items) }
+{
+    let mut edits = placed(alloc, batch.as_slice())?;
+    edits.sort_by_key(|edit| edit.1.source())?;
+    Ok(edits)
+}
+
+/// Edits with their places from 1.
+fn placed(alloc: Global, edits: &[Edit]) -> Result<Vec<(u64, Edit)>, Memory>
+    requires { length edits.now ≤ batch_limit }
+    ensures { IfOk result (λ made. made.items ≡ placed 1 edits.now) }
+{
+    let mut made = Vec::with_capacity(alloc, edits.len())?;
+    let mut position = 1;
+    for edit in edits {
+        made.push((position, *edit))?;
+        position += 1;
+    }
+    Ok(made)
+}
+
+/// What edits by rising vertex make of each, or the first fault of all.
+fn dealt_with(
+    alloc: Global,
+    graph: &Graph,
+    edits: &[(u64, Edit)],
+) -> Result<Result<Vec<(VertexId, Option<Row>)>, EditFault>, Memory>
+    requires { RiseBySource edits.now }
+    ensures { IfOk result (λ made. MatchResult made (λ changes. AreMade graph.now edits.now changes.items) (IsFirst graph.now edits.now)) }
+{
+    let mut changes = Vec::new(alloc);
+    let mut fault = None;
+    let mut left = edits;
+    while let Some((first, _)) = left.split_first() {
+        let id = first.1.source();
+        let (here, later) = left.split_at(count_of(left, id));
+        match vertex_after(alloc, graph.row(id), here)? {
+            Ok(row) => changes.push((id, row))?,
+            Err(found) => fault = Some(earlier(fault, found)),
+        }
+        left = later;
+    }
+    match fault {
+        Some(fault) => Ok(Err(fault)),
+        None => Ok(Ok(changes)),
+    }
+}
+
+/// How many edits at the beginning are of a vertex or one below it.
+fn count_of(edits: &[(u64, Edit)], id: VertexId) -> usize
+    requires { RiseBySource edits.now }
+    ensures bound { result ≤ length edits.now }
+    ensures parts { IsPartitionPoint (λ e. nat_le (source_of e.1) id ≡ true) (λ e. nat_le (source_of e.1) id ≡ false) edits.now result }
+{
+    edits.partition_point(|edit| is_at_most(edit.1.source(), id))
+}
+
+/// Whether an id is below another, or is it.
+fn is_at_most(id: VertexId, other: VertexId) -> bool
+    ensures { result ≡ nat_le id other }
+{
+    id <= other
+}
+
+/// The earlier of two faults, where there is a first.
+fn earlier(fault: Option<EditFault>, found: EditFault) -> EditFault
+    ensures { result ≡ earlier_of fault found }
+{
+    match fault {
+        Some(fault) if fault.position <= found.position => fault,
+        _ => found,
+    }
+}
+
+/// How many edges a graph has after changes.
+fn edges_after(graph: &Graph, changes: &[(VertexId, Option<Row>)]) -> Result<u64, Memory>
+    requires rising { HasRisingIds graph.now }
+    requires changes_rise { ChangesRise changes.now }
+    ensures { IfOk result (λ edges. edges ≡ edge_count (with_changes changes.now graph.now)) }
+{
+    let mut edges = graph.edges();
+    for (id, change) in changes {
+        let before = degree(graph.row(*id));
+        let after = degree(change.as_ref());
+        edges = (edges - before).checked_add(after).ok_or(AllocError)?;
+    }
+    Ok(edges)
+}
+
+/// How many edges a row has, if it is there.
+fn degree(row: Option<&Row>) -> u64
+    ensures { result ≡ degree_of (option_copied row.entry) }
+{
+    match row {
+        Some(row) => row.edges.as_slice().len() as u64,
+        None => 0,
+    }
+}

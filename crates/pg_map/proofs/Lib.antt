@@ -1,0 +1,6 @@
+pub mod Changing
+pub mod Chunked
+pub mod Parts
+pub mod Rising
+pub mod Search
+pub mod Turns

@@ -1,0 +1,17 @@
+//! The ordered map from vertex ids whose copies share, and the numbers that name things.
+#![tactic(auto)]
+
+mod chunk;
+mod gather;
+mod merge;
+mod number;
+mod shared;
+mod walk;
+
+pub use number::{Edition, PartitionId, Superstep, VertexId, WorkerId};
+pub use shared::{Map, Share};
+pub use std::alloc::AllocError as Memory;
+pub use walk::{Ids, Iter};
+
+#[cfg(test)]
+mod tests;

@@ -1,0 +1,171 @@
+//! The map.
+ghost use Rattle.std.specs.Prelude.{◌≡◌, [], ℕ, length, IfOk, OnOk, OnErr};
+ghost use Rattle.std.specs.Option.{option_copied};
+ghost use Rattle.std.specs.Map.{keys_of};
+ghost use Rattle.std.specs.Map.Iter.{ShowsInOrder, deref, deref_pair};
+
+use crate::chunk::{Spine, counted, is_at_most, is_below};
+use crate::gather::Gathering;
+use crate::merge::changed;
+use crate::{Ids, Iter, Memory, VertexId};
+use std::alloc::Global;
+use std::marker::Model;
+
+/// Values that are copied by sharing: a copy is equal to its source, and costs O(1).
+pub trait Share: Drop {
+    fn share(&self) -> Result<Self, Memory>
+        ensures { IfOk result (λ copy. copy ≡ self.now) };
+}
+
+impl Share for i64 {
+    fn share(&self) -> Result<i64, Memory> {
+        Ok(*self)
+    }
+}
+
+/// A map from vertex ids. A contract sees the list of (id, value) by rising id.
+///
+/// The entries lie in chunks that copies share: a copy costs O(1), and a change rebuilds the chunks
+/// that it falls into, beside the others.
+#[derive(Drop)]
+pub struct Map<V> {
+    chunks: Spine<V>,
+    count: usize,
+}
+
+impl<V> Model for Map<V> {
+    ghost use Rattle.std.specs.Prelude.{ℕ, List};
+
+    ghost Value = { List (ℕ × V) };
+
+    ghost use Rattle.pg_map.specs.Chunks.{AreSound, chunks_of, entries_of};
+
+    ghost view = { λ m. entries_of (chunks_of m.chunks) };
+
+    ghost invariant = { λ m. AreSound (chunks_of m.chunks) m.count };
+}
+
+impl<V> Map<V> {
+    ghost use Rattle.pg_map.specs.Entries.{HasRisingIds, entries_from, value_at};
+
+    /// The map with no entries.
+    pub fn new() -> Map<V>
+        ensures { result ≡ [] }
+    {
+        Map {
+            chunks: Spine::new(),
+            count: 0,
+        }
+    }
+
+    /// How many entries there are.
+    pub fn len(&self) -> usize
+        ensures value { result ≡ length self.now }
+        ensures rising { HasRisingIds self.now }
+    {
+        self.count
+    }
+
+    /// The value at an id, found by two binary searches: among the chunks, and in one of them.
+    pub fn get(&self, id: VertexId) -> Option<&V>
+        ensures { option_copied result ≡ value_at id self.now }
+    {
+        let chunks = self.chunks.as_slice();
+        let after = chunks.partition_point(|chunk| is_at_most(chunk.first, id));
+        if after == 0 {
+            return None;
+        }
+        let entries = chunks[after - 1].entries.as_slice();
+        match entries.binary_search_by_key(&id, |entry| entry.0) {
+            Ok(place) => Some(&entries[place].1),
+            Err(_) => None,
+        }
+    }
+
+    /// The entries, by rising id.
+    pub fn iter(&self) -> Iter<'_, V>
+        ensures rest { result ≡ self.now }
+        ensures runs { ShowsInOrder (deref_pair {K = ℕ} {X = V}) }
+        ensures rising { HasRisingIds self.now }
+    {
+        Iter {
+            entries: &[],
+            chunks: self.chunks.as_slice(),
+        }
+    }
+
+    /// The ids, rising.
+    pub fn ids(&self) -> Ids<'_, V>
+        ensures rest { result ≡ keys_of self.now }
+        ensures runs { ShowsInOrder (deref {X = ℕ}) }
+        ensures rising { HasRisingIds self.now }
+    {
+        Ids {
+            entries: self.iter(),
+        }
+    }
+
+    /// The entries from an id on, by rising id. The first is found as by `get`.
+    pub fn iter_from(&self, id: VertexId) -> Iter<'_, V>
+        ensures rest { result ≡ entries_from id self.now }
+        ensures runs { ShowsInOrder (deref_pair {K = ℕ} {X = V}) }
+    {
+        let chunks = self.chunks.as_slice();
+        let after = chunks.partition_point(|chunk| is_at_most(chunk.first, id));
+        if after == 0 {
+            return self.iter();
+        }
+        let entries = chunks[after - 1].entries.as_slice();
+        let place = entries.partition_point(|entry| is_below(entry.0, id));
+        let (_, entries) = entries.split_at(place);
+        let (_, chunks) = chunks.split_at(after);
+        Iter { entries, chunks }
+    }
+
+    /// The same map, in the same memory. Costs O(1).
+    pub fn share(&self) -> Result<Map<V>, Memory>
+        ensures { IfOk result (λ map. map ≡ self.now) }
+    {
+        let chunks = self.chunks.share()?;
+        Ok(Map {
+            chunks,
+            count: self.count,
+        })
+    }
+}
+
+impl<V: Share> Map<V> {
+    ghost use Rattle.pg_map.specs.Entries.{HasRisingIds, ChangesRise, with_changes};
+
+    /// The map of these entries, which stand by rising id.
+    pub fn from_rising(alloc: Global, entries: Vec<(VertexId, V)>) -> Result<Map<V>, Memory>
+        requires { HasRisingIds entries.items }
+        ensures { IfOk result (λ map. map ≡ entries.items) }
+    {
+        let mut gathering = Gathering::new(alloc);
+        for (id, value) in entries {
+            gathering.push(alloc, id, value)?;
+        }
+        let made = gathering.finish(alloc)?;
+        let count = counted(made.as_slice())?;
+        let chunks = Spine::of(alloc, made)?;
+        Ok(Map { chunks, count })
+    }
+
+    /// Makes all changes, by rising id, or none where memory is refused: each id gets its value, or
+    /// loses the one that it has.
+    ///
+    /// With n entries and k changes it costs O(n / 128) and a copy of each chunk that a change falls
+    /// into, of at most 256 entries.
+    pub fn change(&mut self, alloc: Global, changes: &[(VertexId, Option<V>)]) -> Result<(), Memory>
+        requires { ChangesRise changes.now }
+        ensures ok { OnOk result (self.new ≡ with_changes changes.now self.old) }
+        ensures err { OnErr result (self.new ≡ self.old) }
+    {
+        let made = changed(alloc, self.chunks.as_slice(), changes)?;
+        let count = counted(made.as_slice())?;
+        self.chunks = Spine::of(alloc, made)?;
+        self.count = count;
+        Ok(())
+    }
+}

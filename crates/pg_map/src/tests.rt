@@ -1,0 +1,130 @@
+ghost use Rattle.std.specs.Prelude.{◌≡◌, ◌<◌, IfOk};
+
+use crate::{Map, Memory, VertexId};
+use std::alloc::Global;
+use std::process::Abort;
+use std::test::Fail;
+
+fn id(number: u64) -> Result<VertexId, Fail>
+    ensures { IfOk result (λ id. id ≡ number) }
+{
+    Ok(VertexId::new(number).ok_or("a number above 2^63 - 1")?)
+}
+
+fn set(alloc: Global, map: &mut Map<i64>, id: VertexId, value: Option<i64>) -> Result<(), Memory> {
+    map.change(alloc, &[(id, value)])
+}
+
+fn set_two(
+    alloc: Global,
+    map: &mut Map<i64>,
+    low: (VertexId, Option<i64>),
+    high: (VertexId, Option<i64>),
+) -> Result<(), Memory>
+    requires { low.0 < high.0 }
+{
+    map.change(alloc, &[low, high])
+}
+
+fn two_entries(alloc: Global, low: VertexId, high: VertexId) -> Result<Map<i64>, Memory>
+    requires { low < high }
+{
+    let entries = vec![in alloc; (low, 5), (high, -6)]?;
+    Map::from_rising(alloc, entries)
+}
+
+// Sets each third number below 3,000 to itself, in an order that jumps.
+fn thousand(alloc: Global) -> Result<Map<i64>, Fail> {
+    let mut map = Map::new();
+    for number in 0..1000u64 {
+        let mixed = number * 7919 % 1000 * 3;
+        set(alloc, &mut map, id(mixed)?, Some(mixed as i64))?;
+    }
+    Ok(map)
+}
+
+// The map has each third number below 3,000, and shows it in every way.
+fn is_thousand(rt: &impl Abort, map: &Map<i64>) -> Result<(), Fail> {
+    assert_eq!(rt; map.len(), 1000);
+    let mut ids = map.ids();
+    let mut number = 0;
+    for (key, value) in map.iter() {
+        assert_eq!(rt; key.number(), number);
+        assert_eq!(rt; value.unsigned_abs(), number);
+        assert_eq!(rt; ids.next().ok_or("an id")?.number(), number);
+        assert_eq!(rt; map.get(*key).copied(), Some(*value));
+        number = number.wrapping_add(3);
+    }
+    assert!(rt; ids.next().is_none());
+    assert_eq!(rt; number, 3000);
+    for number in 0..1000u64 {
+        assert!(rt; map.get(id(number * 3 + 1)?).is_none());
+    }
+    Ok(())
+}
+
+#[test]
+fn holds_entries(rt: HostRuntime) -> Result<(), Fail> {
+    let map = thousand(rt.alloc())?;
+    is_thousand(&rt, &map)?;
+    let two = two_entries(rt.alloc(), id(4)?, id(9)?)?;
+    assert_eq!(rt; two.len(), 2);
+    assert_eq!(rt; two.get(id(4)?).copied(), Some(5));
+    assert_eq!(rt; two.get(id(9)?).copied(), Some(-6));
+    assert!(rt; two.get(id(5)?).is_none());
+    assert!(rt; Map::<i64>::new().iter().next().is_none());
+    Ok(())
+}
+
+#[test]
+fn walks_from_an_id(rt: HostRuntime) -> Result<(), Fail> {
+    let map = thousand(rt.alloc())?;
+    for number in 0..3000u64 {
+        let mut expected = number.next_multiple_of(3);
+        let mut left = 0;
+        for (key, _) in map.iter_from(id(number)?) {
+            assert_eq!(rt; key.number(), expected);
+            expected = expected.wrapping_add(3);
+            left = u64::wrapping_add(left, 1);
+        }
+        assert_eq!(rt; left, (3000 - number) / 3);
+    }
+    Ok(())
+}
+
+#[test]
+fn copies_stay(rt: HostRuntime) -> Result<(), Fail> {
+    let mut map = thousand(rt.alloc())?;
+    let copy = map.share()?;
+    set_two(rt.alloc(), &mut map, (id(0)?, None), (id(2998)?, Some(7)))?;
+    assert!(rt; map.get(id(0)?).is_none());
+    assert_eq!(rt; map.get(id(2998)?).copied(), Some(7));
+    assert_eq!(rt; map.len(), 1000);
+    for number in 0..3000u64 {
+        set(rt.alloc(), &mut map, id(number)?, None)?;
+    }
+    assert_eq!(rt; map.len(), 0);
+    assert!(rt; map.iter().next().is_none());
+    is_thousand(&rt, &copy)
+}
+
+#[test]
+fn a_refused_growth_leaves_the_map(rt: HostRuntime) -> Result<(), Fail> {
+    let mut map = Map::new();
+    for number in 0..600u64 {
+        set(rt.alloc(), &mut map, id(number)?, Some(1))?;
+    }
+    let before = map.share()?;
+    let low = (id(3)?, None);
+    let high = (id(700)?, Some(2));
+    if set_two(rt.alloc(), &mut map, low, high).is_err() {
+        assert_eq!(rt; map.len(), 600);
+        assert_eq!(rt; map.get(id(3)?).copied(), Some(1));
+        assert!(rt; map.get(id(700)?).is_none());
+        set_two(rt.alloc(), &mut map, low, high)?;
+    }
+    assert_eq!(rt; map.len(), 600);
+    assert_eq!(rt; map.get(id(700)?).copied(), Some(2));
+    assert_eq!(rt; before.get(id(3)?).copied(), Some(1));
+    Ok(())
+}
