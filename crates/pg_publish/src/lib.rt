@@ -1,0 +1,4 @@
+//! Publication: one publisher, and readers in other threads that never wait.
+#![tactic(auto)]
+
+mod history;
