@@ -4,7 +4,7 @@ use mathlib.Core.List.{IsPrefix}
 use Rattle.logbook.specs.Pages.{Cell, Step, View, Book, Named}
 
 -- which publisher's history it is, and a beginning of it
-pub record Known (E : Type 0) : Type 0 where
+pub record Beginning (E : Type 0) : Type 0 where
   pub publisher : Book
   pub list : List E
 

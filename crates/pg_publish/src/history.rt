@@ -82,9 +82,9 @@ pub struct Front<E> {
 
 impl<E> Model for Front<E> {
     ghost use Rattle.std.specs.Prelude.{◌≡◌, length};
-    ghost use Rattle.pg_publish.specs.History.{Known};
+    ghost use Rattle.pg_publish.specs.History.{Beginning};
 
-    ghost Value = { Known E };
+    ghost Value = { Beginning E };
 
     ghost view = { λ f. record { publisher = f.seen.book; list = f.seen.log } };
 
