@@ -2,4 +2,6 @@
 #![tactic(auto)]
 
 mod history;
+mod receiver;
+mod sender;
 mod shown;

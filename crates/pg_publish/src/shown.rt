@@ -92,11 +92,7 @@ impl<E: Drop> Absorb<Shown<E>> for Shown<E> {
 
     ghost applied = { λ s next. next };
 
-    fn absorb_first(
-        &mut self,
-        operation: &Shown<E>,
-        _other: &Shown<E>,
-    ) -> Result<(), AllocError> {
+    fn absorb_first(&mut self, operation: &Shown<E>, _other: &Shown<E>) -> Result<(), AllocError> {
         *self = operation.again()?;
         Ok(())
     }
