@@ -2,7 +2,9 @@
 ghost use Rattle.std.specs.Prelude.{◌≡◌, ◌⊎◌, MatchResult};
 ghost use Rattle.std.specs.Option.{option_copied};
 ghost use mathlib.Core.List.{IsPrefix};
+ghost use Rattle.left_right.specs.Sides.{view as known_of};
 ghost use Rattle.pg_publish.specs.History.{last_of};
+ghost use Rattle.pg_publish.specs.Views.{naming};
 
 use crate::history::Front;
 use crate::shown::{Finding, Known, OneHistory, Shown};
@@ -57,6 +59,14 @@ impl<E: Drop> Drop for Sight<E> {
 }
 
 impl<E: Drop> Receiver<E> {
+    /// A reader in this seat that has seen this much.
+    pub(crate) fn new(seat: Reader<Shown<E>, Known, OneHistory>, front: Front<E>) -> Receiver<E>
+        requires { known_of seat.place ≡ naming front.publisher }
+        ensures { result ≡ front }
+    {
+        Receiver { seat, front }
+    }
+
     /// Looks at what is shown. It waits for nobody and takes no memory. The reader comes back as it was
     /// where the publisher is closed, or where what is shown is less than the reader was told of.
     pub fn look(self) -> Result<Sight<E>, Receiver<E>>
