@@ -1,3 +1,4 @@
 pub mod History
 pub mod Views
 pub mod Sender
+pub mod Answers
