@@ -3,8 +3,13 @@
 
 mod answers;
 mod history;
+mod look;
 mod receiver;
 mod sender;
 mod shown;
 
 pub use answers::Answers;
+pub use look::{AnswerReader, Look, Publisher, Told};
+
+#[cfg(test)]
+mod tests;
