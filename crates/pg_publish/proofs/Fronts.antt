@@ -13,6 +13,20 @@ module _ {E : Type 0} where
   pub prefix_trans : (xs ys zs : List E) → IsPrefix xs ys → IsPrefix ys zs → IsPrefix xs zs
   prefix_trans xs ys zs p q = (p.0 ++ q.0, sym (append_assoc xs p.0 q.0) ∙ (ap (λ w. w ++ q.0) p.1 ∙ q.1))
 
+  -- a list begins what it goes on to
+  pub prefix_append : (xs more : List E) → IsPrefix xs (xs ++ more)
+  prefix_append xs more = (more, refl)
+
+  pub prefix_length : (xs ys : List E) → IsPrefix xs ys → length xs ≤ length ys
+  prefix_length xs ys p = omega (arith, sym (ap length p.1) ∙ length-append xs p.0)
+
+  -- what stands in a beginning stands in the whole, at the same place
+  pub prefix_get : (xs ys : List E) (k : ℕ) (x : E) → IsPrefix xs ys → slice_get xs k ≡ Some x → slice_get ys k ≡ Some x
+  prefix_get [] ys k x p h = absurd cc
+  prefix_get (y ∷ xs) [] k x p h = absurd (cc (p.1))
+  prefix_get (y ∷ xs) (z ∷ ys) zero x p h = cc (p.1, h)
+  prefix_get (y ∷ xs) (z ∷ ys) (suc k) x p h = prefix_get xs ys k x (p.0, cc (p.1)) h
+
   -- of two beginnings of one list the shorter begins the longer
   pub prefix_shorter : (xs ys zs : List E) → IsPrefix xs zs → IsPrefix ys zs → length xs ≤ length ys → IsPrefix xs ys
   prefix_shorter [] ys zs p q le = (ys, refl)
