@@ -33,18 +33,18 @@ module _ {E : Type 0} where
         record { list = grown; seen = λ reader. prefix_self (s.seen reader) },
       )
   step_keeps s tells all may = (
-      record {
-        seen = all.seen;
-        told = λ told there. ⊎_elim (all.told told) (λ new. told_is told new) (Contains-append_cases s.told (s.list ∷ []) told there)
-      },
-      record { list = prefix_self s.list; seen = λ reader. prefix_self (s.seen reader) },
-    ) where
+    record {
+      seen = all.seen;
+      told = λ told there. ⊎_elim (all.told told) (λ new. told_is told new) (Contains-append_cases s.told (s.list ∷ []) told there);
+    },
+    record { list = prefix_self s.list; seen = λ reader. prefix_self (s.seen reader) },
+  ) where
     told_is : (told : List E) → Contains (s.list ∷ []) told → IsPrefix told s.list
     told_is told new = subst (λ l. IsPrefix l s.list) (only s.list told new.0 new.1 new.2) (prefix_self s.list)
   step_keeps s (enters reader shown) all may = (
-      record { seen = sees_all (λ r l. IsPrefix l s.list) reader shown s.seen may.1 all.seen; told = all.told },
-      record { list = prefix_self s.list; seen = sees_all (λ r l. IsPrefix (s.seen r) l) reader shown s.seen may.0 (λ r. prefix_self (s.seen r)) },
-    )
+    record { seen = sees_all (λ r l. IsPrefix l s.list) reader shown s.seen may.1 all.seen; told = all.told },
+    record { list = prefix_self s.list; seen = sees_all (λ r l. IsPrefix (s.seen r) l) reader shown s.seen may.0 (λ r. prefix_self (s.seen r)) },
+  )
   step_keeps s (learns reader told) all may =
       let both = longer_is (s.seen reader) told s.list (all.seen reader) (all.told told may) (nat_lt (length (s.seen reader)) (length told)) refl in (
         record { seen = sees_all (λ r l. IsPrefix l s.list) reader (longer (s.seen reader) told) s.seen both.1 all.seen; told = all.told },

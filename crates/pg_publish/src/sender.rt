@@ -151,7 +151,7 @@ impl<E: Drop> Sender<E> {
         ensures made { MatchOption result
             (self.new ≡ self.old)
             (λ r. (self.old.readers < 8) × (self.new ≡ record self.old { readers = self.old.readers + 1 })
-                × (r ≡ told_of self.old)) }
+            × (r ≡ told_of self.old)) }
     {
         if self.readers >= READERS {
             return None;
@@ -182,7 +182,11 @@ impl<E: Drop> Sender<E> {
             return Err(AllocError);
         }
         let next = Shown::new(self.front.again(), next);
-        replace_with(&mut self.writer, (rt, next), |writer, x| (show(x.0, writer, x.1), ()));
+        replace_with(
+            &mut self.writer,
+            (rt, next),
+            |writer, x| (show(x.0, writer, x.1), ()),
+        );
         Ok(())
     }
 
