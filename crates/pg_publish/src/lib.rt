@@ -15,3 +15,5 @@ pub use look::{AnswerReader, Look, Publisher, Told};
 
 #[cfg(test)]
 mod tests;
+#[cfg(test)]
+mod thread_tests;

@@ -12,7 +12,7 @@ use std::sync::{Arc, Wait};
 use std::test::Fail;
 
 /// A registry of one aggregator, `sum`.
-fn one_name(alloc: Global) -> Result<Arc<Registry>, Memory>
+pub(crate) fn one_name(alloc: Global) -> Result<Arc<Registry>, Memory>
     ensures { IfOk result (λ r. length (arc_value r) ≡ 1) }
 {
     let mut registry = Registry::new(alloc);
@@ -75,7 +75,7 @@ fn edition_of(look: &Look<i64>) -> Option<Option<u64>> {
 }
 
 /// What a reader looks at, and the reader again: `None` where no look is given or it isn't whole.
-fn look_once(reader: AnswerReader<i64>) -> (Option<Option<u64>>, AnswerReader<i64>)
+pub(crate) fn look_once(reader: AnswerReader<i64>) -> (Option<Option<u64>>, AnswerReader<i64>)
     ensures { result.1.publisher ≡ reader.publisher }
 {
     match reader.look() {
@@ -88,7 +88,7 @@ fn look_once(reader: AnswerReader<i64>) -> (Option<Option<u64>>, AnswerReader<i6
 }
 
 /// Publishes an edition.
-fn publish<R: Wait>(
+pub(crate) fn publish<R: Wait>(
     rt: &R,
     alloc: Global,
     publisher: &mut Publisher<i64>,
