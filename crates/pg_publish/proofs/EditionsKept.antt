@@ -1,7 +1,5 @@
 -- Editions along a list and along its beginnings.
-use Rattle.std.proofs.Common.{◌≡◌, ℕ, ◌≤◌, ◌-◌, List, length, Some, slice_get, arith}
-use mathlib.Core.List.{IsPrefix}
-use Rattle.pg_publish.specs.Answers.{Answered}
+use Rattle.std.proofs.Common.{◌≤◌, ◌-◌, length, arith}
 use Rattle.pg_publish.specs.Editions.{LooksNeverGoBack}
 use Rattle.pg_publish.proofs.Fronts.{prefix_get, prefix_length}
 

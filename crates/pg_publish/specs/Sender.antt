@@ -1,5 +1,5 @@
 -- What a publisher stands at.
-use Rattle.std.specs.Prelude.{◌≡◌, ℕ, ◌≤◌, List, []}
+use Rattle.std.specs.Prelude.{◌≡◌, ℕ, List, []}
 use Rattle.logbook.specs.Pages.{Book}
 use Rattle.pg_publish.specs.History.{Beginning}
 use Rattle.pg_publish.specs.Views.{naming}

@@ -92,7 +92,7 @@ impl<E> Model for Front<E> {
 }
 
 /// A new history with no entry.
-pub fn open<E>() -> (Head<E>, Front<E>)
+pub(crate) fn open<E>() -> (Head<E>, Front<E>)
     ensures empty { result.1.list ≡ [] }
     ensures own { result.0 ≡ result.1.publisher }
 {
@@ -103,7 +103,7 @@ pub fn open<E>() -> (Head<E>, Front<E>)
 
 impl<E> Front<E> {
     /// How many entries it has.
-    pub fn len(&self) -> u64
+    pub(crate) fn len(&self) -> u64
         ensures { result ≡ length self.now.list }
     {
         self.count
@@ -121,7 +121,7 @@ impl<E> Front<E> {
 
     /// Whether another beginning of the same history begins with this one. If not, it is the other way
     /// round.
-    pub fn begins(&self, other: &Front<E>) -> bool
+    pub(crate) fn begins(&self, other: &Front<E>) -> bool
         requires { other.now.publisher ≡ self.now.publisher }
         ensures { MatchBool result
             (IsPrefix self.now.list other.now.list)
@@ -133,7 +133,7 @@ impl<E> Front<E> {
     }
 
     /// The longer of two beginnings of the same history.
-    pub fn longer(self, other: Front<E>) -> Front<E>
+    pub(crate) fn longer(self, other: Front<E>) -> Front<E>
         requires { other.publisher ≡ self.publisher }
         ensures one { (result ≡ self) ⊎ (result ≡ other) }
         ensures both { IsPrefix self.list result.list × IsPrefix other.list result.list }
@@ -143,7 +143,7 @@ impl<E> Front<E> {
 
     /// Adds an entry to a history of which all was seen, and says whether it did. It did not where the
     /// history had gone on.
-    pub fn add(&mut self, head: &Head<E>, entry: &E) -> bool
+    pub(crate) fn add(&mut self, head: &Head<E>, entry: &E) -> bool
         requires own { head.now ≡ self.old.publisher }
         requires room { length self.old.list < 2 ^ 62 }
         ensures publisher { self.new.publisher ≡ self.old.publisher }

@@ -161,7 +161,7 @@ impl<E: Drop> Sender<E> {
         };
         seat.learn::<Naming>(self.writer.tell::<Naming>());
         self.readers += 1;
-        Some(Receiver::new(seat, self.front.again()))
+        Some(Receiver::new(seat, self.tell()))
     }
 
     /// Adds an entry, and shows it to readers. It waits for those that still look at the entry before

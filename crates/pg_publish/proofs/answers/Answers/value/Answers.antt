@@ -1,4 +1,4 @@
-use Rattle.std.proofs.Common.{arith, rules, ap, sym, ◌∙◌}
+use Rattle.std.proofs.Common.{rules, sym}
 use Rattle.std.proofs.lemmas.List.Sorted.{answers_always}
 use Rattle.pg_graph.proofs.Search.{lookup_found, lookup_missing, searchable}
 use Rattle.pg_publish.proofs.answers.Answers.value.Goals as goal
