@@ -16,13 +16,20 @@ module _ {E : Type 0} where
   abbrev pub moved : List E → List E → ℕ → Type 0
   moved xs ys n = Unit {0}
 
+  -- the exchange of the length `old` for the next, by one who has seen this list and adds this entry
+  abbrev Exchanges : (seen : List E) (entry : E) (old : ℕ) → List Cell → List E → Type 0
+  Exchanges seen entry old =
+      Goes Counts shown moved 0 (seen, (no_nib, None)) (λ n. either (n == old) (old + 1) n)
+      (Lengthens (step 0 old (old + 1) entry) (seen, (no_nib, None)))
+
   -- where the length is the one that was seen, the entry goes behind all that was seen; else nothing changes
   goes : (list seen : List E) (entry : E) (old : ℕ) → length seen ≡ old → IsPrefix seen list → (b : Bool) → (length list == old) ≡ b
-      → Goes Counts shown moved 0 (seen, (no_nib, None)) (λ n. either (n == old) (old + 1) n) (Lengthens (step 0 old (old + 1) entry) (seen, (no_nib, None))) ((length list, true) ∷ (0, true) ∷ []) list
+      → Exchanges seen entry old ((length list, true) ∷ (0, true) ∷ []) list
   goes list seen entry old len pre true is =
       let here : length list ≡ old = grind (arith, nat_tests) in
       let same : seen ≡ list = prefix_whole seen list pre (omega arith) in
-      let n : either (length list == old) (old + 1) (length list) ≡ length (list ++ entry ∷ []) = rw is (omega (arith, length-append list (entry ∷ []))) in (
+      let n : either (length list == old) (old + 1) (length list) ≡ length (list ++ entry ∷ []) =
+      rw is (omega (arith, length-append list (entry ∷ []))) in (
         keeps,
         entry ∷ [],
         None,
@@ -44,7 +51,8 @@ module _ {E : Type 0} where
 
   -- whatever the history is, the exchange adds the entry to all that was seen, or finds another length
   pub adds_moves : (seen : List E) (entry : E) (old : ℕ) → length seen ≡ old
-      → Moves Counts shown moved 0 (seen, (no_nib, None)) (λ n. either (n == old) (old + 1) n) (Lengthens (step 0 old (old + 1) entry) (seen, (no_nib, None)))
+      → Moves Counts shown moved 0 (seen, (no_nib, None)) (λ n. either (n == old) (old + 1) n)
+      (Lengthens (step 0 old (old + 1) entry) (seen, (no_nib, None)))
   adds_moves seen entry old len cells list kept pre away =
-      let P : List Cell → Type 0 = λ c. (0 < length c) × ((cell c 0).1 ≡ true) × Goes Counts shown moved 0 (seen, (no_nib, None)) (λ n. either (n == old) (old + 1) n) (Lengthens (step 0 old (old + 1) entry) (seen, (no_nib, None))) c list in
+      let P : List Cell → Type 0 = λ c. (0 < length c) × ((cell c 0).1 ≡ true) × Exchanges seen entry old c list in
       subst P (sym kept) (omega arith, refl, goes list seen entry old len pre (length list == old) refl)

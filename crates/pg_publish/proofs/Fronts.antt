@@ -1,5 +1,6 @@
 -- Beginnings of one list.
-use Rattle.std.proofs.Common.{◌≡◌, ℕ, zero, suc, ◌-◌, ◌<◌, ◌≤◌, nat_le, Bool, true, false, MatchBool, List, [], ◌∷◌, ◌++◌, length, Some, slice_get, refl, ap, sym, ◌∙◌, arith, append_assoc, length-append}
+use Rattle.std.proofs.Common.{◌≡◌, ℕ, zero, suc, ◌-◌, ◌<◌, ◌≤◌, nat_le, Bool, true, false, MatchBool, List, [], ◌∷◌, ◌++◌, length, Some, slice_get}
+use Rattle.std.proofs.Common.{refl, ap, sym, ◌∙◌, arith, append_assoc, length-append}
 use mathlib.Core.List.{IsPrefix}
 use Rattle.std.proofs.lemmas.Bool.Decides.{nat_tests}
 use Rattle.pg_publish.specs.History.{last_of, GoesFurther}
@@ -55,7 +56,8 @@ module _ {E : Type 0} where
       let place : length (xs ++ x ∷ []) - 1 ≡ length xs = omega (arith, length-append xs (x ∷ [])) in
       ap (λ k. slice_get (xs ++ x ∷ []) k) place ∙ slice_get-append xs x
 
-  begins_if : (xs ys both : List E) (m n : ℕ) → m ≡ length xs → n ≡ length ys → IsPrefix xs both → IsPrefix ys both → (b : Bool) → nat_le m n ≡ b → MatchBool b (IsPrefix xs ys) (GoesFurther ys xs)
+  begins_if : (xs ys both : List E) (m n : ℕ) → m ≡ length xs → n ≡ length ys
+      → IsPrefix xs both → IsPrefix ys both → (b : Bool) → nat_le m n ≡ b → MatchBool b (IsPrefix xs ys) (GoesFurther ys xs)
   begins_if xs ys both m n first second p q true is =
       let le : m ≤ n = grind (arith, nat_tests) in
       prefix_shorter xs ys both p q (omega arith)
@@ -64,5 +66,6 @@ module _ {E : Type 0} where
       (prefix_shorter ys xs both q p (omega arith), omega arith)
 
   -- which of two beginnings of one list begins the other, by their lengths
-  pub begins_by_length : (xs ys both : List E) (m n : ℕ) → m ≡ length xs → n ≡ length ys → IsPrefix xs both → IsPrefix ys both → MatchBool (nat_le m n) (IsPrefix xs ys) (GoesFurther ys xs)
+  pub begins_by_length : (xs ys both : List E) (m n : ℕ) → m ≡ length xs → n ≡ length ys
+      → IsPrefix xs both → IsPrefix ys both → MatchBool (nat_le m n) (IsPrefix xs ys) (GoesFurther ys xs)
   begins_by_length xs ys both m n first second p q = begins_if xs ys both m n first second p q (nat_le m n) refl

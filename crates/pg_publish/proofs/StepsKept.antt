@@ -1,5 +1,6 @@
 -- Each step leaves all that was seen and told a beginning of what is published.
-use Rattle.std.proofs.Common.{◌≡◌, ℕ, zero, suc, ◌<◌, ◌==◌, if◌then◌else◌, nat_lt, Bool, true, false, List, [], ◌∷◌, ◌++◌, length, fold, get_or, refl, subst, ⊎_elim, arith}
+use Rattle.std.proofs.Common.{◌≡◌, ℕ, zero, suc, ◌<◌, ◌==◌, if◌then◌else◌, nat_lt, Bool, true, false, List, [], ◌∷◌, ◌++◌, length, fold, get_or}
+use Rattle.std.proofs.Common.{refl, subst, ⊎_elim, arith}
 use Rattle.std.specs.List.{Contains}
 use Rattle.std.proofs.lemmas.Bool.Decides.{nat_tests}
 use Rattle.std.proofs.lemmas.List.Elements.{Contains-append_cases}
@@ -15,7 +16,8 @@ module _ {E : Type 0} where
   longer_is xs ys whole p q false is = (prefix_self xs, p)
 
   -- where a reader's list is replaced by one with this property, all lists have it
-  sees_all : (P : ℕ → List E → Type 0) (reader : ℕ) (now : List E) (seen : ℕ → List E) → P reader now → ((other : ℕ) → P other (seen other)) → (other : ℕ) → P other (sees reader now seen other)
+  sees_all : (P : ℕ → List E → Type 0) (reader : ℕ) (now : List E) (seen : ℕ → List E) → P reader now
+      → ((other : ℕ) → P other (seen other)) → (other : ℕ) → P other (sees reader now seen other)
   sees_all P reader now seen here all other = by (other == reader) refl where
     by : (b : Bool) → (other == reader) ≡ b → P other (if b then now else seen other)
     by true is = let same : reader ≡ other = grind (arith, nat_tests) in subst (λ r. P r now) same here
@@ -46,9 +48,10 @@ module _ {E : Type 0} where
     record { list = prefix_self s.list; seen = sees_all (λ r l. IsPrefix (s.seen r) l) reader shown s.seen may.0 (λ r. prefix_self (s.seen r)) },
   )
   step_keeps s (learns reader told) all may =
-      let both = longer_is (s.seen reader) told s.list (all.seen reader) (all.told told may) (nat_lt (length (s.seen reader)) (length told)) refl in (
-        record { seen = sees_all (λ r l. IsPrefix l s.list) reader (longer (s.seen reader) told) s.seen both.1 all.seen; told = all.told },
-        record { list = prefix_self s.list; seen = sees_all (λ r l. IsPrefix (s.seen r) l) reader (longer (s.seen reader) told) s.seen both.0 (λ r. prefix_self (s.seen r)) },
+      let both = longer_is (s.seen reader) told s.list (all.seen reader) (all.told told may) (nat_lt (length (s.seen reader)) (length told)) refl in
+      let now = longer (s.seen reader) told in (
+        record { seen = sees_all (λ r l. IsPrefix l s.list) reader now s.seen both.1 all.seen; told = all.told },
+        record { list = prefix_self s.list; seen = sees_all (λ r l. IsPrefix (s.seen r) l) reader now s.seen both.0 (λ r. prefix_self (s.seen r)) },
       )
 
   steps_keep : (s : Standing E) (steps : List (Step E)) → AllBegin s → MayAll s steps → AllBegin (fold after s steps) × GoesOn s (fold after s steps)
@@ -63,7 +66,8 @@ module _ {E : Type 0} where
   first_begins : AllBegin {E = E} first
   first_begins = record { seen = λ reader. prefix_self []; told = λ told there. absurd (omega (arith, there.1)) }
 
-  pub readers_begin : (steps more : List (Step E)) → MayAll first steps → AllBegin (fold after first steps) × (MayAll (fold after first steps) more → GoesOn (fold after first steps) (fold after (fold after first steps) more))
+  pub readers_begin : (steps more : List (Step E)) → MayAll first steps → AllBegin (fold after first steps)
+      × (MayAll (fold after first steps) more → GoesOn (fold after first steps) (fold after (fold after first steps) more))
   readers_begin steps more may =
       let now = (steps_keep first steps first_begins may).0 in
       (now, λ further. (steps_keep (fold after first steps) more now further).1)

@@ -26,14 +26,18 @@ impl<V> Model for Answers<V> {
 
     ghost Value = { Answered V };
 
-    ghost view = { λ a. record { edition = a.edition; answer = a.run; registered = arc_value a.registry } };
+    ghost view = { λ a. record {
+      edition = a.edition;
+      answer = a.run;
+      registered = arc_value a.registry;
+    } };
 
     ghost invariant = { λ a. IsWhole a.run (arc_value a.registry) };
 }
 
 impl<V> Answers<V> {
-    /// The answer of the run on this edition. The aggregates have the names of the registry, which is
-    /// shared.
+    /// The answer of the run on this edition. The aggregates have the names of the registry, which
+    /// is shared.
     ///
     /// # Errors
     ///
@@ -47,7 +51,11 @@ impl<V> Answers<V> {
         V: Drop,
         requires { IsWhole run (arc_value registry.now) }
         ensures { IfOk result
-            (λ a. a ≡ record { edition = edition; answer = run; registered = arc_value registry.now }) }
+            (λ a. a ≡ record {
+              edition = edition;
+              answer = run;
+              registered = arc_value registry.now;
+            }) }
     {
         let registry = Arc::try_clone(registry)?;
         Ok(Answers {

@@ -119,8 +119,8 @@ impl<E> Front<E> {
         }
     }
 
-    /// Whether another beginning of the same history begins with this one. If not, it is the other way
-    /// round.
+    /// Whether another beginning of the same history begins with this one. If not, it is the other
+    /// way round.
     pub(crate) fn begins(&self, other: &Front<E>) -> bool
         requires { other.now.publisher ≡ self.now.publisher }
         ensures { MatchBool result
@@ -141,8 +141,8 @@ impl<E> Front<E> {
         if self.begins(&other) { other } else { self }
     }
 
-    /// Adds an entry to a history of which all was seen, and says whether it did. It did not where the
-    /// history had gone on.
+    /// Adds an entry to a history of which all was seen, and says whether it did. It did not where
+    /// the history had gone on.
     pub(crate) fn add(&mut self, head: &Head<E>, entry: &E) -> bool
         requires own { head.now ≡ self.old.publisher }
         requires room { length self.old.list < 2 ^ 62 }

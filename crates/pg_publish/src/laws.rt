@@ -1,10 +1,10 @@
-//! What holds of a publisher and its readers as a whole. These functions do nothing: their contracts
-//! are the laws.
+//! What holds of a publisher and its readers as a whole. These functions do nothing: their
+//! contracts are the laws.
 ghost use Rattle.pg_publish.specs.Editions.{LooksNeverGoBack};
 ghost use Rattle.pg_publish.specs.Steps.{ReadersSeeBeginnings};
 
-/// After any list of publish, tell, enter and learn steps each reader has seen a beginning of what the
-/// publisher has published, and no step takes anything back.
+/// After any list of publish, tell, enter and learn steps each reader has seen a beginning of what
+/// the publisher has published, and no step takes anything back.
 pub fn readers_see_beginnings<E>()
     ensures { ReadersSeeBeginnings E }
 {}

@@ -31,8 +31,9 @@ impl<E: Drop> Model for Receiver<E> {
     ghost invariant = { λ r. known_of r.seat.place ≡ naming r.front.publisher };
 }
 
-/// What a reader looks at. It stays the same until the reader leaves, or it is dropped. A contract sees
-/// the history that ends with it.
+/// What a reader looks at. It stays the same until the reader leaves, or it is dropped. A contract
+/// sees the history that ends with it. While it is kept, the publisher waits before it shows a
+/// second entry after it.
 pub struct Sight<E: Drop> {
     reading: Reading<Shown<E>, Known, OneHistory>,
     front: Front<E>,
@@ -48,7 +49,8 @@ impl<E: Drop> Model for Sight<E> {
 
     ghost view = { λ s. s.front };
 
-    ghost invariant = { λ s. (known_of s.reading.place ≡ naming s.front.publisher) × (s.reading.part.value ≡ s.front) };
+    ghost invariant = { λ s. (known_of s.reading.place ≡ naming s.front.publisher)
+        × (s.reading.part.value ≡ s.front) };
 }
 
 impl<E: Drop> Drop for Sight<E> {
@@ -67,8 +69,8 @@ impl<E: Drop> Receiver<E> {
         Receiver { seat, front }
     }
 
-    /// Looks at what is shown. It waits for nobody and takes no memory. The reader comes back as it was
-    /// where the publisher is closed, or where what is shown is less than the reader was told of.
+    /// Looks at what is shown. It waits for nobody and takes no memory. The reader comes back as it
+    /// was where the publisher is closed, or where what is shown is less than it was told of.
     pub fn look(self) -> Result<Sight<E>, Receiver<E>>
         ensures { MatchResult result
             (λ sight. (sight.publisher ≡ self.publisher) × IsPrefix self.list sight.list)

@@ -1,5 +1,6 @@
 //! The publisher: the one that adds to a history and shows readers its last entry.
-ghost use Rattle.std.specs.Prelude.{◌≡◌, ◌+◌, ◌<◌, ◌++◌, ◌∷◌, [], drop, MatchOption, MatchResult, IfOk};
+ghost use Rattle.std.specs.Prelude.{◌≡◌, ◌+◌, ◌<◌, ◌++◌, ◌∷◌, [], drop};
+ghost use Rattle.std.specs.Prelude.{MatchOption, MatchResult, IfOk};
 ghost use Rattle.left_right.specs.Sides.{view as known_of};
 ghost use Rattle.pg_publish.specs.Sender.{Shows, told_of};
 ghost use Rattle.pg_publish.specs.Views.{naming};
@@ -22,8 +23,8 @@ const MOST_ENTRIES: u64 = 1 << 61;
 
 type ShownWriter<E> = Writer<Shown<E>, Shown<E>, Known, OneHistory>;
 
-/// The publisher of a history. A contract sees which history, its entries, and how many readers were
-/// made. It is not `Drop`: end it by `close`.
+/// The publisher of a history. A contract sees which history, its entries, and how many readers
+/// were made. It is not `Drop`: end it by `close`.
 pub struct Sender<E: Drop>
 where
     Shown<E>: Absorb<Shown<E>, State = Front<E>>,
@@ -45,14 +46,19 @@ where
 
     ghost Value = { Publishing E };
 
-    ghost view = { λ s. record { publisher = s.front.publisher; list = s.front.list; readers = s.readers } };
+    ghost view = { λ s. record {
+      publisher = s.front.publisher;
+      list = s.front.list;
+      readers = s.readers;
+    } };
 
     ghost invariant = { λ s. (s.head ≡ s.front.publisher) × (s.readers ≤ 8)
-        × Shows s.front s.writer.desk.shown.value (drop s.writer.behind s.writer.log.items) (known_of s.writer.desk.place) };
+        × Shows s.front s.writer.desk.shown.value
+        (drop s.writer.behind s.writer.log.items) (known_of s.writer.desk.place) };
 }
 
-/// Puts what is to be shown next into the writer's log. It is tried until it takes: the log has room
-/// for it from `Sender::new` on, so that it takes at once.
+/// Puts what is to be shown next into the writer's log. It is tried until it takes: the log has
+/// room for it from `Sender::new` on, so that it takes at once.
 fn log_next<E: Drop, R: Wait>(rt: &R, writer: ShownWriter<E>, next: Shown<E>) -> ShownWriter<E>
     requires { drop writer.behind writer.log.items ≡ [] }
     ensures desk { result.desk ≡ writer.desk }
@@ -69,12 +75,13 @@ fn log_next<E: Drop, R: Wait>(rt: &R, writer: ShownWriter<E>, next: Shown<E>) ->
     unreachable!()
 }
 
-/// Shows readers what is in the log. It is tried until it takes, and waits for those that still look at
-/// what was shown before the last.
+/// Shows readers what is in the log. It is tried until it takes, and waits for those that still
+/// look at what was shown before the last.
 fn show_next<E: Drop, R: Wait>(rt: &R, writer: ShownWriter<E>, next: &Front<E>) -> ShownWriter<E>
     requires pending { drop writer.behind writer.log.items ≡ next.now ∷ [] }
     requires own { next.now.publisher ≡ writer.desk.shown.value.publisher }
-    ensures { Shows next.now result.desk.shown.value (drop result.behind result.log.items) (known_of result.desk.place) }
+    ensures { Shows next.now result.desk.shown.value
+        (drop result.behind result.log.items) (known_of result.desk.place) }
 {
     let mut writer = writer;
     for _ in rt.forever() {
@@ -91,7 +98,8 @@ fn show_next<E: Drop, R: Wait>(rt: &R, writer: ShownWriter<E>, next: &Front<E>) 
 fn show<E: Drop, R: Wait>(rt: &R, writer: ShownWriter<E>, next: Shown<E>) -> ShownWriter<E>
     requires pending { drop writer.behind writer.log.items ≡ [] }
     requires own { next.publisher ≡ writer.desk.shown.value.publisher }
-    ensures { Shows next result.desk.shown.value (drop result.behind result.log.items) (known_of result.desk.place) }
+    ensures { Shows next result.desk.shown.value
+        (drop result.behind result.log.items) (known_of result.desk.place) }
 {
     let front = next.front().again();
     show_next(rt, log_next(rt, writer, next), &front)
@@ -106,7 +114,8 @@ fn make_room<E: Drop, R: Wait>(
     requires empty { front.now.list ≡ [] }
     requires own { front.now.publisher ≡ writer.desk.shown.value.publisher }
     requires pending { drop writer.behind writer.log.items ≡ [] }
-    ensures { IfOk result (λ w. Shows front.now w.desk.shown.value (drop w.behind w.log.items) (known_of w.desk.place)) }
+    ensures { IfOk result (λ w. Shows front.now w.desk.shown.value
+        (drop w.behind w.log.items) (known_of w.desk.place)) }
 {
     let mut writer = writer;
     if writer.append(Shown::nothing(front.again())).is_err() {
@@ -146,11 +155,13 @@ impl<E: Drop> Sender<E> {
         })
     }
 
-    /// A reader, who has seen all that is published. There are 8 at most.
+    /// A reader, who has seen all that is published. None after the eighth, also where one was
+    /// dropped.
     pub fn reader(&mut self) -> Option<Receiver<E>>
         ensures made { MatchOption result
             (self.new ≡ self.old)
-            (λ r. (self.old.readers < 8) × (self.new ≡ record self.old { readers = self.old.readers + 1 })
+            (λ r. (self.old.readers < 8)
+            × (self.new ≡ record self.old { readers = self.old.readers + 1 })
             × (r ≡ told_of self.old)) }
     {
         if self.readers >= READERS {
@@ -164,12 +175,13 @@ impl<E: Drop> Sender<E> {
         Some(Receiver::new(seat, self.tell()))
     }
 
-    /// Adds an entry, and shows it to readers. It waits for those that still look at the entry before
-    /// the last.
+    /// Adds an entry, and shows it to readers. It waits for those that still look at the entry
+    /// before the last. The entry is shared from then on, never copied.
     ///
     /// # Errors
     ///
-    /// Want of memory; what is published stays as it was.
+    /// Want of memory, which stands for a history of 2^61 entries too; what is published stays as
+    /// it was.
     pub fn publish<R: Wait>(&mut self, rt: &R, next: E) -> Result<(), AllocError>
         ensures list { MatchResult result
             (λ _. self.new ≡ record self.old { list = self.old.list ++ next ∷ [] })

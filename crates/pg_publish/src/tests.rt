@@ -22,7 +22,8 @@ pub(crate) fn one_name(alloc: Global) -> Result<Arc<Registry>, Memory>
     }
 }
 
-/// An answer whose values all tell its edition: at id 1 the edition, at 2 twice, at 5 five times that.
+/// An answer whose values all tell its edition: at id 1 the edition, at 2 twice, at 5 five times
+/// that.
 fn answers(alloc: Global, registry: &Arc<Registry>, edition: u64) -> Result<Answers<i64>, Memory>
     requires { length (arc_value registry.now) ≡ 1 }
 {

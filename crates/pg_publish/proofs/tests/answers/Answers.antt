@@ -12,5 +12,6 @@ new-requires-5 c =
     let ids = c.in-Some-Some-Some in
     record {
       named = ap length (c.from_vec-2.ensures ∙ c.in_ok-vec.ensures.items) ∙ sym c.requires;
-      rising = rw (c.from_vec.ensures, c.in_ok-values.ensures.items) (rising_ids ids.one ids.two ids.five ids.ensures.value ids.ensures'.value ids.ensures''.value);
+      rising = rw (c.from_vec.ensures, c.in_ok-values.ensures.items)
+          (rising_ids ids.one ids.two ids.five ids.ensures.value ids.ensures'.value ids.ensures''.value);
     }

@@ -13,5 +13,6 @@ compare_exchange-found-requires g c =
       seen,
       pen.0 ∙ seen,
       offer.0,
-      rw (ap (λ w. w.key) head, pen.1, offer.1, offer.3, c.again-seen.ensures) (adds_moves c.self.inside.seen.log c.args.entry.now c.self.inside.count (sym c.self.invariant)),
+      rw (ap (λ w. w.key) head, pen.1, offer.1, offer.3, c.again-seen.ensures)
+          (adds_moves c.self.inside.seen.log c.args.entry.now c.self.inside.count (sym c.self.invariant)),
     )
