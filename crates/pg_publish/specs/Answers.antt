@@ -6,7 +6,6 @@ use Rattle.std.specs.Map.{lookup, keys_of}
 use Rattle.std.specs.Option.{option_and_then}
 use Rattle.std.specs.List.Sorted.{IsStrictlySortedBy}
 use Rattle.pg_model.specs.declared.run.Run.{Run}
-use Rattle.pg_model.specs.Publications.{Publication}
 use Rattle.pg_global.specs.Registry.{Registered, place_of}
 
 -- the edition, the answer of the run, and the names of its aggregates in the order of their places
@@ -24,10 +23,6 @@ module _ {V : Type 0} where
   pub record IsWhole (answer : Run V) (registered : Registered) : Type 0 where
     pub named : length answer.aggregates ≡ length registered
     pub rising : HasRisingIds answer.values
-
-  -- the edition with its answer
-  abbrev pub publication_of : Answered V → Publication V
-  publication_of a = record { edition = a.edition; answer = a.answer }
 
   -- the value of a vertex
   abbrev pub value_of : ℕ → Answered V → Option V

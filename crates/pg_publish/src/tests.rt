@@ -1,5 +1,5 @@
 //! Publication at concrete types.
-ghost use Rattle.std.specs.Prelude.{◌≡◌, IfOk, IsOk, length};
+ghost use Rattle.std.specs.Prelude.{◌≡◌, IfOk, length};
 ghost use Rattle.std.specs.Arc.{arc_value};
 
 use super::*;
