@@ -2,6 +2,7 @@
 use Rattle.std.specs.Prelude.{ℕ, ℤ, Bool, false, List, map, length, ◌==◌, ◌/◌, ◌^◌, ◌&&◌, Option}
 use Rattle.pg_graph.specs.declared.missing.Missing.{Missing}
 use Rattle.pg_model.specs.Job.{Program, Combining, Decision, Deciding, Job}
+use Rattle.pg_model.specs.Programs.{decides_nothing}
 use Rattle.pg_model.specs.declared.view.Declared.{Declared}
 use Rattle.pg_global.specs.Registry.{Registered, aggregating_of}
 
@@ -26,7 +27,7 @@ decided master state =
 
 -- a master that sets nothing and never halts
 abbrev pub leaves_all : Registered → Master
-leaves_all registrations = record { registrations = registrations; deciding = λ s totals gathered. record { values = gathered; halt = false } }
+leaves_all registrations = record { registrations = registrations; deciding = decides_nothing }
 
 -- the job of a program, a combiner and a master, with a policy for messages to nobody and a limit
 abbrev pub job_of : {V M : Type 0} → Program V M → Option (Combining M) → Master → Missing → ℕ → Job V M

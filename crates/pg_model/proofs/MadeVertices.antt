@@ -11,11 +11,11 @@ use Rattle.pg_model.specs.Job.{Job}
 use Rattle.pg_model.specs.Superstep.{visible_in, view_of, outcome, gathered_from, next}
 use Rattle.pg_model.specs.Run.{first, configuration, length_from, executions_below, executions, answer}
 use Rattle.pg_model.specs.Needed.{inputs_at, needed_below, needed_count}
-use Rattle.pg_model.specs.Programs.{infinity, sssp, sssp_step, sssp_aggregators, pagerank, pagerank_step, pagerank_aggregators, pagerank_deciding, shed, shed_step, leaves_all}
+use Rattle.pg_model.specs.Programs.{infinity, sssp, sssp_step, sssp_aggregators, pagerank, pagerank_step, pagerank_aggregators, pagerank_deciding, shed, shed_step, decides_nothing}
 use Rattle.pg_model.specs.declared.run.Ending.TheVariants.{Finished, LimitReached}
 
 abbrev from_1 : Missing → ℕ → Job ℤ ℤ
-from_1 missing limit = record { program = sssp 1; combining = None; aggregators = sssp_aggregators; deciding = leaves_all; missing = missing; limit = limit }
+from_1 missing limit = record { program = sssp 1; combining = None; aggregators = sssp_aggregators; deciding = decides_nothing; missing = missing; limit = limit }
 
 abbrev row : EdgeList → Row
 row edges = record { input = pos 0; edges = edges }
@@ -80,7 +80,7 @@ ranks-executions = refl
 
 -- ---- shed: the edges are those that the superstep begins with
 abbrev shedding : Job ℤ ℤ
-shedding = record { program = shed; combining = None; aggregators = []; deciding = leaves_all; missing = Drop; limit = 1000 }
+shedding = record { program = shed; combining = None; aggregators = []; deciding = decides_nothing; missing = Drop; limit = 1000 }
 
 abbrev three_edges : Rows
 three_edges = (1, row ((2, pos 1) ∷ (3, pos 1) ∷ [])) ∷ (2, row ((3, pos 1) ∷ [])) ∷ (3, row []) ∷ []

@@ -9,11 +9,11 @@ use Rattle.pg_model.specs.Job.{Job, Aggregating, Program}
 use Rattle.pg_model.specs.Superstep.{visible_in, view_of, outcome, gathered_from, next}
 use Rattle.pg_model.specs.Run.{first, configuration, length_from, executions_below, executions, answer}
 use Rattle.pg_model.specs.Needed.{inputs_at, needed_below, needed_count}
-use Rattle.pg_model.specs.Programs.{cc, cc_step, max_value, max_step, max_aggregators, indegree, indegree_step, indegree_aggregators, pagerank, pagerank_step, pagerank_aggregators, pagerank_deciding, peel, peel_step, peel_aggregators, tally, tally_step, leaves_all}
+use Rattle.pg_model.specs.Programs.{cc, cc_step, max_value, max_step, max_aggregators, indegree, indegree_step, indegree_aggregators, pagerank, pagerank_step, pagerank_aggregators, pagerank_deciding, peel, peel_step, peel_aggregators, tally, tally_step, decides_nothing}
 use Rattle.pg_model.specs.declared.run.Ending.TheVariants.{MasterHalted, Finished}
 
 abbrev plain : Program ℤ ℤ → List Aggregating → Job ℤ ℤ
-plain program aggregators = record { program = program; combining = None; aggregators = aggregators; deciding = leaves_all; missing = Drop; limit = 1000 }
+plain program aggregators = record { program = program; combining = None; aggregators = aggregators; deciding = decides_nothing; missing = Drop; limit = 1000 }
 
 abbrev row : EdgeList → Row
 row edges = record { input = pos 0; edges = edges }
@@ -114,7 +114,7 @@ three-needed = refl
 
 -- ---- the inbox is by sender: 1 and 2, of inputs 10 and 20, both send to 3
 abbrev tallying : Job (ℤ × List ℤ) ℤ
-tallying = record { program = tally; combining = None; aggregators = []; deciding = leaves_all; missing = Drop; limit = 1000 }
+tallying = record { program = tally; combining = None; aggregators = []; deciding = decides_nothing; missing = Drop; limit = 1000 }
 
 abbrev two_senders : Rows
 two_senders =

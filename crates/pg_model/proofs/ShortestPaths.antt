@@ -10,11 +10,11 @@ use Rattle.pg_model.specs.Job.{Job, Combining}
 use Rattle.pg_model.specs.Superstep.{visible_in, view_of, outcome, gathered_from, next}
 use Rattle.pg_model.specs.Run.{first, configuration, length_from, executions_below, executions, answer}
 use Rattle.pg_model.specs.Needed.{inputs_at, needed_below, needed_count}
-use Rattle.pg_model.specs.Programs.{infinity, sssp, sssp_step, sssp_aggregators, leaves_all}
+use Rattle.pg_model.specs.Programs.{infinity, sssp, sssp_step, sssp_aggregators, decides_nothing}
 use Rattle.pg_model.specs.declared.run.Ending.TheVariants.{Finished, LimitReached}
 
 abbrev from_1 : Option (Combining ℤ) → ℕ → Job ℤ ℤ
-from_1 combining limit = record { program = sssp 1; combining = combining; aggregators = sssp_aggregators; deciding = leaves_all; missing = Drop; limit = limit }
+from_1 combining limit = record { program = sssp 1; combining = combining; aggregators = sssp_aggregators; deciding = decides_nothing; missing = Drop; limit = limit }
 
 abbrev row : EdgeList → Row
 row edges = record { input = pos 0; edges = edges }

@@ -152,8 +152,8 @@ pagerank_deciding least_change s totals gathered =
     }
 
 -- a master that sets nothing and never halts
-abbrev pub leaves_all : Deciding
-leaves_all s totals gathered = record { values = gathered; halt = false }
+abbrev pub decides_nothing : Deciding
+decides_nothing s totals gathered = record { values = gathered; halt = false }
 
 -- ---- peel: 1 for the vertices of the k-core, 0 for those that are removed
 abbrev pub edges_left : EdgeList → List ℤ → EdgeList

@@ -10,6 +10,7 @@ use Rattle.pg_global.specs.AnyAggregator.{operation_of}
 use Rattle.pg_global.specs.Registry.{aggregating_of}
 use Rattle.pg_global.specs.declared.registry.Registration.{Registration}
 use Rattle.pg_scratch.specs.Adding.{AddsAt}
+use Rattle.pg_model.proofs.LawsIds.{length-gathered_from}
 use Rattle.pg_model.specs.Job.{Aggregating}
 use Rattle.pg_model.specs.Superstep.{at_place, gathered_at, gathered_from}
 use Rattle.pg_scratch.proofs.Messages.{messages_to-more, fold-push}
@@ -60,18 +61,12 @@ module _ (cs : List (ℕ × ℤ)) (c : ℕ × ℤ) where
       ap (λ (l : List ℤ). gathered_at a value l ∷ gathered_from (place + 1) xs values (cs ++ c ∷ [])) (other_place place (λ e. omega arith))
       ∙ ap (λ l. gathered_at a value (at_place place cs) ∷ l) (gathered_from-past (place + 1) xs values (omega arith))
 
-pub length-gathered_from : (place : ℕ) (xs : List Aggregating) (values : List ℤ) (cs : List (ℕ × ℤ)) → length xs ≡ length values → length (gathered_from place xs values cs) ≡ length xs
-unfolding gathered_from
-length-gathered_from place [] values cs same = refl
-length-gathered_from place (a ∷ xs) [] cs same = absurd (omega arith)
-length-gathered_from place (a ∷ xs) (value ∷ values) cs same = ap (λ n. suc n) (length-gathered_from (place + 1) xs values cs (omega arith))
-
 -- ---- a contribution is added to what the ones before it came to
 module _ (registrations : List Registration) (values : List ℤ) (cs : List (ℕ × ℤ)) (c : ℕ × ℤ) (before after : List ℤ) (same : length registrations ≡ length values) (so_far : before ≡ gathered_from 0 (map aggregating_of registrations) values cs) where
   pub length-so_far : length registrations ≡ length before
   length-so_far =
       let n : length (map aggregating_of registrations) ≡ length registrations = simp length-map in
-      sym (ap length so_far ∙ length-gathered_from 0 (map aggregating_of registrations) values cs (n ∙ same) ∙ n)
+      sym (ap length so_far ∙ length-gathered_from 0 (map aggregating_of registrations) values cs (sym (n ∙ same)) ∙ n)
 
   pub gathered-added : AddsAt registrations before after c.0 c.1 → after ≡ gathered_from 0 (map aggregating_of registrations) values (cs ++ c ∷ [])
   gathered-added adds =

@@ -1,6 +1,7 @@
 -- One execution, and the vertices that aren't executed.
 use Rattle.std.proofs.Common.{◌≡◌, ℕ, ◌+◌, Bool, true, false, cond, not, ◌||◌, List, [], ◌∷◌, ◌++◌, refl, sym, ap, ◌∙◌, arith, rules, tests}
 use Rattle.std.proofs.lemmas.List.{append-nil}
+use Rattle.pg_model.proofs.LawsAgreement.{outcome-active, outcome-idle}
 use Rattle.pg_model.specs.Job.{Program}
 use Rattle.pg_model.specs.Superstep.{is_active, is_empty, idle, inputs_of, outcome, state_after, capped}
 use Rattle.pg_model.specs.declared.configuration.Standing.{Standing}
@@ -13,14 +14,6 @@ use Rattle.std.specs.Prelude.{◌<◌, ◌^◌, ℤ}
 use Rattle.pg_scratch.specs.Pass.{ran, context_after}
 
 module _ {V M : Type 0} (program : Program V M) (view : View) (x : Standing V M) where
-  pub outcome-active : is_active x ≡ true → outcome program view x ≡ program.step (inputs_of view x)
-  unfolding outcome
-  outcome-active active = ap (λ b. cond b (program.step (inputs_of view x)) (idle x.state)) active
-
-  pub outcome-idle : is_active x ≡ false → outcome program view x ≡ idle x.state
-  unfolding outcome
-  outcome-idle still = ap (λ b. cond b (program.step (inputs_of view x)) (idle x.state)) still
-
   -- the vertex and the context that an execution is lent
   module _ (vertex vertex' : VertexState V) (inbox : List M) (cx cx' : Context M) (active : is_active x ≡ true) (begins : vertex ≡ record { id = x.state.id; value = x.state.value; edges = x.state.edges; halted = false }) (reads : inbox ≡ x.inbox) (sees : cx.view ≡ view) (executes : Executes program vertex vertex' inbox cx cx') where
     step_is : step_on program vertex inbox cx ≡ outcome program view x
@@ -28,7 +21,7 @@ module _ {V M : Type 0} (program : Program V M) (view : View) (x : Standing V M)
         ap (λ (v : VertexState V). step_on program v inbox cx) begins
         ∙ ap (λ (l : List M). program.step (record { view = cx.view; id = x.state.id; value = x.state.value; edges = x.state.edges; inbox = l })) reads
         ∙ ap (λ (w : View). program.step (record { view = w; id = x.state.id; value = x.state.value; edges = x.state.edges; inbox = x.inbox })) sees
-        ∙ sym (outcome-active active)
+        ∙ sym (outcome-active program view x active)
 
     pub ran-executed : (state : VertexState V) (left : List M) → state ≡ vertex' → left ≡ [] → record { state = state; inbox = left } ≡ ran program view x
     ran-executed state left is_state is_left =

@@ -10,6 +10,7 @@ use Rattle.std.proofs.lemmas.List.{flat_map_more, append-nil, length-map}
 use Rattle.std.proofs.lemmas.List.Sums.{sum_by_push, sum_by-cons, sum_by-set}
 use Rattle.std.proofs.lemmas.Map.Keys.{below_from_sorted}
 use Rattle.std.proofs.lemmas.Option.{slice_get-map, slice_get_within, get_or_from_slice_get}
+use Rattle.pg_model.proofs.LawsLists.{by_bool}
 use Rattle.pg_model.specs.Job.{Program}
 use Rattle.pg_model.specs.Superstep.{is_active, outcome, has_id, capped, edges_of, sends, contributions}
 use Rattle.pg_model.specs.declared.configuration.Standing.{Standing}
@@ -103,10 +104,6 @@ pub record PassedTo {V M : Type 0} (program : Program V M) (first now : List (St
   pub within : (p : ℕ) → has_id unhalted p ≡ true → p < low
   pub lists : (i : ℕ) (x : Standing V M) → slice_get first i ≡ Some x → i < low → (ran program cx_first.view x).state.halted ≡ false → has_id unhalted i ≡ true
   pub counts : Counts edges (edges_of now)
-
-by_bool : {P : Type 0} (b : Bool) → (b ≡ true → P) → (b ≡ false → P) → P
-by_bool true x y = x refl
-by_bool false x y = y refl
 
 same_place : {X : Type 0} (xs : List X) (i j : ℕ) (x y : X) → slice_get xs i ≡ Some x → slice_get xs j ≡ Some y → i ≡ j → y ≡ x
 same_place xs i j x y at_i at_j same =

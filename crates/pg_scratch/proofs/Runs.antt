@@ -14,6 +14,7 @@ use Rattle.std.proofs.lemmas.List.Sums.{sum_by-cons}
 use Rattle.pg_graph.specs.Rows.{Rows, HasRisingIds, edge_count}
 use Rattle.pg_graph.specs.declared.graph.Row.{Row}
 use Rattle.pg_graph.specs.declared.missing.Missing.{Missing}
+use Rattle.pg_model.proofs.LawsLists.{by_bool}
 use Rattle.pg_model.specs.InOrder.{IsInOrder}
 use Rattle.pg_model.specs.Job.{Program, Combining, Job}
 use Rattle.pg_model.specs.Run.{beginning, first, configuration, present_at, ending_after, run_length, executions_below, executions, executed, answer, values_of}
@@ -32,10 +33,6 @@ use Rattle.pg_scratch.specs.Running.{IsRunning}
 use Rattle.pg_scratch.specs.Stages.{HasStepped, IsPrepared}
 use Rattle.pg_scratch.specs.Worklist.{ListsActive}
 use Rattle.pg_scratch.specs.declared.superstep.Progress.{Progress}
-
-by_bool : {P : Type 0} (b : Bool) → (b ≡ true → P) → (b ≡ false → P) → P
-by_bool true x y = x refl
-by_bool false x y = y refl
 
 or_true : (a b : Bool) → b ≡ true → (a || b) ≡ true
 or_true true b h = refl
