@@ -1,6 +1,5 @@
 -- Entries in chunks: where a search finds them, and which changes fall into which chunk.
-use Rattle.std.proofs.Common.{◌≡◌, ℕ, zero, suc, ◌+◌, ◌<◌, ◌≤◌, List, [], ◌∷◌, ◌++◌, length, get_or, take, drop, true, false, Option, Some, None, refl, sym, ap, ◌∙◌, subst, arith, leb, ltb}
-use Rattle.std.specs.Ordering.{nat_cmp}
+use Rattle.std.proofs.Common.{◌≡◌, ℕ, zero, suc, ◌+◌, ◌<◌, ◌≤◌, List, [], ◌∷◌, ◌++◌, length, get_or, take, drop, true, false, Option, None, refl, sym, ap, ◌∙◌, subst, arith, leb, ltb}
 use Rattle.std.specs.List.Sorted.{IsNonDecreasingBy, IsPartitionPoint, IsStrictlySortedBy}
 use Rattle.std.proofs.lemmas.Bool.{ltb-true, ltb-false, leb-true, leb-false}
 use Rattle.std.proofs.lemmas.List.{append-nil, append_assoc, at_drop_more}
@@ -10,7 +9,7 @@ use Rattle.pg_map.specs.Entries.{HasRisingIds, ChangesRise, entries_from, with_c
 use Rattle.pg_map.specs.declared.chunk.Chunk.{Chunk}
 use Rattle.pg_map.proofs.Rising.{find}
 use Rattle.pg_map.proofs.Search.{rises}
-use Rattle.pg_map.proofs.Parts.{Below, From, from_weaker, from_first, above_first, below_middle, rises_left, rises_right, none_below, none_from, find-left, find-right, none_kept, all_kept, from-append, changes_in_parts, split_all}
+use Rattle.pg_map.proofs.Parts.{Below, From, from_weaker, from_first, below_middle, rises_left, rises_right, none_below, none_from, find-left, find-right, none_kept, all_kept, from-append, changes_in_parts, split_all}
 
 module _ {X : Type 0} where
   -- ---- one chunk and the others

@@ -1,16 +1,16 @@
 -- Entries in two parts, the ids of one below those of the other: what is found, and what changes make of each.
-use Rattle.std.proofs.Common.{◌≡◌, ℕ, zero, suc, ◌+◌, ◌<◌, ◌≤◌, length, get_or, take, drop, Bool, true, false, cond, List, [], ◌∷◌, ◌++◌, Option, Some, None, Ordering, is_some, leb, refl, sym, ap, ◌∙◌, subst, arith}
+use Rattle.std.proofs.Common.{◌≡◌, ℕ, zero, suc, ◌+◌, ◌<◌, ◌≤◌, length, get_or, take, drop, Bool, true, false, cond, List, [], ◌∷◌, ◌++◌, Option, Some, None, Ordering, is_some, leb, refl, ap, ◌∙◌, arith}
 use Rattle.std.specs.declared.cmp.Ordering.TheVariants.{Less, Equal, Greater}
 use Rattle.std.specs.Ordering.{nat_cmp, match_ordering}
 use Rattle.std.specs.BTreeMap.{insert_entry, is_at}
 use Rattle.std.specs.Map.{keys_of, remove_entry}
-use Rattle.std.specs.List.{AllByRecursion, filter}
+use Rattle.std.specs.List.{AllByRecursion}
 use Rattle.std.specs.List.Sorted.{IsStrictlySortedBy}
 use Rattle.std.proofs.lemmas.Bool.{true≢false, le-leb, lt-leb}
 use Rattle.std.proofs.lemmas.Bool.Decides.{nat_tests}
 use Rattle.std.proofs.lemmas.List.Elements.{filter-append}
-use Rattle.pg_map.specs.Entries.{HasRisingIds, ChangesRise, entries_from, with_change, with_changes}
-use Rattle.pg_map.proofs.Rising.{find, at_same, at_other}
+use Rattle.pg_map.specs.Entries.{HasRisingIds, entries_from, with_change, with_changes}
+use Rattle.pg_map.proofs.Rising.{find, at_other}
 
 less_is : (a b : ℕ) → nat_cmp a b ≡ Less → a < b
 less_is a b h = grind (arith, nat_tests)

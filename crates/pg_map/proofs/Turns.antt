@@ -1,12 +1,12 @@
 -- The turns of a merge: the next entry or the next change is dealt with.
-use Rattle.std.proofs.Common.{◌≡◌, ℕ, ◌+◌, ◌<◌, ◌≤◌, List, [], ◌∷◌, ◌++◌, length, Option, Some, None, true, false, eqb, is_lt, cond, refl, sym, ap, ◌∙◌, subst, arith, append_assoc}
+use Rattle.std.proofs.Common.{◌≡◌, ℕ, ◌+◌, ◌<◌, ◌≤◌, List, [], ◌∷◌, ◌++◌, length, Option, Some, None, true, false, eqb, is_lt, cond, sym, ap, ◌∙◌, subst, arith, append_assoc}
 use Rattle.std.specs.Ordering.{nat_cmp, match_ordering}
 use Rattle.std.specs.BTreeMap.{insert_entry, is_at}
 use Rattle.std.specs.Map.{remove_entry}
 use Rattle.std.proofs.lemmas.Bool.Decides.{nat_tests}
 use Rattle.pg_map.specs.Entries.{HasRisingIds, ChangesRise, with_change, with_changes}
 use Rattle.pg_map.proofs.Rising.{at_same}
-use Rattle.pg_map.proofs.Parts.{Below, From, is_equal, from_weaker, above_first, from_first, cut_none, change-left, changes-right}
+use Rattle.pg_map.proofs.Parts.{From, is_equal, from_weaker, above_first, from_first, cut_none, change-left, changes-right}
 
 -- what the tests of ids say
 pub below_by : (a b : ℕ) → true ≡ is_lt (nat_cmp a b) → a < b

@@ -1,4 +1,4 @@
-use Rattle.std.proofs.Common.{◌++◌, ◌∙◌, sym, ap, subst}
+use Rattle.std.proofs.Common.{◌∙◌, subst}
 use Rattle.pg_map.specs.Chunks.{HaveFirsts, entries_of, listed}
 use Rattle.pg_map.specs.Entries.{ChangesRise, HasRisingIds}
 use Rattle.pg_map.proofs.Chunked.{chunk_turn}

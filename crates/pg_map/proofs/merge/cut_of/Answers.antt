@@ -1,6 +1,6 @@
 use Rattle.std.proofs.Common.{of_calls, ltb, rules}
 use Rattle.std.proofs.lemmas.Fn.{always_returns_same}
-use Rattle.std.proofs.lemmas.List.Sorted.{answers_always, IsPartitionedBy-ltb}
+use Rattle.std.proofs.lemmas.List.Sorted.{IsPartitionedBy-ltb}
 use Rattle.pg_map.proofs.Chunked.{cut_at, keys_rise}
 use Rattle.pg_map.proofs.merge.cut_of.Goals as goal
 

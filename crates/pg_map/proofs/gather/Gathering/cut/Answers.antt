@@ -1,4 +1,4 @@
-use Rattle.std.proofs.Common.{take, drop, sym, ap, ◌∙◌, ◌++◌}
+use Rattle.std.proofs.Common.{take, ap, ◌∙◌, ◌++◌}
 use Rattle.std.proofs.lemmas.List.{take-append-drop}
 use Rattle.pg_map.proofs.Chunked.{cut_keeps}
 use Rattle.pg_map.proofs.gather.Gathering.cut.Goals as goal

@@ -1,4 +1,4 @@
-use Rattle.std.proofs.Common.{◌+◌, ◌∙◌, sym, ap, subst}
+use Rattle.std.proofs.Common.{◌+◌, ◌∙◌, subst}
 use Rattle.pg_map.specs.Entries.{ChangesRise, HasRisingIds}
 use Rattle.pg_map.proofs.Parts.{From, rises_after}
 use Rattle.pg_map.proofs.Turns.{below_by, not_below_by, same_by, apart_by, pass_turn, skip_turn, put_turn, remove_turn, from_entry, from_none}

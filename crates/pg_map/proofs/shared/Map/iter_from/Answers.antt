@@ -1,6 +1,6 @@
 use Rattle.std.proofs.Common.{of_calls, leb, ltb, length, drop, rules, arith, sym, ap, ◌++◌, ◌∙◌, ◌+◌, ◌-◌, ◌≡◌, subst}
 use Rattle.std.proofs.lemmas.Fn.{always_returns_same}
-use Rattle.std.proofs.lemmas.List.Sorted.{answers_always, IsPartitionedBy-leb, IsPartitionedBy-ltb}
+use Rattle.std.proofs.lemmas.List.Sorted.{IsPartitionedBy-leb, IsPartitionedBy-ltb}
 use Rattle.std.proofs.iter.runs.Sources.{from_front}
 use Rattle.std.specs.Map.Iter.{TakesFirst, deref_pair}
 use Rattle.pg_map.specs.Chunks.{HaveFirsts, entries_of, listed}
