@@ -7,3 +7,4 @@ pub mod Numbers
 pub mod Serving
 pub mod SessionRows
 pub mod Written
+mod ServedWords
