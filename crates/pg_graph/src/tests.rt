@@ -3,6 +3,7 @@ ghost use Rattle.std.specs.Prelude.{◌≡◌, ◌<◌, IfOk};
 use crate::{Batch, Edges, Edit, EditFault, Graph, Memory, Row, VertexId};
 use std::alloc::Global;
 use std::fmt::Write;
+use std::process::Abort;
 use std::test::Fail;
 
 fn id(number: u64) -> Result<VertexId, Fail>
@@ -161,24 +162,38 @@ fn limits_the_vertices(rt: HostRuntime) -> Result<(), Fail> {
     Ok(())
 }
 
-#[test]
-fn copies_and_looks_up(rt: HostRuntime) -> Result<(), Fail> {
-    let (one, two, nine) = (id(1)?, id(2)?, id(9)?);
-    let mut graph = sample(rt.alloc())?;
-    let copy = graph.copy(rt.alloc())?;
-    apply_all(rt.alloc(), &mut graph, &[Edit::RemoveVertex(one)])?;
+// The copy keeps what the graph has lost.
+fn is_kept(rt: &impl Abort, alloc: Global, graph: &Graph, copy: &Graph) -> Result<(), Fail> {
+    assert!(rt; graph.row(id(1)?).is_none());
+    assert_eq!(rt; copy.edges(), 3);
     assert_eq!(rt;
-        text_of(rt.alloc(), &copy)?.as_str(),
+        text_of(alloc, copy)?.as_str(),
         "1:10[1=7,2=5,]2:-20[9=-9223372036854775808,]"
     );
-    assert_eq!(rt; copy.edges(), 3);
-    assert!(rt; graph.row(one).is_none());
+    Ok(())
+}
 
-    let row: Row = copy.row(one).ok_or("no row")?.copy()?;
+#[test]
+fn copies(rt: HostRuntime) -> Result<(), Fail> {
+    let mut graph = sample(rt.alloc())?;
+    let copy = graph.copy(rt.alloc())?;
+    apply_all(rt.alloc(), &mut graph, &[Edit::RemoveVertex(id(1)?)])?;
+    is_kept(&rt, rt.alloc(), &graph, &copy)
+}
+
+#[test]
+fn looks_up_rows(rt: HostRuntime) -> Result<(), Fail> {
+    let graph = sample(rt.alloc())?;
+    let row: Row = graph.row(id(1)?).ok_or("no row")?.copy()?;
     assert_eq!(rt; row.input, 10);
-    assert_eq!(rt; row.edges.weight(two), Some(5));
-    assert_eq!(rt; row.edges.weight(nine), None);
+    assert_eq!(rt; row.edges.weight(id(2)?), Some(5));
+    assert_eq!(rt; row.edges.weight(id(9)?), None);
+    Ok(())
+}
 
+#[test]
+fn copies_edges(rt: HostRuntime) -> Result<(), Fail> {
+    let (one, nine) = (id(1)?, id(9)?);
     let edges = two_edges(rt.alloc(), one, nine)?.copy()?;
     assert_eq!(rt; edges.as_slice(), [(one, 3), (nine, -4)].as_slice());
     assert_eq!(rt; edges.weight(nine), Some(-4));
