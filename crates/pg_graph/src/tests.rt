@@ -231,13 +231,10 @@ fn limits_the_edges(rt: HostRuntime) -> Result<(), Fail> {
     Ok(())
 }
 
-// A batch that adds many vertices, moves edges, and removes vertices with theirs. Run with each
-// allocation failing in turn, it shows that a refused growth leaves the graph.
-#[test]
-fn a_refused_growth_leaves_the_graph(rt: HostRuntime) -> Result<(), Fail> {
-    let mut graph = Graph::new(rt.alloc());
-    let mut first = Batch::new(rt.alloc());
-    let mut second = Batch::new(rt.alloc());
+// A batch of vertices with edges, and one that puts others in their places.
+fn moves(alloc: Global) -> Result<(Batch, Batch), Fail> {
+    let mut first = Batch::new(alloc);
+    let mut second = Batch::new(alloc);
     for number in 0..60 {
         let (even, odd) = (id(2 * number)?, id(2 * number + 1)?);
         first.push(Edit::AddVertex(even, 0))?;
@@ -247,20 +244,51 @@ fn a_refused_growth_leaves_the_graph(rt: HostRuntime) -> Result<(), Fail> {
         second.push(Edit::RemoveEdge(even, odd))?;
         second.push(Edit::RemoveVertex(even))?;
     }
+    Ok((first, second))
+}
+
+// The graph has so many vertices and edges.
+fn counts(rt: &impl Abort, graph: &Graph, vertices: u64, edges: u64) {
+    assert_eq!(rt; graph.vertices(), vertices);
+    assert_eq!(rt; graph.edges(), edges);
+}
+
+// The graph after both batches.
+fn is_moved(rt: &impl Abort, graph: &Graph) -> Result<(), Fail> {
+    counts(rt, graph, 60, 60);
+    assert!(rt; graph.row(id(118)?).is_none());
+    let row = graph.row(id(119)?).ok_or("no row")?;
+    assert_eq!(rt; row.edges.weight(id(118)?), Some(1));
+    Ok(())
+}
+
+// A refused batch is made once more.
+fn is_made_again(
+    rt: &impl Abort,
+    alloc: Global,
+    graph: &mut Graph,
+    fault: EditFault,
+    batch: &Batch,
+) -> Result<(), Fail> {
+    assert_eq!(rt; (fault.position, fault.kind.number()), (0, 1));
+    counts(rt, graph, 60, 60);
+    assert!(rt; graph.row(id(0)?).is_some());
+    graph.apply(alloc, batch)?;
+    Ok(())
+}
+
+// A batch that adds many vertices, moves edges, and removes vertices with theirs. Run with each
+// allocation failing in turn, it shows that a refused growth leaves the graph.
+#[test]
+fn a_refused_growth_leaves_the_graph(rt: HostRuntime) -> Result<(), Fail> {
+    let mut graph = Graph::new(rt.alloc());
+    let (first, second) = moves(rt.alloc())?;
     graph.apply(rt.alloc(), &first)?;
     let before = text_of(rt.alloc(), &graph)?;
     if let Err(fault) = graph.apply(rt.alloc(), &second) {
-        assert_eq!(rt; fault.position, 0);
-        assert_eq!(rt; fault.kind.number(), 1);
-        assert_eq!(rt; graph.vertices(), 60);
-        assert_eq!(rt; graph.edges(), 60);
-        assert_eq!(rt; text_of(rt.alloc(), &graph)?.as_str(), before.as_str());
-        graph.apply(rt.alloc(), &second)?;
+        let text = text_of(rt.alloc(), &graph)?;
+        assert_eq!(rt; text.as_str(), before.as_str());
+        is_made_again(&rt, rt.alloc(), &mut graph, fault, &second)?;
     }
-    assert_eq!(rt; graph.vertices(), 60);
-    assert_eq!(rt; graph.edges(), 60);
-    let row = graph.row(id(119)?).ok_or("no row")?;
-    assert_eq!(rt; row.edges.weight(id(118)?), Some(1));
-    assert!(rt; graph.row(id(118)?).is_none());
-    Ok(())
+    is_moved(&rt, &graph)
 }
