@@ -1,3 +1,5 @@
+ghost use Rattle.std.specs.Prelude.{◌<◌};
+
 use pg_global::{AnyCombiner, NoMaster};
 use pg_graph::{Batch, Edit, Edition, Graph, Missing, VertexId};
 use pg_model::{Ending, Run};
@@ -284,8 +286,7 @@ fn id(number: u64) -> Result<VertexId, Fail> {
     Ok(VertexId::new(number).ok_or("a number above 2^63 - 1")?)
 }
 
-// The graph of 1 to 2 of weight 5 and 2 to 3 of weight 1.
-/// Shortest paths from a source.
+// Shortest paths from a source.
 pub(crate) fn shortest_paths(source: VertexId) -> ReadyJob
     ensures { 0 < result.limit }
 {
@@ -297,6 +298,7 @@ pub(crate) fn shortest_paths(source: VertexId) -> ReadyJob
     }
 }
 
+// The graph of 1 to 2 of weight 5 and 2 to 3 of weight 1.
 fn two_hops_batch(alloc: Global) -> Result<Batch, Fail> {
     let mut batch = Batch::new(alloc);
     for number in 1..4 {
