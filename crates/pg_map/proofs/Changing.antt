@@ -20,7 +20,8 @@ module _ {V : Type 0} where
   change_same id None entries rising = find-remove_same entries id rising
   change_same id (Some value) entries rising = find-insert_same entries id value
 
-  pub change_other : (id : ℕ) (change : Option V) (entries : List (ℕ × V)) (q : ℕ) → (q ≡ id → ⊥) → value_at q (with_change id change entries) ≡ value_at q entries
+  pub change_other : (id : ℕ) (change : Option V) (entries : List (ℕ × V)) (q : ℕ) → (q ≡ id → ⊥)
+      → value_at q (with_change id change entries) ≡ value_at q entries
   change_other id None entries q apart = find-remove_other entries id q apart
   change_other id (Some value) entries q apart = find-insert_other entries id value q apart
 
@@ -28,10 +29,12 @@ module _ {V : Type 0} where
 
   pub rises-changes : (changes : List (ℕ × Option V)) (entries : List (ℕ × V)) → HasRisingIds entries → HasRisingIds (with_changes changes entries)
   rises-changes [] entries rising = rising
-  rises-changes (change ∷ changes) entries rising = rises-changes changes (with_change change.0 change.1 entries) (rises-change change.0 change.1 entries rising)
+  rises-changes (change ∷ changes) entries rising =
+      rises-changes changes (with_change change.0 change.1 entries) (rises-change change.0 change.1 entries rising)
 
   -- an id has what the changes say of it, and else what it had
-  pub value_at-with_changes : (changes : List (ℕ × Option V)) (entries : List (ℕ × V)) (q : ℕ) → ChangesRise changes → HasRisingIds entries → value_at q (with_changes changes entries) ≡ unwrap_or (find q changes) (value_at q entries)
+  pub value_at-with_changes : (changes : List (ℕ × Option V)) (entries : List (ℕ × V)) (q : ℕ) → ChangesRise changes → HasRisingIds entries
+      → value_at q (with_changes changes entries) ≡ unwrap_or (find q changes) (value_at q entries)
   value_at-with_changes [] entries q apart rising = refl
   value_at-with_changes (change ∷ changes) entries q apart rising =
       let id = change.0 in
@@ -70,11 +73,14 @@ module _ {V : Type 0} where
       (cases_eq q id))
 
   -- what is taken out and put back is replaced
-  pub insert-remove : (changes : List (ℕ × Option V)) (id : ℕ) (change : Option V) → ChangesRise changes → insert_entry nat_cmp (remove_entry (is_at (nat_cmp id)) changes) id change ≡ insert_entry nat_cmp changes id change
+  pub insert-remove : (changes : List (ℕ × Option V)) (id : ℕ) (change : Option V) → ChangesRise changes
+      → insert_entry nat_cmp (remove_entry (is_at (nat_cmp id)) changes) id change ≡ insert_entry nat_cmp changes id change
   insert-remove changes id change apart =
       let cut = remove_entry (is_at (nat_cmp id)) changes in
-      same_entries (insert_entry nat_cmp cut id change) (insert_entry nat_cmp changes id change) (rises-insert cut id change (rises-remove id changes apart)) (rises-insert changes id change apart)
+      same_entries (insert_entry nat_cmp cut id change) (insert_entry nat_cmp changes id change)
+      (rises-insert cut id change (rises-remove id changes apart)) (rises-insert changes id change apart)
       (λ q. ⊎_elim
-      (λ (e : q ≡ id). ap (λ k. find k (insert_entry nat_cmp cut id change)) e ∙ find-insert_same cut id change ∙ sym (ap (λ k. find k (insert_entry nat_cmp changes id change)) e ∙ find-insert_same changes id change))
+      (λ (e : q ≡ id). ap (λ k. find k (insert_entry nat_cmp cut id change)) e ∙ find-insert_same cut id change
+      ∙ sym (ap (λ k. find k (insert_entry nat_cmp changes id change)) e ∙ find-insert_same changes id change))
       (λ (n : q ≡ id → ⊥). find-insert_other cut id change q n ∙ find-remove_other changes id q n ∙ sym (find-insert_other changes id change q n))
       (cases_eq q id))

@@ -47,7 +47,8 @@ module _ {X : Type 0} where
   firsts_rise [] firsts rising i j d h within = absurd (omega arith)
   firsts_rise (c ∷ cs) firsts rising zero j d h within = first_within c.first (c ∷ cs) j d firsts (from_chunks c cs firsts rising) within
   firsts_rise (c ∷ cs) firsts rising (suc i) zero d h within = absurd (omega arith)
-  firsts_rise (c ∷ cs) firsts rising (suc i) (suc j) d h within = firsts_rise cs firsts.1 (rises_right (listed c) (entries_of cs) rising) i j d (omega arith) (omega arith)
+  firsts_rise (c ∷ cs) firsts rising (suc i) (suc j) d h within =
+      firsts_rise cs firsts.1 (rises_right (listed c) (entries_of cs) rising) i j d (omega arith) (omega arith)
 
   -- ---- look-ups
 
@@ -58,14 +59,18 @@ module _ {X : Type 0} where
 
   -- where all chunks start above an id, nothing is there, and all entries are from it on
   module _ (q : ℕ) where
-    pub above_all : (cs : List (Chunk X)) → HaveFirsts cs → HasRisingIds (entries_of cs) → ((k : ℕ) (d : Chunk X) → k < length cs → q < (get_or cs k d).first) → From (q + 1) (entries_of cs)
+    pub above_all : (cs : List (Chunk X)) → HaveFirsts cs → HasRisingIds (entries_of cs)
+        → ((k : ℕ) (d : Chunk X) → k < length cs → q < (get_or cs k d).first) → From (q + 1) (entries_of cs)
     above_all [] firsts rising high = tt
-    above_all (c ∷ cs) firsts rising high = from_weaker (q + 1) c.first (entries_of (c ∷ cs)) (let h = high 0 c (omega arith) in omega arith) (from_chunks c cs firsts rising)
+    above_all (c ∷ cs) firsts rising high =
+        from_weaker (q + 1) c.first (entries_of (c ∷ cs)) (let h = high 0 c (omega arith) in omega arith) (from_chunks c cs firsts rising)
 
-    pub none_in : (cs : List (Chunk X)) → HaveFirsts cs → HasRisingIds (entries_of cs) → ((k : ℕ) (d : Chunk X) → k < length cs → q < (get_or cs k d).first) → find q (entries_of cs) ≡ None
+    pub none_in : (cs : List (Chunk X)) → HaveFirsts cs → HasRisingIds (entries_of cs)
+        → ((k : ℕ) (d : Chunk X) → k < length cs → q < (get_or cs k d).first) → find q (entries_of cs) ≡ None
     none_in cs firsts rising high = none_from q (q + 1) (entries_of cs) (omega arith) (above_all cs firsts rising high)
 
-    pub all_in : (cs : List (Chunk X)) → HaveFirsts cs → HasRisingIds (entries_of cs) → ((k : ℕ) (d : Chunk X) → k < length cs → q < (get_or cs k d).first) → entries_from q (entries_of cs) ≡ entries_of cs
+    pub all_in : (cs : List (Chunk X)) → HaveFirsts cs → HasRisingIds (entries_of cs)
+        → ((k : ℕ) (d : Chunk X) → k < length cs → q < (get_or cs k d).first) → entries_from q (entries_of cs) ≡ entries_of cs
     all_in cs firsts rising high = all_kept q (q + 1) (entries_of cs) (omega arith) (above_all cs firsts rising high)
 
     -- what is at the id is in the last chunk that starts at or below it
@@ -74,11 +79,13 @@ module _ {X : Type 0} where
         → find q (entries_of cs) ≡ find q (listed (get_or cs n d))
     value_by_chunk [] n d firsts rising within low high = absurd (omega arith)
     value_by_chunk (c ∷ cs) zero d firsts rising within low high =
-        find-left q (listed c) (entries_of cs) (none_in cs firsts.1 (rises_right (listed c) (entries_of cs) rising) (λ k x h. high (suc k) x (omega arith) (omega arith)))
+        find-left q (listed c) (entries_of cs)
+        (none_in cs firsts.1 (rises_right (listed c) (entries_of cs) rising) (λ k x h. high (suc k) x (omega arith) (omega arith)))
     value_by_chunk (c ∷ []) (suc n) d firsts rising within low high = absurd (omega arith)
     value_by_chunk (c ∷ b ∷ cs) (suc n) d firsts rising within low high =
         find-right q (listed c) (entries_of (b ∷ cs)) (none_below q b.first (listed c) (low 1 b (omega arith)) (below_chunks c b cs firsts rising))
-        ∙ value_by_chunk (b ∷ cs) n d firsts.1 (rises_right (listed c) (entries_of (b ∷ cs)) rising) (omega arith) (λ k x h. low (suc k) x (omega arith)) (λ k x h g. high (suc k) x (omega arith) (omega arith))
+        ∙ value_by_chunk (b ∷ cs) n d firsts.1 (rises_right (listed c) (entries_of (b ∷ cs)) rising) (omega arith)
+        (λ k x h. low (suc k) x (omega arith)) (λ k x h g. high (suc k) x (omega arith) (omega arith))
 
     pub from_by_chunk : (cs : List (Chunk X)) (n : ℕ) (d : Chunk X) → HaveFirsts cs → HasRisingIds (entries_of cs) → n < length cs
         → ((k : ℕ) (x : Chunk X) → k ≤ n → (get_or cs k x).first ≤ q) → ((k : ℕ) (x : Chunk X) → n < k → k < length cs → q < (get_or cs k x).first)
@@ -86,13 +93,16 @@ module _ {X : Type 0} where
     from_by_chunk [] n d firsts rising within low high = absurd (omega arith)
     from_by_chunk (c ∷ cs) zero d firsts rising within low high =
         from-append q (listed c) (entries_of cs)
-        ∙ ap (λ l. entries_from q (listed c) ++ l) (all_in cs firsts.1 (rises_right (listed c) (entries_of cs) rising) (λ k x h. high (suc k) x (omega arith) (omega arith)))
+        ∙ ap (λ l. entries_from q (listed c) ++ l)
+        (all_in cs firsts.1 (rises_right (listed c) (entries_of cs) rising) (λ k x h. high (suc k) x (omega arith) (omega arith)))
     from_by_chunk (c ∷ []) (suc n) d firsts rising within low high = absurd (omega arith)
     from_by_chunk (c ∷ b ∷ cs) (suc n) d firsts rising within low high =
         from-append q (listed c) (entries_of (b ∷ cs))
         ∙ ap (λ l. l ++ entries_from q (entries_of (b ∷ cs))) (none_kept q b.first (listed c) (low 1 b (omega arith)) (below_chunks c b cs firsts rising))
-        ∙ from_by_chunk (b ∷ cs) n d firsts.1 (rises_right (listed c) (entries_of (b ∷ cs)) rising) (omega arith) (λ k x h. low (suc k) x (omega arith)) (λ k x h g. high (suc k) x (omega arith) (omega arith))
-        ∙ (let further : suc (n + 1) ≡ suc n + 1 = omega arith in ap (λ k. entries_from q (listed (get_or (b ∷ cs) n d)) ++ entries_of (drop k (c ∷ b ∷ cs))) further)
+        ∙ from_by_chunk (b ∷ cs) n d firsts.1 (rises_right (listed c) (entries_of (b ∷ cs)) rising) (omega arith)
+        (λ k x h. low (suc k) x (omega arith)) (λ k x h g. high (suc k) x (omega arith) (omega arith))
+        ∙ (let further : suc (n + 1) ≡ suc n + 1 = omega arith in
+        ap (λ k. entries_from q (listed (get_or (b ∷ cs) n d)) ++ entries_of (drop k (c ∷ b ∷ cs))) further)
 
     -- in one chunk
     pub from_place : (es : List (ℕ × X)) (i : ℕ) → i ≤ length es
@@ -109,7 +119,8 @@ module _ {X : Type 0} where
         ∙ sym (from-append q (e ∷ []) es ∙ ap (λ l. l ++ entries_from q es) (none_kept q q (e ∷ []) (omega arith) (low 0 e (omega arith), tt)))
 
     -- what a search for the id among the first ids tells
-    module _ (cs : List (Chunk X)) (n : ℕ) (firsts : HaveFirsts cs) (rising : HasRisingIds (entries_of cs)) (parts : IsPartitionPoint (λ y. leb y.first q ≡ true) (λ y. leb y.first q ≡ false) cs n) where
+    module _ (cs : List (Chunk X)) (n : ℕ) (firsts : HaveFirsts cs) (rising : HasRisingIds (entries_of cs))
+        (parts : IsPartitionPoint (λ y. leb y.first q ≡ true) (λ y. leb y.first q ≡ false) cs n) where
       low_by : (k : ℕ) (x : Chunk X) → k < n → (get_or cs k x).first ≤ q
       low_by k x h = leb-true (get_or cs k x).first q (parts.0 k x (omega arith) h)
 
@@ -138,13 +149,16 @@ module _ {X : Type 0} where
         rises_in = subst (λ d. HasRisingIds (listed d)) (sym here) (rises_chunk cs m c rising (omega arith))
 
     -- and one in a chunk
-    pub from_parts : (es : List (ℕ × X)) (i : ℕ) → i ≤ length es → IsPartitionPoint (λ y. ltb y.0 q ≡ true) (λ y. ltb y.0 q ≡ false) es i → drop i es ≡ entries_from q es
+    pub from_parts : (es : List (ℕ × X)) (i : ℕ) → i ≤ length es → IsPartitionPoint (λ y. ltb y.0 q ≡ true) (λ y. ltb y.0 q ≡ false) es i
+        → drop i es ≡ entries_from q es
     from_parts es i within parts =
-        from_place es i within (λ k x h. ltb-true (get_or es k x).0 q (parts.0 k x (omega arith) h)) (λ k x h g. ltb-false (get_or es k x).0 q (parts.1 k x h g))
+        from_place es i within (λ k x h. ltb-true (get_or es k x).0 q (parts.0 k x (omega arith) h))
+        (λ k x h g. ltb-false (get_or es k x).0 q (parts.1 k x h g))
 
   -- ---- what is left of chunks
 
-  pub next_chunk : (cs : List (Chunk X)) (i : ℕ) (d : Chunk X) → i < length cs → entries_of (drop i cs) ≡ listed (get_or cs i d) ++ entries_of (drop (i + 1) cs)
+  pub next_chunk : (cs : List (Chunk X)) (i : ℕ) (d : Chunk X) → i < length cs
+      → entries_of (drop i cs) ≡ listed (get_or cs i d) ++ entries_of (drop (i + 1) cs)
   next_chunk cs i d within = at_drop_more entries_of cs i d within
 
   -- ---- what is gathered
@@ -153,7 +167,8 @@ module _ {X : Type 0} where
   entries-push made chunk = flat_map-append listed made (chunk ∷ []) ∙ ap (λ l. entries_of made ++ l) (append-nil (listed chunk))
 
   -- the front of a piece becomes a chunk
-  pub cut_keeps : (made made' : List (Chunk X)) (chunk : Chunk X) (piece front later : List (ℕ × X)) → made' ≡ made ++ chunk ∷ [] → listed chunk ≡ front → front ++ later ≡ piece → entries_of made' ++ later ≡ entries_of made ++ piece
+  pub cut_keeps : (made made' : List (Chunk X)) (chunk : Chunk X) (piece front later : List (ℕ × X)) → made' ≡ made ++ chunk ∷ []
+      → listed chunk ≡ front → front ++ later ≡ piece → entries_of made' ++ later ≡ entries_of made ++ piece
   cut_keeps made made' chunk piece front later pushed is whole =
       ap (λ l. entries_of l ++ later) pushed
       ∙ ap (λ l. l ++ later) (entries-push made chunk)
@@ -169,13 +184,16 @@ module _ {X : Type 0} where
   pub none_sound : (chunks : List (Chunk X)) → chunks ≡ [] → AreSound chunks 0
   none_sound chunks none = subst (λ l. AreSound l 0) (sym none) empty_sound
 
-  pub sound_of : (chunks made : List (Chunk X)) (count : ℕ) → chunks ≡ made → HaveFirsts made → HasRisingIds (entries_of made) → count ≡ length (entries_of made) → AreSound chunks count
-  sound_of chunks made count same firsts rising counted = subst (λ l. AreSound l count) (sym same) (record { rise = rising; firsts = firsts; counted = counted })
+  pub sound_of : (chunks made : List (Chunk X)) (count : ℕ) → chunks ≡ made → HaveFirsts made → HasRisingIds (entries_of made)
+      → count ≡ length (entries_of made) → AreSound chunks count
+  sound_of chunks made count same firsts rising counted =
+      subst (λ l. AreSound l count) (sym same) (record { rise = rising; firsts = firsts; counted = counted })
 
 -- ---- changes
 
 module _ {X : Type 0} where
-  pub changes_by_chunk : (c : Chunk X) (cs : List (Chunk X)) (here later : List (ℕ × Option X)) → HaveFirsts (c ∷ cs) → HasRisingIds (entries_of (c ∷ cs)) → AreCut cs here later
+  pub changes_by_chunk : (c : Chunk X) (cs : List (Chunk X)) (here later : List (ℕ × Option X)) → HaveFirsts (c ∷ cs)
+      → HasRisingIds (entries_of (c ∷ cs)) → AreCut cs here later
       → with_changes (here ++ later) (entries_of (c ∷ cs)) ≡ with_changes here (listed c) ++ with_changes later (entries_of cs)
   changes_by_chunk c [] here later firsts rising cut =
       ap (λ l. with_changes (here ++ l) (listed c ++ [])) cut
@@ -184,17 +202,20 @@ module _ {X : Type 0} where
       ∙ sym (append-nil (with_changes here (listed c)))
       ∙ sym (ap (λ l. with_changes here (listed c) ++ with_changes l []) cut)
   changes_by_chunk c (d ∷ ds) here later firsts rising cut =
-      changes_in_parts d.first here later (listed c) (entries_of (d ∷ ds)) cut.0 cut.1 (below_chunks c d ds firsts rising) (from_chunks d ds firsts.1 (rises_right (listed c) (entries_of (d ∷ ds)) rising))
+      changes_in_parts d.first here later (listed c) (entries_of (d ∷ ds)) cut.0 cut.1 (below_chunks c d ds firsts rising)
+      (from_chunks d ds firsts.1 (rises_right (listed c) (entries_of (d ∷ ds)) rising))
 
   -- the next chunk and the changes that fall into it
-  pub chunk_turn : (gathered gathered' : List (ℕ × X)) (left cs : List (Chunk X)) (c : Chunk X) (todo here later : List (ℕ × Option X)) (n : ℕ) → left ≡ c ∷ cs → todo ≡ here ++ later → here ≡ take n todo → later ≡ drop n todo
+  pub chunk_turn : (gathered gathered' : List (ℕ × X)) (left cs : List (Chunk X)) (c : Chunk X) (todo here later : List (ℕ × Option X)) (n : ℕ)
+      → left ≡ c ∷ cs → todo ≡ here ++ later → here ≡ take n todo → later ≡ drop n todo
       → HaveFirsts left → HasRisingIds (entries_of left) → AreCut cs (take n todo) (drop n todo) → gathered' ≡ gathered ++ with_changes here (listed c)
       → gathered' ++ with_changes later (entries_of cs) ≡ gathered ++ with_changes todo (entries_of left)
   chunk_turn gathered gathered' left cs c todo here later n at parts front back firsts rising cut grown =
       let cut' = subst (λ l. AreCut cs here l) (sym back) (subst (λ l. AreCut cs l (drop n todo)) (sym front) cut) in
       ap (λ l. l ++ with_changes later (entries_of cs)) grown
       ∙ append_assoc gathered (with_changes here (listed c)) (with_changes later (entries_of cs))
-      ∙ ap (λ l. gathered ++ l) (sym (changes_by_chunk c cs here later (subst HaveFirsts at firsts) (subst (λ l. HasRisingIds (entries_of l)) at rising) cut'))
+      ∙ ap (λ l. gathered ++ l)
+      (sym (changes_by_chunk c cs here later (subst HaveFirsts at firsts) (subst (λ l. HasRisingIds (entries_of l)) at rising) cut'))
       ∙ sym (ap (λ l. gathered ++ with_changes l (entries_of (c ∷ cs))) parts)
       ∙ sym (ap (λ l. gathered ++ with_changes todo (entries_of l)) at)
 
@@ -209,7 +230,8 @@ module _ {X : Type 0} where
       → IsPartitionPoint (λ y. ltb y.0 c.first ≡ true) (λ y. ltb y.0 c.first ≡ false) changes i → AreCut chunks (take i changes) (drop i changes)
   cut_at chunks c cs changes i is within parts =
       subst (λ l. AreCut l (take i changes) (drop i changes)) (sym is)
-      (parted c.first changes i within (λ k x h. ltb-true (get_or changes k x).0 c.first (parts.0 k x (omega arith) h)) (λ k x h g. ltb-false (get_or changes k x).0 c.first (parts.1 k x h g)))
+      (parted c.first changes i within (λ k x h. ltb-true (get_or changes k x).0 c.first (parts.0 k x (omega arith) h))
+      (λ k x h g. ltb-false (get_or changes k x).0 c.first (parts.1 k x h g)))
 
   pub keys_rise : (changes : List (ℕ × Option X)) → ChangesRise changes → IsNonDecreasingBy (λ c. c.0) changes
   keys_rise changes rising i j d h within = rises changes i j d rising h within

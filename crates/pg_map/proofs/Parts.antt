@@ -208,7 +208,8 @@ module _ {X : Type 0} where
       ap (with_changes cs) (change-right c.0 c.1 a b (below_key c.0 m a from.0 below)) ∙ changes-right m cs a (with_change c.0 c.1 b) below from.1
 
   -- changes below a number fall into the entries below it, and others into the others
-  pub changes_in_parts : (m : ℕ) (here later : List (ℕ × Option X)) (a b : List (ℕ × X)) → Below m here → From m later → Below m a → From m b → with_changes (here ++ later) (a ++ b) ≡ with_changes here a ++ with_changes later b
+  pub changes_in_parts : (m : ℕ) (here later : List (ℕ × Option X)) (a b : List (ℕ × X)) → Below m here → From m later → Below m a → From m b
+      → with_changes (here ++ later) (a ++ b) ≡ with_changes here a ++ with_changes later b
   changes_in_parts m [] later a b first from below above = changes-right m later a b below from
   changes_in_parts m (c ∷ here) later a b first from below above =
       ap (with_changes (here ++ later)) (change-left c.0 m c.1 a b first.0 above)
@@ -217,17 +218,25 @@ module _ {X : Type 0} where
 -- ---- lists
 
 -- what holds of each element before a place, and of each from it on
-pub split_all : {X : Type 0} (P Q : X → Type 0) (xs : List X) (n : ℕ) → n ≤ length xs → ((k : ℕ) (d : X) → k < n → P (get_or xs k d)) → ((k : ℕ) (d : X) → n ≤ k → k < length xs → Q (get_or xs k d))
+pub split_all : {X : Type 0} (P Q : X → Type 0) (xs : List X) (n : ℕ) → n ≤ length xs → ((k : ℕ) (d : X) → k < n → P (get_or xs k d))
+    → ((k : ℕ) (d : X) → n ≤ k → k < length xs → Q (get_or xs k d))
     → AllByRecursion P (take n xs) × AllByRecursion Q (drop n xs)
 split_all P Q [] zero within low high = (tt, tt)
 split_all P Q [] (suc n) within low high = absurd (omega arith)
-split_all P Q (x ∷ xs) zero within low high = (tt, (high 0 x (omega arith) (omega arith), (split_all P Q xs 0 (omega arith) (λ k d h. absurd (omega arith)) (λ k d h g. high (suc k) d (omega arith) (omega arith))).1))
+split_all P Q (x ∷ xs) zero within low high = (
+  tt,
+  (
+    high 0 x (omega arith) (omega arith),
+    (split_all P Q xs 0 (omega arith) (λ k d h. absurd (omega arith)) (λ k d h g. high (suc k) d (omega arith) (omega arith))).1,
+  ),
+)
 split_all P Q (x ∷ xs) (suc n) within low high =
     let rest = split_all P Q xs n (omega arith) (λ k d h. low (suc k) d (omega arith)) (λ k d h g. high (suc k) d (omega arith) (omega arith)) in
     ((low 0 x (omega arith), rest.0), rest.1)
 
 -- one more entry above all others
-all_push : (k : ℕ) {X : Type 0} (es : List (ℕ × X)) (q : ℕ) (v : X) → AllByRecursion (λ y. nat_cmp k y ≡ Less) (keys_of es) → k < q → AllByRecursion (λ y. nat_cmp k y ≡ Less) (keys_of (es ++ (q, v) ∷ []))
+all_push : (k : ℕ) {X : Type 0} (es : List (ℕ × X)) (q : ℕ) (v : X) → AllByRecursion (λ y. nat_cmp k y ≡ Less) (keys_of es) → k < q
+    → AllByRecursion (λ y. nat_cmp k y ≡ Less) (keys_of (es ++ (q, v) ∷ []))
 all_push k [] q v all h = (is_less k q h, tt)
 all_push k (e ∷ es) q v all h = (all.0, all_push k es q v all.1 h)
 

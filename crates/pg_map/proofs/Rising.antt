@@ -55,7 +55,8 @@ module _ {X : Type 0} where
 
   -- ---- the last key
 
-  below_head : (k : ℕ) (xs : List (ℕ × X)) (e : ℕ × X) (ys : List (ℕ × X)) → AllByRecursion (λ y. nat_cmp k y ≡ Less) (keys_of (xs ++ e ∷ ys)) → nat_cmp e.0 k ≡ Greater
+  below_head : (k : ℕ) (xs : List (ℕ × X)) (e : ℕ × X) (ys : List (ℕ × X)) → AllByRecursion (λ y. nat_cmp k y ≡ Less) (keys_of (xs ++ e ∷ ys))
+      → nat_cmp e.0 k ≡ Greater
   below_head k [] e ys h = Greater-from_Less k e.0 h.0
   below_head k (x ∷ xs) e ys h = below_head k xs e ys h.1
 
@@ -68,14 +69,16 @@ module _ {X : Type 0} where
       ap (λ r. put_by r x xs e.0 e.1) above ∙ ap (λ l. x ∷ l) later
 
   -- the next entry goes to the end of those that are put already
-  pub next_put : (all done done' left left' : List (ℕ × X)) (k : ℕ) (v v' : X) → Rises all → done ++ left ≡ all → left ≡ (k, v) ∷ left' → v' ≡ v → done' ≡ insert_entry nat_cmp done k v' → done' ++ left' ≡ all
+  pub next_put : (all done done' left left' : List (ℕ × X)) (k : ℕ) (v v' : X) → Rises all → done ++ left ≡ all → left ≡ (k, v) ∷ left' → v' ≡ v
+      → done' ≡ insert_entry nat_cmp done k v' → done' ++ left' ≡ all
   next_put all done done' left left' k v v' rising so_far next same put =
       let whole : done ++ (k, v) ∷ left' ≡ all = ap (λ l. done ++ l) (sym next) ∙ so_far in
       let last = insert_entry-last done (k, v) left' (subst Rises (sym whole) rising) in
       ap (λ l. l ++ left') (put ∙ ap (λ x. insert_entry nat_cmp done k x) same ∙ last) ∙ append_assoc done ((k, v) ∷ []) left' ∙ whole
 
   -- the next entry goes to the end of those before it
-  pub insert_entry-take : (es : List (ℕ × X)) (i : ℕ) (e : ℕ × X) → Rises es → i < length es → e ≡ get_or es i e → insert_entry nat_cmp (take i es) e.0 e.1 ≡ take (i + 1) es
+  pub insert_entry-take : (es : List (ℕ × X)) (i : ℕ) (e : ℕ × X) → Rises es → i < length es → e ≡ get_or es i e
+      → insert_entry nat_cmp (take i es) e.0 e.1 ≡ take (i + 1) es
   insert_entry-take es i e rising within here =
       let more : take (i + 1) es ≡ take i es ++ e ∷ [] = take_more es i e within ∙ ap (λ x. take i es ++ x ∷ []) (sym here) in
       let whole : (take i es ++ e ∷ []) ++ drop (i + 1) es ≡ es = ap (λ l. l ++ drop (i + 1) es) (sym more) ∙ take-append-drop (i + 1) es in
@@ -107,7 +110,8 @@ module _ {X : Type 0} where
   -- no later key is equal to the first
   pub none_past : (k : ℕ) (e : ℕ × X) (es : List (ℕ × X)) → Rises (e ∷ es) → is_at (nat_cmp k) e.0 ≡ true → find k es ≡ None
   none_past k e es rising here =
-      lookup-none (is_at (nat_cmp k)) es (none_past_head (eq_by_cmp_equiv nat_cmp_total) k e es (IsDistinct-from_sorted nat_cmp (keys_of (e ∷ es)) rising) here)
+      lookup-none (is_at (nat_cmp k)) es
+      (none_past_head (eq_by_cmp_equiv nat_cmp_total) k e es (IsDistinct-from_sorted nat_cmp (keys_of (e ∷ es)) rising) here)
 
   pub find-remove_same : (es : List (ℕ × X)) (k : ℕ) → Rises es → find k (remove_entry (is_at (nat_cmp k)) es) ≡ None
   find-remove_same [] k rising = refl
@@ -122,12 +126,14 @@ module _ {X : Type 0} where
   find-remove_other (e ∷ es) k q apart = by (is_at (nat_cmp k) e.0) refl (find-remove_other es k q apart)
     where
       by : (b : Bool) → is_at (nat_cmp k) e.0 ≡ b → find q (cut k es) ≡ find q es → find q (cond b es (e ∷ cut k es)) ≡ find q (e ∷ es)
-      by true p later = let same : k ≡ e.0 = grind (arith, nat_tests) in sym (lookup_tail (is_at (nat_cmp q)) e es (at_other q e.0 (λ s. apart (s ∙ sym same))))
+      by true p later = let same : k ≡ e.0 = grind (arith, nat_tests) in
+          sym (lookup_tail (is_at (nat_cmp q)) e es (at_other q e.0 (λ s. apart (s ∙ sym same))))
       by false p later = ap (λ o. cond (is_at (nat_cmp q) e.0) (Some e.1) o) later
 
   -- ---- the keys rise
 
-  all-insert : (P : ℕ → Type 0) (es : List (ℕ × X)) (k : ℕ) (v : X) → AllByRecursion P (keys_of es) → P k → AllByRecursion P (keys_of (insert_entry nat_cmp es k v))
+  all-insert : (P : ℕ → Type 0) (es : List (ℕ × X)) (k : ℕ) (v : X) → AllByRecursion P (keys_of es) → P k
+      → AllByRecursion P (keys_of (insert_entry nat_cmp es k v))
   all-insert P [] k v all here = (here, tt)
   all-insert P (e ∷ es) k v all here = by (nat_cmp k e.0) (all-insert P es k v all.1 here)
     where
@@ -175,7 +181,8 @@ module _ {X : Type 0} where
     heads : (r : Ordering) → nat_cmp x.0 y.0 ≡ r → x.0 ≡ y.0
     heads Less p = absurd (not_None x.1 (sym (at_head x xs) ∙ h x.0 ∙ lookup-none _ (y ∷ ys) (none_below_head nat_cmp_total x.0 y ys t p)))
     heads Equal p = exact_unsigned x.0 y.0 p
-    heads Greater p = absurd (not_None y.1 (sym (at_head y ys) ∙ sym (h y.0) ∙ lookup-none _ (x ∷ xs) (none_below_head nat_cmp_total y.0 x xs s (Less-from_Greater x.0 y.0 p))))
+    heads Greater p = absurd
+        (not_None y.1 (sym (at_head y ys) ∙ sym (h y.0) ∙ lookup-none _ (x ∷ xs) (none_below_head nat_cmp_total y.0 x xs s (Less-from_Greater x.0 y.0 p))))
 
     same_keys : x.0 ≡ y.0
     same_keys = heads (nat_cmp x.0 y.0) refl
@@ -186,8 +193,10 @@ module _ {X : Type 0} where
     tails : (q : ℕ) → find q xs ≡ find q ys
     tails q =
         ⊎_elim
-        (λ (e : q ≡ x.0). none_past q x xs s (ap (λ k. is_at (nat_cmp k) x.0) e ∙ at_same x.0) ∙ sym (none_past q y ys t (ap (λ k. is_at (nat_cmp k) y.0) (e ∙ same_keys) ∙ at_same y.0)))
-        (λ (n : q ≡ x.0 → ⊥). sym (lookup_tail (is_at (nat_cmp q)) x xs (at_other q x.0 n)) ∙ h q ∙ lookup_tail (is_at (nat_cmp q)) y ys (at_other q y.0 (λ e. n (e ∙ sym same_keys))))
+        (λ (e : q ≡ x.0). none_past q x xs s (ap (λ k. is_at (nat_cmp k) x.0) e ∙ at_same x.0)
+        ∙ sym (none_past q y ys t (ap (λ k. is_at (nat_cmp k) y.0) (e ∙ same_keys) ∙ at_same y.0)))
+        (λ (n : q ≡ x.0 → ⊥). sym (lookup_tail (is_at (nat_cmp q)) x xs (at_other q x.0 n)) ∙ h q
+        ∙ lookup_tail (is_at (nat_cmp q)) y ys (at_other q y.0 (λ e. n (e ∙ sym same_keys))))
         (cases_eq q x.0)
 
   pub same_entries : (es fs : List (ℕ × X)) → Rises es → Rises fs → ((q : ℕ) → find q es ≡ find q fs) → es ≡ fs
@@ -222,7 +231,8 @@ module _ {X : Type 0} where
   length-remove_present [] k u some = absurd (not_None u (sym some))
   length-remove_present (e ∷ es) k u some = by (is_at (nat_cmp k) e.0) refl (length-remove_present es k u)
     where
-      by : (b : Bool) → is_at (nat_cmp k) e.0 ≡ b → (find k es ≡ Some u → length (cut k es) + 1 ≡ length es) → length (cond b es (e ∷ cut k es)) + 1 ≡ length (e ∷ es)
+      by : (b : Bool) → is_at (nat_cmp k) e.0 ≡ b → (find k es ≡ Some u → length (cut k es) + 1 ≡ length es)
+          → length (cond b es (e ∷ cut k es)) + 1 ≡ length (e ∷ es)
       by true p later = omega arith
       by false p later = omega (arith, later (sym (lookup_tail (is_at (nat_cmp k)) e es p) ∙ some))
 
@@ -233,8 +243,10 @@ module _ {X : Type 0} where
     by_values [] = refl
     by_values (e ∷ es) = sum_by-cons (λ x. f x.1) e es ∙ ap (λ n. f e.1 + n) (by_values es) ∙ sym (sum_by-cons f e.1 (values_of es))
 
-    pub sum-insert : (es : List (ℕ × X)) (k : ℕ) (v : X) → Rises es → sum_by (λ e. f e.1) (insert_entry nat_cmp es k v) + unwrap_or (option_map f (find k es)) 0 ≡ sum_by (λ e. f e.1) es + f v
+    pub sum-insert : (es : List (ℕ × X)) (k : ℕ) (v : X) → Rises es
+        → sum_by (λ e. f e.1) (insert_entry nat_cmp es k v) + unwrap_or (option_map f (find k es)) 0 ≡ sum_by (λ e. f e.1) es + f v
     sum-insert es k v rising = omega (arith, by_values es, by_values (put es k v), sum_by-insert_entry f nat_cmp_total es k v rising)
 
-    pub sum-remove : (es : List (ℕ × X)) (k : ℕ) → sum_by (λ e. f e.1) (remove_entry (is_at (nat_cmp k)) es) + unwrap_or (option_map f (find k es)) 0 ≡ sum_by (λ e. f e.1) es
+    pub sum-remove : (es : List (ℕ × X)) (k : ℕ)
+        → sum_by (λ e. f e.1) (remove_entry (is_at (nat_cmp k)) es) + unwrap_or (option_map f (find k es)) 0 ≡ sum_by (λ e. f e.1) es
     sum-remove es k = omega (arith, by_values es, by_values (cut k es), sum_by-remove_entry f (is_at (nat_cmp k)) es)

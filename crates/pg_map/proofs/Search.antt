@@ -26,7 +26,8 @@ index_rises : (a b k : ℕ) → a ≤ b → ordering_index (nat_cmp a k) ≤ ord
 index_rises a b k h = grind (arith, nat_tests)
 
 module _ {X : Type 0} where
-  pub lookup_found : (es : List (ℕ × X)) (k i : ℕ) (d : ℕ × X) → IsStrictlySortedBy nat_cmp (keys_of es) → i < length es → HoldsAt (λ y. nat_cmp y.0 k ≡ Equal) es i → lookup (is_at (nat_cmp k)) es ≡ Some (get_or es i d).1
+  pub lookup_found : (es : List (ℕ × X)) (k i : ℕ) (d : ℕ × X) → IsStrictlySortedBy nat_cmp (keys_of es) → i < length es
+      → HoldsAt (λ y. nat_cmp y.0 k ≡ Equal) es i → lookup (is_at (nat_cmp k)) es ≡ Some (get_or es i d).1
   lookup_found es k i d rising within here =
       let same = exact_unsigned (get_or es i d).0 k (here d) in
       let place = slice_get-get_or es i d within ∙ ap (λ (n : ℕ). Some (n, (get_or es i d).1)) same in
@@ -39,7 +40,8 @@ module _ {X : Type 0} where
   Less_at : (es : List (ℕ × X)) (k j : ℕ) (e : ℕ × X) → slice_get es j ≡ Some e → nat_cmp (get_or es j e).0 k ≡ Greater → nat_cmp k e.0 ≡ Less
   Less_at es k j e at greater = Less-from_Greater e.0 k (ap (λ (x : ℕ × X). nat_cmp x.0 k) (sym (get_or_from_slice_get es j e e at)) ∙ greater)
 
-  pub lookup_missing : (es : List (ℕ × X)) (k i : ℕ) → IsStrictlySortedBy nat_cmp (keys_of es) → IsPartitionPoint (λ y. nat_cmp y.0 k ≡ Less) (λ y. nat_cmp y.0 k ≡ Greater) es i → lookup (is_at (nat_cmp k)) es ≡ None
+  pub lookup_missing : (es : List (ℕ × X)) (k i : ℕ) → IsStrictlySortedBy nat_cmp (keys_of es)
+      → IsPartitionPoint (λ y. nat_cmp y.0 k ≡ Less) (λ y. nat_cmp y.0 k ≡ Greater) es i → lookup (is_at (nat_cmp k)) es ≡ None
   lookup_missing es k i rising parts =
       lookup_at_gap nat_cmp_total k es i rising
       (λ j e below at. Greater_at es k j e at (parts.0 j e (omega arith) below))
@@ -48,10 +50,17 @@ module _ {X : Type 0} where
   key_at : (es : List (ℕ × X)) (i : ℕ) (d : ℕ × X) → i < length es → get_or (keys_of es) i d.0 ≡ (get_or es i d).0
   key_at es i d h = get_or-map (λ (e : ℕ × X). e.0) es i d d.0 h
 
-  pub rises : (es : List (ℕ × X)) (i j : ℕ) (d : ℕ × X) → IsStrictlySortedBy nat_cmp (keys_of es) → i ≤ j → j < length es → (get_or es i d).0 ≤ (get_or es j d).0
+  pub rises : (es : List (ℕ × X)) (i j : ℕ) (d : ℕ × X) → IsStrictlySortedBy nat_cmp (keys_of es) → i ≤ j → j < length es
+      → (get_or es i d).0 ≤ (get_or es j d).0
   rises es i j d rising h within =
       elim (cases_lt i j) [
-        | inl less ↦ omega (arith, below_from_sorted (keys_of es) i j d.0 rising less (omega (arith, length-keys_of es)), key_at es i d (omega arith), key_at es j d within)
+        | inl less ↦ omega (
+          arith,
+          below_from_sorted (keys_of es) i j d.0 rising less (omega (arith, length-keys_of es)),
+          key_at es i d
+              (omega arith),
+          key_at es j d within,
+        )
         | inr more ↦ let same : i ≡ j = omega arith in omega (arith, ap (λ (n : ℕ). (get_or es n d).0) same)
       ]
 

@@ -64,7 +64,8 @@ module _ {X : Type 0} (c : ℕ × Option X) (cs : List (ℕ × Option X)) (rise 
 
 -- ---- the same of what is gathered so far
 
-module _ {X : Type 0} (self self' : List (ℕ × X)) (todo cs : List (ℕ × Option X)) (c : ℕ × Option X) (left : List (ℕ × X)) (next : todo ≡ c ∷ cs) (rise : ChangesRise todo) where
+module _ {X : Type 0} (self self' : List (ℕ × X)) (todo cs : List (ℕ × Option X)) (c : ℕ × Option X) (left : List (ℕ × X)) (next : todo ≡ c ∷ cs)
+    (rise : ChangesRise todo) where
   rising : ChangesRise (c ∷ cs)
   rising = subst ChangesRise next rise
 

@@ -9,4 +9,5 @@ returns-in-Some-clause-cut g c =
     let changes = c.args.changes.now in
     let next = c.in-Some.next.now in
     cut_at c.args.chunks.now next _ changes c.partition_point.result c.in-Some.ensures.cases.0 c.partition_point.ensures.bound
-    (c.partition_point.ensures.partitioned (λ y. ltb y.0 next.first) (always_returns_same _ _ _ (λ a r f k. search (rules, of_calls))) (IsPartitionedBy-ltb (λ y. y.0) changes next.first (keys_rise changes c.requires)))
+    (c.partition_point.ensures.partitioned (λ y. ltb y.0 next.first) (always_returns_same _ _ _ (λ a r f k. search (rules, of_calls)))
+    (IsPartitionedBy-ltb (λ y. y.0) changes next.first (keys_rise changes c.requires)))

@@ -24,7 +24,8 @@ loop-change-preserved-then-eq g c =
     let at = c.in-Some-split_first.ensures.cases.0 in
     let same = same_by entry.0 c.in-Some.change.now.0 c.if-eq.ensures in
     record {
-      made = skip_turn now.self now.self _ _ _ _ c.in-Some.ensures.cases.0 now.invariant.changes_rise entry _ at same now.invariant.entries_rise ∙ now.invariant.made;
+      made = skip_turn now.self now.self _ _ _ _ c.in-Some.ensures.cases.0 now.invariant.changes_rise entry _ at same now.invariant.entries_rise
+          ∙ now.invariant.made;
       entries_rise = rises_after entry _ (subst HasRisingIds at now.invariant.entries_rise);
       changes_rise = now.invariant.changes_rise;
     }

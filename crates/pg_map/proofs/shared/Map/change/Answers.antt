@@ -10,4 +10,5 @@ invariant_of-self g c =
     let made = c.in_ok-made.made.items in
     let is = c.in_ok-made.ensures.entries ∙ ap (λ l. with_changes c.args.changes.now (entries_of l)) c.as_slice.ensures in
     let rising = subst HasRisingIds (sym is) (rises-changes c.args.changes.now (entries_of (chunks_of c.self.inside.chunks)) c.self.invariant.rise) in
-    sound_of _ made _ c.in_ok-self-inside.ensures c.in_ok-made.ensures.firsts rising (c.in_ok-count.ensures ∙ ap (λ l. length (entries_of l)) c.as_slice-2.ensures.value)
+    sound_of _ made _ c.in_ok-self-inside.ensures c.in_ok-made.ensures.firsts rising
+    (c.in_ok-count.ensures ∙ ap (λ l. length (entries_of l)) c.as_slice-2.ensures.value)
