@@ -32,32 +32,40 @@ module _ {X : Type 0} where
       → insert_entry nat_cmp (e ∷ es) k v ≡ match_ordering r ((k, v) ∷ e ∷ es) ((e.0, v) ∷ es) (e ∷ insert_entry nat_cmp es k v)
   put_step e es k v r h = ap (λ o. match_ordering o ((k, v) ∷ e ∷ es) ((e.0, v) ∷ es) (e ∷ insert_entry nat_cmp es k v)) h
 
-  cut_step : (e : ℕ × X) (es : List (ℕ × X)) (k : ℕ) (t : Bool) → is_at (nat_cmp k) e.0 ≡ t → remove_entry (is_at (nat_cmp k)) (e ∷ es) ≡ cond t es (e ∷ remove_entry (is_at (nat_cmp k)) es)
+  cut_step : (e : ℕ × X) (es : List (ℕ × X)) (k : ℕ) (t : Bool) → is_at (nat_cmp k) e.0 ≡ t
+      → remove_entry (is_at (nat_cmp k)) (e ∷ es) ≡ cond t es (e ∷ remove_entry (is_at (nat_cmp k)) es)
   cut_step e es k t h = ap (λ b. cond b es (e ∷ remove_entry (is_at (nat_cmp k)) es)) h
 
-  below_at : (k : ℕ) (es : List (ℕ × X)) (i : ℕ) (d : ℕ × X) → AllByRecursion (λ y. nat_cmp k y ≡ Less) (keys_of es) → i < length es → nat_cmp k (get_or es i d).0 ≡ Less
+  below_at : (k : ℕ) (es : List (ℕ × X)) (i : ℕ) (d : ℕ × X) → AllByRecursion (λ y. nat_cmp k y ≡ Less) (keys_of es) → i < length es
+      → nat_cmp k (get_or es i d).0 ≡ Less
   below_at k [] i d all within = absurd (omega arith)
   below_at k (e ∷ es) zero d all within = all.0
   below_at k (e ∷ es) (suc i) d all within = below_at k es i d all.1 (omega arith)
 
   -- the key at a place of the tail is above the head
-  above_head : (e : ℕ × X) (es : List (ℕ × X)) (k i : ℕ) → IsStrictlySortedBy nat_cmp (keys_of (e ∷ es)) → i < length es → nat_cmp (get_or es i e).0 k ≡ Equal → nat_cmp k e.0 ≡ Greater
+  above_head : (e : ℕ × X) (es : List (ℕ × X)) (k i : ℕ) → IsStrictlySortedBy nat_cmp (keys_of (e ∷ es)) → i < length es
+      → nat_cmp (get_or es i e).0 k ≡ Equal → nat_cmp k e.0 ≡ Greater
   above_head e es k i rising within here = Less-Equal e.0 (get_or es i e).0 k (below_at e.0 es i e (sorted_head nat_cmp e.0 (keys_of es) rising) within) here
 
-  pub written_at : (es : List (ℕ × X)) (k i : ℕ) (v : X) → IsStrictlySortedBy nat_cmp (keys_of es) → i < length es → ((d : ℕ × X) → nat_cmp (get_or es i d).0 k ≡ Equal) → set es i (k, v) ≡ insert_entry nat_cmp es k v
+  pub written_at : (es : List (ℕ × X)) (k i : ℕ) (v : X) → IsStrictlySortedBy nat_cmp (keys_of es) → i < length es
+      → ((d : ℕ × X) → nat_cmp (get_or es i d).0 k ≡ Equal) → set es i (k, v) ≡ insert_entry nat_cmp es k v
   written_at [] k i v rising within here = absurd (omega arith)
   written_at (e ∷ es) k zero v rising within here =
       ap (λ q. (q, v) ∷ es) (sym (exact_unsigned e.0 k (here e))) ∙ sym (put_step e es k v Equal (Equal-turned e.0 k (here e)))
   written_at (e ∷ es) k (suc i) v rising within here =
-      ap (λ l. e ∷ l) (written_at es k i v (sorted_tail nat_cmp e.0 (keys_of es) rising) (omega arith) here) ∙ sym (put_step e es k v Greater (above_head e es k i rising (omega arith) (here e)))
+      ap (λ l. e ∷ l) (written_at es k i v (sorted_tail nat_cmp e.0 (keys_of es) rising) (omega arith) here)
+      ∙ sym (put_step e es k v Greater (above_head e es k i rising (omega arith) (here e)))
 
-  pub removed_at : (es : List (ℕ × X)) (k i : ℕ) → IsStrictlySortedBy nat_cmp (keys_of es) → i < length es → ((d : ℕ × X) → nat_cmp (get_or es i d).0 k ≡ Equal) → remove es i ≡ remove_entry (is_at (nat_cmp k)) es
+  pub removed_at : (es : List (ℕ × X)) (k i : ℕ) → IsStrictlySortedBy nat_cmp (keys_of es) → i < length es
+      → ((d : ℕ × X) → nat_cmp (get_or es i d).0 k ≡ Equal) → remove es i ≡ remove_entry (is_at (nat_cmp k)) es
   removed_at [] k i rising within here = absurd (omega arith)
   removed_at (e ∷ es) k zero rising within here = sym (cut_step e es k true (ap is_eq (Equal-turned e.0 k (here e))))
   removed_at (e ∷ es) k (suc i) rising within here =
-      ap (λ l. e ∷ l) (removed_at es k i (sorted_tail nat_cmp e.0 (keys_of es) rising) (omega arith) here) ∙ sym (cut_step e es k false (ap is_eq (above_head e es k i rising (omega arith) (here e))))
+      ap (λ l. e ∷ l) (removed_at es k i (sorted_tail nat_cmp e.0 (keys_of es) rising) (omega arith) here)
+      ∙ sym (cut_step e es k false (ap is_eq (above_head e es k i rising (omega arith) (here e))))
 
-  pub inserted_at : (es : List (ℕ × X)) (k i : ℕ) (v : X) → i ≤ length es → ((j : ℕ) (d : ℕ × X) → j < i → nat_cmp (get_or es j d).0 k ≡ Less) → ((j : ℕ) (d : ℕ × X) → i ≤ j → j < length es → nat_cmp (get_or es j d).0 k ≡ Greater)
+  pub inserted_at : (es : List (ℕ × X)) (k i : ℕ) (v : X) → i ≤ length es → ((j : ℕ) (d : ℕ × X) → j < i → nat_cmp (get_or es j d).0 k ≡ Less)
+      → ((j : ℕ) (d : ℕ × X) → i ≤ j → j < length es → nat_cmp (get_or es j d).0 k ≡ Greater)
       → insert es i (k, v) ≡ insert_entry nat_cmp es k v
   inserted_at [] k zero v within below above = refl
   inserted_at [] k (suc i) v within below above = absurd (omega arith)
@@ -71,17 +79,20 @@ module _ {X : Type 0} where
   cut_absent [] k none = refl
   cut_absent (e ∷ es) k none = by (is_at (nat_cmp k) e.0) none (cut_absent es k)
     where
-      by : (t : Bool) → cond t (Some e.1) (lookup (is_at (nat_cmp k)) es) ≡ None → (lookup (is_at (nat_cmp k)) es ≡ None → remove_entry (is_at (nat_cmp k)) es ≡ es) → cond t es (e ∷ remove_entry (is_at (nat_cmp k)) es) ≡ e ∷ es
+      by : (t : Bool) → cond t (Some e.1) (lookup (is_at (nat_cmp k)) es) ≡ None
+          → (lookup (is_at (nat_cmp k)) es ≡ None → remove_entry (is_at (nat_cmp k)) es ≡ es) → cond t es (e ∷ remove_entry (is_at (nat_cmp k)) es) ≡ e ∷ es
       by true n later = absurd (true≢false (ap is_some n))
       by false n later = ap (λ l. e ∷ l) (later n)
 
 -- what a binary search among edges answers
-pub searched : (edges : EdgeList) (target : ℕ) (r : Result ℕ ℕ) → IsRising edges → IsSearchInRange r (length edges) → IsBinarySearchResult (λ e. nat_cmp e.0 target) edges r
+pub searched : (edges : EdgeList) (target : ℕ) (r : Result ℕ ℕ) → IsRising edges → IsSearchInRange r (length edges)
+    → IsBinarySearchResult (λ e. nat_cmp e.0 target) edges r
     → record { found : IfOk r (IsPlaceOf target edges); absent : IfErr r (IsGapFor target edges) }
 searched edges target (Ok place) rising within here = record {
   found = record {
     in_range = within;
     there = ap is_some (lookup_found edges target place (get_or edges place (0, pos 0)) rising within here);
+    held = λ d. lookup_found edges target place d rising within here;
     written = λ weight. written_at edges target place weight rising within here;
     removed = removed_at edges target place rising within here;
   };

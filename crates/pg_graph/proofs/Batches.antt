@@ -18,7 +18,8 @@ Ok_not_Err h = cc
 pub Err_same : {X E : Type 0} {e f : E} → ◌≡◌ {A = Result X E} (Err e) (Err f) → e ≡ f
 Err_same h = cc
 
-pub too_long : (rows : Rows) (edits : List Edit) → batch_limit < length edits → batch_edited rows edits ≡ Err (record { position = batch_limit + 1; kind = BatchTooLong })
+pub too_long : (rows : Rows) (edits : List Edit) → batch_limit < length edits
+    → batch_edited rows edits ≡ Err (record { position = batch_limit + 1; kind = BatchTooLong })
 unfolding batch_edited
 too_long rows edits long = rw (lt-ltb batch_limit (length edits) long) refl
 
@@ -26,11 +27,13 @@ pub short_enough : (rows : Rows) (edits : List Edit) → length edits ≤ batch_
 unfolding batch_edited
 short_enough rows edits short = rw (le-ltb batch_limit (length edits) short) refl
 
-all_edited-ok : (position : ℕ) (rows rows' : Rows) (edit : Edit) (edits : List Edit) → edited rows edit ≡ Ok rows' → all_edited position rows (edit ∷ edits) ≡ all_edited (position + 1) rows' edits
+all_edited-ok : (position : ℕ) (rows rows' : Rows) (edit : Edit) (edits : List Edit) → edited rows edit ≡ Ok rows'
+    → all_edited position rows (edit ∷ edits) ≡ all_edited (position + 1) rows' edits
 unfolding all_edited
 all_edited-ok position rows rows' edit edits made = rw (made, all_edited) refl
 
-all_edited-err : (position : ℕ) (rows : Rows) (edit : Edit) (edits : List Edit) (kind : EditKind) → edited rows edit ≡ Err kind → all_edited position rows (edit ∷ edits) ≡ Err (record { position = position; kind = kind })
+all_edited-err : (position : ℕ) (rows : Rows) (edit : Edit) (edits : List Edit) (kind : EditKind) → edited rows edit ≡ Err kind
+    → all_edited position rows (edit ∷ edits) ≡ Err (record { position = position; kind = kind })
 unfolding all_edited
 all_edited-err position rows edit edits kind why = rw (why, all_edited) refl
 
@@ -43,11 +46,13 @@ module _ (position : ℕ) (rows : Rows) (edits : List Edit) (i : ℕ) (edit : Ed
   at_edit = at_drop_more (all_edited position rows) edits i edit within ∙ sym (ap (λ e. all_edited position rows (e ∷ drop (i + 1) edits)) here)
 
   -- the next edit is made
-  pub next_made : (rows' : Rows) → edited rows edit ≡ Ok rows' → all_edited (position + 1) rows' (drop (i + 1) edits) ≡ all_edited position rows (drop i edits)
+  pub next_made : (rows' : Rows) → edited rows edit ≡ Ok rows'
+      → all_edited (position + 1) rows' (drop (i + 1) edits) ≡ all_edited position rows (drop i edits)
   next_made rows' made = sym (at_edit ∙ all_edited-ok position rows rows' edit (drop (i + 1) edits) made)
 
   -- the next edit is refused
-  pub next_refused : (kind : EditKind) → edited rows edit ≡ Err kind → all_edited position rows (drop i edits) ≡ Err (record { position = position; kind = kind })
+  pub next_refused : (kind : EditKind) → edited rows edit ≡ Err kind
+      → all_edited position rows (drop i edits) ≡ Err (record { position = position; kind = kind })
   next_refused kind why = at_edit ∙ all_edited-err position rows edit (drop (i + 1) edits) kind why
 
 -- no edit is left
@@ -58,19 +63,24 @@ all_made position rows edits i past = at_drop_all (all_edited position rows) edi
 
 -- what comes of the first edit decides
 abbrev pub after : ℕ → Rows → List Edit → Result Rows EditKind → Result Rows EditFault
-after position rows edits made = elim made [ Ok changed ↦ all_edited (position + 1) changed edits | Err kind ↦ Err (record { position = position; kind = kind }) ]
+after position rows edits made =
+    elim made [ Ok changed ↦ all_edited (position + 1) changed edits | Err kind ↦ Err (record { position = position; kind = kind }) ]
 
-pub first_edit : (position : ℕ) (rows : Rows) (edit : Edit) (edits : List Edit) → all_edited position rows (edit ∷ edits) ≡ after position rows edits (edited rows edit)
+pub first_edit : (position : ℕ) (rows : Rows) (edit : Edit) (edits : List Edit)
+    → all_edited position rows (edit ∷ edits) ≡ after position rows edits (edited rows edit)
 unfolding all_edited
 first_edit position rows edit edits = refl
 
 -- a fault is at a place of the edits
-pub fault_within : (position : ℕ) (rows : Rows) (edits : List Edit) (fault : EditFault) → all_edited position rows edits ≡ Err fault → (position ≤ fault.position) × (fault.position < position + length edits)
+pub fault_within : (position : ℕ) (rows : Rows) (edits : List Edit) (fault : EditFault) → all_edited position rows edits ≡ Err fault
+    → (position ≤ fault.position) × (fault.position < position + length edits)
 fault_within position rows [] fault why = absurd (Ok_not_Err (sym (all_edited-nil position rows) ∙ why))
-fault_within position rows (edit ∷ edits) fault why = by (edited rows edit) refl (λ changed later. fault_within (position + 1) changed edits fault later) (sym (first_edit position rows edit edits) ∙ why)
+fault_within position rows (edit ∷ edits) fault why =
+    by (edited rows edit) refl (λ changed later. fault_within (position + 1) changed edits fault later) (sym (first_edit position rows edit edits) ∙ why)
   where
     by : (r : Result Rows EditKind) → edited rows edit ≡ r
-        → ((changed : Rows) → all_edited (position + 1) changed edits ≡ Err fault → (position + 1 ≤ fault.position) × (fault.position < position + 1 + length edits))
+        → ((changed : Rows) → all_edited (position + 1) changed edits ≡ Err fault
+        → (position + 1 ≤ fault.position) × (fault.position < position + 1 + length edits))
         → after position rows edits (edited rows edit) ≡ Err fault
         → (position ≤ fault.position) × (fault.position < position + length (edit ∷ edits))
     by (Ok changed) e later f = let w = later changed (sym (ap (after position rows edits) e) ∙ f) in (omega (arith, w.0), omega (arith, w.1))

@@ -1,18 +1,18 @@
 -- The edits of one vertex after another.
-use Rattle.std.proofs.Common.{◌≡◌, ℕ, ◌+◌, ◌-◌, not, ◌&&◌, is_lt, eqb, ◌<◌, ◌≤◌, ◌⊎◌, inl, inr, Bool, true, false, cond, List, [], ◌∷◌, ◌++◌, length, get_or, take, drop, Option, None, Some, Result, Ok, Err, MatchResult, MatchOption, leb, refl, sym, ap, ◌∙◌, subst, ⊎_elim, arith}
+use Rattle.std.proofs.Common.{◌≡◌, ℕ, ◌+◌, not, ◌&&◌, is_lt, eqb, ◌<◌, ◌≤◌, inl, inr, Bool, true, false, cond, List, [], ◌∷◌, ◌++◌, length, get_or, take, drop, Option, None, Some, Result, Ok, Err, MatchResult, MatchOption, leb, refl, sym, ap, ◌∙◌, subst, ⊎_elim, arith}
 use Rattle.std.specs.BTreeMap.{is_at}
 use Rattle.std.specs.List.{AllByRecursion, filter}
 use Rattle.std.specs.Ordering.{nat_cmp}
 use Rattle.std.specs.Option.{unwrap_or}
-use Rattle.std.specs.List.Sorted.{IsNonDecreasingBy, IsPartitionPoint, IsStableByKey, IsStrictlySortedBy, ties}
+use Rattle.std.specs.List.Sorted.{IsPartitionPoint, IsStableByKey, IsStrictlySortedBy, ties}
 use Rattle.std.proofs.lemmas.Bool.{cases_eq, leb-true, leb-false}
-use Rattle.std.proofs.lemmas.List.{append-nil, append_assoc, take_more, take-append-drop}
+use Rattle.std.proofs.lemmas.List.{append-nil}
 use Rattle.std.proofs.lemmas.List.Elements.{filter-append}
 use Rattle.std.proofs.lemmas.List.Sorted.{IsNonDecreasingBy-drop}
 use Rattle.std.proofs.lemmas.Bool.Decides.{nat_tests}
 use Rattle.pg_map.specs.Entries.{ChangesRise, value_at, with_change, with_changes}
 use Rattle.pg_map.proofs.Changing.{rises-changes, value_at-with_changes}
-use Rattle.pg_map.proofs.Parts.{split_all, rises_push, rises_left, below_middle, none_below, find-left, find-right}
+use Rattle.pg_map.proofs.Parts.{split_all, rises_push, find-left, find-right}
 use Rattle.pg_map.proofs.Rising.{at_same, at_other, same_entries}
 use Rattle.pg_graph.specs.Changes.{Changes, changed_row_at, degree_of}
 use Rattle.pg_graph.specs.Edit.{all_edited}
@@ -23,7 +23,7 @@ use Rattle.pg_graph.specs.declared.graph.Row.{Row}
 use Rattle.pg_graph.specs.declared.edit.Edit.{Edit}
 use Rattle.pg_graph.specs.declared.edit.Edit.TheVariants.{RemoveVertex}
 use Rattle.pg_graph.specs.declared.edit.EditFault.{EditFault}
-use Rattle.pg_graph.proofs.Batches.{Err_not_Ok, Ok_not_Err, Err_same}
+use Rattle.pg_graph.proofs.Batches.{Ok_not_Err, Err_same}
 use Rattle.pg_graph.proofs.Drafting.{edges-without_row}
 use Rattle.pg_graph.proofs.RowLaw.{of_same, of_other, edges-change, faults_apart, MakesRows, IsFirstFault, IsByRows, batch_by_rows}
 
@@ -87,7 +87,8 @@ pub record IsTurn (left here later rest : Places) (first : ℕ × Edit) (n : ℕ
   pub within : n ≤ length left
   pub parts : IsPartitionPoint (λ e. leb (source_of e.1) (source_of first.1) ≡ true) (λ e. leb (source_of e.1) (source_of first.1) ≡ false) left n
 
-module _ (rows : Rows) (all left here later rest : Places) (first : ℕ × Edit) (n : ℕ) (changes : Changes) (fault : Option EditFault) (turn : IsTurn left here later rest first n) (dealt : AreDealt rows all left changes fault) where
+module _ (rows : Rows) (all left here later rest : Places) (first : ℕ × Edit) (n : ℕ) (changes : Changes) (fault : Option EditFault)
+    (turn : IsTurn left here later rest first n) (dealt : AreDealt rows all left changes fault) where
   abbrev id : ℕ
   id = source_of first.1
 
@@ -97,7 +98,8 @@ module _ (rows : Rows) (all left here later rest : Places) (first : ℕ × Edit)
   split : AllByRecursion (λ e. source_of e.1 ≡ id) (take n left) × AllByRecursion (λ e. id < source_of e.1) (drop n left)
   split =
       split_all (λ e. source_of e.1 ≡ id) (λ e. id < source_of e.1) left n turn.within
-      (λ k d h. let low = leb-true (source_of (get_or left k d).1) id (turn.parts.0 k d (omega arith) h) in let high = lowest k d (omega (arith, turn.within)) in omega arith)
+      (λ k d h. let low = leb-true (source_of (get_or left k d).1) id (turn.parts.0 k d (omega arith) h) in
+      let high = lowest k d (omega (arith, turn.within)) in omega arith)
       (λ k d h g. leb-false (source_of (get_or left k d).1) id (turn.parts.1 k d h g))
 
   here_of : AllByRecursion (λ e. source_of e.1 ≡ id) here
@@ -116,13 +118,18 @@ module _ (rows : Rows) (all left here later rest : Places) (first : ℕ × Edit)
   all_here q same = in_parts q ∙ ap (λ l. l ++ edits_of q later) (only id q here same here_of) ∙ ap (λ l. here ++ l) (none_later q same) ∙ append-nil here
 
   same_later : (q : ℕ) → (q ≡ id → ⊥) → edits_of q left ≡ edits_of q later
-  same_later q apart = in_parts q ∙ ap (λ l. l ++ edits_of q later) (none_of q here (all_map (λ e. source_of e.1 ≡ id) (λ e. q ≡ source_of e.1 → ⊥) here (λ e is at. apart (at ∙ is)) here_of))
+  same_later q apart = in_parts q
+      ∙ ap (λ l. l ++ edits_of q later)
+      (none_of q here (all_map (λ e. source_of e.1 ≡ id) (λ e. q ≡ source_of e.1 → ⊥) here (λ e is at. apart (at ∙ is)) here_of))
 
   not_done : edits_of id left ≡ [] → ⊥
   not_done none = let h : first ∷ edits_of id rest ≡ [] = sym (ap (edits_of id) turn.next ∙ of_same id first.0 first.1 rest refl) ∙ none in cc
 
   is_left : IsLeft id all left changes
   is_left = ⊎_elim (λ (l : IsLeft id all left changes). l) (λ (d : IsDone rows id all left changes fault). absurd (not_done d.edits)) (dealt.seen id)
+
+  pub not_changed : value_at id changes ≡ None
+  not_changed = is_left.change
 
   here_is : (q : ℕ) → q ≡ id → here ≡ edits_of q all
   here_is q same = sym (all_here id refl) ∙ is_left.edits ∙ ap (λ k. edits_of k all) (sym same)
@@ -134,7 +141,8 @@ module _ (rows : Rows) (all left here later rest : Places) (first : ℕ × Edit)
   later_rise = subst RiseBySource (sym turn.back) (IsNonDecreasingBy-drop (λ e. source_of e.1) n left dealt.left_rise)
 
   below_later : AllByRecursion (λ e. AllByRecursion (λ c. c.0 < source_of e.1) changes) later
-  below_later = all_drop (λ e. AllByRecursion (λ c. c.0 < source_of e.1) changes) here later (subst (AllByRecursion (λ e. AllByRecursion (λ c. c.0 < source_of e.1) changes)) turn.whole dealt.below)
+  below_later = all_drop (λ e. AllByRecursion (λ c. c.0 < source_of e.1) changes) here later
+      (subst (AllByRecursion (λ e. AllByRecursion (λ c. c.0 < source_of e.1) changes)) turn.whole dealt.below)
 
   -- a row was found
   module _ (row : Option Row) (made : Ok row ≡ vertex_after (row_at id rows) here) (changes' : Changes) (grown : changes' ≡ changes ++ (id, row) ∷ []) where
@@ -149,13 +157,18 @@ module _ (rows : Rows) (all left here later rest : Places) (first : ℕ × Edit)
     pub row_found : AreDealt rows all later changes' fault
     row_found = record {
       left_rise = later_rise;
-      changes_rise = subst ChangesRise (sym grown) (rises_push changes id row dealt.changes_rise (subst (AllByRecursion (λ e. AllByRecursion (λ c. c.0 < source_of e.1) changes)) turn.next dealt.below).0);
-      below = all_both (λ e. AllByRecursion (λ c. c.0 < source_of e.1) changes) (λ e. id < source_of e.1) (λ e. AllByRecursion (λ c. c.0 < source_of e.1) changes') later
-          (λ e before above. subst (AllByRecursion (λ c. c.0 < source_of e.1)) (sym grown) (all_append (λ c. c.0 < source_of e.1) changes ((id, row) ∷ []) before (above, tt))) below_later later_above;
+      changes_rise = subst ChangesRise (sym grown)
+          (rises_push changes id row dealt.changes_rise
+          (subst (AllByRecursion (λ e. AllByRecursion (λ c. c.0 < source_of e.1) changes)) turn.next dealt.below).0);
+      below = all_both (λ e. AllByRecursion (λ c. c.0 < source_of e.1) changes) (λ e. id < source_of e.1)
+          (λ e. AllByRecursion (λ c. c.0 < source_of e.1) changes') later
+          (λ e before above. subst (AllByRecursion (λ c. c.0 < source_of e.1)) (sym grown)
+          (all_append (λ c. c.0 < source_of e.1) changes ((id, row) ∷ []) before (above, tt))) below_later later_above;
       seen = λ q. ⊎_elim
           (λ (same : q ≡ id). inr (record {
             edits = none_later q same;
-            told = subst (λ r. MatchResult r (λ x. value_at q changes' ≡ Some x) (IsNoLater fault)) (made ∙ ap (λ k. vertex_after (row_at k rows) here) (sym same) ∙ ap (vertex_after (row_at q rows)) (here_is q same)) (at_id q same);
+            told = subst (λ r. MatchResult r (λ x. value_at q changes' ≡ Some x) (IsNoLater fault))
+                (made ∙ ap (λ k. vertex_after (row_at k rows) here) (sym same) ∙ ap (vertex_after (row_at q rows)) (here_is q same)) (at_id q same);
           }))
           (λ (apart : q ≡ id → ⊥). ⊎_elim
           (λ (l : IsLeft q all left changes). inl (record { edits = sym (same_later q apart) ∙ l.edits; change = elsewhere q apart ∙ l.change }))
@@ -168,7 +181,8 @@ module _ (rows : Rows) (all left here later rest : Places) (first : ℕ × Edit)
       found = dealt.found;
     }
       where
-        still : (q : ℕ) (r : Result (Option Row) EditFault) → value_at q changes' ≡ value_at q changes → MatchResult r (λ x. value_at q changes ≡ Some x) (IsNoLater fault) → MatchResult r (λ x. value_at q changes' ≡ Some x) (IsNoLater fault)
+        still : (q : ℕ) (r : Result (Option Row) EditFault) → value_at q changes' ≡ value_at q changes
+            → MatchResult r (λ x. value_at q changes ≡ Some x) (IsNoLater fault) → MatchResult r (λ x. value_at q changes' ≡ Some x) (IsNoLater fault)
         still q (Ok x) same told = same ∙ told
         still q (Err f) same told = told
 
@@ -182,7 +196,9 @@ module _ (rows : Rows) (all left here later rest : Places) (first : ℕ × Edit)
       seen = λ q. ⊎_elim
           (λ (same : q ≡ id). inr (record {
             edits = none_later q same;
-            told = subst (λ r. MatchResult r (λ x. value_at q changes ≡ Some x) (IsNoLater (Some (earlier_of fault found)))) (made ∙ ap (λ k. vertex_after (row_at k rows) here) (sym same) ∙ ap (vertex_after (row_at q rows)) (here_is q same)) (earlier_found fault found);
+            told = subst (λ r. MatchResult r (λ x. value_at q changes ≡ Some x) (IsNoLater (Some (earlier_of fault found))))
+                (made ∙ ap (λ k. vertex_after (row_at k rows) here) (sym same) ∙ ap (vertex_after (row_at q rows)) (here_is q same))
+                (earlier_found fault found);
           }))
           (λ (apart : q ≡ id → ⊥). ⊎_elim
           (λ (l : IsLeft q all left changes). inl (record { edits = sym (same_later q apart) ∙ l.edits; change = l.change }))
@@ -196,7 +212,8 @@ module _ (rows : Rows) (all left here later rest : Places) (first : ℕ × Edit)
           (id, ap (vertex_after (row_at id rows)) (sym (here_is id refl)) ∙ sym made);
     }
       where
-        still : (q : ℕ) (r : Result (Option Row) EditFault) → MatchResult r (λ x. value_at q changes ≡ Some x) (IsNoLater fault) → MatchResult r (λ x. value_at q changes ≡ Some x) (IsNoLater (Some (earlier_of fault found)))
+        still : (q : ℕ) (r : Result (Option Row) EditFault) → MatchResult r (λ x. value_at q changes ≡ Some x) (IsNoLater fault)
+            → MatchResult r (λ x. value_at q changes ≡ Some x) (IsNoLater (Some (earlier_of fault found)))
         still q (Ok x) told = told
         still q (Err f) told = earlier_keeps fault found f told
 
@@ -233,7 +250,8 @@ module _ (rows : Rows) (all left : Places) (changes : Changes) (empty : left ≡
         (dealt.seen q);
   }
     where
-      by : (q : ℕ) (r : Result (Option Row) EditFault) → MatchResult r (λ x. value_at q changes ≡ Some x) (IsNoLater None) → r ≡ Ok (changed_row_at q changes rows)
+      by : (q : ℕ) (r : Result (Option Row) EditFault) → MatchResult r (λ x. value_at q changes ≡ Some x) (IsNoLater None)
+          → r ≡ Ok (changed_row_at q changes rows)
       by q (Ok x) told = ap (λ o. Ok (unwrap_or o (row_at q rows))) (sym told)
       by q (Err f) told = absurd told
 
@@ -243,7 +261,8 @@ module _ (rows : Rows) (all left : Places) (changes : Changes) (empty : left ≡
     there = dealt.found.1;
     first = λ q other why. ⊎_elim
         (λ (l : IsLeft q all left changes). absurd (Ok_not_Err (sym (untouched q l.edits) ∙ why)))
-        (λ (d : IsDone rows q all left changes (Some fault)). let told = subst (λ r. MatchResult r (λ x. value_at q changes ≡ Some x) (IsNoLater (Some fault))) why d.told in told)
+        (λ (d : IsDone rows q all left changes (Some fault)). let told =
+        subst (λ r. MatchResult r (λ x. value_at q changes ≡ Some x) (IsNoLater (Some fault))) why d.told in told)
         (dealt.seen q);
   }
 
@@ -258,7 +277,8 @@ tied a b = grind (arith, nat_tests)
 
 pub stays_grouped : (edits sorted : Places) → IsStableByKey (λ e. source_of e.1) nat_cmp edits sorted → (q : ℕ) → edits_of q sorted ≡ edits_of q edits
 stays_grouped edits sorted stable q =
-    let as_ties = λ (l : Places). filter_same (λ e. eqb q (source_of e.1)) (ties (λ x y. is_lt (nat_cmp (source_of x.1) (source_of y.1))) (0, RemoveVertex q)) (λ e. sym (tied q (source_of e.1))) l in
+    let as_ties = λ (l : Places). filter_same (λ e. eqb q (source_of e.1))
+    (ties (λ x y. is_lt (nat_cmp (source_of x.1) (source_of y.1))) (0, RemoveVertex q)) (λ e. sym (tied q (source_of e.1))) l in
     as_ties sorted ∙ stable (0, RemoveVertex q) ∙ sym (as_ties edits)
 
 -- ---- what is made of the vertices is made of the graph
@@ -266,12 +286,15 @@ stays_grouped edits sorted stable q =
 Ok_same : {X E : Type 0} {x y : X} → ◌≡◌ {A = Result X E} (Ok x) (Ok y) → x ≡ y
 Ok_same h = cc
 
-module _ (rows : Rows) (edits : List Edit) (all : Places) (rising : HasRisingIds rows) (room : HasRoom (vertex_count rows) (edge_count rows) (length edits)) (grouped : AreGrouped edits all) where
+module _ (rows : Rows) (edits : List Edit) (all : Places) (rising : HasRisingIds rows)
+    (room : HasRoom (vertex_count rows) (edge_count rows) (length edits)) (grouped : AreGrouped edits all) where
   -- the edits of a vertex, as the law names them
-  placed_is : (q : ℕ) (r : Result (Option Row) EditFault) → vertex_after (row_at q rows) (edits_of q (placed 1 edits)) ≡ r → vertex_after (row_at q rows) (edits_of q all) ≡ r
+  placed_is : (q : ℕ) (r : Result (Option Row) EditFault) → vertex_after (row_at q rows) (edits_of q (placed 1 edits)) ≡ r
+      → vertex_after (row_at q rows) (edits_of q all) ≡ r
   placed_is q r h = ap (vertex_after (row_at q rows)) (grouped.same q) ∙ h
 
-  pub made_of_all : (changes : Changes) → AreMade rows all changes → MakesRows 1 rows edits (with_changes changes rows) × (all_edited 1 rows edits ≡ Ok (with_changes changes rows))
+  pub made_of_all : (changes : Changes) → AreMade rows all changes
+      → MakesRows 1 rows edits (with_changes changes rows) × (all_edited 1 rows edits ≡ Ok (with_changes changes rows))
   made_of_all changes made = by (all_edited 1 rows edits) refl (batch_by_rows 1 rows edits rising room)
     where
       same : (now : Rows) → MakesRows 1 rows edits now → now ≡ with_changes changes rows
@@ -279,7 +302,8 @@ module _ (rows : Rows) (edits : List Edit) (all : Places) (rising : HasRisingIds
           same_entries now (with_changes changes rows) makes.rise (rises-changes changes rows rising)
           (λ q. Ok_same (sym (placed_is q _ (makes.seen q)) ∙ made.told q) ∙ sym (value_at-with_changes changes rows q made.rise rising))
 
-      by : (r : Result Rows EditFault) → all_edited 1 rows edits ≡ r → IsByRows 1 rows edits r → MakesRows 1 rows edits (with_changes changes rows) × (all_edited 1 rows edits ≡ Ok (with_changes changes rows))
+      by : (r : Result Rows EditFault) → all_edited 1 rows edits ≡ r → IsByRows 1 rows edits r
+          → MakesRows 1 rows edits (with_changes changes rows) × (all_edited 1 rows edits ≡ Ok (with_changes changes rows))
       by (Ok now) e makes = (subst (MakesRows 1 rows edits) (same now makes) makes, e ∙ ap (λ l. Ok l) (same now makes))
       by (Err fault) e first = absurd (Ok_not_Err (sym (made.told first.vertex) ∙ placed_is first.vertex _ first.there))
 
@@ -296,7 +320,8 @@ module _ (rows : Rows) (edits : List Edit) (all : Places) (rising : HasRisingIds
           (λ (apart : first.vertex ≡ found.vertex → ⊥).
           let before = first.first found.vertex fault there in
           let after = found.first first.vertex other (placed_is first.vertex _ first.there) in
-          absurd (faults_apart 1 first.vertex found.vertex edits (row_at first.vertex rows) (row_at found.vertex rows) other fault apart first.there there (omega arith)))
+          absurd (faults_apart 1 first.vertex found.vertex edits (row_at first.vertex rows)
+          (row_at found.vertex rows) other fault apart first.there there (omega arith)))
           (cases_eq first.vertex found.vertex)
 
       by : (r : Result Rows EditFault) → all_edited 1 rows edits ≡ r → IsByRows 1 rows edits r → all_edited 1 rows edits ≡ Err fault
@@ -305,36 +330,24 @@ module _ (rows : Rows) (edits : List Edit) (all : Places) (rising : HasRisingIds
 
 -- ---- the edges are counted
 
-with_changes-push : (changes : Changes) (rows : Rows) (key : ℕ) (change : Option Row) → with_changes (changes ++ (key, change) ∷ []) rows ≡ with_change key change (with_changes changes rows)
+with_changes-push : (changes : Changes) (rows : Rows) (key : ℕ) (change : Option Row)
+    → with_changes (changes ++ (key, change) ∷ []) rows ≡ with_change key change (with_changes changes rows)
 with_changes-push [] rows key change = refl
 with_changes-push (c ∷ changes) rows key change = with_changes-push changes (with_change c.0 c.1 rows) key change
 
-module _ (rows : Rows) (changes : Changes) (rising : HasRisingIds rows) (rise : ChangesRise changes) (i : ℕ) (c : ℕ × Option Row) (within : i < length changes) (here : c ≡ get_or changes i c) where
+-- one row after the others
+module _ (rows : Rows) (changes : Changes) (rising : HasRisingIds rows) (rise : ChangesRise changes) (id : ℕ) (none : value_at id changes ≡ None) where
   abbrev so_far : Rows
-  so_far = with_changes (take i changes) rows
+  so_far = with_changes changes rows
 
-  one_more : take (i + 1) changes ≡ take i changes ++ c ∷ []
-  one_more = take_more changes i c within ∙ ap (λ x. take i changes ++ x ∷ []) (sym here)
+  unchanged : row_at id so_far ≡ row_at id rows
+  unchanged = value_at-with_changes changes rows id rise rising ∙ ap (λ o. unwrap_or o (row_at id rows)) none
 
-  whole : take i changes ++ c ∷ drop (i + 1) changes ≡ changes
-  whole = sym (append_assoc (take i changes) (c ∷ []) (drop (i + 1) changes)) ∙ ap (λ l. l ++ drop (i + 1) changes) (sym one_more) ∙ take-append-drop (i + 1) changes
+  pub next_counted : (row : Option Row) (edges' : ℕ) → edges' + degree_of (row_at id rows) ≡ edge_count so_far + degree_of row
+      → edges' ≡ edge_count (with_changes (changes ++ (id, row) ∷ []) rows)
+  next_counted row edges' is =
+      let step = edges-change so_far (rises-changes changes rows rising) id row in
+      omega (arith, step, is, ap degree_of unchanged, ap edge_count (with_changes-push changes rows id row))
 
-  parts_rise : ChangesRise (take i changes ++ c ∷ drop (i + 1) changes)
-  parts_rise = subst ChangesRise (sym whole) rise
-
-  unchanged : row_at c.0 so_far ≡ row_at c.0 rows
-  unchanged =
-      value_at-with_changes (take i changes) rows c.0 (rises_left (take i changes) (c ∷ drop (i + 1) changes) parts_rise) rising
-      ∙ ap (λ o. unwrap_or o (row_at c.0 rows)) (none_below c.0 c.0 (take i changes) (omega arith) (below_middle (take i changes) c (drop (i + 1) changes) parts_rise))
-
-  counted : edge_count (with_changes (take (i + 1) changes) rows) + degree_of (row_at c.0 rows) ≡ edge_count so_far + degree_of c.1
-  counted =
-      let step = edges-change so_far (rises-changes (take i changes) rows rising) c.0 c.1 in
-      let now = ap (λ l. edge_count (with_changes l rows)) one_more ∙ ap edge_count (with_changes-push (take i changes) rows c.0 c.1) in
-      omega (arith, step, now, ap degree_of unchanged)
-
-  pub next_counted : (edges before after edges' : ℕ) → edges ≡ edge_count so_far → before ≡ degree_of (row_at c.0 rows) → after ≡ degree_of c.1 → edges' ≡ edges - before + after → before ≤ edges → edges' ≡ edge_count (with_changes (take (i + 1) changes) rows)
-  next_counted edges before after edges' e b a is fits = omega (arith, counted, e, b, a, is, fits)
-
-  pub degree_fits : degree_of (row_at c.0 rows) ≤ edge_count so_far
-  degree_fits = omega (arith, edges-without_row so_far c.0, ap degree_of unchanged)
+  pub degree_fits : degree_of (row_at id rows) ≤ edge_count so_far
+  degree_fits = omega (arith, edges-without_row so_far id, ap degree_of unchanged)

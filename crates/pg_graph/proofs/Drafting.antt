@@ -1,10 +1,9 @@
 -- A draft after one more change: its numbers, and what it has made of its graph.
-use Rattle.std.proofs.Common.{◌≡◌, ℕ, ◌+◌, ◌≤◌, ◌⊎◌, [], length, Bool, true, false, cond, Option, None, Some, is_some, IsSome, Ok, Err, inl, inr, refl, sym, ap, ◌∙◌, subst, ⊎_elim, arith}
+use Rattle.std.proofs.Common.{◌≡◌, ℕ, ◌+◌, ◌≤◌, ◌⊎◌, [], length, Bool, true, false, cond, Option, None, Some, is_some, Ok, Err, inl, inr, refl, sym, ap, ◌∙◌, subst, ⊎_elim, arith}
 use Rattle.std.specs.Ordering.{nat_cmp}
 use Rattle.std.specs.BTreeMap.{insert_entry, is_at}
 use Rattle.std.specs.Map.{remove_entry}
 use Rattle.std.specs.Option.{option_map, unwrap_or}
-use Rattle.std.proofs.lemmas.Bool.{cases_eq}
 use Rattle.pg_map.specs.Entries.{ChangesRise, with_change, with_changes}
 use Rattle.pg_graph.specs.Changes.{Changes, changed_row_at, degree_of}
 use Rattle.pg_graph.specs.Draft.{IsCounted, BecomesBy, RefusesEdit}
@@ -15,7 +14,7 @@ use Rattle.pg_graph.specs.declared.edit.EditKind.{EditKind}
 use Rattle.pg_graph.specs.declared.edit.EditKind.TheVariants.{Memory, NoVertex}
 use Rattle.pg_graph.specs.declared.graph.Row.{Row}
 use Rattle.pg_map.proofs.Changing.{rises-changes, value_at-with_changes, with_changes-insert, insert-remove}
-use Rattle.pg_map.proofs.Rising.{find, find-insert_same, find-insert_other, rises-insert, length-insert_absent, length-insert_present, length-remove_present, sum-insert, sum-remove}
+use Rattle.pg_map.proofs.Rising.{rises-insert, length-insert_absent, length-insert_present, length-remove_present, sum-insert, sum-remove}
 
 -- ---- of one graph
 
@@ -23,7 +22,8 @@ degree_is : (row : Option Row) → degree_of row ≡ unwrap_or (option_map (λ (
 degree_is None = refl
 degree_is (Some row) = refl
 
-pub edges-with_row : (rows : Rows) (id : ℕ) (row : Row) → HasRisingIds rows → edge_count (with_row id row rows) + degree_of (row_at id rows) ≡ edge_count rows + length row.edges
+pub edges-with_row : (rows : Rows) (id : ℕ) (row : Row) → HasRisingIds rows
+    → edge_count (with_row id row rows) + degree_of (row_at id rows) ≡ edge_count rows + length row.edges
 edges-with_row rows id row rising = omega (arith, sum-insert (λ (r : Row). length r.edges) rows id row rising, degree_is (row_at id rows))
 
 pub edges-without_row : (rows : Rows) (id : ℕ) → edge_count (without_row id rows) + degree_of (row_at id rows) ≡ edge_count rows
@@ -78,12 +78,14 @@ module _ (graph : Rows) (changes : Changes) (vertices edges : ℕ) (before : IsC
   pub put_now : (change : Option Row) → with_changes (insert_entry nat_cmp changes id change) graph ≡ with_change id change now
   put_now change = with_changes-insert changes graph id change before.changes_rise before.graph_rises
 
-  pub added : (row : Row) → row_at id now ≡ None → row.edges ≡ [] → vertices + 1 ≤ vertex_limit → IsCounted graph (insert_entry nat_cmp changes id (Some row)) (vertices + 1) edges
+  pub added : (row : Row) → row_at id now ≡ None → row.edges ≡ [] → vertices + 1 ≤ vertex_limit
+      → IsCounted graph (insert_entry nat_cmp changes id (Some row)) (vertices + 1) edges
   added row gone bare room = record {
     graph_rises = before.graph_rises;
     changes_rise = rises-insert changes id (Some row) before.changes_rise;
     vertices_counted = omega (arith, before.vertices_counted, ap vertex_count (put_now (Some row)), length-insert_absent now id row gone);
-    edges_counted = omega (arith, before.edges_counted, ap edge_count (put_now (Some row)), edges-with_row now id row now_rises, ap degree_of gone, ap length bare);
+    edges_counted = omega
+        (arith, before.edges_counted, ap edge_count (put_now (Some row)), edges-with_row now id row now_rises, ap degree_of gone, ap length bare);
     vertices_fit = room;
     edges_fit = before.edges_fit;
   }
@@ -100,7 +102,8 @@ module _ (graph : Rows) (changes : Changes) (vertices edges : ℕ) (before : IsC
     still_rise = subst ChangesRise (sym in_place) (rises-insert changes id change before.changes_rise)
 
     module _ (row : Row) (there : row_at id now ≡ Some row) where
-      pub replaced : (row' : Row) (edges' : ℕ) → change ≡ Some row' → edges' + length row.edges ≡ edges + length row'.edges → edges' ≤ edge_limit → IsCounted graph changes' vertices edges'
+      pub replaced : (row' : Row) (edges' : ℕ) → change ≡ Some row' → edges' + length row.edges ≡ edges + length row'.edges → edges' ≤ edge_limit
+          → IsCounted graph changes' vertices edges'
       replaced row' edges' some count room =
           let made : with_changes changes' graph ≡ with_row id row' now = put_back ∙ ap (λ o. with_change id o now) some in
           record {
@@ -112,7 +115,8 @@ module _ (graph : Rows) (changes : Changes) (vertices edges : ℕ) (before : IsC
             edges_fit = room;
           }
 
-      pub removed : (vertices' edges' : ℕ) → change ≡ None → vertices' + 1 ≡ vertices → edges' + length row.edges ≡ edges → IsCounted graph changes' vertices' edges'
+      pub removed : (vertices' edges' : ℕ) → change ≡ None → vertices' + 1 ≡ vertices → edges' + length row.edges ≡ edges
+          → IsCounted graph changes' vertices' edges'
       removed vertices' edges' none_left one count =
           let made : with_changes changes' graph ≡ without_row id now = put_back ∙ ap (λ o. with_change id o now) none_left in
           record {
@@ -126,13 +130,15 @@ module _ (graph : Rows) (changes : Changes) (vertices edges : ℕ) (before : IsC
 
   -- of the draft as a contract sees it
   module _ (value : Rows × Rows) (view : (graph, now) ≡ value) (edit : Edit) where
-    pub becomes : (changes' : Changes) (rows' : Rows) → edited now edit ≡ Ok rows' → with_changes changes' graph ≡ rows' → BecomesBy edit value (graph, with_changes changes' graph)
+    pub becomes : (changes' : Changes) (rows' : Rows) → edited now edit ≡ Ok rows' → with_changes changes' graph ≡ rows'
+        → BecomesBy edit value (graph, with_changes changes' graph)
     becomes changes' rows' made same = subst (λ v. BecomesBy edit v (graph, with_changes changes' graph)) view (refl, made ∙ ap (λ rows. Ok rows) (sym same))
 
     pub refused : (kind : EditKind) → edited now edit ≡ Err kind → RefusesEdit edit value kind
     refused kind why = subst (λ v. RefusesEdit edit v kind) view (inr why)
 
-    pub refused_row : (kind : EditKind) → (row_at id now ≡ None → edited now edit ≡ Err NoVertex) → (kind ≡ Memory) ⊎ ((kind ≡ NoVertex) × (changed_row_at id changes graph ≡ None)) → RefusesEdit edit value kind
+    pub refused_row : (kind : EditKind) → (row_at id now ≡ None → edited now edit ≡ Err NoVertex)
+        → (kind ≡ Memory) ⊎ ((kind ≡ NoVertex) × (changed_row_at id changes graph ≡ None)) → RefusesEdit edit value kind
     refused_row kind missing told =
         ⊎_elim
         (λ (e : kind ≡ Memory). inl e)

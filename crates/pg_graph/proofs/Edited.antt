@@ -19,7 +19,8 @@ module _ (rows : Rows) (id : ℕ) where
   unfolding edited
   AddVertex-full input gone full = rw (gone, le-leb vertex_limit (vertex_count rows) full) refl
 
-  pub AddVertex-ok : (input : ℤ) → is_some (row_at id rows) ≡ false → vertex_count rows < vertex_limit → edited rows (AddVertex id input) ≡ Ok (with_row id (record { input = input; edges = [] }) rows)
+  pub AddVertex-ok : (input : ℤ) → is_some (row_at id rows) ≡ false → vertex_count rows < vertex_limit
+      → edited rows (AddVertex id input) ≡ Ok (with_row id (record { input = input; edges = [] }) rows)
   unfolding edited
   AddVertex-ok input gone room = rw (gone, lt-leb vertex_limit (vertex_count rows) room) refl
 
@@ -61,11 +62,13 @@ module _ (rows : Rows) (id : ℕ) where
     unfolding edited
     AddEdge-exists target weight edge = rw (there, at_row, edge) refl
 
-    pub AddEdge-full : (target : ℕ) (weight : ℤ) → is_some (weight_at target row.edges) ≡ false → edge_limit ≤ edge_count rows → edited rows (AddEdge id target weight) ≡ Err Full
+    pub AddEdge-full : (target : ℕ) (weight : ℤ) → is_some (weight_at target row.edges) ≡ false → edge_limit ≤ edge_count rows
+        → edited rows (AddEdge id target weight) ≡ Err Full
     unfolding edited
     AddEdge-full target weight none full = rw (there, at_row, none, le-leb edge_limit (edge_count rows) full) refl
 
-    pub AddEdge-ok : (target : ℕ) (weight : ℤ) → is_some (weight_at target row.edges) ≡ false → edge_count rows < edge_limit → edited rows (AddEdge id target weight) ≡ Ok (with_row id (record row { edges = with_edge target weight row.edges }) rows)
+    pub AddEdge-ok : (target : ℕ) (weight : ℤ) → is_some (weight_at target row.edges) ≡ false → edge_count rows < edge_limit
+        → edited rows (AddEdge id target weight) ≡ Ok (with_row id (record row { edges = with_edge target weight row.edges }) rows)
     unfolding edited
     AddEdge-ok target weight none room = rw (there, at_row, none, lt-leb edge_limit (edge_count rows) room) refl
 
@@ -73,7 +76,8 @@ module _ (rows : Rows) (id : ℕ) where
     unfolding edited
     SetEdge-none target weight none = rw (there, at_row, none) refl
 
-    pub SetEdge-ok : (target : ℕ) (weight : ℤ) → is_some (weight_at target row.edges) ≡ true → edited rows (SetEdge id target weight) ≡ Ok (with_row id (record row { edges = with_edge target weight row.edges }) rows)
+    pub SetEdge-ok : (target : ℕ) (weight : ℤ) → is_some (weight_at target row.edges) ≡ true
+        → edited rows (SetEdge id target weight) ≡ Ok (with_row id (record row { edges = with_edge target weight row.edges }) rows)
     unfolding edited
     SetEdge-ok target weight edge = rw (there, at_row, edge) refl
 
@@ -81,6 +85,7 @@ module _ (rows : Rows) (id : ℕ) where
     unfolding edited
     RemoveEdge-none target none = rw (there, at_row, none) refl
 
-    pub RemoveEdge-ok : (target : ℕ) → is_some (weight_at target row.edges) ≡ true → edited rows (RemoveEdge id target) ≡ Ok (with_row id (record row { edges = without_edge target row.edges }) rows)
+    pub RemoveEdge-ok : (target : ℕ) → is_some (weight_at target row.edges) ≡ true
+        → edited rows (RemoveEdge id target) ≡ Ok (with_row id (record row { edges = without_edge target row.edges }) rows)
     unfolding edited
     RemoveEdge-ok target edge = rw (there, at_row, edge) refl

@@ -1,17 +1,16 @@
 -- A batch is, for each vertex, what its own edits make of its row, where no limit can be met.
 use Rattle.std.proofs.Common.{◌≡◌, ℕ, ℤ, ◌+◌, ◌<◌, ◌≤◌, Bool, true, false, cond, List, [], ◌∷◌, length, Option, None, Some, Ordering, is_some, Result, Ok, Err, MatchResult, ◌⊎◌, inl, inr, eqb, refl, sym, ap, ◌∙◌, subst, ⊎_elim, arith}
-use Rattle.std.specs.List.{filter, AllByRecursion}
+use Rattle.std.specs.List.{AllByRecursion}
 use Rattle.std.specs.declared.cmp.Ordering.TheVariants.{Less, Equal, Greater}
 use Rattle.std.specs.Ordering.{nat_cmp, match_ordering}
 use Rattle.std.specs.BTreeMap.{is_at}
-use Rattle.std.specs.Option.{option_map, unwrap_or}
-use Rattle.std.proofs.lemmas.Bool.{cases_eq, true≢false}
+use Rattle.std.proofs.lemmas.Bool.{cases_eq}
 use Rattle.std.proofs.lemmas.Bool.Decides.{nat_tests}
 use Rattle.pg_map.specs.Entries.{with_change}
 use Rattle.pg_map.proofs.Changing.{rises-change, change_same, change_other}
 use Rattle.pg_map.proofs.Rising.{length-insert_absent, length-insert_present, length-remove_present}
 use Rattle.pg_graph.specs.Changes.{degree_of}
-use Rattle.pg_graph.specs.EdgeList.{EdgeList, IsRising, weight_at, with_edge, without_edge}
+use Rattle.pg_graph.specs.EdgeList.{EdgeList, weight_at, with_edge, without_edge}
 use Rattle.pg_graph.specs.Edit.{edited, all_edited, vertex_limit, edge_limit}
 use Rattle.pg_graph.specs.RowEdit.{source_of, row_edited, none_edited, vertex_edited, Places, placed, is_of, edits_of, vertex_after, HasRoom}
 use Rattle.pg_graph.specs.Rows.{Rows, HasRisingIds, row_at, vertex_count, edge_count}
@@ -22,7 +21,7 @@ use Rattle.pg_graph.specs.declared.edit.EditKind.{EditKind}
 use Rattle.pg_graph.specs.declared.edit.EditFault.{EditFault}
 use Rattle.pg_graph.proofs.AtPlace.{cut_absent}
 use Rattle.pg_graph.proofs.Batches.{after, first_edit, all_edited-nil, Err_not_Ok, Ok_not_Err, Err_same}
-use Rattle.pg_graph.proofs.Drafting.{edges-with_row, edges-without_row, none_there}
+use Rattle.pg_graph.proofs.Drafting.{edges-with_row, edges-without_row}
 use Rattle.pg_graph.proofs.Edited.{AddVertex-exists, AddVertex-ok, RemoveVertex-missing, SetInput-missing, AddEdge-missing, SetEdge-missing, RemoveEdge-missing, RemoveVertex-ok, SetInput-ok, AddEdge-exists, AddEdge-ok, SetEdge-none, SetEdge-ok, RemoveEdge-none, RemoveEdge-ok}
 
 -- ---- one edit
@@ -33,7 +32,8 @@ stepped id rows (Ok change) = Ok (with_change id change rows)
 stepped id rows (Err kind) = Err kind
 
 module _ (rows : Rows) where
-  edited-none : (edit : Edit) → row_at (source_of edit) rows ≡ None → vertex_count rows < vertex_limit → edited rows edit ≡ stepped (source_of edit) rows (none_edited edit)
+  edited-none : (edit : Edit) → row_at (source_of edit) rows ≡ None → vertex_count rows < vertex_limit
+      → edited rows edit ≡ stepped (source_of edit) rows (none_edited edit)
   edited-none (AddVertex id input) gone room = AddVertex-ok rows id input (ap is_some gone) room
   edited-none (RemoveVertex id) gone room = RemoveVertex-missing rows id gone
   edited-none (SetInput id input) gone room = SetInput-missing rows id gone input
@@ -41,30 +41,36 @@ module _ (rows : Rows) where
   edited-none (SetEdge id target weight) gone room = SetEdge-missing rows id gone target weight
   edited-none (RemoveEdge id target) gone room = RemoveEdge-missing rows id gone target
 
-  edited-some : (edit : Edit) (row : Row) → row_at (source_of edit) rows ≡ Some row → edge_count rows < edge_limit → edited rows edit ≡ stepped (source_of edit) rows (row_edited row edit)
+  edited-some : (edit : Edit) (row : Row) → row_at (source_of edit) rows ≡ Some row → edge_count rows < edge_limit
+      → edited rows edit ≡ stepped (source_of edit) rows (row_edited row edit)
   edited-some (AddVertex id input) row there room = AddVertex-exists rows id input (ap is_some there)
   edited-some (RemoveVertex id) row there room = RemoveVertex-ok rows id row there
   edited-some (SetInput id input) row there room = SetInput-ok rows id row there input
   edited-some (AddEdge id target weight) row there room = by (is_some (weight_at target row.edges)) refl
     where
-      by : (b : Bool) → is_some (weight_at target row.edges) ≡ b → edited rows (AddEdge id target weight) ≡ stepped id rows (row_edited row (AddEdge id target weight))
+      by : (b : Bool) → is_some (weight_at target row.edges) ≡ b
+          → edited rows (AddEdge id target weight) ≡ stepped id rows (row_edited row (AddEdge id target weight))
       by true e = rw e (AddEdge-exists rows id row there target weight e)
       by false e = rw e (AddEdge-ok rows id row there target weight e room)
   edited-some (SetEdge id target weight) row there room = by (is_some (weight_at target row.edges)) refl
     where
-      by : (b : Bool) → is_some (weight_at target row.edges) ≡ b → edited rows (SetEdge id target weight) ≡ stepped id rows (row_edited row (SetEdge id target weight))
+      by : (b : Bool) → is_some (weight_at target row.edges) ≡ b
+          → edited rows (SetEdge id target weight) ≡ stepped id rows (row_edited row (SetEdge id target weight))
       by true e = rw e (SetEdge-ok rows id row there target weight e)
       by false e = rw e (SetEdge-none rows id row there target weight e)
   edited-some (RemoveEdge id target) row there room = by (is_some (weight_at target row.edges)) refl
     where
-      by : (b : Bool) → is_some (weight_at target row.edges) ≡ b → edited rows (RemoveEdge id target) ≡ stepped id rows (row_edited row (RemoveEdge id target))
+      by : (b : Bool) → is_some (weight_at target row.edges) ≡ b
+          → edited rows (RemoveEdge id target) ≡ stepped id rows (row_edited row (RemoveEdge id target))
       by true e = rw e (RemoveEdge-ok rows id row there target e)
       by false e = rw e (RemoveEdge-none rows id row there target e)
 
-  pub edited-vertex : (edit : Edit) → vertex_count rows < vertex_limit → edge_count rows < edge_limit → edited rows edit ≡ stepped (source_of edit) rows (vertex_edited (row_at (source_of edit) rows) edit)
+  pub edited-vertex : (edit : Edit) → vertex_count rows < vertex_limit → edge_count rows < edge_limit
+      → edited rows edit ≡ stepped (source_of edit) rows (vertex_edited (row_at (source_of edit) rows) edit)
   edited-vertex edit vertices edges = by (row_at (source_of edit) rows) refl
     where
-      by : (o : Option Row) → row_at (source_of edit) rows ≡ o → edited rows edit ≡ stepped (source_of edit) rows (vertex_edited (row_at (source_of edit) rows) edit)
+      by : (o : Option Row) → row_at (source_of edit) rows ≡ o
+          → edited rows edit ≡ stepped (source_of edit) rows (vertex_edited (row_at (source_of edit) rows) edit)
       by None e = edited-none edit e vertices ∙ sym (ap (λ r. stepped (source_of edit) rows (vertex_edited r edit)) e)
       by (Some row) e = edited-some edit row e edges ∙ sym (ap (λ r. stepped (source_of edit) rows (vertex_edited r edit)) e)
 
@@ -97,7 +103,8 @@ length-put : (edges : EdgeList) (target : ℕ) (weight : ℤ) → length (with_e
 length-put [] target weight = omega arith
 length-put (e ∷ edges) target weight = by (nat_cmp target e.0) (length-put edges target weight)
   where
-    by : (r : Ordering) → length (with_edge target weight edges) ≤ length edges + 1 → length (match_ordering r ((target, weight) ∷ e ∷ edges) ((e.0, weight) ∷ edges) (e ∷ with_edge target weight edges)) ≤ length (e ∷ edges) + 1
+    by : (r : Ordering) → length (with_edge target weight edges) ≤ length edges + 1
+        → length (match_ordering r ((target, weight) ∷ e ∷ edges) ((e.0, weight) ∷ edges) (e ∷ with_edge target weight edges)) ≤ length (e ∷ edges) + 1
     by Less later = omega arith
     by Equal later = omega arith
     by Greater later = omega (arith, later)
@@ -114,11 +121,13 @@ Ok_same : {X E : Type 0} {x y : X} → ◌≡◌ {A = Result X E} (Ok x) (Ok y) 
 Ok_same h = cc
 
 -- what holds of the result that there may be
-of_put : (P : Option Row → Type 0) (b : Bool) (kind : EditKind) (x change : Option Row) → ◌≡◌ {A = Result (Option Row) EditKind} (cond b (Ok x) (Err kind)) (Ok change) → P x → P change
+of_put : (P : Option Row → Type 0) (b : Bool) (kind : EditKind) (x change : Option Row)
+    → ◌≡◌ {A = Result (Option Row) EditKind} (cond b (Ok x) (Err kind)) (Ok change) → P x → P change
 of_put P true kind x change made here = subst P (Ok_same made) here
 of_put P false kind x change made here = absurd (Err_not_Ok made)
 
-of_new : (P : Option Row → Type 0) (b : Bool) (kind : EditKind) (x change : Option Row) → ◌≡◌ {A = Result (Option Row) EditKind} (cond b (Err kind) (Ok x)) (Ok change) → P x → P change
+of_new : (P : Option Row → Type 0) (b : Bool) (kind : EditKind) (x change : Option Row)
+    → ◌≡◌ {A = Result (Option Row) EditKind} (cond b (Err kind) (Ok x)) (Ok change) → P x → P change
 of_new P true kind x change made here = absurd (Err_not_Ok made)
 of_new P false kind x change made here = subst P (Ok_same made) here
 
@@ -152,7 +161,8 @@ ones-le None = omega arith
 ones-le (Some row) = omega arith
 
 -- after an edit there is room for one fewer
-room-step : (rows : Rows) (edit : Edit) (change : Option Row) (n : ℕ) → HasRisingIds rows → vertex_edited (row_at (source_of edit) rows) edit ≡ Ok change → HasRoom (vertex_count rows) (edge_count rows) (n + 1)
+room-step : (rows : Rows) (edit : Edit) (change : Option Row) (n : ℕ) → HasRisingIds rows
+    → vertex_edited (row_at (source_of edit) rows) edit ≡ Ok change → HasRoom (vertex_count rows) (edge_count rows) (n + 1)
     → HasRoom (vertex_count (with_change (source_of edit) change rows)) (edge_count (with_change (source_of edit) change rows)) n
 room-step rows edit change n rising made room = record {
   vertices_fit = omega (arith, room.vertices_fit, vertices-change rows rising (source_of edit) change, ones-le change);
@@ -161,26 +171,32 @@ room-step rows edit change n rising made room = record {
 
 -- ---- all edits, seen from one vertex
 
-pub of_same : (id position : ℕ) (edit : Edit) (edits : Places) → id ≡ source_of edit → edits_of id ((position, edit) ∷ edits) ≡ (position, edit) ∷ edits_of id edits
-of_same id position edit edits same = let here : eqb id (source_of edit) ≡ true = grind (arith, nat_tests) in ap (λ b. cond b ((position, edit) ∷ edits_of id edits) (edits_of id edits)) here
+pub of_same : (id position : ℕ) (edit : Edit) (edits : Places) → id ≡ source_of edit
+    → edits_of id ((position, edit) ∷ edits) ≡ (position, edit) ∷ edits_of id edits
+of_same id position edit edits same = let here : eqb id (source_of edit) ≡ true = grind (arith, nat_tests) in
+    ap (λ b. cond b ((position, edit) ∷ edits_of id edits) (edits_of id edits)) here
 
 pub of_other : (id position : ℕ) (edit : Edit) (edits : Places) → (id ≡ source_of edit → ⊥) → edits_of id ((position, edit) ∷ edits) ≡ edits_of id edits
-of_other id position edit edits apart = let here : eqb id (source_of edit) ≡ false = grind (arith, nat_tests) in ap (λ b. cond b ((position, edit) ∷ edits_of id edits) (edits_of id edits)) here
+of_other id position edit edits apart = let here : eqb id (source_of edit) ≡ false = grind (arith, nat_tests) in
+    ap (λ b. cond b ((position, edit) ∷ edits_of id edits) (edits_of id edits)) here
 
 -- what comes of the first edit decides
 abbrev then_after : ℕ → Places → Result (Option Row) EditKind → Result (Option Row) EditFault
 then_after position edits made = elim made [ Ok changed ↦ vertex_after changed edits | Err kind ↦ Err (record { position = position; kind = kind }) ]
 
 -- one more edit of the graph is one of its vertex
-step_seen : (rows : Rows) (position : ℕ) (edit : Edit) (edits : Places) (change : Option Row) (q : ℕ) → HasRisingIds rows → vertex_edited (row_at (source_of edit) rows) edit ≡ Ok change
-    → vertex_after (row_at q rows) (edits_of q ((position, edit) ∷ edits)) ≡ vertex_after (row_at q (with_change (source_of edit) change rows)) (edits_of q edits)
+step_seen : (rows : Rows) (position : ℕ) (edit : Edit) (edits : Places) (change : Option Row) (q : ℕ) → HasRisingIds rows
+    → vertex_edited (row_at (source_of edit) rows) edit ≡ Ok change
+    → vertex_after (row_at q rows) (edits_of q ((position, edit) ∷ edits)) ≡ vertex_after (row_at q (with_change (source_of edit) change rows))
+    (edits_of q edits)
 step_seen rows position edit edits change q rising made =
     ⊎_elim
     (λ (e : q ≡ source_of edit).
     ap (vertex_after (row_at q rows)) (of_same q position edit edits e)
     ∙ ap (λ k. then_after position (edits_of q edits) (vertex_edited (row_at k rows) edit)) e
     ∙ ap (then_after position (edits_of q edits)) made
-    ∙ sym (ap (λ r. vertex_after r (edits_of q edits)) (ap (λ k. row_at k (with_change (source_of edit) change rows)) e ∙ change_same (source_of edit) change rows rising)))
+    ∙ sym (ap (λ r. vertex_after r (edits_of q edits))
+    (ap (λ k. row_at k (with_change (source_of edit) change rows)) e ∙ change_same (source_of edit) change rows rising)))
     (λ (n : q ≡ source_of edit → ⊥).
     ap (vertex_after (row_at q rows)) (of_other q position edit edits n)
     ∙ sym (ap (λ r. vertex_after r (edits_of q edits)) (change_other (source_of edit) change rows q n)))
@@ -210,7 +226,8 @@ fault_from : (m : ℕ) (row : Option Row) (edits : Places) (fault : EditFault) �
 fault_from m row [] fault all why = absurd (Ok_not_Err why)
 fault_from m row (e ∷ edits) fault all why = by (vertex_edited row e.1) why (λ changed. fault_from m changed edits fault all.1)
   where
-    by : (r : Result (Option Row) EditKind) → then_after e.0 edits r ≡ Err fault → ((changed : Option Row) → vertex_after changed edits ≡ Err fault → m ≤ fault.position) → m ≤ fault.position
+    by : (r : Result (Option Row) EditKind) → then_after e.0 edits r ≡ Err fault
+        → ((changed : Option Row) → vertex_after changed edits ≡ Err fault → m ≤ fault.position) → m ≤ fault.position
     by (Ok changed) f later = later changed f
     by (Err kind) f later = subst (λ g. m ≤ g.position) (Err_same f) all.0
 
@@ -219,7 +236,8 @@ abbrev AreApart : ℕ → ℕ → Places → EditFault → EditFault → Type 0
 AreApart q q' edits f f' = (r r' : Option Row) → vertex_after r (edits_of q edits) ≡ Err f → vertex_after r' (edits_of q' edits) ≡ Err f' → ⊥
 
 -- two vertices don't have faults at one place
-pub faults_apart : (p q q' : ℕ) (edits : List Edit) (row row' : Option Row) (f f' : EditFault) → (q ≡ q' → ⊥) → vertex_after row (edits_of q (placed p edits)) ≡ Err f → vertex_after row' (edits_of q' (placed p edits)) ≡ Err f' → f.position ≡ f'.position → ⊥
+pub faults_apart : (p q q' : ℕ) (edits : List Edit) (row row' : Option Row) (f f' : EditFault) → (q ≡ q' → ⊥)
+    → vertex_after row (edits_of q (placed p edits)) ≡ Err f → vertex_after row' (edits_of q' (placed p edits)) ≡ Err f' → f.position ≡ f'.position → ⊥
 faults_apart p q q' [] row row' f f' apart why why' same = Ok_not_Err why
 faults_apart p q q' (e ∷ edits) row row' f f' apart why why' same =
     by (λ r r' w w'. faults_apart (p + 1) q q' edits r r' f f' apart w w' same) (cases_eq q (source_of e)) (cases_eq q' (source_of e))
@@ -227,19 +245,27 @@ faults_apart p q q' (e ∷ edits) row row' f f' apart why why' same =
     past : (k : ℕ) (r : Option Row) (g : EditFault) → vertex_after r (edits_of k (placed (p + 1) edits)) ≡ Err g → p + 1 ≤ g.position
     past k r g w = fault_from (p + 1) r (edits_of k (placed (p + 1) edits)) g (all_from-of (p + 1) k (placed (p + 1) edits) (all_from-placed (p + 1) edits)) w
 
-    here : AreApart q q' (placed (p + 1) edits) f f' → (r' : Option Row) → vertex_after r' (edits_of q' (placed (p + 1) edits)) ≡ Err f' → (r : Result (Option Row) EditKind) → then_after p (edits_of q (placed (p + 1) edits)) r ≡ Err f → ⊥
+    here : AreApart q q' (placed (p + 1) edits) f f' → (r' : Option Row) → vertex_after r' (edits_of q' (placed (p + 1) edits)) ≡ Err f'
+        → (r : Result (Option Row) EditKind) → then_after p (edits_of q (placed (p + 1) edits)) r ≡ Err f → ⊥
     here later r' w' (Ok changed) w = later changed r' w w'
     here later r' w' (Err kind) w = omega (arith, ap (λ g. g.position) (Err_same w), past q' r' f' w', same)
 
-    there : AreApart q q' (placed (p + 1) edits) f f' → (r : Option Row) → vertex_after r (edits_of q (placed (p + 1) edits)) ≡ Err f → (r' : Result (Option Row) EditKind) → then_after p (edits_of q' (placed (p + 1) edits)) r' ≡ Err f' → ⊥
+    there : AreApart q q' (placed (p + 1) edits) f f' → (r : Option Row) → vertex_after r (edits_of q (placed (p + 1) edits)) ≡ Err f
+        → (r' : Result (Option Row) EditKind) → then_after p (edits_of q' (placed (p + 1) edits)) r' ≡ Err f' → ⊥
     there later r w (Ok changed) w' = later r changed w w'
     there later r w (Err kind) w' = omega (arith, ap (λ g. g.position) (Err_same w'), past q r f w, same)
 
     by : AreApart q q' (placed (p + 1) edits) f f' → (q ≡ source_of e) ⊎ (q ≡ source_of e → ⊥) → (q' ≡ source_of e) ⊎ (q' ≡ source_of e → ⊥) → ⊥
     by later (inl a) (inl b) = apart (a ∙ sym b)
-    by later (inl a) (inr b) = here later row' (sym (ap (vertex_after row') (of_other q' p e (placed (p + 1) edits) b)) ∙ why') (vertex_edited row e) (sym (ap (vertex_after row) (of_same q p e (placed (p + 1) edits) a)) ∙ why)
-    by later (inr a) (inl b) = there later row (sym (ap (vertex_after row) (of_other q p e (placed (p + 1) edits) a)) ∙ why) (vertex_edited row' e) (sym (ap (vertex_after row') (of_same q' p e (placed (p + 1) edits) b)) ∙ why')
-    by later (inr a) (inr b) = later row row' (sym (ap (vertex_after row) (of_other q p e (placed (p + 1) edits) a)) ∙ why) (sym (ap (vertex_after row') (of_other q' p e (placed (p + 1) edits) b)) ∙ why')
+    by later (inl a) (inr b) =
+        here later row' (sym (ap (vertex_after row') (of_other q' p e (placed (p + 1) edits) b)) ∙ why') (vertex_edited row e)
+        (sym (ap (vertex_after row) (of_same q p e (placed (p + 1) edits) a)) ∙ why)
+    by later (inr a) (inl b) =
+        there later row (sym (ap (vertex_after row) (of_other q p e (placed (p + 1) edits) a)) ∙ why) (vertex_edited row' e)
+        (sym (ap (vertex_after row') (of_same q' p e (placed (p + 1) edits) b)) ∙ why')
+    by later (inr a) (inr b) =
+        later row row' (sym (ap (vertex_after row) (of_other q p e (placed (p + 1) edits) a)) ∙ why)
+        (sym (ap (vertex_after row') (of_other q' p e (placed (p + 1) edits) b)) ∙ why')
 
 -- ---- the law
 
@@ -258,7 +284,8 @@ abbrev pub IsByRows : ℕ → Rows → List Edit → Result Rows EditFault → T
 IsByRows p rows edits made = MatchResult made (MakesRows p rows edits) (IsFirstFault p rows edits)
 
 module _ (p : ℕ) (rows : Rows) (edit : Edit) (edits : List Edit) (rising : HasRisingIds rows) where
-  further : (change : Option Row) → vertex_edited (row_at (source_of edit) rows) edit ≡ Ok change → (r : Result Rows EditFault) → IsByRows (p + 1) (with_change (source_of edit) change rows) edits r → IsByRows p rows (edit ∷ edits) r
+  further : (change : Option Row) → vertex_edited (row_at (source_of edit) rows) edit ≡ Ok change → (r : Result Rows EditFault)
+      → IsByRows (p + 1) (with_change (source_of edit) change rows) edits r → IsByRows p rows (edit ∷ edits) r
   further change made (Ok now) later = record {
     seen = λ q. step_seen rows p edit (placed (p + 1) edits) change q rising made ∙ later.seen q;
     rise = later.rise;
@@ -270,24 +297,33 @@ module _ (p : ℕ) (rows : Rows) (edit : Edit) (edits : List Edit) (rising : Has
     first = λ q other why. later.first q other (sym (step_seen rows p edit (placed (p + 1) edits) change q rising made) ∙ why);
   }
 
-  refused_here : (kind : EditKind) → vertex_edited (row_at (source_of edit) rows) edit ≡ Err kind → IsFirstFault p rows (edit ∷ edits) (record { position = p; kind = kind })
+  refused_here : (kind : EditKind) → vertex_edited (row_at (source_of edit) rows) edit ≡ Err kind
+      → IsFirstFault p rows (edit ∷ edits) (record { position = p; kind = kind })
   refused_here kind why = record {
     vertex = source_of edit;
-    there = ap (vertex_after (row_at (source_of edit) rows)) (of_same (source_of edit) p edit (placed (p + 1) edits) refl) ∙ ap (then_after p (edits_of (source_of edit) (placed (p + 1) edits))) why;
-    first = λ q other w. fault_from p (row_at q rows) (edits_of q (placed p (edit ∷ edits))) other (all_from-of p q (placed p (edit ∷ edits)) (all_from-placed p (edit ∷ edits))) w;
+    there = ap (vertex_after (row_at (source_of edit) rows)) (of_same (source_of edit) p edit (placed (p + 1) edits) refl)
+        ∙ ap (then_after p (edits_of (source_of edit) (placed (p + 1) edits))) why;
+    first = λ q other w. fault_from p (row_at q rows) (edits_of q (placed p (edit ∷ edits))) other
+        (all_from-of p q (placed p (edit ∷ edits)) (all_from-placed p (edit ∷ edits))) w;
   }
 
-pub batch_by_rows : (p : ℕ) (rows : Rows) (edits : List Edit) → HasRisingIds rows → HasRoom (vertex_count rows) (edge_count rows) (length edits) → IsByRows p rows edits (all_edited p rows edits)
+pub batch_by_rows : (p : ℕ) (rows : Rows) (edits : List Edit) → HasRisingIds rows → HasRoom (vertex_count rows) (edge_count rows) (length edits)
+    → IsByRows p rows edits (all_edited p rows edits)
 batch_by_rows p rows [] rising room = subst (IsByRows p rows []) (sym (all_edited-nil p rows)) (record { seen = λ q. refl; rise = rising; room = room })
 batch_by_rows p rows (edit ∷ edits) rising room =
-    subst (IsByRows p rows (edit ∷ edits)) (sym (first_edit p rows edit edits ∙ ap (after p rows edits) (edited-vertex rows edit (omega (arith, room.vertices_fit)) (omega (arith, room.edges_fit)))))
+    subst (IsByRows p rows (edit ∷ edits))
+    (sym (first_edit p rows edit edits
+    ∙ ap (after p rows edits) (edited-vertex rows edit (omega (arith, room.vertices_fit)) (omega (arith, room.edges_fit)))))
     (by (vertex_edited (row_at (source_of edit) rows) edit) refl (λ rows' rising' room'. batch_by_rows (p + 1) rows' edits rising' room'))
   where
     by : (r : Result (Option Row) EditKind) → vertex_edited (row_at (source_of edit) rows) edit ≡ r
-        → ((rows' : Rows) → HasRisingIds rows' → HasRoom (vertex_count rows') (edge_count rows') (length edits) → IsByRows (p + 1) rows' edits (all_edited (p + 1) rows' edits))
+        → ((rows' : Rows) → HasRisingIds rows' → HasRoom (vertex_count rows') (edge_count rows') (length edits)
+        → IsByRows (p + 1) rows' edits (all_edited (p + 1) rows' edits))
         → IsByRows p rows (edit ∷ edits) (after p rows edits (stepped (source_of edit) rows r))
     by (Ok change) e later =
         let rows' = with_change (source_of edit) change rows in
         further p rows edit edits rising change e (all_edited (p + 1) rows' edits)
-        (later rows' (rises-change (source_of edit) change rows rising) (room-step rows edit change (length edits) rising e (let more : length (edit ∷ edits) ≡ length edits + 1 = omega arith in subst (λ n. HasRoom (vertex_count rows) (edge_count rows) n) more room)))
+        (later rows' (rises-change (source_of edit) change rows rising)
+        (room-step rows edit change (length edits) rising e
+        (let more : length (edit ∷ edits) ≡ length edits + 1 = omega arith in subst (λ n. HasRoom (vertex_count rows) (edge_count rows) n) more room)))
     by (Err kind) e later = refused_here p rows edit edits rising kind e

@@ -31,11 +31,13 @@ at_row id change rows =
 -- what one edit makes of a graph, or why it has no result there
 unfoldable pub edited : Rows → Edit → Result Rows EditKind
 edited rows (AddVertex id input) =
-    cond (is_some (row_at id rows)) (Err VertexExists) (cond (nat_le vertex_limit (vertex_count rows)) (Err Full) (Ok (with_row id (record { input = input; edges = [] }) rows)))
+    cond (is_some (row_at id rows)) (Err VertexExists)
+    (cond (nat_le vertex_limit (vertex_count rows)) (Err Full) (Ok (with_row id (record { input = input; edges = [] }) rows)))
 edited rows (RemoveVertex id) = cond (is_some (row_at id rows)) (Ok (without_row id rows)) (Err NoVertex)
 edited rows (SetInput id input) = at_row id (λ row. Ok (record row { input = input })) rows
 edited rows (AddEdge source target weight) =
-    at_row source (λ row. cond (is_some (weight_at target row.edges)) (Err EdgeExists) (cond (nat_le edge_limit (edge_count rows)) (Err Full) (Ok (record row { edges = with_edge target weight row.edges })))) rows
+    at_row source (λ row. cond (is_some (weight_at target row.edges)) (Err EdgeExists)
+    (cond (nat_le edge_limit (edge_count rows)) (Err Full) (Ok (record row { edges = with_edge target weight row.edges })))) rows
 edited rows (SetEdge source target weight) =
     at_row source (λ row. cond (is_some (weight_at target row.edges)) (Ok (record row { edges = with_edge target weight row.edges })) (Err NoEdge)) rows
 edited rows (RemoveEdge source target) =

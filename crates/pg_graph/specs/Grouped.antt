@@ -1,12 +1,12 @@
 -- The edits of a batch by vertex, and how far they are dealt with.
-use Rattle.std.specs.Prelude.{◌≡◌, ℕ, nat_le, cond, ◌<◌, ◌≤◌, ◌⊎◌, List, [], ◌∷◌, Option, None, Some, MatchOption, Result, Ok, Err, MatchResult}
+use Rattle.std.specs.Prelude.{◌≡◌, ℕ, nat_le, cond, ◌<◌, ◌≤◌, ◌⊎◌, List, [], Option, None, Some, MatchOption, Ok, Err, MatchResult}
 use Rattle.std.specs.List.{AllByRecursion}
 use Rattle.std.specs.List.Sorted.{IsNonDecreasingBy}
-use Rattle.pg_map.specs.Entries.{ChangesRise, value_at}
+use Rattle.pg_map.specs.Entries.{ChangesRise, value_at, with_changes}
 use Rattle.pg_graph.specs.Changes.{Changes, changed_row_at}
 use Rattle.pg_graph.specs.RowEdit.{Places, edits_of, placed, source_of, vertex_after}
-use Rattle.pg_graph.specs.Rows.{Rows, row_at}
-use Rattle.pg_graph.specs.declared.graph.Row.{Row}
+use Rattle.pg_graph.specs.Rows.{Rows, edge_count, row_at}
+use Rattle.pg_graph.specs.declared.draft.Changes.{Changes as Changing}
 use Rattle.pg_graph.specs.declared.edit.Edit.{Edit}
 use Rattle.pg_graph.specs.declared.edit.EditFault.{EditFault}
 
@@ -45,11 +45,17 @@ abbrev pub earlier_of : Option EditFault → EditFault → EditFault
 earlier_of None found = found
 earlier_of (Some fault) found = cond (nat_le fault.position found.position) fault found
 
--- each vertex has what its edits make of it, or what it had; or this is the first fault of all
+-- each vertex has what its edits make of it, or what it had
 pub record AreMade (rows : Rows) (all : Places) (changes : Changes) : Type 0 where
   pub rise : ChangesRise changes
   pub told : (q : ℕ) → vertex_after (row_at q rows) (edits_of q all) ≡ Ok (changed_row_at q changes rows)
 
+-- and the number is that of the edges of the graph with the changes
+pub record AreCounted (rows : Rows) (all : Places) (changes : Changing) : Type 0 where
+  pub made : AreMade rows all changes.rows.items
+  pub edges_counted : changes.edges ≡ edge_count (with_changes changes.rows.items rows)
+
+-- this is the first fault of all
 pub record IsFirst (rows : Rows) (all : Places) (fault : EditFault) : Type 0 where
   pub vertex : ℕ
   pub there : vertex_after (row_at vertex rows) (edits_of vertex all) ≡ Err fault

@@ -1,5 +1,5 @@
 -- Places in a list of edges: where an edge is, and where a new one goes.
-use Rattle.std.specs.Prelude.{◌≡◌, ℕ, ℤ, ◌<◌, ◌≤◌, length, true, is_some, None}
+use Rattle.std.specs.Prelude.{◌≡◌, ℕ, ℤ, ◌<◌, ◌≤◌, length, true, is_some, slice_index_or, Some, None}
 use Rattle.std.specs.List.{insert, remove, slice_set}
 use Rattle.pg_graph.specs.EdgeList.{EdgeList, weight_at, with_edge, without_edge}
 
@@ -7,6 +7,7 @@ use Rattle.pg_graph.specs.EdgeList.{EdgeList, weight_at, with_edge, without_edge
 pub record IsPlaceOf (target : ℕ) (edges : EdgeList) (place : ℕ) : Type 0 where
   pub in_range : place < length edges
   pub there : is_some (weight_at target edges) ≡ true
+  pub held : (d : ℕ × ℤ) → weight_at target edges ≡ Some (slice_index_or edges place d).1
   pub written : (weight : ℤ) → slice_set edges place (target, weight) ≡ with_edge target weight edges
   pub removed : remove edges place ≡ without_edge target edges
 

@@ -25,9 +25,12 @@ abbrev pub row_edited : Row → Edit → Result (Option Row) EditKind
 row_edited row (AddVertex id input) = Err VertexExists
 row_edited row (RemoveVertex id) = Ok None
 row_edited row (SetInput id input) = Ok (Some (record row { input = input }))
-row_edited row (AddEdge source target weight) = cond (is_some (weight_at target row.edges)) (Err EdgeExists) (Ok (Some (record row { edges = with_edge target weight row.edges })))
-row_edited row (SetEdge source target weight) = cond (is_some (weight_at target row.edges)) (Ok (Some (record row { edges = with_edge target weight row.edges }))) (Err NoEdge)
-row_edited row (RemoveEdge source target) = cond (is_some (weight_at target row.edges)) (Ok (Some (record row { edges = without_edge target row.edges }))) (Err NoEdge)
+row_edited row (AddEdge source target weight) =
+    cond (is_some (weight_at target row.edges)) (Err EdgeExists) (Ok (Some (record row { edges = with_edge target weight row.edges })))
+row_edited row (SetEdge source target weight) =
+    cond (is_some (weight_at target row.edges)) (Ok (Some (record row { edges = with_edge target weight row.edges }))) (Err NoEdge)
+row_edited row (RemoveEdge source target) =
+    cond (is_some (weight_at target row.edges)) (Ok (Some (record row { edges = without_edge target row.edges }))) (Err NoEdge)
 
 -- the same where there is no row
 abbrev pub none_edited : Edit → Result (Option Row) EditKind

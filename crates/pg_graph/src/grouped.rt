@@ -1,12 +1,12 @@
 //! A batch that can't meet a limit: its edits are made of one vertex after another.
-ghost use Rattle.std.specs.Prelude.{◌≡◌, ◌≤◌, ℕ, true, false, length, nat_le, Ok, Err, IfOk, IfErr, MatchResult};
-ghost use Rattle.pg_map.specs.Entries.{ChangesRise, with_changes};
+ghost use Rattle.std.specs.Prelude.{◌≡◌, ◌+◌, ◌≤◌, ℕ, true, false, length, nat_le, Ok, Err, IfOk, IfErr, MatchResult};
+ghost use Rattle.pg_map.specs.Entries.{with_changes};
 ghost use Rattle.std.specs.List.Sorted.{IsPartitionPoint};
 ghost use Rattle.std.specs.Option.{option_copied};
 ghost use Rattle.pg_graph.specs.Changes.{degree_of};
 ghost use Rattle.pg_graph.specs.Draft.{Makes};
 ghost use Rattle.pg_graph.specs.Edit.{batch_edited, RefusesBatch, batch_limit};
-ghost use Rattle.pg_graph.specs.Grouped.{AreGrouped, AreMade, IsFirst, RiseBySource, earlier_of};
+ghost use Rattle.pg_graph.specs.Grouped.{AreCounted, AreGrouped, IsFirst, RiseBySource, earlier_of};
 ghost use Rattle.pg_graph.specs.RowEdit.{HasRoom, placed, source_of};
 ghost use Rattle.pg_graph.specs.Rows.{HasRisingIds, edge_count, vertex_count};
 
@@ -34,13 +34,7 @@ pub(crate) fn changes_by_vertex(
     ensures err { IfErr result (RefusesBatch graph.now batch.now) }
 {
     let edits = by_vertex(alloc, batch)?;
-    match dealt_with(alloc, graph, edits.as_slice())? {
-        Ok(rows) => {
-            let edges = edges_after(graph, rows.as_slice())?;
-            Ok(Changes { rows, edges })
-        }
-        Err(fault) => Err(fault),
-    }
+    dealt_with(alloc, graph, edits.as_slice())?
 }
 
 /// The edits of a batch with their places from 1, by rising vertex. Those of one vertex keep their order.
@@ -49,7 +43,7 @@ fn by_vertex(alloc: Global, batch: &Batch) -> Result<Vec<(u64, Edit)>, Memory>
     ensures { IfOk result (λ edits. AreGrouped batch.now edits.items) }
 {
     let mut edits = placed(alloc, batch.as_slice())?;
-    edits.sort_by_key(|edit| edit.1.source())?;
+    edits.sort_by_cached_key(|edit| edit.1.source())?;
     Ok(edits)
 }
 
@@ -72,35 +66,46 @@ fn dealt_with(
     alloc: Global,
     graph: &Graph,
     edits: &[(u64, Edit)],
-) -> Result<Result<Vec<(VertexId, Option<Row>)>, EditFault>, Memory>
-    requires { RiseBySource edits.now }
-    ensures { IfOk result (λ made. MatchResult made (λ changes. AreMade graph.now edits.now changes.items) (IsFirst graph.now edits.now)) }
+) -> Result<Result<Changes, EditFault>, Memory>
+    requires rising { HasRisingIds graph.now }
+    requires edits_rise { RiseBySource edits.now }
+    ensures { IfOk result (λ made. MatchResult made (AreCounted graph.now edits.now) (IsFirst graph.now edits.now)) }
 {
-    let mut changes = Vec::new(alloc);
+    let mut rows = Vec::new(alloc);
+    let mut edges = graph.edges();
     let mut fault = None;
     let mut left = edits;
     while let Some((first, _)) = left.split_first() {
         let id = first.1.source();
         let (here, later) = left.split_at(count_of(left, id));
-        match vertex_after(alloc, graph.row(id), here)? {
-            Ok(row) => changes.push((id, row))?,
+        let row = graph.row(id);
+        match vertex_after(alloc, row, here)? {
+            Ok(changed) => {
+                edges = edges_with(edges, row, changed.as_ref())?;
+                rows.push((id, changed))?;
+            }
             Err(found) => fault = Some(earlier(fault, found)),
         }
         left = later;
     }
     match fault {
         Some(fault) => Ok(Err(fault)),
-        None => Ok(Ok(changes)),
+        None => Ok(Ok(Changes { rows, edges })),
     }
 }
 
-/// How many edits at the beginning are of a vertex or one below it.
+/// How many edits at the beginning are of a vertex or one below it. Costs as much as there are.
 fn count_of(edits: &[(u64, Edit)], id: VertexId) -> usize
     requires { RiseBySource edits.now }
     ensures bound { result ≤ length edits.now }
     ensures parts { IsPartitionPoint (λ e. nat_le (source_of e.1) id ≡ true) (λ e. nat_le (source_of e.1) id ≡ false) edits.now result }
 {
-    edits.partition_point(|edit| is_at_most(edit.1.source(), id))
+    for (count, edit) in edits.iter().enumerate() {
+        if !is_at_most(edit.1.source(), id) {
+            return count;
+        }
+    }
+    edits.len()
 }
 
 /// Whether an id is below another, or is it.
@@ -120,19 +125,14 @@ fn earlier(fault: Option<EditFault>, found: EditFault) -> EditFault
     }
 }
 
-/// How many edges a graph has after changes.
-fn edges_after(graph: &Graph, changes: &[(VertexId, Option<Row>)]) -> Result<u64, Memory>
-    requires rising { HasRisingIds graph.now }
-    requires changes_rise { ChangesRise changes.now }
-    ensures { IfOk result (λ edges. edges ≡ edge_count (with_changes changes.now graph.now)) }
+/// How many edges there are, once one row is another.
+fn edges_with(edges: u64, row: Option<&Row>, changed: Option<&Row>) -> Result<u64, Memory>
+    requires { degree_of (option_copied row) ≤ edges }
+    ensures { IfOk result (λ n. n + degree_of (option_copied row.entry) ≡ edges + degree_of (option_copied changed.entry)) }
 {
-    let mut edges = graph.edges();
-    for (id, change) in changes {
-        let before = degree(graph.row(*id));
-        let after = degree(change.as_ref());
-        edges = (edges - before).checked_add(after).ok_or(AllocError)?;
-    }
-    Ok(edges)
+    (edges - degree(row))
+        .checked_add(degree(changed))
+        .ok_or(AllocError)
 }
 
 /// How many edges a row has, if it is there.

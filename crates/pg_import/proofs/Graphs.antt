@@ -50,7 +50,8 @@ lookup-insert_same (e ∷ entries) k v = elim (cases_Ordering (nat_cmp k e.0)) [
   ]
 ]
 
-lookup-insert_other : {X : Type 0} (entries : List (ℕ × X)) (k q : ℕ) (v : X) → is_at (nat_cmp q) k ≡ false → lookup (is_at (nat_cmp q)) (insert_entry nat_cmp entries k v) ≡ lookup (is_at (nat_cmp q)) entries
+lookup-insert_other : {X : Type 0} (entries : List (ℕ × X)) (k q : ℕ) (v : X) → is_at (nat_cmp q) k ≡ false
+    → lookup (is_at (nat_cmp q)) (insert_entry nat_cmp entries k v) ≡ lookup (is_at (nat_cmp q)) entries
 lookup-insert_other [] k q v apart = rw apart refl
 lookup-insert_other (e ∷ entries) k q v apart = elim (cases_Ordering (nat_cmp k e.0)) [
   | inl less ↦ rw (less, apart) refl
@@ -70,7 +71,8 @@ pub same_from_is_at : (k q : ℕ) → is_at (nat_cmp k) q ≡ true → k ≡ q
 same_from_is_at k q there = exact_unsigned k q (Equal-from_is_eq (nat_cmp k q) there)
 
 -- what a look-up gives where an entry was put
-pub lookup-insert_entry : {X : Type 0} (entries : List (ℕ × X)) (k q : ℕ) (v : X) → lookup (is_at (nat_cmp q)) (insert_entry nat_cmp entries k v) ≡ cond (is_at (nat_cmp k) q) (Some v) (lookup (is_at (nat_cmp q)) entries)
+pub lookup-insert_entry : {X : Type 0} (entries : List (ℕ × X)) (k q : ℕ) (v : X)
+    → lookup (is_at (nat_cmp q)) (insert_entry nat_cmp entries k v) ≡ cond (is_at (nat_cmp k) q) (Some v) (lookup (is_at (nat_cmp q)) entries)
 lookup-insert_entry entries k q v = elim (cases_Bool (is_at (nat_cmp k) q)) [
   | inl there ↦ rw (there, ← same_from_is_at k q there) (lookup-insert_same entries k v)
   | inr apart ↦ rw apart (lookup-insert_other entries k q v (is_at-sym q k ∙ apart))
@@ -116,14 +118,16 @@ cond-true false = refl
 -- the source of a line is there once both ends are
 pub has_vertex-with_ends : (line : Line) (rows : Rows) → has_vertex line.source (with_ends line rows) ≡ true
 has_vertex-with_ends line rows =
-    let source : has_vertex line.source (with_vertex line.source rows) ≡ true = has_vertex-with_vertex rows line.source line.source ∙ rw (cmp-refl line.source) refl in
+    let source : has_vertex line.source (with_vertex line.source rows) ≡ true =
+    has_vertex-with_vertex rows line.source line.source ∙ rw (cmp-refl line.source) refl in
     has_vertex-with_vertex (with_vertex line.source rows) line.target line.source ∙ rw source (cond-true (is_at (nat_cmp line.target) line.source))
 
 -- ---- edges
 edge_of_row : ℕ → Option Row → Bool
 edge_of_row target row = is_some (option_and_then (λ r. weight_at target r.edges) row)
 
-edge_of_row-cond : (target : ℕ) (b : Bool) (row : Row) (o : Option Row) → edge_of_row target (cond b (Some row) o) ≡ cond b (is_some (weight_at target row.edges)) (edge_of_row target o)
+edge_of_row-cond : (target : ℕ) (b : Bool) (row : Row) (o : Option Row)
+    → edge_of_row target (cond b (Some row) o) ≡ cond b (is_some (weight_at target row.edges)) (edge_of_row target o)
 unfolding edge_of_row
 edge_of_row-cond target true row o = refl
 edge_of_row-cond target false row o = refl
@@ -137,9 +141,11 @@ has_edge-row : (source target : ℕ) (rows : Rows) → has_edge source target ro
 unfolding edge_of_row
 has_edge-row source target rows = refl
 
-has_edge-with_row : (rows : Rows) (id s t : ℕ) (row : Row) → has_edge s t (with_row id row rows) ≡ cond (is_at (nat_cmp id) s) (is_some (weight_at t row.edges)) (has_edge s t rows)
+has_edge-with_row : (rows : Rows) (id s t : ℕ) (row : Row)
+    → has_edge s t (with_row id row rows) ≡ cond (is_at (nat_cmp id) s) (is_some (weight_at t row.edges)) (has_edge s t rows)
 has_edge-with_row rows id s t row =
-    has_edge-row s t (with_row id row rows) ∙ ap (edge_of_row t) (lookup-insert_entry rows id s row) ∙ edge_of_row-cond t (is_at (nat_cmp id) s) row (row_at s rows)
+    has_edge-row s t (with_row id row rows) ∙ ap (edge_of_row t) (lookup-insert_entry rows id s row)
+    ∙ edge_of_row-cond t (is_at (nat_cmp id) s) row (row_at s rows)
     ∙ ap (λ b. cond (is_at (nat_cmp id) s) (is_some (weight_at t row.edges)) b) (sym (has_edge-row s t rows))
 
 -- a vertex that was added has no edge
@@ -165,7 +171,8 @@ unfolding with_line_edge
 with_line_edge-at line rows row at = rw (at, with_line_edge) refl
 
 -- a line's edge adds no vertex
-pub has_vertex-with_line_edge : (line : Line) (rows : Rows) (q : ℕ) → has_vertex line.source rows ≡ true → has_vertex q (with_line_edge line rows) ≡ has_vertex q rows
+pub has_vertex-with_line_edge : (line : Line) (rows : Rows) (q : ℕ) → has_vertex line.source rows ≡ true
+    → has_vertex q (with_line_edge line rows) ≡ has_vertex q rows
 has_vertex-with_line_edge line rows q there =
     let (row, at) = row_there (row_at line.source rows) there in
     rw (with_line_edge-at line rows row at) (has_vertex-with_row rows line.source q _ ∙ sym (known_vertex rows line.source q there))
@@ -173,7 +180,8 @@ has_vertex-with_line_edge line rows q there =
 edge_added : (line : Line) (rows : Rows) (row : Row) (s t : ℕ) → row_at line.source rows ≡ Some row
     → has_edge s t (with_line_edge line rows) ≡ cond (is_at (nat_cmp line.source) s && is_at (nat_cmp line.target) t) true (has_edge s t rows)
 edge_added line rows row s t at =
-    let put : is_some (weight_at t (with_edge line.target line.weight row.edges)) ≡ cond (is_at (nat_cmp line.target) t) true (is_some (weight_at t row.edges)) =
+    let put : is_some (weight_at t (with_edge line.target line.weight row.edges)) ≡ cond (is_at (nat_cmp line.target) t) true
+    (is_some (weight_at t row.edges)) =
     ap is_some (lookup-insert_entry row.edges line.target t line.weight) ∙ is_some-cond (is_at (nat_cmp line.target) t) line.weight (weight_at t row.edges) in
     rw (with_line_edge-at line rows row at) (has_edge-with_row rows line.source s t _ ∙ elim (cases_Bool (is_at (nat_cmp line.source) s)) [
       | inl same ↦

@@ -25,7 +25,8 @@ length-insert-le (e ∷ entries) k v = elim (cases_Ordering (nat_cmp k e.0)) [
 ]
 
 -- and one that wasn't there is one more
-length-insert-new : {X : Type 0} (entries : List (ℕ × X)) (k : ℕ) (v : X) → is_some (lookup (is_at (nat_cmp k)) entries) ≡ false → length (insert_entry nat_cmp entries k v) ≡ length entries + 1
+length-insert-new : {X : Type 0} (entries : List (ℕ × X)) (k : ℕ) (v : X) → is_some (lookup (is_at (nat_cmp k)) entries) ≡ false
+    → length (insert_entry nat_cmp entries k v) ≡ length entries + 1
 length-insert-new [] k v new = refl
 length-insert-new (e ∷ entries) k v new = elim (cases_Ordering (nat_cmp k e.0)) [
   | inl less ↦ rw less (omega arith)
@@ -44,13 +45,15 @@ edge_count-cons : (e : ℕ × Row) (rows : Rows) → edge_count (e ∷ rows) ≡
 edge_count-cons e rows = sum_by-cons (λ (e : ℕ × Row). length e.1.edges) e rows
 
 -- a row with more edges in the place of the one that was there
-edge_count-with_row : (rows : Rows) (id more : ℕ) (row : Row) → row_size (row_at id rows) + more ≤ length row.edges → edge_count rows + more ≤ edge_count (with_row id row rows)
+edge_count-with_row : (rows : Rows) (id more : ℕ) (row : Row) → row_size (row_at id rows) + more ≤ length row.edges
+    → edge_count rows + more ≤ edge_count (with_row id row rows)
 edge_count-with_row [] id more row le = omega (arith, le, edge_count-cons (id, row) [])
 edge_count-with_row (e ∷ rows) id more row le = elim (cases_Ordering (nat_cmp id e.0)) [
   | inl less ↦ rw less (omega (arith, le, edge_count-cons (id, row) (e ∷ rows)))
   | inr rest ↦ elim rest [
     | inl equal ↦ rw equal (omega (arith, rw equal at le, edge_count-cons e rows, edge_count-cons (e.0, row) rows))
-    | inr greater ↦ rw greater (omega (arith, edge_count-with_row rows id more row (rw greater at le), edge_count-cons e rows, edge_count-cons e (with_row id row rows)))
+    | inr greater ↦ rw greater
+        (omega (arith, edge_count-with_row rows id more row (rw greater at le), edge_count-cons e rows, edge_count-cons e (with_row id row rows)))
   ]
 ]
 
@@ -99,7 +102,8 @@ pub Grows-with_line_edge : (line : Line) (rows : Rows) → has_vertex line.sourc
 Grows-with_line_edge line rows there = let (row, at) = row_there (row_at line.source rows) there in Grows-edge_at line rows row at
 
 -- an edge that is new is one more
-pub edge_count-new : (line : Line) (rows : Rows) (row : Row) → row_at line.source rows ≡ Some row → is_some (weight_at line.target row.edges) ≡ false → edge_count rows < edge_count (with_line_edge line rows)
+pub edge_count-new : (line : Line) (rows : Rows) (row : Row) → row_at line.source rows ≡ Some row
+    → is_some (weight_at line.target row.edges) ≡ false → edge_count rows < edge_count (with_line_edge line rows)
 edge_count-new line rows row at new = rw (with_line_edge-at line rows row at)
     (omega (
       arith,
@@ -111,7 +115,8 @@ edge_count-new line rows row at new = rw (with_line_edge-at line rows row at)
 pub Grows-with_line : (line : Line) (rows : Rows) → Grows rows (with_line line rows)
 Grows-with_line line rows =
     Grows-trans rows (with_ends line rows) (with_line line rows)
-    (Grows-trans rows (with_vertex line.source rows) (with_ends line rows) (Grows-with_vertex rows line.source) (Grows-with_vertex (with_vertex line.source rows) line.target))
+    (Grows-trans rows (with_vertex line.source rows) (with_ends line rows) (Grows-with_vertex rows line.source)
+    (Grows-with_vertex (with_vertex line.source rows) line.target))
     (Grows-with_line_edge line (with_ends line rows) (has_vertex-with_ends line rows))
 
 pub Grows-with_lines : (lines : List Line) (rows : Rows) → Grows rows (with_lines lines rows)

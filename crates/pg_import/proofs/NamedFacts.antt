@@ -36,26 +36,31 @@ known_edge rows line s t there = elim (cases_Bool (is_at (nat_cmp line.source) s
 ]
 
 -- a vertex that the graph has
-pub Shows-there : (graph : Rows) (named : Named) (rows : Rows) (id : ℕ) → Shows graph named rows → has_vertex id graph ≡ true → (false ≡ not (has_vertex id rows)) × Shows graph named (with_vertex id rows)
+pub Shows-there : (graph : Rows) (named : Named) (rows : Rows) (id : ℕ) → Shows graph named rows → has_vertex id graph ≡ true
+    → (false ≡ not (has_vertex id rows)) × Shows graph named (with_vertex id rows)
 Shows-there graph named rows id shows there =
     let has : has_vertex id rows ≡ true = shows.vertices id ∙ or-true _ _ there in
     (rw has refl, rw (with_vertex-there rows id has) shows)
 
 -- a vertex that it lacks, which was put among the named ones
-pub Shows-vertex : (graph : Rows) (named : Named) (vertices : BTreeSet ℕ) (rows : Rows) (id : ℕ) (added : Bool) → Shows graph named rows → has_vertex id graph ≡ false
-    → added ≡ not (contains nat_cmp named.vertices id) → ((q : ℕ) → contains nat_cmp vertices q ≡ cond (is_at (nat_cmp id) q) true (contains nat_cmp named.vertices q))
+pub Shows-vertex : (graph : Rows) (named : Named) (vertices : BTreeSet ℕ) (rows : Rows) (id : ℕ) (added : Bool) → Shows graph named rows
+    → has_vertex id graph ≡ false
+    → added ≡ not (contains nat_cmp named.vertices id)
+    → ((q : ℕ) → contains nat_cmp vertices q ≡ cond (is_at (nat_cmp id) q) true (contains nat_cmp named.vertices q))
     → (added ≡ not (has_vertex id rows)) × Shows graph (record named { vertices = vertices }) (with_vertex id rows)
 Shows-vertex graph named vertices rows id added shows absent is put =
     let has : has_vertex id rows ≡ contains nat_cmp named.vertices id = rw absent at (shows.vertices id) in (
       is ∙ ap not (sym has),
       record {
-        vertices = λ q. has_vertex-with_vertex rows id q ∙ rw (shows.vertices q, put q) (or-cond (is_at (nat_cmp id) q) (has_vertex q graph) (contains nat_cmp named.vertices q));
+        vertices = λ q. has_vertex-with_vertex rows id q
+            ∙ rw (shows.vertices q, put q) (or-cond (is_at (nat_cmp id) q) (has_vertex q graph) (contains nat_cmp named.vertices q));
         edges = λ s t. has_edge-with_vertex rows id s t ∙ shows.edges s t;
       },
     )
 
 -- an edge that the graph has
-pub Shows-edge_there : (graph : Rows) (named : Named) (rows : Rows) (line : Line) → Shows graph named rows → has_vertex line.source rows ≡ true → has_edge line.source line.target graph ≡ true
+pub Shows-edge_there : (graph : Rows) (named : Named) (rows : Rows) (line : Line) → Shows graph named rows → has_vertex line.source rows ≡ true
+    → has_edge line.source line.target graph ≡ true
     → (false ≡ not (has_edge line.source line.target rows)) × Shows graph named (with_line_edge line rows)
 Shows-edge_there graph named rows line shows source there =
     let has : has_edge line.source line.target rows ≡ true = shows.edges line.source line.target ∙ or-true _ _ there in (
@@ -67,12 +72,14 @@ Shows-edge_there graph named rows line shows source there =
     )
 
 -- an edge that it lacks, which was put among the named ones
-pub Shows-edge : (graph : Rows) (named : Named) (edges : BTreeSet (ℕ × ℕ)) (rows : Rows) (line : Line) (added : Bool) → Shows graph named rows → has_vertex line.source rows ≡ true
+pub Shows-edge : (graph : Rows) (named : Named) (edges : BTreeSet (ℕ × ℕ)) (rows : Rows) (line : Line) (added : Bool) → Shows graph named rows
+    → has_vertex line.source rows ≡ true
     → has_edge line.source line.target graph ≡ false → added ≡ not (contains pair_cmp named.edges (line.source, line.target))
     → ((q : ℕ × ℕ) → contains pair_cmp edges q ≡ cond (is_at (pair_cmp (line.source, line.target)) q) true (contains pair_cmp named.edges q))
     → (added ≡ not (has_edge line.source line.target rows)) × Shows graph (record named { edges = edges }) (with_line_edge line rows)
 Shows-edge graph named edges rows line added shows source absent is put =
-    let has : has_edge line.source line.target rows ≡ contains pair_cmp named.edges (line.source, line.target) = rw absent at (shows.edges line.source line.target) in (
+    let has : has_edge line.source line.target rows ≡ contains pair_cmp named.edges (line.source, line.target) =
+    rw absent at (shows.edges line.source line.target) in (
       is ∙ ap not (sym has),
       record {
         vertices = λ q. has_vertex-with_line_edge line rows q source ∙ shows.vertices q;

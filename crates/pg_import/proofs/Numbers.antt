@@ -10,7 +10,8 @@ read_on-le n [] = omega arith
 read_on-le n (digit ∷ digits) = omega (arith, read_on-le (n * 10 + (digit - 48)) digits)
 
 -- digits that are above the limit so far are above it as a whole
-pub above_limit : (limit n i : ℕ) (digits : List ℕ) → i < length digits → limit < n * 10 + (get_or digits i 0 - 48) → read_on n (drop i digits) ≡ read_on 0 digits → nat_lt limit (read_on 0 digits) ≡ true
+pub above_limit : (limit n i : ℕ) (digits : List ℕ) → i < length digits → limit < n * 10 + (get_or digits i 0 - 48)
+    → read_on n (drop i digits) ≡ read_on 0 digits → nat_lt limit (read_on 0 digits) ≡ true
 above_limit limit n i digits inside more whole =
     let e = at_drop_more (read_on n) digits i 0 inside in
     let h = read_on-le (n * 10 + (get_or digits i 0 - 48)) (drop (i + 1) digits) in

@@ -18,6 +18,7 @@ edges_from-next f xs x number i lines inside is =
     rw (← is) at e
 
 -- no reading is left
-pub edges_from-end : {X : Type 0} (f : X → Reading) (xs : List X) (number : ℕ) (lines : List Line) → xs ≡ [] → followed_by lines (edges_from number (map f xs)) ≡ Ok lines
+pub edges_from-end : {X : Type 0} (f : X → Reading) (xs : List X) (number : ℕ) (lines : List Line) → xs ≡ []
+    → followed_by lines (edges_from number (map f xs)) ≡ Ok lines
 unfolding edges_from
 edges_from-end f xs number lines none = rw none (ap Ok (append-nil lines))

@@ -28,7 +28,8 @@ after_end-between c = elim (cases_Bool (c == 13)) [ inl return ↦ rw return ref
 
 in_field-ends : (c : ℕ) → EndsBetween (in_field default_config c)
 in_field-ends c =
-    EndsBetween-if (c == 44) _ _ (λ e. cc e) (EndsBetween-if (ends_with term.CRLF c) (after_end term.CRLF c, act.EndRecord) _ (λ e. after_end-between c) (λ e. cc e))
+    EndsBetween-if (c == 44) _ _ (λ e. cc e)
+    (EndsBetween-if (ends_with term.CRLF c) (after_end term.CRLF c, act.EndRecord) _ (λ e. after_end-between c) (λ e. cc e))
 
 start_field-ends : (c : ℕ) → EndsBetween (start_field default_config c)
 start_field-ends c = EndsBetween-if (c == 34) _ _ (λ e. cc e) (in_field-ends c)
@@ -59,7 +60,8 @@ Leaves-more : (most more : ℕ) (r : Option Read) → most ≤ more → Leaves m
 Leaves-more most more None le h = tt
 Leaves-more most more (Some p) le h = (omega (arith, h.0), h.1)
 
-next_record-leaves : (text : List ℕ) (s : State) (fields : List (List ℕ)) (field : List ℕ) → Leaves (length text) (next_record default_config s fields field text)
+next_record-leaves : (text : List ℕ) (s : State) (fields : List (List ℕ)) (field : List ℕ)
+    → Leaves (length text) (next_record default_config s fields field text)
 unfolding next_record
 next_record-leaves [] s fields field = Leaves-if (ends_at_end s) 0 _ None (λ e. (omega arith, refl)) (λ e. tt)
 next_record-leaves (c ∷ rest) s fields field =
@@ -79,24 +81,29 @@ pub next_record-takes : (s : State) (text : List ℕ) → ends_at_end s ≡ fals
 unfolding next_record
 next_record-takes s [] between = rw between tt
 next_record-takes s (c ∷ rest) between =
-    Takes-from_leaves (length rest) (length (c ∷ rest)) _ (omega arith) (Leaves-if (is_end (step default_config s c).1) (length rest) _ _ (λ e. (omega arith, step-ends s c e)) (λ e. next_record-leaves rest _ _ _))
+    Takes-from_leaves (length rest) (length (c ∷ rest)) _ (omega arith)
+    (Leaves-if (is_end (step default_config s c).1) (length rest) _ _ (λ e. (omega arith, step-ends s c e)) (λ e. next_record-leaves rest _ _ _))
 
-same-next : (f g : State → List ℕ → List (List (List ℕ))) (size : ℕ) (r : Option Read) → Takes size r → ((s : State) (text : List ℕ) → length text < size → ends_at_end s ≡ false → f s text ≡ g s text) → records_next f r ≡ records_next g r
+same-next : (f g : State → List ℕ → List (List (List ℕ))) (size : ℕ) (r : Option Read) → Takes size r
+    → ((s : State) (text : List ℕ) → length text < size → ends_at_end s ≡ false → f s text ≡ g s text) → records_next f r ≡ records_next g r
 same-next f g size None takes same = refl
 same-next f g size (Some p) takes same = ap (λ more. p.0 ∷ more) (same p.1 p.2 takes.0 takes.1)
 
 -- how many records are asked for makes no difference, once they are more than the bytes
-pub records_from-same : (m n : ℕ) (s : State) (text : List ℕ) → length text < m → length text < n → ends_at_end s ≡ false → records_from default_config m s text ≡ records_from default_config n s text
+pub records_from-same : (m n : ℕ) (s : State) (text : List ℕ) → length text < m → length text < n → ends_at_end s ≡ false
+    → records_from default_config m s text ≡ records_from default_config n s text
 unfolding records_from
 records_from-same zero n s text small_m small_n between = absurd (omega arith)
 records_from-same (suc m) zero s text small_m small_n between = absurd (omega arith)
 records_from-same (suc m) (suc n) s text small_m small_n between =
-    same-next (records_from default_config m) (records_from default_config n) (length text) (next_record default_config s [] [] text) (next_record-takes s text between)
+    same-next (records_from default_config m) (records_from default_config n) (length text) (next_record default_config s [] [] text)
+    (next_record-takes s text between)
     (λ s2 rest fewer ends. records_from-same m n s2 rest (omega arith) (omega arith) ends)
 
 -- the records from a state on, by the next one
 records_from-some : (s : State) (text : List ℕ) (p : Read) → ends_at_end s ≡ false → next_record default_config s [] [] text ≡ Some p
-    → (records_from default_config (length text + 1) s text ≡ p.0 ∷ records_from default_config (length p.2 + 1) p.1 p.2) × (length p.2 < length text) × (ends_at_end p.1 ≡ false)
+    → (records_from default_config (length text + 1) s text ≡ p.0 ∷ records_from default_config (length p.2 + 1) p.1 p.2) ×
+    (length p.2 < length text) × (ends_at_end p.1 ≡ false)
 unfolding records_from
 records_from-some s text p between e =
     let takes = rw e at (next_record-takes s text between) in
@@ -106,7 +113,8 @@ records_from-none : (s : State) (text : List ℕ) → next_record default_config
 unfolding records_from
 records_from-none s text e = rw (add-one, e) refl
 
-took_next : {R : Type 0} (rem : R → Option (List ℕ)) (a b : Reader R) (fields : List (List ℕ)) (z : List ℕ) (p : Read) → IsBetweenRecords rem a → Ready b → b.config ≡ a.config → b.trim ≡ a.trim → source_of rem b ≡ Some z
+took_next : {R : Type 0} (rem : R → Option (List ℕ)) (a b : Reader R) (fields : List (List ℕ)) (z : List ℕ) (p : Read) → IsBetweenRecords rem a
+    → Ready b → b.config ≡ a.config → b.trim ≡ a.trim → source_of rem b ≡ Some z
     → next_record default_config a.state [] [] (bytes_left rem a) ≡ Some p → fields ≡ p.0 → p.1 ≡ b.state → p.2 ≡ z → TakesRecord rem a b fields
 unfolding records_left
 took_next rem a b fields z p at ready config trim left next is state rest =
@@ -125,22 +133,28 @@ took_next rem a b fields z p at ready config trim left next is state rest =
     }
 
 -- a read that found a record took the first of those that were left
-pub takes_record : {R : Type 0} (rem : R → Option (List ℕ)) (a b : Reader R) (fields : List (List ℕ)) → IsBetweenRecords rem a → Ready b → ReadRecord rem a b true fields → TakesRecord rem a b fields
+pub takes_record : {R : Type 0} (rem : R → Option (List ℕ)) (a b : Reader R) (fields : List (List ℕ)) → IsBetweenRecords rem a → Ready b
+    → ReadRecord rem a b true fields → TakesRecord rem a b fields
 unfolding Reached
 takes_record rem a b fields at ready read =
-    let (z, left, (p, next, is, (state, rest))) = rows-more rem a b fields default_config a.state (bytes_left rem a) (bytes_left rem a) [] at.config at.known (refl, refl) read in
+    let (z, left, (p, next, is, (state, rest))) =
+    rows-more rem a b fields default_config a.state (bytes_left rem a) (bytes_left rem a) [] at.config at.known (refl, refl) read in
     took_next rem a b fields z p at ready read.2 read.3 left next is state rest
 
 -- a read that found none had none left
-pub records_left-none : {R : Type 0} (rem : R → Option (List ℕ)) (a b : Reader R) (fields : List (List ℕ)) → IsBetweenRecords rem a → ReadRecord rem a b false fields → records_left rem a ≡ []
+pub records_left-none : {R : Type 0} (rem : R → Option (List ℕ)) (a b : Reader R) (fields : List (List ℕ)) → IsBetweenRecords rem a
+    → ReadRecord rem a b false fields → records_left rem a ≡ []
 unfolding records_left
 records_left-none rem a b fields at read =
     records_from-none a.state (bytes_left rem a) (rows-end rem a b fields default_config (bytes_left rem a) at.config at.known read)
 
 -- what a read found, where only an error is put in the place of another one
-pub found_record : {R E F : Type 0} (Q : E → F → Type 0) (rem : R → Option (List ℕ)) (a b : Reader R) (fields : List (List ℕ)) (read : Result Bool E) (answer : Result Bool F) → IsBetweenRecords rem a
-    → IfOk read (λ found. reader_trim a ≡ trim.None → Ready a → ReadRecord rem a b found fields) → (reader_trim a ≡ trim.None → OnOk read (took_first b ≡ true))
-    → MatchResult read (λ found. answer ≡ Ok found) (λ e. IsErrAnd answer (Q e)) → IfOk answer (λ found. MatchBool found (TakesRecord rem a b fields) (records_left rem a ≡ []))
+pub found_record : {R E F : Type 0} (Q : E → F → Type 0) (rem : R → Option (List ℕ)) (a b : Reader R) (fields : List (List ℕ))
+    (read : Result Bool E) (answer : Result Bool F) → IsBetweenRecords rem a
+    → IfOk read (λ found. reader_trim a ≡ trim.None → Ready a → ReadRecord rem a b found fields)
+    → (reader_trim a ≡ trim.None → OnOk read (took_first b ≡ true))
+    → MatchResult read (λ found. answer ≡ Ok found) (λ e. IsErrAnd answer (Q e))
+    → IfOk answer (λ found. MatchBool found (TakesRecord rem a b fields) (records_left rem a ≡ []))
 found_record Q rem a b fields (Ok true) answer at reads first same = rw same (takes_record rem a b fields at (inl (first at.trim)) (reads at.trim at.ready))
 found_record Q rem a b fields (Ok false) answer at reads first same = rw same (records_left-none rem a b fields at (reads at.trim at.ready))
 found_record Q rem a b fields (Err e) (Ok found) at reads first same = absurd same
@@ -159,7 +173,8 @@ pub record StartsText {R : Type 0} (rem : R → Option (List ℕ)) (a : Reader R
   pub all : records_left rem a ≡ records default_config (strip_bom text)
   pub bytes : length (bytes_left rem a) ≤ length text
 
-pub starts_text : {R : Type 0} (rem : R → Option (List ℕ)) (a : Reader R) (text : List ℕ) → reader_config a ≡ default_config → reader_trim a ≡ trim.None → Ready a → reader_state a ≡ st.StartRecord
+pub starts_text : {R : Type 0} (rem : R → Option (List ℕ)) (a : Reader R) (text : List ℕ) → reader_config a ≡ default_config
+    → reader_trim a ≡ trim.None → Ready a → reader_state a ≡ st.StartRecord
     → source_of rem a ≡ Some (strip_bom text) → StartsText rem a text
 unfolding records_left
 starts_text rem a text config trim ready start source =

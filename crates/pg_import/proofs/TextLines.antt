@@ -45,12 +45,16 @@ drop_through-place (b ∷ rest) = elim (cases_Bool (is_line_feed b)) [
 ]
 
 -- a line that is cut off at a text's first line feed, or at its end
-pub raw_lines-cut : (line rest : List ℕ) (i : ℕ) → length line ≡ min (i + 1) (length (line ++ rest)) → IsFirstMatchOrLen is_line_feed (line ++ rest) i → 0 < length (line ++ rest)
+pub raw_lines-cut : (line rest : List ℕ) (i : ℕ) → length line ≡ min (i + 1) (length (line ++ rest))
+    → IsFirstMatchOrLen is_line_feed (line ++ rest) i → 0 < length (line ++ rest)
     → raw_lines (line ++ rest) ≡ line ∷ raw_lines rest
 raw_lines-cut line rest i size first more =
     let text = line ++ rest in
-    let inside : i ≤ length text = ⊎_elim (λ past. absurd (cc (rw (get_or_past text (length text) 10 (omega arith)) at (first.0 (length text) 10 (omega arith) past)))) (λ within. within) (cases_lt (length text) i) in
-    let place : position_or_len is_line_feed text ≡ i = position_or_len_is is_line_feed text i 0 inside (λ k h. first.0 k 0 (omega arith) h) (λ h. first.1 h 0) in
+    let inside : i ≤ length text =
+    ⊎_elim (λ past. absurd (cc (rw (get_or_past text (length text) 10 (omega arith)) at (first.0 (length text) 10 (omega arith) past))))
+    (λ within. within) (cases_lt (length text) i) in
+    let place : position_or_len is_line_feed text ≡ i =
+    position_or_len_is is_line_feed text i 0 inside (λ k h. first.0 k 0 (omega arith) h) (λ h. first.1 h 0) in
     let front : take (1 + i) text ≡ line = grind (arith, common_steps) in
     let back : drop (1 + i) text ≡ rest = grind (arith, common_steps) in
     rw (take_through-place text, drop_through-place text, place, front, back) at (raw_lines-through text more)
@@ -72,7 +76,8 @@ abbrev pub inclusive_steps : {F : Type 0} → Mut F (Bor ℕ × Unit {0}) Bool �
 inclusive_steps g s r t = MatchOption r ((length (split_inclusive_rest s) ≡ 0) × (t ≡ s))
     (λ x. (split_inclusive_rest s ≡ x.now ++ split_inclusive_rest t)
     × ((i : ℕ) × (length x.now ≡ min (i + 1) (length (split_inclusive_rest s)))
-    × ((p : ℕ → Bool) → ComputesKey g p (split_inclusive_callee s) → ComputesKey g p (split_inclusive_callee t) × IsFirstMatchOrLen p (split_inclusive_rest s) i))
+    × ((p : ℕ → Bool) → ComputesKey g p (split_inclusive_callee s)
+    → ComputesKey g p (split_inclusive_callee t) × IsFirstMatchOrLen p (split_inclusive_rest s) i))
     × (0 < length (split_inclusive_rest s)))
 
 raw_lines-none : (text : List ℕ) → length text ≡ 0 → length (raw_lines text) ≡ 0
@@ -80,14 +85,18 @@ raw_lines-none [] none = refl
 raw_lines-none (b ∷ rest) none = absurd (omega arith)
 
 -- what `split_inclusive` at line feeds gives are the lines of the text
-pub YieldsList-from_split_inclusive : {F : Type 0} {s : SplitInclusive ℕ F} (g : Mut F (Bor ℕ × Unit {0}) Bool) {f : F} (text : List ℕ) → split_inclusive_rest s ≡ text → split_inclusive_callee s ≡ f
+pub YieldsList-from_split_inclusive : {F : Type 0} {s : SplitInclusive ℕ F} (g : Mut F (Bor ℕ × Unit {0}) Bool) {f : F} (text : List ℕ)
+    → split_inclusive_rest s ≡ text → split_inclusive_callee s ≡ f
     → ((x : ℕ) (b : Bool) (q : F) → CalledAt g f x b q → (q ≡ f) × (b ≡ is_line_feed x)) → YieldsList (inclusive_steps g) (λ x. x.now) s (raw_lines text)
 YieldsList-from_split_inclusive {F} {s} g {f} text rest closure tests =
     subst (YieldsList (inclusive_steps g) (λ x. x.now) s) (λ i. raw_lines (rest i))
-    (YieldsList-from_shown_while (inclusive_steps g) (λ x. x.now) (λ t. raw_lines (split_inclusive_rest t)) (λ t. ComputesKey g is_line_feed (split_inclusive_callee t))
+    (YieldsList-from_shown_while (inclusive_steps g) (λ x. x.now) (λ t. raw_lines (split_inclusive_rest t))
+    (λ t. ComputesKey g is_line_feed (split_inclusive_callee t))
     (λ t u h k. raw_lines-none (split_inclusive_rest t) k.0)
     (λ t x u h k.
     let (cut, (i, size, matches), more) = k in
     let first = matches is_line_feed h in
     (first.0, ap raw_lines cut ∙ raw_lines-cut x.now (split_inclusive_rest u) i (rw cut at size) (rw cut at first.1) (rw cut at more)))
-    s (subst (ComputesKey g is_line_feed) (sym closure) (always_returns_same g (λ a r. r ≡ is_line_feed a.0.now) f (λ a r q k. let m = tests a.0.now r q (record { shown = a.0; shows = refl; called = k }) in (m.1, m.0)))))
+    s (subst (ComputesKey g is_line_feed) (sym closure)
+    (always_returns_same g (λ a r. r ≡ is_line_feed a.0.now) f
+    (λ a r q k. let m = tests a.0.now r q (record { shown = a.0; shows = refl; called = k }) in (m.1, m.0)))))

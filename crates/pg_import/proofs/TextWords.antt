@@ -45,7 +45,8 @@ first_part (b ∷ rest) = elim (cases_Bool (is_blank b)) [
 ]
 
 -- the first word, where a text begins with one
-pub words_of-word : (text : List ℕ) → 0 < length (take (word_end text) text) → words_of text ≡ take (word_end text) text ∷ words_of (drop (word_end text) text)
+pub words_of-word : (text : List ℕ) → 0 < length (take (word_end text) text)
+    → words_of text ≡ take (word_end text) text ∷ words_of (drop (word_end text) text)
 words_of-word text more =
     let first = first_part text in
     let e : is_word (take (word_end text) text) ≡ true = grind (arith, nat_tests) in
@@ -60,12 +61,14 @@ words_of-none (b ∷ rest) none = elim (cases_Bool (is_blank b)) [
 ]
 
 -- the first word and what comes after it, as they are cut from what comes after the blanks
-pub words_of-cut : (text ahead word rest : List ℕ) (n : ℕ) → ahead ≡ skip_blanks text → n ≡ word_end ahead → word ≡ take n ahead → rest ≡ drop n ahead → 0 < length word → words_of text ≡ word ∷ words_of rest
+pub words_of-cut : (text ahead word rest : List ℕ) (n : ℕ) → ahead ≡ skip_blanks text → n ≡ word_end ahead → word ≡ take n ahead
+    → rest ≡ drop n ahead → 0 < length word → words_of text ≡ word ∷ words_of rest
 words_of-cut text ahead word rest n at place front back more =
     let some : 0 < length (take (word_end ahead) ahead) = rw (← place, ← front) more in
     let first = words_of-word ahead some in
     sym (words_of-skip text) ∙ rw (← at, front, back, place) first
 
-pub words_of-empty : (text ahead word : List ℕ) (n : ℕ) → ahead ≡ skip_blanks text → n ≡ word_end ahead → word ≡ take n ahead → length word ≡ 0 → words_of text ≡ []
+pub words_of-empty : (text ahead word : List ℕ) (n : ℕ) → ahead ≡ skip_blanks text → n ≡ word_end ahead → word ≡ take n ahead → length word ≡ 0
+    → words_of text ≡ []
 words_of-empty text ahead word n at place front none =
     words_of-none text (rw (← at, ← place, ← front) none)

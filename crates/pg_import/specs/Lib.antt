@@ -5,4 +5,5 @@ pub mod ImportKind
 pub mod Named
 pub mod Number
 pub mod Records
+pub mod Seen
 pub mod Text

@@ -6,6 +6,7 @@ mod comma;
 mod line;
 mod list;
 mod number;
+mod seen;
 mod text;
 
 pub use batch::into_batch;

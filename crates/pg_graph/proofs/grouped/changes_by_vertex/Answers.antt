@@ -1,50 +1,57 @@
-use Rattle.std.proofs.Common.{◌≡◌, Ok, Err, MatchResult, inr, refl, sym, ap, ◌∙◌, subst, arith}
-use Rattle.pg_map.specs.Entries.{ChangesRise, with_changes}
-use Rattle.pg_graph.specs.Edit.{batch_edited}
-use Rattle.pg_graph.specs.Grouped.{AreGrouped, AreMade, IsFirst, RiseBySource}
-use Rattle.pg_graph.specs.Rows.{edge_count}
+use Rattle.std.proofs.Common.{◌≡◌, List, length, Result, Ok, Err, IfOk, IfErr, MatchResult, inr, refl, sym, ◌∙◌, subst, arith, ◌≤◌}
+use Rattle.pg_map.specs.Entries.{with_changes}
+use Rattle.pg_graph.specs.Draft.{Makes}
+use Rattle.pg_graph.specs.Edit.{RefusesBatch, batch_edited, batch_limit}
+use Rattle.pg_graph.specs.Grouped.{AreCounted, AreGrouped, IsFirst, RiseBySource}
+use Rattle.pg_graph.specs.RowEdit.{HasRoom, Places}
+use Rattle.pg_graph.specs.Rows.{HasRisingIds, Rows, edge_count, vertex_count}
+use Rattle.pg_graph.specs.declared.draft.Changes.{Changes as Changing}
+use Rattle.pg_graph.specs.declared.edit.Edit.{Edit}
+use Rattle.pg_graph.specs.declared.edit.EditFault.{EditFault}
 use Rattle.pg_graph.proofs.Batches.{short_enough}
 use Rattle.pg_graph.proofs.Dealing.{made_of_all, first_is}
 use Rattle.pg_graph.proofs.grouped.changes_by_vertex.Goals as goal
 
-pub dealt_with-requires : goal.dealt_with-requires
-dealt_with-requires c = subst RiseBySource (sym c.as_slice.ensures.value) c.in_ok-edits.ensures.rise
+module _ (rows : Rows) (edits : List Edit) (all : Places) (rising : HasRisingIds rows) (short : length edits ≤ batch_limit)
+    (room : HasRoom (vertex_count rows) (edge_count rows) (length edits)) (grouped : AreGrouped edits all) where
+  makes : (r : Result Changing EditFault) → MatchResult r (AreCounted rows all) (IsFirst rows all)
+      → IfOk r (λ changes. Makes rows (with_changes changes.rows.items rows) changes)
+  makes (Ok changes) counted =
+      let law = made_of_all rows edits all rising room grouped changes.rows.items counted.made in
+      record {
+        graph_rises = rising;
+        changes_rise = counted.made.rise;
+        made = refl;
+        edges_counted = counted.edges_counted;
+        vertices_fit = omega (arith, law.0.room.vertices_fit);
+        edges_fit = omega (arith, law.0.room.edges_fit);
+      }
+  makes (Err fault) first = tt
 
-pub edges_after-requires-clause-changes_rise : goal.edges_after-requires-clause-changes_rise
-edges_after-requires-clause-changes_rise c =
-    let made = subst (λ r. MatchResult r (λ changes. AreMade c.args.graph.now c.as_slice.result.now changes.items) (IsFirst c.args.graph.now c.as_slice.result.now)) c.in-Ok.is c.in_ok-rows.ensures in
-    subst ChangesRise (sym c.as_slice-in-Ok.ensures.value) made.rise
+  is_made : (r : Result Changing EditFault) → MatchResult r (AreCounted rows all) (IsFirst rows all)
+      → IfOk r (λ changes. batch_edited rows edits ≡ Ok (with_changes changes.rows.items rows))
+  is_made (Ok changes) counted =
+      short_enough rows edits short ∙ (made_of_all rows edits all rising room grouped changes.rows.items counted.made).1
+  is_made (Err fault) first = tt
 
-pub returns-in-Ok-clause-ok : goal.returns-in-Ok-clause-ok
-returns-in-Ok-clause-ok c =
-    let rows = c.args.graph.now in
-    let all = c.as_slice.result.now in
-    let changes = c.in-Ok.rows.items in
+  refuses : (r : Result Changing EditFault) → MatchResult r (AreCounted rows all) (IsFirst rows all) → IfErr r (RefusesBatch rows edits)
+  refuses (Ok changes) counted = tt
+  refuses (Err fault) first = inr (short_enough rows edits short ∙ first_is rows edits all rising room grouped fault first)
+
+pub dealt_with-requires-clause-edits_rise : goal.dealt_with-requires-clause-edits_rise
+dealt_with-requires-clause-edits_rise c = subst RiseBySource (sym c.as_slice.ensures.value) c.in_ok-edits.ensures.rise
+
+pub returns-clause-ok : goal.returns-clause-ok
+returns-clause-ok c =
     let grouped = subst (AreGrouped c.args.batch.now) (sym c.as_slice.ensures.value) c.in_ok-edits.ensures in
-    let made = subst (λ r. MatchResult r (λ x. AreMade rows all x.items) (IsFirst rows all)) c.in-Ok.is c.in_ok-rows.ensures in
-    let law = made_of_all rows c.args.batch.now all c.requires.rising c.requires.room grouped changes made in
-    record {
-      graph_rises = c.requires.rising;
-      changes_rise = made.rise;
-      made = refl;
-      edges_counted = c.in_ok-edges-in-Ok.ensures ∙ ap (λ l. edge_count (with_changes l rows)) c.as_slice-in-Ok.ensures.value;
-      vertices_fit = omega (arith, law.0.room.vertices_fit);
-      edges_fit = omega (arith, law.0.room.edges_fit);
-    }
+    makes c.args.graph.now c.args.batch.now _ c.requires.rising c.requires.short c.requires.room grouped _ c.in_ok-dealt_with.ensures
 
-pub returns-in-Ok-clause-made : goal.returns-in-Ok-clause-made
-returns-in-Ok-clause-made c =
-    let rows = c.args.graph.now in
-    let all = c.as_slice.result.now in
+pub returns-clause-made : goal.returns-clause-made
+returns-clause-made c =
     let grouped = subst (AreGrouped c.args.batch.now) (sym c.as_slice.ensures.value) c.in_ok-edits.ensures in
-    let made = subst (λ r. MatchResult r (λ x. AreMade rows all x.items) (IsFirst rows all)) c.in-Ok.is c.in_ok-rows.ensures in
-    let law = made_of_all rows c.args.batch.now all c.requires.rising c.requires.room grouped c.in-Ok.rows.items made in
-    short_enough rows c.args.batch.now c.requires.short ∙ law.1
+    is_made c.args.graph.now c.args.batch.now _ c.requires.rising c.requires.short c.requires.room grouped _ c.in_ok-dealt_with.ensures
 
 pub returns-clause-err : goal.returns-clause-err
 returns-clause-err c =
-    let rows = c.args.graph.now in
-    let all = c.as_slice.result.now in
     let grouped = subst (AreGrouped c.args.batch.now) (sym c.as_slice.ensures.value) c.in_ok-edits.ensures in
-    let first = subst (λ r. MatchResult r (λ x. AreMade rows all x.items) (IsFirst rows all)) c.in-Err.is c.in_ok-rows.ensures in
-    inr (short_enough rows c.args.batch.now c.requires.short ∙ first_is rows c.args.batch.now all c.requires.rising c.requires.room grouped c.in-Err.fault first)
+    refuses c.args.graph.now c.args.batch.now _ c.requires.rising c.requires.short c.requires.room grouped _ c.in_ok-dealt_with.ensures

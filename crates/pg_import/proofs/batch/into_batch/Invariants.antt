@@ -3,8 +3,8 @@ use Rattle.pg_import.specs.Batch.{batch_of, with_lines}
 use Rattle.pg_import.specs.Named.{Shows}
 use Rattle.pg_import.proofs.batch.into_batch.Given as goal
 
-abbrev pub invariant-loop-line : goal.invariant-loop-line
-invariant-loop-line l = record {
-  shows : Shows l.graph l.named (with_lines (take l.line-index l.lines) l.graph);
-  so_far : l.batch ++ batch_of (drop l.line-index l.lines) (with_lines (take l.line-index l.lines) l.graph) ≡ batch_of l.lines l.graph;
+abbrev pub invariant-loop-place : goal.invariant-loop-place
+invariant-loop-place l = record {
+  shows : Shows l.graph l.named (with_lines (take l.place l.lines) l.graph);
+  so_far : l.batch ++ batch_of (drop l.place l.lines) (with_lines (take l.place l.lines) l.graph) ≡ batch_of l.lines l.graph;
 }

@@ -11,10 +11,12 @@ returns-in_default-get c = sym (header-one (fields_of c.args.row.now) (sym c.in_
 
 pub returns-then-not-begins_with_digit : goal.returns-then-not-begins_with_digit
 returns-then-not-begins_with_digit c =
-    let h = header-two (fields_of c.args.row.now) c.in-Some.first.now c.in-Some-get.second.now (sym c.in-Some.ensures.value) (sym c.in-Some-get.ensures.value) in
+    let h = header-two (fields_of c.args.row.now) c.in-Some.first.now c.in-Some-get.second.now (sym c.in-Some.ensures.value)
+    (sym c.in-Some-get.ensures.value) in
     rw (h, ← c.begins_with_digit.ensures, c.if-not-begins_with_digit.true, c.begins_with_digit-then-not-begins_with_digit.ensures) refl
 
 pub returns-else-not-begins_with_digit : goal.returns-else-not-begins_with_digit
 returns-else-not-begins_with_digit c =
-    let h = header-two (fields_of c.args.row.now) c.in-Some.first.now c.in-Some-get.second.now (sym c.in-Some.ensures.value) (sym c.in-Some-get.ensures.value) in
+    let h = header-two (fields_of c.args.row.now) c.in-Some.first.now c.in-Some-get.second.now (sym c.in-Some.ensures.value)
+    (sym c.in-Some-get.ensures.value) in
     rw (h, ← c.begins_with_digit.ensures, c.if-not-begins_with_digit.false) refl

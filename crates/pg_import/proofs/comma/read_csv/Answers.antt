@@ -26,17 +26,20 @@ loop-lines-init c =
 
 pub loop-lines-preserved-then-is_header : goal.loop-lines-preserved-then-is_header
 loop-lines-preserved-then-is_header c =
-    let took : TakesRecord (λ (s : Bor (List ℕ)). Some s.now) c.loop-lines.reader c.next_record.new.reader (fields_of c.next_record.new.row) = rw c.if-branch.true at c.in_ok-next_record.ensures.ok in
+    let took : TakesRecord (λ (s : Bor (List ℕ)). Some s.now) c.loop-lines.reader c.next_record.new.reader (fields_of c.next_record.new.row) =
+    rw c.if-branch.true at c.in_ok-next_record.ensures.ok in
     let inv = c.loop-lines.invariant in
     record {
       at = took.goes_on;
       bytes = omega (arith, took.fewer, inv.bytes);
-      so_far = header_step c.loop-lines.number c.loop-lines.lines.items _ _ (fields_of c.next_record.new.row) (csv_of c.args.text.now) c.if-number-eq-HEADER.true (sym c.if-is_header.ensures) took.first inv.so_far;
+      so_far = header_step c.loop-lines.number c.loop-lines.lines.items _ _ (fields_of c.next_record.new.row)
+          (csv_of c.args.text.now) c.if-number-eq-HEADER.true (sym c.if-is_header.ensures) took.first inv.so_far;
     }
 
 pub loop-lines-preserved : goal.loop-lines-preserved
 loop-lines-preserved c =
-    let took : TakesRecord (λ (s : Bor (List ℕ)). Some s.now) c.loop-lines.reader c.next_record.new.reader (fields_of c.next_record.new.row) = rw c.if-branch.true at c.in_ok-next_record.ensures.ok in
+    let took : TakesRecord (λ (s : Bor (List ℕ)). Some s.now) c.loop-lines.reader c.next_record.new.reader (fields_of c.next_record.new.row) =
+    rw c.if-branch.true at c.in_ok-next_record.ensures.ok in
     let inv = c.loop-lines.invariant in
     let plain : c.loop-lines.number ≡ 0 → is_header (map trimmed (fields_of c.next_record.new.row)) ≡ false = λ zeroth. elim c.else-number-eq-HEADER.branch [
       | else-number-eq-HEADER-via-then-number-eq-HEADER+else-is_header w ↦ sym w.if-is_header.ensures
@@ -45,13 +48,15 @@ loop-lines-preserved c =
     record {
       at = took.goes_on;
       bytes = omega (arith, took.fewer, inv.bytes);
-      so_far = record_step c.loop-lines.number c.loop-lines.lines.items c.add_reading.new.lines.items _ _ (fields_of c.next_record.new.row) (csv_of c.args.text.now) plain took.first
+      so_far = record_step c.loop-lines.number c.loop-lines.lines.items c.add_reading.new.lines.items _ _ (fields_of c.next_record.new.row)
+          (csv_of c.args.text.now) plain took.first
           (rw c.read_record.ensures at c.in_ok-add_reading.ensures.ok) inv.so_far;
     }
 
 pub returns-in_err-add_reading : goal.returns-in_err-add_reading
 returns-in_err-add_reading c =
-    let took : TakesRecord (λ (s : Bor (List ℕ)). Some s.now) c.loop-lines.reader c.next_record.new.reader (fields_of c.next_record.new.row) = rw c.if-branch.true at c.in_ok-next_record.ensures.ok in
+    let took : TakesRecord (λ (s : Bor (List ℕ)). Some s.now) c.loop-lines.reader c.next_record.new.reader (fields_of c.next_record.new.row) =
+    rw c.if-branch.true at c.in_ok-next_record.ensures.ok in
     let inv = c.loop-lines.invariant in
     let plain : c.loop-lines.number ≡ 0 → is_header (map trimmed (fields_of c.next_record.new.row)) ≡ false = λ zeroth. elim c.else-number-eq-HEADER.branch [
       | else-number-eq-HEADER-via-then-number-eq-HEADER+else-is_header w ↦ sym w.if-is_header.ensures
@@ -60,7 +65,8 @@ returns-in_err-add_reading c =
     let p = err_from_is_err_and c.from_residual-in_err-add_reading.result c.from_residual-in_err-add_reading.ensures.1 in
     rw (p.1, p.2) (elim c.in_err-add_reading.ensures.err [
       | inl memory ↦ inl memory
-      | inr fault ↦ inr (record_fault c.loop-lines.number c.loop-lines.lines.items _ _ (fields_of c.next_record.new.row) (csv_of c.args.text.now) _ plain took.first (rw c.read_record.ensures at fault) inv.so_far)
+      | inr fault ↦ inr (record_fault c.loop-lines.number c.loop-lines.lines.items _ _ (fields_of c.next_record.new.row)
+          (csv_of c.args.text.now) _ plain took.first (rw c.read_record.ensures at fault) inv.so_far)
     ])
 
 pub returns : goal.returns

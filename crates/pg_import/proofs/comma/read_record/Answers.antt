@@ -24,7 +24,8 @@ returns-in_err-line c =
     let weight : option_copied c.map-weight.result ≡ option_map trimmed (field_at fields 2) = search rules in
     let three : is_some (field_at fields 3) ≡ false = ap is_some (sym c.get-3.ensures.value) ∙ is_some-map _ _ ∙ sym c.if-is_some.ensures in
     let places = fields_by_place fields c.in-Some.source.now c.in-Some-get.target.now (sym c.in-Some.ensures.value) (sym c.in-Some-get.ensures.value) three in
-    let edge : edge_of (map trimmed fields) ≡ c.read_edge.result = rw (places, ← weight, ← c.trim_blanks.ensures, ← c.trim_blanks-2.ensures) (sym c.read_edge.ensures) in
+    let edge : edge_of (map trimmed fields) ≡ c.read_edge.result =
+    rw (places, ← weight, ← c.trim_blanks.ensures, ← c.trim_blanks-2.ensures) (sym c.read_edge.ensures) in
     let p = err_from_is_err_and c.from_residual.result c.from_residual.ensures.1 in
     rw (p.1, p.2, edge, c.in_err-line.was) refl
 
@@ -34,5 +35,6 @@ returns c =
     let weight : option_copied c.map-weight.result ≡ option_map trimmed (field_at fields 2) = search rules in
     let three : is_some (field_at fields 3) ≡ false = ap is_some (sym c.get-3.ensures.value) ∙ is_some-map _ _ ∙ sym c.if-is_some.ensures in
     let places = fields_by_place fields c.in-Some.source.now c.in-Some-get.target.now (sym c.in-Some.ensures.value) (sym c.in-Some-get.ensures.value) three in
-    let edge : edge_of (map trimmed fields) ≡ c.read_edge.result = rw (places, ← weight, ← c.trim_blanks.ensures, ← c.trim_blanks-2.ensures) (sym c.read_edge.ensures) in
+    let edge : edge_of (map trimmed fields) ≡ c.read_edge.result =
+    rw (places, ← weight, ← c.trim_blanks.ensures, ← c.trim_blanks-2.ensures) (sym c.read_edge.ensures) in
     rw (edge, c.in_ok-line.was) refl

@@ -6,4 +6,5 @@ use Rattle.pg_import.proofs.list.read_list.Given as goal
 abbrev pub invariant-loop-raw : goal.invariant-loop-raw
 invariant-loop-raw l =
     (l.number ≡ length l.yielded)
-    × (followed_by l.lines.items (edges_from (l.number + 1) (map (λ raw. reading_of (words_of (line_of raw))) (drop l.number (raw_lines l.text)))) ≡ list_of l.text)
+    × (followed_by l.lines.items
+    (edges_from (l.number + 1) (map (λ raw. reading_of (words_of (line_of raw))) (drop l.number (raw_lines l.text)))) ≡ list_of l.text)

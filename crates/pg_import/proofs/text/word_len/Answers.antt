@@ -9,6 +9,7 @@ use Rattle.pg_import.proofs.text.word_len.Goals as goal
 pub returns-clause-place : goal.returns-clause-place
 returns-clause-place c =
     let text = c.args.text.now in
-    let place = position_from_yields_List is_blank _ _ c.position.result c.position.ensures.ran (YieldsList-from_slice c.args.text.now cc) (λ x b q k. search (rules, tests)) in
+    let place = position_from_yields_List is_blank _ _ c.position.result c.position.ensures.ran (YieldsList-from_slice c.args.text.now cc)
+    (λ x b q k. search (rules, tests)) in
     let bound = prefix_len-le-length (λ b. not (is_blank b)) text in
     grind (arith, nat_tests)

@@ -11,7 +11,8 @@ use Rattle.pg_graph.proofs.draft.Draft.add_edge.Goals as goal
 pub returns-in_err-row-clause-err : goal.returns-in_err-row-clause-err
 returns-in_err-row-clause-err c =
     let p = err_from_is_err_and c.from_residual.result c.from_residual.ensures.1 in
-    rw (p.1, p.2) (refused_row _ _ _ _ c.self.invariant c.args.source _ c.self.view_is (AddEdge c.args.source c.args.target c.args.weight) _ (λ gone. AddEdge-missing _ _ gone c.args.target c.args.weight) c.in_err-row.ensures.err)
+    rw (p.1, p.2) (refused_row _ _ _ _ c.self.invariant c.args.source _ c.self.view_is (AddEdge c.args.source c.args.target c.args.weight) _
+    (λ gone. AddEdge-missing _ _ gone c.args.target c.args.weight) c.in_err-row.ensures.err)
 
 pub returns-then-has_edge-clause-err : goal.returns-then-has_edge-clause-err
 returns-then-has_edge-clause-err c =
@@ -29,7 +30,8 @@ pub invariant_of-self : goal.invariant_of-self
 invariant_of-self c =
     let there = row_now _ _ _ _ c.self.invariant c.args.source _ c.in_ok-row.ensures.row in
     let more = one_more _ _ _ (sym c.if-has_edge.ensures) c.in_ok-row-2.ensures.degree in
-    replaced _ _ _ _ c.self.invariant c.args.source _ _ _ c.take_row.ensures.taken c.in_ok-put.ensures.ok c.in_ok-row.row there c.in_ok-row-2.row (c.self.inside.edges + 1) refl (omega (arith, more)) (omega arith)
+    replaced _ _ _ _ c.self.invariant c.args.source _ _ _ c.take_row.ensures.taken c.in_ok-put.ensures.ok c.in_ok-row.row there c.in_ok-row-2.row
+    (c.self.inside.edges + 1) refl (omega (arith, more)) (omega arith)
 
 pub returns-clause-ok : goal.returns-clause-ok
 returns-clause-ok c =
@@ -38,4 +40,5 @@ returns-clause-ok c =
     let made = simp to_z-of_z at c.in_ok-row-2.ensures.value in
     becomes _ _ _ _ c.self.invariant c.args.source _ c.self.view_is (AddEdge c.args.source c.args.target c.args.weight) c.put.new.map.entries _
     (AddEdge-ok _ _ c.in_ok-row.row there c.args.target c.args.weight (sym c.if-has_edge.ensures) (omega (arith, c.self.invariant.edges_counted)))
-    (put_back _ _ _ _ c.self.invariant c.args.source _ _ _ c.take_row.ensures.taken c.in_ok-put.ensures.ok ∙ ap (λ row. with_change c.args.source (Some row) (with_changes c.self.inside.changes.entries c.self.inside.graph.now)) made)
+    (put_back _ _ _ _ c.self.invariant c.args.source _ _ _ c.take_row.ensures.taken c.in_ok-put.ensures.ok
+    ∙ ap (λ row. with_change c.args.source (Some row) (with_changes c.self.inside.changes.entries c.self.inside.graph.now)) made)

@@ -1,4 +1,4 @@
-use Rattle.std.proofs.Common.{◌+◌, true, Some, is_some, sym, ap, ◌∙◌, subst, arith}
+use Rattle.std.proofs.Common.{◌+◌, Some, is_some, sym, ap, ◌∙◌, subst, arith}
 use Rattle.std.proofs.lemmas.Int.{to_z-of_z}
 use Rattle.pg_map.specs.Entries.{with_change, with_changes}
 use Rattle.pg_graph.specs.Draft.{IsCounted}
@@ -17,7 +17,8 @@ returns-then-has_vertex-clause-err c =
 pub returns-then-self-ge-VERTEX_LIMIT-clause-err : goal.returns-then-self-ge-VERTEX_LIMIT-clause-err
 returns-then-self-ge-VERTEX_LIMIT-clause-err c =
     let gone = ap (λ p. is_some (row_at c.args.id p.1)) c.self.view_is ∙ sym c.if-has_vertex.ensures in
-    refused _ _ _ _ c.self.invariant c.args.id _ c.self.view_is (AddVertex c.args.id c.args.input) Full (AddVertex-full _ _ c.args.input gone (omega (arith, c.self.invariant.vertices_counted)))
+    refused _ _ _ _ c.self.invariant c.args.id _ c.self.view_is (AddVertex c.args.id c.args.input) Full
+    (AddVertex-full _ _ c.args.input gone (omega (arith, c.self.invariant.vertices_counted)))
 
 pub invariant_of-self : goal.invariant_of-self
 invariant_of-self c =
@@ -32,4 +33,5 @@ returns-clause-ok c =
     let made = simp to_z-of_z at c.new.ensures in
     becomes _ _ _ _ c.self.invariant c.args.id _ c.self.view_is (AddVertex c.args.id c.args.input) c.put.new.map.entries _
     (AddVertex-ok _ _ c.args.input gone (omega (arith, c.self.invariant.vertices_counted)))
-    (ap (λ l. with_changes l c.self.inside.graph.now) c.in_ok-put.ensures.ok ∙ put_now _ _ _ _ c.self.invariant c.args.id _ ∙ ap (λ row. with_change c.args.id (Some row) (with_changes c.self.inside.changes.entries c.self.inside.graph.now)) made)
+    (ap (λ l. with_changes l c.self.inside.graph.now) c.in_ok-put.ensures.ok ∙ put_now _ _ _ _ c.self.invariant c.args.id _
+    ∙ ap (λ row. with_change c.args.id (Some row) (with_changes c.self.inside.changes.entries c.self.inside.graph.now)) made)

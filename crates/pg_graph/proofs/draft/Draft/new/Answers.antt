@@ -1,7 +1,6 @@
-use Rattle.std.proofs.Common.{◌≡◌, None, Some, arith, ap, sym, ◌∙◌}
+use Rattle.std.proofs.Common.{arith, ap}
 use Rattle.pg_map.specs.Entries.{with_changes}
 use Rattle.pg_graph.specs.Rows.{vertex_count, edge_count}
-use Rattle.pg_map.proofs.Rising.{find}
 use Rattle.pg_graph.proofs.draft.Draft.new.Goals as goal
 
 pub invariant_of-result : goal.invariant_of-result

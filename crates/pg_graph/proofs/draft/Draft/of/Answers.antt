@@ -1,7 +1,7 @@
-use Rattle.std.proofs.Common.{◌≡◌, ◌<◌, ◌≤◌, Err, length, inl, inr, sym, ap, ◌∙◌, ⊎_elim, arith}
+use Rattle.std.proofs.Common.{◌≡◌, ◌≤◌, Err, length, inl, inr, sym, ap, ◌∙◌, ⊎_elim, arith}
 use Rattle.pg_graph.specs.Edit.{all_edited, edited, batch_limit}
 use Rattle.pg_graph.specs.declared.edit.EditKind.TheVariants.{Memory}
-use Rattle.pg_graph.proofs.Batches.{too_long, short_enough, next_made, next_refused, all_made, refused_at, refused_within}
+use Rattle.pg_graph.proofs.Batches.{short_enough, next_made, next_refused, all_made, refused_at}
 use Rattle.pg_graph.proofs.draft.Draft.of.Goals as goal
 
 pub returns-in-Err-clause-err : goal.returns-in-Err-clause-err
@@ -12,7 +12,8 @@ returns-in-Err-clause-err c =
     short_enough c.args.graph.now c.args.batch.now short
     ∙ ap (all_edited 1 c.args.graph.now) (sym c.as_slice-edits.ensures)
     ∙ sym c.loop-edit.invariant.edited
-    ∙ next_refused c.loop-edit.position c.loop-edit.draft.1 c.as_slice-edits.result.now c.loop-edit.edit-index edit c.loop-edit-test.true c.edit-item.is c.in-Err.kind why in
+    ∙ next_refused c.loop-edit.position c.loop-edit.draft.1 c.as_slice-edits.result.now c.loop-edit.edit-index edit c.loop-edit-test.true
+    c.edit-item.is c.in-Err.kind why in
     refused_at c.args.graph.now c.args.batch.now c.loop-edit.position c.in-Err.kind c.at.result c.at.ensures.memory c.at.ensures.edit
     (⊎_elim (λ (m : c.in-Err.kind ≡ Memory). inl m) (λ (why : edited c.loop-edit.draft.1 edit ≡ Err c.in-Err.kind). inr (refused why)) c.in-Err.ensures.err)
 
@@ -20,7 +21,8 @@ pub loop-edit-preserved : goal.loop-edit-preserved
 loop-edit-preserved c = record {
   of_graph = c.in-Ok.ensures.ok.0 ∙ c.loop-edit.invariant.of_graph;
   counted = omega arith;
-  edited = next_made c.loop-edit.position c.loop-edit.draft.1 c.as_slice-edits.result.now c.loop-edit.edit-index c.edit-item.result c.loop-edit-test.true c.edit-item.is c.in-Ok.edited.1 c.in-Ok.ensures.ok.1 ∙ c.loop-edit.invariant.edited;
+  edited = next_made c.loop-edit.position c.loop-edit.draft.1 c.as_slice-edits.result.now c.loop-edit.edit-index c.edit-item.result
+      c.loop-edit-test.true c.edit-item.is c.in-Ok.edited.1 c.in-Ok.ensures.ok.1 ∙ c.loop-edit.invariant.edited;
   short = c.loop-edit.invariant.short;
 }
 

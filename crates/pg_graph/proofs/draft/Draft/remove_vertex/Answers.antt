@@ -8,7 +8,8 @@ use Rattle.pg_graph.proofs.draft.Draft.remove_vertex.Goals as goal
 pub returns-in_err-row-clause-err : goal.returns-in_err-row-clause-err
 returns-in_err-row-clause-err c =
     let p = err_from_is_err_and c.from_residual.result c.from_residual.ensures.1 in
-    rw (p.1, p.2) (refused_row _ _ _ _ c.self.invariant c.args.id _ c.self.view_is (RemoveVertex c.args.id) _ (RemoveVertex-missing _ _) c.in_err-row.ensures.err)
+    rw (p.1, p.2) (refused_row _ _ _ _ c.self.invariant c.args.id _ c.self.view_is (RemoveVertex c.args.id) _
+    (RemoveVertex-missing _ _) c.in_err-row.ensures.err)
 
 pub overflow_sub-self : goal.overflow_sub-self
 overflow_sub-self c =
@@ -25,7 +26,8 @@ invariant_of-self c =
     let there = row_now _ _ _ _ c.self.invariant c.args.id _ c.in_ok-row.ensures.row in
     let some = vertex_left _ _ _ _ c.self.invariant c.args.id c.in_ok-row.row there in
     let left = edges_left _ _ _ _ c.self.invariant c.args.id c.in_ok-row.row there in
-    removed _ _ _ _ c.self.invariant c.args.id _ _ _ c.take_row.ensures.taken c.in_ok-put.ensures.ok c.in_ok-row.row there (c.self.inside.vertices - 1) (c.self.inside.edges - c.degree.result) refl (omega (arith, some)) (omega (arith, c.degree.ensures, left))
+    removed _ _ _ _ c.self.invariant c.args.id _ _ _ c.take_row.ensures.taken c.in_ok-put.ensures.ok c.in_ok-row.row there
+    (c.self.inside.vertices - 1) (c.self.inside.edges - c.degree.result) refl (omega (arith, some)) (omega (arith, c.degree.ensures, left))
 
 pub returns-clause-ok : goal.returns-clause-ok
 returns-clause-ok c =

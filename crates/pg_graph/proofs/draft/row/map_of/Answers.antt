@@ -8,6 +8,7 @@ use Rattle.pg_graph.proofs.draft.row.map_of.Goals as goal
 pub loop-target-preserved : goal.loop-target-preserved
 loop-target-preserved c =
     let edge = c.loop-target-item.result in
-    let last = ap (with_edge edge.0 edge.1) c.loop-target.invariant ∙ insert_entry-take c.args.edges.now c.loop-target.target-index edge c.requires c.loop-target-test.true c.loop-target-item.is in
+    let last = ap (with_edge edge.0 edge.1) c.loop-target.invariant
+    ∙ insert_entry-take c.args.edges.now c.loop-target.target-index edge c.requires c.loop-target-test.true c.loop-target-item.is in
     let put = c.in_ok-put.ensures.ok in
     grind (arith, common_steps, to_z-of_z)

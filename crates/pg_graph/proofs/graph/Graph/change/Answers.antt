@@ -5,5 +5,11 @@ use Rattle.pg_graph.proofs.graph.Graph.change.Goals as goal
 
 pub invariant_of-self-2 : goal.invariant_of-self-2
 invariant_of-self-2 c =
-    let made = c.in_ok-change.ensures.ok ∙ ap (λ l. with_changes l c.self.inside.rows) c.as_slice.ensures.value ∙ ap (with_changes c.args.changes.now.rows.items) c.self.view_is in
-    (c.requires.edges_counted ∙ sym (ap edge_count made), omega (arith, ap vertex_count made, c.requires.vertices_fit), omega (arith, c.requires.edges_counted, c.requires.edges_fit))
+    let made = c.in_ok-change.ensures.ok ∙ ap (λ l. with_changes l c.self.inside.rows) c.as_slice.ensures.value
+    ∙ ap (with_changes c.args.changes.now.rows.items) c.self.view_is in (
+      c.requires.edges_counted
+          ∙ sym (ap edge_count made),
+      omega (arith, ap vertex_count made, c.requires.vertices_fit),
+      omega
+          (arith, c.requires.edges_counted, c.requires.edges_fit),
+    )
