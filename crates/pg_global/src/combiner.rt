@@ -21,7 +21,8 @@ pub trait MessageCombiner<M: Plain>: Sync {
     /// where it answers want of memory.
     fn combine(&self, alloc: Global, into: &mut M, other: &M) -> Result<(), Memory>
         requires { IsSome (combining self.now) }
-        ensures { OnOk result (IfSome (combining self.now) (λ c. into.new ≡ c.combine into.old other.now)) };
+        ensures { OnOk result
+            (IfSome (combining self.now) (λ c. into.new ≡ c.combine into.old other.now)) };
 
     /// What no message comes to.
     fn initial_message(&self, alloc: Global) -> Result<M, Memory>

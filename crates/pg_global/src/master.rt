@@ -36,7 +36,8 @@ impl MasterState {
         total_edges: u64,
         gathered: Sequence<i64>,
     ) -> MasterState
-        ensures { result ≡ record { superstep = superstep; total_vertices = total_vertices; total_edges = total_edges; values = gathered; halt = false } }
+        ensures { result
+            ≡ record { superstep = superstep; total_vertices = total_vertices; total_edges = total_edges; values = gathered; halt = false } }
     {
         MasterState {
             superstep,
@@ -49,7 +50,8 @@ impl MasterState {
 
     /// What the vertices are going to see.
     pub fn into_parts(self) -> Visible
-        ensures { result ≡ record { values = self.values; halt = self.halt; total_vertices = self.total_vertices; total_edges = self.total_edges } }
+        ensures { result
+            ≡ record { values = self.values; halt = self.halt; total_vertices = self.total_vertices; total_edges = self.total_edges } }
     {
         let MasterState {
             superstep: _,
@@ -122,7 +124,9 @@ pub trait MasterCompute: Sync {
         requires { registry.old ≡ [] }
         ensures ok { OnOk result (registry.new ≡ (master self.now).registrations) }
         ensures lawful { OnOk result (first_refusal [] (master self.now).registrations ≡ None) }
-        ensures refused { IfErr result (λ f. (f ≡ RegisterFault.Memory) ⊎ (first_refusal [] (master self.now).registrations ≡ Some f)) };
+        ensures refused { IfErr result
+            (λ f. (f ≡ RegisterFault.Memory) ⊎
+            (first_refusal [] (master self.now).registrations ≡ Some f)) };
 
     /// One decision. Nothing is said of the state where it answers want of memory.
     fn compute(&self, alloc: Global, state: &mut MasterState) -> Result<(), Memory>

@@ -73,9 +73,11 @@ impl Registry {
         name: &str,
         kind: AnyAggregator,
     ) -> Result<Place, RegisterFault>
-        ensures ok { IfOk result (λ place. (place ≡ length self.old) × (refusal_of self.old name.now ≡ None)
+        ensures ok { IfOk result
+            (λ place. (place ≡ length self.old) × (refusal_of self.old name.now ≡ None)
             × (self.new ≡ self.old ++ (name.now, record { kind = kind; persistent = false }) ∷ [])) }
-        ensures refused { IfErr result (λ f. (f ≡ RegisterFault.Memory) ⊎ (refusal_of self.old name.now ≡ Some f)) }
+        ensures refused { IfErr result
+            (λ f. (f ≡ RegisterFault.Memory) ⊎ (refusal_of self.old name.now ≡ Some f)) }
         ensures memory { result ≡ Err RegisterFault.Memory → refusal_of self.old name.now ≡ None }
         ensures err { OnErr result (self.new ≡ self.old) }
     {
@@ -96,9 +98,11 @@ impl Registry {
         name: &str,
         kind: AnyAggregator,
     ) -> Result<Place, RegisterFault>
-        ensures ok { IfOk result (λ place. (place ≡ length self.old) × (refusal_of self.old name.now ≡ None)
+        ensures ok { IfOk result
+            (λ place. (place ≡ length self.old) × (refusal_of self.old name.now ≡ None)
             × (self.new ≡ self.old ++ (name.now, record { kind = kind; persistent = true }) ∷ [])) }
-        ensures refused { IfErr result (λ f. (f ≡ RegisterFault.Memory) ⊎ (refusal_of self.old name.now ≡ Some f)) }
+        ensures refused { IfErr result
+            (λ f. (f ≡ RegisterFault.Memory) ⊎ (refusal_of self.old name.now ≡ Some f)) }
         ensures memory { result ≡ Err RegisterFault.Memory → refusal_of self.old name.now ≡ None }
         ensures err { OnErr result (self.new ≡ self.old) }
     {
@@ -146,9 +150,11 @@ impl Registry {
         name: &str,
         registration: Registration,
     ) -> Result<Place, RegisterFault>
-        ensures ok { IfOk result (λ place. (place ≡ length self.old) × (refusal_of self.old name.now ≡ None)
+        ensures ok { IfOk result
+            (λ place. (place ≡ length self.old) × (refusal_of self.old name.now ≡ None)
             × (self.new ≡ self.old ++ (name.now, registration) ∷ [])) }
-        ensures refused { IfErr result (λ f. (f ≡ RegisterFault.Memory) ⊎ (refusal_of self.old name.now ≡ Some f)) }
+        ensures refused { IfErr result
+            (λ f. (f ≡ RegisterFault.Memory) ⊎ (refusal_of self.old name.now ≡ Some f)) }
         ensures memory { result ≡ Err RegisterFault.Memory → refusal_of self.old name.now ≡ None }
         ensures err { OnErr result (self.new ≡ self.old) }
     {

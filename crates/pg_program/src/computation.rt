@@ -41,5 +41,6 @@ pub trait Computation: Sync {
         requires votes { vertex.old.halted ≡ false }
         requires shown { ShowsDeclared (program self.now).declared cx.old.view }
         requires writes { cx.old.writes ≡ (program self.now).declared.writes }
-        ensures { OnOk result (Executes (program self.now) vertex.old vertex.new messages.now cx.old cx.new) };
+        ensures { OnOk result
+            (Executes (program self.now) vertex.old vertex.new messages.now cx.old cx.new) };
 }

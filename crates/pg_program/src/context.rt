@@ -95,7 +95,8 @@ impl<M: Drop> Cx<M> {
 
     /// Sends a message to a vertex, which need not be there.
     pub fn send(&mut self, target: VertexId, message: M) -> Result<(), Memory>
-        ensures ok { OnOk result (self.new ≡ record self.old { sent = self.old.sent ++ (target, message) ∷ [] }) }
+        ensures ok { OnOk result
+            (self.new ≡ record self.old { sent = self.old.sent ++ (target, message) ∷ [] }) }
         ensures err { OnErr result (self.new ≡ self.old) }
     {
         self.sent.push((target, message))
@@ -110,7 +111,11 @@ impl<M: Drop> Cx<M> {
     ) -> Result<(), Memory>
     where
         M: Plain,
-        ensures ok { OnOk result (self.new ≡ record self.old { sent = self.old.sent ++ map (λ e. (e.0, message.now)) vertex.now.edges }) }
+        ensures ok { OnOk result
+            (self.new ≡ record self.old {
+              sent = self.old.sent ++ map
+                  (λ e. (e.0, message.now)) vertex.now.edges;
+            }) }
         ensures err { OnErr result (self.new ≡ self.old) }
     {
         let before = self.sent.len();
@@ -126,7 +131,11 @@ impl<M: Drop> Cx<M> {
     /// Contributes a value to an aggregator that the program has declared to write.
     pub fn aggregate(&mut self, place: Place, value: i64) -> Result<(), Memory>
         requires { has_place self.old.writes place ≡ true }
-        ensures ok { OnOk result (self.new ≡ record self.old { contributed = self.old.contributed ++ (place, value) ∷ [] }) }
+        ensures ok { OnOk result
+            (self.new ≡ record self.old {
+              contributed = self.old.contributed
+                  ++ (place, value) ∷ [];
+            }) }
         ensures err { OnErr result (self.new ≡ self.old) }
     {
         self.contributed.push((place, value))

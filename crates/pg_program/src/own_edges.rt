@@ -1,7 +1,7 @@
 //! The out-edges of a vertex in one execution.
 ghost use Rattle.std.specs.Prelude.{◌≡◌, true, false, ◌≤◌, length, cond, is_some, IfOk, OnOk, OnErr, vec_capacity};
 ghost use Rattle.pg_graph.specs.EdgeList.{EdgeList, IsRising, weight_at, with_edge, without_edge};
-ghost use Rattle.pg_program.specs.Edges.{IsPlaceOf};
+ghost use Rattle.pg_graph.specs.Places.{IsPlaceOf, IsGapFor};
 
 use crate::search::place_of;
 use pg_graph::{Edges, Memory, VertexId};
@@ -155,7 +155,7 @@ fn move_to_room(shared: &Edges, room: &mut Vec<(VertexId, i64)>, is_changed: &mu
 /// Sets the weight of the edge at a place.
 fn set_at(room: &mut Vec<(VertexId, i64)>, place: usize, target: VertexId, weight: i64)
     requires rising { IsRising room.old.items }
-    requires place { IsPlaceOf room.old.items target (Ok place) }
+    requires place { IsPlaceOf target room.old.items place }
     ensures value { room.new.items ≡ with_edge target weight room.old.items }
     ensures rising { IsRising room.new.items }
 {
@@ -170,7 +170,7 @@ fn insert_at(
     weight: i64,
 ) -> Result<(), Memory>
     requires rising { IsRising room.old.items }
-    requires place { IsPlaceOf room.old.items target (Err place) }
+    requires place { IsGapFor target room.old.items place }
     ensures ok { OnOk result (room.new.items ≡ with_edge target weight room.old.items) }
     ensures err { OnErr result (room.new.items ≡ room.old.items) }
     ensures rising { IsRising room.new.items }
@@ -182,7 +182,7 @@ fn insert_at(
 /// Removes the edge at a place.
 fn remove_at(room: &mut Vec<(VertexId, i64)>, place: usize, target: VertexId)
     requires rising { IsRising room.old.items }
-    requires place { IsPlaceOf room.old.items target (Ok place) }
+    requires place { IsPlaceOf target room.old.items place }
     ensures value { room.new.items ≡ without_edge target room.old.items }
     ensures rising { IsRising room.new.items }
 {

@@ -1,13 +1,15 @@
 //! A binary search among edges.
+ghost use Rattle.std.specs.Prelude.{IfOk, IfErr};
 ghost use Rattle.pg_graph.specs.EdgeList.{IsRising};
-ghost use Rattle.pg_program.specs.Edges.{IsPlaceOf};
+ghost use Rattle.pg_graph.specs.Places.{IsPlaceOf, IsGapFor};
 
 use pg_graph::VertexId;
 
 /// The place of the edge to `target`, or where it would stand.
 pub(crate) fn place_of(edges: &[(VertexId, i64)], target: VertexId) -> Result<usize, usize>
     requires { IsRising edges.now }
-    ensures { IsPlaceOf edges.now target result }
+    ensures found { IfOk result (IsPlaceOf target edges.now) }
+    ensures absent { IfErr result (IsGapFor target edges.now) }
 {
     edges.binary_search_by_key(&target, |edge| edge.0)
 }

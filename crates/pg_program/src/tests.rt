@@ -67,7 +67,9 @@ impl Computation for Echo {
 
 /// A context in which place 0 shows -4.
 fn context(alloc: Global) -> Result<Cx<i64>, Memory>
-    ensures shown { IfOk result (λ cx. ShowsDeclared (record { reads = 1; writes = 1; total_vertices = true; total_edges = true }) cx.view) }
+    ensures shown { IfOk result
+        (λ cx. ShowsDeclared
+        (record { reads = 1; writes = 1; total_vertices = true; total_edges = true }) cx.view) }
     ensures writes { IfOk result (λ cx. cx.writes ≡ 1) }
 {
     let view = View {

@@ -101,14 +101,19 @@ impl<V> Vertex<V> {
     /// nothing changes. It takes no memory. The first change of an execution copies the edges.
     pub fn set_edge_value(&mut self, target: VertexId, weight: i64) -> bool
         ensures known { result ≡ is_some (weight_at target self.old.edges) }
-        ensures value { self.new ≡ record self.old { edges = cond result (with_edge target weight self.old.edges) self.old.edges } }
+        ensures value { self.new
+            ≡ record self.old {
+              edges = cond result
+                  (with_edge target weight self.old.edges) self.old.edges;
+            } }
     {
         self.edges.set(target, weight)
     }
 
     /// Adds an edge, or sets the weight of the one that is there. It moves the edges behind it.
     pub fn add_edge(&mut self, target: VertexId, weight: i64) -> Result<(), Memory>
-        ensures ok { OnOk result (self.new ≡ record self.old { edges = with_edge target weight self.old.edges }) }
+        ensures ok { OnOk result
+            (self.new ≡ record self.old { edges = with_edge target weight self.old.edges }) }
         ensures err { OnErr result (self.new ≡ self.old) }
     {
         self.edges.add(target, weight)

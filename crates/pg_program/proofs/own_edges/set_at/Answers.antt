@@ -1,16 +1,15 @@
-use Rattle.std.proofs.Common.{sym, subst, arith}
+use Rattle.std.proofs.Common.{arith}
 use Rattle.std.proofs.lemmas.Grind.{common_steps}
 use Rattle.std.proofs.lemmas.Int.{to_z-of_z}
-use Rattle.pg_graph.specs.EdgeList.{EdgeList, IsRising}
-use Rattle.pg_program.proofs.EdgePlaces.{with_edge-found, IsRising-with_edge}
+use Rattle.pg_graph.proofs.AtPlace.{rises_written}
 use Rattle.pg_program.proofs.own_edges.set_at.Goals as goal
 
 pub returns-clause-value : goal.returns-clause-value
 returns-clause-value c =
-    let found = with_edge-found c.args.room.now.items c.args.target c.args.place c.args.weight c.requires.rising c.requires.place in
+    let written = c.requires.place.written c.args.weight in
     grind (arith, common_steps, to_z-of_z)
 
 pub returns-clause-rising : goal.returns-clause-rising
 returns-clause-rising c =
-    let P : EdgeList → Type 0 = λ l. IsRising l in
-    subst P (sym {A = EdgeList} (returns-clause-value c)) (IsRising-with_edge c.args.target c.args.weight c.args.room.now.items c.requires.rising)
+    let rises = rises_written c.args.room.now.items c.args.target c.args.place c.requires.rising c.args.weight c.requires.place in
+    grind (arith, common_steps, to_z-of_z)
