@@ -1,14 +1,15 @@
 pub mod ActivePlaces
+pub mod Arranging
 pub mod Contributing
 pub mod Delivering
 pub mod Executing
-pub mod Ids
 pub mod Merging
 pub mod Messages
 pub mod Ordering
 pub mod Passing
 pub mod Registered
 pub mod Runs
+pub mod Searching
 pub mod Settling
 pub mod Stepping
 pub mod Whole

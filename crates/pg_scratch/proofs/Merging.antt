@@ -177,7 +177,7 @@ module _ {V M : Type 0} (program : Program V M) where
   edges-made xs (w ∷ ws) = edges-made (placed (made program w) xs) ws ∙ edges-placed w xs
 
   -- the vertices with those that wait are in place
-  pub made_in_place : (roster after : Roster V M) (waiting ws : List (ℕ × List M)) (seen seen' : List (Standing V M)) → IsInPlace roster → AreWaiting (ids roster.standings.items) waiting → ws ≡ waiting → after.standings.items ≡ with_made program roster.standings.items ws → after.ids.items ≡ ids seen → seen ≡ after.standings.items → ListsActive seen' after.work.items → seen' ≡ after.standings.items → IsStrictlySortedBy nat_cmp after.work.items → IsInPlace after
+  pub made_in_place : (roster after : Roster V M) (waiting ws : List (ℕ × List M)) (seen seen' : List (Standing V M)) → IsInPlace roster → AreWaiting (ids roster.standings.items) waiting → ws ≡ waiting → after.standings.items ≡ with_made program roster.standings.items ws → after.ids ≡ ids seen → seen ≡ after.standings.items → ListsActive seen' after.work.items → seen' ≡ after.standings.items → IsStrictlySortedBy nat_cmp after.work.items → IsInPlace after
   made_in_place roster after waiting ws seen seen' place waits same are ids_are seen_is lists seen_is' rises =
       let now = are ∙ ap (with_made program roster.standings.items) same in
       let ids_now = ids_are ∙ ap (λ (l : List (Standing V M)). ids l) seen_is in

@@ -94,7 +94,7 @@ beginning-edges program (row ∷ rows) =
 -- a run before its first superstep
 pub record IsBeginning {V M : Type 0} (program : Program V M) (registrations : List Registration) (rows : Rows) (count : ℕ) (p : Progress V M) : Type 0 where
   pub configuration : p.configuration ≡ record { standings = map (beginning program) rows; waiting = []; gathered = map (λ r. (aggregating_of r).initial) registrations; sent = 0; dropped = 0 }
-  pub ids : p.ids.items ≡ ids p.configuration.standings
+  pub ids : p.ids ≡ ids p.configuration.standings
   pub work : p.work.items ≡ range_with_len 0 (length rows)
   pub edges : p.edges ≡ edge_count rows
   pub meter : p.meter ≡ count

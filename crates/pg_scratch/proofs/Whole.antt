@@ -60,7 +60,7 @@ module _ {V M : Type 0} (program : Program V M) (view : View) (writes calls : �
 
 -- ---- what the executions leave can receive
 module _ {V M : Type 0} (program : Program V M) (view : View) (first : Roster V M) (calls : ℕ) (p : Played V M) (plays : HasPlayed program view first calls p) where
-  pub played_ids : IsInPlace first → p.roster.ids.items ≡ ids p.roster.standings.items
+  pub played_ids : IsInPlace first → p.roster.ids ≡ ids p.roster.standings.items
   played_ids place =
       plays.ids_stay ∙ (place.ids_are ∙ (sym (ids-ran program view first.standings.items) ∙ (λ i. ids (sym plays.standings i))))
 
@@ -101,7 +101,7 @@ module _ {V M : Type 0} (job : Job V M) (places s : ℕ) (before after : Progres
     pub gathered : after.configuration.gathered ≡ t.gathered
     pub sent : after.configuration.sent ≡ capped (before.configuration.sent + length t.played.sent)
     pub dropped : after.configuration.dropped ≡ capped (before.configuration.dropped + t.received.astray.dropped)
-    pub ids_are : after.ids.items ≡ t.received.roster.ids.items
+    pub ids_are : after.ids ≡ t.received.roster.ids
     pub work_is : after.work.items ≡ t.received.roster.work.items
     pub edges_are : after.edges ≡ t.played.edges
     pub meter_is : after.meter ≡ t.played.meter
@@ -119,10 +119,10 @@ module _ {V M : Type 0} (job : Job V M) (places s : ℕ) (before after : Progres
     contributed_now : t.played.contributed ≡ contributions job.program (view_in job s before.configuration) (present job.program before.configuration)
     contributed_now = say.plays.contributed ∙ (λ i. contributions job.program (view_now i) (say.roster_is i))
 
-    ids_now : t.played.roster.ids.items ≡ ids (present job.program before.configuration)
+    ids_now : t.played.roster.ids ≡ ids (present job.program before.configuration)
     ids_now = say.plays.ids_stay ∙ (say.in_place.ids_are ∙ (λ i. ids (say.roster_is i)))
 
-    strays_now : astray t.played.roster.ids.items t.played.sent ≡ astray (ids (present job.program before.configuration)) (sends job.program (view_in job s before.configuration) (present job.program before.configuration))
+    strays_now : astray t.played.roster.ids t.played.sent ≡ astray (ids (present job.program before.configuration)) (sends job.program (view_in job s before.configuration) (present job.program before.configuration))
     strays_now = λ i. astray (ids_now i) (sent_now i)
 
     standings_now : after.configuration.standings ≡ standings_after job (view_in job s before.configuration) (present job.program before.configuration)

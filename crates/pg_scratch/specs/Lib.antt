@@ -1,4 +1,4 @@
-pub mod Adding
+pub mod Arranged
 pub mod Astray
 pub mod Inbox
 pub mod Pass

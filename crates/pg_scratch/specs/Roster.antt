@@ -11,8 +11,8 @@ use Rattle.pg_scratch.specs.declared.roster.Roster.{Roster}
 
 -- the ids are the vertices' and rise, and the list of places is in order and has the active vertices
 pub record IsInPlace {V M : Type 0} (r : Roster V M) : Type 0 where
-  pub ids_are : r.ids.items ≡ ids r.standings.items
-  pub ids_rise : IsStrictlySortedBy nat_cmp r.ids.items
+  pub ids_are : r.ids ≡ ids r.standings.items
+  pub ids_rise : IsStrictlySortedBy nat_cmp r.ids
   pub lists : ListsActive r.standings.items r.work.items
   pub in_order : IsStrictlySortedBy nat_cmp r.work.items
 

@@ -28,7 +28,7 @@ pub record IsPrepared {V M : Type 0} (program : Program V M) (master : Master) (
 -- a run between two supersteps, with so many aggregators: ids, places and edges are those of its configuration
 pub record IsReady {V M : Type 0} (places : ℕ) (p : Progress V M) : Type 0 where
   pub in_order : IsInOrder p.configuration
-  pub ids_are : p.ids.items ≡ ids p.configuration.standings
+  pub ids_are : p.ids ≡ ids p.configuration.standings
   pub lists : ListsActive p.configuration.standings p.work.items
   pub work_rises : IsStrictlySortedBy nat_cmp p.work.items
   pub edges : p.edges ≡ (totals_of p.configuration).edges
@@ -37,7 +37,7 @@ pub record IsReady {V M : Type 0} (places : ℕ) (p : Progress V M) : Type 0 whe
 -- the vertices were executed, seeing this view
 pub record HasPlayed {V M : Type 0} (program : Program V M) (view : View) (first : Roster V M) (calls : ℕ) (p : Played V M) : Type 0 where
   pub standings : p.roster.standings.items ≡ map (ran program view) first.standings.items
-  pub ids_stay : p.roster.ids.items ≡ first.ids.items
+  pub ids_stay : p.roster.ids ≡ first.ids
   pub lists : ListsActive p.roster.standings.items p.roster.work.items
   pub sent : p.sent ≡ sends program view first.standings.items
   pub contributed : p.contributed ≡ contributions program view first.standings.items
@@ -47,11 +47,11 @@ pub record HasPlayed {V M : Type 0} (program : Program V M) (view : View) (first
 -- these messages were delivered, and settled where they went astray
 pub record HasReceived {V M : Type 0} (combining : Option (Combining M)) (missing : Missing) (first : Roster V M) (sent : List (ℕ × M)) (r : Received V M) : Type 0 where
   pub standings : r.roster.standings.items ≡ with_messages combining sent first.standings.items
-  pub ids_stay : r.roster.ids.items ≡ first.ids.items
+  pub ids_stay : r.roster.ids ≡ first.ids
   pub lists : ListsActive r.roster.standings.items r.roster.work.items
   pub work_rises : IsStrictlySortedBy nat_cmp r.roster.work.items
-  pub waiting : r.astray.waiting ≡ waiting_after missing combining (astray first.ids.items sent)
-  pub dropped : r.astray.dropped ≡ dropped_count missing (astray first.ids.items sent)
+  pub waiting : r.astray.waiting ≡ waiting_after missing combining (astray first.ids sent)
+  pub dropped : r.astray.dropped ≡ dropped_count missing (astray first.ids sent)
 
 -- a superstep was executed, and each execution counted
 pub record HasStepped {V M : Type 0} (job : Job V M) (places s : ℕ) (before after : Progress V M) (halt : Bool) : Type 0 where

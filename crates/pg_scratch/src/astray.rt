@@ -5,6 +5,7 @@ ghost use Rattle.pg_graph.specs.declared.missing.Missing.TheVariants.{Create};
 ghost use Rattle.pg_scratch.specs.Astray.{blank};
 
 use crate::delivery::deliver;
+use crate::ids::Ids;
 use crate::worklist::put_ids_in_order;
 use pg_global::MessageCombiner;
 use pg_graph::{Edges, Memory, Missing, VertexId};
@@ -26,7 +27,8 @@ pub(crate) fn settle<M: Plain, C: MessageCombiner<M>>(
     missing: Missing,
     strays: Vec<(VertexId, M)>,
 ) -> Result<Astray<M>, Memory>
-    ensures waiting { IfOk result (λ a. a.waiting ≡ waiting_after missing (C.combining combiner.now) strays.items) }
+    ensures waiting { IfOk result
+        (λ a. a.waiting ≡ waiting_after missing (C.combining combiner.now) strays.items) }
     ensures dropped { IfOk result (λ a. a.dropped ≡ dropped_count missing strays.items) }
 {
     match missing {
@@ -51,15 +53,17 @@ fn waiting_of<M: Plain, C: MessageCombiner<M>>(
 {
     let ids = targets_of(alloc, strays.as_slice())?;
     let mut blanks = blanks_of(alloc, ids.as_slice())?;
+    let ids = Ids::new(alloc, ids)?;
     let mut receivers = Vec::new(alloc);
     let mut lost = Vec::new(alloc);
     deliver(
         alloc,
         combiner,
-        ids.as_slice(),
+        &ids,
         &mut blanks,
         strays,
         &mut lost,
+        false,
         &mut receivers,
     )?;
     let inboxes = inboxes_of(alloc, blanks)?;

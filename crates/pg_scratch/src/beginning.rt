@@ -15,7 +15,8 @@ pub(crate) fn standings_of<P: Computation>(
     graph: &Graph,
     program: &P,
 ) -> Result<Vec<Standing<P::Value, P::Message>>, Memory>
-    ensures { IfOk result (λ standings. standings.items ≡ map (beginning (P.program program.now)) graph.now) }
+    ensures { IfOk result
+        (λ standings. standings.items ≡ map (beginning (P.program program.now)) graph.now) }
 {
     let mut standings = Vec::with_capacity(alloc, graph.vertices() as usize)?;
     for (id, row) in graph.iter() {
@@ -50,7 +51,8 @@ pub(crate) fn initial_values(
     alloc: Global,
     registrations: &[Registration],
 ) -> Result<Sequence<i64>, Memory>
-    ensures { IfOk result (λ values. values ≡ map (λ r. (aggregating_of r).initial) registrations.now) }
+    ensures { IfOk result
+        (λ values. values ≡ map (λ r. (aggregating_of r).initial) registrations.now) }
 {
     let mut values = Sequence::new(alloc);
     for registration in registrations {

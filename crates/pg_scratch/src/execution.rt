@@ -52,7 +52,8 @@ fn execute<P: Computation>(
     requires active { active_test standing.old ≡ true }
     requires shown { ShowsDeclared (P.program program.now).declared cx.old.view }
     requires writes { cx.old.writes ≡ (P.program program.now).declared.writes }
-    ensures standing { OnOk result (standing.new ≡ ran (P.program program.now) cx.old.view standing.old) }
+    ensures standing { OnOk result
+        (standing.new ≡ ran (P.program program.now) cx.old.view standing.old) }
     ensures context { OnOk result (cx.new ≡ record {
       view = cx.old.view;
       writes = cx.old.writes;
@@ -93,8 +94,10 @@ pub(crate) fn execute_all<P: Computation>(
     requires shown { ShowsDeclared (P.program program.now).declared cx.old.view }
     requires writes { cx.old.writes ≡ (P.program program.now).declared.writes }
     requires fits { cx.old.calls < 2 ^ 64 }
-    ensures standings { OnOk result (standings.new.items ≡ map (ran (P.program program.now) cx.old.view) standings.old.items) }
-    ensures context { OnOk result (cx.new ≡ ran_context (P.program program.now) cx.old standings.old.items) }
+    ensures standings { OnOk result
+        (standings.new.items ≡ map (ran (P.program program.now) cx.old.view) standings.old.items) }
+    ensures context { OnOk result
+        (cx.new ≡ ran_context (P.program program.now) cx.old standings.old.items) }
     ensures lists { IfOk result (λ found. ListsActive standings.new.items found.unhalted.items) }
     ensures edges { IfOk result (λ found. Counts found.edges (edges_of standings.new.items)) }
 {
@@ -136,8 +139,10 @@ fn visit<P: Computation>(
     requires shown { ShowsDeclared (P.program program.now).declared cx.old.view }
     requires writes { cx.old.writes ≡ (P.program program.now).declared.writes }
     requires fits { cx.old.calls < 2 ^ 64 }
-    ensures standing { OnOk result (standing.new ≡ ran (P.program program.now) cx.old.view standing.old) }
-    ensures context { OnOk result (cx.new ≡ context_after (P.program program.now) cx.old standing.old) }
+    ensures standing { OnOk result
+        (standing.new ≡ ran (P.program program.now) cx.old.view standing.old) }
+    ensures context { OnOk result
+        (cx.new ≡ context_after (P.program program.now) cx.old standing.old) }
 {
     if !is_active(standing) {
         return Ok(bench);
@@ -159,9 +164,13 @@ fn visit_counted<P: Computation>(
     requires writes { cx.old.writes ≡ (P.program program.now).declared.writes }
     requires fits { cx.old.calls < 2 ^ 64 }
     requires edges { IfSome edges.old (λ n. length standing.old.state.edges ≤ n) }
-    ensures standing { OnOk result (standing.new ≡ ran (P.program program.now) cx.old.view standing.old) }
-    ensures context { OnOk result (cx.new ≡ context_after (P.program program.now) cx.old standing.old) }
-    ensures edges { OnOk result (Exchanges edges.old edges.new standing.old (ran (P.program program.now) cx.old.view standing.old)) }
+    ensures standing { OnOk result
+        (standing.new ≡ ran (P.program program.now) cx.old.view standing.old) }
+    ensures context { OnOk result
+        (cx.new ≡ context_after (P.program program.now) cx.old standing.old) }
+    ensures edges { OnOk result
+        (Exchanges edges.old edges.new standing.old
+        (ran (P.program program.now) cx.old.view standing.old)) }
 {
     let before = standing.state.edges.as_slice().len();
     let bench = visit(alloc, program, standing, bench, cx)?;
@@ -186,13 +195,17 @@ fn execute_at<P: Computation>(
     requires fits { cx.old.calls < 2 ^ 64 }
     requires edges { (x : Standing P.Value P.Message) → slice_get standings.old.items place ≡ Some x
         → IfSome found.old.edges (λ n. length x.state.edges ≤ n) }
-    ensures standings { OnOk result ((x : Standing P.Value P.Message) → slice_get standings.old.items place ≡ Some x
+    ensures standings { OnOk result
+        ((x : Standing P.Value P.Message) → slice_get standings.old.items place ≡ Some x
         → standings.new.items ≡ slice_set standings.old.items place (ran (P.program program.now) cx.old.view x)) }
-    ensures context { OnOk result ((x : Standing P.Value P.Message) → slice_get standings.old.items place ≡ Some x
+    ensures context { OnOk result
+        ((x : Standing P.Value P.Message) → slice_get standings.old.items place ≡ Some x
         → cx.new ≡ context_after (P.program program.now) cx.old x) }
-    ensures unhalted { OnOk result ((x : Standing P.Value P.Message) → slice_get standings.old.items place ≡ Some x
+    ensures unhalted { OnOk result
+        ((x : Standing P.Value P.Message) → slice_get standings.old.items place ≡ Some x
         → found.new.unhalted.items ≡ with_unhalted found.old.unhalted.items place (ran (P.program program.now) cx.old.view x)) }
-    ensures edges { OnOk result ((x : Standing P.Value P.Message) → slice_get standings.old.items place ≡ Some x
+    ensures edges { OnOk result
+        ((x : Standing P.Value P.Message) → slice_get standings.old.items place ≡ Some x
         → Exchanges found.old.edges found.new.edges x (ran (P.program program.now) cx.old.view x)) }
 {
     let standing = &mut standings[place];

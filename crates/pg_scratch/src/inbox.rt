@@ -2,7 +2,7 @@
 ghost use Rattle.std.specs.Prelude.{◌≡◌, [], ◌∷◌, ◌++◌, ◌+◌, ◌<◌, ◌≤◌, true, false, cond, length, slice_get, slice_set, Some, IsSome, IfSome, IfOk, MatchOption, OnOk};
 ghost use Rattle.std.specs.Ordering.{nat_cmp};
 ghost use Rattle.std.specs.List.Sorted.{IsStrictlySortedBy};
-ghost use Rattle.pg_model.specs.Superstep.{has_id, is_empty};
+ghost use Rattle.pg_model.specs.Superstep.{is_empty};
 ghost use Rattle.pg_model.specs.declared.configuration.Standing.{Standing};
 ghost use Rattle.pg_scratch.specs.Inbox.{with_message, combined_so_far};
 
@@ -11,17 +11,6 @@ use pg_graph::{Memory, VertexId};
 use pg_model::{Sequence, Standing};
 use pg_program::Plain;
 use std::alloc::Global;
-
-/// The place of a vertex among rising ids.
-pub(crate) fn place_of(ids: &[VertexId], id: VertexId) -> Option<usize>
-    requires { IsStrictlySortedBy nat_cmp ids.now }
-    ensures { MatchOption result (has_id ids.now id ≡ false) (λ place. slice_get ids.now place ≡ Some id) }
-{
-    match ids.binary_search(&id) {
-        Ok(place) => Some(place),
-        Err(_) => None,
-    }
-}
 
 /// Adds a message to an inbox, which the combiner leaves one message at most.
 pub(crate) fn put<M: Plain, C: MessageCombiner<M>>(
@@ -51,7 +40,8 @@ fn take_before<M: Plain, C: MessageCombiner<M>>(
 ) -> Result<M, Memory>
     requires combines { IsSome (C.combining combiner.now) }
     requires single { length inbox.old ≤ 1 }
-    ensures value { IfOk result (λ m. IfSome (C.combining combiner.now) (λ c. m ≡ combined_so_far c inbox.old)) }
+    ensures value { IfOk result
+        (λ m. IfSome (C.combining combiner.now) (λ c. m ≡ combined_so_far c inbox.old)) }
     ensures taken { OnOk result (inbox.new ≡ []) }
 {
     match inbox.pop() {
@@ -71,7 +61,8 @@ fn combined<M: Plain, C: MessageCombiner<M>>(
     message: &M,
 ) -> Result<M, Memory>
     requires { IsSome (C.combining combiner.now) }
-    ensures { IfOk result (λ m. IfSome (C.combining combiner.now) (λ c. m ≡ c.combine before message.now)) }
+    ensures { IfOk result
+        (λ m. IfSome (C.combining combiner.now) (λ c. m ≡ c.combine before message.now)) }
 {
     combiner.combine(alloc, &mut before, message)?;
     Ok(before)

@@ -9,6 +9,7 @@ mod beginning;
 mod delivery;
 mod execution;
 mod gathering;
+mod ids;
 mod inbox;
 mod roster;
 mod runner;

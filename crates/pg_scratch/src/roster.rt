@@ -6,6 +6,7 @@ ghost use Rattle.pg_model.specs.InOrder.{AreWaiting};
 ghost use Rattle.pg_model.specs.Superstep.{ids as ids_of, made as made_vertex, with_made};
 ghost use Rattle.pg_scratch.specs.Roster.{IsInPlace, Takes, first_is_below};
 
+use crate::ids::Ids;
 use crate::worklist::active_places;
 use pg_graph::{Edges, Memory, VertexId};
 use pg_model::{Sequence, Standing, VertexState};
@@ -17,7 +18,7 @@ use std::collections::VecDeque;
 #[derive(Drop)]
 pub(crate) struct Roster<V, M> {
     pub standings: Vec<Standing<V, M>>,
-    pub ids: Vec<VertexId>,
+    pub ids: Ids,
     pub work: Vec<usize>,
 }
 
@@ -31,7 +32,9 @@ pub(crate) fn with_waiting<P: Computation>(
 ) -> Result<Roster<P::Value, P::Message>, Memory>
     requires in_place { IsInPlace roster }
     requires waiting { AreWaiting (ids_of roster.standings.items) waiting }
-    ensures standings { IfOk result (λ r. r.standings.items ≡ with_made (P.program program.now) roster.standings.items waiting) }
+    ensures standings { IfOk result
+        (λ r. r.standings.items
+        ≡ with_made (P.program program.now) roster.standings.items waiting) }
     ensures in_place { IfOk result (λ r. IsInPlace r) }
 {
     if waiting.len() == 0 {
@@ -43,7 +46,7 @@ pub(crate) fn with_waiting<P: Computation>(
         work: _,
     } = roster;
     let standings = merged(alloc, program, standings, waiting.into_vec())?;
-    let ids = ids_of(alloc, standings.as_slice())?;
+    let ids = Ids::new(alloc, ids_of(alloc, standings.as_slice())?)?;
     let work = active_places(alloc, standings.as_slice())?;
     Ok(Roster {
         standings,
@@ -75,7 +78,8 @@ fn merged<P: Computation>(
 ) -> Result<Vec<Standing<P::Value, P::Message>>, Memory>
     requires rising { IsStrictlySortedBy nat_cmp (ids_of standings.items) }
     requires waiting { AreWaiting (ids_of standings.items) waiting.items }
-    ensures { IfOk result (λ xs. xs.items ≡ with_made (P.program program.now) standings.items waiting.items) }
+    ensures { IfOk result
+        (λ xs. xs.items ≡ with_made (P.program program.now) standings.items waiting.items) }
 {
     let mut waiting = VecDeque::from(waiting);
     let mut merged = Vec::with_capacity(alloc, standings.len())?;
@@ -103,7 +107,8 @@ fn push_below<P: Computation>(
     waiting: &mut VecDeque<(VertexId, Sequence<P::Message>)>,
     merged: &mut Vec<Standing<P::Value, P::Message>>,
 ) -> Result<(), Memory>
-    ensures takes { OnOk result (Takes (P.program program.now) id waiting.old.items waiting.new.items merged.old.items merged.new.items) }
+    ensures takes { OnOk result
+        (Takes (P.program program.now) id waiting.old.items waiting.new.items merged.old.items merged.new.items) }
     ensures rest { OnOk result (first_is_below id waiting.new.items ≡ false) }
 {
     while is_first_below(waiting, id) {
@@ -129,7 +134,8 @@ fn push_first<P: Computation>(
     waiting: &mut VecDeque<(VertexId, Sequence<P::Message>)>,
     merged: &mut Vec<Standing<P::Value, P::Message>>,
 ) -> Result<(), Memory>
-    ensures { OnOk result ((w : ℕ × List P.Message) (ws : List (ℕ × List P.Message)) → waiting.old.items ≡ w ∷ ws
+    ensures { OnOk result
+        ((w : ℕ × List P.Message) (ws : List (ℕ × List P.Message)) → waiting.old.items ≡ w ∷ ws
         → (waiting.new.items ≡ ws) × (merged.new.items ≡ merged.old.items ++ made_vertex (P.program program.now) w ∷ [])) }
 {
     if let Some((id, inbox)) = waiting.pop_front() {
@@ -145,7 +151,9 @@ fn push_rest<P: Computation>(
     waiting: VecDeque<(VertexId, Sequence<P::Message>)>,
     merged: &mut Vec<Standing<P::Value, P::Message>>,
 ) -> Result<(), Memory>
-    ensures { OnOk result (merged.new.items ≡ merged.old.items ++ map (made_vertex (P.program program.now)) waiting.items) }
+    ensures { OnOk result
+        (merged.new.items
+        ≡ merged.old.items ++ map (made_vertex (P.program program.now)) waiting.items) }
 {
     for (id, inbox) in waiting {
         merged.push(made(alloc, program, id, inbox)?)?;

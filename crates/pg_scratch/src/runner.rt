@@ -10,6 +10,7 @@ ghost use Rattle.pg_scratch.specs.Stages.{IsPrepared};
 ghost use Rattle.pg_scratch.specs.Worklist.{ListsActive};
 
 use crate::beginning::{initial_values, registrations_of, standings_of};
+use crate::ids::Ids;
 use crate::roster::ids_of;
 use crate::superstep::{Progress, Runner, is_anyone_active, superstep};
 use pg_global::{MasterCompute, MessageCombiner, RegisterFault, Registration, Registry};
@@ -108,7 +109,8 @@ fn values_of<V: Drop, M: Drop>(
     alloc: Global,
     standings: Vec<Standing<V, M>>,
 ) -> Result<Sequence<(VertexId, V)>, Memory>
-    ensures { IfOk result (λ values. values ≡ map (λ x. (x.state.id, x.state.value)) standings.items) }
+    ensures { IfOk result
+        (λ values. values ≡ map (λ x. (x.state.id, x.state.value)) standings.items) }
 {
     let mut values = Vec::with_capacity(alloc, standings.len())?;
     for standing in standings {
@@ -140,14 +142,14 @@ fn begin<P: Computation>(
       dropped = 0;
     }) }
     ensures rising { HasRisingIds graph.now }
-    ensures ids { IfOk result (λ p. p.ids.items ≡ ids_of p.configuration.standings) }
+    ensures ids { IfOk result (λ p. p.ids ≡ ids_of p.configuration.standings) }
     ensures work { IfOk result (λ p. p.work.items ≡ range_with_len 0 (length graph.now)) }
     ensures edges { IfOk result (λ p. (p.edges ≡ edge_count graph.now) × (p.edges < 2 ^ 64)) }
     ensures meter { IfOk result (λ p. p.meter ≡ meter) }
 {
     let vertices = graph.vertices() as usize;
     let standings = standings_of(alloc, graph, program)?;
-    let ids = ids_of(alloc, standings.as_slice())?;
+    let ids = Ids::new(alloc, ids_of(alloc, standings.as_slice())?)?;
     let configuration = Configuration {
         standings: Sequence::from_vec(standings),
         waiting: Sequence::new(alloc),
@@ -176,9 +178,11 @@ fn run_registered<P: Computation, C: MessageCombiner<P::Message>, M: MasterCompu
     meter: Meter,
 ) -> Result<(Run<P::Value>, Meter), Memory>
     requires limit { 0 < runner.now.limit }
-    requires prepared { IsPrepared (P.program runner.now.program.now) (M.master runner.now.master.now) runner.now.registrations.now }
+    requires prepared { IsPrepared (P.program runner.now.program.now)
+        (M.master runner.now.master.now) runner.now.registrations.now }
     requires fits { meter < 2 ^ 64 }
-    ensures { let job = job_of (P.program runner.now.program.now) (C.combining runner.now.combiner.now)
+    ensures { let job = job_of (P.program runner.now.program.now)
+        (C.combining runner.now.combiner.now)
         (M.master runner.now.master.now) runner.now.missing runner.now.limit in
         IfOk result (λ r. (r.0 ≡ answer job graph.now) × (r.1 ≡ capped (meter + executions job graph.now))) }
 {
@@ -204,8 +208,10 @@ fn run_registered<P: Computation, C: MessageCombiner<P::Message>, M: MasterCompu
 /// The master's aggregators, registered.
 fn registered<M: MasterCompute>(alloc: Global, master: &M) -> Result<Registry, RunFault>
     ensures ok { IfOk result (λ registry. registry ≡ (M.master master.now).registrations) }
-    ensures lawful { IfOk result (λ _. first_refusal [] (M.master master.now).registrations ≡ None) }
-    ensures register { IsErrOf result RunFault.Register → IsSome (first_refusal [] (M.master master.now).registrations) }
+    ensures lawful { IfOk result
+        (λ _. first_refusal [] (M.master master.now).registrations ≡ None) }
+    ensures register { IsErrOf result RunFault.Register
+        → IsSome (first_refusal [] (M.master master.now).registrations) }
     ensures no_other { IsErrOf result RunFault.Unregistered → ⊥ }
 {
     let mut registry = Registry::new(alloc);
@@ -253,12 +259,19 @@ pub fn run<P: Computation, C: MessageCombiner<P::Message>, M: MasterCompute>(
     meter: &mut Meter,
 ) -> Result<Run<P::Value>, RunFault>
     requires { 0 < limit }
-    ensures register { IsErrOf result RunFault.Register → IsSome (first_refusal [] (M.master master.now).registrations) }
-    ensures unregistered { IsErrOf result RunFault.Unregistered → (first_refusal [] (M.master master.now).registrations ≡ None) × (is_registered (P.program program.now) (M.master master.now) ≡ false) }
-    ensures registered { IfOk result (λ _. (first_refusal [] (M.master master.now).registrations ≡ None) × (is_registered (P.program program.now) (M.master master.now) ≡ true)) }
-    ensures answer { let job = job_of (P.program program.now) (C.combining combiner.now) (M.master master.now) missing limit in
+    ensures register { IsErrOf result RunFault.Register
+        → IsSome (first_refusal [] (M.master master.now).registrations) }
+    ensures unregistered { IsErrOf result RunFault.Unregistered
+        → (first_refusal [] (M.master master.now).registrations ≡ None)
+        × (is_registered (P.program program.now) (M.master master.now) ≡ false) }
+    ensures registered { IfOk result
+        (λ _. (first_refusal [] (M.master master.now).registrations ≡ None)
+        × (is_registered (P.program program.now) (M.master master.now) ≡ true)) }
+    ensures answer { let job = job_of (P.program program.now) (C.combining combiner.now)
+        (M.master master.now) missing limit in
         IfOk result (λ r. r ≡ answer job graph.now) }
-    ensures meter { let job = job_of (P.program program.now) (C.combining combiner.now) (M.master master.now) missing limit in
+    ensures meter { let job = job_of (P.program program.now) (C.combining combiner.now)
+        (M.master master.now) missing limit in
         OnOk result (meter.new ≡ capped (meter.old + executions job graph.now)) }
     ensures unmetered { OnErr result (meter.new ≡ meter.old) }
 {

@@ -12,12 +12,13 @@ ghost use Rattle.pg_scratch.specs.Stages.{HasPlayed, HasReceived, HasStepped, Is
 ghost use Rattle.pg_scratch.specs.Worklist.{ListsActive};
 
 use crate::astray::{Astray, settle};
-use crate::delivery::deliver;
+use crate::delivery::{arranged, deliver};
 use crate::execution::execute_all;
 use crate::gathering::{gather_all, view_of, visible_in};
+use crate::ids::Ids;
 use crate::roster::{Roster, with_waiting};
 use crate::totals::capped_total;
-use crate::worklist::{is_active_at, put_in_order};
+use crate::worklist::{active_in_order, is_active_at};
 use pg_global::{MasterCompute, MessageCombiner, Registration};
 use pg_graph::{Memory, Missing, Superstep, VertexId};
 use pg_model::{Configuration, Place, Sequence, Standing, View};
@@ -40,7 +41,7 @@ pub(crate) struct Runner<'a, P, C, M> {
 #[derive(Drop)]
 pub(crate) struct Progress<V, M> {
     pub configuration: Configuration<V, M>,
-    pub ids: Vec<VertexId>,
+    pub ids: Ids,
     pub work: Vec<usize>,
     pub edges: u64,
     pub meter: Meter,
@@ -129,8 +130,8 @@ fn receive<V: Drop, M: Plain, C: MessageCombiner<M>>(
     roster: Roster<V, M>,
     sent: Sequence<(VertexId, M)>,
 ) -> Result<Received<V, M>, Memory>
-    requires ids { roster.ids.items ≡ ids_of roster.standings.items }
-    requires rising { IsStrictlySortedBy nat_cmp roster.ids.items }
+    requires ids { roster.ids ≡ ids_of roster.standings.items }
+    requires rising { IsStrictlySortedBy nat_cmp roster.ids }
     requires empty { AllByRecursion (λ (x : Standing V M). x.inbox ≡ []) roster.standings.items }
     requires lists { ListsActive roster.standings.items roster.work.items }
     ensures { IfOk result (λ r. HasReceived (C.combining combiner.now) missing roster sent r) }
@@ -141,16 +142,19 @@ fn receive<V: Drop, M: Plain, C: MessageCombiner<M>>(
         mut work,
     } = roster;
     let mut strays = Vec::new(alloc);
+    let sent = arranged(sent.into_vec(), standings.len())?;
+    let is_listed = sent.len() <= standings.len() / 8;
     deliver(
         alloc,
         combiner,
-        ids.as_slice(),
+        &ids,
         &mut standings,
-        sent.into_vec(),
+        sent,
         &mut strays,
+        is_listed,
         &mut work,
     )?;
-    put_in_order(&mut work);
+    let work = active_in_order(alloc, standings.as_slice(), is_listed, work)?;
     let astray = settle(alloc, combiner, missing, strays)?;
     Ok(Received {
         roster: Roster {
@@ -169,10 +173,12 @@ pub(crate) fn superstep<P: Computation, C: MessageCombiner<P::Message>, M: Maste
     superstep: Superstep,
     progress: Progress<P::Value, P::Message>,
 ) -> Result<(Progress<P::Value, P::Message>, bool), Memory>
-    requires prepared { IsPrepared (P.program runner.now.program.now) (M.master runner.now.master.now) runner.now.registrations.now }
+    requires prepared { IsPrepared (P.program runner.now.program.now)
+        (M.master runner.now.master.now) runner.now.registrations.now }
     requires ready { IsReady (length runner.now.registrations.now) progress }
     requires fits { progress.meter < 2 ^ 64 }
-    ensures { let job = job_of (P.program runner.now.program.now) (C.combining runner.now.combiner.now)
+    ensures { let job = job_of (P.program runner.now.program.now)
+        (C.combining runner.now.combiner.now)
         (M.master runner.now.master.now) runner.now.missing runner.now.limit in
         IfOk result (λ r. HasStepped job (length runner.now.registrations.now) superstep progress r.0 r.1) }
 {

@@ -1,5 +1,5 @@
 //! The list of the places that a superstep visits.
-ghost use Rattle.std.specs.Prelude.{◌≡◌, ℕ, ◌<◌, length, slice_get, Some, IfOk};
+ghost use Rattle.std.specs.Prelude.{◌≡◌, true, ℕ, ◌<◌, length, slice_get, Some, IfOk};
 ghost use Rattle.std.specs.Ordering.{nat_cmp};
 ghost use Rattle.std.specs.List.Sorted.{IsStrictlySortedBy};
 ghost use Rattle.pg_model.specs.Superstep.{has_id, is_active as active_test};
@@ -11,8 +11,27 @@ use pg_graph::{Memory, VertexId};
 use pg_model::Standing;
 use std::alloc::Global;
 
+/// The places of the active vertices in order: those of a list, if it has them all, and else by a walk over the
+/// vertices.
+pub(crate) fn active_in_order<V, M>(
+    alloc: Global,
+    standings: &[Standing<V, M>],
+    is_listed: bool,
+    mut listed: Vec<usize>,
+) -> Result<Vec<usize>, Memory>
+    requires { is_listed ≡ true → ListsActive standings.now listed.items }
+    ensures lists { IfOk result (λ places. ListsActive standings.now places.items) }
+    ensures in_order { IfOk result (λ places. IsStrictlySortedBy nat_cmp places.items) }
+{
+    if !is_listed {
+        return active_places(alloc, standings);
+    }
+    put_in_order(&mut listed);
+    Ok(listed)
+}
+
 /// Puts places in order, each of them once.
-pub(crate) fn put_in_order(places: &mut Vec<usize>)
+fn put_in_order(places: &mut Vec<usize>)
     ensures rising { IsStrictlySortedBy nat_cmp places.new.items }
     ensures same { (place : ℕ) → has_id places.new.items place ≡ has_id places.old.items place }
 {

@@ -1,5 +1,5 @@
-use Rattle.pg_scratch.proofs.Ids.{searchable, has_id-missing, slice_get-found}
-use Rattle.pg_scratch.proofs.inbox.place_of.Goals as goal
+use Rattle.pg_scratch.proofs.Searching.{searchable, has_id-missing, slice_get-found}
+use Rattle.pg_scratch.proofs.ids.found_in.Goals as goal
 
 pub returns-in-Ok : goal.returns-in-Ok
 returns-in-Ok c = slice_get-found c.args.ids.now c.args.id c.in-Ok.place c.in-Ok.ensures.bound c.in-Ok.ensures.ok
