@@ -1,0 +1,166 @@
+-- A bundle has at each target what goes to it of the sends.
+use Rattle.std.proofs.Common.{◌≡◌, ℕ, ◌==◌, ◌||◌, not, Bool, true, false, cond, List, [], ◌∷◌, map, Option, None, Some, refl, sym, ap, ◌∙◌, subst, arith, ⊎_elim}
+use Rattle.std.specs.List.{AllByRecursion, filter}
+use Rattle.std.specs.List.Sorted.{IsStrictlySortedBy}
+use Rattle.std.specs.BTreeMap.{is_at}
+use Rattle.std.specs.Map.{keys_of}
+use Rattle.std.specs.Option.{option_map}
+use Rattle.std.specs.Ordering.{nat_cmp}
+use Rattle.std.proofs.lemmas.Bool.{cases_eq}
+use Rattle.std.proofs.lemmas.Bool.Decides.{nat_tests}
+use Rattle.std.proofs.lemmas.Map.Entries.{lookup_head, lookup_tail}
+use Rattle.pg_map.specs.Entries.{HasRisingIds, value_at}
+use Rattle.pg_map.proofs.Parts.{rises_after}
+use Rattle.pg_map.proofs.Rising.{at_other, at_same, none_past, same_entries}
+use Rattle.pg_model.specs.Job.{Combining}
+use Rattle.pg_model.specs.Superstep.{has_id, is_empty, targets}
+use Rattle.pg_model.proofs.LawsMade.{has_id-targets, targets-rise}
+use Rattle.pg_inbox.specs.Bundles.{Parcels, bundle_of, contents_of}
+use Rattle.pg_inbox.specs.Grouping.{AreGroups, any_of, items_to}
+use Rattle.pg_inbox.specs.Holding.{as_item}
+use Rattle.pg_inbox.specs.Sends.{Sends, letters_to, without_senders}
+use Rattle.pg_inbox.proofs.Grouping.{same_id}
+
+pub at_id : (q id : ℕ) → is_at (nat_cmp q) id ≡ (id == q)
+at_id q id = grind (arith, nat_tests)
+
+pub some_not_empty : {X : Type 0} (x : X) (l : List X) → is_empty (x ∷ l) ≡ false
+some_not_empty x l = grind (arith, nat_tests)
+
+-- ---- look-ups
+
+module _ {X Y : Type 0} (f : X → Y) where
+  -- of entries whose values were made of others
+  pub value_at-values : (q : ℕ) (es : List (ℕ × X)) → value_at q (map (λ e. (e.0, f e.1)) es) ≡ option_map f (value_at q es)
+  value_at-values q [] = refl
+  value_at-values q (e ∷ es) = by (is_at (nat_cmp q) e.0) (value_at-values q es)
+    where
+      by : (b : Bool) → value_at q (map (λ e. (e.0, f e.1)) es) ≡ option_map f (value_at q es)
+          → cond b (Some (f e.1)) (value_at q (map (λ e. (e.0, f e.1)) es)) ≡ option_map f (cond b (Some e.1) (value_at q es))
+      by true h = refl
+      by false h = h
+
+  keys-values : (es : List (ℕ × X)) → keys_of (map (λ e. (e.0, f e.1)) es) ≡ keys_of es
+  keys-values [] = refl
+  keys-values (e ∷ es) = ap (λ l. e.0 ∷ l) (keys-values es)
+
+  pub rises-values : (es : List (ℕ × X)) → HasRisingIds es → HasRisingIds (map (λ e. (e.0, f e.1)) es)
+  rises-values es rise = subst (IsStrictlySortedBy nat_cmp) (sym (keys-values es)) rise
+
+module _ {Y : Type 0} (f : ℕ → Y) where
+  -- of entries that are made of their ids
+  value_at-ids : (q : ℕ) (is : List ℕ) → value_at q (map (λ i. (i, f i)) is) ≡ cond (has_id is q) (Some (f q)) None
+  value_at-ids q [] = refl
+  value_at-ids q (i ∷ is) = ap (λ b. cond b (Some (f i)) (value_at q (map (λ i. (i, f i)) is))) (at_id q i) ∙ by (i == q) refl (value_at-ids q is)
+    where
+      by : (b : Bool) → (i == q) ≡ b → value_at q (map (λ i. (i, f i)) is) ≡ cond (has_id is q) (Some (f q)) None
+          → cond b (Some (f i)) (value_at q (map (λ i. (i, f i)) is)) ≡ cond (b || has_id is q) (Some (f q)) None
+      by true e h = ap (λ n. Some (f n)) (same_id i q e)
+      by false e h = h
+
+  keys-ids : (is : List ℕ) → keys_of (map (λ i. (i, f i)) is) ≡ is
+  keys-ids [] = refl
+  keys-ids (i ∷ is) = ap (λ l. i ∷ l) (keys-ids is)
+
+-- ---- what goes to a target
+
+module _ {M : Type 0} where
+  -- some message goes to it, or none does
+  no_letters : List (ℕ × M) → Bool
+  no_letters l = is_empty l
+
+  has_target : (q : ℕ) (sent : Sends M) → has_id (map (λ m. m.0) (without_senders sent)) q ≡ not (no_letters (letters_to q sent))
+  unfolding no_letters
+  has_target q [] = refl
+  has_target q (s ∷ sent) = by (s.1 == q) (has_target q sent)
+    where
+      front : ℕ × M
+      front = (s.0, s.2)
+
+      by : (b : Bool) → has_id (map (λ m. m.0) (without_senders sent)) q ≡ not (no_letters (letters_to q sent))
+          → (b || has_id (map (λ m. m.0) (without_senders sent)) q) ≡ not (no_letters (map (λ s. (s.0, s.2)) (cond b (s ∷ filter (λ s. s.1 == q) sent) (filter (λ s. s.1 == q) sent))))
+      by true h = ap not (sym (some_not_empty front (letters_to q sent)))
+      by false h = h
+
+  some_or_none : {Y : Type 0} (f : List (ℕ × M) → Y) (l : List (ℕ × M)) → cond (not (no_letters l)) (Some (f l)) None ≡ option_map f (any_of l)
+  unfolding no_letters
+  some_or_none f [] = refl
+  some_or_none f (x ∷ l) = ap (λ b. cond (not b) (Some (f (x ∷ l))) None) (some_not_empty x l)
+
+  module _ (combining : Option (Combining M)) where
+    -- each target has what goes to it
+    pub value_at-bundle_of : (q : ℕ) (sent : Sends M)
+        → value_at q (bundle_of combining sent) ≡ option_map (contents_of combining) (any_of (letters_to q sent))
+    value_at-bundle_of q sent =
+        value_at-ids (λ target. contents_of combining (letters_to target sent)) q (targets (without_senders sent))
+        ∙ (ap (λ b. cond b (Some (contents_of combining (letters_to q sent))) None) (has_id-targets (without_senders sent) q ∙ has_target q sent)
+        ∙ some_or_none (contents_of combining) (letters_to q sent))
+
+    pub rises-bundle_of : (sent : Sends M) → HasRisingIds (bundle_of combining sent)
+    rises-bundle_of sent =
+        subst (IsStrictlySortedBy nat_cmp) (sym (keys-ids (λ target. contents_of combining (letters_to target sent)) (targets (without_senders sent)))) (targets-rise (without_senders sent))
+
+    -- and that tells the bundle
+    pub is_bundle_of : (parcels : Parcels M) (sent : Sends M) → HasRisingIds parcels
+        → ((q : ℕ) → value_at q parcels ≡ option_map (contents_of combining) (any_of (letters_to q sent)))
+        → parcels ≡ bundle_of combining sent
+    is_bundle_of parcels sent rise told = same_entries parcels (bundle_of combining sent) rise (rises-bundle_of sent) (λ q. told q ∙ sym (value_at-bundle_of q sent))
+
+  pub items-letters : (q : ℕ) (sent : Sends M) → items_to q (map as_item sent) ≡ letters_to q sent
+  items-letters q [] = refl
+  items-letters q (s ∷ sent) = by (s.1 == q) (items-letters q sent)
+    where
+      by : (b : Bool) → items_to q (map as_item sent) ≡ letters_to q sent
+          → map (λ i. i.1) (cond b (as_item s ∷ filter (λ i. i.0 == q) (map as_item sent)) (filter (λ i. i.0 == q) (map as_item sent))) ≡ map (λ s. (s.0, s.2)) (cond b (s ∷ filter (λ s. s.1 == q) sent) (filter (λ s. s.1 == q) sent))
+      by true h = ap (λ l. (s.0, s.2) ∷ l) h
+      by false h = h
+
+  -- the contents of groups are the bundle
+  pub bundle_from_groups : (combining : Option (Combining M)) (sent : Sends M) (items : List (ℕ × (ℕ × M))) (groups : List (ℕ × List (ℕ × M))) (parcels : Parcels M)
+      → items ≡ map as_item sent → AreGroups items groups → parcels ≡ map (λ g. (g.0, contents_of combining g.1)) groups → (parcels ≡ bundle_of combining sent) × HasRisingIds parcels
+  bundle_from_groups combining sent items groups parcels are grouped made =
+      let rise : HasRisingIds parcels = subst HasRisingIds (sym made) (rises-values (contents_of combining) groups grouped.rise) in (
+        is_bundle_of combining parcels sent rise (λ q. ap (value_at q) made
+            ∙ (value_at-values (contents_of combining) q groups
+            ∙ ap (option_map (contents_of combining)) (grouped.told q ∙ ap any_of (ap (items_to q) are ∙ items-letters q sent)))),
+        rise,
+      )
+
+-- ---- each entry, from the look-ups
+
+module _ {X : Type 0} (P : ℕ × X → Type 0) where
+  pub all_from_lookups : (es : List (ℕ × X)) → HasRisingIds es → ((q : ℕ) (x : X) → value_at q es ≡ Some x → P (q, x)) → AllByRecursion P es
+  all_from_lookups [] rise told = tt
+  all_from_lookups (e ∷ es) rise told = (
+    told e.0 e.1 (lookup_head (is_at (nat_cmp e.0)) e es (at_same e.0)),
+    all_from_lookups es (rises_after e es rise) (λ q x h. ⊎_elim
+        (λ (same : q ≡ e.0). absurd (none_some x (sym (none_past q e es rise (ap (λ k. is_at (nat_cmp k) e.0) same ∙ at_same e.0)) ∙ h)))
+        (λ (apart : q ≡ e.0 → ⊥). told q x (lookup_tail (is_at (nat_cmp q)) e es (at_other q e.0 apart) ∙ h))
+        (cases_eq q e.0)),
+  )
+    where
+      none_some : (x : X) → ◌≡◌ {A = Option X} None (Some x) → ⊥
+      none_some x h = cc
+
+-- a group's items are of the items
+module _ {X : Type 0} (P : X → Type 0) where
+  abbrev pub IsGroup : ℕ × List X → Type 0
+  IsGroup g = (is_empty g.1 ≡ false) × AllByRecursion P g.1
+
+  of_items : (q : ℕ) (items : List (ℕ × X)) → AllByRecursion (λ i. P i.1) items → AllByRecursion P (items_to q items)
+  of_items q [] all = tt
+  of_items q (i ∷ items) all = by (i.0 == q) (of_items q items all.1)
+    where
+      by : (b : Bool) → AllByRecursion P (items_to q items)
+          → AllByRecursion P (map (λ i. i.1) (cond b (i ∷ filter (λ i. i.0 == q) items) (filter (λ i. i.0 == q) items)))
+      by true h = (all.0, h)
+      by false h = h
+
+  from_any : (q : ℕ) (l xs : List X) → AllByRecursion P l → any_of l ≡ Some xs → IsGroup (q, xs)
+  from_any q [] xs all h = absurd (let n : ◌≡◌ {A = Option (List X)} None (Some xs) = h in cc)
+  from_any q (x ∷ l) xs all h = let same : x ∷ l ≡ xs = cc in subst (λ ys. IsGroup (q, ys)) same (some_not_empty x l, all)
+
+  pub groups_are : (items : List (ℕ × X)) (groups : List (ℕ × List X)) → AllByRecursion (λ i. P i.1) items → AreGroups items groups
+      → AllByRecursion IsGroup groups
+  groups_are items groups all grouped =
+      all_from_lookups IsGroup groups grouped.rise (λ q xs h. from_any q (items_to q items) xs (of_items q items all) (sym (grouped.told q) ∙ h))

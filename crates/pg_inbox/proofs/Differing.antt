@@ -1,0 +1,202 @@
+-- The targets at which two bundles differ, found one after another, and what tells entries apart.
+use Rattle.std.proofs.Common.{◌≡◌, ℕ, ◌==◌, ◌||◌, ◌⊎◌, Bool, true, false, cond, List, [], ◌∷◌, ◌++◌, map, length, Option, None, Some, refl, sym, ap, ◌∙◌, subst, arith, inl, inr, append_assoc, true≢false}
+use Rattle.std.specs.Prelude.{◌↔◌}
+use Rattle.std.specs.List.{AllByRecursion}
+use Rattle.std.specs.List.Sorted.{IsStrictlySortedBy}
+use Rattle.std.specs.Map.{keys_of}
+use Rattle.std.specs.Option.{unwrap_or}
+use Rattle.std.specs.Ordering.{nat_cmp}
+use Rattle.std.specs.declared.cmp.Ordering.TheVariants.{Less}
+use Rattle.std.proofs.lemmas.List.{append-nil}
+use Rattle.std.proofs.lemmas.Bool.Decides.{nat_tests}
+use Rattle.pg_map.specs.Entries.{value_at}
+use Rattle.pg_model.specs.Superstep.{has_id, is_empty}
+use Rattle.pg_inbox.specs.Bundles.{Entry, Parcels, each_entry, entries_of}
+use Rattle.pg_inbox.specs.Changed.{AreChanged, AreSameAt, AreTargetsOf, DifferAt, IsAdded}
+use Rattle.pg_inbox.specs.declared.parcel.Contents.{Contents}
+use Rattle.pg_inbox.proofs.Bundling.{at_id}
+use Rattle.pg_inbox.proofs.Grouping.{same_id}
+
+or_false : (b : Bool) → (b || false) ≡ b
+or_false true = refl
+or_false false = refl
+
+or_assoc : (a b c : Bool) → (a || (b || c)) ≡ ((a || b) || c)
+or_assoc true b c = refl
+or_assoc false b c = refl
+
+or_right : (a b : Bool) → b ≡ true → (a || b) ≡ true
+or_right true b h = refl
+or_right false b h = h
+
+or_left : (a b : Bool) → a ≡ true → (a || b) ≡ true
+or_left true b h = refl
+or_left false b h = absurd cc
+
+or_cases : (a b : Bool) → (a || b) ≡ true → (a ≡ true) ⊎ (b ≡ true)
+or_cases true b h = inl refl
+or_cases false b h = inr h
+
+itself : (a : ℕ) → (a == a) ≡ true
+itself a = grind (arith, nat_tests)
+
+pub has_id-push : (ids : List ℕ) (id q : ℕ) → has_id (ids ++ id ∷ []) q ≡ (has_id ids q || (id == q))
+has_id-push [] id q = or_false (id == q)
+has_id-push (i ∷ ids) id q = ap (λ b. (i == q) || b) (has_id-push ids id q) ∙ or_assoc (i == q) (has_id ids q) (id == q)
+
+pub has_id-append : (xs ys : List ℕ) (q : ℕ) → has_id (xs ++ ys) q ≡ (has_id xs q || has_id ys q)
+has_id-append [] ys q = refl
+has_id-append (x ∷ xs) ys q = ap (λ b. (x == q) || b) (has_id-append xs ys q) ∙ or_assoc (x == q) (has_id xs q) (has_id ys q)
+
+all-without : (P : ℕ → Type 0) (xs : List ℕ) (y : ℕ) (ys : List ℕ) → AllByRecursion P (xs ++ y ∷ ys) → AllByRecursion P (xs ++ ys)
+all-without P [] y ys h = h.1
+all-without P (x ∷ xs) y ys h = (h.0, all-without P xs y ys h.1)
+
+pub rises-without : (xs : List ℕ) (y : ℕ) (ys : List ℕ) → IsStrictlySortedBy nat_cmp (xs ++ y ∷ ys) → IsStrictlySortedBy nat_cmp (xs ++ ys)
+unfolding IsStrictlySortedBy
+rises-without [] y ys h = h.1
+rises-without (x ∷ xs) y ys h = (all-without (λ z. nat_cmp x z ≡ Less) xs y ys h.0, rises-without xs y ys h.1)
+
+pub none_at : {X : Type 0} (es : List (ℕ × X)) (q : ℕ) → has_id (keys_of es) q ≡ false → value_at q es ≡ None
+none_at [] q h = refl
+none_at {X = X} (e ∷ es) q h = ap (λ b. cond b (Some e.1) (value_at q es)) (at_id q e.0) ∙ by (e.0 == q) h (none_at es q)
+  where
+    by : (b : Bool) → (b || has_id (keys_of es) q) ≡ false → (has_id (keys_of es) q ≡ false → value_at q es ≡ None)
+        → cond b (Some e.1) (value_at q es) ≡ None
+    by true k later = absurd (true≢false k)
+    by false k later = later k
+
+module _ {M : Type 0} (old new : Parcels M) where
+  abbrev pub AreTold : List ℕ → List ℕ → Type 0
+  AreTold found seen = (q : ℕ) → (has_id found q ≡ true) ↔ ((has_id seen q ≡ true) × DifferAt old new q)
+
+  pub told-none : (found : List ℕ) → found ≡ [] → AreTold found []
+  told-none found none q = (λ h. let k : false ≡ true = sym (ap (λ l. has_id l q) none) ∙ h in absurd cc, λ h. absurd (let k : false ≡ true = h.0 in cc))
+
+  pub told-more : (found found' seen : List ℕ) (id : ℕ) → AreTold found seen → IsAdded old new id found found' → AreTold found' (seen ++ id ∷ [])
+  told-more found found' seen id so_far (inl same) q = (
+    λ h. let k = (so_far q).0 (sym (ap (λ l. has_id l q) same.1) ∙ h) in (has_id-push seen id q ∙ or_left (has_id seen q) (id == q) k.0, k.1),
+    λ h. ap (λ l. has_id l q) same.1 ∙ by (or_cases (has_id seen q) (id == q) (sym (has_id-push seen id q) ∙ h.0)) h.1,
+  )
+    where
+      by : (has_id seen q ≡ true) ⊎ ((id == q) ≡ true) → DifferAt old new q → has_id found q ≡ true
+      by (inl k) d = (so_far q).1 (k, d)
+      by (inr k) d = absurd (d (subst (AreSameAt old new) (same_id id q k) same.0))
+  told-more found found' seen id so_far (inr differ) q = (
+    λ h. by (or_cases (has_id found q) (id == q) (sym (has_id-push found id q) ∙ (sym (ap (λ l. has_id l q) differ.1) ∙ h))),
+    λ h. ap (λ l. has_id l q) differ.1 ∙ (has_id-push found id q ∙ back (or_cases (has_id seen q) (id == q) (sym (has_id-push seen id q) ∙ h.0)) h.1),
+  )
+    where
+      by : (has_id found q ≡ true) ⊎ ((id == q) ≡ true) → (has_id (seen ++ id ∷ []) q ≡ true) × DifferAt old new q
+      by (inl k) = let told = (so_far q).0 k in (has_id-push seen id q ∙ or_left (has_id seen q) (id == q) told.0, told.1)
+      by (inr k) = (has_id-push seen id q ∙ or_right (has_id seen q) (id == q) k, subst (DifferAt old new) (same_id id q k) differ.0)
+
+      back : (has_id seen q ≡ true) ⊎ ((id == q) ≡ true) → DifferAt old new q → (has_id found q || (id == q)) ≡ true
+      back (inl k) d = or_left (has_id found q) (id == q) ((so_far q).1 (k, d))
+      back (inr k) d = or_right (has_id found q) (id == q) k
+
+  pub rises-more : (found found' rest : List ℕ) (id : ℕ) → IsStrictlySortedBy nat_cmp (found ++ id ∷ rest) → IsAdded old new id found found'
+      → IsStrictlySortedBy nat_cmp (found' ++ rest)
+  rises-more found found' rest id rise (inl same) = subst (λ l. IsStrictlySortedBy nat_cmp (l ++ rest)) (sym same.1) (rises-without found id rest rise)
+  rises-more found found' rest id rise (inr differ) =
+      subst (IsStrictlySortedBy nat_cmp) (sym (ap (λ l. l ++ rest) differ.1 ∙ append_assoc found (id ∷ []) rest)) rise
+
+  pub changed_all : (ids found : List ℕ) → AreTargetsOf old new ids → IsStrictlySortedBy nat_cmp (found ++ []) → AreTold found ids
+      → AreChanged old new found
+  changed_all ids found targets rise told = record {
+    rise = subst (IsStrictlySortedBy nat_cmp) (append-nil found) rise;
+    told = λ id. ((λ h. ((told id).0 h).1), λ d. (told id).1 (by id d (has_id ids id) refl, d));
+  }
+    where
+      by : (id : ℕ) → DifferAt old new id → (b : Bool) → has_id ids id ≡ b → has_id ids id ≡ true
+      by id d true e = e
+      by id d false e = absurd (d (let none = targets.covers id e in
+          ap (λ (o : Option (Contents M)). elim o [ None ↦ [] | Some contents ↦ entries_of id contents ]) none.0 ∙ sym (ap (λ (o : Option (Contents M)). elim o [ None ↦ [] | Some contents ↦ entries_of id contents ]) none.1)))
+
+-- ---- entries tell what they are made of
+
+module _ {M : Type 0} (target : ℕ) where
+  abbrev seen_in : Option M → List (ℕ × M) → List (Entry M)
+  seen_in folded letters = elim folded [
+    | None ↦ each_entry target letters
+    | Some m ↦ record { target = target; from = None; message = m; count = length letters } ∷ []
+  ]
+
+  letter_of : Entry M → ℕ × M
+  letter_of e = (unwrap_or e.from 0, e.message)
+
+  letters_back : (l : List (ℕ × M)) → map letter_of (each_entry target l) ≡ l
+  unfolding letter_of
+  letters_back [] = refl
+  letters_back (x ∷ l) = ap (λ k. x ∷ k) (letters_back l)
+
+  pub same_by_letters : (a b : Contents M) → a.folded ≡ None → b.folded ≡ None → (a.letters ≡ b.letters) ↔ (entries_of target a ≡ entries_of target b)
+  same_by_letters a b p q =
+      let at_a : entries_of target a ≡ each_entry target a.letters = ap (λ f. seen_in f a.letters) p in
+      let at_b : entries_of target b ≡ each_entry target b.letters = ap (λ f. seen_in f b.letters) q in (
+        (λ h. at_a ∙ (ap (each_entry target) h ∙ sym at_b)),
+        λ h. sym (letters_back a.letters) ∙ (ap (map letter_of) (sym at_a ∙ (h ∙ at_b)) ∙ letters_back b.letters),
+      )
+
+  first_message : M → List (Entry M) → M
+  first_message m [] = m
+  first_message m (e ∷ es) = e.message
+
+  first_count : List (Entry M) → ℕ
+  first_count [] = 0
+  first_count (e ∷ es) = e.count
+
+  first_from : List (Entry M) → Option ℕ
+  first_from [] = None
+  first_from (e ∷ es) = e.from
+
+  one_entry : (m m' : M) (n n' : ℕ)
+      → ◌≡◌ {A = List (Entry M)} (record { target = target; from = None; message = m; count = n } ∷ []) (record { target = target; from = None; message = m'; count = n' } ∷ [])
+      → (m ≡ m') × (n ≡ n')
+  unfolding first_message first_count
+  one_entry m m' n n' h = (ap (first_message m) h, ap first_count h)
+
+  pub same_by_fold : (a b : Contents M) (x y : M) → a.folded ≡ Some x → b.folded ≡ Some y
+      → ((x ≡ y) × (length a.letters ≡ length b.letters)) ↔ (entries_of target a ≡ entries_of target b)
+  same_by_fold a b x y p q =
+      let at_a = ap (λ f. seen_in f a.letters) p in
+      let at_b = ap (λ f. seen_in f b.letters) q in (
+        (λ h. at_a ∙ ((λ i. record { target = target; from = None; message = h.0 i; count = h.1 i } ∷ []) ∙ sym at_b)),
+        λ h. one_entry x y (length a.letters) (length b.letters) (sym at_a ∙ (h ∙ at_b)),
+      )
+
+  not_folded : (m : M) (n : ℕ) (l : List (ℕ × M)) → is_empty l ≡ false
+      → record { target = target; from = None; message = m; count = n } ∷ [] ≡ each_entry target l → ⊥
+  unfolding first_from
+  not_folded m n [] some h = absurd cc
+  not_folded m n (x ∷ l) some h = let k : None ≡ Some x.0 = ap first_from h in absurd cc
+
+  pub fold_apart : (a b : Contents M) (x : M) → a.folded ≡ Some x → b.folded ≡ None → is_empty b.letters ≡ false
+      → entries_of target a ≡ entries_of target b → ⊥
+  fold_apart a b x p q some h =
+      not_folded x (length a.letters) b.letters some (sym (ap (λ f. seen_in f a.letters) p) ∙ (h ∙ ap (λ f. seen_in f b.letters) q))
+
+  -- where there is a message there is an entry
+  pub some_entry : (a : Contents M) → is_empty a.letters ≡ false → entries_of target a ≡ [] → ⊥
+  some_entry a some h = by a.folded a.letters some h
+    where
+      by : (f : Option M) (l : List (ℕ × M)) → is_empty l ≡ false → seen_in f l ≡ [] → ⊥
+      by None [] some h = absurd cc
+      by None (x ∷ l) some h = absurd cc
+      by (Some m) l some h = absurd cc
+
+-- ---- the ids of both, in order and each once
+
+pub targets_in_order : {M : Type 0} (old new : Parcels M) (ids sorted ordered : List ℕ) → ids ≡ keys_of old ++ keys_of new
+    → IsStrictlySortedBy nat_cmp ordered → ((id : ℕ) → has_id ordered id ≡ has_id ids id) → AreTargetsOf old new ordered
+targets_in_order old new ids sorted ordered are rise same = record {
+  rise = rise;
+  covers = λ id h.
+      let none : (has_id (keys_of old) id || has_id (keys_of new) id) ≡ false = sym (has_id-append (keys_of old) (keys_of new) id) ∙ (sym (ap (λ l. has_id l id) are) ∙ (sym (same id) ∙ h)) in
+      let parts = neither (has_id (keys_of old) id) (has_id (keys_of new) id) none in
+      (none_at old id parts.0, none_at new id parts.1);
+}
+  where
+    neither : (a b : Bool) → (a || b) ≡ false → (a ≡ false) × (b ≡ false)
+    neither true b h = absurd (true≢false h)
+    neither false b h = (refl, h)

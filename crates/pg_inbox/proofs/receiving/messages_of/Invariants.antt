@@ -1,0 +1,6 @@
+use Rattle.std.proofs.Common.{◌≡◌}
+use Rattle.pg_inbox.specs.Bundles.{messages}
+use Rattle.pg_inbox.proofs.receiving.messages_of.Given as goal
+
+abbrev pub invariant-loop-message : goal.invariant-loop-message
+invariant-loop-message g l = l.inbox.items ≡ messages l.yielded

@@ -1,0 +1,63 @@
+-- What one partition sends to another in a superstep.
+use Rattle.std.specs.Prelude.{ℕ, List, [], ◌∷◌, map, length, Option, None, Some}
+use Rattle.std.specs.List.{flat_map, fold}
+use Rattle.std.specs.Option.{option_map}
+use Rattle.pg_map.specs.Entries.{value_at}
+use Rattle.pg_model.specs.Job.{Combining}
+use Rattle.pg_model.specs.Superstep.{targets}
+use Rattle.pg_inbox.specs.Sends.{Sends, letters_to, without_senders}
+use Rattle.pg_inbox.specs.declared.parcel.Contents.{Contents}
+
+-- the messages to each target, by rising target
+abbrev pub Parcels : Type 0 → Type 0
+Parcels M = List (ℕ × Contents M)
+
+-- what others see of the messages to a target: each of them, or one for all where they are combined
+pub record Entry (M : Type 0) : Type 0 where
+  pub target : ℕ
+  pub from : Option ℕ
+  pub message : M
+  pub count : ℕ
+
+module _ {M : Type 0} where
+  abbrev pub messages : List (ℕ × M) → List M
+  messages letters = map (λ l. l.1) letters
+
+  -- the fold of messages from the initial message, where they are combined
+  abbrev pub folded : Option (Combining M) → List M → Option M
+  folded combining ms = option_map (λ c. fold c.combine c.initial ms) combining
+
+  -- these messages, and what they come to
+  abbrev pub contents_of : Option (Combining M) → List (ℕ × M) → Contents M
+  contents_of combining letters = record { letters = letters; folded = folded combining (messages letters) }
+
+  -- what these sends are as a bundle
+  abbrev pub bundle_of : Option (Combining M) → Sends M → Parcels M
+  bundle_of combining sent =
+      map (λ target. (target, contents_of combining (letters_to target sent))) (targets (without_senders sent))
+
+  abbrev pub each_entry : ℕ → List (ℕ × M) → List (Entry M)
+  each_entry target letters = map (λ l. record { target = target; from = Some l.0; message = l.1; count = 1 }) letters
+
+  abbrev pub entries_of : ℕ → Contents M → List (Entry M)
+  entries_of target contents = elim contents.folded [
+    | None ↦ each_entry target contents.letters
+    | Some m ↦ record { target = target; from = None; message = m; count = length contents.letters } ∷ []
+  ]
+
+  -- all entries of a bundle: by target, and those to one target by sender and order
+  abbrev pub entries : Parcels M → List (Entry M)
+  entries parcels = flat_map (λ p. entries_of p.0 p.1) parcels
+
+  -- those to one target, if there are any
+  abbrev pub entries_in : ℕ → Option (Contents M) → List (Entry M)
+  entries_in target None = []
+  entries_in target (Some contents) = entries_of target contents
+
+  abbrev pub entries_to : ℕ → Parcels M → List (Entry M)
+  entries_to target parcels = entries_in target (value_at target parcels)
+
+  -- what there is of a bundle that may be missing
+  abbrev pub parcels_in : Option (Parcels M) → Parcels M
+  parcels_in None = []
+  parcels_in (Some parcels) = parcels

@@ -1,0 +1,29 @@
+-- Where two bundles differ.
+use Rattle.std.specs.Prelude.{◌≡◌, ℕ, ◌↔◌, ◌++◌, ◌⊎◌, true, false, List, [], ◌∷◌, None}
+use Rattle.std.specs.List.Sorted.{IsStrictlySortedBy}
+use Rattle.std.specs.Ordering.{nat_cmp}
+use Rattle.pg_map.specs.Entries.{value_at}
+use Rattle.pg_model.specs.Superstep.{has_id}
+use Rattle.pg_inbox.specs.Bundles.{Parcels, entries_to}
+
+module _ {M : Type 0} (old new : Parcels M) where
+  -- others see the same of the messages to a target; or they don't
+  abbrev pub AreSameAt : ℕ → Type 0
+  AreSameAt id = entries_to id old ≡ entries_to id new
+
+  abbrev pub DifferAt : ℕ → Type 0
+  DifferAt id = AreSameAt id → ⊥
+
+  -- just the ids whose entries differ, rising
+  pub record AreChanged (ids : List ℕ) : Type 0 where
+    pub rise : IsStrictlySortedBy nat_cmp ids
+    pub told : (id : ℕ) → (has_id ids id ≡ true) ↔ DifferAt id
+
+  -- rising ids, no others have an entry
+  pub record AreTargetsOf (ids : List ℕ) : Type 0 where
+    pub rise : IsStrictlySortedBy nat_cmp ids
+    pub covers : (id : ℕ) → has_id ids id ≡ false → (value_at id old ≡ None) × (value_at id new ≡ None)
+
+  -- an id is added where the bundles differ at it
+  abbrev pub IsAdded : ℕ → List ℕ → List ℕ → Type 0
+  IsAdded id before after = (AreSameAt id × (after ≡ before)) ⊎ (DifferAt id × (after ≡ before ++ id ∷ []))

@@ -1,0 +1,9 @@
+pub mod Bundles
+pub mod Changed
+pub mod Grouping
+pub mod Holding
+pub mod Inboxes
+pub mod Logged
+pub mod Places
+pub mod Rows
+pub mod Sends

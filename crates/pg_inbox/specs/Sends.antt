@@ -1,0 +1,29 @@
+-- Messages with who sent them, and to whom.
+use Rattle.std.specs.Prelude.{◌≡◌, ℕ, ◌==◌, List, map}
+use Rattle.std.specs.List.{filter, flat_map}
+use Rattle.std.specs.List.Sorted.{IsNonDecreasingBy}
+
+-- sender, target and message of each
+abbrev pub Sends : Type 0 → Type 0
+Sends M = List (ℕ × ℕ × M)
+
+module _ {M : Type 0} where
+  -- what goes to one target, in the order of the sends: by whom, and what
+  abbrev pub letters_to : ℕ → Sends M → List (ℕ × M)
+  letters_to target sent = map (λ s. (s.0, s.2)) (filter (λ s. s.1 == target) sent)
+
+  -- what one sender sent
+  abbrev pub sent_by : ℕ → Sends M → Sends M
+  sent_by sender sent = filter (λ s. s.0 == sender) sent
+
+  -- the sends as a superstep has them: target and message of each
+  abbrev pub without_senders : Sends M → List (ℕ × M)
+  without_senders sent = map (λ s. (s.1, s.2)) sent
+
+  abbrev pub RiseBySender : Sends M → Type 0
+  RiseBySender sent = IsNonDecreasingBy (λ s. s.0) sent
+
+  -- all sends of these lists by rising sender: each sender's in the order in which it sent them
+  pub record AreAllOf (lists : List (Sends M)) (all : Sends M) : Type 0 where
+    pub rise : RiseBySender all
+    pub same : (sender : ℕ) → sent_by sender all ≡ flat_map (sent_by sender) lists

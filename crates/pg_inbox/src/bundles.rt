@@ -1,0 +1,58 @@
+//! A bundle, as it is held.
+ghost use Rattle.std.specs.Prelude.{◌≡◌, [], IfOk};
+ghost use Rattle.std.specs.Option.{option_copied};
+ghost use Rattle.pg_map.specs.Entries.{value_at};
+ghost use Rattle.pg_inbox.specs.Holding.{HoldsAt};
+
+use crate::Contents;
+use crate::parcel::Parcel;
+use pg_graph::{Memory, VertexId};
+use pg_map::Map;
+use pg_program::Plain;
+use std::marker::Model;
+
+/// What one partition sends to another in a superstep: for each target, by rising id, the messages to it with
+/// their senders, and where the combiner combines what they come to. Copies share their memory.
+#[derive(Drop)]
+pub struct Bundle<M: Plain> {
+    pub(crate) parcels: Map<Parcel<M>>,
+}
+
+impl<M: Plain> Model for Bundle<M> {
+    ghost use Rattle.pg_inbox.specs.Bundles.{Parcels};
+
+    ghost Value = { Parcels M };
+
+    ghost view = { λ b. b.parcels };
+}
+
+impl<M: Plain> Bundle<M> {
+    /// The bundle of no sends.
+    pub(crate) fn new() -> Bundle<M>
+        ensures { result ≡ [] }
+    {
+        Bundle {
+            parcels: Map::new(),
+        }
+    }
+
+    /// The same bundle, in the same memory. Costs O(1).
+    pub fn share(&self) -> Result<Bundle<M>, Memory>
+        ensures { IfOk result (λ bundle. bundle ≡ self.now) }
+    {
+        Ok(Bundle {
+            parcels: self.parcels.share()?,
+        })
+    }
+
+    /// The messages to a target. Costs two binary searches.
+    pub(crate) fn contents(&self, target: VertexId) -> Option<&Contents<M>>
+        ensures value { option_copied result ≡ value_at target self.now }
+        ensures holds { HoldsAt M.is_value (value_at target self.now) }
+    {
+        match self.parcels.get(target) {
+            Some(parcel) => Some(parcel.contents()),
+            None => None,
+        }
+    }
+}

@@ -1,0 +1,21 @@
+//! What partitions send to each other: bundles, the inboxes that they make, and the logs of a run.
+#![tactic(auto)]
+
+mod bundles;
+mod changing;
+mod grouped;
+mod logs;
+mod making;
+mod parcel;
+mod places;
+mod receiving;
+
+pub use bundles::Bundle;
+pub use changing::changed_targets;
+pub use logs::{Logged, Logs};
+pub use making::bundle;
+pub use parcel::Contents;
+pub use receiving::inbox;
+
+#[cfg(test)]
+mod tests;

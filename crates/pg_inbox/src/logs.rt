@@ -1,0 +1,148 @@
+//! The logs of a run: what each partition sent to each other, superstep by superstep.
+ghost use Rattle.std.specs.Prelude.{◌≡◌, ℕ, ◌==◌, ◌&&◌, [], cond, length, None, Some, OnOk, OnErr};
+ghost use Rattle.std.specs.Option.{option_copied};
+ghost use Rattle.pg_inbox.specs.Logged.{is_pair, slot_at, slot_of};
+ghost use Rattle.pg_inbox.specs.Places.{inside, value_in};
+
+use crate::Bundle;
+use crate::places::Places;
+use pg_graph::{Memory, PartitionId, Superstep, VertexId};
+use pg_model::Sequence;
+use pg_program::Plain;
+use std::alloc::Global;
+use std::marker::Model;
+
+/// A bundle of a run, and, where they are known, the targets at which it differs from that of the run before,
+/// by rising id.
+#[derive(Drop)]
+pub struct Logged<M: Plain> {
+    pub bundle: Bundle<M>,
+    pub changed: Option<Sequence<VertexId>>,
+}
+
+/// The bundles of a run, by superstep and by the partitions that sent and receive them.
+#[derive(Drop)]
+pub struct Logs<M: Plain> {
+    senders: Places<Places<Places<Logged<M>>>>,
+}
+
+impl<M: Plain> Model for Logs<M> {
+    ghost use Rattle.pg_inbox.specs.Logged.{Slots};
+
+    ghost Value = { Slots M };
+
+    ghost view = { λ l. l.senders };
+}
+
+impl<M: Plain> Logs<M> {
+    /// No bundles. Takes no memory.
+    pub fn new(alloc: Global) -> Logs<M>
+        ensures { (s p q : ℕ) → slot_at result s p q ≡ None }
+    {
+        Logs {
+            senders: Places::new(alloc),
+        }
+    }
+
+    /// What a partition sent to another in a superstep, if that was put. Costs O(1).
+    pub fn get(
+        &self,
+        superstep: Superstep,
+        from: PartitionId,
+        to: PartitionId,
+    ) -> Option<&Logged<M>>
+        ensures { option_copied result ≡ slot_at self.now superstep from to }
+    {
+        let supersteps = self.senders.get(from.number() as usize)?;
+        let targets = supersteps.get(superstep.number() as usize)?;
+        targets.get(to.number() as usize)
+    }
+
+    /// Puts what a partition sent to another in a superstep, in place of what was there. Nothing changes where
+    /// memory is refused. Costs O(1) beside the first of a superstep or a partition.
+    pub fn put(
+        &mut self,
+        alloc: Global,
+        superstep: Superstep,
+        from: PartitionId,
+        to: PartitionId,
+        logged: Logged<M>,
+    ) -> Result<(), Memory>
+        ensures ok { OnOk result ((s p q : ℕ) → slot_at self.new s p q ≡ cond (is_pair superstep from to s p q) (Some logged) (slot_at self.old s p q)) }
+        ensures err { OnErr result ((s p q : ℕ) → slot_at self.new s p q ≡ slot_at self.old s p q) }
+    {
+        let place = from.number() as usize;
+        self.senders.grow(place)?;
+        let mut supersteps = taken(alloc, &mut self.senders, place);
+        match put_in(alloc, &mut supersteps, superstep, to, logged) {
+            Ok(()) => {
+                self.senders.set(place, supersteps);
+                Ok(())
+            }
+            Err(refused) => {
+                self.senders.set(place, supersteps);
+                Err(refused)
+            }
+        }
+    }
+
+    /// Forgets all that a partition sent.
+    pub fn forget(&mut self, from: PartitionId)
+        ensures { (s p q : ℕ) → slot_at self.new s p q ≡ cond (from == p) None (slot_at self.old s p q) }
+    {
+        let _forgotten = self.senders.take(from.number() as usize);
+    }
+}
+
+/// Takes what stands at a place, or else no values.
+fn taken<X: Drop>(alloc: Global, places: &mut Places<Places<X>>, place: usize) -> Places<X>
+    ensures value { (q : ℕ) → value_in q result ≡ inside q (value_in place places.old) }
+    ensures others { (other : ℕ) → value_in other places.new ≡ cond (place == other) None (value_in other places.old) }
+    ensures len { length places.new ≡ length places.old }
+{
+    match places.take(place) {
+        Some(values) => values,
+        None => Places::new(alloc),
+    }
+}
+
+/// Puts what one partition sent.
+fn put_in<M: Plain>(
+    alloc: Global,
+    supersteps: &mut Places<Places<Logged<M>>>,
+    superstep: Superstep,
+    to: PartitionId,
+    logged: Logged<M>,
+) -> Result<(), Memory>
+    ensures ok { OnOk result ((s q : ℕ) → slot_of supersteps.new s q ≡ cond ((superstep == s) && (to == q)) (Some logged) (slot_of supersteps.old s q)) }
+    ensures err { OnErr result ((s q : ℕ) → slot_of supersteps.new s q ≡ slot_of supersteps.old s q) }
+{
+    let place = superstep.number() as usize;
+    supersteps.grow(place)?;
+    let mut targets = taken(alloc, supersteps, place);
+    match put_at(&mut targets, to, logged) {
+        Ok(()) => {
+            supersteps.set(place, targets);
+            Ok(())
+        }
+        Err(refused) => {
+            supersteps.set(place, targets);
+            Err(refused)
+        }
+    }
+}
+
+/// Puts what goes to one partition.
+fn put_at<M: Plain>(
+    targets: &mut Places<Logged<M>>,
+    to: PartitionId,
+    logged: Logged<M>,
+) -> Result<(), Memory>
+    ensures ok { OnOk result ((q : ℕ) → value_in q targets.new ≡ cond (to == q) (Some logged) (value_in q targets.old)) }
+    ensures err { OnErr result ((q : ℕ) → value_in q targets.new ≡ value_in q targets.old) }
+{
+    let place = to.number() as usize;
+    targets.grow(place)?;
+    targets.set(place, logged);
+    Ok(())
+}

@@ -1,0 +1,147 @@
+//! Inboxes: what a vertex receives of the bundles to its partition.
+ghost use Rattle.std.specs.Prelude.{◌≡◌, ◌++◌, map, Some, IsSome, IfSome, IfOk, OnOk};
+ghost use Rattle.std.specs.List.{AllByRecursion, flat_map};
+ghost use Rattle.pg_map.specs.Entries.{value_at};
+ghost use Rattle.pg_model.specs.Superstep.{combined};
+ghost use Rattle.pg_inbox.specs.Bundles.{messages};
+ghost use Rattle.pg_inbox.specs.Holding.{HoldsAt};
+ghost use Rattle.pg_inbox.specs.Inboxes.{Delivers, folded_at, letters_at};
+
+use crate::Bundle;
+use pg_global::MessageCombiner;
+use pg_graph::{Memory, VertexId};
+use pg_program::Plain;
+use std::alloc::Global;
+
+/// What a vertex receives: the messages to it in all bundles, by sender and then in the order sent, or the one
+/// message that they come to where the combiner combines. No bundle, or none with a message to it, gives nothing.
+///
+/// Costs two binary searches a bundle, and a sort of the messages to it by sender. Where the combiner combines it
+/// reads one message of a bundle.
+pub fn inbox<M: Plain, C: MessageCombiner<M>>(
+    alloc: Global,
+    bundles: &[&Bundle<M>],
+    id: VertexId,
+    combiner: &C,
+) -> Result<Vec<M>, Memory>
+    ensures { IfOk result (λ inbox. Delivers (C.combining combiner.now) id (map (λ b. b.now) bundles.now) inbox.items) }
+{
+    if combiner.combines() {
+        let parts = folded_in(alloc, bundles, id)?;
+        let inbox = combined(alloc, parts.as_slice(), combiner)?;
+        return Ok(inbox);
+    }
+    let mut letters = letters_in(alloc, bundles, id)?;
+    letters.sort_by_key(|letter| letter.0)?;
+    let inbox = messages_of(alloc, letters)?;
+    Ok(inbox)
+}
+
+/// What the messages of each bundle come to.
+fn folded_in<M: Plain>(
+    alloc: Global,
+    bundles: &[&Bundle<M>],
+    id: VertexId,
+) -> Result<Vec<M>, Memory>
+    ensures items { IfOk result (λ parts. parts.items ≡ flat_map (λ b. folded_at id b.now) bundles.now) }
+    ensures hold { IfOk result (λ _. AllByRecursion (λ b. HoldsAt M.is_value (value_at id b.now)) bundles.now) }
+{
+    let mut parts = Vec::new(alloc);
+    for bundle in bundles {
+        add_folded(alloc, &mut parts, bundle, id)?;
+    }
+    Ok(parts)
+}
+
+/// Adds what the messages of a bundle come to.
+fn add_folded<M: Plain>(
+    alloc: Global,
+    parts: &mut Vec<M>,
+    bundle: &Bundle<M>,
+    id: VertexId,
+) -> Result<(), Memory>
+    ensures items { OnOk result (parts.new.items ≡ parts.old.items ++ folded_at id bundle.now) }
+    ensures holds { HoldsAt M.is_value (value_at id bundle.now) }
+{
+    if let Some(contents) = bundle.contents(id) {
+        if let Some(message) = &contents.folded {
+            parts.push(message.copy(alloc)?)?;
+        }
+    }
+    Ok(())
+}
+
+/// One message for all, if there are any.
+fn combined<M: Plain, C: MessageCombiner<M>>(
+    alloc: Global,
+    messages: &[M],
+    combiner: &C,
+) -> Result<Vec<M>, Memory>
+    requires { IsSome (C.combining combiner.now) }
+    ensures { IfOk result (λ inbox. inbox.items ≡ combined (C.combining combiner.now) messages.now) }
+{
+    let mut inbox = Vec::new(alloc);
+    if !messages.is_empty() {
+        let mut so_far = combiner.initial_message(alloc)?;
+        for message in messages {
+            combiner.combine(alloc, &mut so_far, message)?;
+        }
+        inbox.push(so_far)?;
+    }
+    Ok(inbox)
+}
+
+/// The messages of all bundles with their senders, bundle by bundle.
+fn letters_in<M: Plain>(
+    alloc: Global,
+    bundles: &[&Bundle<M>],
+    id: VertexId,
+) -> Result<Vec<(VertexId, M)>, Memory>
+    ensures { IfOk result (λ letters. letters.items ≡ flat_map (λ b. letters_at id b.now) bundles.now) }
+{
+    let mut letters = Vec::new(alloc);
+    for bundle in bundles {
+        add_letters(alloc, &mut letters, bundle, id)?;
+    }
+    Ok(letters)
+}
+
+/// Adds the messages of a bundle.
+fn add_letters<M: Plain>(
+    alloc: Global,
+    letters: &mut Vec<(VertexId, M)>,
+    bundle: &Bundle<M>,
+    id: VertexId,
+) -> Result<(), Memory>
+    ensures { OnOk result (letters.new.items ≡ letters.old.items ++ letters_at id bundle.now) }
+{
+    match bundle.contents(id) {
+        Some(contents) => copy_letters(alloc, letters, contents.letters.as_slice()),
+        None => Ok(()),
+    }
+}
+
+/// Adds copies of messages with their senders.
+pub(crate) fn copy_letters<M: Plain>(
+    alloc: Global,
+    letters: &mut Vec<(VertexId, M)>,
+    more: &[(VertexId, M)],
+) -> Result<(), Memory>
+    ensures { OnOk result (letters.new.items ≡ letters.old.items ++ more.now) }
+{
+    for (sender, message) in more {
+        letters.push((*sender, message.copy(alloc)?))?;
+    }
+    Ok(())
+}
+
+/// Messages without their senders.
+fn messages_of<M: Plain>(alloc: Global, letters: Vec<(VertexId, M)>) -> Result<Vec<M>, Memory>
+    ensures { IfOk result (λ inbox. inbox.items ≡ messages letters.items) }
+{
+    let mut inbox = Vec::with_capacity(alloc, letters.len())?;
+    for (_, message) in letters {
+        inbox.push(message)?;
+    }
+    Ok(inbox)
+}

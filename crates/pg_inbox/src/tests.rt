@@ -1,0 +1,297 @@
+use crate::{Bundle, Logged, Logs, bundle, changed_targets, inbox};
+use pg_global::AnyCombiner;
+use pg_graph::{PartitionId, Superstep, VertexId};
+use std::alloc::Global;
+use std::process::Abort;
+use std::test::Fail;
+
+fn id(number: u64) -> Result<VertexId, Fail> {
+    Ok(VertexId::new(number).ok_or("a number above 2^63 - 1")?)
+}
+
+type Sends = Vec<(VertexId, VertexId, i64)>;
+
+fn sends(alloc: Global, sent: &[(u64, u64, i64)]) -> Result<Sends, Fail> {
+    let mut list = Vec::new(alloc);
+    for (sender, target, message) in sent {
+        list.push((id(*sender)?, id(*target)?, *message))?;
+    }
+    Ok(list)
+}
+
+// The sends of the senders that have this remainder.
+fn of_senders(alloc: Global, sent: &Sends, n: u64, remainder: u64) -> Result<Sends, Fail> {
+    let mut list = Vec::new(alloc);
+    for (sender, target, message) in sent {
+        if n != 0 && sender.number() % n == remainder {
+            list.push((*sender, *target, *message))?;
+        }
+    }
+    Ok(list)
+}
+
+// One bundle of each of n partitions.
+fn bundles_of(
+    alloc: Global,
+    sent: &Sends,
+    n: u64,
+    combiner: AnyCombiner,
+) -> Result<Vec<Bundle<i64>>, Fail> {
+    let mut bundles = Vec::new(alloc);
+    for remainder in 0..n {
+        let part = of_senders(alloc, sent, n, remainder)?;
+        bundles.push(bundle(alloc, part.as_slice(), &combiner)?)?;
+    }
+    Ok(bundles)
+}
+
+fn inbox_of(
+    alloc: Global,
+    bundles: &[Bundle<i64>],
+    target: u64,
+    combiner: AnyCombiner,
+) -> Result<Vec<i64>, Fail> {
+    let mut lent = Vec::new(alloc);
+    for bundle in bundles {
+        lent.push(bundle)?;
+    }
+    Ok(inbox(alloc, lent.as_slice(), id(target)?, &combiner)?)
+}
+
+// What goes to a target, by a plain walk over sends by rising sender.
+fn plain(
+    alloc: Global,
+    sent: &Sends,
+    target: u64,
+    combiner: AnyCombiner,
+) -> Result<Vec<i64>, Fail> {
+    let mut messages = Vec::new(alloc);
+    for (_, other, message) in sent {
+        if other.number() == target {
+            messages.push(*message)?;
+        }
+    }
+    let mut found = Vec::new(alloc);
+    if let Some(first) = messages.first() {
+        let mut so_far = *first;
+        for message in messages.as_slice() {
+            so_far = match combiner {
+                AnyCombiner::Min => i64::min(so_far, *message),
+                AnyCombiner::Max => i64::max(so_far, *message),
+                _ => so_far,
+            };
+        }
+        found.push(so_far)?;
+    }
+    match combiner {
+        AnyCombiner::Min | AnyCombiner::Max => Ok(found),
+        _ => Ok(messages),
+    }
+}
+
+// So many sends by rising sender, with targets and messages that jump.
+fn mixed(alloc: Global, seed: u64, count: u64) -> Result<Sends, Fail> {
+    let mut list = Vec::new(alloc);
+    let mut state = seed;
+    for number in 0..count {
+        state = state
+            .wrapping_mul(6364136223846793005)
+            .wrapping_add(1442695040888963407);
+        let target = (state >> 33) % 17;
+        let message = ((state >> 40) % 1000) as i64 - 500;
+        list.push((id(number / 3)?, id(target)?, message))?;
+    }
+    Ok(list)
+}
+
+fn three(alloc: Global, combiner: AnyCombiner) -> Result<Bundle<i64>, Fail> {
+    let sent = sends(alloc, &[(1, 4, 3), (3, 4, 2), (3, 5, 7)])?;
+    Ok(bundle(alloc, sent.as_slice(), &combiner)?)
+}
+
+fn two(alloc: Global, combiner: AnyCombiner) -> Result<Bundle<i64>, Fail> {
+    let sent = sends(alloc, &[(3, 4, 2), (3, 5, 7)])?;
+    Ok(bundle(alloc, sent.as_slice(), &combiner)?)
+}
+
+fn one(alloc: Global, message: i64, combiner: AnyCombiner) -> Result<Bundle<i64>, Fail> {
+    let sent = sends(alloc, &[(2, 4, message)])?;
+    Ok(bundle(alloc, sent.as_slice(), &combiner)?)
+}
+
+// How many messages go to a target, and what they come to.
+fn entry(bundle: &Bundle<i64>, target: u64) -> Result<(usize, Option<i64>), Fail> {
+    match bundle.contents(id(target)?) {
+        Some(contents) => Ok((contents.letters.len(), contents.folded)),
+        None => Ok((0, None)),
+    }
+}
+
+#[test]
+fn combined_at_the_sender(rt: HostRuntime) -> Result<(), Fail> {
+    let made = three(rt.alloc(), AnyCombiner::Min)?;
+    assert!(rt; entry(&made, 4)? == (2, Some(2)));
+    assert!(rt; entry(&made, 5)? == (1, Some(7)));
+    assert!(rt; entry(&made, 3)? == (0, None));
+    Ok(())
+}
+
+fn of_both(alloc: Global, combiner: AnyCombiner) -> Result<Vec<i64>, Fail> {
+    let made = three(alloc, combiner)?;
+    let both = vec![in alloc; made.share()?, one(alloc, 9, combiner)?]?;
+    inbox_of(alloc, both.as_slice(), 4, combiner)
+}
+
+#[test]
+fn one_message_for_all(rt: HostRuntime) -> Result<(), Fail> {
+    let found = of_both(rt.alloc(), AnyCombiner::Min)?;
+    assert_eq!(rt; found.as_slice(), [2].as_slice());
+    Ok(())
+}
+
+#[test]
+fn ordered_by_sender(rt: HostRuntime) -> Result<(), Fail> {
+    let found = of_both(rt.alloc(), AnyCombiner::NoCombiner)?;
+    assert_eq!(rt; found.as_slice(), [3, 9, 2].as_slice());
+    Ok(())
+}
+
+#[test]
+fn no_bundles(rt: HostRuntime) -> Result<(), Fail> {
+    let none = inbox_of(rt.alloc(), &[], 4, AnyCombiner::Min)?;
+    assert!(rt; none.is_empty());
+    Ok(())
+}
+
+fn of_bundles(alloc: Global, n: u64) -> Result<Vec<i64>, Fail> {
+    let sent = sends(alloc, &[(1, 3, 10), (2, 3, 20)])?;
+    let bundles = bundles_of(alloc, &sent, n, AnyCombiner::NoCombiner)?;
+    inbox_of(alloc, bundles.as_slice(), 3, AnyCombiner::NoCombiner)
+}
+
+#[test]
+fn however_many_bundles(rt: HostRuntime) -> Result<(), Fail> {
+    for n in [1, 2, 64] {
+        let found = of_bundles(rt.alloc(), n)?;
+        assert_eq!(rt; found.as_slice(), [10, 20].as_slice());
+    }
+    Ok(())
+}
+
+fn agrees(rt: &impl Abort, alloc: Global, sent: &Sends, combiner: AnyCombiner) -> Result<(), Fail> {
+    let bundles = bundles_of(alloc, sent, 5, combiner)?;
+    for target in 0..18 {
+        let found = inbox_of(alloc, bundles.as_slice(), target, combiner)?;
+        let expected = plain(alloc, sent, target, combiner)?;
+        assert_eq!(rt; found.as_slice(), expected.as_slice());
+    }
+    Ok(())
+}
+
+#[test]
+fn hundred_bundles_agree(rt: HostRuntime) -> Result<(), Fail> {
+    let alloc = rt.alloc();
+    for seed in 0..20 {
+        let sent = mixed(alloc, seed, 60)?;
+        agrees(&rt, alloc, &sent, AnyCombiner::NoCombiner)?;
+        agrees(&rt, alloc, &sent, AnyCombiner::Min)?;
+        agrees(&rt, alloc, &sent, AnyCombiner::Max)?;
+    }
+    Ok(())
+}
+
+fn changed(alloc: Global, combiner: AnyCombiner) -> Result<Vec<VertexId>, Fail> {
+    let old = three(alloc, combiner)?;
+    let new = two(alloc, combiner)?;
+    Ok(changed_targets(alloc, Some(&old), Some(&new))?)
+}
+
+#[test]
+fn changed_at_one_target(rt: HostRuntime) -> Result<(), Fail> {
+    for combiner in [AnyCombiner::NoCombiner, AnyCombiner::Min] {
+        let ids = changed(rt.alloc(), combiner)?;
+        assert_eq!(rt; ids.as_slice(), [id(4)?].as_slice());
+    }
+    Ok(())
+}
+
+#[test]
+fn changed_from_nothing(rt: HostRuntime) -> Result<(), Fail> {
+    let new = two(rt.alloc(), AnyCombiner::Min)?;
+    let ids = changed_targets(rt.alloc(), None, Some(&new))?;
+    assert_eq!(rt; ids.as_slice(), [id(4)?, id(5)?].as_slice());
+    Ok(())
+}
+
+#[test]
+fn unchanged(rt: HostRuntime) -> Result<(), Fail> {
+    let new = two(rt.alloc(), AnyCombiner::Min)?;
+    assert!(rt; changed_targets(rt.alloc(), Some(&new), Some(&new))?.is_empty());
+    Ok(())
+}
+
+fn put(
+    alloc: Global,
+    logs: &mut Logs<i64>,
+    place: (u32, u32, u32),
+    message: i64,
+) -> Result<(), Fail> {
+    let logged = Logged {
+        bundle: one(alloc, message, AnyCombiner::Min)?,
+        changed: None,
+    };
+    let (s, p, q) = place;
+    Ok(logs.put(
+        alloc,
+        Superstep::new(s),
+        PartitionId::new(p),
+        PartitionId::new(q),
+        logged,
+    )?)
+}
+
+fn message_in(logs: &Logs<i64>, place: (u32, u32, u32)) -> Result<Option<i64>, Fail> {
+    let (s, p, q) = place;
+    match logs.get(Superstep::new(s), PartitionId::new(p), PartitionId::new(q)) {
+        Some(logged) => Ok(entry(&logged.bundle, 4)?.1),
+        None => Ok(None),
+    }
+}
+
+// The slots of three supersteps and four partitions, each with its number.
+fn full(alloc: Global) -> Result<Logs<i64>, Fail> {
+    let mut logs = Logs::new(alloc);
+    for number in 0..48u32 {
+        put(
+            alloc,
+            &mut logs,
+            (number / 16, number / 4 % 4, number % 4),
+            i64::from(number),
+        )?;
+    }
+    Ok(logs)
+}
+
+#[test]
+fn logs_keep(rt: HostRuntime) -> Result<(), Fail> {
+    let mut logs = full(rt.alloc())?;
+    put(rt.alloc(), &mut logs, (0, 0, 0), 99)?;
+    assert_eq!(rt; message_in(&logs, (0, 0, 0))?, Some(99));
+    for number in 1..48u32 {
+        let found = message_in(&logs, (number / 16, number / 4 % 4, number % 4))?;
+        assert_eq!(rt; found, Some(i64::from(number)));
+    }
+    assert_eq!(rt; message_in(&logs, (9, 0, 0))?, None);
+    Ok(())
+}
+
+#[test]
+fn logs_forget(rt: HostRuntime) -> Result<(), Fail> {
+    let mut logs = full(rt.alloc())?;
+    logs.forget(PartitionId::new(1));
+    for number in 0..48u32 {
+        let found = message_in(&logs, (number / 16, number / 4 % 4, number % 4))?;
+        assert_eq!(rt; found.is_none(), number / 4 % 4 == 1);
+    }
+    Ok(())
+}
