@@ -2,7 +2,11 @@
 #![tactic(auto)]
 
 #[cfg(test)]
+mod agreement;
+#[cfg(test)]
 mod made;
+#[cfg(test)]
+mod options;
 #[cfg(test)]
 mod programs;
 #[cfg(test)]

@@ -5,7 +5,7 @@ use Rattle.std.specs.List.{concat, last_or}
 use Rattle.std.proofs.lemmas.Bool.Decides.{nat_tests}
 use Rattle.pg_import.specs.Import.{no_memory}
 use Rattle.pregeld.specs.Command.{command_of}
-use Rattle.pregeld.specs.Ready.{ready_job}
+use Rattle.pg_ready.specs.Ready.{ready_job}
 use Rattle.pregeld.specs.Reading.{AnswersLine, FailsLine, Imports, Keeps, Refreshes, RepliesTo, TakesLines}
 use Rattle.pregeld.specs.Reply.{line_of_reply}
 use Rattle.pregeld.specs.Service.{ServiceState, publication_of, report_of}

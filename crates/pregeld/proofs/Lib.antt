@@ -2,8 +2,7 @@ pub mod AskedWords
 pub mod Blocks
 pub mod Commands
 pub mod FirstLines
-pub mod Lawful
-pub mod Numbers
+pub mod OnlyMemory
 pub mod Serving
 pub mod SessionRows
 pub mod Written

@@ -4,7 +4,7 @@ use Rattle.std.specs.Io.KnownBytes.{Appends}
 use Rattle.pg_import.specs.Text.{raw_lines}
 use Rattle.pg_model.specs.Job.{Job}
 use Rattle.pregeld.specs.Command.{command_of}
-use Rattle.pregeld.specs.Ready.{ready_job}
+use Rattle.pg_ready.specs.Ready.{ready_job}
 use Rattle.pregeld.specs.Reading.{AnswersLine, FailsLine, Keeps, lines_left}
 use Rattle.pregeld.specs.Service.{ServiceState}
 use Rattle.pregeld.specs.Session.{Answer, Answers, BreaksOff, Place, Runs, Serves, State, after, opened, stop, go}

@@ -1,116 +1,210 @@
 -- The words of the program's command line, and what they ask for.
-use Rattle.std.specs.Prelude.{◌≡◌, ◌≢◌, ◌⊎◌, ⊤, ℕ, ◌<◌, ◌^◌, true, List, [], ◌∷◌, map, Option, None, Some, codes}
+use Rattle.std.specs.Prelude.{◌≡◌, ◌≢◌, ◌⊎◌, ⊤, ℕ, ◌≤◌, true, List, [], ◌∷◌, map, Option, None, Some, codes, pos}
+use Rattle.std.specs.List.{fold}
 use Rattle.std.specs.Str.Parse.{IsNumeral, digits_value, without_leading_plus}
 use Rattle.clap.specs.Words.{App, IsAmong, Rule, Text, fault_of, matches_of, new_app, new_rule, one_of, with_rule}
 use Rattle.clap.specs.declared.builder.action.ArgAction.TheVariants.{Set}
+use Rattle.clap.specs.declared.builder.value_parser.ValueParser.{ValueParser}
 use Rattle.clap.specs.declared.builder.value_parser.ValueParser.TheVariants.{Names, Unsigned}
 use Rattle.clap.specs.declared.error.kind.ErrorKind.{ErrorKind}
 use Rattle.clap.specs.declared.error.kind.ErrorKind.TheVariants.{DisplayHelp}
+use Rattle.pg_global.specs.declared.combiner.AnyCombiner.{AnyCombiner}
+use Rattle.pg_global.specs.declared.combiner.AnyCombiner.TheVariants.{NoCombiner, Min, Max as MaxCombiner, Sum}
 use Rattle.pg_graph.specs.declared.missing.Missing.{Missing}
 use Rattle.pg_graph.specs.declared.missing.Missing.TheVariants.{Drop, Create}
+use Rattle.pg_ready.specs.declared.ready.ReadyJob.{ReadyJob}
+use Rattle.pg_ready.specs.declared.ready.ReadyProgram.{ReadyProgram}
+use Rattle.pg_ready.specs.declared.ready.ReadyProgram.TheVariants as ready
+use Rattle.pregeld.specs.declared.names.ProgramName.{ProgramName}
+use Rattle.pregeld.specs.declared.names.ProgramName.TheVariants.{Sssp, Cc, MaxValue, Indegree, Pagerank, Peel}
 use Rattle.pregeld.specs.declared.options.NoOptions.{NoOptions}
 use Rattle.pregeld.specs.declared.options.NoOptions.TheVariants.{Help, Memory, Arguments}
+use Rattle.pregeld.specs.declared.options.Options.{Options}
 use denote.Ref.{Bor}
+
+-- ---- the words for programs, combiners and policies
+
+abbrev pub program_word : ProgramName → Text
+program_word Sssp = codes "sssp"
+program_word Cc = codes "cc"
+program_word MaxValue = codes "max"
+program_word Indegree = codes "indegree"
+program_word Pagerank = codes "pagerank"
+program_word Peel = codes "peel"
+
+abbrev pub program_words : List Text
+program_words = map program_word (Sssp ∷ Cc ∷ MaxValue ∷ Indegree ∷ Pagerank ∷ Peel ∷ [])
+
+abbrev pub combiner_word : AnyCombiner → Text
+combiner_word NoCombiner = codes "none"
+combiner_word Min = codes "min"
+combiner_word MaxCombiner = codes "max"
+combiner_word Sum = codes "sum"
+
+abbrev pub combiner_words : List Text
+combiner_words = map combiner_word (NoCombiner ∷ Min ∷ MaxCombiner ∷ Sum ∷ [])
+
+-- what becomes of messages to nobody
+abbrev pub missing_word : Missing → Text
+missing_word Drop = codes "drop"
+missing_word Create = codes "create"
+
+abbrev pub missing_words : List Text
+missing_words = map missing_word (Drop ∷ Create ∷ [])
 
 -- ---- the options that the program takes
 
--- the names that `--program` may have
-abbrev pub ProgramNames : Type 0
-ProgramNames = Bor (List (Bor (List ℕ)))
+-- the words that an option may have
+abbrev pub WordList : Type 0
+WordList = Bor (List (Bor (List ℕ)))
 
-abbrev pub AreNames : ProgramNames → Type 0
-AreNames names = map (λ name. name.now) names.now ≡ codes "sssp" ∷ []
+abbrev pub AreWords : WordList → List Text → Type 0
+AreWords words texts = map (λ word. word.now) words.now ≡ texts
 
-abbrev pub program_rule : ProgramNames → Rule
-program_rule names = record (new_rule (codes "program")) { long = Some (codes "program"); action = Some Set; parser = Some (Names names); required = true }
+-- the words that the options may have
+pub record OptionWords : Type 0 where
+  pub programs : WordList
+  pub combiners : WordList
+  pub policies : WordList
 
-abbrev pub source_rule : Rule
-source_rule = record (new_rule (codes "source")) { long = Some (codes "source"); action = Some Set; parser = Some (Unsigned 0 9223372036854775807); defaults = codes "1" ∷ [] }
+pub record AreOptionWords (words : OptionWords) : Type 0 where
+  pub programs : AreWords words.programs program_words
+  pub combiners : AreWords words.combiners combiner_words
+  pub policies : AreWords words.policies missing_words
 
-abbrev pub limit_rule : Rule
-limit_rule = record (new_rule (codes "limit")) { long = Some (codes "limit"); action = Some Set; parser = Some (Unsigned 1 10000); defaults = codes "1000" ∷ [] }
+-- an option with one value
+abbrev pub value_rule : Text → ValueParser → Rule
+value_rule name parser = record (new_rule name) { long = Some name; action = Some Set; parser = Some parser }
 
--- the names of the policies for messages to nobody
-abbrev pub missing_name : Missing → Text
-missing_name Drop = codes "drop"
-missing_name Create = codes "create"
+-- an option with a number in a range, and its default
+abbrev pub number_rule : Text → ℕ → ℕ → Text → Rule
+number_rule name least greatest default = record (value_rule name (Unsigned least greatest)) { defaults = default ∷ [] }
 
-abbrev pub AreMissingNames : ProgramNames → Type 0
-AreMissingNames names = map (λ name. name.now) names.now ≡ missing_name Drop ∷ missing_name Create ∷ []
+-- an option with one of some words, and its default
+abbrev pub word_rule : Text → WordList → Text → Rule
+word_rule name words default = record (value_rule name (Names words)) { defaults = default ∷ [] }
 
-abbrev pub missing_rule : ProgramNames → Rule
-missing_rule names = record (new_rule (codes "missing")) { long = Some (codes "missing"); action = Some Set; parser = Some (Names names); defaults = missing_name Drop ∷ [] }
+-- the option that has to be there
+abbrev pub program_rule : WordList → Rule
+program_rule words = record (value_rule (codes "program") (Names words)) { required = true }
 
-unfoldable pub program : ProgramNames → ProgramNames → App
-program names missing_names =
-    with_rule (with_rule (with_rule (with_rule (new_app (codes "pregeld")) (program_rule names)) source_rule) limit_rule) (missing_rule missing_names)
+-- no number of the options is greater
+abbrev pub source_limit : ℕ
+source_limit = 9223372036854775807
+
+abbrev pub k_limit : ℕ
+k_limit = 1000000
+
+abbrev pub rounds_limit : ℕ
+rounds_limit = 10000
+
+abbrev pub eps_limit : ℕ
+eps_limit = 1000000000000
+
+abbrev pub superstep_limit : ℕ
+superstep_limit = 10000
+
+abbrev pub rules : OptionWords → List Rule
+rules words =
+    program_rule words.programs
+    ∷ number_rule (codes "source") 0 source_limit (codes "1")
+    ∷ number_rule (codes "k") 0 k_limit (codes "2")
+    ∷ number_rule (codes "rounds") 0 rounds_limit (codes "30")
+    ∷ number_rule (codes "eps") 0 eps_limit (codes "0")
+    ∷ word_rule (codes "combiner") words.combiners (combiner_word NoCombiner)
+    ∷ number_rule (codes "limit") 1 superstep_limit (codes "1000")
+    ∷ word_rule (codes "missing") words.policies (missing_word Drop)
+    ∷ []
+
+unfoldable pub program : OptionWords → App
+program words = fold with_rule (new_app (codes "pregeld")) (rules words)
 
 -- ---- what words ask for
 
--- a text, where there is one, writes a number of so many bits
-abbrev pub Writes : Option Text → ℕ → ℕ → Type 0
-Writes None bits number = ⊥
-Writes (Some text) bits number =
-    (IsNumeral 10 (without_leading_plus text) × (digits_value 10 (without_leading_plus text) < 2 ^ bits)) × (number ≡ digits_value 10 (without_leading_plus text))
+-- a text, where there is one, writes a number
+abbrev pub Writes : Option Text → ℕ → Type 0
+Writes None number = ⊥
+Writes (Some text) number = IsNumeral 10 (without_leading_plus text) × (number ≡ digits_value 10 (without_leading_plus text))
 
--- the texts of the options write a source and a limit, and name a policy
-pub record Name (source_text limit_text missing_text : Option Text) (source limit : ℕ) (missing : Missing) : Type 0 where
-  pub source_is : Writes source_text 64 source
-  pub source_fits : source < 2 ^ 63
-  pub limit_is : Writes limit_text 32 limit
-  pub limit_fits : 0 < limit
-  pub missing_is : missing_text ≡ Some (missing_name missing)
+-- a text writes a number in a range
+pub record WritesIn (text : Option Text) (least greatest number : ℕ) : Type 0 where
+  pub writes : Writes text number
+  pub from : least ≤ number
+  pub to : number ≤ greatest
 
-module _ (names missing_names : ProgramNames) (words : List Text) where
-  -- the words name this source, this limit and this policy
-  abbrev pub NameAll : ℕ → ℕ → Missing → Type 0
-  NameAll source limit missing =
-      Name (one_of (codes "source") (matches_of (program names missing_names) words)) (one_of (codes "limit") (matches_of (program names missing_names) words)) (one_of (codes "missing") (matches_of (program names missing_names) words)) source limit missing
+-- the texts of the options say these
+pub record Say (text_of : Text → Option Text) (options : Options) : Type 0 where
+  pub program_is : text_of (codes "program") ≡ Some (program_word options.program)
+  pub source_is : WritesIn (text_of (codes "source")) 0 source_limit options.source
+  pub k_is : WritesIn (text_of (codes "k")) 0 k_limit options.k
+  pub rounds_is : WritesIn (text_of (codes "rounds")) 0 rounds_limit options.rounds
+  pub eps : ℕ
+  pub eps_is : WritesIn (text_of (codes "eps")) 0 eps_limit eps
+  pub eps_in : options.eps ≡ pos eps
+  pub combiner_is : text_of (codes "combiner") ≡ Some (combiner_word options.combiner)
+  pub limit_is : WritesIn (text_of (codes "limit")) 1 superstep_limit options.limit
+  pub missing_is : text_of (codes "missing") ≡ Some (missing_word options.missing)
 
-  -- the words have no fault, and name these
-  pub record AskFor (source limit : ℕ) (missing : Missing) : Type 0 where
-    pub no_fault : fault_of (program names missing_names) words ≡ []
-    pub named : NameAll source limit missing
+module _ (option_words : OptionWords) (words : List Text) where
+  -- the text that words give an option
+  abbrev pub given : Text → Option Text
+  given name = one_of name (matches_of (program option_words) words)
+
+  -- the words have no fault, and say these options
+  pub record AskFor (options : Options) : Type 0 where
+    pub no_fault : fault_of (program option_words) words ≡ []
+    pub said : Say given options
 
   -- the words have a fault, other than that they ask for help
   pub record HaveFault : Type 0 where
     pub kind : ErrorKind
-    pub found : IsAmong kind (fault_of (program names missing_names) words)
+    pub found : IsAmong kind (fault_of (program option_words) words)
     pub no_help : kind ≢ DisplayHelp
 
-  -- the words have no fault, but name no source, no limit or no policy
-  pub record NameNothing : Type 0 where
-    pub no_fault : fault_of (program names missing_names) words ≡ []
-    pub unnamed : (source limit : ℕ) (missing : Missing) → NameAll source limit missing → ⊥
+  -- the words have no fault, but say no options
+  pub record SayNothing : Type 0 where
+    pub no_fault : fault_of (program option_words) words ≡ []
+    pub unsaid : (options : Options) → Say given options → ⊥
 
--- the names that the options may have
-pub record AreOptionNames (names missing_names : ProgramNames) : Type 0 where
-  pub programs : AreNames names
-  pub policies : AreMissingNames missing_names
-
--- the words ask for runs from this source with this limit of supersteps and this policy
-pub record AsksForRuns (words : List Text) (source limit : ℕ) (missing : Missing) : Type 0 where
-  pub names : ProgramNames
-  pub missing_names : ProgramNames
-  pub are_names : AreOptionNames names missing_names
-  pub asked : AskFor names missing_names words source limit missing
+-- the words ask for runs with these options
+pub record AsksForRuns (words : List Text) (options : Options) : Type 0 where
+  pub option_words : OptionWords
+  pub are_words : AreOptionWords option_words
+  pub asked : AskFor option_words words options
 
 -- the words ask for help
 pub record AsksForHelp (words : List Text) : Type 0 where
-  pub names : ProgramNames
-  pub missing_names : ProgramNames
-  pub are_names : AreOptionNames names missing_names
-  pub asked : IsAmong DisplayHelp (fault_of (program names missing_names) words)
+  pub option_words : OptionWords
+  pub are_words : AreOptionWords option_words
+  pub asked : IsAmong DisplayHelp (fault_of (program option_words) words)
 
 -- the words are at fault
 pub record AreAtFault (words : List Text) : Type 0 where
-  pub names : ProgramNames
-  pub missing_names : ProgramNames
-  pub are_names : AreOptionNames names missing_names
-  pub faulty : HaveFault names missing_names words ⊎ NameNothing names missing_names words
+  pub option_words : OptionWords
+  pub are_words : AreOptionWords option_words
+  pub faulty : HaveFault option_words words ⊎ SayNothing option_words words
 
 -- why there are no options
 abbrev pub Explains : List Text → NoOptions → Type 0
 Explains words (Help error) = AsksForHelp words
 Explains words Memory = ⊤
 Explains words Arguments = AreAtFault words
+
+-- ---- the job that is asked for
+
+-- the program of this name, with its options
+abbrev pub program_in : ProgramName → Options → ReadyProgram
+program_in Sssp options = ready.Sssp (record { source = options.source })
+program_in Cc options = ready.Cc (record {})
+program_in MaxValue options = ready.MaxValue (record {})
+program_in Indegree options = ready.Indegree (record {})
+program_in Pagerank options = ready.Pagerank (record { rounds = options.rounds; eps = options.eps })
+program_in Peel options = ready.Peel (record { k = options.k })
+
+abbrev pub job_in : Options → ReadyJob
+job_in options = record {
+  program = program_in options.program options;
+  combiner = options.combiner;
+  missing = options.missing;
+  limit = options.limit;
+}

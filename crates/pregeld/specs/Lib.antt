@@ -2,7 +2,6 @@ pub mod Arguments
 pub mod Command
 pub mod Program
 pub mod Reading
-pub mod Ready
 pub mod Reply
 pub mod Service
 pub mod Session

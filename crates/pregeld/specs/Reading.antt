@@ -10,7 +10,7 @@ use Rattle.pg_import.specs.declared.line.ImportFault.{ImportFault}
 use Rattle.pg_import.specs.declared.line.Line.{Line}
 use Rattle.pg_scratch.specs.declared.runner.RunFault.TheVariants.{Memory}
 use Rattle.pregeld.specs.Command.{command_of}
-use Rattle.pregeld.specs.Ready.{ready_job}
+use Rattle.pg_ready.specs.Ready.{ready_job}
 use Rattle.pregeld.specs.Service.{ServiceState, publication_of, report_of}
 use Rattle.pregeld.specs.Session.{Answer, Answers, Place, State, after, answered, imported}
 use Rattle.pregeld.specs.declared.block.Block.{Block}

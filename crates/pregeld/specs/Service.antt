@@ -12,7 +12,7 @@ use Rattle.pg_model.specs.Publications.{Publication}
 use Rattle.pg_model.specs.Run.{answer}
 use Rattle.pg_model.specs.Superstep.{capped}
 use Rattle.pregeld.specs.declared.answers.Report.{Report}
-use Rattle.pregeld.specs.declared.ready.ReadyJob.{ReadyJob}
+use Rattle.pg_ready.specs.declared.ready.ReadyJob.{ReadyJob}
 
 pub record ServiceState : Type 0 where
   pub job : ReadyJob

@@ -16,7 +16,7 @@ use Rattle.pg_model.specs.Publications.{Publication, Publications}
 use Rattle.pg_scratch.specs.declared.runner.RunFault.TheVariants.{Memory}
 use Rattle.pg_import.specs.Text.{raw_lines}
 use Rattle.pregeld.specs.Command.{command_of}
-use Rattle.pregeld.specs.Ready.{ready_job}
+use Rattle.pg_ready.specs.Ready.{ready_job}
 use Rattle.pregeld.specs.Reply.{line_of_reply, values_text}
 use Rattle.pregeld.specs.Service.{ServiceState, next_graph, publication_of, report_of}
 use Rattle.pregeld.specs.declared.command.Command.{Command}

@@ -1,21 +1,28 @@
-//! The words of the command line.
-ghost use Rattle.std.specs.Prelude.{◌≡◌, ◌<◌, ℕ, false, codes, map, IfOk, IfErr, IfSome, IfNone, Some};
-ghost use Rattle.clap.specs.Words.{Rule, app_of, found_of, one_text, rule_of};
-ghost use Rattle.pg_graph.specs.declared.missing.Missing.{Missing};
-ghost use Rattle.pregeld.specs.Arguments.{AreMissingNames, AreNames, AreOptionNames, AsksForRuns, Explains, Name, ProgramNames, limit_rule, missing_name, missing_rule, program, program_rule, source_rule};
+//! What the words of the command line ask for.
+ghost use Rattle.std.specs.Prelude.{◌≡◌, ◌<◌, ◌≤◌, ℕ, codes, map, IfOk, IfErr, IfSome, IfNone};
+ghost use Rattle.clap.specs.Words.{found_of, one_text};
+ghost use Rattle.pregeld.specs.Arguments.{AsksForRuns, Explains, Say, WritesIn, job_in, program_in};
+ghost use Rattle.pregeld.specs.declared.options.Options.{Options};
 
-use clap::builder::ValueParser;
+use crate::arguments::{EPS_LIMIT, K_LIMIT, ROUNDS_LIMIT, SOURCE_LIMIT, SUPERSTEP_LIMIT, command};
+use crate::names::{Combining, Policy, ProgramName};
 use clap::error::ErrorKind;
-use clap::{Arg, ArgAction, ArgMatches, Command, Error};
+use clap::{ArgMatches, Error};
+use pg_global::AnyCombiner;
 use pg_graph::{Missing, VertexId};
-use std::alloc::{AllocError, Global};
+use pg_ready::{Cc, Indegree, MaxValue, Pagerank, Peel, ReadyJob, ReadyProgram, Sssp};
+use std::alloc::Global;
 use std::convert::AsStr;
-use std::str::FromStr;
 
 /// What the program is asked to run.
 #[derive(Clone, Copy, Debug, PartialEq, Eq)]
 pub(crate) struct Options {
+    pub program: ProgramName,
     pub source: VertexId,
+    pub k: u32,
+    pub rounds: u32,
+    pub eps: i64,
+    pub combiner: AnyCombiner,
     pub limit: u32,
     pub missing: Missing,
 }
@@ -34,7 +41,7 @@ pub(crate) enum NoOptions {
 /// The options that the words name, the program's name first.
 pub(crate) fn options_of<'a, S: AsStr>(alloc: Global, words: &'a [S]) -> Result<Options, NoOptions>
     ensures some { IfOk result (λ options. 0 < options.limit) }
-    ensures ok { IfOk result (λ options. AsksForRuns (map S.text words.entry.now) options.source options.limit options.missing) }
+    ensures ok { IfOk result (AsksForRuns (map S.text words.entry.now)) }
     ensures err { IfErr result (Explains (map S.text words.entry.now)) }
 {
     let Ok(command) = command(alloc) else {
@@ -55,141 +62,69 @@ pub(crate) fn options_of<'a, S: AsStr>(alloc: Global, words: &'a [S]) -> Result<
 
 /// The options, from what was parsed.
 fn read_from(matches: &ArgMatches<'_>) -> Option<Options>
-    ensures some { IfSome result (λ options. Name (one_text (found_of matches.now) (codes "source")) (one_text (found_of matches.now) (codes "limit")) (one_text (found_of matches.now) (codes "missing")) options.source options.limit options.missing) }
-    ensures none { IfNone result ((source limit : ℕ) (missing : Missing) → Name (one_text (found_of matches.now) (codes "source")) (one_text (found_of matches.now) (codes "limit")) (one_text (found_of matches.now) (codes "missing")) source limit missing → ⊥) }
+    ensures some { IfSome result (λ options. Say (one_text (found_of matches.now)) options) }
+    ensures none { IfNone result ((options : Options) → Say (one_text (found_of matches.now)) options → ⊥) }
 {
-    let Some(source) = matches.get_one::<u64>("source") else {
-        return None;
-    };
-    let Some(limit) = matches.get_one::<u32>("limit") else {
-        return None;
-    };
-    let Some(source) = VertexId::new(source) else {
-        return None;
-    };
-    if limit == 0 {
-        return None;
-    }
-    let Some(missing) = missing_of(matches) else {
-        return None;
-    };
+    let program = matches.get_one::<ProgramName>("program")?;
+    let source = number_in(matches, "source", 0, SOURCE_LIMIT)?;
+    let k = number_in(matches, "k", 0, K_LIMIT)?;
+    let rounds = number_in(matches, "rounds", 0, ROUNDS_LIMIT)?;
+    let eps = number_in(matches, "eps", 0, EPS_LIMIT)?;
+    let Combining { combiner } = matches.get_one::<Combining>("combiner")?;
+    let limit = number_in(matches, "limit", 1, SUPERSTEP_LIMIT)?;
+    let Policy { missing } = matches.get_one::<Policy>("missing")?;
     Some(Options {
-        source,
-        limit,
+        program,
+        source: VertexId::new(source)?,
+        k: k as u32,
+        rounds: rounds as u32,
+        eps: eps as i64,
+        combiner,
+        limit: limit as u32,
         missing,
     })
 }
 
-/// The policy that is named, if there is one.
-fn missing_of(matches: &ArgMatches<'_>) -> Option<Missing>
-    ensures some { IfSome result (λ missing. one_text (found_of matches.now) (codes "missing") ≡ Some (missing_name missing)) }
-    ensures none { IfNone result ((missing : Missing) → one_text (found_of matches.now) (codes "missing") ≡ Some (missing_name missing) → ⊥) }
+/// The number that an option has, where it is in a range.
+fn number_in(matches: &ArgMatches<'_>, name: &str, least: u64, greatest: u64) -> Option<u64>
+    ensures range { IfSome result (λ number. (least ≤ number) × (number ≤ greatest)) }
+    ensures some { IfSome result (WritesIn (one_text (found_of matches.now) name.now) least greatest) }
+    ensures none { IfNone result ((number : ℕ) → WritesIn (one_text (found_of matches.now) name.now) least greatest number → ⊥) }
 {
-    match matches.get_one::<Policy>("missing") {
-        Some(policy) => Some(policy.missing),
-        None => None,
+    let number = matches.get_one::<u64>(name)?;
+    if number < least || number > greatest {
+        return None;
+    }
+    Some(number)
+}
+
+/// The job that the options ask for.
+pub(crate) fn job_of(options: &Options) -> ReadyJob
+    ensures { result ≡ job_in options.now }
+{
+    ReadyJob {
+        program: program_of(options),
+        combiner: options.combiner,
+        missing: options.missing,
+        limit: options.limit,
     }
 }
 
-/// A policy for messages to nobody, as its name says.
-#[derive(Clone, Copy, Debug, PartialEq, Eq)]
-struct Policy {
-    missing: Missing,
-}
-
-/// A text that names no policy.
-#[derive(Clone, Copy, Debug, PartialEq, Eq)]
-struct NoPolicy;
-
-impl FromStr for Policy {
-    ghost use Rattle.std.specs.Prelude.{MatchResult, ◌≡◌};
-    ghost use Rattle.pg_graph.specs.declared.missing.Missing.{Missing};
-    ghost use Rattle.pregeld.specs.Arguments.{missing_name};
-
-    type Err = NoPolicy;
-
-    ghost from_str_gives = { λ text result. MatchResult result (λ policy. text ≡ missing_name policy.missing) (λ _. (missing : Missing) → text ≡ missing_name missing → ⊥) };
-
-    fn from_str(text: &str) -> Result<Policy, NoPolicy> {
-        if text == "drop" {
-            return Ok(Policy {
-                missing: Missing::Drop,
-            });
-        }
-        if text == "create" {
-            return Ok(Policy {
-                missing: Missing::Create,
-            });
-        }
-        Err(NoPolicy)
+/// The program that the options name.
+fn program_of(options: &Options) -> ReadyProgram
+    ensures { result ≡ program_in options.now.program options.now }
+{
+    match options.program {
+        ProgramName::Sssp => ReadyProgram::Sssp(Sssp {
+            source: options.source,
+        }),
+        ProgramName::Cc => ReadyProgram::Cc(Cc),
+        ProgramName::MaxValue => ReadyProgram::MaxValue(MaxValue),
+        ProgramName::Indegree => ReadyProgram::Indegree(Indegree),
+        ProgramName::Pagerank => ReadyProgram::Pagerank(Pagerank {
+            rounds: options.rounds,
+            eps: options.eps,
+        }),
+        ProgramName::Peel => ReadyProgram::Peel(Peel { k: options.k }),
     }
-}
-
-/// What the command line takes.
-fn command<'a>(alloc: Global) -> Result<Command<'a>, AllocError>
-    ensures { IfOk result (λ c. (names : ProgramNames) × (missing_names : ProgramNames) × AreOptionNames names missing_names × (app_of c ≡ program names missing_names)) }
-{
-    Command::new(alloc, "pregeld")
-        .arg(program_option(alloc))?
-        .arg(source_option(alloc))?
-        .arg(limit_option(alloc))?
-        .arg(missing_option(alloc))
-}
-
-/// The names of the vertex programs.
-static PROGRAMS: [&str; 1] = ["sssp"];
-
-/// The option that names the vertex program.
-fn program_option<'a>(alloc: Global) -> Arg<'a>
-    ensures rule { (names : ProgramNames) × AreNames names × (rule_of result ≡ program_rule names) }
-    ensures local { result.global ≡ false }
-{
-    Arg::new(alloc, "program")
-        .long("program")
-        .required(true)
-        .action(ArgAction::Set)
-        .value_parser(ValueParser::Names(PROGRAMS.as_slice()))
-        .help("The vertex program: sssp")
-}
-
-/// The option that names the source.
-fn source_option<'a>(alloc: Global) -> Arg<'a>
-    ensures rule { rule_of result ≡ source_rule }
-    ensures local { result.global ≡ false }
-{
-    Arg::new(alloc, "source")
-        .long("source")
-        .action(ArgAction::Set)
-        .value_parser(ValueParser::unsigned(0, 9_223_372_036_854_775_807))
-        .default_value("1")
-        .help("The vertex that distances are measured from")
-}
-
-/// The option that names the limit.
-fn limit_option<'a>(alloc: Global) -> Arg<'a>
-    ensures rule { rule_of result ≡ limit_rule }
-    ensures local { result.global ≡ false }
-{
-    Arg::new(alloc, "limit")
-        .long("limit")
-        .action(ArgAction::Set)
-        .value_parser(ValueParser::unsigned(1, 10_000))
-        .default_value("1000")
-        .help("The most supersteps of a run")
-}
-
-/// The names of the policies.
-static POLICIES: [&str; 2] = ["drop", "create"];
-
-/// The option that names the policy for messages to nobody.
-fn missing_option<'a>(alloc: Global) -> Arg<'a>
-    ensures rule { (names : ProgramNames) × AreMissingNames names × (rule_of result ≡ missing_rule names) }
-    ensures local { result.global ≡ false }
-{
-    Arg::new(alloc, "missing")
-        .long("missing")
-        .action(ArgAction::Set)
-        .value_parser(ValueParser::Names(POLICIES.as_slice()))
-        .default_value("drop")
-        .help("What becomes of messages to ids that have no state: drop, create")
 }

@@ -2,11 +2,9 @@
 ghost use Rattle.std.specs.Prelude.{◌≡◌, ◌≤◌, map};
 ghost use Rattle.pregeld.specs.Arguments.{AreAtFault};
 ghost use Rattle.pregeld.specs.Program.{EndsWell};
-ghost use Rattle.pregeld.specs.Ready.{shortest_paths};
 
-use crate::options::{NoOptions, Options, options_of};
-use crate::{ReadyJob, ReadyProgram, ServeFault, Service, Sssp, serve};
-use pg_global::AnyCombiner;
+use crate::options::{NoOptions, job_of, options_of};
+use crate::{ServeFault, Service, serve};
 use std::alloc::Global;
 use std::convert::AsStr;
 use std::io::{BufRead, Write};
@@ -37,26 +35,12 @@ pub fn start<S: AsStr, R: BufRead, W: Write, E: Write>(
         Err(NoOptions::Memory) => return fail(errors, "memory", 1),
         Err(NoOptions::Arguments) => return fail(errors, "arguments", 2),
     };
-    let mut service = Service::new(alloc, job_of(options));
+    let mut service = Service::new(alloc, job_of(&options));
     match serve(alloc, reader, writer, &mut service) {
         Ok(()) => 0,
         Err(ServeFault::Memory) => fail(errors, "memory", 1),
         Err(ServeFault::Read) => fail(errors, "input", 1),
         Err(ServeFault::Write) => fail(errors, "output", 1),
-    }
-}
-
-/// The job that the options ask for.
-fn job_of(options: Options) -> ReadyJob
-    ensures { result ≡ shortest_paths options.source options.missing options.limit }
-{
-    ReadyJob {
-        program: ReadyProgram::Sssp(Sssp {
-            source: options.source,
-        }),
-        combiner: AnyCombiner::NoCombiner,
-        missing: options.missing,
-        limit: options.limit,
     }
 }
 

@@ -3,13 +3,14 @@ ghost use Rattle.std.specs.Prelude.{◌≡◌, ◌+◌, ◌<◌, None, Some, len
 ghost use Rattle.std.specs.Option.{option_copied};
 ghost use Rattle.pg_graph.specs.Rows.{HasRisingIds};
 ghost use Rattle.pg_model.specs.Run.{answer};
-ghost use Rattle.pregeld.specs.Ready.{ready_job};
+ghost use Rattle.pg_ready.specs.Ready.{ready_job};
 ghost use Rattle.pregeld.specs.Service.{RefusesEdition, fresh, next_graph, publication_of, report_of};
 
-use crate::{Answers, ReadyJob, ReadyMaster, Report};
+use crate::{Answers, Report};
 use pg_graph::{Batch, EditFault, EditKind, Edition, Graph};
 use pg_model::Run;
 use pg_program::Meter;
+use pg_ready::{ReadyJob, ReadyMaster};
 use pg_scratch::{RunFault, run};
 use std::alloc::Global;
 use std::marker::Model;

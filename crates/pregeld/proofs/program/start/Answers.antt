@@ -4,4 +4,6 @@ use Rattle.pregeld.proofs.program.start.Goals as goal
 
 pub returns-in-Ok-serve-clause-done : goal.returns-in-Ok-serve-clause-done
 returns-in-Ok-serve-clause-done g c =
-    λ _. ends_well (map g.S.AsStr.text c.args.words.now) (g.R.Read.remaining c.args.reader.now) (g.W.Write.contents c.args.writer.now) (g.W.Write.contents c.serve.new.writer) c.in-Ok.options.source c.in-Ok.options.limit c.in-Ok.options.missing c.job_of.result c.new-service.result c.serve.new.service c.in-Ok.ensures.ok c.job_of.ensures c.new-service.ensures c.in-Ok-serve.ensures.ok
+    λ _. ends_well (map g.S.AsStr.text c.args.words.now) (g.R.Read.remaining c.args.reader.now)
+    (g.W.Write.contents c.args.writer.now) (g.W.Write.contents c.serve.new.writer)
+    c.in-Ok.options c.job_of.result c.new-service.result c.serve.new.service c.in-Ok.ensures.ok c.job_of.ensures c.new-service.ensures c.in-Ok-serve.ensures.ok

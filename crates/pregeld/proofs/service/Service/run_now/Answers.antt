@@ -4,9 +4,9 @@ use Rattle.pg_graph.specs.Rows.{HasRisingIds}
 use Rattle.pg_model.specs.Run.{executions}
 use Rattle.pg_model.specs.Superstep.{capped}
 use Rattle.pg_model.proofs.LawsNeeded.{needed_count-none}
-use Rattle.pregeld.specs.Ready.{ready_job}
+use Rattle.pg_ready.specs.Ready.{ready_job}
 use Rattle.pregeld.specs.Service.{ServiceState}
-use Rattle.pregeld.proofs.Lawful.{only_memory}
+use Rattle.pregeld.proofs.OnlyMemory.{only_memory}
 use Rattle.pregeld.proofs.service.Service.run_now.Goals as goal
 
 pub returns-in-Ok-clause-calls : goal.returns-in-Ok-clause-calls
