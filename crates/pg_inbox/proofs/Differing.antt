@@ -11,8 +11,8 @@ use Rattle.std.proofs.lemmas.List.{append-nil}
 use Rattle.std.proofs.lemmas.Bool.Decides.{nat_tests}
 use Rattle.pg_map.specs.Entries.{value_at}
 use Rattle.pg_model.specs.Superstep.{has_id, is_empty}
-use Rattle.pg_inbox.specs.Bundles.{Entry, Parcels, each_entry, entries_of}
-use Rattle.pg_inbox.specs.Changed.{AreChanged, AreSameAt, AreTargetsOf, DifferAt, IsAdded}
+use Rattle.pg_inbox.specs.Bundles.{Entry, Parcels, each_entry, entries_in, entries_of}
+use Rattle.pg_inbox.specs.Changed.{AreCandidates, AreChanged, AreSameAt, DifferAt, IsAdded}
 use Rattle.pg_inbox.specs.declared.parcel.Contents.{Contents}
 use Rattle.pg_inbox.proofs.Bundling.{at_id}
 use Rattle.pg_inbox.proofs.Grouping.{same_id}
@@ -101,7 +101,7 @@ module _ {M : Type 0} (old new : Parcels M) where
   rises-more found found' rest id rise (inr differ) =
       subst (IsStrictlySortedBy nat_cmp) (sym (ap (λ l. l ++ rest) differ.1 ∙ append_assoc found (id ∷ []) rest)) rise
 
-  pub changed_all : (ids found : List ℕ) → AreTargetsOf old new ids → IsStrictlySortedBy nat_cmp (found ++ []) → AreTold found ids
+  pub changed_all : (ids found : List ℕ) → AreCandidates old new ids → IsStrictlySortedBy nat_cmp (found ++ []) → AreTold found ids
       → AreChanged old new found
   changed_all ids found targets rise told = record {
     rise = subst (IsStrictlySortedBy nat_cmp) (append-nil found) rise;
@@ -110,8 +110,7 @@ module _ {M : Type 0} (old new : Parcels M) where
     where
       by : (id : ℕ) → DifferAt old new id → (b : Bool) → has_id ids id ≡ b → has_id ids id ≡ true
       by id d true e = e
-      by id d false e = absurd (d (let none = targets.covers id e in
-          ap (λ (o : Option (Contents M)). elim o [ None ↦ [] | Some contents ↦ entries_of id contents ]) none.0 ∙ sym (ap (λ (o : Option (Contents M)). elim o [ None ↦ [] | Some contents ↦ entries_of id contents ]) none.1)))
+      by id d false e = absurd (d (targets.others id e))
 
 -- ---- entries tell what they are made of
 
@@ -188,13 +187,13 @@ module _ {M : Type 0} (target : ℕ) where
 -- ---- the ids of both, in order and each once
 
 pub targets_in_order : {M : Type 0} (old new : Parcels M) (ids sorted ordered : List ℕ) → ids ≡ keys_of old ++ keys_of new
-    → IsStrictlySortedBy nat_cmp ordered → ((id : ℕ) → has_id ordered id ≡ has_id ids id) → AreTargetsOf old new ordered
+    → IsStrictlySortedBy nat_cmp ordered → ((id : ℕ) → has_id ordered id ≡ has_id ids id) → AreCandidates old new ordered
 targets_in_order old new ids sorted ordered are rise same = record {
   rise = rise;
-  covers = λ id h.
+  others = λ id h.
       let none : (has_id (keys_of old) id || has_id (keys_of new) id) ≡ false = sym (has_id-append (keys_of old) (keys_of new) id) ∙ (sym (ap (λ l. has_id l id) are) ∙ (sym (same id) ∙ h)) in
       let parts = neither (has_id (keys_of old) id) (has_id (keys_of new) id) none in
-      (none_at old id parts.0, none_at new id parts.1);
+      ap (entries_in id) (none_at old id parts.0) ∙ sym (ap (entries_in id) (none_at new id parts.1));
 }
   where
     neither : (a b : Bool) → (a || b) ≡ false → (a ≡ false) × (b ≡ false)

@@ -1,7 +1,8 @@
 pub mod AtPlaces
 pub mod Bundling
+pub mod Delivery
 pub mod Differing
 pub mod Grouping
-pub mod Inboxes
 pub mod Ordering
+pub mod Replacing
 pub mod Senders

@@ -1,10 +1,12 @@
 -- Sends by sender: the messages to one target are told by what each sender sent to it.
-use Rattle.std.proofs.Common.{◌≡◌, ℕ, suc, ◌<◌, ◌≤◌, ◌==◌, Bool, true, false, cond, ltb, List, [], ◌∷◌, length, get_or, refl, sym, ap, ap₂, ◌∙◌, subst, arith, inl, inr, IsPermutation, filter}
+use Rattle.std.proofs.Common.{◌≡◌, ℕ, suc, ◌<◌, ◌≤◌, ◌==◌, Bool, true, false, cond, List, [], ◌∷◌, length, get_or, refl, sym, ap, ap₂, ◌∙◌, subst, arith, inl, inr, IsPermutation, filter}
 use Rattle.std.specs.List.{AllByRecursion}
 use Rattle.std.specs.List.Sorted.{IsNonDecreasingBy}
 use Rattle.std.proofs.lemmas.Bool.{cases_order}
 use Rattle.std.proofs.lemmas.Bool.Decides.{nat_tests}
 use Rattle.std.proofs.lemmas.List.Sorted.{IsPermutation-cons, IsPermutation-middle, IsPermutation-refl, IsPermutation-trans}
+use Rattle.std.specs.Prelude.{nat_lt}
+use Rattle.pg_inbox.specs.Ordered.{in_order, put}
 use Rattle.pg_inbox.proofs.Grouping.{same_id}
 
 apart : (a b : ℕ) → a < b → (b == a) ≡ false
@@ -13,13 +15,13 @@ apart a b h = grind (arith, nat_tests)
 itself : (a : ℕ) → (a == a) ≡ true
 itself a = grind (arith, nat_tests)
 
-at_least : (a b : ℕ) → ltb a b ≡ true → a ≤ b
+at_least : (a b : ℕ) → nat_lt a b ≡ true → a ≤ b
 at_least a b h = grind (arith, nat_tests)
 
-no_less : (a b : ℕ) → ltb a b ≡ false → b ≤ a
+no_less : (a b : ℕ) → nat_lt a b ≡ false → b ≤ a
 no_less a b h = grind (arith, nat_tests)
 
-unlike : (a b : ℕ) → ltb a b ≡ true → (q : ℕ) → (a == q) ≡ true → (b == q) ≡ false
+unlike : (a b : ℕ) → nat_lt a b ≡ true → (q : ℕ) → (a == q) ≡ true → (b == q) ≡ false
 unlike a b h q e = grind (arith, nat_tests)
 
 -- ---- lists by a number that doesn't fall
@@ -105,18 +107,10 @@ module _ {X : Type 0} where
 
   -- ---- a list in order
 
-  put : ℕ × X → List (ℕ × X) → List (ℕ × X)
-  put x [] = x ∷ []
-  put x (y ∷ ys) = cond (ltb y.0 x.0) (y ∷ put x ys) (x ∷ y ∷ ys)
-
-  in_order : List (ℕ × X) → List (ℕ × X)
-  in_order [] = []
-  in_order (x ∷ xs) = put x (in_order xs)
-
   put-permutation : (x : ℕ × X) (ys : List (ℕ × X)) → IsPermutation (x ∷ ys) (put x ys)
   unfolding put
   put-permutation x [] = IsPermutation-refl (x ∷ [])
-  put-permutation x (y ∷ ys) = by (ltb y.0 x.0) (put-permutation x ys)
+  put-permutation x (y ∷ ys) = by (nat_lt y.0 x.0) (put-permutation x ys)
     where
       by : (b : Bool) → IsPermutation (x ∷ ys) (put x ys) → IsPermutation (x ∷ y ∷ ys) (cond b (y ∷ put x ys) (x ∷ y ∷ ys))
       by true h = IsPermutation-trans _ _ _ (IsPermutation-middle (x ∷ []) y ys) (IsPermutation-cons y (x ∷ ys) (put x ys) h)
@@ -130,7 +124,7 @@ module _ {X : Type 0} where
   all-put : (P : ℕ × X → Type 0) (x : ℕ × X) (ys : List (ℕ × X)) → P x → AllByRecursion P ys → AllByRecursion P (put x ys)
   unfolding put
   all-put P x [] p h = (p, tt)
-  all-put P x (y ∷ ys) p h = by (ltb y.0 x.0) (all-put P x ys p h.1)
+  all-put P x (y ∷ ys) p h = by (nat_lt y.0 x.0) (all-put P x ys p h.1)
     where
       by : (b : Bool) → AllByRecursion P (put x ys) → AllByRecursion P (cond b (y ∷ put x ys) (x ∷ y ∷ ys))
       by true k = (h.0, k)
@@ -143,13 +137,13 @@ module _ {X : Type 0} where
   put-up : (x : ℕ × X) (ys : List (ℕ × X)) → Up ys → Up (put x ys)
   unfolding put
   put-up x [] h = (tt, tt)
-  put-up x (y ∷ ys) h = by (ltb y.0 x.0) refl (put-up x ys h.1)
+  put-up x (y ∷ ys) h = by (nat_lt y.0 x.0) refl (put-up x ys h.1)
     where
-      by : (b : Bool) → ltb y.0 x.0 ≡ b → Up (put x ys) → Up (cond b (y ∷ put x ys) (x ∷ y ∷ ys))
+      by : (b : Bool) → nat_lt y.0 x.0 ≡ b → Up (put x ys) → Up (cond b (y ∷ put x ys) (x ∷ y ∷ ys))
       by true e k = (all-put (λ z. y.0 ≤ z.0) x ys (at_least y.0 x.0 e) h.0, k)
       by false e k = let l = no_less y.0 x.0 e in ((l, from_higher x.0 y.0 ys l h.0), h)
 
-  in_order-up : (xs : List (ℕ × X)) → Up (in_order xs)
+  pub in_order-up : (xs : List (ℕ × X)) → Up (in_order xs)
   unfolding in_order
   in_order-up [] = tt
   in_order-up (x ∷ xs) = put-up x (in_order xs) (in_order-up xs)
@@ -157,7 +151,7 @@ module _ {X : Type 0} where
   put-from : (q : ℕ) (x : ℕ × X) (ys : List (ℕ × X)) → from q (put x ys) ≡ from q (x ∷ ys)
   unfolding put
   put-from q x [] = refl
-  put-from q x (y ∷ ys) = by (ltb y.0 x.0) refl (put-from q x ys)
+  put-from q x (y ∷ ys) = by (nat_lt y.0 x.0) refl (put-from q x ys)
     where
       swap_first : (a b : Bool) → (a ≡ true → b ≡ false) → (l : List (ℕ × X))
           → cond a (y ∷ cond b (x ∷ l) l) (cond b (x ∷ l) l) ≡ cond b (x ∷ cond a (y ∷ l) l) (cond a (y ∷ l) l)
@@ -165,11 +159,11 @@ module _ {X : Type 0} where
       swap_first true false h l = refl
       swap_first false b h l = refl
 
-      by : (b : Bool) → ltb y.0 x.0 ≡ b → from q (put x ys) ≡ from q (x ∷ ys) → from q (cond b (y ∷ put x ys) (x ∷ y ∷ ys)) ≡ from q (x ∷ y ∷ ys)
+      by : (b : Bool) → nat_lt y.0 x.0 ≡ b → from q (put x ys) ≡ from q (x ∷ ys) → from q (cond b (y ∷ put x ys) (x ∷ y ∷ ys)) ≡ from q (x ∷ y ∷ ys)
       by true e h = ap (λ l. cond (y.0 == q) (y ∷ l) l) h ∙ swap_first (y.0 == q) (x.0 == q) (λ k. unlike y.0 x.0 e q k) (from q ys)
       by false e h = refl
 
-  in_order-from : (q : ℕ) (xs : List (ℕ × X)) → from q (in_order xs) ≡ from q xs
+  pub in_order-from : (q : ℕ) (xs : List (ℕ × X)) → from q (in_order xs) ≡ from q xs
   unfolding in_order
   in_order-from q [] = refl
   in_order-from q (x ∷ xs) = put-from q x (in_order xs) ∙ ap (λ l. cond (x.0 == q) (x ∷ l) l) (in_order-from q xs)

@@ -19,10 +19,10 @@ module _ {M : Type 0} (old new : Parcels M) where
     pub rise : IsStrictlySortedBy nat_cmp ids
     pub told : (id : ℕ) → (has_id ids id ≡ true) ↔ DifferAt id
 
-  -- rising ids, no others have an entry
-  pub record AreTargetsOf (ids : List ℕ) : Type 0 where
+  -- rising ids; at no other do the bundles differ
+  pub record AreCandidates (ids : List ℕ) : Type 0 where
     pub rise : IsStrictlySortedBy nat_cmp ids
-    pub covers : (id : ℕ) → has_id ids id ≡ false → (value_at id old ≡ None) × (value_at id new ≡ None)
+    pub others : (id : ℕ) → has_id ids id ≡ false → AreSameAt id
 
   -- an id is added where the bundles differ at it
   abbrev pub IsAdded : ℕ → List ℕ → List ℕ → Type 0

@@ -1,23 +1,45 @@
--- What the bundles of a superstep come to at one target.
-use Rattle.std.specs.Prelude.{◌≡◌, ℕ, List, [], map, Option, None, Some}
+-- What the bundles of a superstep come to at one target, and at all of them.
+use Rattle.std.specs.Prelude.{◌≡◌, ℕ, Bool, List, [], map, Option, None, Some, is_some}
+use Rattle.std.specs.List.{flat_map, list_any}
 use Rattle.std.specs.Option.{option_to_list}
-use Rattle.pg_map.specs.Entries.{value_at}
+use Rattle.pg_map.specs.Entries.{HasRisingIds, value_at}
 use Rattle.pg_model.specs.Job.{Combining}
-use Rattle.pg_model.specs.Superstep.{delivered}
-use Rattle.pg_inbox.specs.Bundles.{Parcels, bundle_of}
+use Rattle.pg_model.specs.Superstep.{combined, delivered}
+use Rattle.pg_inbox.specs.Bundles.{Parcels, bundle_of, messages}
+use Rattle.pg_inbox.specs.Ordered.{in_order}
 use Rattle.pg_inbox.specs.Sends.{AreAllOf, Sends, without_senders}
+use Rattle.pg_inbox.specs.declared.parcel.Contents.{Contents}
 
 module _ {M : Type 0} where
   -- the messages to a target in one bundle
   abbrev pub letters_at : ℕ → Parcels M → List (ℕ × M)
   letters_at id parcels = elim (value_at id parcels) [ None ↦ [] | Some contents ↦ contents.letters ]
 
-  -- what they come to, where they are combined
-  abbrev pub folded_at : ℕ → Parcels M → List M
-  folded_at id parcels = elim (value_at id parcels) [ None ↦ [] | Some contents ↦ option_to_list contents.folded ]
-
   -- of whatever sends these are the bundles: what the superstep delivers of all of them
   abbrev pub Delivers : Option (Combining M) → ℕ → List (Parcels M) → List M → Type 0
   Delivers combining id bundles inbox =
       (lists : List (Sends M)) (all : Sends M) → bundles ≡ map (bundle_of combining) lists → AreAllOf lists all
       → inbox ≡ delivered combining id (without_senders all)
+
+  -- what bundles have for a target, bundle by bundle
+  abbrev pub contents_to : ℕ → List (Parcels M) → List (Contents M)
+  contents_to id bundles = flat_map (λ b. option_to_list (value_at id b)) bundles
+
+  -- an inbox made of that: the messages by sender, or the one that they come to
+  abbrev pub received_of : Option (Combining M) → List (Contents M) → List M
+  received_of None contents = messages (in_order (flat_map (λ c. c.letters) contents))
+  received_of (Some c) contents = combined (Some c) (flat_map (λ c. option_to_list c.folded) contents)
+
+  -- the inbox at an id
+  abbrev pub inbox_at : ℕ → List (ℕ × List M) → List M
+  inbox_at id inboxes = elim (value_at id inboxes) [ None ↦ [] | Some inbox ↦ inbox ]
+
+  -- one of the bundles has a message to a target
+  abbrev pub is_receiver : List (Parcels M) → ℕ → Bool
+  is_receiver bundles id = list_any (λ b. is_some (value_at id b)) bundles
+
+  -- the inboxes of just the ids to which there is a message, by rising id
+  pub record AreInboxes (combining : Option (Combining M)) (bundles : List (Parcels M)) (inboxes : List (ℕ × List M)) : Type 0 where
+    pub rise : HasRisingIds inboxes
+    pub receivers : (id : ℕ) → is_some (value_at id inboxes) ≡ is_receiver bundles id
+    pub told : (id : ℕ) → Delivers combining id bundles (inbox_at id inboxes)

@@ -4,6 +4,9 @@ pub mod Grouping
 pub mod Holding
 pub mod Inboxes
 pub mod Logged
+pub mod Mending
+pub mod Ordered
+pub mod Patched
 pub mod Places
 pub mod Rows
 pub mod Sends

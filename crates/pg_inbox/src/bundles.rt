@@ -3,6 +3,7 @@ ghost use Rattle.std.specs.Prelude.{◌≡◌, [], IfOk};
 ghost use Rattle.std.specs.Option.{option_copied};
 ghost use Rattle.pg_map.specs.Entries.{value_at};
 ghost use Rattle.pg_inbox.specs.Holding.{HoldsAt};
+ghost use Rattle.pg_inbox.specs.Inboxes.{letters_at};
 
 use crate::Contents;
 use crate::parcel::Parcel;
@@ -53,6 +54,16 @@ impl<M: Plain> Bundle<M> {
         match self.parcels.get(target) {
             Some(parcel) => Some(parcel.contents()),
             None => None,
+        }
+    }
+
+    /// The messages to a target, with their senders.
+    pub(crate) fn letters(&self, target: VertexId) -> &[(VertexId, M)]
+        ensures { result.now ≡ letters_at target self.now }
+    {
+        match self.contents(target) {
+            Some(contents) => contents.letters.as_slice(),
+            None => &[],
         }
     }
 }

@@ -4,7 +4,7 @@ ghost use Rattle.std.specs.Map.{keys_of};
 ghost use Rattle.std.specs.Option.{option_copied};
 ghost use Rattle.pg_map.specs.Entries.{value_at};
 ghost use Rattle.pg_inbox.specs.Bundles.{entries_in, entries_of, parcels_in};
-ghost use Rattle.pg_inbox.specs.Changed.{AreChanged, AreTargetsOf, IsAdded};
+ghost use Rattle.pg_inbox.specs.Changed.{AreCandidates, AreChanged, IsAdded};
 ghost use Rattle.pg_inbox.specs.Holding.{Holds, HoldsAt};
 
 use crate::{Bundle, Contents};
@@ -47,14 +47,14 @@ fn differing<M: Plain>(
     differing_among(alloc, ids, old, new)
 }
 
-/// Those of the targets of two bundles at which they differ.
-fn differing_among<M: Plain>(
+/// Those of these ids at which two bundles differ.
+pub(crate) fn differing_among<M: Plain>(
     alloc: Global,
     ids: Vec<VertexId>,
     old: &Bundle<M>,
     new: &Bundle<M>,
 ) -> Result<Vec<VertexId>, Memory>
-    requires { AreTargetsOf old.now new.now ids.items }
+    requires { AreCandidates old.now new.now ids.items }
     ensures { IfOk result (λ changed. AreChanged old.now new.now changed.items) }
 {
     let mut changed = Vec::new(alloc);
@@ -70,7 +70,7 @@ fn targets_of_both<M: Plain>(
     old: &Bundle<M>,
     new: &Bundle<M>,
 ) -> Result<Vec<VertexId>, Memory>
-    ensures { IfOk result (λ ids. AreTargetsOf old.now new.now ids.items) }
+    ensures { IfOk result (λ ids. AreCandidates old.now new.now ids.items) }
 {
     let mut ids = Vec::new(alloc);
     add_targets(&mut ids, old)?;

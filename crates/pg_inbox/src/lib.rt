@@ -7,7 +7,9 @@ mod grouped;
 mod logs;
 mod making;
 mod parcel;
+mod patching;
 mod places;
+mod receivers;
 mod receiving;
 
 pub use bundles::Bundle;
@@ -15,6 +17,8 @@ pub use changing::changed_targets;
 pub use logs::{Logged, Logs};
 pub use making::bundle;
 pub use parcel::Contents;
+pub use patching::patch;
+pub use receivers::inboxes;
 pub use receiving::inbox;
 
 #[cfg(test)]

@@ -1,15 +1,18 @@
 //! Inboxes: what a vertex receives of the bundles to its partition.
 ghost use Rattle.std.specs.Prelude.{◌≡◌, ◌++◌, map, Some, IsSome, IfSome, IfOk, OnOk};
 ghost use Rattle.std.specs.List.{AllByRecursion, flat_map};
+ghost use Rattle.std.specs.Option.{option_to_list};
 ghost use Rattle.pg_map.specs.Entries.{value_at};
 ghost use Rattle.pg_model.specs.Superstep.{combined};
 ghost use Rattle.pg_inbox.specs.Bundles.{messages};
 ghost use Rattle.pg_inbox.specs.Holding.{HoldsAt};
-ghost use Rattle.pg_inbox.specs.Inboxes.{Delivers, folded_at, letters_at};
+ghost use Rattle.pg_inbox.specs.Inboxes.{Delivers, contents_to, received_of};
 
 use crate::Bundle;
+use crate::parcel::Parcel;
 use pg_global::MessageCombiner;
 use pg_graph::{Memory, VertexId};
+use pg_map::Share;
 use pg_program::Plain;
 use std::alloc::Global;
 
@@ -26,49 +29,73 @@ pub fn inbox<M: Plain, C: MessageCombiner<M>>(
 ) -> Result<Vec<M>, Memory>
     ensures { IfOk result (λ inbox. Delivers (C.combining combiner.now) id (map (λ b. b.now) bundles.now) inbox.items) }
 {
+    let parcels = parcels_at(alloc, bundles, id)?;
+    let inbox = received(alloc, parcels.as_slice(), combiner)?;
+    Ok(inbox)
+}
+
+/// What the bundles have for a vertex, bundle by bundle.
+fn parcels_at<M: Plain>(
+    alloc: Global,
+    bundles: &[&Bundle<M>],
+    id: VertexId,
+) -> Result<Vec<Parcel<M>>, Memory>
+    ensures items { IfOk result (λ parcels. parcels.items ≡ contents_to id (map (λ b. b.now) bundles.now)) }
+    ensures hold { IfOk result (λ _. AllByRecursion (λ b. HoldsAt M.is_value (value_at id b.now)) bundles.now) }
+{
+    let mut parcels = Vec::new(alloc);
+    for bundle in bundles {
+        add_parcel(&mut parcels, bundle, id)?;
+    }
+    Ok(parcels)
+}
+
+/// Adds what a bundle has for a vertex.
+fn add_parcel<M: Plain>(
+    parcels: &mut Vec<Parcel<M>>,
+    bundle: &Bundle<M>,
+    id: VertexId,
+) -> Result<(), Memory>
+    ensures items { OnOk result (parcels.new.items ≡ parcels.old.items ++ option_to_list (value_at id bundle.now)) }
+    ensures holds { HoldsAt M.is_value (value_at id bundle.now) }
+{
+    if let Some(parcel) = bundle.parcels.get(id) {
+        parcel.contents();
+        parcels.push(parcel.share()?)?;
+    }
+    Ok(())
+}
+
+/// What a vertex receives of these.
+pub(crate) fn received<M: Plain, C: MessageCombiner<M>>(
+    alloc: Global,
+    parcels: &[Parcel<M>],
+    combiner: &C,
+) -> Result<Vec<M>, Memory>
+    ensures { IfOk result (λ inbox. inbox.items ≡ received_of (C.combining combiner.now) parcels.now) }
+{
     if combiner.combines() {
-        let parts = folded_in(alloc, bundles, id)?;
+        let parts = folded_in(alloc, parcels)?;
         let inbox = combined(alloc, parts.as_slice(), combiner)?;
         return Ok(inbox);
     }
-    let mut letters = letters_in(alloc, bundles, id)?;
+    let mut letters = letters_in(alloc, parcels)?;
     letters.sort_by_key(|letter| letter.0)?;
     let inbox = messages_of(alloc, letters)?;
     Ok(inbox)
 }
 
 /// What the messages of each bundle come to.
-fn folded_in<M: Plain>(
-    alloc: Global,
-    bundles: &[&Bundle<M>],
-    id: VertexId,
-) -> Result<Vec<M>, Memory>
-    ensures items { IfOk result (λ parts. parts.items ≡ flat_map (λ b. folded_at id b.now) bundles.now) }
-    ensures hold { IfOk result (λ _. AllByRecursion (λ b. HoldsAt M.is_value (value_at id b.now)) bundles.now) }
+fn folded_in<M: Plain>(alloc: Global, parcels: &[Parcel<M>]) -> Result<Vec<M>, Memory>
+    ensures { IfOk result (λ parts. parts.items ≡ flat_map (λ c. option_to_list c.folded) parcels.now) }
 {
-    let mut parts = Vec::new(alloc);
-    for bundle in bundles {
-        add_folded(alloc, &mut parts, bundle, id)?;
-    }
-    Ok(parts)
-}
-
-/// Adds what the messages of a bundle come to.
-fn add_folded<M: Plain>(
-    alloc: Global,
-    parts: &mut Vec<M>,
-    bundle: &Bundle<M>,
-    id: VertexId,
-) -> Result<(), Memory>
-    ensures items { OnOk result (parts.new.items ≡ parts.old.items ++ folded_at id bundle.now) }
-    ensures holds { HoldsAt M.is_value (value_at id bundle.now) }
-{
-    if let Some(contents) = bundle.contents(id) {
-        if let Some(message) = &contents.folded {
+    let mut parts = Vec::with_capacity(alloc, parcels.len())?;
+    for parcel in parcels {
+        if let Some(message) = &parcel.contents().folded {
             parts.push(message.copy(alloc)?)?;
         }
     }
-    Ok(())
+    Ok(parts)
 }
 
 /// One message for all, if there are any.
@@ -94,35 +121,19 @@ fn combined<M: Plain, C: MessageCombiner<M>>(
 /// The messages of all bundles with their senders, bundle by bundle.
 fn letters_in<M: Plain>(
     alloc: Global,
-    bundles: &[&Bundle<M>],
-    id: VertexId,
+    parcels: &[Parcel<M>],
 ) -> Result<Vec<(VertexId, M)>, Memory>
-    ensures { IfOk result (λ letters. letters.items ≡ flat_map (λ b. letters_at id b.now) bundles.now) }
+    ensures { IfOk result (λ letters. letters.items ≡ flat_map (λ c. c.letters) parcels.now) }
 {
     let mut letters = Vec::new(alloc);
-    for bundle in bundles {
-        add_letters(alloc, &mut letters, bundle, id)?;
+    for parcel in parcels {
+        copy_letters(alloc, &mut letters, parcel.contents().letters.as_slice())?;
     }
     Ok(letters)
 }
 
-/// Adds the messages of a bundle.
-fn add_letters<M: Plain>(
-    alloc: Global,
-    letters: &mut Vec<(VertexId, M)>,
-    bundle: &Bundle<M>,
-    id: VertexId,
-) -> Result<(), Memory>
-    ensures { OnOk result (letters.new.items ≡ letters.old.items ++ letters_at id bundle.now) }
-{
-    match bundle.contents(id) {
-        Some(contents) => copy_letters(alloc, letters, contents.letters.as_slice()),
-        None => Ok(()),
-    }
-}
-
 /// Adds copies of messages with their senders.
-pub(crate) fn copy_letters<M: Plain>(
+fn copy_letters<M: Plain>(
     alloc: Global,
     letters: &mut Vec<(VertexId, M)>,
     more: &[(VertexId, M)],

@@ -1,13 +1,17 @@
 -- The bundles of lists of sends come to what the superstep delivers of all of them.
-use Rattle.std.proofs.Common.{◌≡◌, ℕ, ◌==◌, ◌≤◌, Bool, true, false, cond, List, [], ◌∷◌, ◌++◌, map, Option, None, Some, refl, sym, ap, ◌∙◌, subst, All, IsPermutation, filter, flat_map, fold, is_some, append_assoc, length, arith}
-use Rattle.std.specs.List.{AllByRecursion}
+use Rattle.std.proofs.Common.{◌≡◌, ℕ, ◌==◌, ◌≤◌, Bool, true, false, cond, List, [], ◌∷◌, ◌++◌, map, Option, None, Some, refl, sym, ap, ap₂, ◌∙◌, subst, ◌||◌, All, IsPermutation, filter, flat_map, fold, is_some, append_assoc, length, arith}
+use Rattle.std.specs.List.{AllByRecursion, list_any}
 use Rattle.std.specs.List.Sorted.{IsNonDecreasingBy}
 use Rattle.std.specs.Option.{option_to_list, option_map}
-use Rattle.std.proofs.lemmas.List.{map-append}
+use Rattle.std.proofs.lemmas.List.{append-nil, map-append}
 use Rattle.std.proofs.lemmas.List.Elements.{All-from_recursion, filter-append}
 use Rattle.std.proofs.lemmas.List.Sums.{fold-append}
 use Rattle.std.proofs.lemmas.List.Sorted.{IsPermutation-map, length_permutation}
-use Rattle.pg_map.specs.Entries.{value_at}
+use Rattle.std.specs.BTreeMap.{is_at}
+use Rattle.std.specs.Ordering.{nat_cmp}
+use Rattle.pg_map.specs.Entries.{HasRisingIds, value_at}
+use Rattle.pg_map.proofs.Parts.{rises_after}
+use Rattle.pg_map.proofs.Rising.{none_past}
 use Rattle.pg_model.proofs.LawsFolds.{fold-IsPermutation, fold_from}
 use Rattle.pg_model.proofs.LawsLists.{all-append}
 use Rattle.pg_model.specs.Folds.{IsCommutativeMonoid}
@@ -15,13 +19,14 @@ use Rattle.pg_model.specs.Job.{Combining}
 use Rattle.pg_model.specs.Superstep.{combined, messages_to}
 use Rattle.pg_global.specs.Combiner.{IsLawful}
 use Rattle.pg_inbox.specs.Bundles.{Parcels, bundle_of, contents_of, messages}
-use Rattle.pg_inbox.specs.Grouping.{any_of}
-use Rattle.pg_inbox.specs.Holding.{HoldsAt}
-use Rattle.pg_inbox.specs.Inboxes.{Delivers, folded_at, letters_at}
+use Rattle.pg_inbox.specs.Grouping.{AreGroups, any_of, items_to}
+use Rattle.pg_inbox.specs.Holding.{Holds, HoldsAt}
+use Rattle.pg_inbox.specs.Ordered.{in_order}
+use Rattle.pg_inbox.specs.Inboxes.{AreInboxes, Delivers, contents_to, inbox_at, letters_at, received_of}
 use Rattle.pg_inbox.specs.Sends.{AreAllOf, RiseBySender, Sends, letters_to, sent_by, without_senders}
 use Rattle.pg_inbox.specs.declared.parcel.Contents.{Contents}
-use Rattle.pg_inbox.proofs.Bundling.{value_at-bundle_of}
-use Rattle.pg_inbox.proofs.Senders.{IsUp, from, permutation_by_number, same_by_number, up-filter, up_from}
+use Rattle.pg_inbox.proofs.Bundling.{at_id, rises-values, value_at-bundle_of, value_at-values}
+use Rattle.pg_inbox.proofs.Senders.{IsUp, from, in_order-from, in_order-up, permutation_by_number, same_by_number, up-filter, up_from}
 
 module _ {X Y : Type 0} where
   flat_map-append : (f : X → List Y) (xs ys : List X) → flat_map f (xs ++ ys) ≡ flat_map f xs ++ flat_map f ys
@@ -45,6 +50,10 @@ module _ {X Y : Type 0} where
   same_flat_map : (f g : X → List Y) → ((x : X) → f x ≡ g x) → (xs : List X) → flat_map f xs ≡ flat_map g xs
   same_flat_map f g same [] = refl
   same_flat_map f g same (x ∷ xs) = ap (λ l. l ++ flat_map f xs) (same x) ∙ ap (λ l. g x ++ l) (same_flat_map f g same xs)
+
+-- what the messages to a target in one bundle come to
+abbrev pub folded_at : {M : Type 0} → ℕ → Parcels M → List M
+folded_at id parcels = elim (value_at id parcels) [ None ↦ [] | Some contents ↦ option_to_list contents.folded ]
 
 -- ---- the messages to one target
 
@@ -112,7 +121,7 @@ module _ {M : Type 0} (id : ℕ) where
   any_letters combining [] = refl
   any_letters combining (x ∷ l) = refl
 
-  letters_at-bundle_of : (combining : Option (Combining M)) (sent : Sends M) → letters_at id (bundle_of combining sent) ≡ letters_to id sent
+  pub letters_at-bundle_of : (combining : Option (Combining M)) (sent : Sends M) → letters_at id (bundle_of combining sent) ≡ letters_to id sent
   letters_at-bundle_of combining sent =
       ap (λ (o : Option (Contents M)). elim o [ None ↦ [] | Some contents ↦ contents.letters ]) (value_at-bundle_of combining id sent) ∙ any_letters combining (letters_to id sent)
 
@@ -121,19 +130,14 @@ module _ {M : Type 0} (id : ℕ) where
   letters_in_bundles combining bundles lists are =
       ap (flat_map (letters_at id)) are ∙ (flat_map-of_map (letters_at id) (bundle_of combining) lists ∙ same_flat_map (λ l. letters_at id (bundle_of combining l)) (letters_to id) (letters_at-bundle_of combining) lists)
 
-  not_combined : (combining : Option (Combining M)) → is_some combining ≡ false → (ms : List M) → combined combining ms ≡ ms
-  not_combined None h ms = refl
-  not_combined (Some c) h ms = absurd cc
-
   -- the messages of all bundles by sender, where they aren't combined
-  pub delivers_in_order : (combining : Option (Combining M)) (bundles : List (Parcels M)) (sorted : List (ℕ × M))
-      → is_some combining ≡ false → IsNonDecreasingBy (λ x. x.0) sorted
-      → ((q : ℕ) → from q sorted ≡ from q (flat_map (letters_at id) bundles)) → Delivers combining id bundles (messages sorted)
-  delivers_in_order combining bundles sorted not rise same lists all are of =
+  delivers_in_order : (bundles : List (Parcels M)) (sorted : List (ℕ × M)) → IsUp (λ x. x.0) sorted
+      → ((q : ℕ) → from q sorted ≡ from q (flat_map (letters_at id) bundles)) → Delivers None id bundles (messages sorted)
+  delivers_in_order bundles sorted up same lists all are of =
       let is : sorted ≡ letters_to id all =
-      same_by_number sorted (letters_to id all) (up_from (λ x. x.0) sorted rise) (up_letters all of.rise)
-      (λ q. same q ∙ (ap (from q) (letters_in_bundles combining bundles lists are) ∙ sym (same_letters lists all of q))) in
-      ap messages is ∙ (messages-letters all ∙ sym (not_combined combining not (messages_to id (without_senders all))))
+      same_by_number sorted (letters_to id all) up (up_letters all of.rise)
+      (λ q. same q ∙ (ap (from q) (letters_in_bundles None bundles lists are) ∙ sym (same_letters lists all of q))) in
+      ap messages is ∙ messages-letters all
 
 -- ---- where they are combined
 
@@ -238,9 +242,133 @@ module _ {M : Type 0} {is_value : M → Type 0} (c : Combining M) (law : IsCommu
         all_joined [] h = tt
         all_joined (l ∷ parts) h = all-append (λ x. is_value x.1) l (flat_map (λ l. l) parts) h.0 (all_joined parts h.1)
 
--- what the bundles' messages come to, where they are combined
-pub delivers_combined : {M : Type 0} (is_value : M → Type 0) (combining : Option (Combining M)) → is_some combining ≡ true
-    → IsLawful is_value combining → (id : ℕ) (bundles : List (Parcels M))
-    → AllByRecursion (λ b. HoldsAt is_value (value_at id b)) bundles → Delivers combining id bundles (combined combining (flat_map (folded_at id) bundles))
-delivers_combined is_value None h law id bundles hold = absurd cc
-delivers_combined is_value (Some c) h law id bundles hold = delivers_some c law id bundles hold
+-- ---- the inbox of one target
+
+module _ {M : Type 0} (id : ℕ) where
+  letters_of_all : (bundles : List (Parcels M)) → flat_map (λ c. c.letters) (contents_to id bundles) ≡ flat_map (letters_at id) bundles
+  letters_of_all [] = refl
+  letters_of_all (b ∷ bundles) =
+      flat_map-append (λ (c : Contents M). c.letters) (option_to_list (value_at id b)) (contents_to id bundles) ∙ ap₂ ◌++◌ (by (value_at id b)) (letters_of_all bundles)
+    where
+      by : (o : Option (Contents M)) → flat_map (λ c. c.letters) (option_to_list o) ≡ elim o [ None ↦ [] | Some contents ↦ contents.letters ]
+      by None = refl
+      by (Some c) = append-nil c.letters
+
+  folded_of_all : (bundles : List (Parcels M)) → flat_map (λ c. option_to_list c.folded) (contents_to id bundles) ≡ flat_map (folded_at id) bundles
+  folded_of_all [] = refl
+  folded_of_all (b ∷ bundles) =
+      flat_map-append (λ (c : Contents M). option_to_list c.folded) (option_to_list (value_at id b)) (contents_to id bundles) ∙ ap₂ ◌++◌ (by (value_at id b)) (folded_of_all bundles)
+    where
+      by : (o : Option (Contents M)) → flat_map (λ c. option_to_list c.folded) (option_to_list o) ≡ elim o [ None ↦ [] | Some contents ↦ option_to_list contents.folded ]
+      by None = refl
+      by (Some c) = append-nil (option_to_list c.folded)
+
+  -- an inbox made of what bundles have for a target is what they deliver
+  pub delivers_received : (is_value : M → Type 0) (combining : Option (Combining M)) → IsLawful is_value combining → (bundles : List (Parcels M))
+      → AllByRecursion (λ b. HoldsAt is_value (value_at id b)) bundles → Delivers combining id bundles (received_of combining (contents_to id bundles))
+  delivers_received is_value None law bundles hold =
+      let letters : List (ℕ × M) = flat_map (λ c. c.letters) (contents_to id bundles) in
+      delivers_in_order id bundles (in_order letters) (in_order-up letters) (λ q. in_order-from q letters ∙ ap (from q) (letters_of_all bundles))
+  delivers_received is_value (Some c) law bundles hold =
+      subst (λ l. Delivers (Some c) id bundles (combined (Some c) l)) (sym (folded_of_all bundles)) (delivers_some c law id bundles hold)
+
+  pub received_in_order : (combining : Option (Combining M)) → is_some combining ≡ false → (contents : List (Contents M))
+      → received_of combining contents ≡ messages (in_order (flat_map (λ c. c.letters) contents))
+  received_in_order None h contents = refl
+  received_in_order (Some c) h contents = absurd cc
+
+  pub received_combined : (combining : Option (Combining M)) → is_some combining ≡ true → (contents : List (Contents M))
+      → received_of combining contents ≡ combined combining (flat_map (λ c. option_to_list c.folded) contents)
+  received_combined None h contents = absurd cc
+  received_combined (Some c) h contents = refl
+
+  received_nothing : (combining : Option (Combining M)) → received_of combining [] ≡ []
+  received_nothing None = refl
+  received_nothing (Some c) = refl
+
+-- ---- those of all targets
+
+module _ {X : Type 0} (id : ℕ) where
+  items-append : (a b : List (ℕ × X)) → items_to id (a ++ b) ≡ items_to id a ++ items_to id b
+  items-append a b =
+      ap (map (λ (i : ℕ × X). i.1)) (filter-append (λ (i : ℕ × X). i.0 == id) a b) ∙ map-append (λ (i : ℕ × X). i.1) (filter (λ i. i.0 == id) a) (filter (λ i. i.0 == id) b)
+
+  -- an id stands at most once among rising ids
+  item_once : (es : List (ℕ × X)) → HasRisingIds es → items_to id es ≡ option_to_list (value_at id es)
+  item_once [] rise = refl
+  item_once (e ∷ es) rise = by (e.0 == id) refl (item_once es (rises_after e es rise)) ∙ ap (λ b. option_to_list (cond b (Some e.1) (value_at id es))) (sym (at_id id e.0))
+    where
+      by : (b : Bool) → (e.0 == id) ≡ b → items_to id es ≡ option_to_list (value_at id es)
+          → map (λ i. i.1) (cond b (e ∷ filter (λ i. i.0 == id) es) (filter (λ i. i.0 == id) es)) ≡ option_to_list (cond b (Some e.1) (value_at id es))
+      by true at h = ap (λ l. e.1 ∷ l) (h ∙ ap option_to_list (none_past id e es rise (at_id id e.0 ∙ at)))
+      by false at h = h
+
+  items_of_all : (lists : List (List (ℕ × X))) → AllByRecursion HasRisingIds lists
+      → items_to id (flat_map (λ l. l) lists) ≡ flat_map (λ l. option_to_list (value_at id l)) lists
+  items_of_all [] rise = refl
+  items_of_all (l ∷ lists) rise = items-append l (flat_map (λ l. l) lists) ∙ ap₂ ◌++◌ (item_once l rise.0) (items_of_all lists rise.1)
+
+  any_of_all : (lists : List (List (ℕ × X))) → is_some (any_of (flat_map (λ l. option_to_list (value_at id l)) lists)) ≡ list_any (λ l. is_some (value_at id l)) lists
+  any_of_all [] = refl
+  any_of_all (l ∷ lists) = by (value_at id l) (any_of_all lists)
+    where
+      rest : List X
+      rest = flat_map (λ l. option_to_list (value_at id l)) lists
+
+      by : (o : Option X) → is_some (any_of rest) ≡ list_any (λ l. is_some (value_at id l)) lists
+          → is_some (any_of (option_to_list o ++ rest)) ≡ (is_some o || list_any (λ l. is_some (value_at id l)) lists)
+      by None h = h
+      by (Some x) h = refl
+
+abbrev opened : {M : Type 0} → Option (List M) → List M
+opened o = elim o [ None ↦ [] | Some inbox ↦ inbox ]
+
+module _ {M : Type 0} (is_value : M → Type 0) where
+  hold_at : (id : ℕ) (b : Parcels M) → AllByRecursion (λ e. Holds is_value e.1) b → HoldsAt is_value (value_at id b)
+  hold_at id [] h = tt
+  hold_at id (e ∷ b) h = by (is_at (nat_cmp id) e.0) (hold_at id b h.1)
+    where
+      by : (t : Bool) → HoldsAt is_value (value_at id b) → HoldsAt is_value (cond t (Some e.1) (value_at id b))
+      by true later = h.0
+      by false later = later
+
+  apart_all : (a b : Parcels M) → AllByRecursion (λ e. Holds is_value e.1) (a ++ b)
+      → AllByRecursion (λ e. Holds is_value e.1) a × AllByRecursion (λ e. Holds is_value e.1) b
+  apart_all [] b h = (tt, h)
+  apart_all (e ∷ a) b h = let later = apart_all a b h.1 in ((h.0, later.0), later.1)
+
+  -- what holds of all entries of bundles holds of those of each
+  all_apart : (bundles : List (Parcels M)) → AllByRecursion (λ e. Holds is_value e.1) (flat_map (λ b. b) bundles)
+      → AllByRecursion (λ b. AllByRecursion (λ e. Holds is_value e.1) b) bundles
+  all_apart [] h = tt
+  all_apart (b ∷ bundles) h = let parts = apart_all b (flat_map (λ b. b) bundles) h in (parts.0, all_apart bundles parts.1)
+
+  hold_in_all : (id : ℕ) (bundles : List (Parcels M)) → AllByRecursion (λ b. AllByRecursion (λ e. Holds is_value e.1) b) bundles
+      → AllByRecursion (λ b. HoldsAt is_value (value_at id b)) bundles
+  hold_in_all id [] h = tt
+  hold_in_all id (b ∷ bundles) h = (hold_at id b h.0, hold_in_all id bundles h.1)
+
+  module _ (combining : Option (Combining M)) (law : IsLawful is_value combining) (bundles : List (Parcels M)) where
+    -- the inboxes made of what all bundles have, by target
+    pub are_inboxes : (groups : List (ℕ × List (Contents M))) → AreGroups (flat_map (λ b. b) bundles) groups
+        → AllByRecursion HasRisingIds bundles → AllByRecursion (λ e. Holds is_value e.1) (flat_map (λ b. b) bundles)
+        → AreInboxes combining bundles (map (λ g. (g.0, received_of combining g.1)) groups)
+    are_inboxes groups grouped rise hold = record {
+      rise = rises-values (received_of combining) groups grouped.rise;
+      receivers = λ id. ap is_some (here id) ∙ (is_some-map (any_of (contents_to id bundles)) ∙ any_of_all id bundles);
+      told = λ id. subst (Delivers combining id bundles) (sym (ap opened (here id) ∙ whole (contents_to id bundles)))
+          (delivers_received id is_value combining law bundles (hold_in_all id bundles (all_apart bundles hold)));
+    }
+      where
+        here : (id : ℕ) → value_at id (map (λ g. (g.0, received_of combining g.1)) groups) ≡ option_map (received_of combining) (any_of (contents_to id bundles))
+        here id =
+            value_at-values (received_of combining) id groups
+            ∙ ap (option_map (received_of combining)) (grouped.told id ∙ ap any_of (items_of_all id bundles rise))
+
+        is_some-map : (o : Option (List (Contents M))) → is_some (option_map (received_of combining) o) ≡ is_some o
+        is_some-map None = refl
+        is_some-map (Some l) = refl
+
+        whole : (l : List (Contents M)) → opened (option_map (received_of combining) (any_of l)) ≡ received_of combining l
+        whole [] = sym (received_nothing 0 combining)
+        whole (c ∷ l) = refl

@@ -1,0 +1,229 @@
+-- What a bundle becomes where messages are withdrawn and others are added, target by target.
+use Rattle.std.proofs.Common.{◌≡◌, ℕ, ◌==◌, ◌||◌, ◌&&◌, not, Bool, true, false, cond, List, [], ◌∷◌, ◌++◌, map, Option, None, Some, refl, sym, ap, ap₂, ◌∙◌, subst, filter, flat_map, true≢false}
+use Rattle.std.specs.List.{AllByRecursion}
+use Rattle.std.proofs.lemmas.List.Elements.{All-from_recursion, recursion_from_All}
+use Rattle.std.proofs.lemmas.List.Sorted.{All-permutation}
+use Rattle.std.specs.List.Sorted.{IsPermutation, IsNonDecreasingBy, IsStableByKey, IsStrictlySortedBy}
+use Rattle.std.specs.Map.{keys_of}
+use Rattle.std.specs.Option.{option_map, unwrap_or}
+use Rattle.std.specs.Ordering.{nat_cmp}
+use Rattle.std.proofs.lemmas.List.{append-nil}
+use Rattle.pg_map.specs.Entries.{ChangesRise, HasRisingIds, value_at, with_change, with_changes}
+use Rattle.pg_map.proofs.Changing.{change_other, rises-changes, value_at-with_changes}
+use Rattle.pg_model.proofs.LawsLists.{all_pass}
+use Rattle.pg_model.specs.Job.{Combining}
+use Rattle.pg_model.specs.Superstep.{has_id}
+use Rattle.pg_inbox.specs.Bundles.{Parcels, bundle_of, contents_of, entries_in}
+use Rattle.pg_inbox.specs.Changed.{AreCandidates}
+use Rattle.pg_inbox.specs.Grouping.{AreGroups, any_of, items_to}
+use Rattle.pg_inbox.specs.Inboxes.{letters_at}
+use Rattle.pg_inbox.specs.Mending.{additions, as_addition, as_withdrawal, changes_of, mended, mended_at, mends_of, senders_of}
+use Rattle.pg_inbox.specs.Ordered.{in_order}
+use Rattle.pg_inbox.specs.Patched.{AreReplaced, IsPatched, is_withdrawn, staying}
+use Rattle.pg_inbox.specs.Sends.{RiseBySender, Sends, letters_to}
+use Rattle.pg_inbox.specs.declared.parcel.Contents.{Contents}
+use Rattle.pg_inbox.specs.declared.patching.Mend.{Mend}
+use Rattle.pg_inbox.proofs.Bundling.{at_id, is_bundle_of, rises-bundle_of, value_at-bundle_of}
+use Rattle.pg_inbox.proofs.Grouping.{other_id, same_id, stays}
+use Rattle.pg_inbox.proofs.Delivery.{letters_at-bundle_of, same_letters, up_letters}
+use Rattle.pg_inbox.proofs.Senders.{IsUp, from, in_order-from, in_order-up, same_by_number, up_from}
+
+-- ---- a stable sort by sender
+
+module _ {X : Type 0} where
+  pub sorted_in_order : (items sorted : List (ℕ × X)) → IsNonDecreasingBy (λ x. x.0) sorted → IsStableByKey (λ x. x.0) nat_cmp items sorted
+      → sorted ≡ in_order items
+  sorted_in_order items sorted rise stable =
+      same_by_number sorted (in_order items) (up_from (λ x. x.0) sorted rise) (in_order-up items) (λ q. stays items sorted stable q ∙ sym (in_order-from q items))
+
+-- what holds of each item holds of each of the sorted ones
+pub values_sorted : {X : Type 0} (P : X → Type 0) (items sorted : List X) → IsPermutation items sorted → AllByRecursion P items → AllByRecursion P sorted
+values_sorted P items sorted moved all = recursion_from_All P sorted (All-permutation P items sorted moved (All-from_recursion P items all))
+
+-- ---- look-ups of entries that are made of ids and values
+
+module _ {X Y : Type 0} (f : ℕ × X → Y) where
+  pub value_at-made : (q : ℕ) (es : List (ℕ × X)) → value_at q (map (λ e. (e.0, f e)) es) ≡ option_map (λ x. f (q, x)) (value_at q es)
+  value_at-made q [] = refl
+  value_at-made q (e ∷ es) =
+      ap (λ b. cond b (Some (f e)) (value_at q (map (λ e. (e.0, f e)) es))) (at_id q e.0)
+      ∙ (by (e.0 == q) refl (value_at-made q es)
+      ∙ ap (λ b. option_map (λ x. f (q, x)) (cond b (Some e.1) (value_at q es))) (sym (at_id q e.0)))
+    where
+      by : (b : Bool) → (e.0 == q) ≡ b → value_at q (map (λ e. (e.0, f e)) es) ≡ option_map (λ x. f (q, x)) (value_at q es)
+          → cond b (Some (f e)) (value_at q (map (λ e. (e.0, f e)) es)) ≡ option_map (λ x. f (q, x)) (cond b (Some e.1) (value_at q es))
+      by true e' h = ap (λ k. Some (f (k, e.1))) (same_id e.0 q e')
+      by false e' h = h
+
+  pub keys-made : (es : List (ℕ × X)) → keys_of (map (λ e. (e.0, f e)) es) ≡ keys_of es
+  keys-made [] = refl
+  keys-made (e ∷ es) = ap (λ l. e.0 ∷ l) (keys-made es)
+
+-- ---- what is done to one target
+
+and_true : (b : Bool) → (b && true) ≡ b
+and_true true = refl
+and_true false = refl
+
+and_false : (b : Bool) → (b && false) ≡ false
+and_false true = refl
+and_false false = refl
+
+module _ {M : Type 0} (q : ℕ) where
+  none_withdrawn : (added : Sends M) → senders_of (items_to q (map as_addition added)) ≡ []
+  none_withdrawn [] = refl
+  none_withdrawn (s ∷ added) = by (s.1 == q) (none_withdrawn added)
+    where
+      by : (b : Bool) → senders_of (items_to q (map as_addition added)) ≡ []
+          → senders_of (map (λ i. i.1) (cond b (as_addition s ∷ filter (λ i. i.0 == q) (map as_addition added)) (filter (λ i. i.0 == q) (map as_addition added)))) ≡ []
+      by true h = h
+      by false h = h
+
+  -- just the senders whose messages to the target are withdrawn
+  pub withdrawn_here : (withdrawn : List (ℕ × ℕ)) (added : Sends M) (sender : ℕ)
+      → has_id (senders_of (items_to q (mends_of withdrawn added))) sender ≡ is_withdrawn withdrawn sender q
+  withdrawn_here [] added sender = ap (λ l. has_id l sender) (none_withdrawn added)
+  withdrawn_here (w ∷ withdrawn) added sender = by (w.1 == q) (withdrawn_here withdrawn added sender)
+    where
+      mends : List (ℕ × Mend M)
+      mends = filter (λ i. i.0 == q) (mends_of withdrawn added)
+
+      by : (b : Bool) → has_id (senders_of (items_to q (mends_of withdrawn added))) sender ≡ is_withdrawn withdrawn sender q
+          → has_id (senders_of (map (λ i. i.1) (cond b (as_withdrawal w ∷ mends) mends))) sender ≡ (((w.0 == sender) && b) || is_withdrawn withdrawn sender q)
+      by true h = ap₂ ◌||◌ (sym (and_true (w.0 == sender))) h
+      by false h = h ∙ ap (λ b. b || is_withdrawn withdrawn sender q) (sym (and_false (w.0 == sender)))
+
+  added_alone : (added : Sends M) → additions (items_to q (map as_addition added)) ≡ letters_to q added
+  added_alone [] = refl
+  added_alone (s ∷ added) = by (s.1 == q) (added_alone added)
+    where
+      by : (b : Bool) → additions (items_to q (map as_addition added)) ≡ letters_to q added
+          → additions (map (λ i. i.1) (cond b (as_addition s ∷ filter (λ i. i.0 == q) (map as_addition added)) (filter (λ i. i.0 == q) (map as_addition added)))) ≡ map (λ s. (s.0, s.2)) (cond b (s ∷ filter (λ s. s.1 == q) added) (filter (λ s. s.1 == q) added))
+      by true h = ap (λ l. (s.0, s.2) ∷ l) h
+      by false h = h
+
+  -- just the messages to the target that are added
+  pub added_here : (withdrawn : List (ℕ × ℕ)) (added : Sends M) → additions (items_to q (mends_of withdrawn added)) ≡ letters_to q added
+  added_here [] added = added_alone added
+  added_here (w ∷ withdrawn) added = by (w.1 == q) (added_here withdrawn added)
+    where
+      mends : List (ℕ × Mend M)
+      mends = filter (λ i. i.0 == q) (mends_of withdrawn added)
+
+      by : (b : Bool) → additions (items_to q (mends_of withdrawn added)) ≡ letters_to q added
+          → additions (map (λ i. i.1) (cond b (as_withdrawal w ∷ mends) mends)) ≡ letters_to q added
+      by true h = h
+      by false h = h
+
+  -- the messages to the target that stay
+  letters-staying : (withdrawn : List (ℕ × ℕ)) (before : Sends M)
+      → letters_to q (staying withdrawn before) ≡ filter (λ l. not (is_withdrawn withdrawn l.0 q)) (letters_to q before)
+  letters-staying withdrawn [] = refl
+  letters-staying withdrawn (s ∷ before) = by (s.1 == q) refl (letters-staying withdrawn before)
+    where
+      gone : ℕ → Bool
+      gone target = is_withdrawn withdrawn s.0 target
+
+      stay : Sends M
+      stay = staying withdrawn before
+
+      pairs : Sends M → List (ℕ × M)
+      pairs l = map (λ s. (s.0, s.2)) l
+
+      mine : Sends M → Sends M
+      mine l = filter (λ s. s.1 == q) l
+
+      kept : List (ℕ × M) → List (ℕ × M)
+      kept l = filter (λ l. not (is_withdrawn withdrawn l.0 q)) l
+
+      front : ℕ × M
+      front = (s.0, s.2)
+
+      past : (b c : Bool) → (s.1 == q) ≡ b → b ≡ false → letters_to q stay ≡ kept (letters_to q before)
+          → pairs (mine (cond c (s ∷ stay) stay)) ≡ kept (letters_to q before)
+      past b true e f h = ap (λ t. pairs (cond t (s ∷ mine stay) (mine stay))) (e ∙ f) ∙ h
+      past b false e f h = h
+
+      here : (c : Bool) → (s.1 == q) ≡ true → letters_to q stay ≡ kept (letters_to q before)
+          → pairs (mine (cond c (s ∷ stay) stay)) ≡ cond c (front ∷ kept (letters_to q before)) (kept (letters_to q before))
+      here true e h = ap (λ t. pairs (cond t (s ∷ mine stay) (mine stay))) e ∙ ap (λ l. front ∷ l) h
+      here false e h = h
+
+      by : (b : Bool) → (s.1 == q) ≡ b → letters_to q stay ≡ kept (letters_to q before)
+          → pairs (mine (cond (not (gone s.1)) (s ∷ stay) stay)) ≡ kept (pairs (cond b (s ∷ mine before) (mine before)))
+      by true e h =
+          ap (λ t. pairs (mine (cond (not (gone t)) (s ∷ stay) stay))) (same_id s.1 q e)
+          ∙ here (not (gone q)) e h
+      by false e h = past false (not (gone s.1)) e refl h
+
+  module _ (withdrawn : List (ℕ × ℕ)) (added before after : Sends M) (replaced : AreReplaced withdrawn added before after) where
+    -- what becomes of the messages to the target is what goes to it after
+    pub mended_here : mended (items_to q (mends_of withdrawn added)) (letters_to q before) ≡ letters_to q after
+    mended_here =
+        let mends : List (Mend M) = items_to q (mends_of withdrawn added) in
+        let all : List (ℕ × M) = filter (λ l. not (has_id (senders_of mends) l.0)) (letters_to q before) ++ additions mends in
+        let parts : all ≡ flat_map (letters_to q) (staying withdrawn before ∷ added ∷ []) =
+        ap₂ ◌++◌ (ap (λ (p : ℕ × M → Bool). filter p (letters_to q before)) (λ i l. not (withdrawn_here withdrawn added l.0 i)) ∙ sym (letters-staying withdrawn before))
+        (added_here withdrawn added ∙ sym (append-nil (letters_to q added))) in
+        same_by_number (in_order all) (letters_to q after) (in_order-up all) (up_letters q after replaced.rise)
+        (λ s. in_order-from s all ∙ (ap (from s) parts ∙ sym (same_letters q (staying withdrawn before ∷ added ∷ []) after replaced s)))
+
+-- messages in order stay so
+pub mended_none : {M : Type 0} (letters : List (ℕ × M)) → IsUp (λ l. l.0) letters → mended [] letters ≡ letters
+mended_none letters up =
+    ap in_order (append-nil (filter (λ l. true) letters) ∙ all_pass (λ l. true) (λ l. refl) letters)
+    ∙ same_by_number (in_order letters) letters (in_order-up letters) up (λ q. in_order-from q letters)
+
+-- ---- the whole bundle
+
+pub changes_rise : {M : Type 0} (combining : Option (Combining M)) (old : Parcels M) (groups : List (ℕ × List (Mend M))) → HasRisingIds groups
+    → ChangesRise (changes_of combining old groups)
+changes_rise combining old groups rise = subst (IsStrictlySortedBy nat_cmp) (sym (keys-made (mended_at combining old) groups)) rise
+
+module _ {M : Type 0} (combining : Option (Combining M)) (withdrawn : List (ℕ × ℕ)) (added : Sends M) (old : Parcels M) (groups : List (ℕ × List (Mend M))) where
+  module _ (grouped : AreGroups (mends_of withdrawn added) groups) where
+    pub patched : (new : Parcels M) → new ≡ with_changes (changes_of combining old groups) old → IsPatched combining withdrawn added old new
+    patched new are before after rise replaced is =
+        subst (λ b. b ≡ bundle_of combining after) (sym are)
+        (is_bundle_of combining (with_changes (changes_of combining old groups) old) after (rises-changes (changes_of combining old groups) old rises)
+        (λ q. value_at-with_changes (changes_of combining old groups) old q (changes_rise combining old groups grouped.rise) rises
+            ∙ (ap (λ o. unwrap_or o (value_at q old)) (value_at-made (mended_at combining old) q groups ∙ ap (option_map (λ ms. mended_at combining old (q, ms))) (grouped.told q))
+            ∙ by q (items_to q (mends_of withdrawn added)) refl)))
+      where
+        rises : HasRisingIds old
+        rises = subst HasRisingIds (sym is) (rises-bundle_of combining before)
+
+        contents : List (ℕ × M) → Option (Contents M)
+        contents l = option_map (contents_of combining) (any_of l)
+
+        by : (q : ℕ) (mends : List (Mend M)) → items_to q (mends_of withdrawn added) ≡ mends
+            → unwrap_or (option_map (λ ms. mended_at combining old (q, ms)) (any_of mends)) (value_at q old) ≡ contents (letters_to q after)
+        by q [] e =
+            ap (value_at q) is
+            ∙ (value_at-bundle_of combining q before
+            ∙ ap contents (sym (mended_none (letters_to q before) (up_letters q before rise)) ∙ (ap (λ ms. mended ms (letters_to q before)) (sym e) ∙ mended_here q withdrawn added before after replaced)))
+        by q (m ∷ mends) e =
+            ap (λ l. contents (mended (m ∷ mends) l)) (ap (letters_at q) is ∙ letters_at-bundle_of q combining before)
+            ∙ ap contents (ap (λ ms. mended ms (letters_to q before)) (sym e) ∙ mended_here q withdrawn added before after replaced)
+
+-- ---- at no other target do they differ
+
+or_parts : (a b : Bool) → (a || b) ≡ false → (a ≡ false) × (b ≡ false)
+or_parts true b h = absurd (true≢false h)
+or_parts false b h = (refl, h)
+
+module _ {X : Type 0} where
+  pub unchanged_at : (changes : List (ℕ × Option X)) (entries : List (ℕ × X)) (q : ℕ) → has_id (keys_of changes) q ≡ false
+      → value_at q (with_changes changes entries) ≡ value_at q entries
+  unchanged_at [] entries q h = refl
+  unchanged_at (c ∷ changes) entries q h =
+      let parts = or_parts (c.0 == q) (has_id (keys_of changes) q) h in
+      unchanged_at changes (with_change c.0 c.1 entries) q parts.1 ∙ change_other c.0 c.1 entries q (other_id c.0 q parts.0)
+
+pub candidates : {M : Type 0} (combining : Option (Combining M)) (old new : Parcels M) (groups : List (ℕ × List (Mend M))) (ids : List ℕ)
+    → HasRisingIds groups → new ≡ with_changes (changes_of combining old groups) old → ids ≡ keys_of groups → AreCandidates old new ids
+candidates combining old new groups ids rise are keys = record {
+  rise = subst (IsStrictlySortedBy nat_cmp) (sym keys) rise;
+  others = λ id h. ap (entries_in id) (sym (ap (value_at id) are
+      ∙ unchanged_at (changes_of combining old groups) old id (ap (λ l. has_id l id) (keys-made (mended_at combining old) groups ∙ sym keys) ∙ h)));
+}

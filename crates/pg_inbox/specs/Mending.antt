@@ -1,0 +1,66 @@
+-- What is done to the messages to one target.
+use Rattle.std.specs.Prelude.{◌≡◌, ℕ, not, ◌||◌, List, [], ◌∷◌, ◌++◌, map, Option}
+use Rattle.std.specs.BTreeSet.{BTreeSet, contains}
+use Rattle.std.specs.List.{filter, flat_map}
+use Rattle.std.specs.Option.{option_map}
+use Rattle.std.specs.Ordering.{nat_cmp}
+use Rattle.pg_model.specs.Job.{Combining}
+use Rattle.pg_model.specs.Superstep.{has_id}
+use Rattle.pg_inbox.specs.Bundles.{Parcels, contents_of}
+use Rattle.pg_inbox.specs.Grouping.{any_of}
+use Rattle.pg_inbox.specs.Inboxes.{letters_at}
+use Rattle.pg_inbox.specs.Ordered.{in_order}
+use Rattle.pg_inbox.specs.Sends.{Sends}
+use Rattle.pg_inbox.specs.declared.parcel.Contents.{Contents}
+use Rattle.pg_inbox.specs.declared.patching.Mend.{Mend}
+use Rattle.pg_inbox.specs.declared.patching.Mend.TheVariants.{Withdrawn, Added}
+
+-- a set of just these ids
+abbrev pub HasJust : BTreeSet ℕ → List ℕ → Type 0
+HasJust set ids = (id : ℕ) → contains nat_cmp set id ≡ has_id ids id
+
+-- and of these too
+abbrev pub HasMore : BTreeSet ℕ → BTreeSet ℕ → List ℕ → Type 0
+HasMore before after more = (id : ℕ) → contains nat_cmp after id ≡ (contains nat_cmp before id || has_id more id)
+
+module _ {M : Type 0} where
+  -- the messages of all other senders
+  abbrev pub others : BTreeSet ℕ → List (ℕ × M) → List (ℕ × M)
+  others senders letters = filter (λ l. not (contains nat_cmp senders l.0)) letters
+
+  abbrev pub withdrawn_by : Mend M → List ℕ
+  withdrawn_by (Withdrawn sender) = sender ∷ []
+  withdrawn_by (Added sender message) = []
+
+  abbrev pub added_by : Mend M → List (ℕ × M)
+  added_by (Withdrawn sender) = []
+  added_by (Added sender message) = (sender, message) ∷ []
+
+  -- whose messages are withdrawn
+  abbrev pub senders_of : List (Mend M) → List ℕ
+  senders_of mends = flat_map withdrawn_by mends
+
+  -- the messages that are added
+  abbrev pub additions : List (Mend M) → List (ℕ × M)
+  additions mends = flat_map added_by mends
+
+  -- what becomes of the messages to a target
+  abbrev pub mended : List (Mend M) → List (ℕ × M) → List (ℕ × M)
+  mended mends letters = in_order (filter (λ l. not (has_id (senders_of mends) l.0)) letters ++ additions mends)
+
+  -- and what the bundle has of them
+  abbrev pub mended_at : Option (Combining M) → Parcels M → ℕ × List (Mend M) → Option (Contents M)
+  mended_at combining old group = option_map (contents_of combining) (any_of (mended group.1 (letters_at group.0 old)))
+
+  abbrev pub changes_of : Option (Combining M) → Parcels M → List (ℕ × List (Mend M)) → List (ℕ × Option (Contents M))
+  changes_of combining old groups = map (λ g. (g.0, mended_at combining old g)) groups
+
+  -- what is withdrawn and added, by target
+  abbrev pub as_withdrawal : ℕ × ℕ → ℕ × Mend M
+  as_withdrawal w = (w.1, Withdrawn w.0)
+
+  abbrev pub as_addition : ℕ × ℕ × M → ℕ × Mend M
+  as_addition s = (s.1, Added s.0 s.2)
+
+  abbrev pub mends_of : List (ℕ × ℕ) → Sends M → List (ℕ × Mend M)
+  mends_of withdrawn added = map as_withdrawal withdrawn ++ map as_addition added

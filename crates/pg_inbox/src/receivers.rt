@@ -1,0 +1,82 @@
+//! The inboxes of a whole superstep.
+ghost use Rattle.std.specs.Prelude.{◌≡◌, ◌++◌, map, IfOk, OnOk};
+ghost use Rattle.std.specs.List.{AllByRecursion, flat_map};
+ghost use Rattle.pg_map.specs.Entries.{HasRisingIds};
+ghost use Rattle.pg_inbox.specs.Holding.{Holds};
+ghost use Rattle.pg_inbox.specs.Inboxes.{AreInboxes, received_of};
+
+use crate::Bundle;
+use crate::grouped::grouped;
+use crate::parcel::Parcel;
+use crate::receiving::received;
+use pg_global::MessageCombiner;
+use pg_graph::{Memory, VertexId};
+use pg_map::Share;
+use pg_model::Sequence;
+use pg_program::Plain;
+use std::alloc::Global;
+
+/// What each vertex receives to which a bundle has a message, by rising id.
+///
+/// Costs a stable sort of the targets of all bundles, and of each vertex what its inbox costs beside the searches.
+pub fn inboxes<M: Plain, C: MessageCombiner<M>>(
+    alloc: Global,
+    bundles: &[&Bundle<M>],
+    combiner: &C,
+) -> Result<Vec<(VertexId, Sequence<M>)>, Memory>
+    ensures { IfOk result (λ inboxes. AreInboxes (C.combining combiner.now) (map (λ b. b.now) bundles.now) inboxes.items) }
+{
+    let parcels = all_parcels(alloc, bundles)?;
+    let groups = grouped(alloc, parcels)?;
+    let inboxes = inboxes_of(alloc, groups, combiner)?;
+    Ok(inboxes)
+}
+
+/// What all bundles have for each of their targets, bundle by bundle.
+fn all_parcels<M: Plain>(
+    alloc: Global,
+    bundles: &[&Bundle<M>],
+) -> Result<Vec<(VertexId, Parcel<M>)>, Memory>
+    ensures items { IfOk result (λ all. all.items ≡ flat_map (λ b. b.now) bundles.now) }
+    ensures rise { IfOk result (λ _. AllByRecursion (λ b. HasRisingIds b.now) bundles.now) }
+    ensures hold { IfOk result (λ all. AllByRecursion (λ e. Holds M.is_value e.1) all.items) }
+{
+    let mut all = Vec::new(alloc);
+    for bundle in bundles {
+        add_parcels(&mut all, bundle)?;
+    }
+    Ok(all)
+}
+
+/// Adds what a bundle has for each of its targets.
+fn add_parcels<M: Plain>(
+    all: &mut Vec<(VertexId, Parcel<M>)>,
+    bundle: &Bundle<M>,
+) -> Result<(), Memory>
+    requires { AllByRecursion (λ e. Holds M.is_value e.1) all.old.items }
+    ensures items { OnOk result (all.new.items ≡ all.old.items ++ bundle.now) }
+    ensures rise { HasRisingIds bundle.now }
+    ensures hold { AllByRecursion (λ e. Holds M.is_value e.1) all.new.items }
+{
+    for (target, parcel) in bundle.parcels.iter() {
+        parcel.contents();
+        all.push((*target, parcel.share()?))?;
+    }
+    Ok(())
+}
+
+/// The inbox of each of these.
+fn inboxes_of<M: Plain, C: MessageCombiner<M>>(
+    alloc: Global,
+    groups: Vec<(VertexId, Sequence<Parcel<M>>)>,
+    combiner: &C,
+) -> Result<Vec<(VertexId, Sequence<M>)>, Memory>
+    ensures { IfOk result (λ inboxes. inboxes.items ≡ map (λ g. (g.0, received_of (C.combining combiner.now) g.1)) groups.items) }
+{
+    let mut inboxes = Vec::with_capacity(alloc, groups.len())?;
+    for (target, parcels) in groups {
+        let inbox = received(alloc, parcels.as_slice(), combiner)?;
+        inboxes.push((target, Sequence::from_vec(inbox)))?;
+    }
+    Ok(inboxes)
+}
