@@ -187,8 +187,8 @@ module _ {M : Type 0} (combining : Option (Combining M)) (withdrawn : List (ℕ 
         subst (λ b. b ≡ bundle_of combining after) (sym are)
         (is_bundle_of combining (with_changes (changes_of combining old groups) old) after (rises-changes (changes_of combining old groups) old rises)
         (λ q. value_at-with_changes (changes_of combining old groups) old q (changes_rise combining old groups grouped.rise) rises
-            ∙ (ap (λ o. unwrap_or o (value_at q old)) (value_at-made (mended_at combining old) q groups ∙ ap (option_map (λ ms. mended_at combining old (q, ms))) (grouped.told q))
-            ∙ by q (items_to q (mends_of withdrawn added)) refl)))
+        ∙ (ap (λ o. unwrap_or o (value_at q old)) (value_at-made (mended_at combining old) q groups ∙ ap (option_map (λ ms. mended_at combining old (q, ms))) (grouped.told q))
+        ∙ by q (items_to q (mends_of withdrawn added)) refl)))
       where
         rises : HasRisingIds old
         rises = subst HasRisingIds (sym is) (rises-bundle_of combining before)

@@ -119,10 +119,7 @@ fn combined<M: Plain, C: MessageCombiner<M>>(
 }
 
 /// The messages of all bundles with their senders, bundle by bundle.
-fn letters_in<M: Plain>(
-    alloc: Global,
-    parcels: &[Parcel<M>],
-) -> Result<Vec<(VertexId, M)>, Memory>
+fn letters_in<M: Plain>(alloc: Global, parcels: &[Parcel<M>]) -> Result<Vec<(VertexId, M)>, Memory>
     ensures { IfOk result (λ letters. letters.items ≡ flat_map (λ c. c.letters) parcels.now) }
 {
     let mut letters = Vec::new(alloc);

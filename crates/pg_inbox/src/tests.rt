@@ -1,6 +1,7 @@
-use crate::{Bundle, Logged, Logs, bundle, changed_targets, inbox};
+use crate::{Bundle, Logged, Logs, bundle, changed_targets, inbox, inboxes, patch};
 use pg_global::AnyCombiner;
 use pg_graph::{PartitionId, Superstep, VertexId};
+use pg_model::Sequence;
 use std::alloc::Global;
 use std::process::Abort;
 use std::test::Fail;
@@ -293,5 +294,150 @@ fn logs_forget(rt: HostRuntime) -> Result<(), Fail> {
         let found = message_in(&logs, (number / 16, number / 4 % 4, number % 4))?;
         assert_eq!(rt; found.is_none(), number / 4 % 4 == 1);
     }
+    Ok(())
+}
+
+// What all receivers get is what each gets alone, and no other receives anything.
+fn walk_agrees(
+    rt: &impl Abort,
+    alloc: Global,
+    sent: &Sends,
+    combiner: AnyCombiner,
+) -> Result<(), Fail> {
+    let bundles = bundles_of(alloc, sent, 5, combiner)?;
+    let mut lent = Vec::new(alloc);
+    for bundle in &bundles {
+        lent.push(bundle)?;
+    }
+    let mut all = inboxes(alloc, lent.as_slice(), &combiner)?;
+    for target in (0..18).rev() {
+        let expected = plain(alloc, sent, target, combiner)?;
+        if !expected.is_empty() {
+            let (receiver, messages) = all.pop().ok_or("a receiver is missing")?;
+            assert!(rt; receiver == id(target)?);
+            assert_eq!(rt; messages.as_slice(), expected.as_slice());
+        }
+    }
+    assert!(rt; all.is_empty());
+    Ok(())
+}
+
+#[test]
+fn whole_superstep_agrees(rt: HostRuntime) -> Result<(), Fail> {
+    let alloc = rt.alloc();
+    for seed in 0..20 {
+        let sent = mixed(alloc, seed, 25)?;
+        walk_agrees(&rt, alloc, &sent, AnyCombiner::NoCombiner)?;
+        walk_agrees(&rt, alloc, &sent, AnyCombiner::Max)?;
+    }
+    Ok(())
+}
+
+#[test]
+fn nobody_receives(rt: HostRuntime) -> Result<(), Fail> {
+    let none: Vec<(VertexId, Sequence<i64>)> = inboxes(rt.alloc(), &[], &AnyCombiner::Min)?;
+    assert!(rt; none.is_empty());
+    Ok(())
+}
+
+// What stays of sends where senders with a remainder of 4 send all their messages anew, one more each.
+#[derive(Drop)]
+struct Replaced {
+    withdrawn: Vec<(VertexId, VertexId)>,
+    added: Sends,
+    after: Sends,
+}
+
+fn replacing_some(
+    alloc: Global,
+    sent: &Sends,
+    other: &Sends,
+    remainder: u64,
+) -> Result<Replaced, Fail> {
+    let mut withdrawn = Vec::new(alloc);
+    let mut added = Vec::new(alloc);
+    let mut after = Vec::new(alloc);
+    for ((sender, target, message), new) in sent.iter().zip(other.iter()) {
+        if sender.number() % 4 == remainder {
+            withdrawn.push((*sender, *target))?;
+            added.push((*sender, new.1, new.2))?;
+            after.push((*sender, new.1, new.2))?;
+        } else {
+            after.push((*sender, *target, *message))?;
+        }
+    }
+    Ok(Replaced {
+        withdrawn,
+        added,
+        after,
+    })
+}
+
+// A patched bundle is the bundle of the sends after, and tells where it differs.
+fn patch_agrees(
+    rt: &impl Abort,
+    alloc: Global,
+    old: &Bundle<i64>,
+    new: &Replaced,
+    combiner: AnyCombiner,
+) -> Result<Bundle<i64>, Fail> {
+    let (withdrawn, added) = (new.withdrawn.as_slice(), new.added.as_slice());
+    let patched = patch(alloc, old, withdrawn, added, &combiner)?;
+    let whole = bundle(alloc, new.after.as_slice(), &combiner)?;
+    let differ = changed_targets(alloc, Some(&patched.bundle), Some(&whole))?;
+    assert!(rt; differ.is_empty());
+    let changed = patched.changed.ok_or("no targets are told")?;
+    let expected = changed_targets(alloc, Some(old), Some(&whole))?;
+    assert_eq!(rt; changed.as_slice(), expected.as_slice());
+    Ok(patched.bundle)
+}
+
+fn patches_agree(rt: &impl Abort, alloc: Global, combiner: AnyCombiner) -> Result<(), Fail> {
+    let mut sent = mixed(alloc, 7, 60)?;
+    let mut old = bundle(alloc, sent.as_slice(), &combiner)?;
+    for seed in 0..50 {
+        let other = mixed(alloc, seed + 100, 60)?;
+        let new = replacing_some(alloc, &sent, &other, seed % 4)?;
+        old = patch_agrees(rt, alloc, &old, &new, combiner)?;
+        sent = new.after;
+        let lent = [&old];
+        for target in 0..18 {
+            let found = inbox(alloc, &lent, id(target)?, &combiner)?;
+            let expected = plain(alloc, &sent, target, combiner)?;
+            assert_eq!(rt; found.as_slice(), expected.as_slice());
+        }
+    }
+    Ok(())
+}
+
+#[test]
+fn hundred_patches_agree(rt: HostRuntime) -> Result<(), Fail> {
+    patches_agree(&rt, rt.alloc(), AnyCombiner::NoCombiner)?;
+    patches_agree(&rt, rt.alloc(), AnyCombiner::Min)?;
+    Ok(())
+}
+
+#[test]
+fn withdrawn_from_one_target(rt: HostRuntime) -> Result<(), Fail> {
+    let alloc = rt.alloc();
+    let old = three(alloc, AnyCombiner::Min)?;
+    let withdrawn = [(id(1)?, id(4)?), (id(3)?, id(5)?)];
+    let patched = patch(alloc, &old, &withdrawn, &[], &AnyCombiner::Min)?;
+    assert!(rt; entry(&patched.bundle, 4)? == (1, Some(2)));
+    assert!(rt; entry(&patched.bundle, 5)? == (0, None));
+    let changed = patched.changed.ok_or("no targets are told")?;
+    assert_eq!(rt; changed.as_slice(), [id(4)?, id(5)?].as_slice());
+    Ok(())
+}
+
+#[test]
+fn withdrawn_and_sent_again(rt: HostRuntime) -> Result<(), Fail> {
+    let alloc = rt.alloc();
+    let old = three(alloc, AnyCombiner::NoCombiner)?;
+    let withdrawn = [(id(1)?, id(4)?)];
+    let added = [(id(1)?, id(4)?, 3)];
+    let patched = patch(alloc, &old, &withdrawn, &added, &AnyCombiner::NoCombiner)?;
+    let changed = patched.changed.ok_or("no targets are told")?;
+    assert_eq!(rt; changed.len(), 0);
     Ok(())
 }
