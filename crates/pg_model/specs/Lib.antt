@@ -1,3 +1,4 @@
+pub mod Affected
 pub mod Aggregators
 pub mod Agreement
 pub mod Folds
