@@ -8,7 +8,9 @@ pub mod LawsLength
 pub mod LawsLists
 pub mod LawsMade
 pub mod LawsNeeded
+pub mod LawsPresent
 pub mod LawsPublications
+pub mod LawsRising
 pub mod LawsShares
 pub mod LawsStandings
 mod MadeVertices
