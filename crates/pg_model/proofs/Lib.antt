@@ -1,3 +1,4 @@
+pub mod LawsAffected
 pub mod LawsAgreement
 pub mod LawsDecides
 pub mod LawsDelivered
