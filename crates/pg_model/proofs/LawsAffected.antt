@@ -1,24 +1,26 @@
 -- Two runs of one job: what an unaffected vertex keeps, which executions are needed, and what is delivered and gathered.
 use Rattle.std.proofs.Common.{◌≡◌, ℕ, suc, ◌+◌, ◌<◌, ◌≤◌, Bool, true, false, cond, ◌==◌, List, [], ◌∷◌, ◌++◌, map, ℤ, Option, None, Some, option_map, option_and_then, is_some, refl, ap, ap₂, sym, ◌∙◌, arith, subst₂, true≢false, inl, inr, ◌⊎◌, filter, flat_map, count_by, fold}
 use Rattle.std.specs.List.Sorted.{IsStrictlySortedBy}
-use Rattle.std.proofs.lemmas.Bool.{cond_both, cases_lt, cases_Bool}
-use Rattle.pg_graph.specs.Rows.{Rows, HasRisingIds}
+use Rattle.std.specs.Ordering.{nat_cmp}
+use Rattle.std.proofs.lemmas.Bool.{cond_both, cases_lt, cases_Bool, false_from_ne_true}
+use Rattle.pg_graph.specs.Rows.{Rows, HasRisingIds, row_at}
 use Rattle.pg_graph.specs.declared.missing.Missing.{Missing}
 use Rattle.pg_graph.specs.declared.missing.Missing.TheVariants.{Drop, Create}
-use Rattle.pg_model.specs.Affected.{read_off, standing_with, arriving, state_at, inbox_at, outcome_at, sent_at, contributed_at, StandsAlike, IsSeenAgain, IsUnaffected, AreCandidates, IsTakenOver, SendAlike, ContributeAlike}
+use Rattle.pg_model.specs.Affected.{read_off, standing_with, arriving, state_at, inbox_at, outcome_at, sent_at, contributed_at, IsIdleAt, StandsAlike, IsSeenAgain, IsUnaffected, AreCandidates, IsTakenOver, SendAlike, ContributeAlike}
 use Rattle.pg_model.specs.Job.{Job, Inputs, Aggregating}
 use Rattle.pg_model.specs.Needed.{standing_at, inputs_if_active, inputs_at, is_changed, is_needed, needed_in}
-use Rattle.pg_model.specs.Run.{configuration, present_at, visible_at, view_at, run_length}
+use Rattle.pg_model.specs.Run.{beginning, configuration, present_at, visible_at, view_at, run_length}
 use Rattle.pg_model.specs.Superstep.{ids, is_active, has_id, inputs_of, messages_to, combined, delivered, at_place, gathered_at, gathered_from, outcome, idle, state_after, sends, contributions, next}
 use Rattle.pg_model.proofs.LawsAgreement.{outcome-idle, state_after-idle}
 use Rattle.pg_model.proofs.LawsDelivered.{messages_to-sends}
 use Rattle.pg_model.proofs.LawsIds.{ids_rise}
-use Rattle.pg_model.proofs.LawsInputs.{no_inputs_past, no_inputs_missing}
+use Rattle.pg_model.proofs.LawsInputs.{no_inputs_past, no_inputs_missing, no_inputs_idle}
 use Rattle.pg_model.proofs.LawsLists.{all_pass}
 use Rattle.pg_model.proofs.LawsNeeded.{unchanged}
-use Rattle.pg_model.proofs.LawsPresent.{standing_at-none, standing_at-state, state_at-next, inbox_at-next, inputs_within, missing_or_idle, flat_map-present}
+use Rattle.pg_model.proofs.LawsPresent.{standing_at-none, standing_at-state, state_at-first, inbox_at-first, IsIdleAt-from_inputs, state_at-next, inbox_at-next, inputs_within, missing_or_idle, flat_map-present}
 use Rattle.pg_model.proofs.LawsRising.{flat_map-rising, count-rising}
 use Rattle.pg_model.proofs.LawsShares.{at_place-contributions}
+use Rattle.pg_model.proofs.LawsStandings.{standing_is}
 use Rattle.pg_model.specs.declared.configuration.Standing.{Standing}
 use Rattle.pg_model.specs.declared.configuration.VertexState.{VertexState}
 use Rattle.pg_model.specs.declared.record.Record.{Record}
@@ -61,6 +63,13 @@ module _ {V M : Type 0} (job : Job V M) (old new : Rows) where
   same_standing s id h =
       standing_at-state job old s id
       ∙ ((λ i. standing_with job.program id (h.state i) (h.inbox i)) ∙ sym (standing_at-state job new s id))
+
+  -- as the runs begin, an id stands alike where its row is the same, or there's none in both graphs
+  pub StandsAlike-first : (id : ℕ) → row_at id old ≡ row_at id new → StandsAlike job old new 0 id
+  StandsAlike-first id same = record {
+    state = state_at-first job old id ∙ (ap (option_map (λ row. (beginning job.program (id, row)).state)) same ∙ sym (state_at-first job new id));
+    inbox = inbox_at-first job old id ∙ sym (inbox_at-first job new id);
+  }
 
   module _ (s id : ℕ) (here : s < run_length job new) (h : IsUnaffected job old new s id) where
     -- what is read off view and vertex is the same in both runs, where an idle vertex doesn't read its view
@@ -110,6 +119,32 @@ module _ {V M : Type 0} (job : Job V M) (old new : Rows) where
           contributed = ap (read_off (λ r. r.contributed)) same;
           state = same_state-IsUnaffected there;
         }
+
+    -- past the end of the old run the superstep leaves an unaffected vertex as it is
+    pub IsIdleAt-from_IsUnaffected : run_length job old ≤ s → IsIdleAt job new s id
+    IsIdleAt-from_IsUnaffected past =
+        elim h.sees [ inl seen ↦ absurd (omega (arith, seen.within)) | inr none ↦ IsIdleAt-from_inputs job new s id here none ]
+
+  -- ids are candidates that have each id picked which stands otherwise in the old run, where that has the superstep; and where
+  -- its vertices aren't those that see the same again, each active vertex picked
+  pub AreCandidates-from : (picks : ℕ → Bool) (s : ℕ) (candidates : List ℕ) → IsStrictlySortedBy nat_cmp candidates → ((id : ℕ) → picks id ≡ true → has_id candidates id ≡ false → s < run_length job old → StandsAlike job old new s id) → IsSeenAgain job old new s ⊎ ((x : Standing V M) → picks x.state.id ≡ true → standing_at x.state.id (present_at job new s) ≡ Some x → is_active x ≡ true → has_id candidates x.state.id ≡ true) → AreCandidates job old new picks s candidates
+  AreCandidates-from picks s candidates rise alike sees = record {
+    rise = rise;
+    others = λ id picked other. record {
+      alike = alike id picked other;
+      sees = elim sees [ inl seen ↦ inl seen | inr active ↦ inr (idles id picked other active (standing_at id (present_at job new s)) refl) ];
+    };
+  }
+    where
+      idles : (id : ℕ) → picks id ≡ true → has_id candidates id ≡ false → ((x : Standing V M) → picks x.state.id ≡ true → standing_at x.state.id (present_at job new s) ≡ Some x → is_active x ≡ true → has_id candidates x.state.id ≡ true) → (o : Option (Standing V M)) → standing_at id (present_at job new s) ≡ o → inputs_at job new s id ≡ None
+      idles id picked other active None at = no_inputs_missing job new s id at
+      idles id picked other active (Some x) at = no_inputs_idle job new s id x at (false_from_ne_true (is_active x) (λ e. true≢false (sym (there e) ∙ other)))
+        where
+          named : x.state.id ≡ id
+          named = (standing_is id (present_at job new s) x at).0
+
+          there : is_active x ≡ true → has_id candidates id ≡ true
+          there e = sym (ap (has_id candidates) named) ∙ active x (ap picks named ∙ picked) (ap (λ (n : ℕ). standing_at n (present_at job new s)) named ∙ at) e
 
   -- ---- needed executions
 

@@ -1,21 +1,24 @@
 -- The vertices of a superstep, told by their ids: how each stands there, what it has received, and what they give.
-use Rattle.std.proofs.Common.{◌≡◌, ℕ, zero, suc, ◌<◌, Bool, true, false, cond, not, ◌||◌, ◌==◌, ltb, List, [], ◌∷◌, ◌++◌, map, Option, None, Some, option_map, option_and_then, is_some, refl, ap, ap₂, sym, ◌∙◌, subst, true≢false, inl, inr, ◌⊎◌, find, filter, flat_map}
+use Rattle.std.proofs.Common.{◌≡◌, ℕ, zero, suc, ◌<◌, Bool, true, false, cond, not, ◌||◌, ◌==◌, ltb, List, [], ◌∷◌, ◌++◌, map, Option, None, Some, option_map, option_and_then, is_some, refl, ap, ap₂, sym, ◌∙◌, subst, arith, true≢false, inl, inr, ◌⊎◌, find, filter, flat_map}
+use Rattle.std.specs.BTreeMap.{is_at}
 use Rattle.std.specs.List.{AllByRecursion}
 use Rattle.std.specs.List.Sorted.{IsStrictlySortedBy}
 use Rattle.std.specs.Option.{option_or}
 use Rattle.std.specs.Ordering.{nat_cmp}
 use Rattle.std.proofs.lemmas.Bool.{cond_both, eqb-true, lt-ltb, or_parts}
+use Rattle.std.proofs.lemmas.Bool.Decides.{nat_tests}
 use Rattle.std.proofs.lemmas.List.Folds.{flat_map-map}
 use Rattle.std.proofs.lemmas.Option.{none-some, same_Some}
 use Rattle.pg_graph.proofs.Drafting.{none_there}
-use Rattle.pg_graph.specs.Rows.{Rows, HasRisingIds}
+use Rattle.pg_graph.specs.Rows.{Rows, HasRisingIds, row_at}
+use Rattle.pg_graph.specs.declared.graph.Row.{Row}
 use Rattle.pg_graph.specs.declared.missing.Missing.{Missing}
 use Rattle.pg_graph.specs.declared.missing.Missing.TheVariants.{Drop, Create}
 use Rattle.pg_model.specs.Affected.{inbox_of, read_off, standing_with, arriving, state_at, inbox_at, outcome_at, sent_at, contributed_at, IsIdleAt}
 use Rattle.pg_model.specs.InOrder.{AreWaiting}
 use Rattle.pg_model.specs.Job.{Job, Program, Combining}
 use Rattle.pg_model.specs.Needed.{standing_at, inputs_if_active, inputs_at}
-use Rattle.pg_model.specs.Run.{configuration, first, present_at, view_at, run_length}
+use Rattle.pg_model.specs.Run.{beginning, configuration, first, present_at, view_at, run_length}
 use Rattle.pg_model.specs.Superstep.{ids, is_empty, is_active, has_id, messages_to, combined, delivered, astray, targets, waiting_after, placed, made, with_made, present, outcome, idle, state_after, sends, next}
 use Rattle.pg_model.proofs.LawsAgreement.{outcome-idle, state_after-idle}
 use Rattle.pg_model.proofs.LawsIds.{ids_rise, ids-next, standing_at-next, standing_after}
@@ -44,6 +47,10 @@ either_first : {X : Type 0} (a b : Bool) (x y z : X) → (a ≡ true → b ≡ t
 either_first true true x y z apart = absurd (apart refl refl)
 either_first true false x y z apart = refl
 either_first false b x y z apart = refl
+
+-- an id is found among keys where it is equal
+pub at_key : (id key : ℕ) → is_at (nat_cmp id) key ≡ (key == id)
+at_key id key = grind (arith, nat_tests)
 
 -- ---- messages to one vertex
 
@@ -175,6 +182,22 @@ module _ {V M : Type 0} where
       by true e = delivered-astray combining is all id new
       by false e = sym (delivered-none combining strays id e) ∙ delivered-astray combining is all id new
 
+  -- ---- as a run begins
+
+  first_state : (program : Program V M) (id : ℕ) (rows : Rows) → option_map (λ (x : Standing V M). x.state) (standing_at id (map (beginning program) rows)) ≡ option_map (λ row. (beginning program (id, row)).state) (row_at id rows)
+  first_state program id [] = refl
+  first_state program id (row ∷ rows) =
+      by (row.0 == id) refl (first_state program id rows)
+      ∙ ap (λ (b : Bool). option_map (λ (r : Row). (beginning program (id, r)).state) (cond b (Some row.1) (row_at id rows))) (sym (at_key id row.0))
+    where
+      by : (b : Bool) → (row.0 == id) ≡ b → option_map (λ (x : Standing V M). x.state) (standing_at id (map (beginning program) rows)) ≡ option_map (λ (r : Row). (beginning program (id, r)).state) (row_at id rows) → option_map (λ (x : Standing V M). x.state) (cond b (Some (beginning program row)) (standing_at id (map (beginning program) rows))) ≡ option_map (λ (r : Row). (beginning program (id, r)).state) (cond b (Some row.1) (row_at id rows))
+      by true e rest = ap (λ (n : ℕ). Some (beginning program (n, row.1)).state) (eqb-true row.0 id e)
+      by false e rest = rest
+
+  first_inbox : (program : Program V M) (id : ℕ) (rows : Rows) → inbox_of (standing_at id (map (beginning program) rows)) ≡ []
+  first_inbox program id [] = refl
+  first_inbox program id (row ∷ rows) = cond_both (row.0 == id) (Some (beginning program row)) (standing_at id (map (beginning program) rows)) (λ (o : Option (Standing V M)). inbox_of o ≡ []) (λ _. refl) (λ _. first_inbox program id rows)
+
 -- ---- vertices of a run
 
 module _ {V M : Type 0} (job : Job V M) (rows : Rows) where
@@ -185,6 +208,16 @@ module _ {V M : Type 0} (job : Job V M) (rows : Rows) where
       let xs : List (Standing V M) = present_at job rows s in
       let all : List (ℕ × M) = sends job.program (view_at job rows s) xs in
       subst (λ is. AreWaiting is (waiting_after job.missing job.combining (astray (ids xs) all))) (sym (ids-next job s (configuration job rows s))) (AreWaiting-after job.missing job.combining (ids xs) all)
+
+  -- as the run begins each row gives its vertex a state
+  pub state_at-first : (id : ℕ) → state_at job rows 0 id ≡ option_map (λ row. (beginning job.program (id, row)).state) (row_at id rows)
+  unfolding configuration first
+  state_at-first id = first_state job.program id rows
+
+  -- and nobody has received anything
+  pub inbox_at-first : (id : ℕ) → inbox_at job rows 0 id ≡ []
+  unfolding configuration first
+  inbox_at-first id = first_inbox job.program id rows
 
   -- a vertex stands in a superstep with its state, if it has one, and its inbox
   pub standing_at-state : (s id : ℕ) → standing_at id (present_at job rows s) ≡ standing_with job.program id (state_at job rows s id) (inbox_at job rows s id)
