@@ -114,6 +114,7 @@ module _ {V M : Type 0} (job : Job V M) (old new : Rows) where
         let same = same_outcome-IsUnaffected there in
         record {
           inputs = same_inputs-IsUnaffected;
+          records = ap (option_map job.program.step) same_inputs-IsUnaffected;
           outcome = same;
           sent = ap (read_off (λ r. r.sent)) same;
           contributed = ap (read_off (λ r. r.contributed)) same;

@@ -68,7 +68,7 @@ apart_from_above : (i a : ℕ) → nat_cmp a i ≡ Less → (i == a) ≡ false
 apart_from_above i a e = grind (arith, nat_tests)
 
 -- an id below all others isn't among them
-not_below : (a : ℕ) (is : List ℕ) → AllByRecursion (λ y. nat_cmp a y ≡ Less) is → has_id is a ≡ false
+pub not_below : (a : ℕ) (is : List ℕ) → AllByRecursion (λ y. nat_cmp a y ≡ Less) is → has_id is a ≡ false
 not_below a [] h = refl
 not_below a (i ∷ is) h = ap (λ b. b || has_id is a) (apart_from_above i a h.0) ∙ not_below a is h.1
 

@@ -13,6 +13,7 @@ pub mod LawsPresent
 pub mod LawsPublications
 pub mod LawsRising
 pub mod LawsShares
+pub mod LawsSharesAlike
 pub mod LawsStandings
 mod MadeVertices
 mod ReadyPrograms

@@ -1,6 +1,7 @@
 -- What a change of the graph affects: two runs of one job, on the old rows and on the new ones (this project's; vertices
 -- are affected in the sense of incremental graph algorithms).
-use Rattle.std.specs.Prelude.{◌≡◌, ℕ, suc, ◌<◌, Bool, true, false, List, [], ◌∷◌, ℤ, Option, None, Some, ◌⊎◌}
+use Rattle.std.specs.Prelude.{◌≡◌, ℕ, suc, ◌<◌, ◌==◌, Bool, true, false, List, [], ◌∷◌, map, ℤ, Option, None, Some, ◌⊎◌}
+use Rattle.std.specs.List.{filter}
 use Rattle.std.specs.List.Sorted.{IsStrictlySortedBy}
 use Rattle.std.specs.Option.{option_map}
 use Rattle.std.specs.Ordering.{nat_cmp}
@@ -11,11 +12,16 @@ use Rattle.pg_model.specs.Job.{Program, Job}
 use Rattle.pg_model.specs.Superstep.{made, outcome, has_id, messages_to, at_place}
 use Rattle.pg_model.specs.Run.{configuration, present_at, view_at, run_length}
 use Rattle.pg_model.specs.Needed.{standing_at, inputs_at}
+use Rattle.pg_model.specs.Order.{Sending}
 use Rattle.pg_model.specs.declared.configuration.VertexState.{VertexState}
 use Rattle.pg_model.specs.declared.configuration.Standing.{Standing}
 use Rattle.pg_model.specs.declared.record.Record.{Record}
 
 -- ---- one run, told by ids
+
+-- by whom and what, of the messages to one target
+abbrev pub letters_for : {M : Type 0} → ℕ → List (Sending M) → List (ℕ × M)
+letters_for target ts = map (λ t. (t.sender, t.message)) (filter (λ t. t.target == target) ts)
 
 module _ {V M : Type 0} where
   -- what a vertex has received, if there is one
@@ -52,6 +58,10 @@ module _ {V M : Type 0} where
     -- what superstep s makes of it, where it is there
     abbrev pub outcome_at : ℕ → ℕ → Option (Record V M)
     outcome_at s id = option_map (outcome job.program (view_at job rows s)) (standing_at id (present_at job rows s))
+
+    -- what its execution in superstep s gives, where it is executed
+    abbrev pub record_at : ℕ → ℕ → Option (Record V M)
+    record_at s id = option_map job.program.step (inputs_at job rows s id)
 
     -- what it sends in superstep s
     abbrev pub sent_at : ℕ → ℕ → List (ℕ × M)
@@ -95,6 +105,7 @@ module _ {V M : Type 0} (job : Job V M) (old new : Rows) where
   -- what the old run has of vertex id in superstep s stands in the new run
   pub record IsTakenOver (s id : ℕ) : Type 0 where
     pub inputs : inputs_at job old s id ≡ inputs_at job new s id
+    pub records : record_at job old s id ≡ record_at job new s id
     pub outcome : outcome_at job old s id ≡ outcome_at job new s id
     pub sent : sent_at job old s id ≡ sent_at job new s id
     pub contributed : contributed_at job old s id ≡ contributed_at job new s id
