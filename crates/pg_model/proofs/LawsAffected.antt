@@ -6,7 +6,8 @@ use Rattle.std.proofs.lemmas.Bool.{cond_both, cases_lt, cases_Bool, false_from_n
 use Rattle.pg_graph.specs.Rows.{Rows, HasRisingIds, row_at}
 use Rattle.pg_graph.specs.declared.missing.Missing.{Missing}
 use Rattle.pg_graph.specs.declared.missing.Missing.TheVariants.{Drop, Create}
-use Rattle.pg_model.specs.Affected.{read_off, standing_with, arriving, state_at, inbox_at, outcome_at, sent_at, contributed_at, IsIdleAt, StandsAlike, IsSeenAgain, IsUnaffected, AreCandidates, IsTakenOver, SendAlike, ContributeAlike}
+use Rattle.pg_model.specs.Affected.{StandsAlike, IsSeenAgain, IsUnaffected, AreCandidates, IsTakenOver, SendAlike, ContributeAlike}
+use Rattle.pg_model.specs.ByIds.{read_off, standing_with, arriving, state_at, inbox_at, outcome_at, sent_at, contributed_at, delivered_at, contributions_at, picked_at, messages_of, contributions_of, IsIdleAt}
 use Rattle.pg_model.specs.Job.{Job, Inputs, Aggregating}
 use Rattle.pg_model.specs.Needed.{standing_at, inputs_if_active, inputs_at, is_changed, is_needed, needed_in}
 use Rattle.pg_model.specs.Run.{beginning, configuration, present_at, visible_at, view_at, run_length}
@@ -29,15 +30,18 @@ use Rattle.pg_model.specs.declared.view.View.{View}
 module _ {V M : Type 0} where
   -- ---- plain values
 
-  read_to : (target : ℕ) (o : Option (Record V M)) → read_off (λ r. messages_to target r.sent) o ≡ messages_to target (read_off (λ r. r.sent) o)
+  read_to : (target : ℕ) (o : Option (Record V M))
+      → read_off (λ r. messages_to target r.sent) o ≡ messages_to target (read_off (λ r. r.sent) o)
   read_to target None = refl
   read_to target (Some r) = refl
 
-  read_at : (place : ℕ) (o : Option (Record V M)) → read_off (λ r. at_place place r.contributed) o ≡ at_place place (read_off (λ r. r.contributed) o)
+  read_at : (place : ℕ) (o : Option (Record V M))
+      → read_off (λ r. at_place place r.contributed) o ≡ at_place place (read_off (λ r. r.contributed) o)
   read_at place None = refl
   read_at place (Some r) = refl
 
-  arrives_alike : (missing : Missing) (a b : Option (VertexState V)) (messages : List M) → (missing ≡ Drop → is_some a ≡ is_some b) → arriving missing a messages ≡ arriving missing b messages
+  arrives_alike : (missing : Missing) (a b : Option (VertexState V)) (messages : List M)
+      → (missing ≡ Drop → is_some a ≡ is_some b) → arriving missing a messages ≡ arriving missing b messages
   arrives_alike Create a b messages h = refl
   arrives_alike Drop None None messages h = refl
   arrives_alike Drop None (Some y) messages h = absurd (true≢false (sym (h refl)))
@@ -48,7 +52,9 @@ begins_alike : (persistent : Bool) (v w initial : ℤ) → (persistent ≡ true 
 begins_alike true v w initial h = h refl
 begins_alike false v w initial h = refl
 
-gathers_alike : (place : ℕ) (aggregators : List Aggregating) (values : List ℤ) (c d : List (ℕ × ℤ)) → ((p : ℕ) → at_place p c ≡ at_place p d) → gathered_from place aggregators values c ≡ gathered_from place aggregators values d
+gathers_alike : (place : ℕ) (aggregators : List Aggregating) (values : List ℤ) (c d : List (ℕ × ℤ))
+    → ((p : ℕ) → at_place p c ≡ at_place p d)
+    → gathered_from place aggregators values c ≡ gathered_from place aggregators values d
 unfolding gathered_from
 gathers_alike place [] values c d h = refl
 gathers_alike place (a ∷ rest) [] c d h = refl
@@ -59,7 +65,8 @@ module _ {V M : Type 0} (job : Job V M) (old new : Rows) where
   -- ---- one vertex
 
   -- where an id stands alike in both runs, so does its vertex among those of the superstep
-  pub same_standing : (s id : ℕ) → StandsAlike job old new s id → standing_at id (present_at job old s) ≡ standing_at id (present_at job new s)
+  pub same_standing : (s id : ℕ) → StandsAlike job old new s id
+      → standing_at id (present_at job old s) ≡ standing_at id (present_at job new s)
   same_standing s id h =
       standing_at-state job old s id
       ∙ ((λ i. standing_with job.program id (h.state i) (h.inbox i)) ∙ sym (standing_at-state job new s id))
@@ -73,7 +80,10 @@ module _ {V M : Type 0} (job : Job V M) (old new : Rows) where
 
   module _ (s id : ℕ) (here : s < run_length job new) (h : IsUnaffected job old new s id) where
     -- what is read off view and vertex is the same in both runs, where an idle vertex doesn't read its view
-    read_alike : {Y : Type 0} (read : View → Option (Standing V M) → Y) → ((v w : View) → read v None ≡ read w None) → ((v w : View) (x : Standing V M) → is_active x ≡ false → read v (Some x) ≡ read w (Some x)) → s < run_length job old → read (view_at job old s) (standing_at id (present_at job old s)) ≡ read (view_at job new s) (standing_at id (present_at job new s))
+    read_alike : {Y : Type 0} (read : View → Option (Standing V M) → Y) → ((v w : View) → read v None ≡ read w None)
+        → ((v w : View) (x : Standing V M) → is_active x ≡ false → read v (Some x) ≡ read w (Some x))
+        → s < run_length job old
+        → read (view_at job old s) (standing_at id (present_at job old s)) ≡ read (view_at job new s) (standing_at id (present_at job new s))
     read_alike read missing idles there =
         let same = same_standing s id (h.alike there) in
         let v : View = view_at job old s in
@@ -128,7 +138,10 @@ module _ {V M : Type 0} (job : Job V M) (old new : Rows) where
 
   -- ids are candidates that have each id picked which stands otherwise in the old run, where that has the superstep; and where
   -- its vertices aren't those that see the same again, each active vertex picked
-  pub AreCandidates-from : (picks : ℕ → Bool) (s : ℕ) (candidates : List ℕ) → IsStrictlySortedBy nat_cmp candidates → ((id : ℕ) → picks id ≡ true → has_id candidates id ≡ false → s < run_length job old → StandsAlike job old new s id) → IsSeenAgain job old new s ⊎ ((x : Standing V M) → picks x.state.id ≡ true → standing_at x.state.id (present_at job new s) ≡ Some x → is_active x ≡ true → has_id candidates x.state.id ≡ true) → AreCandidates job old new picks s candidates
+  pub AreCandidates-from : (picks : ℕ → Bool) (s : ℕ) (candidates : List ℕ) → IsStrictlySortedBy nat_cmp candidates
+      → ((id : ℕ) → picks id ≡ true → has_id candidates id ≡ false → s < run_length job old → StandsAlike job old new s id)
+      → IsSeenAgain job old new s ⊎ ((x : Standing V M) → picks x.state.id ≡ true → standing_at x.state.id (present_at job new s) ≡ Some x → is_active x ≡ true → has_id candidates x.state.id ≡ true)
+      → AreCandidates job old new picks s candidates
   AreCandidates-from picks s candidates rise alike sees = record {
     rise = rise;
     others = λ id picked other. record {
@@ -137,7 +150,9 @@ module _ {V M : Type 0} (job : Job V M) (old new : Rows) where
     };
   }
     where
-      idles : (id : ℕ) → picks id ≡ true → has_id candidates id ≡ false → ((x : Standing V M) → picks x.state.id ≡ true → standing_at x.state.id (present_at job new s) ≡ Some x → is_active x ≡ true → has_id candidates x.state.id ≡ true) → (o : Option (Standing V M)) → standing_at id (present_at job new s) ≡ o → inputs_at job new s id ≡ None
+      idles : (id : ℕ) → picks id ≡ true → has_id candidates id ≡ false
+          → ((x : Standing V M) → picks x.state.id ≡ true → standing_at x.state.id (present_at job new s) ≡ Some x → is_active x ≡ true → has_id candidates x.state.id ≡ true)
+          → (o : Option (Standing V M)) → standing_at id (present_at job new s) ≡ o → inputs_at job new s id ≡ None
       idles id picked other active None at = no_inputs_missing job new s id at
       idles id picked other active (Some x) at = no_inputs_idle job new s id x at (false_from_ne_true (is_active x) (λ e. true≢false (sym (there e) ∙ other)))
         where
@@ -162,7 +177,9 @@ module _ {V M : Type 0} (job : Job V M) (old new : Rows) where
             ap (λ (o : Option (Inputs V M)). is_changed value_eq message_eq o (inputs_at job new s id)) (same_inputs-IsUnaffected s id here h) ∙ unchanged value_eq message_eq values messages (inputs_at job new s id)
 
     -- so all executions that a superstep needs of the vertices picked are counted among the candidates
-    pub needed_in-AreCandidates : HasRisingIds new → (picks : ℕ → Bool) (s : ℕ) (candidates : List ℕ) → AreCandidates job old new picks s candidates → needed_in value_eq message_eq job (Some old) new picks s ≡ count_by (is_needed value_eq message_eq job (Some old) new s) (filter picks candidates)
+    pub needed_in-AreCandidates : HasRisingIds new → (picks : ℕ → Bool) (s : ℕ) (candidates : List ℕ)
+        → AreCandidates job old new picks s candidates
+        → needed_in value_eq message_eq job (Some old) new picks s ≡ count_by (is_needed value_eq message_eq job (Some old) new s) (filter picks candidates)
     needed_in-AreCandidates rising picks s candidates h =
         count-rising (ids (present_at job new s)) candidates (ids_rise job new rising s) h.rise picks (is_needed value_eq message_eq job (Some old) new s)
         (λ id picked gone. ap (is_changed value_eq message_eq (inputs_at job old s id)) (no_inputs_missing job new s id (standing_at-none id (present_at job new s) gone)))
@@ -172,7 +189,9 @@ module _ {V M : Type 0} (job : Job V M) (old new : Rows) where
 
   module _ (rising : HasRisingIds old) (rising' : HasRisingIds new) (picks : ℕ → Bool) (s : ℕ) where
     -- what is made of the records of those picked, where of each of them the same is made in both runs
-    pub same_made : {X : Type 0} (part : ℕ → Record V M → List X) → ((id : ℕ) → picks id ≡ true → read_off (part id) (outcome_at job old s id) ≡ read_off (part id) (outcome_at job new s id)) → flat_map (λ x. part x.state.id (outcome job.program (view_at job old s) x)) (filter (λ x. picks x.state.id) (present_at job old s)) ≡ flat_map (λ x. part x.state.id (outcome job.program (view_at job new s) x)) (filter (λ x. picks x.state.id) (present_at job new s))
+    pub same_made : {X : Type 0} (part : ℕ → Record V M → List X)
+        → ((id : ℕ) → picks id ≡ true → read_off (part id) (outcome_at job old s id) ≡ read_off (part id) (outcome_at job new s id))
+        → flat_map (λ x. part x.state.id (outcome job.program (view_at job old s) x)) (picked_at job old picks s) ≡ flat_map (λ x. part x.state.id (outcome job.program (view_at job new s) x)) (picked_at job new picks s)
     same_made {X = X} part h =
         flat_map-present job old rising part picks s
         ∙ (ap (λ (f : ℕ → List X). flat_map f (ids (present_at job old s))) (λ i id. same id i)
@@ -185,7 +204,8 @@ module _ {V M : Type 0} (job : Job V M) (old new : Rows) where
         same : (id : ℕ) → has old id ≡ has new id
         same id = by (picks id) refl
           where
-            by : (b : Bool) → picks id ≡ b → cond b (read_off (part id) (outcome_at job old s id)) [] ≡ cond b (read_off (part id) (outcome_at job new s id)) []
+            by : (b : Bool) → picks id ≡ b
+                → cond b (read_off (part id) (outcome_at job old s id)) [] ≡ cond b (read_off (part id) (outcome_at job new s id)) []
             by true e = h id e
             by false e = refl
 
@@ -195,36 +215,44 @@ module _ {V M : Type 0} (job : Job V M) (old new : Rows) where
             ∙ cond_both (picks id) [] [] (λ (l : List X). l ≡ []) (λ _. refl) (λ _. refl)
 
     -- where each of them sends the same messages to an id, all of them do
-    pub same_messages : (target : ℕ) → SendAlike job old new picks s target → messages_to target (sends job.program (view_at job old s) (filter (λ x. picks x.state.id) (present_at job old s))) ≡ messages_to target (sends job.program (view_at job new s) (filter (λ x. picks x.state.id) (present_at job new s)))
+    pub same_messages : (target : ℕ) → SendAlike job old new picks s target
+        → messages_of job old picks s target ≡ messages_of job new picks s target
     same_messages target h =
-        messages_to-sends job.program (view_at job old s) target (filter (λ x. picks x.state.id) (present_at job old s))
+        messages_to-sends job.program (view_at job old s) target (picked_at job old picks s)
         ∙ (same_made (λ id r. messages_to target r.sent) (λ id picked. read_to target (outcome_at job old s id) ∙ (h id picked ∙ sym (read_to target (outcome_at job new s id))))
-        ∙ sym (messages_to-sends job.program (view_at job new s) target (filter (λ x. picks x.state.id) (present_at job new s))))
+        ∙ sym (messages_to-sends job.program (view_at job new s) target (picked_at job new picks s)))
 
     -- and where each contributes the same at a place, so do all of them
-    pub same_contributions : (place : ℕ) → ContributeAlike job old new picks s place → at_place place (contributions job.program (view_at job old s) (filter (λ x. picks x.state.id) (present_at job old s))) ≡ at_place place (contributions job.program (view_at job new s) (filter (λ x. picks x.state.id) (present_at job new s)))
+    pub same_contributions : (place : ℕ) → ContributeAlike job old new picks s place
+        → contributions_of job old picks s place ≡ contributions_of job new picks s place
     same_contributions place h =
-        at_place-contributions job.program (view_at job old s) place (filter (λ x. picks x.state.id) (present_at job old s))
+        at_place-contributions job.program (view_at job old s) place (picked_at job old picks s)
         ∙ (same_made (λ id r. at_place place r.contributed) (λ id picked. read_at place (outcome_at job old s id) ∙ (h id picked ∙ sym (read_at place (outcome_at job new s id))))
-        ∙ sym (at_place-contributions job.program (view_at job new s) place (filter (λ x. picks x.state.id) (present_at job new s))))
+        ∙ sym (at_place-contributions job.program (view_at job new s) place (picked_at job new picks s)))
 
   module _ (rising : HasRisingIds old) (rising' : HasRisingIds new) (s : ℕ) where
     -- where each vertex sends the same messages to an id, the same is delivered to it
-    pub same_delivered : (target : ℕ) → SendAlike job old new (λ id. true) s target → delivered job.combining target (sends job.program (view_at job old s) (present_at job old s)) ≡ delivered job.combining target (sends job.program (view_at job new s) (present_at job new s))
+    pub same_delivered : (target : ℕ) → SendAlike job old new (λ id. true) s target
+        → delivered_at job old s target ≡ delivered_at job new s target
     same_delivered target h =
         ap (combined job.combining) (subst₂ (λ (xs ys : List (Standing V M)). messages_to target (sends job.program (view_at job old s) xs) ≡ messages_to target (sends job.program (view_at job new s) ys)) (all_pass (λ x. true) (λ x. refl) (present_at job old s)) (all_pass (λ x. true) (λ x. refl) (present_at job new s)) (same_messages rising rising' (λ id. true) s target h))
 
-    at_whole : (place : ℕ) → ContributeAlike job old new (λ id. true) s place → at_place place (contributions job.program (view_at job old s) (present_at job old s)) ≡ at_place place (contributions job.program (view_at job new s) (present_at job new s))
+    at_whole : (place : ℕ) → ContributeAlike job old new (λ id. true) s place
+        → contributions_at job old s place ≡ contributions_at job new s place
     at_whole place h =
         subst₂ (λ (xs ys : List (Standing V M)). at_place place (contributions job.program (view_at job old s) xs) ≡ at_place place (contributions job.program (view_at job new s) ys)) (all_pass (λ x. true) (λ x. refl) (present_at job old s)) (all_pass (λ x. true) (λ x. refl) (present_at job new s)) (same_contributions rising rising' (λ id. true) s place h)
 
     -- where each contributes the same at a place, the same is gathered there; a persistent aggregator also has to begin alike
-    pub same_gathered_at : (a : Aggregating) (v w : ℤ) (place : ℕ) → (a.persistent ≡ true → v ≡ w) → ContributeAlike job old new (λ id. true) s place → gathered_at a v (at_place place (contributions job.program (view_at job old s) (present_at job old s))) ≡ gathered_at a w (at_place place (contributions job.program (view_at job new s) (present_at job new s)))
+    pub same_gathered_at : (a : Aggregating) (v w : ℤ) (place : ℕ) → (a.persistent ≡ true → v ≡ w)
+        → ContributeAlike job old new (λ id. true) s place
+        → gathered_at a v (contributions_at job old s place) ≡ gathered_at a w (contributions_at job new s place)
     same_gathered_at a v w place begins h =
         λ i. fold a.aggregate (begins_alike a.persistent v w a.initial begins i) (at_whole place h i)
 
     -- and where they do so at all places, and the same was visible, all that is gathered is the same
-    pub same_gathered : (visible_at job old s).values ≡ (visible_at job new s).values → ((place : ℕ) → ContributeAlike job old new (λ id. true) s place) → (configuration job old (suc s)).gathered ≡ (configuration job new (suc s)).gathered
+    pub same_gathered : (visible_at job old s).values ≡ (visible_at job new s).values
+        → ((place : ℕ) → ContributeAlike job old new (λ id. true) s place)
+        → (configuration job old (suc s)).gathered ≡ (configuration job new (suc s)).gathered
     unfolding configuration next
     same_gathered shown h =
         ap (λ (values : List ℤ). gathered_from 0 job.aggregators values (contributions job.program (view_at job old s) (present_at job old s))) shown
@@ -233,14 +261,18 @@ module _ {V M : Type 0} (job : Job V M) (old new : Rows) where
   -- ---- the next superstep
 
   -- what is delivered alike arrives alike: under `Create` always, under `Drop` where the id has a state in both runs or in none
-  pub same_inbox-next : (s id : ℕ) → (job.missing ≡ Drop → is_some (state_at job old (suc s) id) ≡ is_some (state_at job new (suc s) id)) → delivered job.combining id (sends job.program (view_at job old s) (present_at job old s)) ≡ delivered job.combining id (sends job.program (view_at job new s) (present_at job new s)) → inbox_at job old (suc s) id ≡ inbox_at job new (suc s) id
+  pub same_inbox-next : (s id : ℕ)
+      → (job.missing ≡ Drop → is_some (state_at job old (suc s) id) ≡ is_some (state_at job new (suc s) id))
+      → delivered_at job old s id ≡ delivered_at job new s id
+      → inbox_at job old (suc s) id ≡ inbox_at job new (suc s) id
   same_inbox-next s id both same =
       inbox_at-next job old s id
       ∙ (arrives_alike job.missing (state_at job old (suc s) id) (state_at job new (suc s) id) _ both
       ∙ (ap (arriving job.missing (state_at job new (suc s) id)) same ∙ sym (inbox_at-next job new s id)))
 
   -- so an id stands alike where its state is the same and the same is delivered to it
-  pub StandsAlike-next : (s id : ℕ) → state_at job old (suc s) id ≡ state_at job new (suc s) id → delivered job.combining id (sends job.program (view_at job old s) (present_at job old s)) ≡ delivered job.combining id (sends job.program (view_at job new s) (present_at job new s)) → StandsAlike job old new (suc s) id
+  pub StandsAlike-next : (s id : ℕ) → state_at job old (suc s) id ≡ state_at job new (suc s) id
+      → delivered_at job old s id ≡ delivered_at job new s id → StandsAlike job old new (suc s) id
   StandsAlike-next s id state same =
       record { state = state; inbox = same_inbox-next s id (λ _. ap is_some state) same }
 
@@ -251,7 +283,9 @@ module _ {V M : Type 0} (job : Job V M) (old new : Rows) where
         IsTakenOver-from_IsUnaffected s id here (h.others id picked other) there
 
     -- so they send the same to an id where the candidates among them do
-    pub SendAlike-AreCandidates : (target : ℕ) → ((id : ℕ) → picks id ≡ true → has_id candidates id ≡ true → messages_to target (sent_at job old s id) ≡ messages_to target (sent_at job new s id)) → SendAlike job old new picks s target
+    pub SendAlike-AreCandidates : (target : ℕ)
+        → ((id : ℕ) → picks id ≡ true → has_id candidates id ≡ true → messages_to target (sent_at job old s id) ≡ messages_to target (sent_at job new s id))
+        → SendAlike job old new picks s target
     SendAlike-AreCandidates target same id picked =
         elim (cases_Bool (has_id candidates id)) [
           | inl one ↦ same id picked one
@@ -259,7 +293,9 @@ module _ {V M : Type 0} (job : Job V M) (old new : Rows) where
         ]
 
     -- and contribute the same at a place where the candidates among them do
-    pub ContributeAlike-AreCandidates : (place : ℕ) → ((id : ℕ) → picks id ≡ true → has_id candidates id ≡ true → at_place place (contributed_at job old s id) ≡ at_place place (contributed_at job new s id)) → ContributeAlike job old new picks s place
+    pub ContributeAlike-AreCandidates : (place : ℕ)
+        → ((id : ℕ) → picks id ≡ true → has_id candidates id ≡ true → at_place place (contributed_at job old s id) ≡ at_place place (contributed_at job new s id))
+        → ContributeAlike job old new picks s place
     ContributeAlike-AreCandidates place same id picked =
         elim (cases_Bool (has_id candidates id)) [
           | inl one ↦ same id picked one
@@ -268,7 +304,11 @@ module _ {V M : Type 0} (job : Job V M) (old new : Rows) where
 
   -- an id stands alike in the next superstep unless it is a candidate whose state becomes another, or a candidate sends other
   -- messages to it
-  pub StandsAlike-AreCandidates : HasRisingIds old → HasRisingIds new → (s : ℕ) → s < run_length job old → s < run_length job new → (candidates : List ℕ) → AreCandidates job old new (λ id. true) s candidates → (id : ℕ) → (has_id candidates id ≡ true → state_at job old (suc s) id ≡ state_at job new (suc s) id) → ((sender : ℕ) → has_id candidates sender ≡ true → messages_to id (sent_at job old s sender) ≡ messages_to id (sent_at job new s sender)) → StandsAlike job old new (suc s) id
+  pub StandsAlike-AreCandidates : HasRisingIds old → HasRisingIds new → (s : ℕ) → s < run_length job old
+      → s < run_length job new → (candidates : List ℕ) → AreCandidates job old new (λ id. true) s candidates → (id : ℕ)
+      → (has_id candidates id ≡ true → state_at job old (suc s) id ≡ state_at job new (suc s) id)
+      → ((sender : ℕ) → has_id candidates sender ≡ true → messages_to id (sent_at job old s sender) ≡ messages_to id (sent_at job new s sender))
+      → StandsAlike job old new (suc s) id
   StandsAlike-AreCandidates rising rising' s there here candidates h id states letters =
       StandsAlike-next s id state (same_delivered rising rising' s id (SendAlike-AreCandidates s there here (λ k. true) candidates h id (λ sender picked one. letters sender one)))
     where

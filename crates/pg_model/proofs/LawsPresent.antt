@@ -14,7 +14,7 @@ use Rattle.pg_graph.specs.Rows.{Rows, HasRisingIds, row_at}
 use Rattle.pg_graph.specs.declared.graph.Row.{Row}
 use Rattle.pg_graph.specs.declared.missing.Missing.{Missing}
 use Rattle.pg_graph.specs.declared.missing.Missing.TheVariants.{Drop, Create}
-use Rattle.pg_model.specs.Affected.{inbox_of, read_off, standing_with, arriving, state_at, inbox_at, outcome_at, sent_at, contributed_at, IsIdleAt}
+use Rattle.pg_model.specs.ByIds.{inbox_of, read_off, standing_with, arriving, state_at, inbox_at, outcome_at, delivered_at, picked_at, IsIdleAt}
 use Rattle.pg_model.specs.InOrder.{AreWaiting}
 use Rattle.pg_model.specs.Job.{Job, Program, Combining}
 use Rattle.pg_model.specs.Needed.{standing_at, inputs_if_active, inputs_at}
@@ -56,7 +56,8 @@ at_key id key = grind (arith, nat_tests)
 
 module _ {M : Type 0} where
   -- to an id that isn't among the ids, all messages go astray
-  pub delivered-astray : (combining : Option (Combining M)) (is : List ℕ) (sent : List (ℕ × M)) (id : ℕ) → has_id is id ≡ false → delivered combining id (astray is sent) ≡ delivered combining id sent
+  pub delivered-astray : (combining : Option (Combining M)) (is : List ℕ) (sent : List (ℕ × M)) (id : ℕ)
+      → has_id is id ≡ false → delivered combining id (astray is sent) ≡ delivered combining id sent
   delivered-astray combining is sent id new =
       ap (λ (l : List (ℕ × M)). combined combining (map (λ m. m.1) l)) (filter-filter (λ m. m.0 == id) (λ m. not (has_id is m.0)) (λ m. m.0 == id) (λ m. each m (m.0 == id) refl) sent)
     where
@@ -75,23 +76,30 @@ module _ {M : Type 0} where
   combined-none (Some c) = refl
 
   -- nothing is delivered to an id that is no target
-  pub delivered-none : (combining : Option (Combining M)) (sent : List (ℕ × M)) (id : ℕ) → has_id (targets sent) id ≡ false → delivered combining id sent ≡ []
+  pub delivered-none : (combining : Option (Combining M)) (sent : List (ℕ × M)) (id : ℕ)
+      → has_id (targets sent) id ≡ false → delivered combining id sent ≡ []
   delivered-none combining sent id h =
       ap (combined combining) (no_messages sent id (sym (has_id-targets sent id) ∙ h)) ∙ combined-none combining
 
-  find_inbox : (f : ℕ → List M) (is : List ℕ) (id : ℕ) → find (λ (w : ℕ × List M). w.0 == id) (map (λ k. (k, f k)) is) ≡ cond (has_id is id) (Some (id, f id)) None
+  find_inbox : (f : ℕ → List M) (is : List ℕ) (id : ℕ)
+      → find (λ (w : ℕ × List M). w.0 == id) (map (λ k. (k, f k)) is) ≡ cond (has_id is id) (Some (id, f id)) None
   find_inbox f [] id = refl
   find_inbox f (k ∷ is) id = by (k == id) refl (find_inbox f is id)
     where
-      by : (b : Bool) → (k == id) ≡ b → find (λ (w : ℕ × List M). w.0 == id) (map (λ k. (k, f k)) is) ≡ cond (has_id is id) (Some (id, f id)) None → cond b (Some (k, f k)) (find (λ (w : ℕ × List M). w.0 == id) (map (λ k. (k, f k)) is)) ≡ cond (b || has_id is id) (Some (id, f id)) None
+      by : (b : Bool) → (k == id) ≡ b
+          → find (λ (w : ℕ × List M). w.0 == id) (map (λ k. (k, f k)) is) ≡ cond (has_id is id) (Some (id, f id)) None
+          → cond b (Some (k, f k)) (find (λ (w : ℕ × List M). w.0 == id) (map (λ k. (k, f k)) is)) ≡ cond (b || has_id is id) (Some (id, f id)) None
       by true e rest = ap (λ (n : ℕ). Some (n, f n)) (eqb-true k id e)
       by false e rest = rest
 
-  waits_right : (ws : List (ℕ × List M)) (id : ℕ) → AllByRecursion (λ w. is_empty w.1 ≡ false) ws → (v : ℕ × List M) → find (λ w. w.0 == id) ws ≡ Some v → (v.0 ≡ id) × (is_empty v.1 ≡ false)
+  waits_right : (ws : List (ℕ × List M)) (id : ℕ) → AllByRecursion (λ w. is_empty w.1 ≡ false) ws → (v : ℕ × List M)
+      → find (λ w. w.0 == id) ws ≡ Some v → (v.0 ≡ id) × (is_empty v.1 ≡ false)
   waits_right [] id h v e = absurd (none-some v e)
   waits_right (w ∷ ws) id h v e = by (w.0 == id) refl e (waits_right ws id h.1 v)
     where
-      by : (b : Bool) → (w.0 == id) ≡ b → cond b (Some w) (find (λ w. w.0 == id) ws) ≡ Some v → (find (λ w. w.0 == id) ws ≡ Some v → (v.0 ≡ id) × (is_empty v.1 ≡ false)) → (v.0 ≡ id) × (is_empty v.1 ≡ false)
+      by : (b : Bool) → (w.0 == id) ≡ b → cond b (Some w) (find (λ w. w.0 == id) ws) ≡ Some v
+          → (find (λ w. w.0 == id) ws ≡ Some v → (v.0 ≡ id) × (is_empty v.1 ≡ false))
+          → (v.0 ≡ id) × (is_empty v.1 ≡ false)
       by true t e' later = subst (λ (u : ℕ × List M). (u.0 ≡ id) × (is_empty u.1 ≡ false)) (same_Some w v e') (eqb-true w.0 id t, h.0)
       by false t e' later = later e'
 
@@ -103,27 +111,34 @@ module _ {V M : Type 0} where
   is_some-standing_at id [] = refl
   is_some-standing_at id (x ∷ xs) = by (x.state.id == id) (is_some-standing_at id xs)
     where
-      by : (b : Bool) → is_some (standing_at id xs) ≡ has_id (ids xs) id → is_some (cond b (Some x) (standing_at id xs)) ≡ (b || has_id (ids xs) id)
+      by : (b : Bool) → is_some (standing_at id xs) ≡ has_id (ids xs) id
+          → is_some (cond b (Some x) (standing_at id xs)) ≡ (b || has_id (ids xs) id)
       by true rest = refl
       by false rest = rest
 
   pub standing_at-none : (id : ℕ) (xs : List (Standing V M)) → has_id (ids xs) id ≡ false → standing_at id xs ≡ None
   standing_at-none id xs h = none_there (standing_at id xs) (is_some-standing_at id xs ∙ h)
 
-  standing_at-placed : (x : Standing V M) (ys : List (Standing V M)) (id : ℕ) → has_id (ids ys) x.state.id ≡ false → standing_at id (placed x ys) ≡ cond (x.state.id == id) (Some x) (standing_at id ys)
+  standing_at-placed : (x : Standing V M) (ys : List (Standing V M)) (id : ℕ) → has_id (ids ys) x.state.id ≡ false
+      → standing_at id (placed x ys) ≡ cond (x.state.id == id) (Some x) (standing_at id ys)
   standing_at-placed x [] id new = refl
   standing_at-placed x (y ∷ ys) id new =
       let both = or_parts (y.state.id == x.state.id) (has_id (ids ys) x.state.id) new in
       by (ltb x.state.id y.state.id) both.0 (standing_at-placed x ys id both.1)
     where
-      by : (a : Bool) → (y.state.id == x.state.id) ≡ false → standing_at id (placed x ys) ≡ cond (x.state.id == id) (Some x) (standing_at id ys) → standing_at id (cond a (x ∷ y ∷ ys) (y ∷ placed x ys)) ≡ cond (x.state.id == id) (Some x) (standing_at id (y ∷ ys))
+      by : (a : Bool) → (y.state.id == x.state.id) ≡ false
+          → standing_at id (placed x ys) ≡ cond (x.state.id == id) (Some x) (standing_at id ys)
+          → standing_at id (cond a (x ∷ y ∷ ys) (y ∷ placed x ys)) ≡ cond (x.state.id == id) (Some x) (standing_at id (y ∷ ys))
       by true unlike rest = refl
       by false unlike rest =
           ap (cond (y.state.id == id) (Some y)) rest
           ∙ either_first (x.state.id == id) (y.state.id == id) (Some x) (Some y) (standing_at id ys) (λ e e'. true≢false (sym (ap (λ (n : ℕ). y.state.id == n) (eqb-true x.state.id id e) ∙ e') ∙ unlike))
 
   module _ (program : Program V M) where
-    standing_at-with_made : (xs : List (Standing V M)) (ws : List (ℕ × List M)) (id : ℕ) → IsStrictlySortedBy nat_cmp (map (λ (w : ℕ × List M). w.0) ws) → AllByRecursion (λ (w : ℕ × List M). has_id (ids xs) w.0 ≡ false) ws → standing_at id (with_made program xs ws) ≡ option_or (standing_at id xs) (option_map (made program) (find (λ w. w.0 == id) ws))
+    standing_at-with_made : (xs : List (Standing V M)) (ws : List (ℕ × List M)) (id : ℕ)
+        → IsStrictlySortedBy nat_cmp (map (λ (w : ℕ × List M). w.0) ws)
+        → AllByRecursion (λ (w : ℕ × List M). has_id (ids xs) w.0 ≡ false) ws
+        → standing_at id (with_made program xs ws) ≡ option_or (standing_at id xs) (option_map (made program) (find (λ w. w.0 == id) ws))
     unfolding IsStrictlySortedBy
     standing_at-with_made xs [] id h apart = or_nothing (standing_at id xs)
     standing_at-with_made xs (w ∷ ws) id h apart =
@@ -133,7 +148,8 @@ module _ {V M : Type 0} where
         rest : Option (Standing V M)
         rest = option_map (made program) (find (λ w. w.0 == id) ws)
 
-        by : (b : Bool) → (w.0 == id) ≡ b → option_or (cond b (Some (made program w)) (standing_at id xs)) rest ≡ option_or (standing_at id xs) (option_map (made program) (cond b (Some w) (find (λ w. w.0 == id) ws)))
+        by : (b : Bool) → (w.0 == id) ≡ b
+            → option_or (cond b (Some (made program w)) (standing_at id xs)) rest ≡ option_or (standing_at id xs) (option_map (made program) (cond b (Some w) (find (λ w. w.0 == id) ws)))
         by true e = ap (λ (o : Option (Standing V M)). option_or o (Some (made program w))) (sym (standing_at-none id xs (sym (ap (has_id (ids xs)) (eqb-true w.0 id e)) ∙ apart.0)))
         by false e = refl
 
@@ -141,7 +157,9 @@ module _ {V M : Type 0} where
     made_with k id [] e h = absurd (true≢false h)
     made_with k id (m ∷ ms) e h = ap (λ (n : ℕ). Some (made program (n, m ∷ ms))) e
 
-    stands_by : (id : ℕ) (o : Option (Standing V M)) (w : Option (ℕ × List M)) → ((v : ℕ × List M) → w ≡ Some v → (v.0 ≡ id) × (is_empty v.1 ≡ false)) → option_or o (option_map (made program) w) ≡ standing_with program id (option_map (λ x. x.state) o) (inbox_of (option_or o (option_map (made program) w)))
+    stands_by : (id : ℕ) (o : Option (Standing V M)) (w : Option (ℕ × List M))
+        → ((v : ℕ × List M) → w ≡ Some v → (v.0 ≡ id) × (is_empty v.1 ≡ false))
+        → option_or o (option_map (made program) w) ≡ standing_with program id (option_map (λ x. x.state) o) (inbox_of (option_or o (option_map (made program) w)))
     stands_by id (Some x) w h = refl
     stands_by id None None h = refl
     stands_by id None (Some v) h = let r = h v refl in made_with v.0 id v.1 r.0 r.1
@@ -156,11 +174,13 @@ module _ {V M : Type 0} where
       stands_with-present =
           subst (λ (o : Option (Standing V M)). o ≡ standing_with program id (option_map (λ x. x.state) (standing_at id c.standings)) (inbox_of o)) (sym standing_at-present) (stands_by id (standing_at id c.standings) (find (λ w. w.0 == id) c.waiting) (waits_right c.waiting id waits.some))
 
-  none_with : (program : Program V M) (id : ℕ) (state : Option (VertexState V)) (inbox : List M) → None ≡ standing_with program id state inbox → state ≡ None
+  none_with : (program : Program V M) (id : ℕ) (state : Option (VertexState V)) (inbox : List M)
+      → None ≡ standing_with program id state inbox → state ≡ None
   none_with program id None inbox e = refl
   none_with program id (Some state) inbox e = absurd (none-some _ e)
 
-  idle_with : (program : Program V M) (id : ℕ) (state : Option (VertexState V)) (inbox : List M) (x : Standing V M) → Some x ≡ standing_with program id state inbox → is_active x ≡ false → Some x.state ≡ state
+  idle_with : (program : Program V M) (id : ℕ) (state : Option (VertexState V)) (inbox : List M) (x : Standing V M)
+      → Some x ≡ standing_with program id state inbox → is_active x ≡ false → Some x.state ≡ state
   idle_with program id (Some state) inbox x e idles = ap (option_map (λ (y : Standing V M). y.state)) e
   idle_with program id None [] x e idles = absurd (none-some x (sym e))
   idle_with program id None (m ∷ ms) x e idles =
@@ -170,7 +190,9 @@ module _ {V M : Type 0} where
   arriving-some Drop state messages = refl
   arriving-some Create state messages = refl
 
-  waiting_inbox : (program : Program V M) (missing : Missing) (combining : Option (Combining M)) (is : List ℕ) (all : List (ℕ × M)) (id : ℕ) → has_id is id ≡ false → inbox_of (option_map (made program) (find (λ w. w.0 == id) (waiting_after missing combining (astray is all)))) ≡ arriving {V = V} missing None (delivered combining id all)
+  waiting_inbox : (program : Program V M) (missing : Missing) (combining : Option (Combining M)) (is : List ℕ) (all : List (ℕ × M)) (id : ℕ)
+      → has_id is id ≡ false
+      → inbox_of (option_map (made program) (find (λ w. w.0 == id) (waiting_after missing combining (astray is all)))) ≡ arriving {V = V} missing None (delivered combining id all)
   waiting_inbox program Drop combining is all id new = refl
   waiting_inbox program Create combining is all id new =
       ap (λ (o : Option (ℕ × List M)). inbox_of (option_map (made program) o)) (find_inbox (λ k. delivered combining k strays) (targets strays) id) ∙ by (has_id (targets strays) id) refl
@@ -178,19 +200,23 @@ module _ {V M : Type 0} where
       strays : List (ℕ × M)
       strays = astray is all
 
-      by : (b : Bool) → has_id (targets strays) id ≡ b → inbox_of (option_map (made program) (cond b (Some (id, delivered combining id strays)) None)) ≡ delivered combining id all
+      by : (b : Bool) → has_id (targets strays) id ≡ b
+          → inbox_of (option_map (made program) (cond b (Some (id, delivered combining id strays)) None)) ≡ delivered combining id all
       by true e = delivered-astray combining is all id new
       by false e = sym (delivered-none combining strays id e) ∙ delivered-astray combining is all id new
 
   -- ---- as a run begins
 
-  first_state : (program : Program V M) (id : ℕ) (rows : Rows) → option_map (λ (x : Standing V M). x.state) (standing_at id (map (beginning program) rows)) ≡ option_map (λ row. (beginning program (id, row)).state) (row_at id rows)
+  first_state : (program : Program V M) (id : ℕ) (rows : Rows)
+      → option_map (λ (x : Standing V M). x.state) (standing_at id (map (beginning program) rows)) ≡ option_map (λ row. (beginning program (id, row)).state) (row_at id rows)
   first_state program id [] = refl
   first_state program id (row ∷ rows) =
       by (row.0 == id) refl (first_state program id rows)
       ∙ ap (λ (b : Bool). option_map (λ (r : Row). (beginning program (id, r)).state) (cond b (Some row.1) (row_at id rows))) (sym (at_key id row.0))
     where
-      by : (b : Bool) → (row.0 == id) ≡ b → option_map (λ (x : Standing V M). x.state) (standing_at id (map (beginning program) rows)) ≡ option_map (λ (r : Row). (beginning program (id, r)).state) (row_at id rows) → option_map (λ (x : Standing V M). x.state) (cond b (Some (beginning program row)) (standing_at id (map (beginning program) rows))) ≡ option_map (λ (r : Row). (beginning program (id, r)).state) (cond b (Some row.1) (row_at id rows))
+      by : (b : Bool) → (row.0 == id) ≡ b
+          → option_map (λ (x : Standing V M). x.state) (standing_at id (map (beginning program) rows)) ≡ option_map (λ (r : Row). (beginning program (id, r)).state) (row_at id rows)
+          → option_map (λ (x : Standing V M). x.state) (cond b (Some (beginning program row)) (standing_at id (map (beginning program) rows))) ≡ option_map (λ (r : Row). (beginning program (id, r)).state) (cond b (Some row.1) (row_at id rows))
       by true e rest = ap (λ (n : ℕ). Some (beginning program (n, row.1)).state) (eqb-true row.0 id e)
       by false e rest = rest
 
@@ -220,18 +246,21 @@ module _ {V M : Type 0} (job : Job V M) (rows : Rows) where
   inbox_at-first id = first_inbox job.program id rows
 
   -- a vertex stands in a superstep with its state, if it has one, and its inbox
-  pub standing_at-state : (s id : ℕ) → standing_at id (present_at job rows s) ≡ standing_with job.program id (state_at job rows s id) (inbox_at job rows s id)
+  pub standing_at-state : (s id : ℕ)
+      → standing_at id (present_at job rows s) ≡ standing_with job.program id (state_at job rows s id) (inbox_at job rows s id)
   standing_at-state s id = stands_with-present job.program (configuration job rows s) (AreWaiting-at s) id
 
   -- a superstep leaves each of its vertices the state of its outcome
-  pub state_at-next : (s id : ℕ) → state_at job rows (suc s) id ≡ option_map (λ x. state_after x.state (outcome job.program (view_at job rows s) x)) (standing_at id (present_at job rows s))
+  pub state_at-next : (s id : ℕ)
+      → state_at job rows (suc s) id ≡ option_map (λ x. state_after x.state (outcome job.program (view_at job rows s) x)) (standing_at id (present_at job rows s))
   unfolding configuration
   state_at-next s id =
       ap (option_map (λ (x : Standing V M). x.state)) (standing_at-next job s (configuration job rows s) id)
       ∙ mapped_twice (λ (x : Standing V M). x.state) (standing_after job (view_at job rows s) (present_at job rows s)) (standing_at id (present_at job rows s))
 
   -- and brings to each id what was sent to it; under `Drop` only where it has a state
-  pub inbox_at-next : (s id : ℕ) → inbox_at job rows (suc s) id ≡ arriving job.missing (state_at job rows (suc s) id) (delivered job.combining id (sends job.program (view_at job rows s) (present_at job rows s)))
+  pub inbox_at-next : (s id : ℕ)
+      → inbox_at job rows (suc s) id ≡ arriving job.missing (state_at job rows (suc s) id) (delivered_at job rows s id)
   unfolding configuration next
   inbox_at-next s id =
       ap inbox_of (standing_at-present job.program (configuration job rows (suc s)) (AreWaiting-at (suc s)) id)
@@ -249,7 +278,8 @@ module _ {V M : Type 0} (job : Job V M) (rows : Rows) where
       after : Standing V M → Standing V M
       after = standing_after job (view_at job rows s) xs
 
-      by : (o : Option (Standing V M)) → standing_at id xs ≡ o → inbox_of (option_or (option_map after o) made_then) ≡ arriving job.missing (option_map (λ (x : Standing V M). x.state) (option_map after o)) (delivered job.combining id all)
+      by : (o : Option (Standing V M)) → standing_at id xs ≡ o
+          → inbox_of (option_or (option_map after o) made_then) ≡ arriving job.missing (option_map (λ (x : Standing V M). x.state) (option_map after o)) (delivered job.combining id all)
       by (Some x) e =
           ap (λ (n : ℕ). delivered job.combining n all) (standing_is id xs x e).0
           ∙ arriving-some job.missing (after x).state (delivered job.combining id all)
@@ -257,27 +287,31 @@ module _ {V M : Type 0} (job : Job V M) (rows : Rows) where
           waiting_inbox job.program job.missing job.combining (ids xs) all id (sym (is_some-standing_at id xs) ∙ ap is_some e)
 
   -- so this is how each id stands in the next superstep: with its state; or made by what was sent to it; or not at all
-  pub standing_at-next_state : (s id : ℕ) → standing_at id (present_at job rows (suc s)) ≡ standing_with job.program id (state_at job rows (suc s) id) (arriving job.missing (state_at job rows (suc s) id) (delivered job.combining id (sends job.program (view_at job rows s) (present_at job rows s))))
+  pub standing_at-next_state : (s id : ℕ)
+      → standing_at id (present_at job rows (suc s)) ≡ standing_with job.program id (state_at job rows (suc s) id) (arriving job.missing (state_at job rows (suc s) id) (delivered_at job rows s id))
   standing_at-next_state s id =
       standing_at-state (suc s) id ∙ ap (standing_with job.program id (state_at job rows (suc s) id)) (inbox_at-next s id)
 
   -- ---- inputs
 
   -- in a superstep of the run an id has the inputs of its vertex
-  pub inputs_within : (s id : ℕ) → s < run_length job rows → inputs_at job rows s id ≡ option_and_then (inputs_if_active (view_at job rows s)) (standing_at id (present_at job rows s))
+  pub inputs_within : (s id : ℕ) → s < run_length job rows
+      → inputs_at job rows s id ≡ option_and_then (inputs_if_active (view_at job rows s)) (standing_at id (present_at job rows s))
   unfolding inputs_at
   inputs_within s id within =
       ap (λ (b : Bool). cond b (option_and_then (inputs_if_active (view_at job rows s)) (standing_at id (present_at job rows s))) None) (lt-ltb s (run_length job rows) within)
 
   -- where there are none, the vertex isn't there or isn't active
-  pub missing_or_idle : (s id : ℕ) → s < run_length job rows → inputs_at job rows s id ≡ None → (standing_at id (present_at job rows s) ≡ None) ⊎ ((x : Standing V M) × (standing_at id (present_at job rows s) ≡ Some x) × (is_active x ≡ false))
+  pub missing_or_idle : (s id : ℕ) → s < run_length job rows → inputs_at job rows s id ≡ None
+      → (standing_at id (present_at job rows s) ≡ None) ⊎ ((x : Standing V M) × (standing_at id (present_at job rows s) ≡ Some x) × (is_active x ≡ false))
   missing_or_idle s id within none = by (standing_at id (present_at job rows s)) refl
     where
       idles : (x : Standing V M) → standing_at id (present_at job rows s) ≡ Some x → (b : Bool) → is_active x ≡ b → is_active x ≡ false
       idles x at true e = absurd (none-some _ (sym none ∙ inputs_of_executed job rows s id x (record { within = within; present = at; active = e })))
       idles x at false e = e
 
-      by : (o : Option (Standing V M)) → standing_at id (present_at job rows s) ≡ o → (standing_at id (present_at job rows s) ≡ None) ⊎ ((x : Standing V M) × (standing_at id (present_at job rows s) ≡ Some x) × (is_active x ≡ false))
+      by : (o : Option (Standing V M)) → standing_at id (present_at job rows s) ≡ o
+          → (standing_at id (present_at job rows s) ≡ None) ⊎ ((x : Standing V M) × (standing_at id (present_at job rows s) ≡ Some x) × (is_active x ≡ false))
       by None e = inl e
       by (Some x) e = inr (x, e, idles x e (is_active x) refl)
 
@@ -303,11 +337,13 @@ module _ {V M : Type 0} (job : Job V M) (rows : Rows) where
 
 -- ---- what all vertices give
 
-flat_map-picked : {X Y : Type 0} (f : X → List Y) (p : X → Bool) (xs : List X) → flat_map f (filter p xs) ≡ flat_map (λ x. cond (p x) (f x) []) xs
+flat_map-picked : {X Y : Type 0} (f : X → List Y) (p : X → Bool) (xs : List X)
+    → flat_map f (filter p xs) ≡ flat_map (λ x. cond (p x) (f x) []) xs
 flat_map-picked f p [] = refl
 flat_map-picked {X = X} {Y = Y} f p (x ∷ xs) = by (p x) (flat_map-picked f p xs)
   where
-    by : (b : Bool) → flat_map f (filter p xs) ≡ flat_map (λ x. cond (p x) (f x) []) xs → flat_map f (cond b (x ∷ filter p xs) (filter p xs)) ≡ cond b (f x) [] ++ flat_map (λ x. cond (p x) (f x) []) xs
+    by : (b : Bool) → flat_map f (filter p xs) ≡ flat_map (λ x. cond (p x) (f x) []) xs
+        → flat_map f (cond b (x ∷ filter p xs) (filter p xs)) ≡ cond b (f x) [] ++ flat_map (λ x. cond (p x) (f x) []) xs
     by true rest = ap (◌++◌ (f x)) rest
     by false rest = rest
 
@@ -316,7 +352,9 @@ flat_map-each f g [] h = refl
 flat_map-each f g (x ∷ xs) h = ap₂ ◌++◌ h.0 (flat_map-each f g xs h.1)
 
 -- what is made of the records of those vertices that are picked, one after another, is made of what each id has
-pub flat_map-present : {V M X : Type 0} (job : Job V M) (rows : Rows) → HasRisingIds rows → (part : ℕ → Record V M → List X) (picks : ℕ → Bool) (s : ℕ) → flat_map (λ x. part x.state.id (outcome job.program (view_at job rows s) x)) (filter (λ x. picks x.state.id) (present_at job rows s)) ≡ flat_map (λ id. cond (picks id) (read_off (part id) (outcome_at job rows s id)) []) (ids (present_at job rows s))
+pub flat_map-present : {V M X : Type 0} (job : Job V M) (rows : Rows) → HasRisingIds rows
+    → (part : ℕ → Record V M → List X) (picks : ℕ → Bool) (s : ℕ)
+    → flat_map (λ x. part x.state.id (outcome job.program (view_at job rows s) x)) (picked_at job rows picks s) ≡ flat_map (λ id. cond (picks id) (read_off (part id) (outcome_at job rows s id)) []) (ids (present_at job rows s))
 flat_map-present {V = V} {M = M} {X = X} job rows rising part picks s =
     let xs : List (Standing V M) = present_at job rows s in
     let gives : Standing V M → List X = λ x. part x.state.id (outcome job.program (view_at job rows s) x) in

@@ -16,16 +16,20 @@ has_id-filter test is id = any-filter_same (λ k. k == id) test (test id) (λ k 
 
 module _ (xs ys : List ℕ) (rise : IsStrictlySortedBy nat_cmp xs) (rise' : IsStrictlySortedBy nat_cmp ys) where
   -- filters leave the same where each id that passes is in both lists or in none
-  pub filter-rising : (test : ℕ → Bool) → ((id : ℕ) → test id ≡ true → has_id xs id ≡ has_id ys id) → filter test xs ≡ filter test ys
+  pub filter-rising : (test : ℕ → Bool)
+      → ((id : ℕ) → test id ≡ true → has_id xs id ≡ has_id ys id)
+      → filter test xs ≡ filter test ys
   filter-rising test same =
-      same_rising (filter test xs) (filter test ys) (IsStrictlySortedBy-filter nat_cmp test xs rise) (IsStrictlySortedBy-filter nat_cmp test ys rise') (λ id. has_id-filter test xs id ∙ (by id (test id) refl ∙ sym (has_id-filter test ys id)))
+      same_rising (filter test xs) (filter test ys)
+      (IsStrictlySortedBy-filter nat_cmp test xs rise) (IsStrictlySortedBy-filter nat_cmp test ys rise') (λ id. has_id-filter test xs id ∙ (by id (test id) refl ∙ sym (has_id-filter test ys id)))
     where
       by : (id : ℕ) (b : Bool) → test id ≡ b → (b && has_id xs id) ≡ (b && has_id ys id)
       by id true e = same id e
       by id false e = refl
 
   -- the same is made of both where nothing is made of the ids that aren't in both
-  pub flat_map-rising : {X : Type 0} (f : ℕ → List X) → ((id : ℕ) → has_id xs id ≡ false → f id ≡ []) → ((id : ℕ) → has_id ys id ≡ false → f id ≡ []) → flat_map f xs ≡ flat_map f ys
+  pub flat_map-rising : {X : Type 0} (f : ℕ → List X) → ((id : ℕ) → has_id xs id ≡ false → f id ≡ [])
+      → ((id : ℕ) → has_id ys id ≡ false → f id ≡ []) → flat_map f xs ≡ flat_map f ys
   flat_map-rising f none none' =
       sym (flat_map-filter f both (λ id. nothing id (has_id xs id) refl (has_id ys id) refl) xs)
       ∙ (ap (flat_map f) (filter-rising both (λ id. together (has_id xs id) (has_id ys id)))
@@ -45,7 +49,9 @@ module _ (xs ys : List ℕ) (rise : IsStrictlySortedBy nat_cmp xs) (rise' : IsSt
       together false b t = absurd (true≢false (sym t))
 
   -- and the same is counted of those picked where no others pass
-  pub count-rising : (picks test : ℕ → Bool) → ((id : ℕ) → picks id ≡ true → has_id xs id ≡ false → test id ≡ false) → ((id : ℕ) → picks id ≡ true → has_id ys id ≡ false → test id ≡ false) → count_by test (filter picks xs) ≡ count_by test (filter picks ys)
+  pub count-rising : (picks test : ℕ → Bool) → ((id : ℕ) → picks id ≡ true → has_id xs id ≡ false → test id ≡ false)
+      → ((id : ℕ) → picks id ≡ true → has_id ys id ≡ false → test id ≡ false)
+      → count_by test (filter picks xs) ≡ count_by test (filter picks ys)
   count-rising picks test none none' = counted xs ∙ (ap length (filter-rising both same) ∙ sym (counted ys))
     where
       both : ℕ → Bool
@@ -54,7 +60,8 @@ module _ (xs ys : List ℕ) (rise : IsStrictlySortedBy nat_cmp xs) (rise' : IsSt
       counted : (zs : List ℕ) → count_by test (filter picks zs) ≡ length (filter both zs)
       counted zs = sym (length-filter test (filter picks zs)) ∙ ap length (filter-filter test picks both (λ id. refl) zs)
 
-      there : (zs : List ℕ) (id : ℕ) → (picks id ≡ true → has_id zs id ≡ false → test id ≡ false) → (a b c : Bool) → picks id ≡ a → test id ≡ b → has_id zs id ≡ c → cond a b false ≡ true → c ≡ true
+      there : (zs : List ℕ) (id : ℕ) → (picks id ≡ true → has_id zs id ≡ false → test id ≡ false) → (a b c : Bool)
+          → picks id ≡ a → test id ≡ b → has_id zs id ≡ c → cond a b false ≡ true → c ≡ true
       there zs id n a b true e e' e'' t = refl
       there zs id n true true false e e' e'' t = absurd (true≢false (sym e' ∙ n e e''))
       there zs id n true false false e e' e'' t = t
