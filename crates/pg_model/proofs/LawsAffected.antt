@@ -1,16 +1,16 @@
 -- Two runs of one job: what an unaffected vertex keeps, which executions are needed, and what is delivered and gathered.
-use Rattle.std.proofs.Common.{◌≡◌, ℕ, suc, ◌+◌, ◌<◌, ◌≤◌, Bool, true, false, cond, ◌==◌, List, [], ◌∷◌, ◌++◌, map, ℤ, Option, None, Some, option_map, option_and_then, is_some, refl, ap, ap₂, sym, ◌∙◌, arith, subst₂, true≢false, inl, inr, ◌⊎◌, filter, flat_map, count_by, fold}
+use Rattle.std.proofs.Common.{◌≡◌, ℕ, suc, ◌+◌, ◌<◌, ◌≤◌, Bool, true, false, cond, ◌==◌, List, [], ◌∷◌, ◌++◌, map, ℤ, Option, None, Some, option_map, option_and_then, is_some, refl, ap, ap₂, sym, ◌∙◌, arith, true≢false, inl, inr, ◌⊎◌, filter, flat_map, count_by, fold}
 use Rattle.std.specs.List.Sorted.{IsStrictlySortedBy}
 use Rattle.std.specs.Ordering.{nat_cmp}
 use Rattle.std.proofs.lemmas.Bool.{cond_both, cases_lt, cases_Bool, false_from_ne_true}
 use Rattle.pg_graph.specs.Rows.{Rows, HasRisingIds, row_at}
 use Rattle.pg_graph.specs.declared.missing.Missing.{Missing}
 use Rattle.pg_graph.specs.declared.missing.Missing.TheVariants.{Drop, Create}
-use Rattle.pg_model.specs.Affected.{StandsAlike, IsSeenAgain, IsUnaffected, AreCandidates, IsTakenOver, SendAlike, ContributeAlike}
-use Rattle.pg_model.specs.ByIds.{read_off, standing_with, arriving, state_at, inbox_at, outcome_at, sent_at, contributed_at, delivered_at, contributions_at, picked_at, messages_of, contributions_of, IsIdleAt}
+use Rattle.pg_model.specs.Affected.{StandsAlike, IsSeenAgain, IsUnaffected, AreCandidates, IsTakenOver, SendsAlike, ContributesAlike, AllSendAlike, AllContributeAlike}
+use Rattle.pg_model.specs.ByIds.{outcome_in, made_of, read_off, standing_with, arriving, state_at, inbox_at, outcome_at, delivered_at, contributions_at, picked_at, messages_of, contributions_of, IsIdleAt}
 use Rattle.pg_model.specs.Job.{Job, Inputs, Aggregating}
 use Rattle.pg_model.specs.Needed.{standing_at, inputs_if_active, inputs_at, is_changed, is_needed, needed_in}
-use Rattle.pg_model.specs.Run.{beginning, configuration, present_at, visible_at, view_at, run_length}
+use Rattle.pg_model.specs.Run.{configuration, present_at, visible_at, view_at, run_length}
 use Rattle.pg_model.specs.Superstep.{ids, is_active, has_id, inputs_of, messages_to, combined, delivered, at_place, gathered_at, gathered_from, outcome, idle, state_after, sends, contributions, next}
 use Rattle.pg_model.proofs.LawsAgreement.{outcome-idle, state_after-idle}
 use Rattle.pg_model.proofs.LawsDelivered.{messages_to-sends}
@@ -18,7 +18,7 @@ use Rattle.pg_model.proofs.LawsIds.{ids_rise}
 use Rattle.pg_model.proofs.LawsInputs.{no_inputs_past, no_inputs_missing, no_inputs_idle}
 use Rattle.pg_model.proofs.LawsLists.{all_pass}
 use Rattle.pg_model.proofs.LawsNeeded.{unchanged}
-use Rattle.pg_model.proofs.LawsPresent.{standing_at-none, standing_at-state, state_at-first, inbox_at-first, IsIdleAt-from_inputs, state_at-next, inbox_at-next, inputs_within, missing_or_idle, flat_map-present}
+use Rattle.pg_model.proofs.LawsPresent.{state_first, standing_at-none, standing_at-state, state_at-first, inbox_at-first, IsIdleAt-from_inputs, state_at-next, inbox_at-next, inputs_within, missing_or_idle, flat_map-present}
 use Rattle.pg_model.proofs.LawsRising.{flat_map-rising, count-rising}
 use Rattle.pg_model.proofs.LawsShares.{at_place-contributions}
 use Rattle.pg_model.proofs.LawsStandings.{standing_is}
@@ -39,6 +39,9 @@ module _ {V M : Type 0} where
       → read_off (λ r. at_place place r.contributed) o ≡ at_place place (read_off (λ r. r.contributed) o)
   read_at place None = refl
   read_at place (Some r) = refl
+
+  no_inputs_if_idle : (view : View) (x : Standing V M) → is_active x ≡ false → inputs_if_active view x ≡ None
+  no_inputs_if_idle view x e = ap (λ (b : Bool). cond b (Some (inputs_of view x)) None) e
 
   arrives_alike : (missing : Missing) (a b : Option (VertexState V)) (messages : List M)
       → (missing ≡ Drop → is_some a ≡ is_some b) → arriving missing a messages ≡ arriving missing b messages
@@ -74,7 +77,7 @@ module _ {V M : Type 0} (job : Job V M) (old new : Rows) where
   -- as the runs begin, an id stands alike where its row is the same, or there's none in both graphs
   pub StandsAlike-first : (id : ℕ) → row_at id old ≡ row_at id new → StandsAlike job old new 0 id
   StandsAlike-first id same = record {
-    state = state_at-first job old id ∙ (ap (option_map (λ row. (beginning job.program (id, row)).state)) same ∙ sym (state_at-first job new id));
+    state = state_at-first job old id ∙ (ap (option_map (state_first job.program id)) same ∙ sym (state_at-first job new id));
     inbox = inbox_at-first job old id ∙ sym (inbox_at-first job new id);
   }
 
@@ -83,7 +86,8 @@ module _ {V M : Type 0} (job : Job V M) (old new : Rows) where
     read_alike : {Y : Type 0} (read : View → Option (Standing V M) → Y) → ((v w : View) → read v None ≡ read w None)
         → ((v w : View) (x : Standing V M) → is_active x ≡ false → read v (Some x) ≡ read w (Some x))
         → s < run_length job old
-        → read (view_at job old s) (standing_at id (present_at job old s)) ≡ read (view_at job new s) (standing_at id (present_at job new s))
+        → read (view_at job old s) (standing_at id (present_at job old s))
+        ≡ read (view_at job new s) (standing_at id (present_at job new s))
     read_alike read missing idles there =
         let same = same_standing s id (h.alike there) in
         let v : View = view_at job old s in
@@ -103,19 +107,22 @@ module _ {V M : Type 0} (job : Job V M) (old new : Rows) where
         elim (cases_lt s (run_length job old)) [
           | inl there ↦
               inputs_within job old s id there
-              ∙ (read_alike (λ v o. option_and_then (inputs_if_active v) o) (λ v w. refl) (λ v w x e. ap (λ (b : Bool). cond b (Some (inputs_of v x)) None) e ∙ sym (ap (λ (b : Bool). cond b (Some (inputs_of w x)) None) e)) there
+              ∙ (read_alike (λ v o. option_and_then (inputs_if_active v) o) (λ v w. refl)
+              (λ v w x e. no_inputs_if_idle v x e ∙ sym (no_inputs_if_idle w x e)) there
               ∙ sym (inputs_within job new s id here))
           | inr past ↦ elim h.sees [ inl seen ↦ absurd (omega (arith, seen.within)) | inr none ↦ no_inputs_past job old s id past ∙ sym none ]
         ]
 
     same_outcome-IsUnaffected : s < run_length job old → outcome_at job old s id ≡ outcome_at job new s id
     same_outcome-IsUnaffected there =
-        read_alike (λ v o. option_map (outcome job.program v) o) (λ v w. refl) (λ v w x e. ap Some (outcome-idle job.program v x e ∙ sym (outcome-idle job.program w x e))) there
+        read_alike (λ v o. option_map (outcome job.program v) o) (λ v w. refl)
+        (λ v w x e. ap Some (outcome-idle job.program v x e ∙ sym (outcome-idle job.program w x e))) there
 
     same_state-IsUnaffected : s < run_length job old → state_at job old (suc s) id ≡ state_at job new (suc s) id
     same_state-IsUnaffected there =
         state_at-next job old s id
-        ∙ (read_alike (λ v o. option_map (λ x. state_after x.state (outcome job.program v x)) o) (λ v w. refl) (λ v w x e. ap Some (state_after-idle job.program v x e ∙ sym (state_after-idle job.program w x e))) there
+        ∙ (read_alike (λ v o. option_map (λ x. state_after x.state (outcome job.program v x)) o) (λ v w. refl)
+        (λ v w x e. ap Some (state_after-idle job.program v x e ∙ sym (state_after-idle job.program w x e))) there
         ∙ sym (state_at-next job new s id))
 
     -- so where both runs have the superstep, all that the old run has of it stands in the new one
@@ -136,54 +143,64 @@ module _ {V M : Type 0} (job : Job V M) (old new : Rows) where
     IsIdleAt-from_IsUnaffected past =
         elim h.sees [ inl seen ↦ absurd (omega (arith, seen.within)) | inr none ↦ IsIdleAt-from_inputs job new s id here none ]
 
+  -- each active vertex of the new run that is picked is among the candidates
+  abbrev pub HaveActive : (ℕ → Bool) → ℕ → List ℕ → Type 0
+  HaveActive picks s candidates =
+      (id : ℕ) (x : Standing V M) → picks id ≡ true → standing_at id (present_at job new s) ≡ Some x → is_active x ≡ true
+      → has_id candidates id ≡ true
+
   -- ids are candidates that have each id picked which stands otherwise in the old run, where that has the superstep; and where
   -- its vertices aren't those that see the same again, each active vertex picked
   pub AreCandidates-from : (picks : ℕ → Bool) (s : ℕ) (candidates : List ℕ) → IsStrictlySortedBy nat_cmp candidates
       → ((id : ℕ) → picks id ≡ true → has_id candidates id ≡ false → s < run_length job old → StandsAlike job old new s id)
-      → IsSeenAgain job old new s ⊎ ((x : Standing V M) → picks x.state.id ≡ true → standing_at x.state.id (present_at job new s) ≡ Some x → is_active x ≡ true → has_id candidates x.state.id ≡ true)
+      → IsSeenAgain job old new s ⊎ HaveActive picks s candidates
       → AreCandidates job old new picks s candidates
   AreCandidates-from picks s candidates rise alike sees = record {
     rise = rise;
     others = λ id picked other. record {
       alike = alike id picked other;
-      sees = elim sees [ inl seen ↦ inl seen | inr active ↦ inr (idles id picked other active (standing_at id (present_at job new s)) refl) ];
+      sees = elim sees [
+        | inl seen ↦ inl seen
+        | inr active ↦ inr (idles id picked other active (standing_at id (present_at job new s)) refl)
+      ];
     };
   }
     where
-      idles : (id : ℕ) → picks id ≡ true → has_id candidates id ≡ false
-          → ((x : Standing V M) → picks x.state.id ≡ true → standing_at x.state.id (present_at job new s) ≡ Some x → is_active x ≡ true → has_id candidates x.state.id ≡ true)
+      idles : (id : ℕ) → picks id ≡ true → has_id candidates id ≡ false → HaveActive picks s candidates
           → (o : Option (Standing V M)) → standing_at id (present_at job new s) ≡ o → inputs_at job new s id ≡ None
       idles id picked other active None at = no_inputs_missing job new s id at
-      idles id picked other active (Some x) at = no_inputs_idle job new s id x at (false_from_ne_true (is_active x) (λ e. true≢false (sym (there e) ∙ other)))
-        where
-          named : x.state.id ≡ id
-          named = (standing_is id (present_at job new s) x at).0
-
-          there : is_active x ≡ true → has_id candidates id ≡ true
-          there e = sym (ap (has_id candidates) named) ∙ active x (ap picks named ∙ picked) (ap (λ (n : ℕ). standing_at n (present_at job new s)) named ∙ at) e
+      idles id picked other active (Some x) at =
+          no_inputs_idle job new s id x at (false_from_ne_true (is_active x) (λ e. true≢false (sym (active id x picked at e) ∙ other)))
 
   -- ---- needed executions
 
-  module _ (value_eq : V → V → Bool) (message_eq : M → M → Bool) (values : (a : V) → value_eq a a ≡ true) (messages : (a : M) → message_eq a a ≡ true) where
-    -- an unaffected vertex needs no execution
-    pub is_needed-IsUnaffected : (s id : ℕ) → IsUnaffected job old new s id → is_needed value_eq message_eq job (Some old) new s id ≡ false
-    is_needed-IsUnaffected s id h = elim (cases_lt s (run_length job new)) [ inl here ↦ same here | inr past ↦ nothing (no_inputs_past job new s id past) ]
-      where
-        nothing : inputs_at job new s id ≡ None → is_needed value_eq message_eq job (Some old) new s id ≡ false
-        nothing none = ap (is_changed value_eq message_eq (inputs_at job old s id)) none
+  module _ (value_eq : V → V → Bool) (message_eq : M → M → Bool) where
+    -- what isn't executed in the new run isn't needed
+    is_needed-no_inputs : (s id : ℕ) → inputs_at job new s id ≡ None → is_needed value_eq message_eq job (Some old) new s id ≡ false
+    is_needed-no_inputs s id none = ap (is_changed value_eq message_eq (inputs_at job old s id)) none
 
-        same : s < run_length job new → is_needed value_eq message_eq job (Some old) new s id ≡ false
-        same here =
-            ap (λ (o : Option (Inputs V M)). is_changed value_eq message_eq o (inputs_at job new s id)) (same_inputs-IsUnaffected s id here h) ∙ unchanged value_eq message_eq values messages (inputs_at job new s id)
+    module _ (values : (a : V) → value_eq a a ≡ true) (messages : (a : M) → message_eq a a ≡ true) where
+      -- an unaffected vertex needs no execution
+      pub is_needed-IsUnaffected : (s id : ℕ) → IsUnaffected job old new s id
+          → is_needed value_eq message_eq job (Some old) new s id ≡ false
+      is_needed-IsUnaffected s id h =
+          elim (cases_lt s (run_length job new)) [
+            | inl here ↦
+                ap (λ (o : Option (Inputs V M)). is_changed value_eq message_eq o (inputs_at job new s id)) (same_inputs-IsUnaffected s id here h)
+                ∙ unchanged value_eq message_eq values messages (inputs_at job new s id)
+            | inr past ↦ is_needed-no_inputs s id (no_inputs_past job new s id past)
+          ]
 
-    -- so all executions that a superstep needs of the vertices picked are counted among the candidates
-    pub needed_in-AreCandidates : HasRisingIds new → (picks : ℕ → Bool) (s : ℕ) (candidates : List ℕ)
-        → AreCandidates job old new picks s candidates
-        → needed_in value_eq message_eq job (Some old) new picks s ≡ count_by (is_needed value_eq message_eq job (Some old) new s) (filter picks candidates)
-    needed_in-AreCandidates rising picks s candidates h =
-        count-rising (ids (present_at job new s)) candidates (ids_rise job new rising s) h.rise picks (is_needed value_eq message_eq job (Some old) new s)
-        (λ id picked gone. ap (is_changed value_eq message_eq (inputs_at job old s id)) (no_inputs_missing job new s id (standing_at-none id (present_at job new s) gone)))
-        (λ id picked other. is_needed-IsUnaffected s id (h.others id picked other))
+      -- so all executions that a superstep needs of the vertices picked are counted among the candidates
+      pub needed_in-AreCandidates : HasRisingIds new → (picks : ℕ → Bool) (s : ℕ) (candidates : List ℕ)
+          → AreCandidates job old new picks s candidates
+          → needed_in value_eq message_eq job (Some old) new picks s
+          ≡ count_by (is_needed value_eq message_eq job (Some old) new s) (filter picks candidates)
+      needed_in-AreCandidates rising picks s candidates h =
+          let xs : List (Standing V M) = present_at job new s in
+          count-rising (ids xs) candidates (ids_rise job new rising s) h.rise picks (is_needed value_eq message_eq job (Some old) new s)
+          (λ id picked gone. is_needed-no_inputs s id (no_inputs_missing job new s id (standing_at-none id xs gone)))
+          (λ id picked other. is_needed-IsUnaffected s id (h.others id picked other))
 
   -- ---- what the vertices of a superstep give together
 
@@ -191,11 +208,12 @@ module _ {V M : Type 0} (job : Job V M) (old new : Rows) where
     -- what is made of the records of those picked, where of each of them the same is made in both runs
     pub same_made : {X : Type 0} (part : ℕ → Record V M → List X)
         → ((id : ℕ) → picks id ≡ true → read_off (part id) (outcome_at job old s id) ≡ read_off (part id) (outcome_at job new s id))
-        → flat_map (λ x. part x.state.id (outcome job.program (view_at job old s) x)) (picked_at job old picks s) ≡ flat_map (λ x. part x.state.id (outcome job.program (view_at job new s) x)) (picked_at job new picks s)
+        → made_of job old part picks s ≡ made_of job new part picks s
     same_made {X = X} part h =
         flat_map-present job old rising part picks s
         ∙ (ap (λ (f : ℕ → List X). flat_map f (ids (present_at job old s))) (λ i id. same id i)
-        ∙ (flat_map-rising (ids (present_at job old s)) (ids (present_at job new s)) (ids_rise job old rising s) (ids_rise job new rising' s) (has new) (λ id gone. sym (same id) ∙ nothing old id gone) (λ id gone. nothing new id gone)
+        ∙ (flat_map-rising (ids (present_at job old s)) (ids (present_at job new s)) (ids_rise job old rising s) (ids_rise job new rising' s)
+        (has new) (λ id gone. sym (same id) ∙ nothing old id gone) (λ id gone. nothing new id gone)
         ∙ sym (flat_map-present job new rising' part picks s)))
       where
         has : Rows → ℕ → List X
@@ -205,57 +223,72 @@ module _ {V M : Type 0} (job : Job V M) (old new : Rows) where
         same id = by (picks id) refl
           where
             by : (b : Bool) → picks id ≡ b
-                → cond b (read_off (part id) (outcome_at job old s id)) [] ≡ cond b (read_off (part id) (outcome_at job new s id)) []
+                → cond b (read_off (part id) (outcome_at job old s id)) []
+                ≡ cond b (read_off (part id) (outcome_at job new s id)) []
             by true e = h id e
             by false e = refl
 
         nothing : (rows : Rows) (id : ℕ) → has_id (ids (present_at job rows s)) id ≡ false → has rows id ≡ []
         nothing rows id gone =
-            ap (λ (o : Option (Standing V M)). cond (picks id) (read_off (part id) (option_map (outcome job.program (view_at job rows s)) o)) []) (standing_at-none id (present_at job rows s) gone)
+            ap (λ (o : Option (Standing V M)). cond (picks id) (read_off (part id) (option_map (outcome_in job rows s) o)) [])
+            (standing_at-none id (present_at job rows s) gone)
             ∙ cond_both (picks id) [] [] (λ (l : List X). l ≡ []) (λ _. refl) (λ _. refl)
 
     -- where each of them sends the same messages to an id, all of them do
-    pub same_messages : (target : ℕ) → SendAlike job old new picks s target
+    pub same_messages : (target : ℕ) → AllSendAlike job old new picks s target
         → messages_of job old picks s target ≡ messages_of job new picks s target
     same_messages target h =
         messages_to-sends job.program (view_at job old s) target (picked_at job old picks s)
-        ∙ (same_made (λ id r. messages_to target r.sent) (λ id picked. read_to target (outcome_at job old s id) ∙ (h id picked ∙ sym (read_to target (outcome_at job new s id))))
+        ∙ (same_made (λ id r. messages_to target r.sent)
+        (λ id picked. read_to target (outcome_at job old s id) ∙ (h id picked ∙ sym (read_to target (outcome_at job new s id))))
         ∙ sym (messages_to-sends job.program (view_at job new s) target (picked_at job new picks s)))
 
     -- and where each contributes the same at a place, so do all of them
-    pub same_contributions : (place : ℕ) → ContributeAlike job old new picks s place
+    pub same_contributions : (place : ℕ) → AllContributeAlike job old new picks s place
         → contributions_of job old picks s place ≡ contributions_of job new picks s place
     same_contributions place h =
         at_place-contributions job.program (view_at job old s) place (picked_at job old picks s)
-        ∙ (same_made (λ id r. at_place place r.contributed) (λ id picked. read_at place (outcome_at job old s id) ∙ (h id picked ∙ sym (read_at place (outcome_at job new s id))))
+        ∙ (same_made (λ id r. at_place place r.contributed)
+        (λ id picked. read_at place (outcome_at job old s id) ∙ (h id picked ∙ sym (read_at place (outcome_at job new s id))))
         ∙ sym (at_place-contributions job.program (view_at job new s) place (picked_at job new picks s)))
 
   module _ (rising : HasRisingIds old) (rising' : HasRisingIds new) (s : ℕ) where
+    -- all vertices are those that a test picks which all pass
+    of_all : {Y : Type 0} (f : Rows → List (Standing V M) → Y)
+        → f old (picked_at job old (λ id. true) s) ≡ f new (picked_at job new (λ id. true) s)
+        → f old (present_at job old s) ≡ f new (present_at job new s)
+    of_all f same =
+        sym (ap (f old) (all_pass (λ x. true) (λ x. refl) (present_at job old s)))
+        ∙ (same ∙ ap (f new) (all_pass (λ x. true) (λ x. refl) (present_at job new s)))
+
     -- where each vertex sends the same messages to an id, the same is delivered to it
-    pub same_delivered : (target : ℕ) → SendAlike job old new (λ id. true) s target
+    pub same_delivered : (target : ℕ) → AllSendAlike job old new (λ id. true) s target
         → delivered_at job old s target ≡ delivered_at job new s target
     same_delivered target h =
-        ap (combined job.combining) (subst₂ (λ (xs ys : List (Standing V M)). messages_to target (sends job.program (view_at job old s) xs) ≡ messages_to target (sends job.program (view_at job new s) ys)) (all_pass (λ x. true) (λ x. refl) (present_at job old s)) (all_pass (λ x. true) (λ x. refl) (present_at job new s)) (same_messages rising rising' (λ id. true) s target h))
+        let sent : Rows → List (Standing V M) → List M = λ rows xs. messages_to target (sends job.program (view_at job rows s) xs) in
+        ap (combined job.combining) (of_all sent (same_messages rising rising' (λ id. true) s target h))
 
-    at_whole : (place : ℕ) → ContributeAlike job old new (λ id. true) s place
+    at_whole : (place : ℕ) → AllContributeAlike job old new (λ id. true) s place
         → contributions_at job old s place ≡ contributions_at job new s place
     at_whole place h =
-        subst₂ (λ (xs ys : List (Standing V M)). at_place place (contributions job.program (view_at job old s) xs) ≡ at_place place (contributions job.program (view_at job new s) ys)) (all_pass (λ x. true) (λ x. refl) (present_at job old s)) (all_pass (λ x. true) (λ x. refl) (present_at job new s)) (same_contributions rising rising' (λ id. true) s place h)
+        let given : Rows → List (Standing V M) → List ℤ = λ rows xs. at_place place (contributions job.program (view_at job rows s) xs) in
+        of_all given (same_contributions rising rising' (λ id. true) s place h)
 
     -- where each contributes the same at a place, the same is gathered there; a persistent aggregator also has to begin alike
     pub same_gathered_at : (a : Aggregating) (v w : ℤ) (place : ℕ) → (a.persistent ≡ true → v ≡ w)
-        → ContributeAlike job old new (λ id. true) s place
+        → AllContributeAlike job old new (λ id. true) s place
         → gathered_at a v (contributions_at job old s place) ≡ gathered_at a w (contributions_at job new s place)
     same_gathered_at a v w place begins h =
         λ i. fold a.aggregate (begins_alike a.persistent v w a.initial begins i) (at_whole place h i)
 
     -- and where they do so at all places, and the same was visible, all that is gathered is the same
     pub same_gathered : (visible_at job old s).values ≡ (visible_at job new s).values
-        → ((place : ℕ) → ContributeAlike job old new (λ id. true) s place)
+        → ((place : ℕ) → AllContributeAlike job old new (λ id. true) s place)
         → (configuration job old (suc s)).gathered ≡ (configuration job new (suc s)).gathered
     unfolding configuration next
     same_gathered shown h =
-        ap (λ (values : List ℤ). gathered_from 0 job.aggregators values (contributions job.program (view_at job old s) (present_at job old s))) shown
+        let before : List (ℕ × ℤ) = contributions job.program (view_at job old s) (present_at job old s) in
+        ap (λ (values : List ℤ). gathered_from 0 job.aggregators values before) shown
         ∙ gathers_alike 0 job.aggregators (visible_at job new s).values _ _ (λ place. at_whole place (h place))
 
   -- ---- the next superstep
@@ -276,27 +309,28 @@ module _ {V M : Type 0} (job : Job V M) (old new : Rows) where
   StandsAlike-next s id state same =
       record { state = state; inbox = same_inbox-next s id (λ _. ap is_some state) same }
 
-  module _ (s : ℕ) (there : s < run_length job old) (here : s < run_length job new) (picks : ℕ → Bool) (candidates : List ℕ) (h : AreCandidates job old new picks s candidates) where
+  module _ (s : ℕ) (there : s < run_length job old) (here : s < run_length job new)
+      (picks : ℕ → Bool) (candidates : List ℕ) (h : AreCandidates job old new picks s candidates) where
     -- of those picked all but the candidates are taken over
     pub IsTakenOver-AreCandidates : (id : ℕ) → picks id ≡ true → has_id candidates id ≡ false → IsTakenOver job old new s id
     IsTakenOver-AreCandidates id picked other =
         IsTakenOver-from_IsUnaffected s id here (h.others id picked other) there
 
     -- so they send the same to an id where the candidates among them do
-    pub SendAlike-AreCandidates : (target : ℕ)
-        → ((id : ℕ) → picks id ≡ true → has_id candidates id ≡ true → messages_to target (sent_at job old s id) ≡ messages_to target (sent_at job new s id))
-        → SendAlike job old new picks s target
-    SendAlike-AreCandidates target same id picked =
+    pub AllSendAlike-AreCandidates : (target : ℕ)
+        → ((id : ℕ) → picks id ≡ true → has_id candidates id ≡ true → SendsAlike job old new s target id)
+        → AllSendAlike job old new picks s target
+    AllSendAlike-AreCandidates target same id picked =
         elim (cases_Bool (has_id candidates id)) [
           | inl one ↦ same id picked one
           | inr other ↦ ap (messages_to target) (IsTakenOver-AreCandidates id picked other).sent
         ]
 
     -- and contribute the same at a place where the candidates among them do
-    pub ContributeAlike-AreCandidates : (place : ℕ)
-        → ((id : ℕ) → picks id ≡ true → has_id candidates id ≡ true → at_place place (contributed_at job old s id) ≡ at_place place (contributed_at job new s id))
-        → ContributeAlike job old new picks s place
-    ContributeAlike-AreCandidates place same id picked =
+    pub AllContributeAlike-AreCandidates : (place : ℕ)
+        → ((id : ℕ) → picks id ≡ true → has_id candidates id ≡ true → ContributesAlike job old new s place id)
+        → AllContributeAlike job old new picks s place
+    AllContributeAlike-AreCandidates place same id picked =
         elim (cases_Bool (has_id candidates id)) [
           | inl one ↦ same id picked one
           | inr other ↦ ap (at_place place) (IsTakenOver-AreCandidates id picked other).contributed
@@ -307,10 +341,20 @@ module _ {V M : Type 0} (job : Job V M) (old new : Rows) where
   pub StandsAlike-AreCandidates : HasRisingIds old → HasRisingIds new → (s : ℕ) → s < run_length job old
       → s < run_length job new → (candidates : List ℕ) → AreCandidates job old new (λ id. true) s candidates → (id : ℕ)
       → (has_id candidates id ≡ true → state_at job old (suc s) id ≡ state_at job new (suc s) id)
-      → ((sender : ℕ) → has_id candidates sender ≡ true → messages_to id (sent_at job old s sender) ≡ messages_to id (sent_at job new s sender))
+      → ((sender : ℕ) → has_id candidates sender ≡ true → SendsAlike job old new s id sender)
       → StandsAlike job old new (suc s) id
   StandsAlike-AreCandidates rising rising' s there here candidates h id states letters =
-      StandsAlike-next s id state (same_delivered rising rising' s id (SendAlike-AreCandidates s there here (λ k. true) candidates h id (λ sender picked one. letters sender one)))
+      StandsAlike-next s id state (same_delivered rising rising' s id all)
     where
+      everyone : ℕ → Bool
+      everyone id = true
+
+      all : AllSendAlike job old new everyone s id
+      all = AllSendAlike-AreCandidates s there here everyone candidates h id (λ sender picked one. letters sender one)
+
       state : state_at job old (suc s) id ≡ state_at job new (suc s) id
-      state = elim (cases_Bool (has_id candidates id)) [ inl one ↦ states one | inr other ↦ (IsTakenOver-AreCandidates s there here (λ k. true) candidates h id refl other).state ]
+      state =
+          elim (cases_Bool (has_id candidates id)) [
+            | inl one ↦ states one
+            | inr other ↦ (IsTakenOver-AreCandidates s there here everyone candidates h id refl other).state
+          ]

@@ -14,9 +14,9 @@ use Rattle.pg_graph.specs.Rows.{Rows, HasRisingIds, row_at}
 use Rattle.pg_graph.specs.declared.graph.Row.{Row}
 use Rattle.pg_graph.specs.declared.missing.Missing.{Missing}
 use Rattle.pg_graph.specs.declared.missing.Missing.TheVariants.{Drop, Create}
-use Rattle.pg_model.specs.ByIds.{inbox_of, read_off, standing_with, arriving, state_at, inbox_at, outcome_at, delivered_at, picked_at, IsIdleAt}
+use Rattle.pg_model.specs.ByIds.{state_of, waiting_at, outcome_in, made_of, inbox_of, read_off, standing_with, arriving, state_at, inbox_at, outcome_at, delivered_at, IsIdleAt}
 use Rattle.pg_model.specs.InOrder.{AreWaiting}
-use Rattle.pg_model.specs.Job.{Job, Program, Combining}
+use Rattle.pg_model.specs.Job.{Job, Program, Inputs, Combining}
 use Rattle.pg_model.specs.Needed.{standing_at, inputs_if_active, inputs_at}
 use Rattle.pg_model.specs.Run.{beginning, configuration, first, present_at, view_at, run_length}
 use Rattle.pg_model.specs.Superstep.{ids, is_empty, is_active, has_id, messages_to, combined, delivered, astray, targets, waiting_after, placed, made, with_made, present, outcome, idle, state_after, sends, next}
@@ -59,7 +59,8 @@ module _ {M : Type 0} where
   pub delivered-astray : (combining : Option (Combining M)) (is : List ℕ) (sent : List (ℕ × M)) (id : ℕ)
       → has_id is id ≡ false → delivered combining id (astray is sent) ≡ delivered combining id sent
   delivered-astray combining is sent id new =
-      ap (λ (l : List (ℕ × M)). combined combining (map (λ m. m.1) l)) (filter-filter (λ m. m.0 == id) (λ m. not (has_id is m.0)) (λ m. m.0 == id) (λ m. each m (m.0 == id) refl) sent)
+      ap (λ (l : List (ℕ × M)). combined combining (map (λ m. m.1) l))
+      (filter-filter (λ m. m.0 == id) (λ m. not (has_id is m.0)) (λ m. m.0 == id) (λ m. each m (m.0 == id) refl) sent)
     where
       each : (m : ℕ × M) (b : Bool) → (m.0 == id) ≡ b → cond (not (has_id is m.0)) b false ≡ b
       each m true e = ap (λ (c : Bool). cond (not c) true false) (ap (has_id is) (eqb-true m.0 id e) ∙ new)
@@ -69,7 +70,8 @@ module _ {M : Type 0} where
   no_messages [] id h = refl
   no_messages (m ∷ sent) id h =
       let both = or_parts (m.0 == id) (has_id (map (λ (x : ℕ × M). x.0) sent) id) h in
-      ap (λ (b : Bool). map (λ (x : ℕ × M). x.1) (cond b (m ∷ filter (λ (x : ℕ × M). x.0 == id) sent) (filter (λ (x : ℕ × M). x.0 == id) sent))) both.0 ∙ no_messages sent id both.1
+      let rest : List (ℕ × M) = filter (λ (x : ℕ × M). x.0 == id) sent in
+      ap (λ (b : Bool). map (λ (x : ℕ × M). x.1) (cond b (m ∷ rest) rest)) both.0 ∙ no_messages sent id both.1
 
   combined-none : (combining : Option (Combining M)) → combined combining [] ≡ []
   combined-none None = refl
@@ -82,23 +84,23 @@ module _ {M : Type 0} where
       ap (combined combining) (no_messages sent id (sym (has_id-targets sent id) ∙ h)) ∙ combined-none combining
 
   find_inbox : (f : ℕ → List M) (is : List ℕ) (id : ℕ)
-      → find (λ (w : ℕ × List M). w.0 == id) (map (λ k. (k, f k)) is) ≡ cond (has_id is id) (Some (id, f id)) None
+      → waiting_at id (map (λ k. (k, f k)) is) ≡ cond (has_id is id) (Some (id, f id)) None
   find_inbox f [] id = refl
   find_inbox f (k ∷ is) id = by (k == id) refl (find_inbox f is id)
     where
       by : (b : Bool) → (k == id) ≡ b
-          → find (λ (w : ℕ × List M). w.0 == id) (map (λ k. (k, f k)) is) ≡ cond (has_id is id) (Some (id, f id)) None
-          → cond b (Some (k, f k)) (find (λ (w : ℕ × List M). w.0 == id) (map (λ k. (k, f k)) is)) ≡ cond (b || has_id is id) (Some (id, f id)) None
+          → waiting_at id (map (λ k. (k, f k)) is) ≡ cond (has_id is id) (Some (id, f id)) None
+          → cond b (Some (k, f k)) (waiting_at id (map (λ k. (k, f k)) is)) ≡ cond (b || has_id is id) (Some (id, f id)) None
       by true e rest = ap (λ (n : ℕ). Some (n, f n)) (eqb-true k id e)
       by false e rest = rest
 
   waits_right : (ws : List (ℕ × List M)) (id : ℕ) → AllByRecursion (λ w. is_empty w.1 ≡ false) ws → (v : ℕ × List M)
-      → find (λ w. w.0 == id) ws ≡ Some v → (v.0 ≡ id) × (is_empty v.1 ≡ false)
+      → waiting_at id ws ≡ Some v → (v.0 ≡ id) × (is_empty v.1 ≡ false)
   waits_right [] id h v e = absurd (none-some v e)
   waits_right (w ∷ ws) id h v e = by (w.0 == id) refl e (waits_right ws id h.1 v)
     where
-      by : (b : Bool) → (w.0 == id) ≡ b → cond b (Some w) (find (λ w. w.0 == id) ws) ≡ Some v
-          → (find (λ w. w.0 == id) ws ≡ Some v → (v.0 ≡ id) × (is_empty v.1 ≡ false))
+      by : (b : Bool) → (w.0 == id) ≡ b → cond b (Some w) (waiting_at id ws) ≡ Some v
+          → (waiting_at id ws ≡ Some v → (v.0 ≡ id) × (is_empty v.1 ≡ false))
           → (v.0 ≡ id) × (is_empty v.1 ≡ false)
       by true t e' later = subst (λ (u : ℕ × List M). (u.0 ≡ id) × (is_empty u.1 ≡ false)) (same_Some w v e') (eqb-true w.0 id t, h.0)
       by false t e' later = later e'
@@ -132,13 +134,14 @@ module _ {V M : Type 0} where
       by true unlike rest = refl
       by false unlike rest =
           ap (cond (y.state.id == id) (Some y)) rest
-          ∙ either_first (x.state.id == id) (y.state.id == id) (Some x) (Some y) (standing_at id ys) (λ e e'. true≢false (sym (ap (λ (n : ℕ). y.state.id == n) (eqb-true x.state.id id e) ∙ e') ∙ unlike))
+          ∙ either_first (x.state.id == id) (y.state.id == id) (Some x) (Some y) (standing_at id ys)
+          (λ e e'. true≢false (sym (ap (λ (n : ℕ). y.state.id == n) (eqb-true x.state.id id e) ∙ e') ∙ unlike))
 
   module _ (program : Program V M) where
     standing_at-with_made : (xs : List (Standing V M)) (ws : List (ℕ × List M)) (id : ℕ)
         → IsStrictlySortedBy nat_cmp (map (λ (w : ℕ × List M). w.0) ws)
         → AllByRecursion (λ (w : ℕ × List M). has_id (ids xs) w.0 ≡ false) ws
-        → standing_at id (with_made program xs ws) ≡ option_or (standing_at id xs) (option_map (made program) (find (λ w. w.0 == id) ws))
+        → standing_at id (with_made program xs ws) ≡ option_or (standing_at id xs) (option_map (made program) (waiting_at id ws))
     unfolding IsStrictlySortedBy
     standing_at-with_made xs [] id h apart = or_nothing (standing_at id xs)
     standing_at-with_made xs (w ∷ ws) id h apart =
@@ -146,11 +149,14 @@ module _ {V M : Type 0} where
         ∙ (ap (λ (o : Option (Standing V M)). option_or o rest) (standing_at-placed (made program w) xs id apart.0) ∙ by (w.0 == id) refl)
       where
         rest : Option (Standing V M)
-        rest = option_map (made program) (find (λ w. w.0 == id) ws)
+        rest = option_map (made program) (waiting_at id ws)
 
         by : (b : Bool) → (w.0 == id) ≡ b
-            → option_or (cond b (Some (made program w)) (standing_at id xs)) rest ≡ option_or (standing_at id xs) (option_map (made program) (cond b (Some w) (find (λ w. w.0 == id) ws)))
-        by true e = ap (λ (o : Option (Standing V M)). option_or o (Some (made program w))) (sym (standing_at-none id xs (sym (ap (has_id (ids xs)) (eqb-true w.0 id e)) ∙ apart.0)))
+            → option_or (cond b (Some (made program w)) (standing_at id xs)) rest
+            ≡ option_or (standing_at id xs) (option_map (made program) (cond b (Some w) (waiting_at id ws)))
+        by true e =
+            let new : has_id (ids xs) id ≡ false = sym (ap (has_id (ids xs)) (eqb-true w.0 id e)) ∙ apart.0 in
+            ap (λ (o : Option (Standing V M)). option_or o (Some (made program w))) (sym (standing_at-none id xs new))
         by false e = refl
 
     made_with : (k id : ℕ) (ms : List M) → k ≡ id → is_empty ms ≡ false → Some (made program (k, ms)) ≡ standing_with program id None ms
@@ -159,20 +165,25 @@ module _ {V M : Type 0} where
 
     stands_by : (id : ℕ) (o : Option (Standing V M)) (w : Option (ℕ × List M))
         → ((v : ℕ × List M) → w ≡ Some v → (v.0 ≡ id) × (is_empty v.1 ≡ false))
-        → option_or o (option_map (made program) w) ≡ standing_with program id (option_map (λ x. x.state) o) (inbox_of (option_or o (option_map (made program) w)))
+        → option_or o (option_map (made program) w)
+        ≡ standing_with program id (state_of o) (inbox_of (option_or o (option_map (made program) w)))
     stands_by id (Some x) w h = refl
     stands_by id None None h = refl
     stands_by id None (Some v) h = let r = h v refl in made_with v.0 id v.1 r.0 r.1
 
     module _ (c : Configuration V M) (waits : AreWaiting (ids c.standings) c.waiting) (id : ℕ) where
       -- a vertex of a superstep has a state, or else it waits to be made
-      pub standing_at-present : standing_at id (present program c) ≡ option_or (standing_at id c.standings) (option_map (made program) (find (λ w. w.0 == id) c.waiting))
+      pub standing_at-present : standing_at id (present program c)
+          ≡ option_or (standing_at id c.standings) (option_map (made program) (waiting_at id c.waiting))
       standing_at-present = standing_at-with_made c.standings c.waiting id waits.rise waits.apart
 
       -- it stands there with its state, if it has one, and with its inbox
-      pub stands_with-present : standing_at id (present program c) ≡ standing_with program id (option_map (λ x. x.state) (standing_at id c.standings)) (inbox_of (standing_at id (present program c)))
+      pub stands_with-present : standing_at id (present program c)
+          ≡ standing_with program id (state_of (standing_at id c.standings)) (inbox_of (standing_at id (present program c)))
       stands_with-present =
-          subst (λ (o : Option (Standing V M)). o ≡ standing_with program id (option_map (λ x. x.state) (standing_at id c.standings)) (inbox_of o)) (sym standing_at-present) (stands_by id (standing_at id c.standings) (find (λ w. w.0 == id) c.waiting) (waits_right c.waiting id waits.some))
+          let state : Option (VertexState V) = state_of (standing_at id c.standings) in
+          subst (λ (o : Option (Standing V M)). o ≡ standing_with program id state (inbox_of o)) (sym standing_at-present)
+          (stands_by id (standing_at id c.standings) (waiting_at id c.waiting) (waits_right c.waiting id waits.some))
 
   none_with : (program : Program V M) (id : ℕ) (state : Option (VertexState V)) (inbox : List M)
       → None ≡ standing_with program id state inbox → state ≡ None
@@ -186,16 +197,23 @@ module _ {V M : Type 0} where
   idle_with program id None (m ∷ ms) x e idles =
       absurd (true≢false (sym (ap is_active (same_Some x (made program (id, m ∷ ms)) e)) ∙ idles))
 
+  -- there's no vertex, or one that isn't active
+  abbrev pub MissingOrIdle : Option (Standing V M) → Type 0
+  MissingOrIdle o = (o ≡ None) ⊎ ((x : Standing V M) × (o ≡ Some x) × (is_active x ≡ false))
+
   arriving-some : (missing : Missing) (state : VertexState V) (messages : List M) → messages ≡ arriving missing (Some state) messages
   arriving-some Drop state messages = refl
   arriving-some Create state messages = refl
 
-  waiting_inbox : (program : Program V M) (missing : Missing) (combining : Option (Combining M)) (is : List ℕ) (all : List (ℕ × M)) (id : ℕ)
-      → has_id is id ≡ false
-      → inbox_of (option_map (made program) (find (λ w. w.0 == id) (waiting_after missing combining (astray is all)))) ≡ arriving {V = V} missing None (delivered combining id all)
+  waiting_inbox : (program : Program V M) (missing : Missing) (combining : Option (Combining M))
+      → (is : List ℕ) (all : List (ℕ × M)) (id : ℕ) → has_id is id ≡ false
+      → inbox_of (option_map (made program) (waiting_at id (waiting_after missing combining (astray is all))))
+      ≡ arriving {V = V} missing None (delivered combining id all)
   waiting_inbox program Drop combining is all id new = refl
   waiting_inbox program Create combining is all id new =
-      ap (λ (o : Option (ℕ × List M)). inbox_of (option_map (made program) o)) (find_inbox (λ k. delivered combining k strays) (targets strays) id) ∙ by (has_id (targets strays) id) refl
+      ap (λ (o : Option (ℕ × List M)). inbox_of (option_map (made program) o))
+      (find_inbox (λ k. delivered combining k strays) (targets strays) id)
+      ∙ by (has_id (targets strays) id) refl
     where
       strays : List (ℕ × M)
       strays = astray is all
@@ -207,36 +225,51 @@ module _ {V M : Type 0} where
 
   -- ---- as a run begins
 
+  -- the state that a row gives its vertex
+  abbrev pub state_first : Program V M → ℕ → Row → VertexState V
+  state_first program id row = (beginning program (id, row)).state
+
   first_state : (program : Program V M) (id : ℕ) (rows : Rows)
-      → option_map (λ (x : Standing V M). x.state) (standing_at id (map (beginning program) rows)) ≡ option_map (λ row. (beginning program (id, row)).state) (row_at id rows)
+      → state_of (standing_at id (map (beginning program) rows)) ≡ option_map (state_first program id) (row_at id rows)
   first_state program id [] = refl
   first_state program id (row ∷ rows) =
       by (row.0 == id) refl (first_state program id rows)
-      ∙ ap (λ (b : Bool). option_map (λ (r : Row). (beginning program (id, r)).state) (cond b (Some row.1) (row_at id rows))) (sym (at_key id row.0))
+      ∙ ap (λ (b : Bool). option_map (state_first program id) (cond b (Some row.1) (row_at id rows))) (sym (at_key id row.0))
     where
+      all : List (Standing V M)
+      all = map (beginning program) rows
+
       by : (b : Bool) → (row.0 == id) ≡ b
-          → option_map (λ (x : Standing V M). x.state) (standing_at id (map (beginning program) rows)) ≡ option_map (λ (r : Row). (beginning program (id, r)).state) (row_at id rows)
-          → option_map (λ (x : Standing V M). x.state) (cond b (Some (beginning program row)) (standing_at id (map (beginning program) rows))) ≡ option_map (λ (r : Row). (beginning program (id, r)).state) (cond b (Some row.1) (row_at id rows))
+          → state_of (standing_at id all) ≡ option_map (state_first program id) (row_at id rows)
+          → state_of (cond b (Some (beginning program row)) (standing_at id all))
+          ≡ option_map (state_first program id) (cond b (Some row.1) (row_at id rows))
       by true e rest = ap (λ (n : ℕ). Some (beginning program (n, row.1)).state) (eqb-true row.0 id e)
       by false e rest = rest
 
   first_inbox : (program : Program V M) (id : ℕ) (rows : Rows) → inbox_of (standing_at id (map (beginning program) rows)) ≡ []
   first_inbox program id [] = refl
-  first_inbox program id (row ∷ rows) = cond_both (row.0 == id) (Some (beginning program row)) (standing_at id (map (beginning program) rows)) (λ (o : Option (Standing V M)). inbox_of o ≡ []) (λ _. refl) (λ _. first_inbox program id rows)
+  first_inbox program id (row ∷ rows) =
+      cond_both (row.0 == id) (Some (beginning program row)) (standing_at id (map (beginning program) rows))
+      (λ (o : Option (Standing V M)). inbox_of o ≡ []) (λ _. refl) (λ _. first_inbox program id rows)
 
 -- ---- vertices of a run
 
 module _ {V M : Type 0} (job : Job V M) (rows : Rows) where
+  -- the state that superstep s leaves a vertex
+  abbrev pub state_left : ℕ → Standing V M → VertexState V
+  state_left s x = state_after x.state (outcome_in job rows s x)
+
   AreWaiting-at : (s : ℕ) → AreWaiting (ids (configuration job rows s).standings) (configuration job rows s).waiting
   unfolding configuration first next
   AreWaiting-at zero = AreWaiting-none _
   AreWaiting-at (suc s) =
       let xs : List (Standing V M) = present_at job rows s in
       let all : List (ℕ × M) = sends job.program (view_at job rows s) xs in
-      subst (λ is. AreWaiting is (waiting_after job.missing job.combining (astray (ids xs) all))) (sym (ids-next job s (configuration job rows s))) (AreWaiting-after job.missing job.combining (ids xs) all)
+      subst (λ is. AreWaiting is (waiting_after job.missing job.combining (astray (ids xs) all)))
+      (sym (ids-next job s (configuration job rows s))) (AreWaiting-after job.missing job.combining (ids xs) all)
 
   -- as the run begins each row gives its vertex a state
-  pub state_at-first : (id : ℕ) → state_at job rows 0 id ≡ option_map (λ row. (beginning job.program (id, row)).state) (row_at id rows)
+  pub state_at-first : (id : ℕ) → state_at job rows 0 id ≡ option_map (state_first job.program id) (row_at id rows)
   unfolding configuration first
   state_at-first id = first_state job.program id rows
 
@@ -252,11 +285,12 @@ module _ {V M : Type 0} (job : Job V M) (rows : Rows) where
 
   -- a superstep leaves each of its vertices the state of its outcome
   pub state_at-next : (s id : ℕ)
-      → state_at job rows (suc s) id ≡ option_map (λ x. state_after x.state (outcome job.program (view_at job rows s) x)) (standing_at id (present_at job rows s))
+      → state_at job rows (suc s) id ≡ option_map (state_left s) (standing_at id (present_at job rows s))
   unfolding configuration
   state_at-next s id =
-      ap (option_map (λ (x : Standing V M). x.state)) (standing_at-next job s (configuration job rows s) id)
-      ∙ mapped_twice (λ (x : Standing V M). x.state) (standing_after job (view_at job rows s) (present_at job rows s)) (standing_at id (present_at job rows s))
+      ap state_of (standing_at-next job s (configuration job rows s) id)
+      ∙ mapped_twice (λ (x : Standing V M). x.state) (standing_after job (view_at job rows s) (present_at job rows s))
+      (standing_at id (present_at job rows s))
 
   -- and brings to each id what was sent to it; under `Drop` only where it has a state
   pub inbox_at-next : (s id : ℕ)
@@ -264,7 +298,8 @@ module _ {V M : Type 0} (job : Job V M) (rows : Rows) where
   unfolding configuration next
   inbox_at-next s id =
       ap inbox_of (standing_at-present job.program (configuration job rows (suc s)) (AreWaiting-at (suc s)) id)
-      ∙ subst (λ (o : Option (Standing V M)). inbox_of (option_or o made_then) ≡ arriving job.missing (option_map (λ (x : Standing V M). x.state) o) (delivered job.combining id all)) (sym (standing_at-next job s (configuration job rows s) id)) (by (standing_at id xs) refl)
+      ∙ subst (λ (o : Option (Standing V M)). inbox_of (option_or o made_then) ≡ arriving job.missing (state_of o) brought)
+      (sym (standing_at-next job s (configuration job rows s) id)) (by (standing_at id xs) refl)
     where
       xs : List (Standing V M)
       xs = present_at job rows s
@@ -272,23 +307,28 @@ module _ {V M : Type 0} (job : Job V M) (rows : Rows) where
       all : List (ℕ × M)
       all = sends job.program (view_at job rows s) xs
 
+      brought : List M
+      brought = delivered job.combining id all
+
       made_then : Option (Standing V M)
-      made_then = option_map (made job.program) (find (λ w. w.0 == id) (waiting_after job.missing job.combining (astray (ids xs) all)))
+      made_then = option_map (made job.program) (waiting_at id (waiting_after job.missing job.combining (astray (ids xs) all)))
 
       after : Standing V M → Standing V M
       after = standing_after job (view_at job rows s) xs
 
       by : (o : Option (Standing V M)) → standing_at id xs ≡ o
-          → inbox_of (option_or (option_map after o) made_then) ≡ arriving job.missing (option_map (λ (x : Standing V M). x.state) (option_map after o)) (delivered job.combining id all)
+          → inbox_of (option_or (option_map after o) made_then) ≡ arriving job.missing (state_of (option_map after o)) brought
       by (Some x) e =
           ap (λ (n : ℕ). delivered job.combining n all) (standing_is id xs x e).0
-          ∙ arriving-some job.missing (after x).state (delivered job.combining id all)
+          ∙ arriving-some job.missing (after x).state brought
       by None e =
           waiting_inbox job.program job.missing job.combining (ids xs) all id (sym (is_some-standing_at id xs) ∙ ap is_some e)
 
   -- so this is how each id stands in the next superstep: with its state; or made by what was sent to it; or not at all
   pub standing_at-next_state : (s id : ℕ)
-      → standing_at id (present_at job rows (suc s)) ≡ standing_with job.program id (state_at job rows (suc s) id) (arriving job.missing (state_at job rows (suc s) id) (delivered_at job rows s id))
+      → standing_at id (present_at job rows (suc s))
+      ≡ standing_with job.program id (state_at job rows (suc s) id)
+      (arriving job.missing (state_at job rows (suc s) id) (delivered_at job rows s id))
   standing_at-next_state s id =
       standing_at-state (suc s) id ∙ ap (standing_with job.program id (state_at job rows (suc s) id)) (inbox_at-next s id)
 
@@ -299,19 +339,19 @@ module _ {V M : Type 0} (job : Job V M) (rows : Rows) where
       → inputs_at job rows s id ≡ option_and_then (inputs_if_active (view_at job rows s)) (standing_at id (present_at job rows s))
   unfolding inputs_at
   inputs_within s id within =
-      ap (λ (b : Bool). cond b (option_and_then (inputs_if_active (view_at job rows s)) (standing_at id (present_at job rows s))) None) (lt-ltb s (run_length job rows) within)
+      let there : Option (Inputs V M) = option_and_then (inputs_if_active (view_at job rows s)) (standing_at id (present_at job rows s)) in
+      ap (λ (b : Bool). cond b there None) (lt-ltb s (run_length job rows) within)
 
   -- where there are none, the vertex isn't there or isn't active
-  pub missing_or_idle : (s id : ℕ) → s < run_length job rows → inputs_at job rows s id ≡ None
-      → (standing_at id (present_at job rows s) ≡ None) ⊎ ((x : Standing V M) × (standing_at id (present_at job rows s) ≡ Some x) × (is_active x ≡ false))
+  pub missing_or_idle : (s id : ℕ) → s < run_length job rows → inputs_at job rows s id ≡ None → MissingOrIdle (standing_at id (present_at job rows s))
   missing_or_idle s id within none = by (standing_at id (present_at job rows s)) refl
     where
       idles : (x : Standing V M) → standing_at id (present_at job rows s) ≡ Some x → (b : Bool) → is_active x ≡ b → is_active x ≡ false
-      idles x at true e = absurd (none-some _ (sym none ∙ inputs_of_executed job rows s id x (record { within = within; present = at; active = e })))
+      idles x at true e =
+          absurd (none-some _ (sym none ∙ inputs_of_executed job rows s id x (record { within = within; present = at; active = e })))
       idles x at false e = e
 
-      by : (o : Option (Standing V M)) → standing_at id (present_at job rows s) ≡ o
-          → (standing_at id (present_at job rows s) ≡ None) ⊎ ((x : Standing V M) × (standing_at id (present_at job rows s) ≡ Some x) × (is_active x ≡ false))
+      by : (o : Option (Standing V M)) → standing_at id (present_at job rows s) ≡ o → MissingOrIdle (standing_at id (present_at job rows s))
       by None e = inl e
       by (Some x) e = inr (x, e, idles x e (is_active x) refl)
 
@@ -321,19 +361,34 @@ module _ {V M : Type 0} (job : Job V M) (rows : Rows) where
       elim (missing_or_idle s id within none) [
         | inl missing ↦ record {
           inputs = none;
-          sent = ap (λ (o : Option (Standing V M)). read_off (λ r. r.sent) (option_map (outcome job.program (view_at job rows s)) o)) missing;
-          contributed = ap (λ (o : Option (Standing V M)). read_off (λ r. r.contributed) (option_map (outcome job.program (view_at job rows s)) o)) missing;
-          state = (state_at-next s id ∙ ap (option_map (λ x. state_after x.state (outcome job.program (view_at job rows s) x))) missing) ∙ sym (none_with job.program id (state_at job rows s id) (inbox_at job rows s id) (sym missing ∙ standing_at-state s id));
+          sent = ap (λ (o : Option (Standing V M)). read_off (λ r. r.sent) (option_map (outcome_in job rows s) o)) missing;
+          contributed = ap (λ (o : Option (Standing V M)). read_off (λ r. r.contributed) (option_map (outcome_in job rows s) o)) missing;
+          state = state_at-next s id ∙ (ap (option_map (state_left s)) missing ∙ sym (before_none missing));
         }
-        | inr there ↦
-            let at : outcome_at job rows s id ≡ Some (idle there.0.state) = ap (option_map (outcome job.program (view_at job rows s))) there.1 ∙ ap Some (outcome-idle job.program (view_at job rows s) there.0 there.2) in
-            record {
-              inputs = none;
-              sent = ap (read_off (λ r. r.sent)) at;
-              contributed = ap (read_off (λ r. r.contributed)) at;
-              state = (state_at-next s id ∙ (ap (option_map (λ x. state_after x.state (outcome job.program (view_at job rows s) x))) there.1 ∙ ap Some (state_after-idle job.program (view_at job rows s) there.0 there.2))) ∙ idle_with job.program id (state_at job rows s id) (inbox_at job rows s id) there.0 (sym there.1 ∙ standing_at-state s id) there.2;
-            }
+        | inr there ↦ record {
+          inputs = none;
+          sent = ap (read_off (λ r. r.sent)) (outcome_then there.0 there.1 there.2);
+          contributed = ap (read_off (λ r. r.contributed)) (outcome_then there.0 there.1 there.2);
+          state = state_at-next s id ∙ (ap (option_map (state_left s)) there.1 ∙ (left there.0 there.2 ∙ before_idle there.0 there.1 there.2));
+        }
       ]
+    where
+      view : View
+      view = view_at job rows s
+
+      before_none : standing_at id (present_at job rows s) ≡ None → state_at job rows s id ≡ None
+      before_none missing =
+          none_with job.program id (state_at job rows s id) (inbox_at job rows s id) (sym missing ∙ standing_at-state s id)
+
+      before_idle : (x : Standing V M) → standing_at id (present_at job rows s) ≡ Some x → is_active x ≡ false → Some x.state ≡ state_at job rows s id
+      before_idle x at idles =
+          idle_with job.program id (state_at job rows s id) (inbox_at job rows s id) x (sym at ∙ standing_at-state s id) idles
+
+      left : (x : Standing V M) → is_active x ≡ false → Some (state_left s x) ≡ Some x.state
+      left x idles = ap Some (state_after-idle job.program view x idles)
+
+      outcome_then : (x : Standing V M) → standing_at id (present_at job rows s) ≡ Some x → is_active x ≡ false → outcome_at job rows s id ≡ Some (idle x.state)
+      outcome_then x at idles = ap (option_map (outcome_in job rows s)) at ∙ ap Some (outcome-idle job.program view x idles)
 
 -- ---- what all vertices give
 
@@ -354,11 +409,15 @@ flat_map-each f g (x ∷ xs) h = ap₂ ◌++◌ h.0 (flat_map-each f g xs h.1)
 -- what is made of the records of those vertices that are picked, one after another, is made of what each id has
 pub flat_map-present : {V M X : Type 0} (job : Job V M) (rows : Rows) → HasRisingIds rows
     → (part : ℕ → Record V M → List X) (picks : ℕ → Bool) (s : ℕ)
-    → flat_map (λ x. part x.state.id (outcome job.program (view_at job rows s) x)) (picked_at job rows picks s) ≡ flat_map (λ id. cond (picks id) (read_off (part id) (outcome_at job rows s id)) []) (ids (present_at job rows s))
+    → made_of job rows part picks s
+    ≡ flat_map (λ id. cond (picks id) (read_off (part id) (outcome_at job rows s id)) []) (ids (present_at job rows s))
 flat_map-present {V = V} {M = M} {X = X} job rows rising part picks s =
     let xs : List (Standing V M) = present_at job rows s in
-    let gives : Standing V M → List X = λ x. part x.state.id (outcome job.program (view_at job rows s) x) in
+    let gives : Standing V M → List X = λ x. part x.state.id (outcome_in job rows s x) in
     let has : ℕ → List X = λ id. cond (picks id) (read_off (part id) (outcome_at job rows s id)) [] in
+    let read : ℕ → Option (Standing V M) → List X = λ id o. cond (picks id) (read_off (part id) (option_map (outcome_in job rows s) o)) [] in
     flat_map-picked gives (λ x. picks x.state.id) xs
-    ∙ (flat_map-each (λ x. cond (picks x.state.id) (gives x) []) (λ x. has x.state.id) xs (all_weaker (λ (x : Standing V M). standing_at x.state.id xs ≡ Some x) (λ (x : Standing V M). cond (picks x.state.id) (gives x) [] ≡ has x.state.id) (λ x at. ap (λ (o : Option (Standing V M)). cond (picks x.state.id) (read_off (part x.state.id) (option_map (outcome job.program (view_at job rows s)) o)) []) (sym at)) xs (found_by_id xs (ids_rise job rows rising s)))
+    ∙ (flat_map-each (λ x. cond (picks x.state.id) (gives x) []) (λ x. has x.state.id) xs
+    (all_weaker (λ (x : Standing V M). standing_at x.state.id xs ≡ Some x) (λ (x : Standing V M). cond (picks x.state.id) (gives x) [] ≡ has x.state.id)
+    (λ x at. ap (read x.state.id) (sym at)) xs (found_by_id xs (ids_rise job rows rising s)))
     ∙ sym (flat_map-map has (λ (x : Standing V M). x.state.id) xs))

@@ -21,7 +21,8 @@ module _ (xs ys : List ℕ) (rise : IsStrictlySortedBy nat_cmp xs) (rise' : IsSt
       → filter test xs ≡ filter test ys
   filter-rising test same =
       same_rising (filter test xs) (filter test ys)
-      (IsStrictlySortedBy-filter nat_cmp test xs rise) (IsStrictlySortedBy-filter nat_cmp test ys rise') (λ id. has_id-filter test xs id ∙ (by id (test id) refl ∙ sym (has_id-filter test ys id)))
+      (IsStrictlySortedBy-filter nat_cmp test xs rise) (IsStrictlySortedBy-filter nat_cmp test ys rise')
+      (λ id. has_id-filter test xs id ∙ (by id (test id) refl ∙ sym (has_id-filter test ys id)))
     where
       by : (id : ℕ) (b : Bool) → test id ≡ b → (b && has_id xs id) ≡ (b && has_id ys id)
       by id true e = same id e

@@ -8,7 +8,7 @@ use Rattle.std.proofs.lemmas.Bool.{cond_both, eqb-true}
 use Rattle.std.proofs.lemmas.List.{map-append}
 use Rattle.std.proofs.lemmas.List.Elements.{filter-append}
 use Rattle.pg_graph.specs.Rows.{Rows, HasRisingIds}
-use Rattle.pg_model.specs.Affected.{IsUnaffected, SendAlike, ContributeAlike}
+use Rattle.pg_model.specs.Affected.{IsUnaffected, AllSendAlike, AllContributeAlike}
 use Rattle.pg_model.specs.ByIds.{read_off, outcome_at, record_at, letters_for}
 use Rattle.pg_model.specs.Job.{Job, Program, Inputs}
 use Rattle.pg_model.specs.Needed.{standing_at, inputs_if_active}
@@ -147,7 +147,7 @@ module _ {V M : Type 0} (job : Job V M) (old new : Rows) (rising : HasRisingIds 
       ∙ (ap (option_map job.program.step) (same_inputs-IsUnaffected job old new s id here h) ∙ sym (record_in_share job new n p s id rising' here mine))
 
   -- a partition sends the same to an id, by whom and what, where each of its vertices sends the same to it
-  pub same_sent_to : (q target : ℕ) → belongs n q target ≡ true → SendAlike job old new (belongs n p) s target
+  pub same_sent_to : (q target : ℕ) → belongs n q target ≡ true → AllSendAlike job old new (belongs n p) s target
       → letters_for target (sent_to job old n p q s) ≡ letters_for target (sent_to job new n p q s)
   same_sent_to q target theirs h =
       letters_for-sent_to job old n p q s target theirs
@@ -160,7 +160,7 @@ module _ {V M : Type 0} (job : Job V M) (old new : Rows) (rising : HasRisingIds 
       read_letters id (Some r) = refl
 
   -- its records have the same contributions at a place, in their order, where each of its vertices contributes the same there
-  pub same_contributions_in_share : (place : ℕ) → ContributeAlike job old new (belongs n p) s place
+  pub same_contributions_in_share : (place : ℕ) → AllContributeAlike job old new (belongs n p) s place
       → at_place place (flat_map (λ r. r.1.contributed) (records_in job old n p s)) ≡ at_place place (flat_map (λ r. r.1.contributed) (records_in job new n p s))
   same_contributions_in_share place h =
       ap (at_place place) (contributions-records_in job old n p s)

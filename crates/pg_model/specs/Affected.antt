@@ -41,12 +41,17 @@ module _ {V M : Type 0} (job : Job V M) (old new : Rows) where
     pub contributed : contributed_at job old s id ≡ contributed_at job new s id
     pub state : state_at job old (suc s) id ≡ state_at job new (suc s) id
 
-  -- in superstep s those picked send the same messages to `target` in both runs
-  abbrev pub SendAlike : (ℕ → Bool) → ℕ → ℕ → Type 0
-  SendAlike picks s target =
-      (id : ℕ) → picks id ≡ true → messages_to target (sent_at job old s id) ≡ messages_to target (sent_at job new s id)
+  -- in superstep s vertex id sends the same messages to a target in both runs
+  abbrev pub SendsAlike : ℕ → ℕ → ℕ → Type 0
+  SendsAlike s target id = messages_to target (sent_at job old s id) ≡ messages_to target (sent_at job new s id)
 
-  -- and contribute the same at `place`
-  abbrev pub ContributeAlike : (ℕ → Bool) → ℕ → ℕ → Type 0
-  ContributeAlike picks s place =
-      (id : ℕ) → picks id ≡ true → at_place place (contributed_at job old s id) ≡ at_place place (contributed_at job new s id)
+  -- and contributes the same at a place
+  abbrev pub ContributesAlike : ℕ → ℕ → ℕ → Type 0
+  ContributesAlike s place id = at_place place (contributed_at job old s id) ≡ at_place place (contributed_at job new s id)
+
+  -- each of those picked does
+  abbrev pub AllSendAlike : (ℕ → Bool) → ℕ → ℕ → Type 0
+  AllSendAlike picks s target = (id : ℕ) → picks id ≡ true → SendsAlike s target id
+
+  abbrev pub AllContributeAlike : (ℕ → Bool) → ℕ → ℕ → Type 0
+  AllContributeAlike picks s place = (id : ℕ) → picks id ≡ true → ContributesAlike s place id

@@ -1,6 +1,6 @@
 -- A run told by ids: what it has of each id, and of those that a test picks (this project's).
 use Rattle.std.specs.Prelude.{◌≡◌, ℕ, suc, ◌==◌, Bool, List, [], ◌∷◌, map, ℤ, Option, None, Some}
-use Rattle.std.specs.List.{filter}
+use Rattle.std.specs.List.{find, filter, flat_map}
 use Rattle.std.specs.Option.{option_map}
 use Rattle.pg_graph.specs.Rows.{Rows}
 use Rattle.pg_graph.specs.declared.missing.Missing.{Missing}
@@ -18,7 +18,15 @@ use Rattle.pg_model.specs.declared.record.Record.{Record}
 abbrev pub letters_for : {M : Type 0} → ℕ → List (Sending M) → List (ℕ × M)
 letters_for target ts = map (λ t. (t.sender, t.message)) (filter (λ t. t.target == target) ts)
 
+-- what waits for an id
+abbrev pub waiting_at : {M : Type 0} → ℕ → List (ℕ × List M) → Option (ℕ × List M)
+waiting_at id waiting = find (λ w. w.0 == id) waiting
+
 module _ {V M : Type 0} where
+  -- the state of a vertex, if there is one
+  abbrev pub state_of : Option (Standing V M) → Option (VertexState V)
+  state_of x = option_map (λ x. x.state) x
+
   -- what a vertex has received, if there is one
   abbrev pub inbox_of : Option (Standing V M) → List M
   inbox_of None = []
@@ -44,15 +52,19 @@ module _ {V M : Type 0} where
   module _ (job : Job V M) (rows : Rows) where
     -- the state of vertex id as superstep s begins, if it has one
     abbrev pub state_at : ℕ → ℕ → Option (VertexState V)
-    state_at s id = option_map (λ x. x.state) (standing_at id (configuration job rows s).standings)
+    state_at s id = state_of (standing_at id (configuration job rows s).standings)
 
     -- what it receives for superstep s
     abbrev pub inbox_at : ℕ → ℕ → List M
     inbox_at s id = inbox_of (standing_at id (present_at job rows s))
 
-    -- what superstep s makes of it, where it is there
+    -- what superstep s makes of a vertex
+    abbrev pub outcome_in : ℕ → Standing V M → Record V M
+    outcome_in s x = outcome job.program (view_at job rows s) x
+
+    -- what it makes of vertex id, where it is there
     abbrev pub outcome_at : ℕ → ℕ → Option (Record V M)
-    outcome_at s id = option_map (outcome job.program (view_at job rows s)) (standing_at id (present_at job rows s))
+    outcome_at s id = option_map (outcome_in s) (standing_at id (present_at job rows s))
 
     -- what its execution in superstep s gives, where it is executed
     abbrev pub record_at : ℕ → ℕ → Option (Record V M)
@@ -77,6 +89,10 @@ module _ {V M : Type 0} where
     -- those vertices of superstep s that a test picks by their ids
     abbrev pub picked_at : (ℕ → Bool) → ℕ → List (Standing V M)
     picked_at picks s = filter (λ x. picks x.state.id) (present_at job rows s)
+
+    -- what is made of their ids and outcomes, one after another
+    abbrev pub made_of : {X : Type 0} → (ℕ → Record V M → List X) → (ℕ → Bool) → ℕ → List X
+    made_of part picks s = flat_map (λ x. part x.state.id (outcome_in s x)) (picked_at picks s)
 
     -- what they send to a target
     abbrev pub messages_of : (ℕ → Bool) → ℕ → ℕ → List M
