@@ -18,6 +18,10 @@ use Rattle.pg_model.specs.declared.record.Record.{Record}
 abbrev pub letters_for : {M : Type 0} → ℕ → List (Sending M) → List (ℕ × M)
 letters_for target ts = map (λ t. (t.sender, t.message)) (filter (λ t. t.target == target) ts)
 
+-- what a vertex sends to a target by a record, with its id
+abbrev pub letters_by : {V M : Type 0} → ℕ → ℕ → Record V M → List (ℕ × M)
+letters_by target id r = map (λ m. (id, m)) (messages_to target r.sent)
+
 -- what waits for an id
 abbrev pub waiting_at : {M : Type 0} → ℕ → List (ℕ × List M) → Option (ℕ × List M)
 waiting_at id waiting = find (λ w. w.0 == id) waiting
