@@ -2,14 +2,15 @@
 use Rattle.std.proofs.Common.{◌≡◌, ℕ, suc, ◌+◌, ◌<◌, ◌≤◌, Bool, true, false, cond, ◌==◌, List, [], ◌∷◌, ◌++◌, map, ℤ, Option, None, Some, option_map, option_and_then, is_some, refl, ap, ap₂, sym, ◌∙◌, arith, true≢false, inl, inr, ◌⊎◌, filter, flat_map, count_by, fold}
 use Rattle.std.specs.List.Sorted.{IsStrictlySortedBy}
 use Rattle.std.specs.Ordering.{nat_cmp}
-use Rattle.std.proofs.lemmas.Bool.{cond_both, cases_lt, cases_Bool, false_from_ne_true}
+use Rattle.std.proofs.lemmas.Bool.{cond_both, cases_lt, cases_Bool, false_from_ne_true, true_from_ne_false}
+use Rattle.std.proofs.lemmas.Option.{none-some}
 use Rattle.pg_graph.specs.Rows.{Rows, HasRisingIds, row_at}
 use Rattle.pg_graph.specs.declared.missing.Missing.{Missing}
 use Rattle.pg_graph.specs.declared.missing.Missing.TheVariants.{Drop, Create}
 use Rattle.pg_model.specs.Affected.{StandsAlike, IsSeenAgain, IsUnaffected, AreCandidates, IsTakenOver, SendsAlike, ContributesAlike, AllSendAlike, AllContributeAlike}
 use Rattle.pg_model.specs.ByIds.{outcome_in, made_of, read_off, standing_with, arriving, state_at, inbox_at, outcome_at, delivered_at, contributions_at, picked_at, messages_of, contributions_of, IsIdleAt}
 use Rattle.pg_model.specs.Job.{Job, Inputs, Aggregating}
-use Rattle.pg_model.specs.Needed.{standing_at, inputs_if_active, inputs_at, is_changed, is_needed, needed_in}
+use Rattle.pg_model.specs.Needed.{standing_at, inputs_if_active, inputs_at, is_changed, IsNeeded, is_needed, needed_in}
 use Rattle.pg_model.specs.Run.{configuration, present_at, visible_at, view_at, run_length}
 use Rattle.pg_model.specs.Superstep.{ids, is_active, has_id, inputs_of, messages_to, combined, delivered, at_place, gathered_at, gathered_from, outcome, idle, state_after, sends, contributions, next}
 use Rattle.pg_model.proofs.LawsAgreement.{outcome-idle, state_after-idle}
@@ -174,13 +175,21 @@ module _ {V M : Type 0} (job : Job V M) (old new : Rows) where
 
   -- ---- needed executions
 
+  -- no execution of an unaffected vertex is needed
+  pub IsNeeded-IsUnaffected : (s id : ℕ) → IsUnaffected job old new s id → IsNeeded job (Some old) new s id → ⊥
+  IsNeeded-IsUnaffected s id h needed =
+      elim (cases_lt s (run_length job new)) [
+        | inl here ↦ needed.changed (same_inputs-IsUnaffected s id here h ∙ needed.present)
+        | inr past ↦ none-some needed.inputs (sym (no_inputs_past job new s id past) ∙ needed.present)
+      ]
+
   module _ (value_eq : V → V → Bool) (message_eq : M → M → Bool) where
     -- what isn't executed in the new run isn't needed
     is_needed-no_inputs : (s id : ℕ) → inputs_at job new s id ≡ None → is_needed value_eq message_eq job (Some old) new s id ≡ false
     is_needed-no_inputs s id none = ap (is_changed value_eq message_eq (inputs_at job old s id)) none
 
     module _ (values : (a : V) → value_eq a a ≡ true) (messages : (a : M) → message_eq a a ≡ true) where
-      -- an unaffected vertex needs no execution
+      -- nor does its test say so
       pub is_needed-IsUnaffected : (s id : ℕ) → IsUnaffected job old new s id
           → is_needed value_eq message_eq job (Some old) new s id ≡ false
       is_needed-IsUnaffected s id h =
@@ -191,7 +200,13 @@ module _ {V M : Type 0} (job : Job V M) (old new : Rows) where
             | inr past ↦ is_needed-no_inputs s id (no_inputs_past job new s id past)
           ]
 
-      -- so all executions that a superstep needs of the vertices picked are counted among the candidates
+      -- so each needed execution of a vertex picked is that of a candidate
+      pub candidate_if_needed : (picks : ℕ → Bool) (s : ℕ) (candidates : List ℕ) → AreCandidates job old new picks s candidates
+          → (id : ℕ) → picks id ≡ true → is_needed value_eq message_eq job (Some old) new s id ≡ true → has_id candidates id ≡ true
+      candidate_if_needed picks s candidates h id picked needed =
+          true_from_ne_false (has_id candidates id) (λ other. true≢false (sym needed ∙ is_needed-IsUnaffected s id (h.others id picked other)))
+
+      -- and all executions that a superstep needs of the vertices picked are counted among the candidates
       pub needed_in-AreCandidates : HasRisingIds new → (picks : ℕ → Bool) (s : ℕ) (candidates : List ℕ)
           → AreCandidates job old new picks s candidates
           → needed_in value_eq message_eq job (Some old) new picks s
