@@ -1,3 +1,4 @@
+mod AffectedVertices
 pub mod LawsAffected
 pub mod LawsAgreement
 pub mod LawsDecides
