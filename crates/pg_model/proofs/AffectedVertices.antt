@@ -1,5 +1,5 @@
 -- What a change affects, worked: states, inboxes and candidates of two runs of shortest paths, computed from the definitions.
-use Rattle.std.proofs.Common.{◌≡◌, ℕ, ◌<◌, Bool, true, false, cond, ℤ, pos, [], ◌∷◌, Option, None, Some, refl, ap, sym, ◌∙◌, arith, inl, inr}
+use Rattle.std.proofs.Common.{◌≡◌, ℕ, Bool, true, false, cond, ℤ, pos, [], ◌∷◌, None, Some, refl, ap, sym, ◌∙◌, arith, inl, inr}
 use Rattle.std.specs.List.Sorted.{IsStrictlySortedBy}
 use Rattle.std.specs.Ordering.{int_eq}
 use Rattle.std.proofs.lemmas.Bool.{or_parts}
@@ -13,7 +13,7 @@ use Rattle.pg_model.specs.Affected.{IsUnaffected, AreCandidates}
 use Rattle.pg_model.specs.ByIds.{state_at, inbox_at, sent_at}
 use Rattle.pg_model.specs.Job.{Job}
 use Rattle.pg_model.specs.Needed.{inputs_at, needed_in}
-use Rattle.pg_model.specs.Programs.{infinity, sssp, sssp_step, sssp_aggregators, decides_nothing}
+use Rattle.pg_model.specs.Programs.{sssp, sssp_step, sssp_aggregators, decides_nothing}
 use Rattle.pg_model.specs.Run.{first, configuration, length_from, run_length}
 use Rattle.pg_model.specs.Superstep.{visible_in, view_of, outcome, gathered_from, has_id, next}
 use Rattle.pg_model.proofs.LawsAffected.{StandsAlike-first, needed_in-AreCandidates}

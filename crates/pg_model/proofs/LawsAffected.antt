@@ -1,5 +1,5 @@
 -- Two runs of one job: what an unaffected vertex keeps, which executions are needed, and what is delivered and gathered.
-use Rattle.std.proofs.Common.{◌≡◌, ℕ, suc, ◌+◌, ◌<◌, ◌≤◌, Bool, true, false, cond, ◌==◌, List, [], ◌∷◌, ◌++◌, map, ℤ, Option, None, Some, option_map, option_and_then, is_some, refl, ap, ap₂, sym, ◌∙◌, arith, true≢false, inl, inr, ◌⊎◌, filter, flat_map, count_by, fold}
+use Rattle.std.proofs.Common.{◌≡◌, ℕ, suc, ◌+◌, ◌<◌, ◌≤◌, Bool, true, false, cond, List, [], ◌∷◌, ℤ, Option, None, Some, option_map, option_and_then, is_some, refl, ap, ap₂, sym, ◌∙◌, arith, true≢false, inl, inr, ◌⊎◌, filter, flat_map, count_by, fold}
 use Rattle.std.specs.List.Sorted.{IsStrictlySortedBy}
 use Rattle.std.specs.Ordering.{nat_cmp}
 use Rattle.std.proofs.lemmas.Bool.{cond_both, cases_lt, cases_Bool, false_from_ne_true, true_from_ne_false}
@@ -12,7 +12,7 @@ use Rattle.pg_model.specs.ByIds.{outcome_in, made_of, read_off, standing_with, a
 use Rattle.pg_model.specs.Job.{Job, Inputs, Aggregating}
 use Rattle.pg_model.specs.Needed.{standing_at, inputs_if_active, inputs_at, is_changed, IsNeeded, is_needed, needed_in}
 use Rattle.pg_model.specs.Run.{configuration, present_at, visible_at, view_at, run_length}
-use Rattle.pg_model.specs.Superstep.{ids, is_active, has_id, inputs_of, messages_to, combined, delivered, at_place, gathered_at, gathered_from, outcome, idle, state_after, sends, contributions, next}
+use Rattle.pg_model.specs.Superstep.{ids, is_active, has_id, inputs_of, messages_to, combined, at_place, gathered_at, gathered_from, outcome, state_after, sends, contributions, next}
 use Rattle.pg_model.proofs.LawsAgreement.{outcome-idle, state_after-idle}
 use Rattle.pg_model.proofs.LawsDelivered.{messages_to-sends}
 use Rattle.pg_model.proofs.LawsIds.{ids_rise}
@@ -22,7 +22,6 @@ use Rattle.pg_model.proofs.LawsNeeded.{unchanged}
 use Rattle.pg_model.proofs.LawsPresent.{state_first, standing_at-none, standing_at-state, state_at-first, inbox_at-first, IsIdleAt-from_inputs, state_at-next, inbox_at-next, inputs_within, missing_or_idle, flat_map-present}
 use Rattle.pg_model.proofs.LawsRising.{flat_map-rising, count-rising}
 use Rattle.pg_model.proofs.LawsShares.{at_place-contributions}
-use Rattle.pg_model.proofs.LawsStandings.{standing_is}
 use Rattle.pg_model.specs.declared.configuration.Standing.{Standing}
 use Rattle.pg_model.specs.declared.configuration.VertexState.{VertexState}
 use Rattle.pg_model.specs.declared.record.Record.{Record}

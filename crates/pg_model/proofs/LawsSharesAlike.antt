@@ -1,5 +1,5 @@
 -- The shares of two runs: where they have the same record of a vertex, the same messages to a target, the same contributions.
-use Rattle.std.proofs.Common.{◌≡◌, ℕ, ◌+◌, ◌<◌, Bool, true, false, cond, ◌==◌, List, [], ◌∷◌, ◌++◌, map, ℤ, Option, None, Some, option_map, option_and_then, refl, ap, ap₂, sym, ◌∙◌, filter, flat_map}
+use Rattle.std.proofs.Common.{◌≡◌, ℕ, ◌+◌, ◌<◌, Bool, true, false, cond, ◌==◌, List, [], ◌∷◌, ◌++◌, map, Option, None, Some, option_map, option_and_then, refl, ap, ap₂, sym, ◌∙◌, filter, flat_map}
 use Rattle.std.specs.BTreeMap.{is_at}
 use Rattle.std.specs.List.Sorted.{IsStrictlySortedBy}
 use Rattle.std.specs.Map.{lookup}
@@ -10,12 +10,12 @@ use Rattle.std.proofs.lemmas.List.Elements.{filter-append}
 use Rattle.pg_graph.specs.Rows.{Rows, HasRisingIds}
 use Rattle.pg_model.specs.Affected.{IsUnaffected, AllSendAlike, AllContributeAlike}
 use Rattle.pg_model.specs.ByIds.{outcome_in, made_of, read_off, outcome_at, record_at, letters_for, letters_by}
-use Rattle.pg_model.specs.Job.{Job, Program, Inputs}
+use Rattle.pg_model.specs.Job.{Job, Program}
 use Rattle.pg_model.specs.Needed.{standing_at, inputs_if_active}
 use Rattle.pg_model.specs.Order.{Sending, sendings_from, sendings}
 use Rattle.pg_model.specs.Run.{present_at, view_at, run_length}
 use Rattle.pg_model.specs.Share.{belongs, present_in_share, records_in, sendings_of, sent_to}
-use Rattle.pg_model.specs.Superstep.{ids, is_active, inputs_of, messages_to, at_place, outcome, contributions}
+use Rattle.pg_model.specs.Superstep.{ids, is_active, inputs_of, messages_to, at_place, outcome}
 use Rattle.pg_model.proofs.LawsAffected.{same_inputs-IsUnaffected, same_made, same_contributions}
 use Rattle.pg_model.proofs.LawsAgreement.{outcome-active}
 use Rattle.pg_model.proofs.LawsIds.{ids_rise}
