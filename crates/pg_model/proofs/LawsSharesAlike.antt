@@ -1,10 +1,10 @@
 -- The shares of two runs: where they have the same record of a vertex, the same messages to a target, the same contributions.
-use Rattle.std.proofs.Common.{◌≡◌, ℕ, ◌+◌, ◌<◌, Bool, true, false, cond, ◌==◌, List, [], ◌∷◌, ◌++◌, map, Option, None, Some, option_map, option_and_then, refl, ap, ap₂, sym, ◌∙◌, filter, flat_map}
+use Rattle.std.proofs.Common.{◌≡◌, ℕ, ◌+◌, ◌<◌, ◌%◌, Bool, true, false, cond, ◌==◌, List, [], ◌∷◌, ◌++◌, map, Option, None, Some, option_map, option_and_then, refl, ap, ap₂, sym, mod-lt, ◌∙◌, filter, flat_map}
 use Rattle.std.specs.BTreeMap.{is_at}
 use Rattle.std.specs.List.Sorted.{IsStrictlySortedBy}
 use Rattle.std.specs.Map.{lookup}
 use Rattle.std.specs.Ordering.{nat_cmp}
-use Rattle.std.proofs.lemmas.Bool.{cond_both, eqb-true}
+use Rattle.std.proofs.lemmas.Bool.{cond_both, eqb-true, eq-eqb}
 use Rattle.std.proofs.lemmas.List.{map-append}
 use Rattle.std.proofs.lemmas.List.Elements.{filter-append}
 use Rattle.pg_graph.specs.Rows.{Rows, HasRisingIds}
@@ -172,6 +172,13 @@ module _ {V M : Type 0} (job : Job V M) (rows : Rows) (n p s id : ℕ) where
       lookup_active (outcome_in job rows s) (belongs n p) id (present_at job rows s) (ids_rise job rows rising s)
       ∙ (ap (λ (c : Bool). cond c (option_and_then (λ x. cond (is_active x) (Some (outcome_in job rows s x)) None) there) None) mine
       ∙ (step_of_active there ∙ sym (ap (option_map job.program.step) (inputs_within job rows s id within))))
+
+-- ---- all partitions
+
+-- what holds of each partition's ids holds of all ids: of what they send, of what they contribute
+pub all_from_parts : (P : ℕ → Type 0) (n : ℕ) → 0 < n
+    → ((p : ℕ) → p < n → (id : ℕ) → belongs n p id ≡ true → P id) → (id : ℕ) → P id
+all_from_parts P n some each id = each (id % n) (mod-lt id some) id (eq-eqb (id % n) (id % n) refl)
 
 -- ---- two runs
 
