@@ -7,8 +7,8 @@ use Rattle.std.proofs.lemmas.Option.{none-some}
 use Rattle.pg_graph.specs.Rows.{Rows, HasRisingIds, row_at}
 use Rattle.pg_graph.specs.declared.missing.Missing.{Missing}
 use Rattle.pg_graph.specs.declared.missing.Missing.TheVariants.{Drop, Create}
-use Rattle.pg_model.specs.Affected.{StandsAlike, IsSeenAgain, IsUnaffected, AreCandidates, IsTakenOver, SendsAlike, ContributesAlike, AllSendAlike, AllContributeAlike}
-use Rattle.pg_model.specs.ByIds.{outcome_in, made_of, read_off, standing_with, arriving, state_at, inbox_at, outcome_at, delivered_at, contributions_at, picked_at, messages_of, contributions_of, IsIdleAt}
+use Rattle.pg_model.specs.Affected.{HaveActive, StandsAlike, IsSeenAgain, IsUnaffected, AreCandidates, IsTakenOver, SendsAlike, ContributesAlike, AllSendAlike, AllContributeAlike}
+use Rattle.pg_model.specs.ByIds.{state_first, outcome_in, made_of, read_off, standing_with, arriving, state_at, inbox_at, outcome_at, delivered_at, contributions_at, picked_at, messages_of, contributions_of, IsIdleAt}
 use Rattle.pg_model.specs.Job.{Job, Inputs, Aggregating}
 use Rattle.pg_model.specs.Needed.{standing_at, inputs_if_active, inputs_at, is_changed, IsNeeded, is_needed, needed_in}
 use Rattle.pg_model.specs.Run.{configuration, present_at, visible_at, view_at, run_length}
@@ -19,7 +19,7 @@ use Rattle.pg_model.proofs.LawsIds.{ids_rise}
 use Rattle.pg_model.proofs.LawsInputs.{no_inputs_past, no_inputs_missing, no_inputs_idle}
 use Rattle.pg_model.proofs.LawsLists.{all_pass}
 use Rattle.pg_model.proofs.LawsNeeded.{unchanged}
-use Rattle.pg_model.proofs.LawsPresent.{state_first, standing_at-none, standing_at-state, state_at-first, inbox_at-first, IsIdleAt-from_inputs, state_at-next, inbox_at-next, inputs_within, missing_or_idle, flat_map-present}
+use Rattle.pg_model.proofs.LawsPresent.{standing_at-none, standing_at-state, state_at-first, inbox_at-first, IsIdleAt-from_inputs, state_at-next, inbox_at-next, inputs_within, missing_or_idle, flat_map-present}
 use Rattle.pg_model.proofs.LawsRising.{flat_map-rising, count-rising}
 use Rattle.pg_model.proofs.LawsShares.{at_place-contributions}
 use Rattle.pg_model.specs.declared.configuration.Standing.{Standing}
@@ -30,19 +30,23 @@ use Rattle.pg_model.specs.declared.view.View.{View}
 module _ {V M : Type 0} where
   -- ---- plain values
 
+  -- the messages to a target, read off a record or off what it sent
   read_to : (target : ℕ) (o : Option (Record V M))
       → read_off (λ r. messages_to target r.sent) o ≡ messages_to target (read_off (λ r. r.sent) o)
   read_to target None = refl
   read_to target (Some r) = refl
 
+  -- the contributions at a place, likewise
   read_at : (place : ℕ) (o : Option (Record V M))
       → read_off (λ r. at_place place r.contributed) o ≡ at_place place (read_off (λ r. r.contributed) o)
   read_at place None = refl
   read_at place (Some r) = refl
 
+  -- a vertex that isn't active reads nothing
   no_inputs_if_idle : (view : View) (x : Standing V M) → is_active x ≡ false → inputs_if_active view x ≡ None
   no_inputs_if_idle view x e = ap (λ (b : Bool). cond b (Some (inputs_of view x)) None) e
 
+  -- what arrives depends on whether there's a state, and under `Create` not even on that
   arrives_alike : (missing : Missing) (a b : Option (VertexState V)) (messages : List M)
       → (missing ≡ Drop → is_some a ≡ is_some b) → arriving missing a messages ≡ arriving missing b messages
   arrives_alike Create a b messages h = refl
@@ -51,10 +55,12 @@ module _ {V M : Type 0} where
   arrives_alike Drop (Some x) None messages h = absurd (true≢false (h refl))
   arrives_alike Drop (Some x) (Some y) messages h = refl
 
+-- where a gathering begins
 begins_alike : (persistent : Bool) (v w initial : ℤ) → (persistent ≡ true → v ≡ w) → cond persistent v initial ≡ cond persistent w initial
 begins_alike true v w initial h = h refl
 begins_alike false v w initial h = refl
 
+-- all that is gathered, from the same contributions at each place
 gathers_alike : (place : ℕ) (aggregators : List Aggregating) (values : List ℤ) (c d : List (ℕ × ℤ))
     → ((p : ℕ) → at_place p c ≡ at_place p d)
     → gathered_from place aggregators values c ≡ gathered_from place aggregators values d
@@ -113,11 +119,13 @@ module _ {V M : Type 0} (job : Job V M) (old new : Rows) where
           | inr past ↦ elim h.sees [ inl seen ↦ absurd (omega (arith, seen.within)) | inr none ↦ no_inputs_past job old s id past ∙ sym none ]
         ]
 
+    -- where both runs have the superstep, its outcome is the same
     same_outcome-IsUnaffected : s < run_length job old → outcome_at job old s id ≡ outcome_at job new s id
     same_outcome-IsUnaffected there =
         read_alike (λ v o. option_map (outcome job.program v) o) (λ v w. refl)
         (λ v w x e. ap Some (outcome-idle job.program v x e ∙ sym (outcome-idle job.program w x e))) there
 
+    -- and its next state
     same_state-IsUnaffected : s < run_length job old → state_at job old (suc s) id ≡ state_at job new (suc s) id
     same_state-IsUnaffected there =
         state_at-next job old s id
@@ -125,7 +133,7 @@ module _ {V M : Type 0} (job : Job V M) (old new : Rows) where
         (λ v w x e. ap Some (state_after-idle job.program v x e ∙ sym (state_after-idle job.program w x e))) there
         ∙ sym (state_at-next job new s id))
 
-    -- so where both runs have the superstep, all that the old run has of it stands in the new one
+    -- so all that the old run has of it stands in the new one
     pub IsTakenOver-from_IsUnaffected : s < run_length job old → IsTakenOver job old new s id
     IsTakenOver-from_IsUnaffected there =
         let same = same_outcome-IsUnaffected there in
@@ -143,17 +151,11 @@ module _ {V M : Type 0} (job : Job V M) (old new : Rows) where
     IsIdleAt-from_IsUnaffected past =
         elim h.sees [ inl seen ↦ absurd (omega (arith, seen.within)) | inr none ↦ IsIdleAt-from_inputs job new s id here none ]
 
-  -- each active vertex of the new run that is picked is among the candidates
-  abbrev pub HaveActive : (ℕ → Bool) → ℕ → List ℕ → Type 0
-  HaveActive picks s candidates =
-      (id : ℕ) (x : Standing V M) → picks id ≡ true → standing_at id (present_at job new s) ≡ Some x → is_active x ≡ true
-      → has_id candidates id ≡ true
-
-  -- ids are candidates that have each id picked which stands otherwise in the old run, where that has the superstep; and where
-  -- its vertices aren't those that see the same again, each active vertex picked
+  -- candidates are rising ids with each id picked that stood otherwise in the old run, if that has the superstep; and with
+  -- each active vertex picked, unless the superstep is seen again
   pub AreCandidates-from : (picks : ℕ → Bool) (s : ℕ) (candidates : List ℕ) → IsStrictlySortedBy nat_cmp candidates
       → ((id : ℕ) → picks id ≡ true → has_id candidates id ≡ false → s < run_length job old → StandsAlike job old new s id)
-      → IsSeenAgain job old new s ⊎ HaveActive picks s candidates
+      → IsSeenAgain job old new s ⊎ HaveActive job old new picks s candidates
       → AreCandidates job old new picks s candidates
   AreCandidates-from picks s candidates rise alike sees = record {
     rise = rise;
@@ -166,7 +168,7 @@ module _ {V M : Type 0} (job : Job V M) (old new : Rows) where
     };
   }
     where
-      idles : (id : ℕ) → picks id ≡ true → has_id candidates id ≡ false → HaveActive picks s candidates
+      idles : (id : ℕ) → picks id ≡ true → has_id candidates id ≡ false → HaveActive job old new picks s candidates
           → (o : Option (Standing V M)) → standing_at id (present_at job new s) ≡ o → inputs_at job new s id ≡ None
       idles id picked other active None at = no_inputs_missing job new s id at
       idles id picked other active (Some x) at =
@@ -188,7 +190,7 @@ module _ {V M : Type 0} (job : Job V M) (old new : Rows) where
     is_needed-no_inputs s id none = ap (is_changed value_eq message_eq (inputs_at job old s id)) none
 
     module _ (values : (a : V) → value_eq a a ≡ true) (messages : (a : M) → message_eq a a ≡ true) where
-      -- nor does its test say so
+      -- and the test for it fails
       pub is_needed-IsUnaffected : (s id : ℕ) → IsUnaffected job old new s id
           → is_needed value_eq message_eq job (Some old) new s id ≡ false
       is_needed-IsUnaffected s id h =
@@ -282,20 +284,21 @@ module _ {V M : Type 0} (job : Job V M) (old new : Rows) where
         let sent : Rows → List (Standing V M) → List M = λ rows xs. messages_to target (sends job.program (view_at job rows s) xs) in
         ap (combined job.combining) (of_all sent (same_messages rising rising' (λ id. true) s target h))
 
+    -- where each contributes the same at a place, so do all
     at_whole : (place : ℕ) → AllContributeAlike job old new (λ id. true) s place
         → contributions_at job old s place ≡ contributions_at job new s place
     at_whole place h =
         let given : Rows → List (Standing V M) → List ℤ = λ rows xs. at_place place (contributions job.program (view_at job rows s) xs) in
         of_all given (same_contributions rising rising' (λ id. true) s place h)
 
-    -- where each contributes the same at a place, the same is gathered there; a persistent aggregator also has to begin alike
+    -- and the same is gathered there; a persistent aggregator also has to begin alike
     pub same_gathered_at : (a : Aggregating) (v w : ℤ) (place : ℕ) → (a.persistent ≡ true → v ≡ w)
         → AllContributeAlike job old new (λ id. true) s place
         → gathered_at a v (contributions_at job old s place) ≡ gathered_at a w (contributions_at job new s place)
     same_gathered_at a v w place begins h =
         λ i. fold a.aggregate (begins_alike a.persistent v w a.initial begins i) (at_whole place h i)
 
-    -- and where they do so at all places, and the same was visible, all that is gathered is the same
+    -- where they do so at all places, and the same was visible, all that is gathered is the same
     pub same_gathered : (visible_at job old s).values ≡ (visible_at job new s).values
         → ((place : ℕ) → AllContributeAlike job old new (λ id. true) s place)
         → (configuration job old (suc s)).gathered ≡ (configuration job new (suc s)).gathered

@@ -14,7 +14,7 @@ use Rattle.pg_graph.specs.Rows.{Rows, HasRisingIds, row_at}
 use Rattle.pg_graph.specs.declared.graph.Row.{Row}
 use Rattle.pg_graph.specs.declared.missing.Missing.{Missing}
 use Rattle.pg_graph.specs.declared.missing.Missing.TheVariants.{Drop, Create}
-use Rattle.pg_model.specs.ByIds.{state_of, waiting_at, outcome_in, made_of, inbox_of, read_off, standing_with, arriving, state_at, inbox_at, outcome_at, delivered_at, IsIdleAt}
+use Rattle.pg_model.specs.ByIds.{state_first, state_left, state_of, waiting_at, outcome_in, made_of, inbox_of, read_off, standing_with, arriving, state_at, inbox_at, outcome_at, delivered_at, IsIdleAt}
 use Rattle.pg_model.specs.InOrder.{AreWaiting}
 use Rattle.pg_model.specs.Job.{Job, Program, Inputs, Combining}
 use Rattle.pg_model.specs.Needed.{standing_at, inputs_if_active, inputs_at}
@@ -34,10 +34,12 @@ use Rattle.pg_model.specs.declared.view.View.{View}
 
 -- ---- options and truth values
 
+-- nothing else changes what there is
 or_nothing : {X : Type 0} (o : Option X) → o ≡ option_or o None
 or_nothing None = refl
 or_nothing (Some x) = refl
 
+-- two functions of what there is, one after the other
 mapped_twice : {X Y Z : Type 0} (g : Y → Z) (f : X → Y) (o : Option X) → option_map g (option_map f o) ≡ option_map (λ x. g (f x)) o
 mapped_twice g f None = refl
 mapped_twice g f (Some x) = refl
@@ -66,6 +68,7 @@ module _ {M : Type 0} where
       each m true e = ap (λ (c : Bool). cond (not c) true false) (ap (has_id is) (eqb-true m.0 id e) ∙ new)
       each m false e = cond_both (not (has_id is m.0)) false false (λ (c : Bool). c ≡ false) (λ _. refl) (λ _. refl)
 
+  -- an id that no message goes to gets none
   no_messages : (sent : List (ℕ × M)) (id : ℕ) → has_id (map (λ (m : ℕ × M). m.0) sent) id ≡ false → messages_to id sent ≡ []
   no_messages [] id h = refl
   no_messages (m ∷ sent) id h =
@@ -73,6 +76,7 @@ module _ {M : Type 0} where
       let rest : List (ℕ × M) = filter (λ (x : ℕ × M). x.0 == id) sent in
       ap (λ (b : Bool). map (λ (x : ℕ × M). x.1) (cond b (m ∷ rest) rest)) both.0 ∙ no_messages sent id both.1
 
+  -- no messages combine to none
   combined-none : (combining : Option (Combining M)) → combined combining [] ≡ []
   combined-none None = refl
   combined-none (Some c) = refl
@@ -83,6 +87,7 @@ module _ {M : Type 0} where
   delivered-none combining sent id h =
       ap (combined combining) (no_messages sent id (sym (has_id-targets sent id) ∙ h)) ∙ combined-none combining
 
+  -- among inboxes for ids, an id finds its own
   find_inbox : (f : ℕ → List M) (is : List ℕ) (id : ℕ)
       → waiting_at id (map (λ k. (k, f k)) is) ≡ cond (has_id is id) (Some (id, f id)) None
   find_inbox f [] id = refl
@@ -94,6 +99,7 @@ module _ {M : Type 0} where
       by true e rest = ap (λ (n : ℕ). Some (n, f n)) (eqb-true k id e)
       by false e rest = rest
 
+  -- what waits for an id has that id, and a message
   waits_right : (ws : List (ℕ × List M)) (id : ℕ) → AllByRecursion (λ w. is_empty w.1 ≡ false) ws → (v : ℕ × List M)
       → waiting_at id ws ≡ Some v → (v.0 ≡ id) × (is_empty v.1 ≡ false)
   waits_right [] id h v e = absurd (none-some v e)
@@ -118,9 +124,11 @@ module _ {V M : Type 0} where
       by true rest = refl
       by false rest = rest
 
+  -- nothing is found of an id that isn't among them
   pub standing_at-none : (id : ℕ) (xs : List (Standing V M)) → has_id (ids xs) id ≡ false → standing_at id xs ≡ None
   standing_at-none id xs h = none_there (standing_at id xs) (is_some-standing_at id xs ∙ h)
 
+  -- a vertex put among others is found by its id, and they by theirs
   standing_at-placed : (x : Standing V M) (ys : List (Standing V M)) (id : ℕ) → has_id (ids ys) x.state.id ≡ false
       → standing_at id (placed x ys) ≡ cond (x.state.id == id) (Some x) (standing_at id ys)
   standing_at-placed x [] id new = refl
@@ -138,6 +146,7 @@ module _ {V M : Type 0} where
           (λ e e'. true≢false (sym (ap (λ (n : ℕ). y.state.id == n) (eqb-true x.state.id id e) ∙ e') ∙ unlike))
 
   module _ (program : Program V M) where
+    -- and so are those that messages make
     standing_at-with_made : (xs : List (Standing V M)) (ws : List (ℕ × List M)) (id : ℕ)
         → IsStrictlySortedBy nat_cmp (map (λ (w : ℕ × List M). w.0) ws)
         → AllByRecursion (λ (w : ℕ × List M). has_id (ids xs) w.0 ≡ false) ws
@@ -159,10 +168,12 @@ module _ {V M : Type 0} where
             ap (λ (o : Option (Standing V M)). option_or o (Some (made program w))) (sym (standing_at-none id xs new))
         by false e = refl
 
+    -- messages make a vertex where there's no state
     made_with : (k id : ℕ) (ms : List M) → k ≡ id → is_empty ms ≡ false → Some (made program (k, ms)) ≡ standing_with program id None ms
     made_with k id [] e h = absurd (true≢false h)
     made_with k id (m ∷ ms) e h = ap (λ (n : ℕ). Some (made program (n, m ∷ ms))) e
 
+    -- a vertex with a state or made by what waits stands with its state, if it has one, and its inbox
     stands_by : (id : ℕ) (o : Option (Standing V M)) (w : Option (ℕ × List M))
         → ((v : ℕ × List M) → w ≡ Some v → (v.0 ≡ id) × (is_empty v.1 ≡ false))
         → option_or o (option_map (made program) w)
@@ -185,11 +196,13 @@ module _ {V M : Type 0} where
           subst (λ (o : Option (Standing V M)). o ≡ standing_with program id state (inbox_of o)) (sym standing_at-present)
           (stands_by id (standing_at id c.standings) (waiting_at id c.waiting) (waits_right c.waiting id waits.some))
 
+  -- what isn't there has no state
   none_with : (program : Program V M) (id : ℕ) (state : Option (VertexState V)) (inbox : List M)
       → None ≡ standing_with program id state inbox → state ≡ None
   none_with program id None inbox e = refl
   none_with program id (Some state) inbox e = absurd (none-some _ e)
 
+  -- what isn't active has one, since messages make active vertices only
   idle_with : (program : Program V M) (id : ℕ) (state : Option (VertexState V)) (inbox : List M) (x : Standing V M)
       → Some x ≡ standing_with program id state inbox → is_active x ≡ false → Some x.state ≡ state
   idle_with program id (Some state) inbox x e idles = ap (option_map (λ (y : Standing V M). y.state)) e
@@ -201,10 +214,12 @@ module _ {V M : Type 0} where
   abbrev pub MissingOrIdle : Option (Standing V M) → Type 0
   MissingOrIdle o = (o ≡ None) ⊎ ((x : Standing V M) × (o ≡ Some x) × (is_active x ≡ false))
 
+  -- all messages arrive where there's a state
   arriving-some : (missing : Missing) (state : VertexState V) (messages : List M) → messages ≡ arriving missing (Some state) messages
   arriving-some Drop state messages = refl
   arriving-some Create state messages = refl
 
+  -- what waits for an id without a state is what arrives there
   waiting_inbox : (program : Program V M) (missing : Missing) (combining : Option (Combining M))
       → (is : List ℕ) (all : List (ℕ × M)) (id : ℕ) → has_id is id ≡ false
       → inbox_of (option_map (made program) (waiting_at id (waiting_after missing combining (astray is all))))
@@ -225,10 +240,7 @@ module _ {V M : Type 0} where
 
   -- ---- as a run begins
 
-  -- the state that a row gives its vertex
-  abbrev pub state_first : Program V M → ℕ → Row → VertexState V
-  state_first program id row = (beginning program (id, row)).state
-
+  -- the vertex of a row is found by the row's id, with the state that the row gives it
   first_state : (program : Program V M) (id : ℕ) (rows : Rows)
       → state_of (standing_at id (map (beginning program) rows)) ≡ option_map (state_first program id) (row_at id rows)
   first_state program id [] = refl
@@ -246,6 +258,7 @@ module _ {V M : Type 0} where
       by true e rest = ap (λ (n : ℕ). Some (beginning program (n, row.1)).state) (eqb-true row.0 id e)
       by false e rest = rest
 
+  -- and with an empty inbox
   first_inbox : (program : Program V M) (id : ℕ) (rows : Rows) → inbox_of (standing_at id (map (beginning program) rows)) ≡ []
   first_inbox program id [] = refl
   first_inbox program id (row ∷ rows) =
@@ -255,10 +268,7 @@ module _ {V M : Type 0} where
 -- ---- vertices of a run
 
 module _ {V M : Type 0} (job : Job V M) (rows : Rows) where
-  -- the state that superstep s leaves a vertex
-  abbrev pub state_left : ℕ → Standing V M → VertexState V
-  state_left s x = state_after x.state (outcome_in job rows s x)
-
+  -- what waits is in order all along
   AreWaiting-at : (s : ℕ) → AreWaiting (ids (configuration job rows s).standings) (configuration job rows s).waiting
   unfolding configuration first next
   AreWaiting-at zero = AreWaiting-none _
@@ -285,7 +295,7 @@ module _ {V M : Type 0} (job : Job V M) (rows : Rows) where
 
   -- a superstep leaves each of its vertices the state of its outcome
   pub state_at-next : (s id : ℕ)
-      → state_at job rows (suc s) id ≡ option_map (state_left s) (standing_at id (present_at job rows s))
+      → state_at job rows (suc s) id ≡ option_map (state_left job rows s) (standing_at id (present_at job rows s))
   unfolding configuration
   state_at-next s id =
       ap state_of (standing_at-next job s (configuration job rows s) id)
@@ -363,13 +373,13 @@ module _ {V M : Type 0} (job : Job V M) (rows : Rows) where
           inputs = none;
           sent = ap (λ (o : Option (Standing V M)). read_off (λ r. r.sent) (option_map (outcome_in job rows s) o)) missing;
           contributed = ap (λ (o : Option (Standing V M)). read_off (λ r. r.contributed) (option_map (outcome_in job rows s) o)) missing;
-          state = state_at-next s id ∙ (ap (option_map (state_left s)) missing ∙ sym (before_none missing));
+          state = state_at-next s id ∙ (ap (option_map (state_left job rows s)) missing ∙ sym (before_none missing));
         }
         | inr there ↦ record {
           inputs = none;
           sent = ap (read_off (λ r. r.sent)) (outcome_then there.0 there.1 there.2);
           contributed = ap (read_off (λ r. r.contributed)) (outcome_then there.0 there.1 there.2);
-          state = state_at-next s id ∙ (ap (option_map (state_left s)) there.1 ∙ (left there.0 there.2 ∙ before_idle there.0 there.1 there.2));
+          state = state_at-next s id ∙ (ap (option_map (state_left job rows s)) there.1 ∙ (left there.0 there.2 ∙ before_idle there.0 there.1 there.2));
         }
       ]
     where
@@ -384,7 +394,7 @@ module _ {V M : Type 0} (job : Job V M) (rows : Rows) where
       before_idle x at idles =
           idle_with job.program id (state_at job rows s id) (inbox_at job rows s id) x (sym at ∙ standing_at-state s id) idles
 
-      left : (x : Standing V M) → is_active x ≡ false → Some (state_left s x) ≡ Some x.state
+      left : (x : Standing V M) → is_active x ≡ false → Some (state_left job rows s x) ≡ Some x.state
       left x idles = ap Some (state_after-idle job.program view x idles)
 
       outcome_then : (x : Standing V M) → standing_at id (present_at job rows s) ≡ Some x → is_active x ≡ false → outcome_at job rows s id ≡ Some (idle x.state)
@@ -392,6 +402,7 @@ module _ {V M : Type 0} (job : Job V M) (rows : Rows) where
 
 -- ---- what all vertices give
 
+-- what is made of the elements that a test picks
 flat_map-picked : {X Y : Type 0} (f : X → List Y) (p : X → Bool) (xs : List X)
     → flat_map f (filter p xs) ≡ flat_map (λ x. cond (p x) (f x) []) xs
 flat_map-picked f p [] = refl
@@ -402,6 +413,7 @@ flat_map-picked {X = X} {Y = Y} f p (x ∷ xs) = by (p x) (flat_map-picked f p x
     by true rest = ap (◌++◌ (f x)) rest
     by false rest = rest
 
+-- what is made is the same where it is the same of each element
 flat_map-each : {X Y : Type 0} (f g : X → List Y) (xs : List X) → AllByRecursion (λ x. f x ≡ g x) xs → flat_map f xs ≡ flat_map g xs
 flat_map-each f g [] h = refl
 flat_map-each f g (x ∷ xs) h = ap₂ ◌++◌ h.0 (flat_map-each f g xs h.1)

@@ -30,16 +30,20 @@ use Rattle.pg_model.specs.declared.view.View.{View}
 -- ---- messages to one target
 
 module _ {M : Type 0} (target : ℕ) where
+  -- by whom and what
   letter : Sending M → ℕ × M
   letter t = (t.sender, t.message)
 
+  -- whether a message goes to the target
   goes : Sending M → Bool
   goes t = t.target == target
 
+  -- the letters of two lists, one after the other
   letters_for-append : (a b : List (Sending M)) → letters_for target (a ++ b) ≡ letters_for target a ++ letters_for target b
   unfolding letter goes
   letters_for-append a b = ap (map letter) (filter-append goes a b) ∙ map-append letter (filter goes a) (filter goes b)
 
+  -- and those of one sender
   letters_from : (u k : ℕ) (ms : List (ℕ × M))
       → letters_for target (sendings_from u k ms) ≡ map {B = ℕ × M} (λ m. (u, m)) (messages_to target ms)
   unfolding letter goes
@@ -102,6 +106,7 @@ module _ {V M : Type 0} (given : Standing V M → Record V M) (picks : ℕ → B
   abbrev given_among : List (Standing V M) → Option (Record V M)
   given_among xs = lookup (is_at (nat_cmp id)) (map (λ x. (x.state.id, given x)) xs)
 
+  -- it is found among the active ones that are picked where it is picked and active
   lookup_active : (xs : List (Standing V M)) → IsStrictlySortedBy nat_cmp (ids xs)
       → given_among (filter is_active (filter (λ x. picks x.state.id) xs))
       ≡ cond (picks id) (given_if_active (standing_at id xs)) None
@@ -152,6 +157,7 @@ module _ {V M : Type 0} (given : Standing V M → Record V M) (picks : ℕ → B
           found false e' false e'' rest = rest
 
 module _ {V M : Type 0} (job : Job V M) (rows : Rows) (n p s id : ℕ) where
+  -- what the superstep makes of an active vertex is the step on its inputs
   step_of_active : (o : Option (Standing V M))
       → option_and_then (λ x. cond (is_active x) (Some (outcome_in job rows s x)) None) o
       ≡ option_map job.program.step (option_and_then (inputs_if_active (view_at job rows s)) o)

@@ -1,14 +1,15 @@
 -- What a change of the graph affects: two runs of one job, on the old rows and on the new ones (this project's; vertices
 -- are affected in the sense of incremental graph algorithms).
-use Rattle.std.specs.Prelude.{◌≡◌, ℕ, suc, ◌<◌, Bool, true, false, List, None, ◌⊎◌}
+use Rattle.std.specs.Prelude.{◌≡◌, ℕ, suc, ◌<◌, Bool, true, false, List, None, Some, ◌⊎◌}
 use Rattle.std.specs.List.Sorted.{IsStrictlySortedBy}
 use Rattle.std.specs.Ordering.{nat_cmp}
 use Rattle.pg_graph.specs.Rows.{Rows}
 use Rattle.pg_model.specs.ByIds.{state_at, inbox_at, outcome_at, record_at, sent_at, contributed_at}
 use Rattle.pg_model.specs.Job.{Job}
-use Rattle.pg_model.specs.Superstep.{has_id, messages_to, at_place}
-use Rattle.pg_model.specs.Run.{view_at, run_length}
-use Rattle.pg_model.specs.Needed.{inputs_at}
+use Rattle.pg_model.specs.Superstep.{is_active, has_id, messages_to, at_place}
+use Rattle.pg_model.specs.Run.{present_at, view_at, run_length}
+use Rattle.pg_model.specs.Needed.{standing_at, inputs_at}
+use Rattle.pg_model.specs.declared.configuration.Standing.{Standing}
 
 module _ {V M : Type 0} (job : Job V M) (old new : Rows) where
   -- as superstep s begins, vertex id has the same state in both runs, or none in both, and the same inbox
@@ -32,6 +33,12 @@ module _ {V M : Type 0} (job : Job V M) (old new : Rows) where
     pub rise : IsStrictlySortedBy nat_cmp candidates
     pub others : (id : ℕ) → picks id ≡ true → has_id candidates id ≡ false → IsUnaffected s id
 
+  -- these ids have each active vertex of the new run that is picked
+  abbrev pub HaveActive : (ℕ → Bool) → ℕ → List ℕ → Type 0
+  HaveActive picks s candidates =
+      (id : ℕ) (x : Standing V M) → picks id ≡ true → standing_at id (present_at job new s) ≡ Some x → is_active x ≡ true
+      → has_id candidates id ≡ true
+
   -- what the old run has of vertex id in superstep s stands in the new run
   pub record IsTakenOver (s id : ℕ) : Type 0 where
     pub inputs : inputs_at job old s id ≡ inputs_at job new s id
@@ -49,9 +56,10 @@ module _ {V M : Type 0} (job : Job V M) (old new : Rows) where
   abbrev pub ContributesAlike : ℕ → ℕ → ℕ → Type 0
   ContributesAlike s place id = at_place place (contributed_at job old s id) ≡ at_place place (contributed_at job new s id)
 
-  -- each of those picked does
+  -- each of those picked sends the same to a target
   abbrev pub AllSendAlike : (ℕ → Bool) → ℕ → ℕ → Type 0
   AllSendAlike picks s target = (id : ℕ) → picks id ≡ true → SendsAlike s target id
 
+  -- and contributes the same at a place
   abbrev pub AllContributeAlike : (ℕ → Bool) → ℕ → ℕ → Type 0
   AllContributeAlike picks s place = (id : ℕ) → picks id ≡ true → ContributesAlike s place id

@@ -3,11 +3,12 @@ use Rattle.std.specs.Prelude.{◌≡◌, ℕ, suc, ◌==◌, Bool, List, [], ◌
 use Rattle.std.specs.List.{find, filter, flat_map}
 use Rattle.std.specs.Option.{option_map}
 use Rattle.pg_graph.specs.Rows.{Rows}
+use Rattle.pg_graph.specs.declared.graph.Row.{Row}
 use Rattle.pg_graph.specs.declared.missing.Missing.{Missing}
 use Rattle.pg_graph.specs.declared.missing.Missing.TheVariants.{Drop, Create}
 use Rattle.pg_model.specs.Job.{Program, Job}
-use Rattle.pg_model.specs.Superstep.{made, outcome, sends, contributions, messages_to, delivered, at_place}
-use Rattle.pg_model.specs.Run.{configuration, present_at, view_at}
+use Rattle.pg_model.specs.Superstep.{made, outcome, state_after, sends, contributions, messages_to, delivered, at_place}
+use Rattle.pg_model.specs.Run.{beginning, configuration, present_at, view_at}
 use Rattle.pg_model.specs.Needed.{standing_at, inputs_at}
 use Rattle.pg_model.specs.Order.{Sending}
 use Rattle.pg_model.specs.declared.configuration.VertexState.{VertexState}
@@ -53,6 +54,10 @@ module _ {V M : Type 0} where
   arriving Drop (Some state) messages = messages
   arriving Create state messages = messages
 
+  -- the state that a row gives its vertex as a run begins
+  abbrev pub state_first : Program V M → ℕ → Row → VertexState V
+  state_first program id row = (beginning program (id, row)).state
+
   module _ (job : Job V M) (rows : Rows) where
     -- the state of vertex id as superstep s begins, if it has one
     abbrev pub state_at : ℕ → ℕ → Option (VertexState V)
@@ -65,6 +70,10 @@ module _ {V M : Type 0} where
     -- what superstep s makes of a vertex
     abbrev pub outcome_in : ℕ → Standing V M → Record V M
     outcome_in s x = outcome job.program (view_at job rows s) x
+
+    -- the state that it leaves the vertex
+    abbrev pub state_left : ℕ → Standing V M → VertexState V
+    state_left s x = state_after x.state (outcome_in s x)
 
     -- what it makes of vertex id, where it is there
     abbrev pub outcome_at : ℕ → ℕ → Option (Record V M)
