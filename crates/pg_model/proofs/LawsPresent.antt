@@ -11,7 +11,6 @@ use Rattle.std.proofs.lemmas.List.Folds.{flat_map-map}
 use Rattle.std.proofs.lemmas.Option.{none-some, same_Some}
 use Rattle.pg_graph.proofs.Drafting.{none_there}
 use Rattle.pg_graph.specs.Rows.{Rows, HasRisingIds, row_at}
-use Rattle.pg_graph.specs.declared.graph.Row.{Row}
 use Rattle.pg_graph.specs.declared.missing.Missing.{Missing}
 use Rattle.pg_graph.specs.declared.missing.Missing.TheVariants.{Drop, Create}
 use Rattle.pg_model.specs.ByIds.{state_first, state_left, state_of, waiting_at, outcome_in, made_of, inbox_of, read_off, standing_with, arriving, state_at, inbox_at, outcome_at, delivered_at, IsIdleAt}
@@ -19,7 +18,7 @@ use Rattle.pg_model.specs.InOrder.{AreWaiting}
 use Rattle.pg_model.specs.Job.{Job, Program, Inputs, Combining}
 use Rattle.pg_model.specs.Needed.{standing_at, inputs_if_active, inputs_at}
 use Rattle.pg_model.specs.Run.{beginning, configuration, first, present_at, view_at, run_length}
-use Rattle.pg_model.specs.Superstep.{ids, is_empty, is_active, has_id, messages_to, combined, delivered, astray, targets, waiting_after, placed, made, with_made, present, idle, state_after, sends, next}
+use Rattle.pg_model.specs.Superstep.{ids, is_empty, is_active, has_id, messages_to, combined, delivered, astray, targets, waiting_after, placed, made, with_made, present, idle, sends, next}
 use Rattle.pg_model.proofs.LawsAgreement.{outcome-idle, state_after-idle}
 use Rattle.pg_model.proofs.LawsIds.{ids_rise, ids-next, standing_at-next, standing_after}
 use Rattle.pg_model.proofs.LawsInputs.{inputs_of_executed}
@@ -241,11 +240,11 @@ module _ {V M : Type 0} where
   -- ---- as a run begins
 
   -- the vertex of a row is found by the row's id, with the state that the row gives it
-  first_state : (program : Program V M) (id : ℕ) (rows : Rows)
+  state_of_row : (program : Program V M) (id : ℕ) (rows : Rows)
       → state_of (standing_at id (map (beginning program) rows)) ≡ option_map (state_first program id) (row_at id rows)
-  first_state program id [] = refl
-  first_state program id (row ∷ rows) =
-      by (row.0 == id) refl (first_state program id rows)
+  state_of_row program id [] = refl
+  state_of_row program id (row ∷ rows) =
+      by (row.0 == id) refl (state_of_row program id rows)
       ∙ ap (λ (b : Bool). option_map (state_first program id) (cond b (Some row.1) (row_at id rows))) (sym (at_key id row.0))
     where
       all : List (Standing V M)
@@ -259,11 +258,11 @@ module _ {V M : Type 0} where
       by false e rest = rest
 
   -- and with an empty inbox
-  first_inbox : (program : Program V M) (id : ℕ) (rows : Rows) → inbox_of (standing_at id (map (beginning program) rows)) ≡ []
-  first_inbox program id [] = refl
-  first_inbox program id (row ∷ rows) =
+  inbox_of_row : (program : Program V M) (id : ℕ) (rows : Rows) → inbox_of (standing_at id (map (beginning program) rows)) ≡ []
+  inbox_of_row program id [] = refl
+  inbox_of_row program id (row ∷ rows) =
       cond_both (row.0 == id) (Some (beginning program row)) (standing_at id (map (beginning program) rows))
-      (λ (o : Option (Standing V M)). inbox_of o ≡ []) (λ _. refl) (λ _. first_inbox program id rows)
+      (λ (o : Option (Standing V M)). inbox_of o ≡ []) (λ _. refl) (λ _. inbox_of_row program id rows)
 
 -- ---- vertices of a run
 
@@ -281,12 +280,12 @@ module _ {V M : Type 0} (job : Job V M) (rows : Rows) where
   -- as the run begins each row gives its vertex a state
   pub state_at-first : (id : ℕ) → state_at job rows 0 id ≡ option_map (state_first job.program id) (row_at id rows)
   unfolding configuration first
-  state_at-first id = first_state job.program id rows
+  state_at-first id = state_of_row job.program id rows
 
   -- and nobody has received anything
   pub inbox_at-first : (id : ℕ) → inbox_at job rows 0 id ≡ []
   unfolding configuration first
-  inbox_at-first id = first_inbox job.program id rows
+  inbox_at-first id = inbox_of_row job.program id rows
 
   -- a vertex stands in a superstep with its state, if it has one, and its inbox
   pub standing_at-state : (s id : ℕ)
