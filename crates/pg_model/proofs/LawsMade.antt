@@ -68,7 +68,7 @@ apart_from_above : (i a : ℕ) → nat_cmp a i ≡ Less → (i == a) ≡ false
 apart_from_above i a e = grind (arith, nat_tests)
 
 -- an id below all others isn't among them
-not_below : (a : ℕ) (is : List ℕ) → AllByRecursion (λ y. nat_cmp a y ≡ Less) is → has_id is a ≡ false
+pub not_below : (a : ℕ) (is : List ℕ) → AllByRecursion (λ y. nat_cmp a y ≡ Less) is → has_id is a ≡ false
 not_below a [] h = refl
 not_below a (i ∷ is) h = ap (λ b. b || has_id is a) (apart_from_above i a h.0) ∙ not_below a is h.1
 
@@ -287,7 +287,7 @@ module _ {V M : Type 0} where
           ap (λ b. (y.state.id == id) || b) rest ∙ or_swap (y.state.id == id) (x.state.id == id) (has_id (ids ys) id)
 
   module _ (program : Program V M) where
-    apart_still : (w : ℕ × List M) (xs : List (Standing V M)) (ws : List (ℕ × List M)) → AllByRecursion (λ id. nat_cmp w.0 id ≡ Less) (map (λ (v : ℕ × List M). v.0) ws) → AllByRecursion (λ (v : ℕ × List M). has_id (ids xs) v.0 ≡ false) ws → AllByRecursion (λ (v : ℕ × List M). has_id (ids (placed (made program w) xs)) v.0 ≡ false) ws
+    pub apart_still : (w : ℕ × List M) (xs : List (Standing V M)) (ws : List (ℕ × List M)) → AllByRecursion (λ id. nat_cmp w.0 id ≡ Less) (map (λ (v : ℕ × List M). v.0) ws) → AllByRecursion (λ (v : ℕ × List M). has_id (ids xs) v.0 ≡ false) ws → AllByRecursion (λ (v : ℕ × List M). has_id (ids (placed (made program w) xs)) v.0 ≡ false) ws
     apart_still w xs [] h k = tt
     apart_still w xs (v ∷ ws) h k =
         (has_id-placed (made program w) xs v.0 ∙ (ap (λ b. b || has_id (ids xs) v.0) (apart_from_less w.0 v.0 h.0) ∙ k.0), apart_still w xs ws h.1 k.1)

@@ -93,7 +93,7 @@ module _ {V M : Type 0} (value_eq : V → V → Bool) (message_eq : M → M → 
   inputs_itself a =
       ap₂ ◌&&◌ (view_itself a.view) (ap₂ ◌&&◌ (nat_itself a.id) (ap₂ ◌&&◌ (values a.value) (ap₂ ◌&&◌ (itself _ edge_itself a.edges) (itself message_eq messages a.inbox))))
 
-  unchanged : (o : Option (Inputs V M)) → is_changed value_eq message_eq o o ≡ false
+  pub unchanged : (o : Option (Inputs V M)) → is_changed value_eq message_eq o o ≡ false
   unchanged None = refl
   unchanged (Some i) = ap not (inputs_itself i)
 

@@ -1,3 +1,5 @@
+mod AffectedVertices
+pub mod LawsAffected
 pub mod LawsAgreement
 pub mod LawsDecides
 pub mod LawsDelivered
@@ -8,8 +10,11 @@ pub mod LawsLength
 pub mod LawsLists
 pub mod LawsMade
 pub mod LawsNeeded
+pub mod LawsPresent
 pub mod LawsPublications
+pub mod LawsRising
 pub mod LawsShares
+pub mod LawsSharesAlike
 pub mod LawsStandings
 mod MadeVertices
 mod ReadyPrograms

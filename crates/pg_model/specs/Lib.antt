@@ -1,5 +1,7 @@
+pub mod Affected
 pub mod Aggregators
 pub mod Agreement
+pub mod ByIds
 pub mod Folds
 pub mod InOrder
 pub mod Job
