@@ -59,6 +59,7 @@ fn add_parcels<M: Plain>(
     ensures hold { AllByRecursion (λ e. Holds M.is_value e.1) all.new.items }
 {
     for (target, parcel) in bundle.parcels.iter() {
+        // Tells the prover that there is a message in it.
         parcel.contents();
         all.push((*target, parcel.share()?))?;
     }

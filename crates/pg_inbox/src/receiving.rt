@@ -60,6 +60,7 @@ fn add_parcel<M: Plain>(
     ensures holds { HoldsAt M.is_value (value_at id bundle.now) }
 {
     if let Some(parcel) = bundle.parcels.get(id) {
+        // Tells the prover that there is a message in it.
         parcel.contents();
         parcels.push(parcel.share()?)?;
     }
