@@ -1,0 +1,4 @@
+pub mod Beginning
+pub mod Ran
+pub mod Rows
+pub mod Trace
