@@ -22,6 +22,12 @@ module _ {V : Type 0} where
   abbrev pub state_of : ℕ → List (VertexState V) → Option (VertexState V)
   state_of id states = find (λ x. x.id == id) states
 
+module _ {X : Type 0} where
+  -- the last record of an id in these supersteps, if it ran in any
+  abbrev pub last_record : ℕ → List (List (ℕ × X)) → Option X
+  last_record id [] = None
+  last_record id (records ∷ later) = option_or (last_record id later) (value_at id records)
+
 module _ {V M : Type 0} where
   -- as a run begins with these states
   abbrev pub begun : List (VertexState V) → Trace V M
@@ -34,11 +40,6 @@ module _ {V M : Type 0} where
   -- the record of an id in superstep s, if it ran in it
   abbrev pub record_at : ℕ → ℕ → Trace V M → Option (Record V M)
   record_at id s trace = value_at id (records_of s trace)
-
-  -- the last record of an id in these supersteps, if it ran in any
-  abbrev pub last_record : ℕ → List (List (ℕ × Record V M)) → Option (Record V M)
-  last_record id [] = None
-  last_record id (records ∷ later) = option_or (last_record id later) (value_at id records)
 
   -- the state that a record leaves
   abbrev pub left_by : ℕ → Record V M → VertexState V

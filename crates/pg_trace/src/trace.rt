@@ -1,5 +1,5 @@
 //! The trace of a partition's run.
-ghost use Rattle.std.specs.Prelude.{◌≡◌, ℕ, [], length, map, take, slice_index_or, IfOk, OnOk, OnErr};
+ghost use Rattle.std.specs.Prelude.{◌≡◌, ℕ, [], length, map, take, slice_index_or, ◌≤◌, IfOk, OnOk, OnErr};
 ghost use Rattle.std.specs.Option.{option_copied};
 ghost use Rattle.pg_map.specs.Entries.{HasRisingIds, value_at};
 ghost use Rattle.pg_trace.specs.Ran.{IsIndex};
@@ -140,6 +140,9 @@ impl<V: Drop, M: Drop> Trace<V, M> {
         ensures err { OnErr result (self.new ≡ self.old) }
     {
         let len = supersteps.number() as usize;
+        if len >= self.supersteps.len() {
+            return Ok(());
+        }
         let mut ran = self.ran.share()?;
         forget(alloc, &mut ran, self.supersteps.as_slice(), len)?;
         self.supersteps.truncate(len);
@@ -188,11 +191,10 @@ fn listed<V: Drop, M: Drop>(
     ensures records { IfOk result (λ found. map (λ e. (e.0, e.1.now)) found.items ≡ records.now) }
     ensures rising { HasRisingIds records.now }
 {
-    let mut found = Vec::with_capacity(alloc, records.len())?;
-    for (id, kept) in records.iter() {
-        found.push((*id, kept.record()))?;
-    }
-    Ok(found)
+    records
+        .iter()
+        .map(|(id, kept)| (*id, kept.record()))
+        .collect(alloc)
 }
 
 /// Keeps all of these records.
@@ -216,7 +218,8 @@ fn forget<V: Drop, M: Drop>(
     supersteps: &[Map<Kept<V, M>>],
     len: usize,
 ) -> Result<(), Memory>
-    requires { IsIndex supersteps.now ran.old }
+    requires index { IsIndex supersteps.now ran.old }
+    requires within { len ≤ length supersteps.now }
     ensures { OnOk result (IsIndex (take len supersteps.now) ran.new) }
 {
     let mut left = supersteps.len();
@@ -238,7 +241,7 @@ fn all_noted<V: Drop, M: Drop>(
     ensures rising { HasRisingIds records.now }
 {
     let mut noted = Vec::with_capacity(alloc, records.len())?;
-    for id in records.ids() {
+    for (id, _) in records.iter() {
         noted.push((*id, runs))?;
     }
     Ok(noted)
