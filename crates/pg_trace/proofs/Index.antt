@@ -119,9 +119,10 @@ module _ {X : Type 0} (id : ℕ) where
   ran-less b (suc n) (r ∷ rs) o h fits =
       let at : (b + 1) + n ≡ b + suc n = omega arith in
       let t = is_some (value_at id r) in
-      let all : n + 1 ≡ suc n = omega arith in
+      let all : suc n + 1 ≡ suc (n + 1) = omega arith in
       ap (begun_by t b) (ran-less (b + 1) n rs o (omega arith) fits ∙ ap (λ s. noted s o (ran_from id (b + 1) (take (n + 1) rs))) at)
       ∙ under b (b + suc n) o t (ran_from id (b + 1) (take (n + 1) rs)) (omega arith)
+      ∙ sym (ap (λ m. noted (b + suc n) o (ran_from id b (take m (r ∷ rs)))) all)
 
   -- ---- the last record
 

@@ -1,10 +1,12 @@
 -- What the notes of a superstep make of an index.
-use Rattle.std.proofs.Common.{◌≡◌, ℕ, ◌+◌, ◌<◌, Bool, true, false, cond, List, [], ◌∷◌, ◌++◌, length, map, get_or, set, take, Option, None, Some, is_some, unwrap_or, option_map, refl, sym, ap, ap₂, ◌∙◌, subst, arith}
+use Rattle.std.proofs.Common.{◌≡◌, ℕ, ◌+◌, ◌<◌, ◌≤◌, Bool, true, false, cond, List, [], ◌∷◌, ◌++◌, length, map, get_or, set, take, Option, None, Some, is_some, unwrap_or, option_map, refl, sym, ap, ap₂, ◌∙◌, subst, arith}
 use Rattle.std.specs.BTreeMap.{is_at}
 use Rattle.std.specs.List.Sorted.{IsStrictlySortedBy}
+use Rattle.std.proofs.Math.ListN.{get_or-eq_default}
 use Rattle.std.specs.Map.{keys_of}
 use Rattle.std.specs.Ordering.{nat_cmp}
 use Rattle.std.proofs.lemmas.Bool.Decides.{nat_tests}
+use Rattle.std.proofs.lemmas.List.{get_or_default}
 use Rattle.pg_map.specs.Entries.{ChangesRise, HasRisingIds, value_at, with_changes}
 use Rattle.pg_map.proofs.Changing.{value_at-with_changes}
 use Rattle.pg_trace.specs.Ran.{IsIndex, noted, ran_at, ran_from, some_of, with_ran}
@@ -47,6 +49,9 @@ noted_by s runs ran ran' changes rise rising are made id =
     by None = refl
     by (Some b) = listed (with_ran s b (ran_at id ran))
 
+first_is : (n : ℕ) → 0 + n ≡ n
+first_is n = omega arith
+
 -- ---- an index as supersteps come, go and change
 
 abbrev pub IsNoted : ℕ → List (ℕ × Bool) → List (ℕ × List ℕ) → List (ℕ × List ℕ) → Type 0
@@ -65,9 +70,6 @@ module _ {X : Type 0} where
   changed None o = refl
   changed (Some c) o = refl
 
-  first_is : (n : ℕ) → 0 + n ≡ n
-  first_is n = omega arith
-
   pub index-push : (rs : List (List (ℕ × X))) (xs : List (ℕ × X)) (runs : List (ℕ × Bool)) (ran ran' : List (ℕ × List ℕ)) → IsIndex rs ran
       → runs ≡ map (λ e. (e.0, true)) xs → IsNoted (length rs) runs ran ran' → IsIndex (rs ++ xs ∷ []) ran'
   index-push rs xs runs ran ran' index are notes id =
@@ -75,17 +77,19 @@ module _ {X : Type 0} where
       notes id ∙ ap (λ l. noted (length rs) (value_at id runs) l) (index id)
       ∙ sym (ran-push id 0 rs xs (value_at id runs) (subst (λ c. Agrees c false (is_some (value_at id xs))) (sym o) (come (value_at id xs))) ∙ ap (λ n. noted n (value_at id runs) (ran_from id 0 rs)) (first_is (length rs)))
 
-  pub index-less : (rs : List (List (ℕ × X))) (n : ℕ) (r : List (ℕ × X)) (runs : List (ℕ × Bool)) (ran ran' : List (ℕ × List ℕ)) → n < length rs → r ≡ get_or rs n []
+  pub index-less : (rs : List (List (ℕ × X))) (n : ℕ) (r : List (ℕ × X)) (runs : List (ℕ × Bool)) (ran ran' : List (ℕ × List ℕ)) → n < length rs → r ≡ get_or rs n r
       → IsIndex (take (n + 1) rs) ran → runs ≡ map (λ e. (e.0, false)) r → IsNoted n runs ran ran' → IsIndex (take n rs) ran'
-  index-less rs n r runs ran ran' within at index are notes id =
+  index-less rs n r runs ran ran' within here index are notes id =
+      let at = here ∙ get_or_default rs n r [] within in
       let o = ap (value_at id) are ∙ at_map (λ k x. false) id r in
       notes id ∙ ap (λ l. noted n (value_at id runs) l) (index id)
       ∙ sym (ran-less id 0 n rs (value_at id runs) within (subst (λ q. Agrees (value_at id runs) (is_some (value_at id q)) false) at (subst (λ c. Agrees c (is_some (value_at id r)) false) (sym o) (gone (value_at id r)))) ∙ ap (λ k. noted k (value_at id runs) (ran_from id 0 (take (n + 1) rs))) (first_is n))
 
-  pub index-set : (rs : List (List (ℕ × X))) (n : ℕ) (r xs : List (ℕ × X)) (changes : List (ℕ × Option X)) (runs : List (ℕ × Bool)) (ran ran' : List (ℕ × List ℕ)) → n < length rs → r ≡ get_or rs n []
+  pub index-set : (rs : List (List (ℕ × X))) (n : ℕ) (r xs : List (ℕ × X)) (changes : List (ℕ × Option X)) (runs : List (ℕ × Bool)) (ran ran' : List (ℕ × List ℕ)) → n < length rs → r ≡ get_or rs n r
       → HasRisingIds r → ChangesRise changes → xs ≡ with_changes changes r
       → IsIndex rs ran → runs ≡ map (λ c. (c.0, is_some c.1)) changes → IsNoted n runs ran ran' → IsIndex (set rs n xs) ran'
-  index-set rs n r xs changes runs ran ran' within at rising rise made index are notes id =
+  index-set rs n r xs changes runs ran ran' within here rising rise made index are notes id =
+      let at = here ∙ get_or_default rs n r [] within in
       let o = ap (value_at id) are ∙ at_map (λ k c. is_some c) id changes in
       let new : value_at id xs ≡ unwrap_or (value_at id changes) (value_at id r) = ap (value_at id) made ∙ value_at-with_changes changes r id rise rising in
       let agree : Agrees (value_at id runs) (is_some (value_at id (get_or rs n []))) (is_some (value_at id xs)) =
@@ -94,3 +98,12 @@ module _ {X : Type 0} where
           (subst (λ v. Agrees (option_map is_some (value_at id changes)) (is_some (value_at id r)) (is_some v)) (sym new) (changed (value_at id changes) (value_at id r)))) in
       notes id ∙ ap (λ l. noted n (value_at id runs) l) (index id)
       ∙ sym (ran-set id 0 n rs xs (value_at id runs) within agree ∙ ap (λ k. noted k (value_at id runs) (ran_from id 0 rs)) (first_is n))
+
+-- past the last superstep no id has a record
+pub rises_past : {X : Type 0} (rs : List (List (ℕ × X))) (n : ℕ) → length rs ≤ n → HasRisingIds (get_or rs n [])
+unfolding IsStrictlySortedBy
+rises_past rs n past = subst (λ r. IsStrictlySortedBy nat_cmp (keys_of r)) (sym (get_or-eq_default rs [] past)) tt
+
+pub map_same : {X : Type 0} (xs : List X) → map (λ x. x) xs ≡ xs
+map_same [] = refl
+map_same (x ∷ xs) = ap (λ l. x ∷ l) (map_same xs)

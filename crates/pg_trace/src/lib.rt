@@ -4,6 +4,7 @@
 mod beginnings;
 mod kept;
 mod ran;
+mod records;
 mod state;
 mod trace;
 

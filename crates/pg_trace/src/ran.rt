@@ -84,7 +84,8 @@ pub(crate) fn note(
 {
     let changes = changes_of(alloc, ran, superstep, runs)?;
     tell_rising(ran);
-    ran.change(alloc, changes.as_slice())
+    ran.change(alloc, changes.as_slice())?;
+    Ok(())
 }
 
 /// Tells the prover that a map's ids rise.

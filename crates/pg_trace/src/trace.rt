@@ -1,14 +1,16 @@
 //! The trace of a partition's run.
-ghost use Rattle.std.specs.Prelude.{◌≡◌, ℕ, [], length, map, take, slice_index_or, ◌≤◌, IfOk, OnOk, OnErr};
+ghost use Rattle.std.specs.Prelude.{◌≡◌, ℕ, [], length, map, take, slice_index_or, ◌<◌, IfOk, OnOk, OnErr};
 ghost use Rattle.std.specs.Option.{option_copied};
-ghost use Rattle.pg_map.specs.Entries.{HasRisingIds, value_at};
-ghost use Rattle.pg_trace.specs.Ran.{IsIndex};
-ghost use Rattle.pg_trace.specs.Trace.{StatesRise, begun, record_at, records_of, state_at, with_superstep, first_supersteps, last_record};
+ghost use Rattle.pg_map.specs.Entries.{ChangesRise, HasRisingIds, value_at};
+ghost use Rattle.pg_trace.specs.Trace.{StatesRise, begun, record_at, records_of, state_at, with_superstep, first_supersteps, last_record, with_replaced};
 
 use crate::StateRef;
 use crate::beginnings::Beginnings;
 use crate::kept::Kept;
-use crate::ran::{Ran, last_below, note, steps_of};
+use crate::ran::{Ran, last_below, note, steps_of, tell_rising};
+use crate::records::{
+    all_kept, all_noted, changes_kept, changes_noted, forget, listed, shared,
+};
 use pg_graph::{Memory, Superstep, VertexId};
 use pg_map::Map;
 use pg_model::{Record, VertexState};
@@ -150,6 +152,35 @@ impl<V: Drop, M: Drop> Trace<V, M> {
         Ok(())
     }
 
+    /// Changes the records of a superstep that it has: each of these vertices, by rising id, has its new
+    /// record there, or none. Nothing changes where memory is refused.
+    ///
+    /// For k changes it costs k look-ups, a copy of the supersteps in which each of these vertices ran, and a
+    /// change of the index and of the superstep: of the chunks with these vertices. The others stay unread.
+    pub fn replace(
+        &mut self,
+        alloc: Global,
+        superstep: Superstep,
+        changes: Vec<(VertexId, Option<Record<V, M>>)>,
+    ) -> Result<(), Memory>
+        requires rise { ChangesRise changes.items }
+        requires within { superstep < length self.old.records }
+        ensures ok { OnOk result (self.new ≡ with_replaced superstep changes.items self.old) }
+        ensures err { OnErr result (self.new ≡ self.old) }
+    {
+        let place = superstep.number() as usize;
+        let changes = changes_kept(alloc, changes)?;
+        let runs = changes_noted(alloc, changes.as_slice())?;
+        let mut ran = self.ran.share()?;
+        note(alloc, &mut ran, place, runs.as_slice())?;
+        let mut records = self.supersteps[place].share()?;
+        tell_rising(&records);
+        records.change(alloc, changes.as_slice())?;
+        self.supersteps[place] = records;
+        self.ran = ran;
+        Ok(())
+    }
+
     /// The record of a vertex in a superstep, if it ran in it.
     fn record_in(&self, id: VertexId, place: usize) -> Option<&Record<V, M>>
         ensures { option_copied result ≡ value_at id (slice_index_or self.now.records place []) }
@@ -164,85 +195,9 @@ impl<V: Drop, M: Drop> Trace<V, M> {
         ensures { option_copied result ≡ last_record id (take place self.now.records) }
     {
         let steps = steps_of(&self.ran, id);
-        let last = last_below(steps, place)?;
-        self.record_in(id, last)
+        match last_below(steps, place) {
+            Some(last) => self.record_in(id, last),
+            None => None,
+        }
     }
-}
-
-/// The same supersteps, in the same memory.
-fn shared<V: Drop, M: Drop>(
-    alloc: Global,
-    supersteps: &[Map<Kept<V, M>>],
-) -> Result<Vec<Map<Kept<V, M>>>, Memory>
-    ensures { IfOk result (λ shared. shared.items ≡ supersteps.now) }
-{
-    let mut shared = Vec::with_capacity(alloc, supersteps.len())?;
-    for records in supersteps {
-        shared.push(records.share()?)?;
-    }
-    Ok(shared)
-}
-
-/// The records of a superstep, lent.
-fn listed<V: Drop, M: Drop>(
-    alloc: Global,
-    records: &Map<Kept<V, M>>,
-) -> Result<Vec<(VertexId, &Record<V, M>)>, Memory>
-    ensures records { IfOk result (λ found. map (λ e. (e.0, e.1.now)) found.items ≡ records.now) }
-    ensures rising { HasRisingIds records.now }
-{
-    records
-        .iter()
-        .map(|(id, kept)| (*id, kept.record()))
-        .collect(alloc)
-}
-
-/// Keeps all of these records.
-fn all_kept<V: Drop, M: Drop>(
-    alloc: Global,
-    records: Vec<(VertexId, Record<V, M>)>,
-) -> Result<Vec<(VertexId, Kept<V, M>)>, Memory>
-    ensures { IfOk result (λ kept. kept.items ≡ records.items) }
-{
-    let mut all = Vec::with_capacity(alloc, records.len())?;
-    for (id, given) in records {
-        all.push((id, Kept::of(alloc, given)?))?;
-    }
-    Ok(all)
-}
-
-/// Forgets that vertices ran in these supersteps from a place on.
-fn forget<V: Drop, M: Drop>(
-    alloc: Global,
-    ran: &mut Map<Ran>,
-    supersteps: &[Map<Kept<V, M>>],
-    len: usize,
-) -> Result<(), Memory>
-    requires index { IsIndex supersteps.now ran.old }
-    requires within { len ≤ length supersteps.now }
-    ensures { OnOk result (IsIndex (take len supersteps.now) ran.new) }
-{
-    let mut left = supersteps.len();
-    while left > len {
-        left -= 1;
-        let none = all_noted(alloc, &supersteps[left], false)?;
-        note(alloc, ran, left, none.as_slice())?;
-    }
-    Ok(())
-}
-
-/// The ids of a superstep's records, each with this.
-fn all_noted<V: Drop, M: Drop>(
-    alloc: Global,
-    records: &Map<Kept<V, M>>,
-    runs: bool,
-) -> Result<Vec<(VertexId, bool)>, Memory>
-    ensures noted { IfOk result (λ noted. noted.items ≡ map (λ e. (e.0, runs)) records.now) }
-    ensures rising { HasRisingIds records.now }
-{
-    let mut noted = Vec::with_capacity(alloc, records.len())?;
-    for (id, _) in records.iter() {
-        noted.push((*id, runs))?;
-    }
-    Ok(noted)
 }

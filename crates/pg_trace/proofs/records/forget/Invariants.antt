@@ -1,6 +1,6 @@
 use Rattle.std.proofs.Common.{◌≡◌, ◌-◌, ◌≤◌, length, take}
 use Rattle.pg_trace.specs.Ran.{IsIndex}
-use Rattle.pg_trace.proofs.trace.forget.Given as goal
+use Rattle.pg_trace.proofs.records.forget.Given as goal
 
 abbrev pub invariant-loop-left : goal.invariant-loop-left
 invariant-loop-left g l = record {
