@@ -129,7 +129,7 @@ impl<V: Drop, M: Drop> Trace<V, M> {
         let records = Map::from_rising(alloc, all_kept(alloc, records)?)?;
         let runs = all_noted(alloc, &records, true)?;
         let mut ran = self.ran.share()?;
-        note(alloc, &mut ran, self.supersteps.len(), runs.as_slice())?;
+        note(alloc, &mut ran, self.supersteps(), runs.as_slice())?;
         self.supersteps.push(records)?;
         self.ran = ran;
         Ok(())
@@ -173,7 +173,8 @@ impl<V: Drop, M: Drop> Trace<V, M> {
         let runs = changes_noted(alloc, changes.as_slice())?;
         let mut ran = self.ran.share()?;
         note(alloc, &mut ran, place, runs.as_slice())?;
-        let mut records = self.supersteps[place].share()?;
+        let supersteps = self.supersteps.as_slice();
+        let mut records = supersteps[place].share()?;
         tell_rising(&records);
         records.change(alloc, changes.as_slice())?;
         self.supersteps[place] = records;

@@ -15,6 +15,6 @@ pub invariant_of-self-2 : goal.invariant_of-self-2
 invariant_of-self-2 g c =
     let rs = c.self.inside.supersteps.items in
     let runs = c.as_slice.result.now in
-    let notes : IsNoted (length rs) runs c.self.inside.ran c.note.new.ran = λ id. c.in_ok-note.ensures id ∙ ap (λ n. noted n (value_at id runs) (ran_at id c.in_ok-ran.ran)) c.len.ensures ∙ ap (λ l. noted (length rs) (value_at id runs) (ran_at id l)) c.in_ok-ran.ensures in
+    let notes : IsNoted (length rs) runs c.self.inside.ran c.note.new.ran = λ id. c.in_ok-note.ensures id ∙ ap (λ n. noted n (value_at id runs) (ran_at id c.in_ok-ran.ran)) (c.supersteps.ensures ∙ sym (ap (λ t. length t.records) c.self.view_is)) ∙ ap (λ l. noted (length rs) (value_at id runs) (ran_at id l)) c.in_ok-ran.ensures in
     subst (λ l. IsIndex l c.note.new.ran) (sym c.in_ok-push.ensures.items)
     (index-push rs c.in_ok-records.records runs c.self.inside.ran c.note.new.ran c.self.invariant (c.as_slice.ensures.value ∙ c.in_ok-runs.ensures.noted) notes)
