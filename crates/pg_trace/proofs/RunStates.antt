@@ -104,14 +104,15 @@ module _ {V M : Type 0} (id : ℕ) where
 
 -- ---- one partition
 
-module _ {V M : Type 0} (n p id : ℕ) (mine : belongs n p id ≡ true) where
-  other : (k : ℕ) → belongs n p k ≡ false → (k == id) ≡ false
-  other k h = by (k == id) refl
-    where
-      by : (t : Bool) → (k == id) ≡ t → t ≡ false
-      by true e = absurd (not_both (belongs n p id) mine (ap (belongs n p) (sym (eqb-true k id e)) ∙ h))
-      by false e = refl
+-- an id of another partition is another id
+other : (n p id : ℕ) → belongs n p id ≡ true → (k : ℕ) → belongs n p k ≡ false → (k == id) ≡ false
+other n p id mine k h = by (k == id) refl
+  where
+    by : (t : Bool) → (k == id) ≡ t → t ≡ false
+    by true e = absurd (not_both (belongs n p id) mine (ap (belongs n p) (sym (eqb-true k id e)) ∙ h))
+    by false e = refl
 
+module _ {V M : Type 0} (n p id : ℕ) (mine : belongs n p id ≡ true) where
   -- the state of one of its ids is found among its states
   found_in_share : (xs : List (Standing V M)) → state_of id (map (λ x. x.state) (filter (λ x. belongs n p x.state.id) xs)) ≡ option_map (λ x. x.state) (standing_at id xs)
   found_in_share [] = refl
@@ -128,7 +129,7 @@ module _ {V M : Type 0} (n p id : ℕ) (mine : belongs n p id ≡ true) where
       by : (b : Bool) → belongs n p x.state.id ≡ b → state_of id (map (λ x. x.state) rest) ≡ option_map (λ x. x.state) (standing_at id xs)
           → state_of id (map (λ x. x.state) (cond b (x ∷ rest) rest)) ≡ option_map (λ x. x.state) (cond (x.state.id == id) (Some x) (standing_at id xs))
       by true h e = at (x.state.id == id) e
-      by false h e = e ∙ sym (ap (λ t. option_map (λ x. x.state) (cond t (Some x) (standing_at id xs))) (other x.state.id h))
+      by false h e = e ∙ sym (ap (λ t. option_map (λ x. x.state) (cond t (Some x) (standing_at id xs))) (other n p id mine x.state.id h))
 
   module _ (f : Standing V M → Record V M) where
     abbrev given : List (Standing V M) → List (ℕ × Record V M)
@@ -153,26 +154,33 @@ module _ {V M : Type 0} (n p id : ℕ) (mine : belongs n p id ≡ true) where
             at true = ap (λ t. cond t (Some (f x)) (value_at id (given xs))) apart ∙ e
             at false = e
 
+    joined : (t : Bool) (x : Standing V M) (o : Option (Standing V M)) → cond t (record_of x) (option_and_then record_of o) ≡ option_and_then record_of (cond t (Some x) o)
+    joined true x o = refl
+    joined false x o = refl
+
     -- its record in the superstep is what its vertex gives, if it is executed
     in_records : (xs : List (Standing V M)) → IsStrictlySortedBy nat_cmp (ids xs) → value_at id (given xs) ≡ option_and_then record_of (standing_at id xs)
     unfolding IsStrictlySortedBy
     in_records [] rise = refl
-    in_records (x ∷ xs) rise = by (belongs n p x.state.id) refl
+    in_records (x ∷ xs) rise =
+        by (belongs n p x.state.id) refl (in_records xs rise.1) (λ same. none_given x.state.id xs same rise.0) ∙ joined (x.state.id == id) x (standing_at id xs)
       where
         picked : List (Standing V M)
         picked = filter (λ x. belongs n p x.state.id) xs
 
-        later : value_at id (given xs) ≡ option_and_then record_of (standing_at id xs)
-        later = in_records xs rise.1
+        at : (a t : Bool) → is_at (nat_cmp id) x.state.id ≡ t → value_at id (given xs) ≡ option_and_then record_of (standing_at id xs) → (t ≡ true → value_at id (given xs) ≡ None)
+            → value_at id (map (λ x. (x.state.id, f x)) (cond a (x ∷ filter is_active picked) (filter is_active picked))) ≡ cond t (cond a (Some (f x)) None) (option_and_then record_of (standing_at id xs))
+        at true true e later none = ap (λ t. cond t (Some (f x)) (value_at id (given xs))) e
+        at true false e later none = ap (λ t. cond t (Some (f x)) (value_at id (given xs))) e ∙ later
+        at false true e later none = none refl
+        at false false e later none = later
 
-        by : (b : Bool) → belongs n p x.state.id ≡ b
-            → value_at id (map (λ x. (x.state.id, f x)) (filter is_active (cond b (x ∷ picked) picked))) ≡ option_and_then record_of (cond (x.state.id == id) (Some x) (standing_at id xs))
-        by b h = ?
+        by : (b : Bool) → belongs n p x.state.id ≡ b → value_at id (given xs) ≡ option_and_then record_of (standing_at id xs) → (x.state.id ≡ id → value_at id (given xs) ≡ None)
+            → value_at id (map (λ x. (x.state.id, f x)) (filter is_active (cond b (x ∷ picked) picked))) ≡ cond (x.state.id == id) (record_of x) (option_and_then record_of (standing_at id xs))
+        by true h later none = at (is_active x) (x.state.id == id) (same_test id x.state.id) later (λ e. none (eqb-true x.state.id id e))
+        by false h later none = later ∙ sym (ap (λ t. cond t (record_of x) (option_and_then record_of (standing_at id xs))) (other n p id mine x.state.id h))
 
   module _ (job : Job V M) (rows : Rows) (rising : HasRisingIds rows) where
-    view_outcome : ℕ → Standing V M → Record V M
-    view_outcome s x = outcome job.program (view_at job rows s) x
-
     length-below : (r : ℕ) → length (records_below job rows n p r) ≡ r
     unfolding records_below
     length-below zero = refl
@@ -180,4 +188,62 @@ module _ {V M : Type 0} (n p id : ℕ) (mine : belongs n p id ≡ true) where
 
     take_below : (r s : ℕ) → s ≤ r → take s (records_below job rows n p r) ≡ records_below job rows n p s
     unfolding records_below
-    take_below r s h = ?
+    take_below zero zero h = refl
+    take_below zero (suc s) h = absurd (omega arith)
+    take_below (suc r) s h =
+        elim (cases_lt s (suc r)) [
+          | inl less ↦
+              take-append-le s (records_below job rows n p r) (records_in job rows n p r ∷ []) (let l = length-below r in omega arith) ∙ take_below r s (omega arith)
+          | inr more ↦
+              let same : suc r ≡ s = omega arith in
+              take_all s (records_below job rows n p (suc r)) (let l = length-below (suc r) in omega arith) ∙ ap (records_below job rows n p) same
+        ]
+
+    abbrev gives : ℕ → Standing V M → Record V M
+    gives s x = outcome job.program (view_at job rows s) x
+
+    -- what its record leaves, or else its state before, is its state after
+    stepped : (s : ℕ) (o : Option (Standing V M)) → standing_at id (present_at job rows s) ≡ o
+        → option_or (option_map (left_by id) (option_and_then (record_of (gives s)) o)) (run_state job rows id s)
+        ≡ option_map (λ x. x.state) (option_map (standing_after job (view_at job rows s) (present_at job rows s)) o)
+    stepped s None e =
+        ap (option_map (λ x. x.state)) (absent id job.program (configuration job rows s).waiting (configuration job rows s).standings e)
+    stepped s (Some x) e = by (is_active x) refl
+      where
+        by : (a : Bool) → is_active x ≡ a
+            → option_or (option_map (left_by id) (cond a (Some (gives s x)) None)) (run_state job rows id s) ≡ Some (state_after x.state (gives s x))
+        by true active = ap (λ k. Some (left_by k (gives s x))) (sym (standing_is id (present_at job rows s) x e).0)
+        by false idle =
+            ap (option_map (λ x. x.state)) (inactive id job.program (configuration job rows s).waiting (configuration job rows s).standings x e idle)
+            ∙ ap Some (sym (state_after-idle job.program (view_at job rows s) x idle))
+
+    after : (s : ℕ) → run_state job rows id (suc s) ≡ option_map (λ x. x.state) (option_map (standing_after job (view_at job rows s) (present_at job rows s)) (standing_at id (present_at job rows s)))
+    unfolding configuration
+    after s = ap (option_map (λ x. x.state)) (standing_at-next job s (configuration job rows s) id)
+
+    abbrev read : ℕ → Option (VertexState V)
+    read s = option_or (option_map (left_by id) (last_record id (records_below job rows n p s))) (state_of id (share job rows n p 0).states)
+
+    read-run : (s : ℕ) → read s ≡ run_state job rows id s
+    unfolding records_below share
+    read-run zero = found_in_share (configuration job rows 0).standings
+    read-run (suc s) =
+        let initial = state_of id (share job rows n p 0).states in
+        let now = value_at id (records_in job rows n p s) in
+        let before = last_record id (records_below job rows n p s) in
+        let is = in_records (gives s) (present_at job rows s) (ids_rise job rows rising s) in
+        ap (λ o. option_or (option_map (left_by id) o) initial) (last-push id (records_below job rows n p s) (records_in job rows n p s))
+        ∙ or_map (left_by id) now before initial
+        ∙ ap (λ o. option_or (option_map (left_by id) now) o) (read-run s)
+        ∙ ap (λ o. option_or (option_map (left_by id) o) (run_state job rows id s)) is
+        ∙ stepped s (standing_at id (present_at job rows s)) refl
+        ∙ sym (after s)
+
+-- where a trace holds a run up to a superstep, what it has of a vertex as that one begins, or one before it, is the run's
+pub state_of_run : {V M : Type 0} (trace : Trace V M) (id s : ℕ) → IsOfRun trace id s (state_at id s trace)
+state_of_run {V = V} {M = M} trace id s job rows n p r holds mine within =
+    let reads : List (List (ℕ × Record V M)) → List (VertexState V) → Option (VertexState V) = λ rs initial. option_or (option_map (left_by id) (last_record id rs)) (state_of id initial) in
+    ap (λ rs. reads (take s rs) trace.initial) holds.records
+    ∙ ap (λ rs. reads rs trace.initial) (take_below n p id mine job rows holds.rise r s within)
+    ∙ ap (λ initial. reads (records_below job rows n p s) initial) holds.initial
+    ∙ read-run n p id mine job rows holds.rise s

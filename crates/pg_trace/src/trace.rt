@@ -2,6 +2,7 @@
 ghost use Rattle.std.specs.Prelude.{◌≡◌, ℕ, [], length, map, take, slice_index_or, ◌<◌, IfOk, OnOk, OnErr};
 ghost use Rattle.std.specs.Option.{option_copied};
 ghost use Rattle.pg_map.specs.Entries.{ChangesRise, HasRisingIds, value_at};
+ghost use Rattle.pg_trace.specs.OfRun.{IsOfRun};
 ghost use Rattle.pg_trace.specs.Trace.{StatesRise, begun, record_at, records_of, state_at, with_superstep, first_supersteps, last_record, with_replaced};
 
 use crate::StateRef;
@@ -71,16 +72,13 @@ impl<V: Drop, M: Drop> Trace<V, M> {
 
     /// The state of a vertex as a superstep begins: that of its last record before it, else its
     /// initial one. There is none where it has neither. Costs five binary searches at most.
+    ///
+    /// Where the trace holds a run so far, it is the state in that run.
     pub fn state_at(&self, id: VertexId, superstep: Superstep) -> Option<StateRef<'_, V>>
-        ensures { result ≡ state_at id superstep self.now }
+        ensures value { result ≡ state_at id superstep self.now }
+        ensures run { IsOfRun self.now id superstep result }
     {
-        match self.last_record(id, superstep.number() as usize) {
-            Some(record) => Some(StateRef::of_record(id, record)),
-            None => {
-                let state = self.initial.get(id)?;
-                Some(StateRef::of_state(state))
-            }
-        }
+        self.state_before(id, superstep.number() as usize)
     }
 
     /// The same trace, in the same memory. Costs one count a superstep.
@@ -189,6 +187,19 @@ impl<V: Drop, M: Drop> Trace<V, M> {
         let records = self.supersteps.get(place)?;
         let kept = records.get(id)?;
         Some(kept.record())
+    }
+
+    /// The state of a vertex as a superstep begins.
+    fn state_before(&self, id: VertexId, place: usize) -> Option<StateRef<'_, V>>
+        ensures { result ≡ state_at id place self.now }
+    {
+        match self.last_record(id, place) {
+            Some(left) => Some(StateRef::of_record(id, left)),
+            None => {
+                let state = self.initial.get(id)?;
+                Some(StateRef::of_state(state))
+            }
+        }
     }
 
     /// The last record of a vertex before a superstep.
