@@ -1,7 +1,7 @@
 -- The states that are read from a trace are those of the run that it holds.
-use Rattle.std.proofs.Common.{◌≡◌, ℕ, zero, suc, ◌+◌, ◌≤◌, ◌==◌, Bool, true, false, cond, List, [], ◌∷◌, ◌++◌, length, map, take, Option, None, Some, is_some, option_map, refl, sym, ap, ◌∙◌, subst, arith, filter, ◌⊎◌, inl, inr, true≢false, ltb}
+use Rattle.std.proofs.Common.{◌≡◌, ℕ, zero, suc, ◌≤◌, ◌==◌, Bool, true, false, cond, List, [], ◌∷◌, ◌++◌, length, map, take, Option, None, Some, option_map, refl, sym, ap, ◌∙◌, arith, filter, ◌⊎◌, inl, inr, true≢false, ltb}
 use Rattle.std.specs.BTreeMap.{is_at}
-use Rattle.std.specs.List.{AllByRecursion, find}
+use Rattle.std.specs.List.{AllByRecursion}
 use Rattle.std.specs.List.Sorted.{IsStrictlySortedBy}
 use Rattle.std.specs.Option.{option_and_then, option_or}
 use Rattle.std.specs.Ordering.{nat_cmp}
@@ -15,16 +15,15 @@ use Rattle.pg_map.specs.Entries.{value_at}
 use Rattle.pg_model.specs.Job.{Job, Program}
 use Rattle.pg_model.specs.Needed.{standing_at}
 use Rattle.pg_model.specs.Run.{configuration, present_at, view_at}
-use Rattle.pg_model.specs.Share.{belongs, present_in_share, records_below, records_in, share}
+use Rattle.pg_model.specs.Share.{belongs, records_below, records_in, share}
 use Rattle.pg_model.specs.Superstep.{ids, is_active, made, outcome, placed, state_after, with_made}
-use Rattle.pg_model.specs.declared.configuration.Configuration.{Configuration}
 use Rattle.pg_model.specs.declared.configuration.Standing.{Standing}
 use Rattle.pg_model.specs.declared.configuration.VertexState.{VertexState}
 use Rattle.pg_model.specs.declared.record.Record.{Record}
 use Rattle.pg_model.proofs.LawsAgreement.{state_after-idle}
 use Rattle.pg_model.proofs.LawsIds.{ids_rise, standing_after, standing_at-next}
 use Rattle.pg_model.proofs.LawsStandings.{standing_is}
-use Rattle.pg_trace.specs.OfRun.{HoldsRun, IsOfRun, run_state}
+use Rattle.pg_trace.specs.OfRun.{IsOfRun, run_state}
 use Rattle.pg_trace.specs.Trace.{Trace, last_record, left_by, state_at, state_of}
 
 not_both : (b : Bool) → b ≡ true → b ≡ false → ⊥

@@ -1,5 +1,5 @@
 -- A trace that holds a run, and the states of that run.
-use Rattle.std.specs.Prelude.{◌≡◌, ℕ, ◌≤◌, true, List, Option}
+use Rattle.std.specs.Prelude.{◌≡◌, ℕ, ◌≤◌, true, Option}
 use Rattle.std.specs.Option.{option_map}
 use Rattle.pg_graph.specs.Rows.{HasRisingIds, Rows}
 use Rattle.pg_model.specs.Job.{Job}

@@ -1,4 +1,4 @@
-use Rattle.std.proofs.Common.{◌≡◌, ◌-◌, ◌≤◌, length, take}
+use Rattle.std.proofs.Common.{◌-◌, ◌≤◌, length, take}
 use Rattle.pg_trace.specs.Ran.{IsIndex}
 use Rattle.pg_trace.proofs.records.forget.Given as goal
 

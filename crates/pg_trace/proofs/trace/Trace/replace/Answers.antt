@@ -1,9 +1,9 @@
-use Rattle.std.proofs.Common.{◌≡◌, ◌<◌, [], is_some, length, get_or, set, sym, ap, ◌∙◌, subst, arith}
+use Rattle.std.proofs.Common.{◌≡◌, ◌<◌, is_some, length, get_or, sym, ap, ◌∙◌, subst, arith}
 use Rattle.std.specs.List.Sorted.{IsStrictlySortedBy}
 use Rattle.std.specs.Map.{keys_of}
 use Rattle.std.specs.Ordering.{nat_cmp}
 use Rattle.pg_map.specs.Entries.{ChangesRise, with_changes, value_at}
-use Rattle.pg_trace.specs.Ran.{IsIndex, noted, ran_at}
+use Rattle.pg_trace.specs.Ran.{noted, ran_at}
 use Rattle.pg_trace.proofs.Noting.{IsNoted, index-set, keys_map}
 use Rattle.pg_trace.proofs.trace.Trace.replace.Goals as goal
 
