@@ -42,7 +42,7 @@ noted_by s runs ran ran' changes rise rising are made id =
     let change : ℕ → Bool → Option (List ℕ) = λ k b. some_of (with_ran s b (ran_at k ran)) in
     let changes_rise : ChangesRise changes = subst (IsStrictlySortedBy nat_cmp) (sym (ap keys_of are ∙ keys_map (λ r. change r.0 r.1) runs)) rise in
     let found : value_at id ran' ≡ unwrap_or (option_map (change id) (value_at id runs)) (value_at id ran) =
-        ap (value_at id) made ∙ value_at-with_changes changes ran id changes_rise rising ∙ ap (λ o. unwrap_or o (value_at id ran)) (ap (value_at id) are ∙ at_map change id runs) in
+    ap (value_at id) made ∙ value_at-with_changes changes ran id changes_rise rising ∙ ap (λ o. unwrap_or o (value_at id ran)) (ap (value_at id) are ∙ at_map change id runs) in
     ap (λ (o : Option (List ℕ)). elim o [ None ↦ [] | Some l ↦ l ]) found ∙ by (value_at id runs)
   where
     by : (o : Option Bool) → elim (unwrap_or (option_map (λ b. some_of (with_ran s b (ran_at id ran))) o) (value_at id ran)) [ None ↦ [] | Some l ↦ l ] ≡ noted s o (ran_at id ran)
@@ -93,9 +93,9 @@ module _ {X : Type 0} where
       let o = ap (value_at id) are ∙ at_map (λ k c. is_some c) id changes in
       let new : value_at id xs ≡ unwrap_or (value_at id changes) (value_at id r) = ap (value_at id) made ∙ value_at-with_changes changes r id rise rising in
       let agree : Agrees (value_at id runs) (is_some (value_at id (get_or rs n []))) (is_some (value_at id xs)) =
-          subst (λ q. Agrees (value_at id runs) (is_some (value_at id q)) (is_some (value_at id xs))) at
-          (subst (λ c. Agrees c (is_some (value_at id r)) (is_some (value_at id xs))) (sym o)
-          (subst (λ v. Agrees (option_map is_some (value_at id changes)) (is_some (value_at id r)) (is_some v)) (sym new) (changed (value_at id changes) (value_at id r)))) in
+      subst (λ q. Agrees (value_at id runs) (is_some (value_at id q)) (is_some (value_at id xs))) at
+      (subst (λ c. Agrees c (is_some (value_at id r)) (is_some (value_at id xs))) (sym o)
+      (subst (λ v. Agrees (option_map is_some (value_at id changes)) (is_some (value_at id r)) (is_some v)) (sym new) (changed (value_at id changes) (value_at id r)))) in
       notes id ∙ ap (λ l. noted n (value_at id runs) l) (index id)
       ∙ sym (ran-set id 0 n rs xs (value_at id runs) within agree ∙ ap (λ k. noted k (value_at id runs) (ran_from id 0 rs)) (first_is n))
 

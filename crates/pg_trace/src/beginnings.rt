@@ -74,10 +74,7 @@ impl<V> Model for Beginnings<V> {
 
 impl<V: Drop> Beginnings<V> {
     /// These states.
-    pub(crate) fn of(
-        alloc: Global,
-        states: Vec<VertexState<V>>,
-    ) -> Result<Beginnings<V>, Memory>
+    pub(crate) fn of(alloc: Global, states: Vec<VertexState<V>>) -> Result<Beginnings<V>, Memory>
         requires { StatesRise states.items }
         ensures { IfOk result (λ beginnings. beginnings ≡ states.items) }
     {

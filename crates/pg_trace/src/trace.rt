@@ -9,9 +9,7 @@ use crate::StateRef;
 use crate::beginnings::Beginnings;
 use crate::kept::Kept;
 use crate::ran::{Ran, last_below, note, steps_of, tell_rising};
-use crate::records::{
-    all_kept, all_noted, changes_kept, changes_noted, forget, listed, shared,
-};
+use crate::records::{all_kept, all_noted, changes_kept, changes_noted, forget, listed, shared};
 use pg_graph::{Memory, Superstep, VertexId};
 use pg_map::Map;
 use pg_model::{Record, VertexState};
@@ -140,7 +138,7 @@ impl<V: Drop, M: Drop> Trace<V, M> {
         ensures err { OnErr result (self.new ≡ self.old) }
     {
         let len = supersteps.number() as usize;
-        if len >= self.supersteps.len() {
+        if len >= self.supersteps() {
             return Ok(());
         }
         let mut ran = self.ran.share()?;
