@@ -7,7 +7,7 @@ use Rattle.std.proofs.lemmas.Bool.{ltb-true, ltb-false}
 use Rattle.std.proofs.lemmas.Bool.Decides.{nat_tests}
 use Rattle.std.proofs.lemmas.List.{get_or-take, length-take}
 use Rattle.pg_map.specs.Entries.{value_at}
-use Rattle.pg_trace.specs.Ran.{last_of, noted, ran_from, with_ran}
+use Rattle.pg_trace.specs.Ran.{last_of, noted, ran_from, steps_above, steps_below, with_ran}
 use Rattle.pg_trace.specs.Trace.{last_record}
 
 lower : (a b : ℕ) → a < b → ltb a b ≡ true
@@ -32,8 +32,8 @@ under : (b s : ℕ) (o : Option Bool) (t : Bool) (steps : List ℕ) → b < s �
 under b s None t steps h = refl
 under b s (Some runs) false steps h = refl
 under b s (Some runs) true steps h =
-    sym (ap (λ c. cond c (b ∷ filter (λ t. ltb t s) steps) (filter (λ t. ltb t s) steps) ++ cond runs (s ∷ []) [] ++ cond (ltb s b) (b ∷ filter (λ t. ltb s t) steps) (filter (λ t. ltb s t) steps)) (lower b s h)
-    ∙ ap (λ c. (b ∷ filter (λ t. ltb t s) steps) ++ cond runs (s ∷ []) [] ++ cond c (b ∷ filter (λ t. ltb s t) steps) (filter (λ t. ltb s t) steps)) (not_lower s b (omega arith)))
+    sym (ap (λ c. begun_by c b (steps_below s steps) ++ cond runs (s ∷ []) [] ++ begun_by (ltb s b) b (steps_above s steps)) (lower b s h)
+    ∙ ap (λ c. (b ∷ steps_below s steps) ++ cond runs (s ∷ []) [] ++ begun_by c b (steps_above s steps)) (not_lower s b (omega arith)))
 
 module _ {X : Type 0} (id : ℕ) where
   below_none : (b s : ℕ) (rs : List (List (ℕ × X))) → s ≤ b → filter (λ t. ltb t s) (ran_from id b rs) ≡ []
@@ -41,7 +41,7 @@ module _ {X : Type 0} (id : ℕ) where
   below_none b s (r ∷ rs) h = by (is_some (value_at id r)) (below_none (b + 1) s rs (omega arith))
     where
       by : (t : Bool) → filter (λ t. ltb t s) (ran_from id (b + 1) rs) ≡ [] → filter (λ t. ltb t s) (begun_by t b (ran_from id (b + 1) rs)) ≡ []
-      by true later = ap (λ c. cond c (b ∷ filter (λ t. ltb t s) (ran_from id (b + 1) rs)) (filter (λ t. ltb t s) (ran_from id (b + 1) rs))) (not_lower b s h) ∙ later
+      by true later = ap (λ c. begun_by c b (steps_below s (ran_from id (b + 1) rs))) (not_lower b s h) ∙ later
       by false later = later
 
   above_all : (b s : ℕ) (rs : List (List (ℕ × X))) → s < b → filter (λ t. ltb s t) (ran_from id b rs) ≡ ran_from id b rs
@@ -50,7 +50,7 @@ module _ {X : Type 0} (id : ℕ) where
     where
       by : (t : Bool) → filter (λ t. ltb s t) (ran_from id (b + 1) rs) ≡ ran_from id (b + 1) rs
           → filter (λ t. ltb s t) (begun_by t b (ran_from id (b + 1) rs)) ≡ begun_by t b (ran_from id (b + 1) rs)
-      by true later = ap (λ c. cond c (b ∷ filter (λ t. ltb s t) (ran_from id (b + 1) rs)) (filter (λ t. ltb s t) (ran_from id (b + 1) rs))) (lower s b h) ∙ ap (λ l. b ∷ l) later
+      by true later = ap (λ c. begun_by c b (steps_above s (ran_from id (b + 1) rs))) (lower s b h) ∙ ap (λ l. b ∷ l) later
       by false later = later
 
   -- noted of the first superstep
@@ -72,7 +72,8 @@ module _ {X : Type 0} (id : ℕ) where
       by : (t : Bool) → with_ran b runs (begun_by t b (ran_from id (b + 1) rs)) ≡ [] ++ cond runs (b ∷ []) [] ++ ran_from id (b + 1) rs
       by false = parts
       by true =
-          ap (λ c. cond c (b ∷ filter (λ t. ltb t b) (ran_from id (b + 1) rs)) (filter (λ t. ltb t b) (ran_from id (b + 1) rs)) ++ cond runs (b ∷ []) [] ++ cond c (b ∷ filter (λ t. ltb b t) (ran_from id (b + 1) rs)) (filter (λ t. ltb b t) (ran_from id (b + 1) rs))) itself
+          ap (λ c. begun_by c b (steps_below b (ran_from id (b + 1) rs)) ++ cond runs (b ∷ []) [] ++ begun_by c b (steps_above b (ran_from id (b + 1) rs)))
+          itself
           ∙ parts
 
       put : (runs : Bool) → [] ++ cond runs (b ∷ []) [] ++ ran_from id (b + 1) rs ≡ begun_by runs b (ran_from id (b + 1) rs)
@@ -139,10 +140,12 @@ module _ {X : Type 0} (id : ℕ) where
       by false later = later ∙ ap (λ s. filter (λ t. ltb t s) (ran_from id (b + 1) rs)) at
       by true later =
           ap (λ l. b ∷ l) (later ∙ ap (λ s. filter (λ t. ltb t s) (ran_from id (b + 1) rs)) at)
-          ∙ sym (ap (λ c. cond c (b ∷ filter (λ t. ltb t (b + suc n)) (ran_from id (b + 1) rs)) (filter (λ t. ltb t (b + suc n)) (ran_from id (b + 1) rs))) (lower b (b + suc n) (omega arith)))
+          ∙ sym (ap (λ c. begun_by c b (steps_below (b + suc n) (ran_from id (b + 1) rs))) (lower b (b + suc n) (omega arith)))
 
-  joined : (steps : List ℕ) (last now : Option X) (f : ℕ → Option X) (b : ℕ) → last ≡ option_and_then f (last_of steps) → is_some last ≡ is_some (last_of steps) → f b ≡ now
-      → (option_or last now ≡ option_and_then f (last_of (begun_by (is_some now) b steps))) × (is_some (option_or last now) ≡ is_some (last_of (begun_by (is_some now) b steps)))
+  joined : (steps : List ℕ) (last now : Option X) (f : ℕ → Option X) (b : ℕ) → last ≡ option_and_then f (last_of steps)
+      → is_some last ≡ is_some (last_of steps) → f b ≡ now
+      → (option_or last now ≡ option_and_then f (last_of (begun_by (is_some now) b steps)))
+      × (is_some (option_or last now) ≡ is_some (last_of (begun_by (is_some now) b steps)))
   joined steps None None f b is some at = (is, some)
   joined steps None (Some v) f b is some at = (by (last_of steps) some, refl)
     where
@@ -157,20 +160,24 @@ module _ {X : Type 0} (id : ℕ) where
       by (Some t) e s = e
 
   last_ran : (b : ℕ) (at : ℕ → List (ℕ × X)) (rs : List (List (ℕ × X))) → ((k : ℕ) → k < length rs → at (b + k) ≡ get_or rs k [])
-      → (last_record id rs ≡ option_and_then (λ t. value_at id (at t)) (last_of (ran_from id b rs))) × (is_some (last_record id rs) ≡ is_some (last_of (ran_from id b rs)))
+      → (last_record id rs ≡ option_and_then (λ t. value_at id (at t)) (last_of (ran_from id b rs)))
+      × (is_some (last_record id rs) ≡ is_some (last_of (ran_from id b rs)))
   last_ran b at [] h = (refl, refl)
   last_ran b at (r ∷ rs) h =
       let later = last_ran (b + 1) at rs (λ k w. let s : (b + 1) + k ≡ b + suc k = omega arith in ap at s ∙ h (suc k) (omega arith)) in
       let first : b ≡ b + 0 = omega arith in
-      joined (ran_from id (b + 1) rs) (last_record id rs) (value_at id r) (λ t. value_at id (at t)) b later.0 later.1 (ap (value_at id) (ap at first ∙ h 0 (omega arith)))
+      joined (ran_from id (b + 1) rs) (last_record id rs) (value_at id r) (λ t. value_at id (at t)) b later.0 later.1
+      (ap (value_at id) (ap at first ∙ h 0 (omega arith)))
 
   -- the last record before a superstep is that of the last superstep before it in which the id ran
   pub last_before : (rs : List (List (ℕ × X))) (s : ℕ)
       → last_record id (take s rs) ≡ option_and_then (λ t. value_at id (get_or rs t [])) (last_of (filter (λ t. ltb t s) (ran_from id 0 rs)))
   last_before rs s =
       let zero_first : 0 + s ≡ s = omega arith in
-      (last_ran 0 (λ t. get_or rs t []) (take s rs) (λ k w. let at : 0 + k ≡ k = omega arith in ap (λ t. get_or rs t []) at ∙ sym (get_or-take s rs k [] (let l = length-take s rs in omega arith)))).0
-      ∙ ap (λ l. option_and_then (λ t. value_at id (get_or rs t [])) (last_of l)) (ran-take 0 s rs ∙ ap (λ n. filter (λ t. ltb t n) (ran_from id 0 rs)) zero_first)
+      (last_ran 0 (λ t. get_or rs t []) (take s rs)
+      (λ k w. let at : 0 + k ≡ k = omega arith in ap (λ t. get_or rs t []) at ∙ sym (get_or-take s rs k [] (let l = length-take s rs in omega arith)))).0
+      ∙ ap (λ l. option_and_then (λ t. value_at id (get_or rs t [])) (last_of l))
+      (ran-take 0 s rs ∙ ap (λ n. filter (λ t. ltb t n) (ran_from id 0 rs)) zero_first)
 
   -- ---- the supersteps of an id rise
 
@@ -178,7 +185,8 @@ module _ {X : Type 0} (id : ℕ) where
   above b [] k d h = absurd (omega arith)
   above b (r ∷ rs) k d h = by (λ k w. above (b + 1) rs k d w) (is_some (value_at id r)) k h
     where
-      by : ((k : ℕ) → k < length (ran_from id (b + 1) rs) → b + 1 ≤ get_or (ran_from id (b + 1) rs) k d) → (t : Bool) (k : ℕ) → k < length (begun_by t b (ran_from id (b + 1) rs)) → b ≤ get_or (begun_by t b (ran_from id (b + 1) rs)) k d
+      by : ((k : ℕ) → k < length (ran_from id (b + 1) rs) → b + 1 ≤ get_or (ran_from id (b + 1) rs) k d) → (t : Bool) (k : ℕ)
+          → k < length (begun_by t b (ran_from id (b + 1) rs)) → b ≤ get_or (begun_by t b (ran_from id (b + 1) rs)) k d
       by higher true zero h = omega arith
       by higher true (suc k) h = let later = higher k (omega arith) in omega arith
       by higher false k h = let later = higher k h in omega arith

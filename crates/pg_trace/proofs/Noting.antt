@@ -9,7 +9,7 @@ use Rattle.std.proofs.lemmas.Bool.Decides.{nat_tests}
 use Rattle.std.proofs.lemmas.List.{get_or_default}
 use Rattle.pg_map.specs.Entries.{ChangesRise, HasRisingIds, value_at, with_changes}
 use Rattle.pg_map.proofs.Changing.{value_at-with_changes}
-use Rattle.pg_trace.specs.Ran.{IsIndex, noted, ran_at, ran_from, some_of, with_ran}
+use Rattle.pg_trace.specs.Ran.{IsIndex, IsNoted, noted, ran_at, ran_from, some_of, with_ran}
 use Rattle.pg_trace.proofs.Index.{Agrees, ran-less, ran-push, ran-set}
 
 same_id : (a b : ℕ) → is_at (nat_cmp a) b ≡ true → b ≡ a
@@ -42,10 +42,12 @@ noted_by s runs ran ran' changes rise rising are made id =
     let change : ℕ → Bool → Option (List ℕ) = λ k b. some_of (with_ran s b (ran_at k ran)) in
     let changes_rise : ChangesRise changes = subst (IsStrictlySortedBy nat_cmp) (sym (ap keys_of are ∙ keys_map (λ r. change r.0 r.1) runs)) rise in
     let found : value_at id ran' ≡ unwrap_or (option_map (change id) (value_at id runs)) (value_at id ran) =
-    ap (value_at id) made ∙ value_at-with_changes changes ran id changes_rise rising ∙ ap (λ o. unwrap_or o (value_at id ran)) (ap (value_at id) are ∙ at_map change id runs) in
+    ap (value_at id) made ∙ value_at-with_changes changes ran id changes_rise rising
+    ∙ ap (λ o. unwrap_or o (value_at id ran)) (ap (value_at id) are ∙ at_map change id runs) in
     ap (λ (o : Option (List ℕ)). elim o [ None ↦ [] | Some l ↦ l ]) found ∙ by (value_at id runs)
   where
-    by : (o : Option Bool) → elim (unwrap_or (option_map (λ b. some_of (with_ran s b (ran_at id ran))) o) (value_at id ran)) [ None ↦ [] | Some l ↦ l ] ≡ noted s o (ran_at id ran)
+    by : (o : Option Bool) → elim (unwrap_or (option_map (λ b. some_of (with_ran s b (ran_at id ran))) o)
+        (value_at id ran)) [ None ↦ [] | Some l ↦ l ] ≡ noted s o (ran_at id ran)
     by None = refl
     by (Some b) = listed (with_ran s b (ran_at id ran))
 
@@ -53,9 +55,6 @@ first_is : (n : ℕ) → 0 + n ≡ n
 first_is n = omega arith
 
 -- ---- an index as supersteps come, go and change
-
-abbrev pub IsNoted : ℕ → List (ℕ × Bool) → List (ℕ × List ℕ) → List (ℕ × List ℕ) → Type 0
-IsNoted s runs ran ran' = (id : ℕ) → ran_at id ran' ≡ noted s (value_at id runs) (ran_at id ran)
 
 module _ {X : Type 0} where
   gone : (o : Option X) → Agrees (option_map (λ x. false) o) (is_some o) false
@@ -75,17 +74,23 @@ module _ {X : Type 0} where
   index-push rs xs runs ran ran' index are notes id =
       let o = ap (value_at id) are ∙ at_map (λ k x. true) id xs in
       notes id ∙ ap (λ l. noted (length rs) (value_at id runs) l) (index id)
-      ∙ sym (ran-push id 0 rs xs (value_at id runs) (subst (λ c. Agrees c false (is_some (value_at id xs))) (sym o) (come (value_at id xs))) ∙ ap (λ n. noted n (value_at id runs) (ran_from id 0 rs)) (first_is (length rs)))
+      ∙ sym (ran-push id 0 rs xs (value_at id runs) (subst (λ c. Agrees c false (is_some (value_at id xs))) (sym o) (come (value_at id xs)))
+      ∙ ap (λ n. noted n (value_at id runs) (ran_from id 0 rs)) (first_is (length rs)))
 
-  pub index-less : (rs : List (List (ℕ × X))) (n : ℕ) (r : List (ℕ × X)) (runs : List (ℕ × Bool)) (ran ran' : List (ℕ × List ℕ)) → n < length rs → r ≡ get_or rs n r
+  pub index-less : (rs : List (List (ℕ × X))) (n : ℕ) (r : List (ℕ × X)) (runs : List (ℕ × Bool)) (ran ran' : List (ℕ × List ℕ)) → n < length rs
+      → r ≡ get_or rs n r
       → IsIndex (take (n + 1) rs) ran → runs ≡ map (λ e. (e.0, false)) r → IsNoted n runs ran ran' → IsIndex (take n rs) ran'
   index-less rs n r runs ran ran' within here index are notes id =
       let at = here ∙ get_or_default rs n r [] within in
       let o = ap (value_at id) are ∙ at_map (λ k x. false) id r in
       notes id ∙ ap (λ l. noted n (value_at id runs) l) (index id)
-      ∙ sym (ran-less id 0 n rs (value_at id runs) within (subst (λ q. Agrees (value_at id runs) (is_some (value_at id q)) false) at (subst (λ c. Agrees c (is_some (value_at id r)) false) (sym o) (gone (value_at id r)))) ∙ ap (λ k. noted k (value_at id runs) (ran_from id 0 (take (n + 1) rs))) (first_is n))
+      ∙ sym (ran-less id 0 n rs (value_at id runs) within
+      (subst (λ q. Agrees (value_at id runs) (is_some (value_at id q)) false) at
+      (subst (λ c. Agrees c (is_some (value_at id r)) false) (sym o) (gone (value_at id r))))
+      ∙ ap (λ k. noted k (value_at id runs) (ran_from id 0 (take (n + 1) rs))) (first_is n))
 
-  pub index-set : (rs : List (List (ℕ × X))) (n : ℕ) (r xs : List (ℕ × X)) (changes : List (ℕ × Option X)) (runs : List (ℕ × Bool)) (ran ran' : List (ℕ × List ℕ)) → n < length rs → r ≡ get_or rs n r
+  pub index-set : (rs : List (List (ℕ × X))) (n : ℕ) (r xs : List (ℕ × X)) (changes : List (ℕ × Option X)) (runs : List (ℕ × Bool))
+      (ran ran' : List (ℕ × List ℕ)) → n < length rs → r ≡ get_or rs n r
       → HasRisingIds r → ChangesRise changes → xs ≡ with_changes changes r
       → IsIndex rs ran → runs ≡ map (λ c. (c.0, is_some c.1)) changes → IsNoted n runs ran ran' → IsIndex (set rs n xs) ran'
   index-set rs n r xs changes runs ran ran' within here rising rise made index are notes id =
@@ -95,7 +100,8 @@ module _ {X : Type 0} where
       let agree : Agrees (value_at id runs) (is_some (value_at id (get_or rs n []))) (is_some (value_at id xs)) =
       subst (λ q. Agrees (value_at id runs) (is_some (value_at id q)) (is_some (value_at id xs))) at
       (subst (λ c. Agrees c (is_some (value_at id r)) (is_some (value_at id xs))) (sym o)
-      (subst (λ v. Agrees (option_map is_some (value_at id changes)) (is_some (value_at id r)) (is_some v)) (sym new) (changed (value_at id changes) (value_at id r)))) in
+      (subst (λ v. Agrees (option_map is_some (value_at id changes)) (is_some (value_at id r)) (is_some v)) (sym new)
+      (changed (value_at id changes) (value_at id r)))) in
       notes id ∙ ap (λ l. noted n (value_at id runs) l) (index id)
       ∙ sym (ran-set id 0 n rs xs (value_at id runs) within agree ∙ ap (λ k. noted k (value_at id runs) (ran_from id 0 rs)) (first_is n))
 

@@ -45,7 +45,8 @@ or_assoc : {X : Type 0} (a b c : Option X) → option_or (option_or a b) c ≡ o
 or_assoc None b c = refl
 or_assoc (Some x) b c = refl
 
-or_map : {X Y : Type 0} (f : X → Y) (a b : Option X) (c : Option Y) → option_or (option_map f (option_or a b)) c ≡ option_or (option_map f a) (option_or (option_map f b) c)
+or_map : {X Y : Type 0} (f : X → Y) (a b : Option X) (c : Option Y)
+    → option_or (option_map f (option_or a b)) c ≡ option_or (option_map f a) (option_or (option_map f b) c)
 or_map f None b c = refl
 or_map f (Some x) b c = refl
 
@@ -75,7 +76,8 @@ module _ {V M : Type 0} (id : ℕ) where
       later false e = e
 
       by : (t : Bool) → (standing_at id (placed y zs) ≡ standing_at id zs) ⊎ (standing_at id (placed y zs) ≡ Some y)
-          → (standing_at id (cond t (y ∷ z ∷ zs) (z ∷ placed y zs)) ≡ standing_at id (z ∷ zs)) ⊎ (standing_at id (cond t (y ∷ z ∷ zs) (z ∷ placed y zs)) ≡ Some y)
+          → (standing_at id (cond t (y ∷ z ∷ zs) (z ∷ placed y zs)) ≡ standing_at id (z ∷ zs))
+          ⊎ (standing_at id (cond t (y ∷ z ∷ zs) (z ∷ placed y zs)) ≡ Some y)
       by true e = first (y.state.id == id) (standing_at id (z ∷ zs))
       by false e = later (z.state.id == id) e
 
@@ -113,7 +115,8 @@ other n p id mine k h = by (k == id) refl
 
 module _ {V M : Type 0} (n p id : ℕ) (mine : belongs n p id ≡ true) where
   -- the state of one of its ids is found among its states
-  found_in_share : (xs : List (Standing V M)) → state_of id (map (λ x. x.state) (filter (λ x. belongs n p x.state.id) xs)) ≡ option_map (λ x. x.state) (standing_at id xs)
+  found_in_share : (xs : List (Standing V M)) → state_of id (map (λ x. x.state) (filter (λ x. belongs n p x.state.id) xs))
+      ≡ option_map (λ x. x.state) (standing_at id xs)
   found_in_share [] = refl
   found_in_share (x ∷ xs) = by (belongs n p x.state.id) refl (found_in_share xs)
     where
@@ -145,15 +148,18 @@ module _ {V M : Type 0} (n p id : ℕ) (mine : belongs n p id ≡ true) where
         apart = same_test id x.state.id ∙ ap (λ i. x.state.id == i) (sym same) ∙ above_apart k x.state.id all.0
 
         by : (b a : Bool) → value_at id (given xs) ≡ None
-            → value_at id (map (λ x. (x.state.id, f x)) (filter is_active (cond b (x ∷ filter (λ x. belongs n p x.state.id) xs) (filter (λ x. belongs n p x.state.id) xs)))) ≡ None
+            → value_at id (map (λ x. (x.state.id, f x))
+            (filter is_active (cond b (x ∷ filter (λ x. belongs n p x.state.id) xs) (filter (λ x. belongs n p x.state.id) xs)))) ≡ None
         by false a e = e
         by true a e = at (is_active x)
           where
-            at : (a : Bool) → value_at id (map (λ x. (x.state.id, f x)) (cond a (x ∷ filter is_active (filter (λ x. belongs n p x.state.id) xs)) (filter is_active (filter (λ x. belongs n p x.state.id) xs)))) ≡ None
+            at : (a : Bool) → value_at id (map (λ x. (x.state.id, f x))
+                (cond a (x ∷ filter is_active (filter (λ x. belongs n p x.state.id) xs)) (filter is_active (filter (λ x. belongs n p x.state.id) xs)))) ≡ None
             at true = ap (λ t. cond t (Some (f x)) (value_at id (given xs))) apart ∙ e
             at false = e
 
-    joined : (t : Bool) (x : Standing V M) (o : Option (Standing V M)) → cond t (record_of x) (option_and_then record_of o) ≡ option_and_then record_of (cond t (Some x) o)
+    joined : (t : Bool) (x : Standing V M) (o : Option (Standing V M))
+        → cond t (record_of x) (option_and_then record_of o) ≡ option_and_then record_of (cond t (Some x) o)
     joined true x o = refl
     joined false x o = refl
 
@@ -167,15 +173,19 @@ module _ {V M : Type 0} (n p id : ℕ) (mine : belongs n p id ≡ true) where
         picked : List (Standing V M)
         picked = filter (λ x. belongs n p x.state.id) xs
 
-        at : (a t : Bool) → is_at (nat_cmp id) x.state.id ≡ t → value_at id (given xs) ≡ option_and_then record_of (standing_at id xs) → (t ≡ true → value_at id (given xs) ≡ None)
-            → value_at id (map (λ x. (x.state.id, f x)) (cond a (x ∷ filter is_active picked) (filter is_active picked))) ≡ cond t (cond a (Some (f x)) None) (option_and_then record_of (standing_at id xs))
+        at : (a t : Bool) → is_at (nat_cmp id) x.state.id ≡ t → value_at id (given xs) ≡ option_and_then record_of (standing_at id xs)
+            → (t ≡ true → value_at id (given xs) ≡ None)
+            → value_at id (map (λ x. (x.state.id, f x)) (cond a (x ∷ filter is_active picked) (filter is_active picked)))
+            ≡ cond t (cond a (Some (f x)) None) (option_and_then record_of (standing_at id xs))
         at true true e later none = ap (λ t. cond t (Some (f x)) (value_at id (given xs))) e
         at true false e later none = ap (λ t. cond t (Some (f x)) (value_at id (given xs))) e ∙ later
         at false true e later none = none refl
         at false false e later none = later
 
-        by : (b : Bool) → belongs n p x.state.id ≡ b → value_at id (given xs) ≡ option_and_then record_of (standing_at id xs) → (x.state.id ≡ id → value_at id (given xs) ≡ None)
-            → value_at id (map (λ x. (x.state.id, f x)) (filter is_active (cond b (x ∷ picked) picked))) ≡ cond (x.state.id == id) (record_of x) (option_and_then record_of (standing_at id xs))
+        by : (b : Bool) → belongs n p x.state.id ≡ b → value_at id (given xs) ≡ option_and_then record_of (standing_at id xs)
+            → (x.state.id ≡ id → value_at id (given xs) ≡ None)
+            → value_at id (map (λ x. (x.state.id, f x)) (filter is_active (cond b (x ∷ picked) picked)))
+            ≡ cond (x.state.id == id) (record_of x) (option_and_then record_of (standing_at id xs))
         by true h later none = at (is_active x) (x.state.id == id) (same_test id x.state.id) later (λ e. none (eqb-true x.state.id id e))
         by false h later none = later ∙ sym (ap (λ t. cond t (record_of x) (option_and_then record_of (standing_at id xs))) (other n p id mine x.state.id h))
 
@@ -192,7 +202,8 @@ module _ {V M : Type 0} (n p id : ℕ) (mine : belongs n p id ≡ true) where
     take_below (suc r) s h =
         elim (cases_lt s (suc r)) [
           | inl less ↦
-              take-append-le s (records_below job rows n p r) (records_in job rows n p r ∷ []) (let l = length-below r in omega arith) ∙ take_below r s (omega arith)
+              take-append-le s (records_below job rows n p r) (records_in job rows n p r ∷ []) (let l = length-below r in omega arith)
+              ∙ take_below r s (omega arith)
           | inr more ↦
               let same : suc r ≡ s = omega arith in
               take_all s (records_below job rows n p (suc r)) (let l = length-below (suc r) in omega arith) ∙ ap (records_below job rows n p) same
@@ -216,7 +227,8 @@ module _ {V M : Type 0} (n p id : ℕ) (mine : belongs n p id ≡ true) where
             ap (option_map (λ x. x.state)) (inactive id job.program (configuration job rows s).waiting (configuration job rows s).standings x e idle)
             ∙ ap Some (sym (state_after-idle job.program (view_at job rows s) x idle))
 
-    after : (s : ℕ) → run_state job rows id (suc s) ≡ option_map (λ x. x.state) (option_map (standing_after job (view_at job rows s) (present_at job rows s)) (standing_at id (present_at job rows s)))
+    after : (s : ℕ) → run_state job rows id (suc s)
+        ≡ option_map (λ x. x.state) (option_map (standing_after job (view_at job rows s) (present_at job rows s)) (standing_at id (present_at job rows s)))
     unfolding configuration
     after s = ap (option_map (λ x. x.state)) (standing_at-next job s (configuration job rows s) id)
 
@@ -241,7 +253,8 @@ module _ {V M : Type 0} (n p id : ℕ) (mine : belongs n p id ≡ true) where
 -- where a trace holds a run up to a superstep, what it has of a vertex as that one begins, or one before it, is the run's
 pub state_of_run : {V M : Type 0} (trace : Trace V M) (id s : ℕ) → IsOfRun trace id s (state_at id s trace)
 state_of_run {V = V} {M = M} trace id s job rows n p r holds mine within =
-    let reads : List (List (ℕ × Record V M)) → List (VertexState V) → Option (VertexState V) = λ rs initial. option_or (option_map (left_by id) (last_record id rs)) (state_of id initial) in
+    let reads : List (List (ℕ × Record V M)) → List (VertexState V)
+    → Option (VertexState V) = λ rs initial. option_or (option_map (left_by id) (last_record id rs)) (state_of id initial) in
     ap (λ rs. reads (take s rs) trace.initial) holds.records
     ∙ ap (λ rs. reads rs trace.initial) (take_below n p id mine job rows holds.rise r s within)
     ∙ ap (λ initial. reads (records_below job rows n p s) initial) holds.initial

@@ -4,6 +4,7 @@ use Rattle.std.specs.List.{find}
 use Rattle.std.specs.List.Sorted.{IsStrictlySortedBy}
 use Rattle.std.specs.Option.{option_map, option_or}
 use Rattle.std.specs.Ordering.{nat_cmp}
+use denote.Ref.{Bor}
 use Rattle.pg_map.specs.Entries.{value_at, with_changes}
 use Rattle.pg_model.specs.declared.configuration.VertexState.{VertexState}
 use Rattle.pg_model.specs.declared.record.Record.{Record}
@@ -23,6 +24,10 @@ module _ {V : Type 0} where
   state_of id states = find (λ x. x.id == id) states
 
 module _ {X : Type 0} where
+  -- lent records, as what they point to
+  abbrev pub lent : List (ℕ × Bor X) → List (ℕ × X)
+  lent entries = map (λ e. (e.0, e.1.now)) entries
+
   -- the last record of an id in these supersteps, if it ran in any
   abbrev pub last_record : ℕ → List (List (ℕ × X)) → Option X
   last_record id [] = None

@@ -1,9 +1,8 @@
 //! The index of a trace: in which supersteps each vertex ran.
-ghost use Rattle.std.specs.Prelude.{◌≡◌, ℕ, ◌++◌, nat_lt, map, IfOk, OnOk};
-ghost use Rattle.std.specs.List.{filter};
-ghost use Rattle.pg_map.specs.Entries.{HasRisingIds, value_at};
+ghost use Rattle.std.specs.Prelude.{◌≡◌, ◌++◌, IfOk, OnOk};
+ghost use Rattle.pg_map.specs.Entries.{HasRisingIds};
 ghost use Rattle.std.specs.List.Sorted.{IsNonDecreasingBy};
-ghost use Rattle.pg_trace.specs.Ran.{last_of, noted, ran_at, some_of, with_ran};
+ghost use Rattle.pg_trace.specs.Ran.{IsNoted, last_of, noting, ran_at, some_of, steps_above, steps_below, with_ran};
 
 use pg_graph::{Memory, VertexId};
 use pg_map::{Map, Share};
@@ -63,7 +62,7 @@ pub(crate) fn steps_of(ran: &Map<Ran>, id: VertexId) -> &[usize]
 /// The last of rising supersteps that is below one, found by halving.
 pub(crate) fn last_below(steps: &[usize], superstep: usize) -> Option<usize>
     requires { IsNonDecreasingBy (λ t. t) steps.now }
-    ensures { result ≡ last_of (filter (λ t. nat_lt t superstep) steps.now) }
+    ensures { result ≡ last_of (steps_below superstep steps.now) }
 {
     let after = steps.partition_point(|step| *step < superstep);
     if after == 0 {
@@ -80,7 +79,7 @@ pub(crate) fn note(
     runs: &[(VertexId, bool)],
 ) -> Result<(), Memory>
     requires { HasRisingIds runs.now }
-    ensures { OnOk result ((id : ℕ) → ran_at id ran.new ≡ noted superstep (value_at id runs.now) (ran_at id ran.old)) }
+    ensures { OnOk result (IsNoted superstep runs.now ran.old ran.new) }
 {
     let changes = changes_of(alloc, ran, superstep, runs)?;
     tell_rising(ran);
@@ -102,7 +101,7 @@ fn changes_of(
     superstep: usize,
     runs: &[(VertexId, bool)],
 ) -> Result<Vec<(VertexId, Option<Ran>)>, Memory>
-    ensures { IfOk result (λ changes. changes.items ≡ map (λ r. (r.0, some_of (with_ran superstep r.1 (ran_at r.0 ran.now)))) runs.now) }
+    ensures { IfOk result (λ changes. changes.items ≡ noting superstep runs.now ran.now) }
 {
     let mut changes = Vec::with_capacity(alloc, runs.len())?;
     for (id, runs_now) in runs {
@@ -141,7 +140,7 @@ fn stepped(
 }
 
 fn add_below(into: &mut Vec<usize>, steps: &[usize], superstep: usize) -> Result<(), Memory>
-    ensures { OnOk result (into.new.items ≡ into.old.items ++ filter (λ t. nat_lt t superstep) steps.now) }
+    ensures { OnOk result (into.new.items ≡ into.old.items ++ steps_below superstep steps.now) }
 {
     for step in steps {
         if *step < superstep {
@@ -152,7 +151,7 @@ fn add_below(into: &mut Vec<usize>, steps: &[usize], superstep: usize) -> Result
 }
 
 fn add_above(into: &mut Vec<usize>, steps: &[usize], superstep: usize) -> Result<(), Memory>
-    ensures { OnOk result (into.new.items ≡ into.old.items ++ filter (λ t. nat_lt superstep t) steps.now) }
+    ensures { OnOk result (into.new.items ≡ into.old.items ++ steps_above superstep steps.now) }
 {
     for step in steps {
         if superstep < *step {

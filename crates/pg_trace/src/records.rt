@@ -2,6 +2,7 @@
 ghost use Rattle.std.specs.Prelude.{◌≡◌, length, map, take, ◌≤◌, is_some, IfOk, OnOk};
 ghost use Rattle.pg_map.specs.Entries.{HasRisingIds};
 ghost use Rattle.pg_trace.specs.Ran.{IsIndex};
+ghost use Rattle.pg_trace.specs.Trace.{lent};
 
 use crate::kept::Kept;
 use crate::ran::{Ran, note};
@@ -29,7 +30,7 @@ pub(crate) fn listed<V: Drop, M: Drop>(
     alloc: Global,
     records: &Map<Kept<V, M>>,
 ) -> Result<Vec<(VertexId, &Record<V, M>)>, Memory>
-    ensures records { IfOk result (λ found. map (λ e. (e.0, e.1.now)) found.items ≡ records.now) }
+    ensures records { IfOk result (λ found. lent found.items ≡ records.now) }
     ensures rising { HasRisingIds records.now }
 {
     records

@@ -3,7 +3,7 @@ ghost use Rattle.std.specs.Prelude.{◌≡◌, ℕ, [], length, map, take, slice
 ghost use Rattle.std.specs.Option.{option_copied};
 ghost use Rattle.pg_map.specs.Entries.{ChangesRise, HasRisingIds, value_at};
 ghost use Rattle.pg_trace.specs.OfRun.{IsOfRun};
-ghost use Rattle.pg_trace.specs.Trace.{StatesRise, begun, record_at, records_of, state_at, with_superstep, first_supersteps, last_record, with_replaced};
+ghost use Rattle.pg_trace.specs.Trace.{StatesRise, begun, lent, record_at, records_of, state_at, with_superstep, first_supersteps, last_record, with_replaced};
 
 use crate::StateRef;
 use crate::beginnings::Beginnings;
@@ -93,13 +93,14 @@ impl<V: Drop, M: Drop> Trace<V, M> {
         })
     }
 
-    /// The records of a superstep, by rising id; none where it hasn't that superstep. Costs O(1) a record.
+    /// The records of a superstep, by rising id; none where it hasn't that superstep. Costs O(1) a
+    /// record.
     pub fn records(
         &self,
         alloc: Global,
         superstep: Superstep,
     ) -> Result<Vec<(VertexId, &Record<V, M>)>, Memory>
-        ensures records { IfOk result (λ found. map (λ e. (e.0, e.1.now)) found.items ≡ records_of superstep self.now) }
+        ensures records { IfOk result (λ found. lent found.items ≡ records_of superstep self.now) }
         ensures rising { HasRisingIds (records_of superstep self.now) }
     {
         match self.supersteps.get(superstep.number() as usize) {
@@ -108,11 +109,11 @@ impl<V: Drop, M: Drop> Trace<V, M> {
         }
     }
 
-    /// Adds a superstep with the records of the vertices that ran in it, by rising id. Nothing changes
-    /// where memory is refused.
+    /// Adds a superstep with the records of the vertices that ran in it, by rising id. Nothing
+    /// changes where memory is refused.
     ///
-    /// For k records it costs k look-ups, a copy of the supersteps in which each of these vertices ran,
-    /// and a change of the index: of the chunks with these vertices.
+    /// For k records it costs k look-ups, a copy of the numbers of the supersteps in which these
+    /// vertices ran, and a change of the index: of the chunks with these vertices.
     pub fn push_superstep(
         &mut self,
         alloc: Global,
@@ -131,8 +132,8 @@ impl<V: Drop, M: Drop> Trace<V, M> {
         Ok(())
     }
 
-    /// Keeps the first supersteps, so many, or all where there are fewer. Nothing changes where memory
-    /// is refused. For each superstep that goes it costs what pushing it did.
+    /// Keeps the first supersteps, so many, or all where there are fewer. Nothing changes where
+    /// memory is refused. For each superstep that goes it costs what pushing it did.
     pub fn cut(&mut self, alloc: Global, supersteps: Superstep) -> Result<(), Memory>
         ensures ok { OnOk result (self.new ≡ first_supersteps supersteps self.old) }
         ensures err { OnErr result (self.new ≡ self.old) }
@@ -148,11 +149,12 @@ impl<V: Drop, M: Drop> Trace<V, M> {
         Ok(())
     }
 
-    /// Changes the records of a superstep that it has: each of these vertices, by rising id, has its new
-    /// record there, or none. Nothing changes where memory is refused.
+    /// Changes the records of a superstep that it has: each of these vertices, by rising id, has its
+    /// new record there, or none. Nothing changes where memory is refused.
     ///
-    /// For k changes it costs k look-ups, a copy of the supersteps in which each of these vertices ran, and a
-    /// change of the index and of the superstep: of the chunks with these vertices. The others stay unread.
+    /// For k changes it costs k look-ups, a copy of the numbers of the supersteps in which these
+    /// vertices ran, and a change of the index and of the superstep: of the chunks with these
+    /// vertices. The others stay unread.
     pub fn replace(
         &mut self,
         alloc: Global,

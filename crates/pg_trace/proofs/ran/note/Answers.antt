@@ -14,5 +14,6 @@ change-requires c =
 
 pub returns : goal.returns
 returns c =
-    noted_by c.args.superstep c.args.runs.now c.args.ran.now c.change.new.self c.in_ok-changes.changes.items c.requires c.tell_rising.ensures c.in_ok-changes.ensures
+    noted_by c.args.superstep c.args.runs.now c.args.ran.now c.change.new.self c.in_ok-changes.changes.items
+    c.requires c.tell_rising.ensures c.in_ok-changes.ensures
     (c.in_ok-change.ensures.ok ∙ ap (λ l. with_changes l c.args.ran.now) c.as_slice.ensures.value)

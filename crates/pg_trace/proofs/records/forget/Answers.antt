@@ -8,7 +8,8 @@ use Rattle.pg_trace.proofs.records.forget.Goals as goal
 
 pub note-requires : goal.note-requires
 note-requires g c =
-    subst (IsStrictlySortedBy nat_cmp) (sym (ap keys_of (c.as_slice.ensures.value ∙ c.in_ok-none.ensures.noted) ∙ keys_map (λ e. false) c.index-supersteps-left.result)) c.in_ok-none.ensures.rising
+    subst (IsStrictlySortedBy nat_cmp) (sym (ap keys_of (c.as_slice.ensures.value ∙ c.in_ok-none.ensures.noted)
+    ∙ keys_map (λ e. false) c.index-supersteps-left.result)) c.in_ok-none.ensures.rising
 
 pub loop-left-preserved : goal.loop-left-preserved
 loop-left-preserved g c =
@@ -20,5 +21,6 @@ loop-left-preserved g c =
       low = omega (arith, c.loop-left-test.true);
       high = omega (arith, within);
       index = index-less ss (left - 1) c.index-supersteps-left.result c.as_slice.result.now c.loop-left.ran c.note.new.ran within c.index-supersteps-left.is
-          (subst (λ n. IsIndex (take n ss) c.loop-left.ran) one c.loop-left.invariant.index) (c.as_slice.ensures.value ∙ c.in_ok-none.ensures.noted) c.in_ok-note.ensures;
+          (subst (λ n. IsIndex (take n ss) c.loop-left.ran) one c.loop-left.invariant.index)
+          (c.as_slice.ensures.value ∙ c.in_ok-none.ensures.noted) c.in_ok-note.ensures;
     }
