@@ -203,52 +203,65 @@ fn copied(alloc: Global, plain: &[Row]) -> Result<Vec<Row>, Memory> {
     Ok(copy)
 }
 
+// A trace has this of each id in a superstep, and as it begins what the plain list has.
+fn agree_in(
+    rt: &impl Abort,
+    trace: &Numbers,
+    plain: &[Row],
+    place: usize,
+    row: Row,
+) -> Result<(), Fail> {
+    for number in 0..8u64 {
+        let given = given_at(trace, number, place as u32)?;
+        assert_eq!(rt; given, row[number as usize]);
+        let value = value_at(trace, number, place as u32)?;
+        assert_eq!(rt; value, value_in(plain, number as usize, place));
+    }
+    Ok(())
+}
+
 // A trace and a plain list have the same of each id in each superstep.
 fn agree(rt: &impl Abort, alloc: Global, trace: &Numbers, plain: &[Row]) -> Result<(), Fail> {
     assert_eq!(rt; trace.supersteps(), plain.len());
     for (place, row) in plain.iter().enumerate() {
         assert!(rt; row_of(alloc, trace, place as u32)? == *row);
-        for number in 0..8u64 {
-            let given = given_at(trace, number, place as u32)?;
-            assert_eq!(rt; given, row[number as usize]);
-            let value = value_at(trace, number, place as u32)?;
-            assert_eq!(rt; value, value_in(plain, number as usize, place));
-        }
+        agree_in(rt, trace, plain, place, *row)?;
     }
-    for number in 0..8u64 {
-        let value = value_at(trace, number, 1000)?;
-        assert_eq!(rt; value, value_in(plain, number as usize, plain.len()));
-    }
-    Ok(())
+    agree_in(rt, trace, plain, plain.len(), [None; 8])
 }
 
-#[test]
-fn reads_states_between_records(rt: HostRuntime) -> Result<(), Fail> {
-    let alloc = rt.alloc();
+// The values of an id as three supersteps begin.
+fn values_at(trace: &Numbers, number: u64, places: [u32; 3]) -> Result<[Option<i64>; 3], Fail> {
+    let [first, second, third] = places;
+    let first = value_at(trace, number, first)?;
+    let second = value_at(trace, number, second)?;
+    let third = value_at(trace, number, third)?;
+    Ok([first, second, third])
+}
+
+// A trace in which 0 and 1 run, then 1 and 7, then 5 and 7.
+fn three_supersteps(alloc: Global) -> Result<Numbers, Fail> {
     let mut trace = fresh(alloc)?;
     push_two(alloc, &mut trace, id(0)?, id(1)?, 5)?;
     push_two(alloc, &mut trace, id(1)?, id(7)?, 8)?;
     push_two(alloc, &mut trace, id(5)?, id(7)?, 11)?;
-    let zero = [
-        value_at(&trace, 0, 0)?,
-        value_at(&trace, 0, 1)?,
-        value_at(&trace, 0, 3)?,
-    ];
-    assert!(rt; zero == [Some(1000), Some(5), Some(5)]);
-    let one = [
-        value_at(&trace, 1, 1)?,
-        value_at(&trace, 1, 2)?,
-        value_at(&trace, 1, 3)?,
-    ];
-    assert!(rt; one == [Some(6), Some(8), Some(8)]);
-    let made = [
-        value_at(&trace, 7, 1)?,
-        value_at(&trace, 7, 2)?,
-        value_at(&trace, 7, 3)?,
-    ];
-    assert!(rt; made == [None, Some(9), Some(12)]);
-    assert!(rt; given_at(&trace, 0, 1)?.is_none() && given_at(&trace, 9, 0)?.is_none());
-    assert!(rt; trace.records(alloc, Superstep::new(3))?.is_empty());
+    Ok(trace)
+}
+
+#[test]
+fn reads_states_between_records(rt: HostRuntime) -> Result<(), Fail> {
+    let trace = three_supersteps(rt.alloc())?;
+    assert!(rt; values_at(&trace, 0, [0, 1, 3])? == [Some(1000), Some(5), Some(5)]);
+    assert!(rt; values_at(&trace, 1, [1, 2, 3])? == [Some(6), Some(8), Some(8)]);
+    assert!(rt; values_at(&trace, 7, [1, 2, 3])? == [None, Some(9), Some(12)]);
+    assert!(rt; given_at(&trace, 0, 1)?.is_none());
+    assert!(rt; trace.records(rt.alloc(), Superstep::new(3))?.is_empty());
+    Ok(())
+}
+
+#[test]
+fn shows_states(rt: HostRuntime) -> Result<(), Fail> {
+    let trace = three_supersteps(rt.alloc())?;
     let first = trace.state_at(id(1)?, Superstep::new(0)).ok_or("a state")?;
     assert!(rt; first.id().number() == 1 && !first.halted());
     let later = trace.state_at(id(1)?, Superstep::new(1)).ok_or("a state")?;
@@ -260,19 +273,16 @@ fn reads_states_between_records(rt: HostRuntime) -> Result<(), Fail> {
 #[test]
 fn copies_stay(rt: HostRuntime) -> Result<(), Fail> {
     let alloc = rt.alloc();
-    let mut trace = fresh(alloc)?;
-    push_two(alloc, &mut trace, id(0)?, id(1)?, 5)?;
-    push_two(alloc, &mut trace, id(1)?, id(7)?, 8)?;
+    let mut trace = three_supersteps(alloc)?;
     let copy = trace.share(alloc)?;
     trace.cut(alloc, Superstep::new(1))?;
     assert_eq!(rt; trace.supersteps(), 1);
-    assert_eq!(rt; value_at(&trace, 7, 2)?, None);
-    assert_eq!(rt; value_at(&trace, 1, 2)?, Some(6));
+    assert!(rt; values_at(&trace, 7, [1, 2, 3])? == [None; 3]);
+    assert!(rt; values_at(&trace, 1, [0, 1, 2])? == [Some(2000), Some(6), Some(6)]);
     push_two(alloc, &mut trace, id(3)?, id(4)?, 20)?;
-    assert_eq!(rt; copy.supersteps(), 2);
-    assert_eq!(rt; value_at(&copy, 7, 2)?, Some(9));
-    assert_eq!(rt; value_at(&copy, 1, 2)?, Some(8));
-    assert_eq!(rt; value_at(&copy, 3, 2)?, None);
+    assert_eq!(rt; copy.supersteps(), 3);
+    assert!(rt; values_at(&copy, 7, [1, 2, 3])? == [None, Some(9), Some(12)]);
+    assert!(rt; values_at(&copy, 3, [1, 2, 3])? == [None; 3]);
     Ok(())
 }
 
