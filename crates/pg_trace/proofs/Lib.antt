@@ -1,0 +1,4 @@
+pub mod Beginning
+pub mod Index
+pub mod Noting
+pub mod RunStates

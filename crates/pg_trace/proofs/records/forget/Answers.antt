@@ -1,0 +1,26 @@
+use Rattle.std.proofs.Common.{◌≡◌, ◌<◌, ◌+◌, ◌-◌, false, length, take, sym, ap, ◌∙◌, subst, arith}
+use Rattle.std.specs.List.Sorted.{IsStrictlySortedBy}
+use Rattle.std.specs.Map.{keys_of}
+use Rattle.std.specs.Ordering.{nat_cmp}
+use Rattle.pg_trace.specs.Ran.{IsIndex}
+use Rattle.pg_trace.proofs.Noting.{index-less, keys_map}
+use Rattle.pg_trace.proofs.records.forget.Goals as goal
+
+pub note-requires : goal.note-requires
+note-requires g c =
+    subst (IsStrictlySortedBy nat_cmp) (sym (ap keys_of (c.as_slice.ensures.value ∙ c.in_ok-none.ensures.noted)
+    ∙ keys_map (λ e. false) c.index-supersteps-left.result)) c.in_ok-none.ensures.rising
+
+pub loop-left-preserved : goal.loop-left-preserved
+loop-left-preserved g c =
+    let ss = c.args.supersteps.now in
+    let left = c.loop-left.left in
+    let within : left - 1 < length ss = omega (arith, c.loop-left-test.true, c.loop-left.invariant.high) in
+    let one : left ≡ left - 1 + 1 = omega (arith, c.loop-left-test.true) in
+    record {
+      low = omega (arith, c.loop-left-test.true);
+      high = omega (arith, within);
+      index = index-less ss (left - 1) c.index-supersteps-left.result c.as_slice.result.now c.loop-left.ran c.note.new.ran within c.index-supersteps-left.is
+          (subst (λ n. IsIndex (take n ss) c.loop-left.ran) one c.loop-left.invariant.index)
+          (c.as_slice.ensures.value ∙ c.in_ok-none.ensures.noted) c.in_ok-note.ensures;
+    }

@@ -1,0 +1,5 @@
+pub mod Beginning
+pub mod OfRun
+pub mod Ran
+pub mod Rows
+pub mod Trace

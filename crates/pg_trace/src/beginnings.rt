@@ -1,0 +1,118 @@
+//! The states with which a partition began.
+ghost use Rattle.std.specs.Prelude.{◌≡◌, [], IfOk};
+ghost use Rattle.std.specs.Option.{option_copied};
+ghost use Rattle.pg_trace.specs.Beginning.{by_id};
+ghost use Rattle.pg_trace.specs.Trace.{StatesRise, state_of};
+
+use pg_graph::{Memory, VertexId};
+use pg_map::{Map, Share};
+use pg_model::VertexState;
+use std::alloc::Global;
+use std::marker::Model;
+use std::sync::Arc;
+
+/// A state, which copies share.
+#[derive(Drop)]
+pub(crate) struct Begun<V> {
+    shared: Arc<VertexState<V>>,
+}
+
+impl<V> Model for Begun<V> {
+    ghost use Rattle.pg_model.specs.declared.configuration.VertexState.{VertexState};
+    ghost use Rattle.std.specs.Arc.{arc_value};
+
+    ghost Value = { VertexState V };
+
+    ghost view = { λ b. arc_value b.shared };
+}
+
+impl<V: Drop> Share for Begun<V> {
+    fn share(&self) -> Result<Begun<V>, Memory> {
+        Ok(Begun {
+            shared: Arc::try_clone(&self.shared)?,
+        })
+    }
+}
+
+impl<V: Drop> Begun<V> {
+    /// Keeps a state.
+    fn of(alloc: Global, state: VertexState<V>) -> Result<Begun<V>, Memory>
+        ensures { IfOk result (λ begun. begun ≡ state) }
+    {
+        Ok(Begun {
+            shared: Arc::new(alloc, state)?,
+        })
+    }
+
+    /// The state.
+    fn state(&self) -> &VertexState<V>
+        ensures { result.now ≡ self.now }
+    {
+        &self.shared
+    }
+}
+
+/// States by rising id, which copies share. A contract sees the list of them.
+#[derive(Drop)]
+pub(crate) struct Beginnings<V> {
+    states: Map<Begun<V>>,
+}
+
+impl<V> Model for Beginnings<V> {
+    ghost use Rattle.std.specs.Prelude.{List};
+    ghost use Rattle.std.specs.Map.{values_of};
+    ghost use Rattle.pg_model.specs.declared.configuration.VertexState.{VertexState};
+
+    ghost Value = { List (VertexState V) };
+
+    ghost use Rattle.pg_trace.specs.Beginning.{AreById};
+
+    ghost view = { λ b. values_of b.states };
+
+    ghost invariant = { λ b. AreById b.states };
+}
+
+impl<V: Drop> Beginnings<V> {
+    /// These states.
+    pub(crate) fn of(alloc: Global, states: Vec<VertexState<V>>) -> Result<Beginnings<V>, Memory>
+        requires { StatesRise states.items }
+        ensures { IfOk result (λ beginnings. beginnings ≡ states.items) }
+    {
+        let entries = entries_of(alloc, states)?;
+        let states = Map::from_rising(alloc, entries)?;
+        Ok(Beginnings { states })
+    }
+
+    /// The state with an id. Costs two binary searches.
+    pub(crate) fn get(&self, id: VertexId) -> Option<&VertexState<V>>
+        ensures { option_copied result ≡ state_of id self.now }
+    {
+        match self.states.get(id) {
+            Some(begun) => Some(begun.state()),
+            None => None,
+        }
+    }
+
+    /// The same states, in the same memory. Costs O(1).
+    pub(crate) fn share(&self) -> Result<Beginnings<V>, Memory>
+        ensures { IfOk result (λ beginnings. beginnings ≡ self.now) }
+    {
+        Ok(Beginnings {
+            states: self.states.share()?,
+        })
+    }
+}
+
+/// Each state under its id.
+fn entries_of<V: Drop>(
+    alloc: Global,
+    states: Vec<VertexState<V>>,
+) -> Result<Vec<(VertexId, Begun<V>)>, Memory>
+    ensures { IfOk result (λ entries. entries.items ≡ by_id states.items) }
+{
+    let mut entries = Vec::with_capacity(alloc, states.len())?;
+    for state in states {
+        entries.push((state.id, Begun::of(alloc, state)?))?;
+    }
+    Ok(entries)
+}

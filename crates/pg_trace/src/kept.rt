@@ -1,0 +1,50 @@
+//! A record in memory that traces share.
+ghost use Rattle.std.specs.Prelude.{◌≡◌, IfOk};
+
+use pg_graph::Memory;
+use pg_map::Share;
+use pg_model::Record;
+use std::alloc::Global;
+use std::marker::Model;
+use std::sync::Arc;
+
+/// A record, which copies share.
+#[derive(Drop)]
+pub(crate) struct Kept<V, M> {
+    shared: Arc<Record<V, M>>,
+}
+
+impl<V, M> Model for Kept<V, M> {
+    ghost use Rattle.pg_model.specs.declared.record.Record.{Record};
+    ghost use Rattle.std.specs.Arc.{arc_value};
+
+    ghost Value = { Record V M };
+
+    ghost view = { λ k. arc_value k.shared };
+}
+
+impl<V: Drop, M: Drop> Share for Kept<V, M> {
+    fn share(&self) -> Result<Kept<V, M>, Memory> {
+        Ok(Kept {
+            shared: Arc::try_clone(&self.shared)?,
+        })
+    }
+}
+
+impl<V: Drop, M: Drop> Kept<V, M> {
+    /// Keeps a record.
+    pub(crate) fn of(alloc: Global, given: Record<V, M>) -> Result<Kept<V, M>, Memory>
+        ensures { IfOk result (λ kept. kept ≡ given) }
+    {
+        Ok(Kept {
+            shared: Arc::new(alloc, given)?,
+        })
+    }
+
+    /// The record.
+    pub(crate) fn record(&self) -> &Record<V, M>
+        ensures { result.now ≡ self.now }
+    {
+        &self.shared
+    }
+}

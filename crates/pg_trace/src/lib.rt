@@ -1,0 +1,17 @@
+//! The records of a partition's run, as two runs share them.
+#![tactic(auto)]
+
+mod beginnings;
+mod kept;
+mod ran;
+mod records;
+mod state;
+mod trace;
+
+pub use pg_graph::Memory;
+pub use pg_model::Record;
+pub use state::StateRef;
+pub use trace::Trace;
+
+#[cfg(test)]
+mod tests;

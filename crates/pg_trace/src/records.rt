@@ -1,0 +1,131 @@
+//! The records of supersteps, one superstep or many at a time.
+ghost use Rattle.std.specs.Prelude.{◌≡◌, length, map, take, ◌≤◌, is_some, IfOk, OnOk};
+ghost use Rattle.pg_map.specs.Entries.{HasRisingIds};
+ghost use Rattle.pg_trace.specs.Ran.{IsIndex};
+ghost use Rattle.pg_trace.specs.Trace.{lent};
+
+use crate::kept::Kept;
+use crate::ran::{Ran, note};
+use pg_graph::{Memory, VertexId};
+use pg_map::Map;
+use pg_model::Record;
+use std::alloc::Global;
+
+/// The same supersteps, in the same memory.
+pub(crate) fn shared<V: Drop, M: Drop>(
+    alloc: Global,
+    supersteps: &[Map<Kept<V, M>>],
+) -> Result<Vec<Map<Kept<V, M>>>, Memory>
+    ensures { IfOk result (λ shared. shared.items ≡ supersteps.now) }
+{
+    let mut shared = Vec::with_capacity(alloc, supersteps.len())?;
+    for records in supersteps {
+        shared.push(records.share()?)?;
+    }
+    Ok(shared)
+}
+
+/// The records of a superstep, lent.
+pub(crate) fn listed<V: Drop, M: Drop>(
+    alloc: Global,
+    records: &Map<Kept<V, M>>,
+) -> Result<Vec<(VertexId, &Record<V, M>)>, Memory>
+    ensures records { IfOk result (λ found. lent found.items ≡ records.now) }
+    ensures rising { HasRisingIds records.now }
+{
+    records
+        .iter()
+        .map(|(id, kept)| (*id, kept.record()))
+        .collect(alloc)
+}
+
+/// Keeps all of these records.
+pub(crate) fn all_kept<V: Drop, M: Drop>(
+    alloc: Global,
+    records: Vec<(VertexId, Record<V, M>)>,
+) -> Result<Vec<(VertexId, Kept<V, M>)>, Memory>
+    ensures { IfOk result (λ kept. kept.items ≡ records.items) }
+{
+    let mut all = Vec::with_capacity(alloc, records.len())?;
+    for (id, given) in records {
+        all.push((id, Kept::of(alloc, given)?))?;
+    }
+    Ok(all)
+}
+
+/// Forgets that vertices ran in these supersteps from a place on.
+pub(crate) fn forget<V: Drop, M: Drop>(
+    alloc: Global,
+    ran: &mut Map<Ran>,
+    supersteps: &[Map<Kept<V, M>>],
+    len: usize,
+) -> Result<(), Memory>
+    requires index { IsIndex supersteps.now ran.old }
+    requires within { len ≤ length supersteps.now }
+    ensures { OnOk result (IsIndex (take len supersteps.now) ran.new) }
+{
+    let mut left = supersteps.len();
+    while left > len {
+        left -= 1;
+        let none = all_noted(alloc, &supersteps[left], false)?;
+        note(alloc, ran, left, none.as_slice())?;
+    }
+    Ok(())
+}
+
+/// The ids of a superstep's records, each with this.
+pub(crate) fn all_noted<V: Drop, M: Drop>(
+    alloc: Global,
+    records: &Map<Kept<V, M>>,
+    runs: bool,
+) -> Result<Vec<(VertexId, bool)>, Memory>
+    ensures noted { IfOk result (λ noted. noted.items ≡ map (λ e. (e.0, runs)) records.now) }
+    ensures rising { HasRisingIds records.now }
+{
+    let mut noted = Vec::with_capacity(alloc, records.len())?;
+    for (id, _) in records.iter() {
+        noted.push((*id, runs))?;
+    }
+    Ok(noted)
+}
+
+/// Keeps the records among these changes.
+pub(crate) fn changes_kept<V: Drop, M: Drop>(
+    alloc: Global,
+    changes: Vec<(VertexId, Option<Record<V, M>>)>,
+) -> Result<Vec<(VertexId, Option<Kept<V, M>>)>, Memory>
+    ensures { IfOk result (λ kept. kept.items ≡ changes.items) }
+{
+    let mut all = Vec::with_capacity(alloc, changes.len())?;
+    for (id, change) in changes {
+        all.push((id, kept_if_any(alloc, change)?))?;
+    }
+    Ok(all)
+}
+
+/// Keeps a record, if there is one.
+fn kept_if_any<V: Drop, M: Drop>(
+    alloc: Global,
+    change: Option<Record<V, M>>,
+) -> Result<Option<Kept<V, M>>, Memory>
+    ensures { IfOk result (λ kept. kept ≡ change) }
+{
+    match change {
+        Some(given) => Ok(Some(Kept::of(alloc, given)?)),
+        None => Ok(None),
+    }
+}
+
+/// The ids of changes, each with whether it has a record then.
+pub(crate) fn changes_noted<V: Drop, M: Drop>(
+    alloc: Global,
+    changes: &[(VertexId, Option<Kept<V, M>>)],
+) -> Result<Vec<(VertexId, bool)>, Memory>
+    ensures { IfOk result (λ noted. noted.items ≡ map (λ c. (c.0, is_some c.1)) changes.now) }
+{
+    let mut noted = Vec::with_capacity(alloc, changes.len())?;
+    for (id, change) in changes {
+        noted.push((*id, change.is_some()))?;
+    }
+    Ok(noted)
+}

@@ -1,0 +1,215 @@
+//! The trace of a partition's run.
+ghost use Rattle.std.specs.Prelude.{◌≡◌, ℕ, [], length, map, take, slice_index_or, ◌<◌, IfOk, OnOk, OnErr};
+ghost use Rattle.std.specs.Option.{option_copied};
+ghost use Rattle.pg_map.specs.Entries.{ChangesRise, HasRisingIds, value_at};
+ghost use Rattle.pg_trace.specs.OfRun.{IsOfRun};
+ghost use Rattle.pg_trace.specs.Trace.{StatesRise, begun, lent, record_at, records_of, state_at, with_superstep, first_supersteps, last_record, with_replaced};
+
+use crate::StateRef;
+use crate::beginnings::Beginnings;
+use crate::kept::Kept;
+use crate::ran::{Ran, last_below, note, steps_of, tell_rising};
+use crate::records::{all_kept, all_noted, changes_kept, changes_noted, forget, listed, shared};
+use pg_graph::{Memory, Superstep, VertexId};
+use pg_map::Map;
+use pg_model::{Record, VertexState};
+use std::alloc::Global;
+use std::marker::Model;
+
+/// What a run leaves of one partition: the states with which it began, and superstep by superstep
+/// the records of the vertices that ran. A contract sees both as lists by rising id.
+///
+/// No other state is kept: that of a vertex as a superstep begins is what its last record before it
+/// left. An index says of each vertex in which supersteps it ran. Copies share their memory.
+#[derive(Drop)]
+pub struct Trace<V, M> {
+    initial: Beginnings<V>,
+    supersteps: Vec<Map<Kept<V, M>>>,
+    ran: Map<Ran>,
+}
+
+impl<V, M> Model for Trace<V, M> {
+    ghost use Rattle.pg_trace.specs.Trace.{Trace};
+
+    ghost Value = { Trace V M };
+
+    ghost use Rattle.pg_trace.specs.Ran.{IsIndex};
+
+    ghost view = { λ t. record { initial = t.initial; records = t.supersteps.items } };
+
+    ghost invariant = { λ t. IsIndex t.supersteps.items t.ran };
+}
+
+impl<V: Drop, M: Drop> Trace<V, M> {
+    /// A trace of no superstep yet, with the states of the vertices by rising id.
+    pub fn new(alloc: Global, initial: Vec<VertexState<V>>) -> Result<Trace<V, M>, Memory>
+        requires { StatesRise initial.items }
+        ensures { IfOk result (λ trace. trace ≡ begun initial.items) }
+    {
+        let initial = Beginnings::of(alloc, initial)?;
+        Ok(Trace {
+            initial,
+            supersteps: Vec::new(alloc),
+            ran: Map::new(),
+        })
+    }
+
+    /// How many supersteps it has.
+    pub fn supersteps(&self) -> usize
+        ensures { result ≡ length self.now.records }
+    {
+        self.supersteps.len()
+    }
+
+    /// The record of a vertex in a superstep, if it ran in it. Costs two binary searches.
+    pub fn record_at(&self, id: VertexId, superstep: Superstep) -> Option<&Record<V, M>>
+        ensures { option_copied result ≡ record_at id superstep self.now }
+    {
+        self.record_in(id, superstep.number() as usize)
+    }
+
+    /// The state of a vertex as a superstep begins: that of its last record before it, else its
+    /// initial one. There is none where it has neither. Costs five binary searches at most.
+    ///
+    /// Where the trace holds a run so far, it is the state in that run.
+    pub fn state_at(&self, id: VertexId, superstep: Superstep) -> Option<StateRef<'_, V>>
+        ensures value { result ≡ state_at id superstep self.now }
+        ensures run { IsOfRun self.now id superstep result }
+    {
+        self.state_before(id, superstep.number() as usize)
+    }
+
+    /// The same trace, in the same memory. Costs one count a superstep.
+    pub fn share(&self, alloc: Global) -> Result<Trace<V, M>, Memory>
+        ensures { IfOk result (λ trace. trace ≡ self.now) }
+    {
+        let initial = self.initial.share()?;
+        let supersteps = shared(alloc, self.supersteps.as_slice())?;
+        let ran = self.ran.share()?;
+        Ok(Trace {
+            initial,
+            supersteps,
+            ran,
+        })
+    }
+
+    /// The records of a superstep, by rising id; none where it hasn't that superstep. Costs O(1) a
+    /// record.
+    pub fn records(
+        &self,
+        alloc: Global,
+        superstep: Superstep,
+    ) -> Result<Vec<(VertexId, &Record<V, M>)>, Memory>
+        ensures records { IfOk result (λ found. lent found.items ≡ records_of superstep self.now) }
+        ensures rising { HasRisingIds (records_of superstep self.now) }
+    {
+        match self.supersteps.get(superstep.number() as usize) {
+            Some(records) => listed(alloc, records),
+            None => Ok(Vec::new(alloc)),
+        }
+    }
+
+    /// Adds a superstep with the records of the vertices that ran in it, by rising id. Nothing
+    /// changes where memory is refused.
+    ///
+    /// For k records it costs k look-ups, a copy of the numbers of the supersteps in which these
+    /// vertices ran, and a change of the index: of the chunks with these vertices.
+    pub fn push_superstep(
+        &mut self,
+        alloc: Global,
+        records: Vec<(VertexId, Record<V, M>)>,
+    ) -> Result<(), Memory>
+        requires { HasRisingIds records.items }
+        ensures ok { OnOk result (self.new ≡ with_superstep records.items self.old) }
+        ensures err { OnErr result (self.new ≡ self.old) }
+    {
+        let records = Map::from_rising(alloc, all_kept(alloc, records)?)?;
+        let runs = all_noted(alloc, &records, true)?;
+        let mut ran = self.ran.share()?;
+        note(alloc, &mut ran, self.supersteps(), runs.as_slice())?;
+        self.supersteps.push(records)?;
+        self.ran = ran;
+        Ok(())
+    }
+
+    /// Keeps the first supersteps, so many, or all where there are fewer. Nothing changes where
+    /// memory is refused. For each superstep that goes it costs what pushing it did.
+    pub fn cut(&mut self, alloc: Global, supersteps: Superstep) -> Result<(), Memory>
+        ensures ok { OnOk result (self.new ≡ first_supersteps supersteps self.old) }
+        ensures err { OnErr result (self.new ≡ self.old) }
+    {
+        let len = supersteps.number() as usize;
+        if len >= self.supersteps() {
+            return Ok(());
+        }
+        let mut ran = self.ran.share()?;
+        forget(alloc, &mut ran, self.supersteps.as_slice(), len)?;
+        self.supersteps.truncate(len);
+        self.ran = ran;
+        Ok(())
+    }
+
+    /// Changes the records of a superstep that it has: each of these vertices, by rising id, has its
+    /// new record there, or none. Nothing changes where memory is refused.
+    ///
+    /// For k changes it costs k look-ups, a copy of the numbers of the supersteps in which these
+    /// vertices ran, and a change of the index and of the superstep: of the chunks with these
+    /// vertices. The others stay unread.
+    pub fn replace(
+        &mut self,
+        alloc: Global,
+        superstep: Superstep,
+        changes: Vec<(VertexId, Option<Record<V, M>>)>,
+    ) -> Result<(), Memory>
+        requires rise { ChangesRise changes.items }
+        requires within { superstep < length self.old.records }
+        ensures ok { OnOk result (self.new ≡ with_replaced superstep changes.items self.old) }
+        ensures err { OnErr result (self.new ≡ self.old) }
+    {
+        let place = superstep.number() as usize;
+        let changes = changes_kept(alloc, changes)?;
+        let runs = changes_noted(alloc, changes.as_slice())?;
+        let mut ran = self.ran.share()?;
+        note(alloc, &mut ran, place, runs.as_slice())?;
+        let supersteps = self.supersteps.as_slice();
+        let mut records = supersteps[place].share()?;
+        tell_rising(&records);
+        records.change(alloc, changes.as_slice())?;
+        self.supersteps[place] = records;
+        self.ran = ran;
+        Ok(())
+    }
+
+    /// The record of a vertex in a superstep, if it ran in it.
+    fn record_in(&self, id: VertexId, place: usize) -> Option<&Record<V, M>>
+        ensures { option_copied result ≡ value_at id (slice_index_or self.now.records place []) }
+    {
+        let records = self.supersteps.get(place)?;
+        let kept = records.get(id)?;
+        Some(kept.record())
+    }
+
+    /// The state of a vertex as a superstep begins.
+    fn state_before(&self, id: VertexId, place: usize) -> Option<StateRef<'_, V>>
+        ensures { result ≡ state_at id place self.now }
+    {
+        match self.last_record(id, place) {
+            Some(left) => Some(StateRef::of_record(id, left)),
+            None => {
+                let state = self.initial.get(id)?;
+                Some(StateRef::of_state(state))
+            }
+        }
+    }
+
+    /// The last record of a vertex before a superstep.
+    fn last_record(&self, id: VertexId, place: usize) -> Option<&Record<V, M>>
+        ensures { option_copied result ≡ last_record id (take place self.now.records) }
+    {
+        let steps = steps_of(&self.ran, id);
+        match last_below(steps, place) {
+            Some(last) => self.record_in(id, last),
+            None => None,
+        }
+    }
+}
