@@ -203,6 +203,10 @@ fn copied(alloc: Global, plain: &[Row]) -> Result<Vec<Row>, Memory> {
     Ok(copy)
 }
 
+fn numbered(place: usize) -> Result<u32, Fail> {
+    Ok(u32::try_from(place).ok().ok_or("a place above 2^32 - 1")?)
+}
+
 // A trace has this of each id in a superstep, and as it begins what the plain list has.
 fn agree_in(
     rt: &impl Abort,
@@ -211,10 +215,11 @@ fn agree_in(
     place: usize,
     row: Row,
 ) -> Result<(), Fail> {
+    let superstep = numbered(place)?;
     for number in 0..8u64 {
-        let given = given_at(trace, number, place as u32)?;
+        let given = given_at(trace, number, superstep)?;
         assert_eq!(rt; given, row[number as usize]);
-        let value = value_at(trace, number, place as u32)?;
+        let value = value_at(trace, number, superstep)?;
         assert_eq!(rt; value, value_in(plain, number as usize, place));
     }
     Ok(())
@@ -224,7 +229,7 @@ fn agree_in(
 fn agree(rt: &impl Abort, alloc: Global, trace: &Numbers, plain: &[Row]) -> Result<(), Fail> {
     assert_eq!(rt; trace.supersteps(), plain.len());
     for (place, row) in plain.iter().enumerate() {
-        assert!(rt; row_of(alloc, trace, place as u32)? == *row);
+        assert!(rt; row_of(alloc, trace, numbered(place)?)? == *row);
         agree_in(rt, trace, plain, place, *row)?;
     }
     agree_in(rt, trace, plain, plain.len(), [None; 8])
