@@ -64,6 +64,7 @@ impl<M: Plain> Parcel<M> {
         } else {
             None
         };
+        let letters = trimmed(letters);
         let shared = Arc::new(alloc, Contents { letters, folded })?;
         Ok(Parcel { shared })
     }
@@ -75,6 +76,15 @@ impl<M: Plain> Parcel<M> {
     {
         &self.shared
     }
+}
+
+/// A list in no more memory than it needs.
+fn trimmed<X>(list: Sequence<X>) -> Sequence<X>
+    ensures { result ≡ list }
+{
+    let mut items = list.into_vec();
+    items.shrink_to_fit();
+    Sequence::from_vec(items)
 }
 
 /// What messages come to under a combiner.
