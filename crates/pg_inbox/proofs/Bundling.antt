@@ -117,7 +117,8 @@ module _ {M : Type 0} where
 
   -- the contents of groups are the bundle
   pub bundle_from_groups : (combining : Option (Combining M)) (sent : Sends M) (items : List (ℕ × (ℕ × M))) (groups : List (ℕ × List (ℕ × M))) (parcels : Parcels M)
-      → items ≡ map as_item sent → AreGroups items groups → parcels ≡ map (λ g. (g.0, contents_of combining g.1)) groups → (parcels ≡ bundle_of combining sent) × HasRisingIds parcels
+      → items ≡ map as_item sent → AreGroups items groups → parcels ≡ map (λ g. (g.0, contents_of combining g.1)) groups
+      → (parcels ≡ bundle_of combining sent) × HasRisingIds parcels
   bundle_from_groups combining sent items groups parcels are grouped made =
       let rise : HasRisingIds parcels = subst HasRisingIds (sym made) (rises-values (contents_of combining) groups grouped.rise) in (
         is_bundle_of combining parcels sent rise (λ q. ap (value_at q) made

@@ -308,7 +308,8 @@ module _ {X : Type 0} (id : ℕ) where
   items_of_all [] rise = refl
   items_of_all (l ∷ lists) rise = items-append l (flat_map (λ l. l) lists) ∙ ap₂ ◌++◌ (item_once l rise.0) (items_of_all lists rise.1)
 
-  any_of_all : (lists : List (List (ℕ × X))) → is_some (any_of (flat_map (λ l. option_to_list (value_at id l)) lists)) ≡ list_any (λ l. is_some (value_at id l)) lists
+  any_of_all : (lists : List (List (ℕ × X)))
+      → is_some (any_of (flat_map (λ l. option_to_list (value_at id l)) lists)) ≡ list_any (λ l. is_some (value_at id l)) lists
   any_of_all [] = refl
   any_of_all (l ∷ lists) = by (value_at id l) (any_of_all lists)
     where
