@@ -35,7 +35,8 @@ module _ {X : Type 0} where
   value_in-set zero zero (x ∷ xs) v h = refl
   value_in-set zero (suc other) (x ∷ xs) v h = sym (ap (λ b. cond b v (value_in other xs)) (zero_suc other))
   value_in-set (suc place) zero (x ∷ xs) v h = sym (ap (λ b. cond b v x) (suc_zero place))
-  value_in-set (suc place) (suc other) (x ∷ xs) v h = value_in-set place other xs v (omega arith) ∙ sym (ap (λ b. cond b v (value_in other xs)) (sucs place other))
+  value_in-set (suc place) (suc other) (x ∷ xs) v h =
+      value_in-set place other xs v (omega arith) ∙ sym (ap (λ b. cond b v (value_in other xs)) (sucs place other))
 
   -- to take away what isn't there changes nothing
   pub value_in-none : (place other : ℕ) (xs : List (Option X)) → length xs ≤ place

@@ -104,7 +104,8 @@ module _ {M : Type 0} where
     pub is_bundle_of : (parcels : Parcels M) (sent : Sends M) → HasRisingIds parcels
         → ((q : ℕ) → value_at q parcels ≡ option_map (contents_of combining) (any_of (letters_to q sent)))
         → parcels ≡ bundle_of combining sent
-    is_bundle_of parcels sent rise told = same_entries parcels (bundle_of combining sent) rise (rises-bundle_of sent) (λ q. told q ∙ sym (value_at-bundle_of q sent))
+    is_bundle_of parcels sent rise told =
+        same_entries parcels (bundle_of combining sent) rise (rises-bundle_of sent) (λ q. told q ∙ sym (value_at-bundle_of q sent))
 
   pub items-letters : (q : ℕ) (sent : Sends M) → items_to q (map as_item sent) ≡ letters_to q sent
   items-letters q [] = refl

@@ -123,12 +123,14 @@ module _ {M : Type 0} (id : ℕ) where
 
   pub letters_at-bundle_of : (combining : Option (Combining M)) (sent : Sends M) → letters_at id (bundle_of combining sent) ≡ letters_to id sent
   letters_at-bundle_of combining sent =
-      ap (λ (o : Option (Contents M)). elim o [ None ↦ [] | Some contents ↦ contents.letters ]) (value_at-bundle_of combining id sent) ∙ any_letters combining (letters_to id sent)
+      ap (λ (o : Option (Contents M)). elim o [ None ↦ [] | Some contents ↦ contents.letters ]) (value_at-bundle_of combining id sent)
+      ∙ any_letters combining (letters_to id sent)
 
   letters_in_bundles : (combining : Option (Combining M)) (bundles : List (Parcels M)) (lists : List (Sends M))
       → bundles ≡ map (bundle_of combining) lists → flat_map (letters_at id) bundles ≡ flat_map (letters_to id) lists
   letters_in_bundles combining bundles lists are =
-      ap (flat_map (letters_at id)) are ∙ (flat_map-of_map (letters_at id) (bundle_of combining) lists ∙ same_flat_map (λ l. letters_at id (bundle_of combining l)) (letters_to id) (letters_at-bundle_of combining) lists)
+      ap (flat_map (letters_at id)) are ∙ (flat_map-of_map (letters_at id) (bundle_of combining) lists
+      ∙ same_flat_map (λ l. letters_at id (bundle_of combining l)) (letters_to id) (letters_at-bundle_of combining) lists)
 
   -- the messages of all bundles by sender, where they aren't combined
   delivers_in_order : (bundles : List (Parcels M)) (sorted : List (ℕ × M)) → IsUp (λ x. x.0) sorted
@@ -248,7 +250,8 @@ module _ {M : Type 0} (id : ℕ) where
   letters_of_all : (bundles : List (Parcels M)) → flat_map (λ c. c.letters) (contents_to id bundles) ≡ flat_map (letters_at id) bundles
   letters_of_all [] = refl
   letters_of_all (b ∷ bundles) =
-      flat_map-append (λ (c : Contents M). c.letters) (option_to_list (value_at id b)) (contents_to id bundles) ∙ ap₂ ◌++◌ (by (value_at id b)) (letters_of_all bundles)
+      flat_map-append (λ (c : Contents M). c.letters) (option_to_list (value_at id b)) (contents_to id bundles)
+      ∙ ap₂ ◌++◌ (by (value_at id b)) (letters_of_all bundles)
     where
       by : (o : Option (Contents M)) → flat_map (λ c. c.letters) (option_to_list o) ≡ elim o [ None ↦ [] | Some contents ↦ contents.letters ]
       by None = refl
@@ -257,7 +260,8 @@ module _ {M : Type 0} (id : ℕ) where
   folded_of_all : (bundles : List (Parcels M)) → flat_map (λ c. option_to_list c.folded) (contents_to id bundles) ≡ flat_map (folded_at id) bundles
   folded_of_all [] = refl
   folded_of_all (b ∷ bundles) =
-      flat_map-append (λ (c : Contents M). option_to_list c.folded) (option_to_list (value_at id b)) (contents_to id bundles) ∙ ap₂ ◌++◌ (by (value_at id b)) (folded_of_all bundles)
+      flat_map-append (λ (c : Contents M). option_to_list c.folded) (option_to_list (value_at id b)) (contents_to id bundles)
+      ∙ ap₂ ◌++◌ (by (value_at id b)) (folded_of_all bundles)
     where
       by : (o : Option (Contents M)) → flat_map (λ c. option_to_list c.folded) (option_to_list o) ≡ elim o [ None ↦ [] | Some contents ↦ option_to_list contents.folded ]
       by None = refl
@@ -291,12 +295,14 @@ module _ {M : Type 0} (id : ℕ) where
 module _ {X : Type 0} (id : ℕ) where
   items-append : (a b : List (ℕ × X)) → items_to id (a ++ b) ≡ items_to id a ++ items_to id b
   items-append a b =
-      ap (map (λ (i : ℕ × X). i.1)) (filter-append (λ (i : ℕ × X). i.0 == id) a b) ∙ map-append (λ (i : ℕ × X). i.1) (filter (λ i. i.0 == id) a) (filter (λ i. i.0 == id) b)
+      ap (map (λ (i : ℕ × X). i.1)) (filter-append (λ (i : ℕ × X). i.0 == id) a b)
+      ∙ map-append (λ (i : ℕ × X). i.1) (filter (λ i. i.0 == id) a) (filter (λ i. i.0 == id) b)
 
   -- an id stands at most once among rising ids
   item_once : (es : List (ℕ × X)) → HasRisingIds es → items_to id es ≡ option_to_list (value_at id es)
   item_once [] rise = refl
-  item_once (e ∷ es) rise = by (e.0 == id) refl (item_once es (rises_after e es rise)) ∙ ap (λ b. option_to_list (cond b (Some e.1) (value_at id es))) (sym (at_id id e.0))
+  item_once (e ∷ es) rise =
+      by (e.0 == id) refl (item_once es (rises_after e es rise)) ∙ ap (λ b. option_to_list (cond b (Some e.1) (value_at id es))) (sym (at_id id e.0))
     where
       by : (b : Bool) → (e.0 == id) ≡ b → items_to id es ≡ option_to_list (value_at id es)
           → map (λ i. i.1) (cond b (e ∷ filter (λ i. i.0 == id) es) (filter (λ i. i.0 == id) es)) ≡ option_to_list (cond b (Some e.1) (value_at id es))

@@ -191,7 +191,8 @@ pub targets_in_order : {M : Type 0} (old new : Parcels M) (ids sorted ordered : 
 targets_in_order old new ids sorted ordered are rise same = record {
   rise = rise;
   others = λ id h.
-      let none : (has_id (keys_of old) id || has_id (keys_of new) id) ≡ false = sym (has_id-append (keys_of old) (keys_of new) id) ∙ (sym (ap (λ l. has_id l id) are) ∙ (sym (same id) ∙ h)) in
+      let none : (has_id (keys_of old) id || has_id (keys_of new) id) ≡ false = sym (has_id-append (keys_of old) (keys_of new) id)
+      ∙ (sym (ap (λ l. has_id l id) are) ∙ (sym (same id) ∙ h)) in
       let parts = neither (has_id (keys_of old) id) (has_id (keys_of new) id) none in
       ap (entries_in id) (none_at old id parts.0) ∙ sym (ap (entries_in id) (none_at new id parts.1));
 }

@@ -131,11 +131,15 @@ module _ {X : Type 0} where
             → value_at target (fold with_item (with_item groups i) items) ≡ any_of (l ++ map (λ i. i.1) (cond b (i ∷ filter (λ i. i.0 == target) items) (filter (λ i. i.0 == target) items)))
         by true e told =
             let same : i.0 ≡ target = same_id i.0 target e in
-            let group : group_at i.0 groups ≡ l = ap (λ q. group_at q groups) same ∙ (ap (λ (o : Option (List X)). elim o [ None ↦ [] | Some xs ↦ xs ]) so_far ∙ group_of_any l) in
+            let group : group_at i.0 groups ≡ l = ap (λ q. group_at q groups) same
+            ∙ (ap (λ (o : Option (List X)). elim o [ None ↦ [] | Some xs ↦ xs ]) so_far ∙ group_of_any l) in
             let now : value_at target (with_item groups i) ≡ any_of (l ++ i.1 ∷ []) =
-            ap (λ q. value_at q (with_item groups i)) (sym same) ∙ (change_same i.0 (Some (group_at i.0 groups ++ i.1 ∷ [])) groups rise ∙ (ap (λ g. Some (g ++ i.1 ∷ [])) group ∙ any-push l i.1)) in
+            ap (λ q. value_at q (with_item groups i)) (sym same) ∙ (change_same i.0 (Some (group_at i.0 groups ++ i.1 ∷ [])) groups rise
+            ∙ (ap (λ g. Some (g ++ i.1 ∷ [])) group ∙ any-push l i.1)) in
             told (with_item groups i) (l ++ i.1 ∷ []) rise' now ∙ ap any_of (append_assoc l (i.1 ∷ []) (items_to target items))
-        by false e told = told (with_item groups i) l rise' (change_other i.0 (Some (group_at i.0 groups ++ i.1 ∷ [])) groups target (other_id i.0 target e) ∙ so_far)
+        by false e told =
+            told (with_item groups i) l rise' (change_other i.0 (Some (group_at i.0 groups ++ i.1 ∷ [])) groups target (other_id i.0 target e)
+            ∙ so_far)
 
     -- a target has those of the items that go to it
     pub told-items : (items : List (ℕ × X)) → value_at target (with_items items) ≡ any_of (items_to target items)

@@ -34,7 +34,8 @@ module _ {X : Type 0} where
   pub sorted_in_order : (items sorted : List (ℕ × X)) → IsNonDecreasingBy (λ x. x.0) sorted → IsStableByKey (λ x. x.0) nat_cmp items sorted
       → sorted ≡ in_order items
   sorted_in_order items sorted rise stable =
-      same_by_number sorted (in_order items) (up_from (λ x. x.0) sorted rise) (in_order-up items) (λ q. stays items sorted stable q ∙ sym (in_order-from q items))
+      same_by_number sorted (in_order items) (up_from (λ x. x.0) sorted rise) (in_order-up items) (λ q. stays items sorted stable q
+      ∙ sym (in_order-from q items))
 
 -- what holds of each item holds of each of the sorted ones
 pub values_sorted : {X : Type 0} (P : X → Type 0) (items sorted : List X) → IsPermutation items sorted → AllByRecursion P items → AllByRecursion P sorted
@@ -163,7 +164,8 @@ module _ {M : Type 0} (q : ℕ) where
         let mends : List (Mend M) = items_to q (mends_of withdrawn added) in
         let all : List (ℕ × M) = filter (λ l. not (has_id (senders_of mends) l.0)) (letters_to q before) ++ additions mends in
         let parts : all ≡ flat_map (letters_to q) (staying withdrawn before ∷ added ∷ []) =
-        ap₂ ◌++◌ (ap (λ (p : ℕ × M → Bool). filter p (letters_to q before)) (λ i l. not (withdrawn_here withdrawn added l.0 i)) ∙ sym (letters-staying withdrawn before))
+        ap₂ ◌++◌ (ap (λ (p : ℕ × M → Bool). filter p (letters_to q before)) (λ i l. not (withdrawn_here withdrawn added l.0 i))
+        ∙ sym (letters-staying withdrawn before))
         (added_here withdrawn added ∙ sym (append-nil (letters_to q added))) in
         same_by_number (in_order all) (letters_to q after) (in_order-up all) (up_letters q after replaced.rise)
         (λ s. in_order-from s all ∙ (ap (from s) parts ∙ sym (same_letters q (staying withdrawn before ∷ added ∷ []) after replaced s)))
@@ -187,7 +189,8 @@ module _ {M : Type 0} (combining : Option (Combining M)) (withdrawn : List (ℕ 
         subst (λ b. b ≡ bundle_of combining after) (sym are)
         (is_bundle_of combining (with_changes (changes_of combining old groups) old) after (rises-changes (changes_of combining old groups) old rises)
         (λ q. value_at-with_changes (changes_of combining old groups) old q (changes_rise combining old groups grouped.rise) rises
-        ∙ (ap (λ o. unwrap_or o (value_at q old)) (value_at-made (mended_at combining old) q groups ∙ ap (option_map (λ ms. mended_at combining old (q, ms))) (grouped.told q))
+        ∙ (ap (λ o. unwrap_or o (value_at q old)) (value_at-made (mended_at combining old) q groups
+        ∙ ap (option_map (λ ms. mended_at combining old (q, ms))) (grouped.told q))
         ∙ by q (items_to q (mends_of withdrawn added)) refl)))
       where
         rises : HasRisingIds old
@@ -201,7 +204,8 @@ module _ {M : Type 0} (combining : Option (Combining M)) (withdrawn : List (ℕ 
         by q [] e =
             ap (value_at q) is
             ∙ (value_at-bundle_of combining q before
-            ∙ ap contents (sym (mended_none (letters_to q before) (up_letters q before rise)) ∙ (ap (λ ms. mended ms (letters_to q before)) (sym e) ∙ mended_here q withdrawn added before after replaced)))
+            ∙ ap contents (sym (mended_none (letters_to q before) (up_letters q before rise))
+            ∙ (ap (λ ms. mended ms (letters_to q before)) (sym e) ∙ mended_here q withdrawn added before after replaced)))
         by q (m ∷ mends) e =
             ap (λ l. contents (mended (m ∷ mends) l)) (ap (letters_at q) is ∙ letters_at-bundle_of q combining before)
             ∙ ap contents (ap (λ ms. mended ms (letters_to q before)) (sym e) ∙ mended_here q withdrawn added before after replaced)

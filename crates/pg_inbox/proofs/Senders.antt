@@ -93,9 +93,11 @@ module _ {X : Type 0} where
       elim (cases_order x.0 y.0) [
         | inl e ↦ e
         | inr (inl less) ↦ absurd (cons_not_nil x (from x.0 xs) (sym (first_of x xs) ∙ (same x.0 ∙ none_from x.0 (y ∷ ys) (less, higher x.0 y.0 ys less k.0))))
-        | inr (inr more) ↦ absurd (cons_not_nil y (from y.0 ys) (sym (first_of y ys) ∙ (sym (same y.0) ∙ none_from y.0 (x ∷ xs) (more, higher y.0 x.0 xs more h.0))))
+        | inr (inr more) ↦ absurd (cons_not_nil y (from y.0 ys) (sym (first_of y ys) ∙ (sym (same y.0)
+            ∙ none_from y.0 (x ∷ xs) (more, higher y.0 x.0 xs more h.0))))
       ] in
-      let both : x ∷ from x.0 xs ≡ y ∷ from x.0 ys = sym (first_of x xs) ∙ (same x.0 ∙ (ap (λ q. from q (y ∷ ys)) at ∙ (first_of y ys ∙ ap (λ q. y ∷ from q ys) (sym at)))) in
+      let both : x ∷ from x.0 xs ≡ y ∷ from x.0 ys = sym (first_of x xs) ∙ (same x.0 ∙ (ap (λ q. from q (y ∷ ys)) at ∙ (first_of y ys
+      ∙ ap (λ q. y ∷ from q ys) (sym at)))) in
       let head : x ≡ y = heads_same x y (from x.0 xs) (from x.0 ys) both in
       let tail : from x.0 xs ≡ from x.0 ys = tails_same x y (from x.0 xs) (from x.0 ys) both in
       ap₂ ◌∷◌ head (same_by_number xs ys h.1 k.1 (λ q. later at tail q (x.0 == q) refl))

@@ -13,7 +13,8 @@ returns-clause-items g c =
     (IsNonDecreasingBy-from_sort (λ x. x.0) sorted (c.in_ok-sort_by_key.ensures.sorted (λ x. x.0) (always_returns_same _ _ _ (λ a r f k. search (rules, of_calls)))))
     (c.in_ok-sort_by_key.ensures.stable (λ x. x.0) (always_returns_same _ _ _ (λ a r f k. search (rules, of_calls))))
     ∙ ap in_order (c.in_ok-add_letters.ensures.items
-    ∙ ap (λ l. l ++ additions c.args.mends.now) (c.in_ok-after.ensures.items ∙ ap (λ p. filter p c.args.letters.now) (λ i l. not (c.in_ok-withdrawn.ensures l.0 i))))
+    ∙ ap (λ l. l ++ additions c.args.mends.now) (c.in_ok-after.ensures.items
+    ∙ ap (λ p. filter p c.args.letters.now) (λ i l. not (c.in_ok-withdrawn.ensures l.0 i))))
 
 pub returns-clause-values : goal.returns-clause-values
 returns-clause-values g c =
