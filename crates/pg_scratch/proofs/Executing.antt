@@ -27,7 +27,8 @@ module _ {V M : Type 0} (program : Program V M) (view : View) (x : Standing V M)
     ran-executed state left is_state is_left =
         let P : VertexState V → Standing V M = λ s. record { state = s; inbox = [] } in
         let Q : List M → Standing V M = λ l. record { state = state; inbox = l } in
-        ap Q is_left ∙ ap P (is_state ∙ executes.vertex_is ∙ ap (λ (v : VertexState V). state_after v (step_on program vertex inbox cx)) begins ∙ ap (λ (r : Record V M). state_after x.state r) step_is)
+        ap Q is_left ∙ ap P (is_state ∙ executes.vertex_is ∙ ap (λ (v : VertexState V). state_after v (step_on program vertex inbox cx)) begins
+        ∙ ap (λ (r : Record V M). state_after x.state r) step_is)
 
     pub context-executed : cx' ≡ record { view = cx.view; writes = cx.writes; sent = cx.sent ++ (outcome program view x).sent; contributed = cx.contributed ++ (outcome program view x).contributed; calls = capped (cx.calls + 1) }
     context-executed =

@@ -51,7 +51,9 @@ module _ {V M : Type 0} (program : Program V M) (id : ℕ) where
         taken = takes.taken ++ f.0 ∷ [];
         split = takes.split ∙ (ap (λ l. takes.taken ++ l) (f.2 ∙ ap (λ l. f.0 ∷ l) (sym s.0)) ∙ sym (append_assoc takes.taken (f.0 ∷ []) after));
         below = all_below takes.taken f.0 takes.below f.3;
-        added = s.1 ∙ (ap (λ l. l ++ made program f.0 ∷ []) takes.added ∙ (append_assoc xs (map (made program) takes.taken) (made program f.0 ∷ []) ∙ ap (λ l. xs ++ l) (sym (made_push takes.taken f.0))));
+        added =
+            s.1 ∙ (ap (λ l. l ++ made program f.0 ∷ []) takes.added ∙ (append_assoc xs (map (made program) takes.taken) (made program f.0 ∷ [])
+            ∙ ap (λ l. xs ++ l) (sym (made_push takes.taken f.0))));
       }
 
   pub fewer_left : (now after : List (ℕ × List M)) (ys zs : List (Standing V M)) → first_is_below id now ≡ true → ((w : ℕ × List M) (rest : List (ℕ × List M)) → now ≡ w ∷ rest → (after ≡ rest) × (zs ≡ ys ++ made program w ∷ [])) → length after < length now
@@ -166,7 +168,9 @@ module _ {V M : Type 0} (program : Program V M) where
   edges-placed w (x ∷ xs) = by (ltb w.0 x.state.id) (edges-placed w xs)
     where
       by : (b : Bool) → edges_of (placed (made program w) xs) ≡ edges_of xs → edges_of (cond b (made program w ∷ x ∷ xs) (x ∷ placed (made program w) xs)) ≡ edges_of (x ∷ xs)
-      by true rest = sum_by-cons (λ (z : Standing V M). length z.state.edges) (made program w) (x ∷ xs) ∙ (let e : 0 + edges_of (x ∷ xs) ≡ edges_of (x ∷ xs) = omega arith in e)
+      by true rest =
+          sum_by-cons (λ (z : Standing V M). length z.state.edges) (made program w) (x ∷ xs)
+          ∙ (let e : 0 + edges_of (x ∷ xs) ≡ edges_of (x ∷ xs) = omega arith in e)
       by false rest =
           sum_by-cons (λ (z : Standing V M). length z.state.edges) x (placed (made program w) xs)
           ∙ (ap (λ n. length x.state.edges + n) rest ∙ sym (sum_by-cons (λ (z : Standing V M). length z.state.edges) x xs))

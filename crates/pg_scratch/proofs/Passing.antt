@@ -79,7 +79,8 @@ module _ {V M : Type 0} (program : Program V M) (cx : Context M) where
       let c1 = cx.contributed ++ contributions program cx.view (xs ++ x ∷ []) in
       ap (λ (s : List (ℕ × M)). P s c0 n0) (flat_map_more (λ (y : Standing V M). (outcome program cx.view y).sent) cx.sent xs x)
       ∙ ap (λ (l : List (ℕ × ℤ)). P s1 l n0) (flat_map_more (λ (y : Standing V M). (outcome program cx.view y).contributed) cx.contributed xs x)
-      ∙ ap (λ (n : ℕ). P s1 c1 n) (more_calls cx.calls (count_by is_active xs) (cond (is_active x) 1 0) ∙ ap (λ (n : ℕ). capped (cx.calls + n)) (sym (sum_by_push (λ (y : Standing V M). cond (is_active y) 1 0) xs x)))
+      ∙ ap (λ (n : ℕ). P s1 c1 n) (more_calls cx.calls (count_by is_active xs) (cond (is_active x) 1 0)
+      ∙ ap (λ (n : ℕ). capped (cx.calls + n)) (sym (sum_by_push (λ (y : Standing V M). cond (is_active y) 1 0) xs x)))
 
   pub ran_context-fits : (xs : List (Standing V M)) → (ran_context program cx xs).calls < 2 ^ 64
   unfolding ran_context
@@ -207,8 +208,12 @@ module _ {V M : Type 0} (program : Program V M) (first now : List (Standing V M)
   visited place x after cx' unhalted' edges' passed rising inside is here step context grows exchanges =
       record {
         bound = slice_get_within first place x here;
-        standings = step ∙ ap (λ (l : List (Standing V M)). set l place (ran program cx_first.view x)) passed.standings ∙ sym (changed_below-more (ran program cx_first.view) first place x here);
-        context = context ∙ ap (λ (c : Context M). context_after program c x) passed.context ∙ ran_context-push program cx_first (take place first) x ∙ ap (ran_context program cx_first) (sym (take-next first place x here));
+        standings =
+            step ∙ ap (λ (l : List (Standing V M)). set l place (ran program cx_first.view x)) passed.standings
+            ∙ sym (changed_below-more (ran program cx_first.view) first place x here);
+        context =
+            context ∙ ap (λ (c : Context M). context_after program c x) passed.context ∙ ran_context-push program cx_first (take place first) x
+            ∙ ap (ran_context program cx_first) (sym (take-next first place x here));
         ahead = λ j a b. let l = below_from_sorted work k j 0 rising (omega arith) b in omega arith;
         covers = λ i y at active more.
             let w = passed.covers i y at active (omega arith) in
@@ -221,7 +226,8 @@ module _ {V M : Type 0} (program : Program V M) (first now : List (Standing V M)
             by_bool (ran program cx_first.view x).state.halted
             (λ asleep. let e : false ≡ true = sym t ∙ ap (λ l. has_id l p) (sym (grows ∙ ap (λ b. cond b unhalted (unhalted ++ place ∷ [])) asleep)) ∙ h in cc)
             (λ awake.
-            let new : (place == p) ≡ true = sym (ap (λ b. b || (place == p)) t) ∙ sym (has_id-push unhalted place p) ∙ ap (λ l. has_id l p) (sym (grows ∙ ap (λ b. cond b unhalted (unhalted ++ place ∷ [])) awake)) ∙ h in
+            let new : (place == p) ≡ true = sym (ap (λ b. b || (place == p)) t) ∙ sym (has_id-push unhalted place p)
+            ∙ ap (λ l. has_id l p) (sym (grows ∙ ap (λ b. cond b unhalted (unhalted ++ place ∷ [])) awake)) ∙ h in
             let same : place ≡ p = search (tests, rules) in omega arith));
         lists = λ i y at less awake.
             ⊎_elim
@@ -229,16 +235,19 @@ module _ {V M : Type 0} (program : Program V M) (first now : List (Standing V M)
             let old = passed.lists i y at l awake in
             by_bool (ran program cx_first.view x).state.halted
             (λ asleep. ap (λ l. has_id l i) (grows ∙ ap (λ b. cond b unhalted (unhalted ++ place ∷ [])) asleep) ∙ old)
-            (λ woken. ap (λ l. has_id l i) (grows ∙ ap (λ b. cond b unhalted (unhalted ++ place ∷ [])) woken) ∙ has_id-push unhalted place i ∙ or_left (has_id unhalted i) (place == i) old))
+            (λ woken. ap (λ l. has_id l i) (grows ∙ ap (λ b. cond b unhalted (unhalted ++ place ∷ [])) woken) ∙ has_id-push unhalted place i
+            ∙ or_left (has_id unhalted i) (place == i) old))
             (λ (l : place ≤ i).
             let same : i ≡ place = omega arith in
             let is_x : y ≡ x = same_place first place i x y here at (sym same) in
             let woken : (ran program cx_first.view x).state.halted ≡ false = ap (λ (z : Standing V M). (ran program cx_first.view z).state.halted) (sym is_x) ∙ awake in
             let equal : (place == i) ≡ true = search (tests, rules) in
-            ap (λ l. has_id l i) (grows ∙ ap (λ b. cond b unhalted (unhalted ++ place ∷ [])) woken) ∙ has_id-push unhalted place i ∙ or_true (has_id unhalted i) (place == i) equal)
+            ap (λ l. has_id l i) (grows ∙ ap (λ b. cond b unhalted (unhalted ++ place ∷ [])) woken) ∙ has_id-push unhalted place i
+            ∙ or_true (has_id unhalted i) (place == i) equal)
             (cases_lt i place);
         counts =
-            let at : slice_get now place ≡ Some x = ap (λ (l : List (Standing V M)). slice_get l place) passed.standings ∙ changed_below-at (ran program cx_first.view) first place x here in
+            let at : slice_get now place ≡ Some x = ap (λ (l : List (Standing V M)). slice_get l place) passed.standings
+            ∙ changed_below-at (ran program cx_first.view) first place x here in
             exchanged_at now after place x (ran program cx_first.view x) edges edges' at step exchanges passed.counts;
       }
 
@@ -302,7 +311,8 @@ module _ {V M : Type 0} (program : Program V M) (first : List (Standing V M)) (c
               let f = element first i (omega (arith, same_length)) in
               let x : Standing V M = f.0 in
               let there : Some (ran program cx_first.view x) ≡ Some y =
-              sym (ap (option_map (ran program cx_first.view)) f.1) ∙ sym (slice_get-map (ran program cx_first.view) first i) ∙ ap (λ (l : List (Standing V M)). slice_get l i) (sym passed_standings) ∙ at in
+              sym (ap (option_map (ran program cx_first.view)) f.1) ∙ sym (slice_get-map (ran program cx_first.view) first i)
+              ∙ ap (λ (l : List (Standing V M)). slice_get l i) (sym passed_standings) ∙ at in
               let is_y : ran program cx_first.view x ≡ y = (cc) in
               let awake : (ran program cx_first.view x).state.halted ≡ false = only_halted (ran program cx_first.view x).state.halted (ap is_active is_y ∙ active) in
               whole.lists i x f.1 (slice_get_within first i x f.1) awake;
@@ -358,7 +368,8 @@ module _ {V M : Type 0} (program : Program V M) (first now : List (Standing V M)
         (λ j a b. ⊎_elim (λ (l : k < j). let r = below_from_sorted work k j 0 rising l b in omega arith) (λ (l : j ≤ k). let e : j ≡ k = omega arith in omega (arith, ap (λ (n : ℕ). get_or work n 0) e)) (cases_lt k j)) in
         let f = element first at within in
         let x : Standing V M = f.0 in
-        let here : slice_get now at ≡ Some x = ap (λ (l : List (Standing V M)). slice_get l at) there.standings ∙ changed_below-at (ran program cx_first.view) first at x f.1 in (
+        let here : slice_get now at ≡ Some x = ap (λ (l : List (Standing V M)). slice_get l at) there.standings
+        ∙ changed_below-at (ran program cx_first.view) first at x f.1 in (
           suc at,
           visited program first now cx_first cx work unhalted edges k at x after cx' unhalted' edges' there rising inside refl f.1
               (step x here ∙ ap (λ (v : View). set now at (ran program v x)) same_view)

@@ -113,7 +113,8 @@ module _ {V M : Type 0} (program : Program V M) (combining : Option (Combining M
       let many : length (map (beginning program) rows) ≡ length rows = simp length-map in
       let stands = begins.configuration ∙ first_is rows registrations prepared.registered in
       let vertices = ap (λ (x : Configuration V M). x.standings) begins.configuration in
-      let total : edges_of p.configuration.standings ≡ edge_count rows = ap (λ (xs : List (Standing V M)). edges_of xs) vertices ∙ beginning-edges program rows in
+      let total : edges_of p.configuration.standings ≡ edge_count rows = ap (λ (xs : List (Standing V M)). edges_of xs) vertices
+      ∙ beginning-edges program rows in
       record {
         stands = stands;
         ready = record {

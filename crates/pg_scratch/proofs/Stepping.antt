@@ -61,7 +61,10 @@ shows_declared declared s n v registered places =
           let f = element v.values place (omega arith) in
           record {
             value = f.0;
-            at = slice_get-shown declared.reads 0 v.values place f.0 f.1 ∙ ap (λ (k : ℕ). Some (cond (has_place declared.reads k) (Some f.0) None)) (let e : 0 + place ≡ place = omega arith in e) ∙ ap (λ b. Some (cond b (Some f.0) None)) declares;
+            at =
+                slice_get-shown declared.reads 0 v.values place f.0 f.1
+                ∙ ap (λ (k : ℕ). Some (cond (has_place declared.reads k) (Some f.0) None)) (let e : 0 + place ≡ place = omega arith in e)
+                ∙ ap (λ b. Some (cond b (Some f.0) None)) declares;
           })
           (λ (l : n ≤ place). let k : false ≡ true = sym (none_past declared.reads n place none l) ∙ declares in cc)
           (cases_lt place n);
@@ -72,7 +75,8 @@ shows_declared declared s n v registered places =
 -- what it sees shows that
 pub shown_in : {V M : Type 0} (program : Program V M) (declared : Declared) (s n : ℕ) (v : Visible) (w : View) → has_places program.declared n ≡ true → length v.values ≡ n → declared ≡ program.declared → w ≡ view_of declared s v → ShowsDeclared program.declared w
 shown_in program declared s n v w registered places declares view_is =
-    subst (λ x. ShowsDeclared program.declared x) (sym (view_is ∙ ap (λ (d : Declared). view_of d s v) declares)) (shows_declared program.declared s n v registered places)
+    subst (λ x. ShowsDeclared program.declared x) (sym (view_is
+    ∙ ap (λ (d : Declared). view_of d s v) declares)) (shows_declared program.declared s n v registered places)
 
 -- ---- whether anyone is active
 module _ {V M : Type 0} where

@@ -131,7 +131,11 @@ module _ {V M : Type 0} (job : Job V M) (places s : ℕ) (before after : Progres
         ∙ (say.receives.standings
         ∙ (ap (with_messages job.combining t.played.sent) say.plays.standings
         ∙ (received-ran job.program t.view job.combining t.played.sent t.roster.standings.items
-        ∙ (λ i. map (λ x. record { state = state_after x.state (outcome job.program (view_now i) x); inbox = delivered job.combining x.state.id (sent_now i) }) (say.roster_is i)))))
+        ∙ (λ i. map (λ x. record {
+          state =
+              state_after x.state (outcome job.program (view_now i) x);
+          inbox = delivered job.combining x.state.id (sent_now i);
+        }) (say.roster_is i)))))
 
     gathered_now : after.configuration.gathered ≡ gathered_from 0 job.aggregators (visible job s before.configuration).values (contributions job.program (view_in job s before.configuration) (present job.program before.configuration))
     gathered_now = say.gathered ∙ (say.gathered_is ∙ (λ i. gathered_from 0 job.aggregators (say.shown_is i).values (contributed_now i)))
@@ -156,7 +160,8 @@ module _ {V M : Type 0} (job : Job V M) (places s : ℕ) (before after : Progres
           edges =
               say.edges_are
               ∙ (say.plays.edges
-              ∙ ap capped (sym (edges-received job.combining t.played.sent t.played.roster.standings.items) ∙ (λ i. edges_of (sym (say.standings ∙ say.receives.standings) i))));
+              ∙ ap capped (sym (edges-received job.combining t.played.sent t.played.roster.standings.items) ∙ (λ i. edges_of (sym (say.standings
+              ∙ say.receives.standings) i))));
           gathered =
               ap length (say.gathered ∙ say.gathered_is)
               ∙ (length-gathered_from 0 job.aggregators t.shown.values t.played.contributed shown ∙ many);

@@ -12,7 +12,8 @@ deliver-requires-clause-ids g c =
 
 pub deliver-requires-clause-rising : goal.deliver-requires-clause-rising
 deliver-requires-clause-rising g c =
-    λ _ _. subst (IsStrictlySortedBy nat_cmp) (sym (c.in_ok-ids-2.ensures ∙ (c.in_ok-ids.ensures ∙ ap (targets {M = g.row.M.Denot}) c.as_slice.ensures.value))) (targets-rise c.args.strays.items)
+    λ _ _. subst (IsStrictlySortedBy nat_cmp) (sym (c.in_ok-ids-2.ensures ∙ (c.in_ok-ids.ensures ∙ ap (targets {M =
+    g.row.M.Denot}) c.as_slice.ensures.value))) (targets-rise c.args.strays.items)
 
 pub deliver-requires-clause-empty : goal.deliver-requires-clause-empty
 deliver-requires-clause-empty g c = λ _ _. blank_empty _ c.as_slice-2.result.now c.in_ok-blanks.ensures

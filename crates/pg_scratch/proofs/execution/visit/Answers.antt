@@ -8,8 +8,10 @@ returns-then-not-is_active-clause-standing g c =
 
 pub returns-then-not-is_active-clause-context : goal.returns-then-not-is_active-clause-context
 returns-then-not-is_active-clause-context g c =
-    context_after-idle (g.P.Computation.program c.args.program.now) c.args.cx.now c.args.standing.now c.requires.fits (sym c.is_active.ensures ∙ c.if-not-is_active.true)
+    context_after-idle (g.P.Computation.program c.args.program.now) c.args.cx.now c.args.standing.now c.requires.fits (sym c.is_active.ensures
+    ∙ c.if-not-is_active.true)
 
 pub returns-clause-context : goal.returns-clause-context
 returns-clause-context g c =
-    context_after-active (g.P.Computation.program c.args.program.now) c.args.cx.now c.args.standing.now c.execute.new.cx (sym c.is_active.ensures ∙ c.if-not-is_active.false) c.in_ok-bench.ensures.context
+    context_after-active (g.P.Computation.program c.args.program.now) c.args.cx.now c.args.standing.now c.execute.new.cx (sym c.is_active.ensures
+    ∙ c.if-not-is_active.false) c.in_ok-bench.ensures.context

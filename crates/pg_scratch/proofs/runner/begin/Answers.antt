@@ -6,7 +6,8 @@ use Rattle.pg_scratch.proofs.runner.begin.Goals as goal
 pub loop-place-preserved : goal.loop-place-preserved
 loop-place-preserved g c =
     let e : 0 + c.loop-place.place ≡ c.loop-place.place = omega arith in
-    c.in_ok-push.ensures.items ∙ ap (λ l. l ++ c.loop-place.place ∷ []) c.loop-place.invariant ∙ ap (λ (n : ℕ). range_with_len 0 c.loop-place.place ++ n ∷ []) (sym e) ∙ sym (range-push 0 c.loop-place.place)
+    c.in_ok-push.ensures.items ∙ ap (λ l. l ++ c.loop-place.place ∷ []) c.loop-place.invariant
+    ∙ ap (λ (n : ℕ). range_with_len 0 c.loop-place.place ++ n ∷ []) (sym e) ∙ sym (range-push 0 c.loop-place.place)
 
 pub returns-clause-work : goal.returns-clause-work
 returns-clause-work g c =

@@ -40,7 +40,11 @@ returns g c =
     (record { shown = c.in_ok-visible.visible; view = c.in_ok-view.view; roster = c.in_ok-roster.roster; played = c.in_ok-roster-2.field-0; gathered = c.in_ok-gathered.gathered; received = c.in_ok-roster-3.field-0 })
     (record {
       shown_is = c.in_ok-visible.ensures.value
-          ∙ (λ i. visible_in master.deciding (record { vertices = c.len-vertices.ensures i; edges = c.requires.ready.edges i }) c.args.superstep before.gathered);
+          ∙ (λ i. visible_in master.deciding (record {
+            vertices =
+                c.len-vertices.ensures i;
+            edges = c.requires.ready.edges i;
+          }) c.args.superstep before.gathered);
       shown_places = c.in_ok-visible.ensures.places;
       view_is = c.in_ok-view.ensures ∙ ap (λ (d : Declared). view_of d c.args.superstep c.in_ok-visible.visible) c.declared.ensures;
       roster_is = c.in_ok-roster.ensures.standings
