@@ -19,7 +19,7 @@ pub struct Row {
 }
 
 impl Share for Row {
-    fn share(&self) -> Result<Row, Memory> {
+    fn share(&self, _alloc: Global) -> Result<Row, Memory> {
         self.copy()
     }
 }

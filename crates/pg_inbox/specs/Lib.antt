@@ -1,6 +1,7 @@
 pub mod Bundles
 pub mod Changed
 pub mod Grouping
+pub mod Held
 pub mod Holding
 pub mod Inboxes
 pub mod Logged

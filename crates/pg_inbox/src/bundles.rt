@@ -3,9 +3,7 @@ ghost use Rattle.std.specs.Prelude.{◌≡◌, [], IfOk};
 ghost use Rattle.std.specs.Option.{option_copied};
 ghost use Rattle.pg_map.specs.Entries.{value_at};
 ghost use Rattle.pg_inbox.specs.Holding.{HoldsAt};
-ghost use Rattle.pg_inbox.specs.Inboxes.{letters_at};
 
-use crate::Contents;
 use crate::parcel::Parcel;
 use pg_graph::{Memory, VertexId};
 use pg_map::Map;
@@ -47,23 +45,13 @@ impl<M: Plain> Bundle<M> {
     }
 
     /// The messages to a target. Costs two binary searches.
-    pub(crate) fn contents(&self, target: VertexId) -> Option<&Contents<M>>
+    pub(crate) fn parcel(&self, target: VertexId) -> Option<&Parcel<M>>
         ensures value { option_copied result ≡ value_at target self.now }
         ensures holds { HoldsAt M.is_value (value_at target self.now) }
     {
-        match self.parcels.get(target) {
-            Some(parcel) => Some(parcel.contents()),
-            None => None,
-        }
-    }
-
-    /// The messages to a target, with their senders.
-    pub(crate) fn letters(&self, target: VertexId) -> &[(VertexId, M)]
-        ensures { result.now ≡ letters_at target self.now }
-    {
-        match self.contents(target) {
-            Some(contents) => contents.letters.as_slice(),
-            None => &[],
-        }
+        let parcel = self.parcels.get(target)?;
+        // Tells the prover that there is a message in it.
+        parcel.len();
+        Some(parcel)
     }
 }

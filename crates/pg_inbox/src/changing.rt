@@ -7,7 +7,8 @@ ghost use Rattle.pg_inbox.specs.Bundles.{entries_in, entries_of, parcels_in};
 ghost use Rattle.pg_inbox.specs.Changed.{AreCandidates, AreChanged, IsAdded};
 ghost use Rattle.pg_inbox.specs.Holding.{Holds, HoldsAt};
 
-use crate::{Bundle, Contents};
+use crate::Bundle;
+use crate::parcel::Parcel;
 use pg_graph::{Memory, VertexId};
 use pg_program::Plain;
 use std::alloc::Global;
@@ -99,14 +100,14 @@ fn add_if_changed<M: Plain>(
 ) -> Result<(), Memory>
     ensures { OnOk result (IsAdded old.now new.now id ids.old.items ids.new.items) }
 {
-    if !is_same(old.contents(id), new.contents(id)) {
+    if !is_same(old.parcel(id), new.parcel(id)) {
         ids.push(id)?;
     }
     Ok(())
 }
 
 /// Whether others see the same of the messages to a target.
-fn is_same<M: Plain>(old: Option<&Contents<M>>, new: Option<&Contents<M>>) -> bool
+fn is_same<M: Plain>(old: Option<&Parcel<M>>, new: Option<&Parcel<M>>) -> bool
     requires old { HoldsAt M.is_value (option_copied old) }
     requires new { HoldsAt M.is_value (option_copied new) }
     ensures { (target : ℕ) → IsTrue result ↔ (entries_in target (option_copied old.entry) ≡ entries_in target (option_copied new.entry)) }
@@ -121,37 +122,32 @@ fn is_same<M: Plain>(old: Option<&Contents<M>>, new: Option<&Contents<M>>) -> bo
 }
 
 /// The same of messages that are there.
-fn is_same_contents<M: Plain>(old: &Contents<M>, new: &Contents<M>) -> bool
+fn is_same_contents<M: Plain>(old: &Parcel<M>, new: &Parcel<M>) -> bool
     requires old { Holds M.is_value old.now }
     requires new { Holds M.is_value new.now }
     ensures { (target : ℕ) → IsTrue result ↔ (entries_of target old.now ≡ entries_of target new.now) }
 {
-    match &old.folded {
-        Some(before) => match &new.folded {
-            Some(after) => {
-                if old.letters.len() != new.letters.len() {
-                    return false;
-                }
-                is_same_message(before, after)
-            }
+    match old.folded() {
+        Some(before) => match new.folded() {
+            Some(after) => old.len() == new.len() && is_same_message(before, after),
             None => false,
         },
-        None => match &new.folded {
+        None => match new.folded() {
             Some(_) => false,
-            None => are_same_letters(old.letters.as_slice(), new.letters.as_slice()),
+            None => are_same_letters(old, new),
         },
     }
 }
 
 /// Whether messages are the same, with the same senders in the same order.
-fn are_same_letters<M: Plain>(old: &[(VertexId, M)], new: &[(VertexId, M)]) -> bool
-    ensures { IsTrue result ↔ (old.now ≡ new.now) }
+fn are_same_letters<M: Plain>(old: &Parcel<M>, new: &Parcel<M>) -> bool
+    ensures { IsTrue result ↔ (old.now.letters ≡ new.now.letters) }
 {
     if old.len() != new.len() {
         return false;
     }
     for place in 0..old.len() {
-        if !is_same_letter(&old[place], &new[place]) {
+        if !is_same_letter(old.letter(place), new.letter(place)) {
             return false;
         }
     }

@@ -1,9 +1,9 @@
 //! The messages to one target.
-ghost use Rattle.std.specs.Prelude.{◌≡◌, [], ◌∷◌, ◌++◌, false, length, map, take, IfOk, IfSome, IsSome, OnOk};
-ghost use Rattle.std.specs.List.{All, fold};
-ghost use Rattle.std.specs.Arc.{arc_value};
-ghost use Rattle.pg_model.specs.Superstep.{is_empty};
+ghost use Rattle.std.specs.Prelude.{◌≡◌, [], ◌∷◌, ◌<◌, length, get_or, IfOk, IfSome, IsSome};
+ghost use Rattle.std.specs.List.{AllByRecursion, fold};
+ghost use Rattle.std.specs.Option.{option_copied};
 ghost use Rattle.pg_inbox.specs.Bundles.{messages, folded, contents_of};
+ghost use Rattle.pg_inbox.specs.Held.{contents_in};
 
 use pg_global::MessageCombiner;
 use pg_graph::{Memory, VertexId};
@@ -21,29 +21,67 @@ pub struct Contents<M> {
     pub folded: Option<M>,
 }
 
+/// Two messages, and where they are combined what they come to. They need no list beside this.
+#[derive(Drop)]
+pub(crate) struct Pair<M> {
+    pub(crate) first: (VertexId, M),
+    pub(crate) second: (VertexId, M),
+    pub(crate) folded: Option<M>,
+}
+
+impl<M> Pair<M> {
+    ghost use Rattle.pg_inbox.specs.Held.{contents_of_pair};
+
+    /// The first, or else the second.
+    fn letter(&self, place: usize) -> &(VertexId, M)
+        ensures { result.now ≡ get_or (contents_of_pair self.now).letters place result.now }
+    {
+        if place == 0 {
+            &self.first
+        } else {
+            &self.second
+        }
+    }
+}
+
+/// Contents as they lie in memory. Most targets have few messages: a single one takes no memory of its own.
+#[derive(Drop)]
+pub(crate) enum Held<M> {
+    /// A message that isn't combined.
+    Alone((VertexId, M)),
+    /// A message that is what it comes to, since the initial message is neutral.
+    Combined((VertexId, M)),
+    Two(Arc<Pair<M>>),
+    Many(Arc<Contents<M>>),
+}
+
 /// The contents of one target's messages, at least one, which copies share.
 #[derive(Drop)]
 pub(crate) struct Parcel<M: Plain> {
-    shared: Arc<Contents<M>>,
+    held: Held<M>,
 }
 
 impl<M: Plain> Model for Parcel<M> {
     ghost use Rattle.pg_inbox.specs.declared.parcel.Contents.{Contents};
+    ghost use Rattle.pg_inbox.specs.Held.{contents_in};
     ghost use Rattle.pg_inbox.specs.Holding.{Holds};
-    ghost use Rattle.std.specs.Arc.{arc_value};
 
     ghost Value = { Contents M };
 
-    ghost view = { λ p. arc_value p.shared };
+    ghost view = { λ p. contents_in p.held };
 
-    ghost invariant = { λ p. Holds M.is_value (arc_value p.shared) };
+    ghost invariant = { λ p. Holds M.is_value (contents_in p.held) };
 }
 
 impl<M: Plain> Share for Parcel<M> {
-    fn share(&self) -> Result<Parcel<M>, Memory> {
-        Ok(Parcel {
-            shared: Arc::try_clone(&self.shared)?,
-        })
+    fn share(&self, alloc: Global) -> Result<Parcel<M>, Memory> {
+        let held = match &self.held {
+            Held::Alone(letter) => Held::Alone((letter.0, letter.1.copy(alloc)?)),
+            Held::Combined(letter) => Held::Combined((letter.0, letter.1.copy(alloc)?)),
+            Held::Two(pair) => Held::Two(Arc::try_clone(pair)?),
+            Held::Many(contents) => Held::Many(Arc::try_clone(contents)?),
+        };
+        Ok(Parcel { held })
     }
 }
 
@@ -59,32 +97,148 @@ impl<M: Plain> Parcel<M> {
         requires { IsLetters M.is_value letters }
         ensures { IfOk result (λ parcel. parcel ≡ contents_of (C.combining combiner.now) letters) }
     {
-        let folded = if combiner.combines() {
-            Some(fold_of(alloc, letters.as_slice(), combiner)?)
-        } else {
-            None
-        };
-        let letters = trimmed(letters);
-        let shared = Arc::new(alloc, Contents { letters, folded })?;
-        Ok(Parcel { shared })
+        let held = packed(alloc, letters.into_vec(), combiner)?;
+        Ok(Parcel { held })
     }
 
-    /// What it holds.
-    pub(crate) fn contents(&self) -> &Contents<M>
-        ensures value { result.now ≡ self.now }
+    /// How many messages there are.
+    pub(crate) fn len(&self) -> usize
+        ensures value { result ≡ length self.now.letters }
         ensures holds { Holds M.is_value self.now }
     {
-        &self.shared
+        match &self.held {
+            Held::Alone(_) => 1,
+            Held::Combined(_) => 1,
+            Held::Two(_) => 2,
+            Held::Many(contents) => contents.letters.len(),
+        }
+    }
+
+    /// One of the messages, with its sender.
+    pub(crate) fn letter(&self, place: usize) -> &(VertexId, M)
+        requires { place < length self.now.letters }
+        ensures { result.now ≡ get_or self.now.letters place result.now }
+    {
+        match &self.held {
+            Held::Alone(letter) => letter,
+            Held::Combined(letter) => letter,
+            Held::Two(pair) => pair.letter(place),
+            Held::Many(contents) => &contents.letters.as_slice()[place],
+        }
+    }
+
+    /// What the messages come to, where they are combined.
+    pub(crate) fn folded(&self) -> Option<&M>
+        ensures { option_copied result ≡ self.now.folded }
+    {
+        match &self.held {
+            Held::Alone(_) => None,
+            Held::Combined(letter) => Some(&letter.1),
+            Held::Two(pair) => pair.folded.as_ref(),
+            Held::Many(contents) => contents.folded.as_ref(),
+        }
     }
 }
 
-/// A list in no more memory than it needs.
-fn trimmed<X>(list: Sequence<X>) -> Sequence<X>
-    ensures { result ≡ list }
+/// Messages in as little memory as they need.
+fn packed<M: Plain, C: MessageCombiner<M>>(
+    alloc: Global,
+    letters: Vec<(VertexId, M)>,
+    combiner: &C,
+) -> Result<Held<M>, Memory>
+    requires { AllByRecursion (λ l. M.is_value l.1) letters.items }
+    ensures { IfOk result (λ held. contents_in held ≡ contents_of (C.combining combiner.now) letters.items) }
 {
-    let mut items = list.into_vec();
-    items.shrink_to_fit();
-    Sequence::from_vec(items)
+    let mut letters = letters;
+    if letters.len() > 2 {
+        return packed_many(alloc, letters, combiner);
+    }
+    let Some(last) = letters.pop() else {
+        return packed_many(alloc, letters, combiner);
+    };
+    match letters.pop() {
+        Some(first) => packed_two(alloc, first, last, combiner),
+        None => Ok(packed_one(last, combiner)),
+    }
+}
+
+/// One message.
+fn packed_one<M: Plain, C: MessageCombiner<M>>(letter: (VertexId, M), combiner: &C) -> Held<M>
+    requires { M.is_value letter.1 }
+    ensures { contents_in result ≡ contents_of (C.combining combiner.now) (letter ∷ []) }
+{
+    if combiner.combines() {
+        Held::Combined(letter)
+    } else {
+        Held::Alone(letter)
+    }
+}
+
+/// Two messages.
+fn packed_two<M: Plain, C: MessageCombiner<M>>(
+    alloc: Global,
+    first: (VertexId, M),
+    second: (VertexId, M),
+    combiner: &C,
+) -> Result<Held<M>, Memory>
+    ensures { IfOk result (λ held. contents_in held ≡ contents_of (C.combining combiner.now) (first ∷ second ∷ [])) }
+{
+    let folded = fold_of_two(alloc, &first.1, &second.1, combiner)?;
+    let pair = Pair {
+        first,
+        second,
+        folded,
+    };
+    Ok(Held::Two(Arc::new(alloc, pair)?))
+}
+
+/// What two messages come to, where the combiner combines.
+fn fold_of_two<M: Plain, C: MessageCombiner<M>>(
+    alloc: Global,
+    first: &M,
+    second: &M,
+    combiner: &C,
+) -> Result<Option<M>, Memory>
+    ensures { IfOk result (λ m. m ≡ folded (C.combining combiner.now) (first.now ∷ second.now ∷ [])) }
+{
+    if !combiner.combines() {
+        return Ok(None);
+    }
+    let mut so_far = combiner.initial_message(alloc)?;
+    combiner.combine(alloc, &mut so_far, first)?;
+    combiner.combine(alloc, &mut so_far, second)?;
+    Ok(Some(so_far))
+}
+
+/// Any number of messages, in a list that is no longer than they are.
+fn packed_many<M: Plain, C: MessageCombiner<M>>(
+    alloc: Global,
+    letters: Vec<(VertexId, M)>,
+    combiner: &C,
+) -> Result<Held<M>, Memory>
+    ensures { IfOk result (λ held. contents_in held ≡ contents_of (C.combining combiner.now) letters.items) }
+{
+    let mut letters = letters;
+    let folded = folded(alloc, letters.as_slice(), combiner)?;
+    letters.shrink_to_fit();
+    let letters = Sequence::from_vec(letters);
+    let contents = Arc::new(alloc, Contents { letters, folded })?;
+    Ok(Held::Many(contents))
+}
+
+/// What messages come to, where the combiner combines.
+fn folded<M: Plain, C: MessageCombiner<M>>(
+    alloc: Global,
+    letters: &[(VertexId, M)],
+    combiner: &C,
+) -> Result<Option<M>, Memory>
+    ensures { IfOk result (λ m. m ≡ folded (C.combining combiner.now) (messages letters.now)) }
+{
+    if combiner.combines() {
+        Ok(Some(fold_of(alloc, letters, combiner)?))
+    } else {
+        Ok(None)
+    }
 }
 
 /// What messages come to under a combiner.

@@ -5,6 +5,7 @@ ghost use Rattle.std.specs.List.{AllByRecursion};
 ghost use Rattle.std.specs.Map.{keys_of};
 ghost use Rattle.std.specs.Ordering.{nat_cmp};
 ghost use Rattle.pg_map.specs.Entries.{HasRisingIds, with_changes};
+ghost use Rattle.pg_inbox.specs.Inboxes.{letters_at};
 ghost use Rattle.pg_inbox.specs.Mending.{HasJust, HasMore, additions, as_addition, as_withdrawal, changes_of, mended, mended_at, mends_of, others, senders_of, withdrawn_by};
 ghost use Rattle.pg_inbox.specs.Patched.{IsPatched, TellsChanges};
 
@@ -146,7 +147,7 @@ fn parcel_after<M: Plain, C: MessageCombiner<M>>(
 ) -> Result<Option<Parcel<M>>, Memory>
     ensures { IfOk result (λ parcel. parcel ≡ mended_at (C.combining combiner.now) old.now group.now) }
 {
-    let letters = mended_letters(alloc, old.letters(group.0), group.1.as_slice())?;
+    let letters = mended_letters(alloc, old, group.0, group.1.as_slice())?;
     if letters.is_empty() {
         return Ok(None);
     }
@@ -157,14 +158,15 @@ fn parcel_after<M: Plain, C: MessageCombiner<M>>(
 /// The messages that stay and those that are added, by rising sender.
 fn mended_letters<M: Plain>(
     alloc: Global,
-    letters: &[(VertexId, M)],
+    old: &Bundle<M>,
+    target: VertexId,
     mends: &[Mend<M>],
 ) -> Result<Vec<(VertexId, M)>, Memory>
-    ensures items { IfOk result (λ after. after.items ≡ mended mends.now letters.now) }
+    ensures items { IfOk result (λ after. after.items ≡ mended mends.now (letters_at target old.now)) }
     ensures values { IfOk result (λ after. AllByRecursion (λ l. M.is_value l.1) after.items) }
 {
     let withdrawn = withdrawn_senders(alloc, mends)?;
-    let mut after = staying_letters(alloc, letters, &withdrawn)?;
+    let mut after = staying_at(alloc, old, target, &withdrawn)?;
     add_letters(alloc, &mut after, mends)?;
     after.sort_by_key(|letter| letter.0)?;
     Ok(after)
@@ -200,18 +202,34 @@ fn add_if_withdrawn<M: Plain>(
     }
 }
 
+/// The messages of all other senders to a target.
+fn staying_at<M: Plain>(
+    alloc: Global,
+    old: &Bundle<M>,
+    target: VertexId,
+    withdrawn: &BTreeSet<VertexId>,
+) -> Result<Vec<(VertexId, M)>, Memory>
+    ensures items { IfOk result (λ after. after.items ≡ others withdrawn.now (letters_at target old.now)) }
+    ensures values { IfOk result (λ after. AllByRecursion (λ l. M.is_value l.1) after.items) }
+{
+    match old.parcel(target) {
+        Some(parcel) => staying_letters(alloc, parcel, withdrawn),
+        None => Ok(Vec::new(alloc)),
+    }
+}
+
 /// The messages of all other senders.
 fn staying_letters<M: Plain>(
     alloc: Global,
-    letters: &[(VertexId, M)],
+    letters: &Parcel<M>,
     withdrawn: &BTreeSet<VertexId>,
 ) -> Result<Vec<(VertexId, M)>, Memory>
-    ensures items { IfOk result (λ after. after.items ≡ others withdrawn.now letters.now) }
+    ensures items { IfOk result (λ after. after.items ≡ others withdrawn.now letters.now.letters) }
     ensures values { IfOk result (λ after. AllByRecursion (λ l. M.is_value l.1) after.items) }
 {
     let mut after = Vec::new(alloc);
-    for letter in letters {
-        add_if_staying(alloc, &mut after, letter, withdrawn)?;
+    for place in 0..letters.len() {
+        add_if_staying(alloc, &mut after, letters.letter(place), withdrawn)?;
     }
     Ok(after)
 }

@@ -43,13 +43,14 @@ fn all_parcels<M: Plain>(
 {
     let mut all = Vec::new(alloc);
     for bundle in bundles {
-        add_parcels(&mut all, bundle)?;
+        add_parcels(alloc, &mut all, bundle)?;
     }
     Ok(all)
 }
 
 /// Adds what a bundle has for each of its targets.
 fn add_parcels<M: Plain>(
+    alloc: Global,
     all: &mut Vec<(VertexId, Parcel<M>)>,
     bundle: &Bundle<M>,
 ) -> Result<(), Memory>
@@ -60,8 +61,8 @@ fn add_parcels<M: Plain>(
 {
     for (target, parcel) in bundle.parcels.iter() {
         // Tells the prover that there is a message in it.
-        parcel.contents();
-        all.push((*target, parcel.share()?))?;
+        parcel.len();
+        all.push((*target, parcel.share(alloc)?))?;
     }
     Ok(())
 }

@@ -45,13 +45,14 @@ fn parcels_at<M: Plain>(
 {
     let mut parcels = Vec::new(alloc);
     for bundle in bundles {
-        add_parcel(&mut parcels, bundle, id)?;
+        add_parcel(alloc, &mut parcels, bundle, id)?;
     }
     Ok(parcels)
 }
 
 /// Adds what a bundle has for a vertex.
 fn add_parcel<M: Plain>(
+    alloc: Global,
     parcels: &mut Vec<Parcel<M>>,
     bundle: &Bundle<M>,
     id: VertexId,
@@ -61,8 +62,8 @@ fn add_parcel<M: Plain>(
 {
     if let Some(parcel) = bundle.parcels.get(id) {
         // Tells the prover that there is a message in it.
-        parcel.contents();
-        parcels.push(parcel.share()?)?;
+        parcel.len();
+        parcels.push(parcel.share(alloc)?)?;
     }
     Ok(())
 }
@@ -92,7 +93,7 @@ fn folded_in<M: Plain>(alloc: Global, parcels: &[Parcel<M>]) -> Result<Vec<M>, M
 {
     let mut parts = Vec::with_capacity(alloc, parcels.len())?;
     for parcel in parcels {
-        if let Some(message) = &parcel.contents().folded {
+        if let Some(message) = parcel.folded() {
             parts.push(message.copy(alloc)?)?;
         }
     }
@@ -125,7 +126,7 @@ fn letters_in<M: Plain>(alloc: Global, parcels: &[Parcel<M>]) -> Result<Vec<(Ver
 {
     let mut letters = Vec::new(alloc);
     for parcel in parcels {
-        copy_letters(alloc, &mut letters, parcel.contents().letters.as_slice())?;
+        copy_letters(alloc, &mut letters, parcel)?;
     }
     Ok(letters)
 }
@@ -134,12 +135,13 @@ fn letters_in<M: Plain>(alloc: Global, parcels: &[Parcel<M>]) -> Result<Vec<(Ver
 fn copy_letters<M: Plain>(
     alloc: Global,
     letters: &mut Vec<(VertexId, M)>,
-    more: &[(VertexId, M)],
+    more: &Parcel<M>,
 ) -> Result<(), Memory>
-    ensures { OnOk result (letters.new.items ≡ letters.old.items ++ more.now) }
+    ensures { OnOk result (letters.new.items ≡ letters.old.items ++ more.now.letters) }
 {
-    for (sender, message) in more {
-        letters.push((*sender, message.copy(alloc)?))?;
+    for place in 0..more.len() {
+        let letter = more.letter(place);
+        letters.push((letter.0, letter.1.copy(alloc)?))?;
     }
     Ok(())
 }

@@ -59,35 +59,65 @@ fn inbox_of(
     Ok(inbox(alloc, lent.as_slice(), id(target)?, &combiner)?)
 }
 
-// What goes to a target, by a plain walk over sends by rising sender.
+// What goes to a target with its senders, by a plain walk over sends by rising sender.
+fn plain_letters(alloc: Global, sent: &Sends, target: u64) -> Result<Vec<(VertexId, i64)>, Fail> {
+    let mut letters = Vec::new(alloc);
+    for (sender, other, message) in sent {
+        if other.number() == target {
+            letters.push((*sender, *message))?;
+        }
+    }
+    Ok(letters)
+}
+
+// What messages come to, one after the other; nothing where they aren't combined, or where there are none.
+fn plain_fold(letters: &[(VertexId, i64)], combiner: AnyCombiner) -> Option<i64> {
+    let mut so_far = None;
+    for (_, message) in letters {
+        so_far = match combiner {
+            AnyCombiner::NoCombiner => None,
+            AnyCombiner::Min => Some(i64::min(so_far.unwrap_or(*message), *message)),
+            AnyCombiner::Max => Some(i64::max(so_far.unwrap_or(*message), *message)),
+            AnyCombiner::Sum => Some(so_far.unwrap_or(0).wrapping_add(*message)),
+        };
+    }
+    so_far
+}
+
+// The inbox that a target gets of all of them.
 fn plain(
     alloc: Global,
     sent: &Sends,
     target: u64,
     combiner: AnyCombiner,
 ) -> Result<Vec<i64>, Fail> {
-    let mut messages = Vec::new(alloc);
-    for (_, other, message) in sent {
-        if other.number() == target {
-            messages.push(*message)?;
-        }
+    let letters = plain_letters(alloc, sent, target)?;
+    let mut inbox = Vec::new(alloc);
+    if let Some(message) = plain_fold(letters.as_slice(), combiner) {
+        inbox.push(message)?;
+        return Ok(inbox);
     }
-    let mut found = Vec::new(alloc);
-    if let Some(first) = messages.first() {
-        let mut so_far = *first;
-        for message in messages.as_slice() {
-            so_far = match combiner {
-                AnyCombiner::Min => i64::min(so_far, *message),
-                AnyCombiner::Max => i64::max(so_far, *message),
-                _ => so_far,
-            };
-        }
-        found.push(so_far)?;
+    for (_, message) in letters {
+        inbox.push(message)?;
     }
-    match combiner {
-        AnyCombiner::Min | AnyCombiner::Max => Ok(found),
-        _ => Ok(messages),
+    Ok(inbox)
+}
+
+// Whether others see a difference at a target.
+fn plainly_differs(
+    alloc: Global,
+    old: &Sends,
+    new: &Sends,
+    target: u64,
+    combiner: AnyCombiner,
+) -> Result<bool, Fail> {
+    let old = plain_letters(alloc, old, target)?;
+    let new = plain_letters(alloc, new, target)?;
+    if combiner == AnyCombiner::NoCombiner {
+        return Ok(old.as_slice() != new.as_slice());
     }
+    let folds_differ = plain_fold(old.as_slice(), combiner) != plain_fold(new.as_slice(), combiner);
+    Ok(folds_differ || old.len() != new.len())
 }
 
 // So many sends by rising sender, with targets and messages that jump.
@@ -122,10 +152,25 @@ fn one(alloc: Global, message: i64, combiner: AnyCombiner) -> Result<Bundle<i64>
 
 // How many messages go to a target, and what they come to.
 fn entry(bundle: &Bundle<i64>, target: u64) -> Result<(usize, Option<i64>), Fail> {
-    match bundle.contents(id(target)?) {
-        Some(contents) => Ok((contents.letters.len(), contents.folded)),
+    match bundle.parcel(id(target)?) {
+        Some(parcel) => Ok((parcel.len(), parcel.folded().copied())),
         None => Ok((0, None)),
     }
+}
+
+// The messages to a target with their senders.
+fn letters_to(
+    alloc: Global,
+    bundle: &Bundle<i64>,
+    target: u64,
+) -> Result<Vec<(VertexId, i64)>, Fail> {
+    let mut letters = Vec::new(alloc);
+    if let Some(parcel) = bundle.parcel(id(target)?) {
+        for place in 0..parcel.len() {
+            letters.push(*parcel.letter(place))?;
+        }
+    }
+    Ok(letters)
 }
 
 #[test]
@@ -179,6 +224,23 @@ fn however_many_bundles(rt: HostRuntime) -> Result<(), Fail> {
     Ok(())
 }
 
+// The senders stand side by side in one bundle, in turns in two, and far apart in 64.
+#[test]
+fn in_the_order_of_senders(rt: HostRuntime) -> Result<(), Fail> {
+    let alloc = rt.alloc();
+    let mut sent = Vec::new(alloc);
+    for number in 0..200 {
+        sent.push((id(number / 2)?, id(3)?, number as i64))?;
+    }
+    let expected = plain(alloc, &sent, 3, AnyCombiner::NoCombiner)?;
+    for n in [1, 2, 64] {
+        let bundles = bundles_of(alloc, &sent, n, AnyCombiner::NoCombiner)?;
+        let found = inbox_of(alloc, bundles.as_slice(), 3, AnyCombiner::NoCombiner)?;
+        assert_eq!(rt; found.as_slice(), expected.as_slice());
+    }
+    Ok(())
+}
+
 fn agrees(rt: &impl Abort, alloc: Global, sent: &Sends, combiner: AnyCombiner) -> Result<(), Fail> {
     let bundles = bundles_of(alloc, sent, 5, combiner)?;
     for target in 0..18 {
@@ -197,6 +259,7 @@ fn hundred_bundles_agree(rt: HostRuntime) -> Result<(), Fail> {
         agrees(&rt, alloc, &sent, AnyCombiner::NoCombiner)?;
         agrees(&rt, alloc, &sent, AnyCombiner::Min)?;
         agrees(&rt, alloc, &sent, AnyCombiner::Max)?;
+        agrees(&rt, alloc, &sent, AnyCombiner::Sum)?;
     }
     Ok(())
 }
@@ -340,7 +403,7 @@ fn nobody_receives(rt: HostRuntime) -> Result<(), Fail> {
     Ok(())
 }
 
-// What stays of sends where senders with a remainder of 4 send all their messages anew, one more each.
+// Sends of which some are withdrawn, and others added.
 #[derive(Drop)]
 struct Replaced {
     withdrawn: Vec<(VertexId, VertexId)>,
@@ -348,24 +411,37 @@ struct Replaced {
     after: Sends,
 }
 
-fn replacing_some(
-    alloc: Global,
-    sent: &Sends,
-    other: &Sends,
-    remainder: u64,
-) -> Result<Replaced, Fail> {
-    let mut withdrawn = Vec::new(alloc);
+// A quarter of the senders loses what it sent to even targets, or to odd ones.
+fn is_withdrawn(sender: VertexId, target: VertexId, seed: u64) -> bool {
+    sender.number() % 4 == seed % 4 && target.number() % 2 == seed / 4 % 2
+}
+
+// They send two thirds of these, after what stays.
+fn added_of(alloc: Global, other: &Sends, seed: u64) -> Result<Sends, Fail> {
     let mut added = Vec::new(alloc);
+    for (sender, target, message) in other {
+        if sender.number() % 4 == seed % 4 && message % 3 != 0 {
+            added.push((*sender, *target, *message))?;
+        }
+    }
+    Ok(added)
+}
+
+fn replacing_some(alloc: Global, sent: &Sends, other: &Sends, seed: u64) -> Result<Replaced, Fail> {
+    let mut withdrawn = Vec::new(alloc);
     let mut after = Vec::new(alloc);
-    for ((sender, target, message), new) in sent.iter().zip(other.iter()) {
-        if sender.number() % 4 == remainder {
+    for (sender, target, message) in sent {
+        if is_withdrawn(*sender, *target, seed) {
             withdrawn.push((*sender, *target))?;
-            added.push((*sender, new.1, new.2))?;
-            after.push((*sender, new.1, new.2))?;
         } else {
             after.push((*sender, *target, *message))?;
         }
     }
+    let added = added_of(alloc, other, seed)?;
+    for (sender, target, message) in &added {
+        after.push((*sender, *target, *message))?;
+    }
+    after.sort_by_key(|send| send.0)?;
     Ok(Replaced {
         withdrawn,
         added,
@@ -373,48 +449,83 @@ fn replacing_some(
     })
 }
 
-// A patched bundle is the bundle of the sends after, and tells where it differs.
+// A patched bundle has what a plain walk finds in the sends after, and tells the targets at which that differs.
 fn patch_agrees(
     rt: &impl Abort,
     alloc: Global,
-    old: &Bundle<i64>,
+    before: &Sends,
     new: &Replaced,
+    patched: &Logged<i64>,
     combiner: AnyCombiner,
-) -> Result<Bundle<i64>, Fail> {
-    let (withdrawn, added) = (new.withdrawn.as_slice(), new.added.as_slice());
-    let patched = patch(alloc, old, withdrawn, added, &combiner)?;
-    let whole = bundle(alloc, new.after.as_slice(), &combiner)?;
-    let differ = changed_targets(alloc, Some(&patched.bundle), Some(&whole))?;
-    assert!(rt; differ.is_empty());
-    let changed = patched.changed.ok_or("no targets are told")?;
-    let expected = changed_targets(alloc, Some(old), Some(&whole))?;
-    assert_eq!(rt; changed.as_slice(), expected.as_slice());
-    Ok(patched.bundle)
+) -> Result<(), Fail> {
+    let mut changed = Vec::new(alloc);
+    for target in 0..18 {
+        let letters = plain_letters(alloc, &new.after, target)?;
+        let found = letters_to(alloc, &patched.bundle, target)?;
+        assert_eq!(rt; found.as_slice(), letters.as_slice());
+        let fold = plain_fold(letters.as_slice(), combiner);
+        assert_eq!(rt; entry(&patched.bundle, target)?, (letters.len(), fold));
+        if plainly_differs(alloc, before, &new.after, target, combiner)? {
+            changed.push(id(target)?)?;
+        }
+    }
+    let told = patched.changed.as_ref().ok_or("no targets are told")?;
+    assert_eq!(rt; told.as_slice(), changed.as_slice());
+    Ok(())
+}
+
+// What `changed_targets` and `inbox` say of it is so too.
+fn patched_is_bundle(
+    rt: &impl Abort,
+    alloc: Global,
+    old: &Bundle<i64>,
+    after: &Sends,
+    patched: &Logged<i64>,
+    combiner: AnyCombiner,
+) -> Result<(), Fail> {
+    let whole = bundle(alloc, after.as_slice(), &combiner)?;
+    assert!(rt; changed_targets(alloc, Some(&patched.bundle), Some(&whole))?.is_empty());
+    let told = patched.changed.as_ref().ok_or("no targets are told")?;
+    let changed = changed_targets(alloc, Some(old), Some(&patched.bundle))?;
+    assert_eq!(rt; told.as_slice(), changed.as_slice());
+    let lent = [&patched.bundle];
+    for target in 0..18 {
+        let found = inbox(alloc, &lent, id(target)?, &combiner)?;
+        let expected = plain(alloc, after, target, combiner)?;
+        assert_eq!(rt; found.as_slice(), expected.as_slice());
+    }
+    Ok(())
 }
 
 fn patches_agree(rt: &impl Abort, alloc: Global, combiner: AnyCombiner) -> Result<(), Fail> {
     let mut sent = mixed(alloc, 7, 60)?;
     let mut old = bundle(alloc, sent.as_slice(), &combiner)?;
-    for seed in 0..50 {
+    for seed in 0..100 {
         let other = mixed(alloc, seed + 100, 60)?;
-        let new = replacing_some(alloc, &sent, &other, seed % 4)?;
-        old = patch_agrees(rt, alloc, &old, &new, combiner)?;
+        let new = replacing_some(alloc, &sent, &other, seed)?;
+        let (withdrawn, added) = (new.withdrawn.as_slice(), new.added.as_slice());
+        let patched = patch(alloc, &old, withdrawn, added, &combiner)?;
+        patch_agrees(rt, alloc, &sent, &new, &patched, combiner)?;
+        patched_is_bundle(rt, alloc, &old, &new.after, &patched, combiner)?;
+        old = patched.bundle;
         sent = new.after;
-        let lent = [&old];
-        for target in 0..18 {
-            let found = inbox(alloc, &lent, id(target)?, &combiner)?;
-            let expected = plain(alloc, &sent, target, combiner)?;
-            assert_eq!(rt; found.as_slice(), expected.as_slice());
-        }
     }
     Ok(())
 }
 
 #[test]
 fn hundred_patches_agree(rt: HostRuntime) -> Result<(), Fail> {
-    patches_agree(&rt, rt.alloc(), AnyCombiner::NoCombiner)?;
-    patches_agree(&rt, rt.alloc(), AnyCombiner::Min)?;
-    Ok(())
+    patches_agree(&rt, rt.alloc(), AnyCombiner::NoCombiner)
+}
+
+#[test]
+fn hundred_combined_patches_agree(rt: HostRuntime) -> Result<(), Fail> {
+    patches_agree(&rt, rt.alloc(), AnyCombiner::Min)
+}
+
+#[test]
+fn hundred_summed_patches_agree(rt: HostRuntime) -> Result<(), Fail> {
+    patches_agree(&rt, rt.alloc(), AnyCombiner::Sum)
 }
 
 #[test]

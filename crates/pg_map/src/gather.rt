@@ -63,7 +63,7 @@ impl<V: Share> Gathering<V> {
         ensures { OnOk result (self.new ≡ self.old ++ entries.now) }
     {
         for (id, value) in entries {
-            self.push(alloc, *id, value.share()?)?;
+            self.push(alloc, *id, value.share(alloc)?)?;
         }
         Ok(())
     }

@@ -24,13 +24,13 @@ impl<V: Share> Gathering<V> {
         while let Some((change, later)) = todo.split_first() {
             match left.split_first() {
                 Some((entry, others)) if entry.0 < change.0 => {
-                    self.push(alloc, entry.0, entry.1.share()?)?;
+                    self.push(alloc, entry.0, entry.1.share(alloc)?)?;
                     left = others;
                 }
                 Some((entry, others)) if entry.0 == change.0 => left = others,
                 _ => {
                     if let Some(value) = &change.1 {
-                        self.push(alloc, change.0, value.share()?)?;
+                        self.push(alloc, change.0, value.share(alloc)?)?;
                     }
                     todo = later;
                 }

@@ -13,12 +13,13 @@ use std::marker::Model;
 
 /// Values that are copied by sharing: a copy is equal to its source, and costs O(1).
 pub trait Share: Drop {
-    fn share(&self) -> Result<Self, Memory>
+    /// The same value, in the same memory where it takes much.
+    fn share(&self, alloc: Global) -> Result<Self, Memory>
         ensures { IfOk result (λ copy. copy ≡ self.now) };
 }
 
 impl Share for i64 {
-    fn share(&self) -> Result<i64, Memory> {
+    fn share(&self, _alloc: Global) -> Result<i64, Memory> {
         Ok(*self)
     }
 }

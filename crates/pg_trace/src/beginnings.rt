@@ -27,7 +27,7 @@ impl<V> Model for Begun<V> {
 }
 
 impl<V: Drop> Share for Begun<V> {
-    fn share(&self) -> Result<Begun<V>, Memory> {
+    fn share(&self, _alloc: Global) -> Result<Begun<V>, Memory> {
         Ok(Begun {
             shared: Arc::try_clone(&self.shared)?,
         })

@@ -24,7 +24,7 @@ impl<V, M> Model for Kept<V, M> {
 }
 
 impl<V: Drop, M: Drop> Share for Kept<V, M> {
-    fn share(&self) -> Result<Kept<V, M>, Memory> {
+    fn share(&self, _alloc: Global) -> Result<Kept<V, M>, Memory> {
         Ok(Kept {
             shared: Arc::try_clone(&self.shared)?,
         })

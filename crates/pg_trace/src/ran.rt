@@ -26,7 +26,7 @@ impl Model for Ran {
 }
 
 impl Share for Ran {
-    fn share(&self) -> Result<Ran, Memory> {
+    fn share(&self, _alloc: Global) -> Result<Ran, Memory> {
         Ok(Ran {
             shared: Arc::try_clone(&self.shared)?,
         })

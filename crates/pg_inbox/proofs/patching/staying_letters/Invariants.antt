@@ -3,8 +3,8 @@ use Rattle.std.specs.List.{AllByRecursion}
 use Rattle.pg_inbox.specs.Mending.{others}
 use Rattle.pg_inbox.proofs.patching.staying_letters.Given as goal
 
-abbrev pub invariant-loop-letter : goal.invariant-loop-letter
-invariant-loop-letter g l = record {
-  items : l.after.items ≡ others l.withdrawn (take l.letter-index l.letters);
+abbrev pub invariant-loop-place : goal.invariant-loop-place
+invariant-loop-place g l = record {
+  items : l.after.items ≡ others l.withdrawn (take l.place l.letters.letters);
   values : AllByRecursion (λ x. g.M.Plain.is_value x.1) l.after.items;
 }
