@@ -18,7 +18,8 @@ use std::alloc::Global;
 
 /// What each vertex receives to which a bundle has a message, by rising id.
 ///
-/// Costs a stable sort of the targets of all bundles, and of each vertex what its inbox costs beside the searches.
+/// Costs O(t log n) for t targets in n bundles, since those of a bundle rise already and the stable sort merges such
+/// runs, and of each vertex what its inbox costs beside the searches.
 pub fn inboxes<M: Plain, C: MessageCombiner<M>>(
     alloc: Global,
     bundles: &[&Bundle<M>],

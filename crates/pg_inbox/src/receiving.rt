@@ -19,8 +19,8 @@ use std::alloc::Global;
 /// What a vertex receives: the messages to it in all bundles, by sender and then in the order sent, or the one
 /// message that they come to where the combiner combines. No bundle, or none with a message to it, gives nothing.
 ///
-/// Costs two binary searches a bundle, and a sort of the messages to it by sender. Where the combiner combines it
-/// reads one message of a bundle.
+/// Costs two binary searches a bundle, and O(m log n) for m messages in n bundles: those of a bundle rise by sender
+/// already, and the stable sort merges such runs. Where the combiner combines it reads one message of a bundle.
 pub fn inbox<M: Plain, C: MessageCombiner<M>>(
     alloc: Global,
     bundles: &[&Bundle<M>],

@@ -20,6 +20,6 @@ returns-in-Some-folded-2 g c target = (
 pub returns-in-None-folded-2 : goal.returns-in-None-folded-2
 returns-in-None-folded-2 g c target =
     let both = same_by_letters target c.args.old.now c.args.new.now (sym c.folded.ensures ∙ ap option_copied c.in-None.is)
-        (sym c.folded-in-None.ensures ∙ ap option_copied c.in-None-folded-2.is) in
+    (sym c.folded-in-None.ensures ∙ ap option_copied c.in-None-folded-2.is) in
     let told = c.are_same_letters.ensures in
     ((λ h. both.0 (told.0 h)), λ h. told.1 (both.1 h))
