@@ -55,7 +55,7 @@ pub(crate) enum Held<M> {
     Many(Arc<Contents<M>>),
 }
 
-/// The contents of one target's messages, at least one, which copies share.
+/// The contents of one target's messages, at least one. Copies share two and more; of a single one they have a copy.
 #[derive(Drop)]
 pub(crate) struct Parcel<M: Plain> {
     held: Held<M>,

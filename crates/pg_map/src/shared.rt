@@ -11,9 +11,9 @@ use crate::{Ids, Iter, Memory, VertexId};
 use std::alloc::Global;
 use std::marker::Model;
 
-/// Values that are copied by sharing: a copy is equal to its source, and costs O(1).
+/// Values that are copied by sharing: a copy is equal to its source.
 pub trait Share: Drop {
-    /// The same value, in the same memory where it takes much.
+    /// The same value. What is large in it is shared; what is copied costs no more than one small value.
     fn share(&self, alloc: Global) -> Result<Self, Memory>
         ensures { IfOk result (λ copy. copy ≡ self.now) };
 }
