@@ -6,3 +6,4 @@ pub mod Edited
 pub mod Laws
 pub mod RowLaw
 pub mod Search
+pub mod SideBySide

@@ -8,6 +8,7 @@ mod entries;
 mod graph;
 mod grouped;
 mod missing;
+mod packing;
 
 pub use edges::Edges;
 pub use edit::{Batch, Edit, EditFault, EditKind};
