@@ -93,6 +93,11 @@ impl Edges {
         }
     }
 
+    /// Whether the edges come first in a list. Those that have a list of their own do.
+    pub(crate) fn begin_a_list(&self) -> bool {
+        self.shared.is_some() && self.first == 0
+    }
+
     /// The weight of the edge to `target`, found by binary search.
     pub fn weight(&self, target: VertexId) -> Option<i64>
         ensures { result ≡ weight_at target self.now }

@@ -4,28 +4,54 @@ ghost use Rattle.pg_graph.specs.EdgeList.{EdgeList};
 ghost use Rattle.pg_graph.specs.Packing.{AreParts, rows_of};
 
 use crate::{Edges, Memory, Row, VertexId};
-use pg_map::Map;
+use pg_map::Pack;
 use std::alloc::Global;
 use std::marker::Model;
 use std::mem;
 use std::sync::Arc;
 
-/// So many edges lie side by side at most.
-const TOGETHER: usize = 2048;
-
 /// A row with more edges keeps its own list.
 const LARGE: usize = 256;
 
-/// The same rows, with the edges of rows that stand near each other side by side in memory, so that a
-/// walk over them goes through memory in order. Costs O(n) for n rows and edges.
-pub(crate) fn packed(alloc: Global, rows: &Map<Row>) -> Result<Map<Row>, Memory>
-    ensures { IfOk result (λ map. map ≡ rows.now) }
-{
-    let mut packing = Packing::new(alloc, rows.len())?;
-    for (id, row) in rows.iter() {
-        packing.push(alloc, *id, row)?;
+/// The edges of rows that stand side by side come to lie side by side in one list, so that a walk over
+/// the rows goes through memory in order.
+impl Pack for Row {
+    fn packed(
+        alloc: Global,
+        entries: &[(VertexId, Row)],
+    ) -> Result<Option<Vec<(VertexId, Row)>>, Memory> {
+        if !are_loose(entries) {
+            return Ok(None);
+        }
+        let mut packing = Packing::new(alloc, entries.len(), room_of(entries))?;
+        for (id, row) in entries {
+            packing.push(alloc, *id, row)?;
+        }
+        Ok(Some(packing.finish(alloc)?))
     }
-    Map::from_rising(alloc, packing.finish(alloc)?)
+}
+
+/// Whether more than an eighth of these rows have a list of their own that isn't large.
+fn are_loose(rows: &[(VertexId, Row)]) -> bool {
+    let mut alone: usize = 0;
+    for (_, row) in rows {
+        if row.edges.begin_a_list() && row.edges.as_slice().len() <= LARGE {
+            alone = alone.saturating_add(1);
+        }
+    }
+    alone > rows.len() / 8 + 1
+}
+
+/// How many edges these rows have, but for those of large ones.
+fn room_of(rows: &[(VertexId, Row)]) -> usize {
+    let mut room: usize = 0;
+    for (_, row) in rows {
+        let degree = row.edges.as_slice().len();
+        if degree <= LARGE {
+            room = room.saturating_add(degree);
+        }
+    }
+    room
 }
 
 /// A row without its edges, which are a part of a list.
@@ -37,8 +63,8 @@ pub(crate) struct Waiting {
     degree: usize,
 }
 
-/// Rows one after another. The last ones wait until the list of their edges is full. A contract sees all
-/// rows so far.
+/// Rows one after another. The last ones wait until the list of their edges is whole. A contract sees
+/// all rows so far.
 #[derive(Drop)]
 struct Packing {
     done: Vec<(VertexId, Row)>,
@@ -59,14 +85,14 @@ impl Model for Packing {
 }
 
 impl Packing {
-    /// No rows, with room for so many.
-    fn new(alloc: Global, rows: usize) -> Result<Packing, Memory>
+    /// No rows, with room for so many rows and edges.
+    fn new(alloc: Global, rows: usize, edges: usize) -> Result<Packing, Memory>
         ensures { IfOk result (λ packing. packing ≡ []) }
     {
         Ok(Packing {
             done: Vec::with_capacity(alloc, rows)?,
-            waiting: Vec::new(alloc),
-            edges: Vec::with_capacity(alloc, TOGETHER)?,
+            waiting: Vec::with_capacity(alloc, rows)?,
+            edges: Vec::with_capacity(alloc, edges)?,
         })
     }
 
@@ -74,8 +100,7 @@ impl Packing {
     fn push(&mut self, alloc: Global, id: VertexId, row: &Row) -> Result<(), Memory>
         ensures { OnOk result (self.new ≡ self.old ++ (id, row.now) ∷ []) }
     {
-        let degree = row.edges.as_slice().len();
-        if degree > LARGE {
+        if row.edges.as_slice().len() > LARGE {
             settle(
                 alloc,
                 &mut self.done,
@@ -84,14 +109,6 @@ impl Packing {
             )?;
             self.done.push((id, row.copy()?))?;
             return Ok(());
-        }
-        if degree > TOGETHER.saturating_sub(self.edges.len()) {
-            settle(
-                alloc,
-                &mut self.done,
-                &mut self.waiting,
-                &mut self.edges,
-            )?;
         }
         self.wait(id, row)
     }
@@ -138,10 +155,9 @@ fn settle(
     ensures rows { OnOk result (done.new.items ≡ done.old.items ++ rows_of waiting.old.items edges.old.items) }
     ensures none { OnOk result (waiting.new.items ≡ []) }
 {
-    let room = Vec::with_capacity(alloc, TOGETHER)?;
     let rows = mem::replace(waiting, Vec::new(alloc));
-    let full = mem::replace(edges, room);
-    add_rows(alloc, done, rows.as_slice(), full)
+    let list = mem::replace(edges, Vec::new(alloc));
+    add_rows(alloc, done, rows.as_slice(), list)
 }
 
 /// Adds rows whose edges are parts of a list.

@@ -5,10 +5,12 @@ mod chunk;
 mod gather;
 mod merge;
 mod number;
+mod pack;
 mod shared;
 mod walk;
 
 pub use number::{Edition, PartitionId, Superstep, VertexId, WorkerId};
+pub use pack::Pack;
 pub use shared::{Map, Share};
 pub use std::alloc::AllocError as Memory;
 pub use walk::{Ids, Iter};

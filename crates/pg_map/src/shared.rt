@@ -7,7 +7,8 @@ ghost use Rattle.std.specs.Map.Iter.{ShowsInOrder, deref, deref_pair};
 use crate::chunk::{Spine, counted, is_at_most, is_below};
 use crate::gather::Gathering;
 use crate::merge::changed;
-use crate::{Ids, Iter, Memory, VertexId};
+use crate::pack::pack_spine;
+use crate::{Ids, Iter, Memory, Pack, VertexId};
 use std::alloc::Global;
 use std::marker::Model;
 
@@ -167,5 +168,15 @@ impl<V: Share> Map<V> {
         self.chunks = Spine::of(alloc, made)?;
         self.count = count;
         Ok(())
+    }
+}
+
+impl<V: Pack> Map<V> {
+    /// Lays the values anew, chunk by chunk, as `V` says and as far as there is memory for it. Where a
+    /// copy shares the map's memory, all stays as it is.
+    pub fn pack(&mut self, alloc: Global)
+        ensures { self.new ≡ self.old }
+    {
+        pack_spine(alloc, &mut self.chunks);
     }
 }

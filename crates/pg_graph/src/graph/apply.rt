@@ -9,11 +9,10 @@ ghost use Rattle.pg_map.specs.Entries.{with_changes};
 use super::Graph;
 use crate::draft::{BATCH_LIMIT, Changes, Draft, EDGE_LIMIT, VERTEX_LIMIT};
 use crate::grouped::changes_by_vertex;
-use crate::packing::packed;
 use crate::{Batch, EditFault, EditKind, Memory};
 use std::alloc::Global;
 
-/// Each changed row pays for laying so many rows and edges anew.
+/// Each changed row pays for a look at so many.
 const ROWS_TO_PAY: u64 = 64;
 
 impl Graph {
@@ -59,25 +58,16 @@ impl Graph {
     {
         self.rows.change(alloc, changes.rows.as_slice())?;
         self.total_edges = changes.edges;
-        if pays(changes.rows.len() as u64, self.vertices(), self.total_edges) {
-            self.pack(alloc);
+        if is_many(changes.rows.len() as u64, self.vertices()) {
+            self.rows.pack(alloc);
         }
         Ok(())
     }
-
-    /// Lays all edges side by side, where there is memory for it.
-    fn pack(&mut self, alloc: Global)
-        ensures { self.new ≡ self.old }
-    {
-        if let Ok(rows) = packed(alloc, &self.rows) {
-            self.rows = rows;
-        }
-    }
 }
 
-/// Whether so many rows are changed that all may be laid anew.
-fn pays(changed: u64, vertices: u64, edges: u64) -> bool {
-    changed.saturating_mul(ROWS_TO_PAY) >= vertices.saturating_add(edges)
+/// Whether so many rows are changed that a walk over all of them is paid for.
+fn is_many(changed: u64, vertices: u64) -> bool {
+    changed.saturating_mul(ROWS_TO_PAY) >= vertices
 }
 
 /// What a batch changes, or the first of its edits that has no result, found edit by edit.
