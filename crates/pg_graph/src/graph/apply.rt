@@ -1,7 +1,7 @@
 //! A batch of edits, made of a graph at once.
-ghost use Rattle.std.specs.Prelude.{◌≡◌, ◌<◌, ◌≤◌, length, Ok, Err, IfOk, IfErr, IsTrue, OnOk, OnErr};
-ghost use Rattle.pg_graph.specs.Edit.{batch_edited, batch_limit, too_long_fault, RefusesBatch};
-ghost use Rattle.pg_graph.specs.RowEdit.{HasRoom};
+ghost use Rattle.std.specs.Prelude.{◌≡◌, ◌⊎◌, ◌<◌, ◌≤◌, length, Ok, Err, IfOk, IfErr, IsTrue, OnOk, OnErr};
+ghost use Rattle.pg_graph.specs.Edit.{batch_edited, batch_limit, memory_fault, too_long_fault, RefusesBatch};
+ghost use Rattle.pg_graph.specs.RowEdit.{AreRowsMade, HasRoom, IsEarliestFault};
 ghost use Rattle.pg_graph.specs.Rows.{HasRisingIds, edge_count, vertex_count};
 ghost use Rattle.pg_graph.specs.Draft.{Makes};
 ghost use Rattle.pg_map.specs.Entries.{with_changes};
@@ -26,6 +26,9 @@ impl Graph {
         ensures ok { OnOk result (batch_edited self.old batch.now ≡ Ok self.new) }
         ensures refused { IfErr result (RefusesBatch self.old batch.now) }
         ensures too_long { batch_limit < length batch.now → result ≡ Err too_long_fault }
+        ensures rows { OnOk result (HasRoom (vertex_count self.old) (edge_count self.old) (length batch.now) → AreRowsMade self.old batch.now self.new) }
+        ensures first { IfErr result (λ fault. HasRoom (vertex_count self.old) (edge_count self.old) (length batch.now) → length batch.now ≤ batch_limit
+            → (fault ≡ memory_fault) ⊎ IsEarliestFault self.old batch.now fault) }
         ensures position { IfErr result (λ fault. fault.position ≤ length batch.now) }
         ensures err { OnErr result (self.new ≡ self.old) }
     {
