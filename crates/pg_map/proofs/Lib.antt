@@ -1,3 +1,4 @@
+pub mod Begun
 pub mod Changing
 pub mod Chunked
 pub mod Parts

@@ -2,6 +2,7 @@
 #![tactic(auto)]
 
 mod chunk;
+mod find;
 mod gather;
 mod merge;
 mod number;
@@ -9,6 +10,7 @@ mod pack;
 mod shared;
 mod walk;
 
+pub use find::Finder;
 pub use number::{Edition, PartitionId, Superstep, VertexId, WorkerId};
 pub use pack::Pack;
 pub use shared::{Map, Share};
