@@ -101,12 +101,7 @@ impl Packing {
         ensures { OnOk result (self.new ≡ self.old ++ (id, row.now) ∷ []) }
     {
         if row.edges.as_slice().len() > LARGE {
-            settle(
-                alloc,
-                &mut self.done,
-                &mut self.waiting,
-                &mut self.edges,
-            )?;
+            settle(alloc, &mut self.done, &mut self.waiting, &mut self.edges)?;
             self.done.push((id, row.copy()?))?;
             return Ok(());
         }

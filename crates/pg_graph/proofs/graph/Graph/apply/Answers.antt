@@ -36,5 +36,5 @@ returns-in_err-changes-2-clause-first c =
 pub returns-clause-rows : goal.returns-clause-rows
 returns-clause-rows c =
     let made : batch_edited c.args.self.now c.args.batch.now ≡ Ok c.change.new.self =
-        elim c.if-has_room.branch [ then-has_room+in_ok-changes w ↦ search rules | else-has_room+in_ok-changes-2 w ↦ search rules ] in
+    elim c.if-has_room.branch [ then-has_room+in_ok-changes w ↦ search rules | else-has_room+in_ok-changes-2 w ↦ search rules ] in
     λ room. rows_made c.args.self.now c.args.batch.now c.has_room.ensures.rising room c.change.new.self made
