@@ -1,12 +1,12 @@
 -- The edits of one vertex after another.
-use Rattle.std.proofs.Common.{◌≡◌, ℕ, ◌+◌, not, ◌&&◌, is_lt, eqb, ◌<◌, ◌≤◌, inl, inr, Bool, true, false, cond, List, [], ◌∷◌, ◌++◌, length, get_or, take, drop, Option, None, Some, Result, Ok, Err, MatchResult, MatchOption, leb, refl, sym, ap, ◌∙◌, subst, ⊎_elim, arith}
+use Rattle.std.proofs.Common.{◌≡◌, ℕ, zero, suc, ◌+◌, not, ◌&&◌, is_lt, eqb, ◌<◌, ◌≤◌, inl, inr, Bool, true, false, cond, List, [], ◌∷◌, ◌++◌, length, get_or, take, drop, Option, None, Some, Result, Ok, Err, MatchResult, MatchOption, leb, refl, sym, ap, ◌∙◌, subst, ⊎_elim, arith}
 use Rattle.std.specs.BTreeMap.{is_at}
 use Rattle.std.specs.List.{AllByRecursion, filter}
 use Rattle.std.specs.Ordering.{nat_cmp}
 use Rattle.std.specs.Option.{unwrap_or}
 use Rattle.std.specs.List.Sorted.{IsPartitionPoint, IsStableByKey, IsStrictlySortedBy, ties}
 use Rattle.std.proofs.lemmas.Bool.{cases_eq, leb-true, leb-false}
-use Rattle.std.proofs.lemmas.List.{append-nil}
+use Rattle.std.proofs.lemmas.List.{append-nil, length-drop}
 use Rattle.std.proofs.lemmas.List.Elements.{filter-append}
 use Rattle.std.proofs.lemmas.List.Sorted.{IsNonDecreasingBy-drop}
 use Rattle.std.proofs.lemmas.Bool.Decides.{nat_tests}
@@ -86,6 +86,26 @@ pub record IsTurn (left here later rest : Places) (first : ℕ × Edit) (n : ℕ
   pub whole : left ≡ here ++ later
   pub within : n ≤ length left
   pub parts : IsPartitionPoint (λ e. leb (source_of e.1) (source_of first.1) ≡ true) (λ e. leb (source_of e.1) (source_of first.1) ≡ false) left n
+
+-- each turn leaves fewer edits
+pub fewer_left : (left here later rest : Places) (first : ℕ × Edit) (n : ℕ) → IsTurn left here later rest first n → length later < length left
+fewer_left left here later rest first n turn = omega (arith, ap length turn.back, length-drop n left, ap length turn.next, turn.within, some)
+  where
+    at_first : get_or left 0 first ≡ first
+    at_first = ap (λ l. get_or l 0 first) turn.next
+
+    none : n ≡ 0 → ⊥
+    none e =
+        let there : 0 < length left = omega (arith, ap length turn.next) in
+        let above = leb-false (source_of (get_or left 0 first).1) (source_of first.1) (turn.parts.1 0 first (omega (arith, e)) there) in
+        omega (arith, above, ap (λ x. source_of x.1) at_first)
+
+    some : 0 < n
+    some = by n refl
+      where
+        by : (k : ℕ) → n ≡ k → 0 < n
+        by zero e = absurd (none e)
+        by (suc k) e = omega (arith, e)
 
 module _ (rows : Rows) (all left here later rest : Places) (first : ℕ × Edit) (n : ℕ) (changes : Changes) (fault : Option EditFault)
     (turn : IsTurn left here later rest first n) (dealt : AreDealt rows all left changes fault) where

@@ -5,4 +5,6 @@ pub mod Drafting
 pub mod Edited
 pub mod Laws
 pub mod RowLaw
+pub mod RowsMade
 pub mod Search
+pub mod SideBySide

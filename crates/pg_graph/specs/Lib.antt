@@ -6,6 +6,7 @@ pub mod Edges
 pub mod Edit
 pub mod EditKind
 pub mod Grouped
+pub mod Packing
 pub mod Places
 pub mod RowEdit
 pub mod Rows

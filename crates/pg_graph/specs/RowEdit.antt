@@ -1,5 +1,5 @@
 -- What edits make of one row: a batch, seen from one vertex.
-use Rattle.std.specs.Prelude.{ℕ, ◌+◌, ◌≤◌, Bool, cond, nat_eq, List, [], ◌∷◌, Option, None, Some, is_some, Result, Ok, Err}
+use Rattle.std.specs.Prelude.{◌≡◌, ℕ, ◌+◌, ◌≤◌, Bool, cond, nat_eq, List, [], ◌∷◌, Option, None, Some, is_some, Result, Ok, Err}
 use Rattle.std.specs.List.{filter}
 use Rattle.pg_graph.specs.EdgeList.{weight_at, with_edge, without_edge}
 use Rattle.pg_graph.specs.Edit.{vertex_limit, edge_limit}
@@ -74,3 +74,13 @@ row_by_batch id rows edits = vertex_after (row_at id rows) (edits_of id (placed 
 pub record HasRoom (vertices edges edits : ℕ) : Type 0 where
   pub vertices_fit : vertices + edits ≤ vertex_limit
   pub edges_fit : edges + edits ≤ edge_limit
+
+-- each row is what the batch makes of it
+abbrev pub AreRowsMade : Rows → List Edit → Rows → Type 0
+AreRowsMade rows edits now = (id : ℕ) → row_by_batch id rows edits ≡ Ok (row_at id now)
+
+-- the batch has this fault at one row, and none that comes earlier at any
+pub record IsEarliestFault (rows : Rows) (edits : List Edit) (fault : EditFault) : Type 0 where
+  pub vertex : ℕ
+  pub there : row_by_batch vertex rows edits ≡ Err fault
+  pub first : (id : ℕ) (other : EditFault) → row_by_batch id rows edits ≡ Err other → fault.position ≤ other.position

@@ -1,8 +1,10 @@
 //! The out-edges of a vertex, shared between copies.
-ghost use Rattle.std.specs.Prelude.{◌≡◌, [], ℕ, ℤ, map, IfOk, IsOk};
+ghost use Rattle.std.specs.Prelude.{◌≡◌, ◌+◌, ◌≤◌, [], ℕ, ℤ, length, map, IfOk, IsOk};
 ghost use Rattle.std.specs.Ordering.{nat_cmp};
 ghost use Rattle.std.specs.List.Sorted.{IsStrictlySortedBy};
+ghost use Rattle.std.specs.Arc.{arc_value};
 ghost use Rattle.pg_graph.specs.EdgeList.{EdgeList, IsRising, weight_at};
+ghost use Rattle.pg_graph.specs.Edges.{IsPart, part_of};
 
 use crate::{Memory, VertexId};
 use std::alloc::Global;
@@ -13,21 +15,24 @@ use std::sync::Arc;
 /// list of (target, weight).
 ///
 /// Edges don't change: a copy shares its source's memory and costs O(1), and none take no memory.
+/// Those of several vertices may lie in one list, of which each has a part.
 #[derive(Drop)]
 pub struct Edges {
     shared: Option<Arc<Vec<(VertexId, i64)>>>,
+    first: usize,
+    degree: usize,
 }
 
 impl Model for Edges {
-    ghost use Rattle.pg_graph.specs.EdgeList.{EdgeList, IsRising};
+    ghost use Rattle.pg_graph.specs.EdgeList.{EdgeList};
 
     ghost Value = { EdgeList };
 
-    ghost use Rattle.pg_graph.specs.Edges.{edges_of};
+    ghost use Rattle.pg_graph.specs.Edges.{IsSound, edges_of};
 
     ghost view = { edges_of };
 
-    ghost invariant = { λ e. IsRising (edges_of e) };
+    ghost invariant = { IsSound };
 }
 
 impl Edges {
@@ -35,7 +40,11 @@ impl Edges {
     pub fn new() -> Edges
         ensures { result ≡ [] }
     {
-        Edges { shared: None }
+        Edges {
+            shared: None,
+            first: 0,
+            degree: 0,
+        }
     }
 
     /// These edges, which stand by rising target.
@@ -46,8 +55,30 @@ impl Edges {
         if edges.is_empty() {
             return Ok(Edges::new());
         }
+        let degree = edges.len();
         Ok(Edges {
             shared: Some(Arc::new(alloc, edges)?),
+            first: 0,
+            degree,
+        })
+    }
+
+    /// A part of a list, in the list's memory.
+    pub(crate) fn part(
+        list: &Arc<Vec<(VertexId, i64)>>,
+        first: usize,
+        degree: usize,
+    ) -> Result<Edges, Memory>
+        requires { IsPart first degree (arc_value list.now).items }
+        ensures { IfOk result (λ e. e ≡ part_of first degree (arc_value list.now).items) }
+    {
+        if degree == 0 {
+            return Ok(Edges::new());
+        }
+        Ok(Edges {
+            shared: Some(Arc::try_clone(list)?),
+            first,
+            degree,
         })
     }
 
@@ -58,8 +89,13 @@ impl Edges {
     {
         match &self.shared {
             None => &[],
-            Some(shared) => shared.as_slice(),
+            Some(shared) => part_of(shared.as_slice(), self.first, self.degree),
         }
+    }
+
+    /// Whether the edges come first in a list. Those that have a list of their own do.
+    pub(crate) fn begin_a_list(&self) -> bool {
+        self.shared.is_some() && self.first == 0
     }
 
     /// The weight of the edge to `target`, found by binary search.
@@ -81,7 +117,19 @@ impl Edges {
             None => Ok(Edges::new()),
             Some(shared) => Ok(Edges {
                 shared: Some(Arc::try_clone(shared)?),
+                first: self.first,
+                degree: self.degree,
             }),
         }
     }
+}
+
+/// So many edges of a list, from this place on.
+fn part_of(edges: &[(VertexId, i64)], first: usize, degree: usize) -> &[(VertexId, i64)]
+    requires { first + degree ≤ length edges.now }
+    ensures { result.now ≡ part_of first degree edges.now }
+{
+    let (_, rest) = edges.split_at(first);
+    let (part, _) = rest.split_at(degree);
+    part
 }

@@ -7,7 +7,7 @@ ghost use Rattle.std.specs.Map.Iter.{ShowsInOrder, deref, deref_pair};
 mod apply;
 
 use crate::{Edges, Memory, VertexId};
-use pg_map::{Ids, Iter, Map, Share};
+use pg_map::{Finder, Ids, Iter, Map, Share};
 use std::alloc::Global;
 use std::marker::Model;
 
@@ -75,6 +75,13 @@ impl Graph {
         ensures { option_copied result ≡ row_at id self.now }
     {
         self.rows.get(id)
+    }
+
+    /// Look-ups of rows, which cost less where ids come near one another.
+    pub fn finder(&self) -> Finder<'_, Row>
+        ensures { result ≡ self.now }
+    {
+        self.rows.finder()
     }
 
     /// How many vertices there are, at most 2^20.

@@ -72,13 +72,14 @@ fn dealt_with(
     ensures { IfOk result (λ made. MatchResult made (AreCounted graph.now edits.now) (IsFirst graph.now edits.now)) }
 {
     let mut rows = Vec::new(alloc);
+    let mut finder = graph.finder();
     let mut edges = graph.edges();
     let mut fault = None;
     let mut left = edits;
     while let Some((first, _)) = left.split_first() {
         let id = first.1.source();
         let (here, later) = left.split_at(count_of(left, id));
-        let row = graph.row(id);
+        let row = finder.get(id);
         match vertex_after(alloc, row, here)? {
             Ok(changed) => {
                 edges = edges_with(edges, row, changed.as_ref())?;

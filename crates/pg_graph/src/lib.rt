@@ -8,12 +8,13 @@ mod entries;
 mod graph;
 mod grouped;
 mod missing;
+mod packing;
 
 pub use edges::Edges;
 pub use edit::{Batch, Edit, EditFault, EditKind};
 pub use graph::{Graph, Row};
 pub use missing::Missing;
-pub use pg_map::{Edition, Ids, Iter, PartitionId, Superstep, VertexId, WorkerId};
+pub use pg_map::{Edition, Finder, Ids, Iter, PartitionId, Superstep, VertexId, WorkerId};
 pub use std::alloc::AllocError as Memory;
 
 #[cfg(test)]

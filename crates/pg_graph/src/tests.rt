@@ -117,6 +117,42 @@ fn refused_batches_leave_the_graph(rt: HostRuntime) -> Result<(), Fail> {
     Ok(())
 }
 
+// A ring of 400 vertices, and an edge from the first to each other, which makes its row a large one.
+fn wheel(alloc: Global) -> Result<Graph, Fail> {
+    let mut batch = Batch::new(alloc);
+    for number in 0..400u64 {
+        batch.push(Edit::AddVertex(id(number)?, 0))?;
+        batch.push(Edit::AddEdge(id(number)?, id((number + 1) % 400)?, 1))?;
+    }
+    for number in 2..400u64 {
+        batch.push(Edit::AddEdge(id(0)?, id(number)?, 2))?;
+    }
+    let mut graph = Graph::new(alloc);
+    graph.apply(alloc, &batch)?;
+    Ok(graph)
+}
+
+#[test]
+fn rows_laid_anew_stay(rt: HostRuntime) -> Result<(), Fail> {
+    let mut graph = wheel(rt.alloc())?;
+    let before = text_of(rt.alloc(), &graph)?;
+    let copy = graph.copy(rt.alloc())?;
+    let mut batch = Batch::new(rt.alloc());
+    for number in 0..400u64 {
+        batch.push(Edit::SetEdge(id(number)?, id((number + 1) % 400)?, 3))?;
+    }
+    graph.apply(rt.alloc(), &batch)?;
+    for number in 0..400u64 {
+        let row = graph.row(id(number)?).ok_or("a row")?;
+        let degree = if number == 0 { 399 } else { 1 };
+        assert_eq!(rt; row.edges.as_slice().len(), degree);
+        assert_eq!(rt; row.edges.weight(id((number + 1) % 400)?), Some(3));
+    }
+    assert_eq!(rt; graph.edges(), 798);
+    assert_eq!(rt; text_of(rt.alloc(), &copy)?.as_str(), before.as_str());
+    Ok(())
+}
+
 #[test]
 fn limits_a_batch(rt: HostRuntime) -> Result<(), Fail> {
     let one = id(1)?;

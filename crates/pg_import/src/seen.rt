@@ -9,7 +9,7 @@ ghost use Rattle.pg_import.specs.Seen.{AreSeen, IsSource, IsTarget};
 ghost use Rattle.pg_import.specs.declared.seen.Source.{Source};
 
 use crate::{Line, Memory};
-use pg_graph::{Graph, Row, VertexId};
+use pg_graph::{Finder, Graph, Row, VertexId};
 use std::alloc::Global;
 
 /// Whether the graph has the source of a line, and the line's edge.
@@ -46,7 +46,7 @@ impl Seen {
     {
         match self.sources.get(place) {
             Some(Some(source)) => *source,
-            _ => source_of(line, graph),
+            _ => source_of(line, &mut graph.finder()),
         }
     }
 
@@ -67,9 +67,10 @@ fn sources_of(alloc: Global, lines: &[Line], graph: &Graph) -> Result<Vec<Option
 {
     let mut seen = none_of(alloc, lines)?;
     let places = by_rising(alloc, lines, End::Source)?;
+    let mut finder = graph.finder();
     for (_, place) in places.as_slice() {
         if let Some(line) = lines.get(*place) {
-            seen[*place] = Some(source_of(line, graph));
+            seen[*place] = Some(source_of(line, &mut finder));
         }
     }
     Ok(seen)
@@ -80,9 +81,10 @@ fn targets_of(alloc: Global, lines: &[Line], graph: &Graph) -> Result<Vec<Option
 {
     let mut seen = none_of(alloc, lines)?;
     let places = by_rising(alloc, lines, End::Target)?;
+    let mut finder = graph.finder();
     for (_, place) in places.as_slice() {
         if let Some(line) = lines.get(*place) {
-            seen[*place] = Some(graph.row(line.target).is_some());
+            seen[*place] = Some(finder.get(line.target).is_some());
         }
     }
     Ok(seen)
@@ -121,10 +123,11 @@ fn by_rising(alloc: Global, lines: &[Line], end: End) -> Result<Vec<(VertexId, u
 }
 
 /// Whether the graph has the source of a line, and the line's edge.
-fn source_of(line: &Line, graph: &Graph) -> Source
-    ensures { IsSource graph.now line.now result }
+fn source_of(line: &Line, finder: &mut Finder<'_, Row>) -> Source
+    ensures value { IsSource finder.old line.now result }
+    ensures same { finder.new ≡ finder.old }
 {
-    let row = graph.row(line.source);
+    let row = finder.get(line.source);
     Source {
         vertex: row.is_some(),
         edge: has_edge_to(row, line.target),

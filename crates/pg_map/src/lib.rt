@@ -2,13 +2,17 @@
 #![tactic(auto)]
 
 mod chunk;
+mod find;
 mod gather;
 mod merge;
 mod number;
+mod pack;
 mod shared;
 mod walk;
 
+pub use find::Finder;
 pub use number::{Edition, PartitionId, Superstep, VertexId, WorkerId};
+pub use pack::Pack;
 pub use shared::{Map, Share};
 pub use std::alloc::AllocError as Memory;
 pub use walk::{Ids, Iter};

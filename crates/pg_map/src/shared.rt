@@ -5,9 +5,11 @@ ghost use Rattle.std.specs.Map.{keys_of};
 ghost use Rattle.std.specs.Map.Iter.{ShowsInOrder, deref, deref_pair};
 
 use crate::chunk::{Spine, counted, is_at_most, is_below};
+use crate::find::{begun, value_in};
 use crate::gather::Gathering;
 use crate::merge::changed;
-use crate::{Ids, Iter, Memory, VertexId};
+use crate::pack::pack_spine;
+use crate::{Finder, Ids, Iter, Memory, Pack, VertexId};
 use std::alloc::Global;
 use std::marker::Model;
 
@@ -72,15 +74,14 @@ impl<V> Map<V> {
         ensures { option_copied result ≡ value_at id self.now }
     {
         let chunks = self.chunks.as_slice();
-        let after = chunks.partition_point(|chunk| is_at_most(chunk.first, id));
-        if after == 0 {
-            return None;
-        }
-        let entries = chunks[after - 1].entries.as_slice();
-        match entries.binary_search_by_key(&id, |entry| entry.0) {
-            Ok(place) => Some(&entries[place].1),
-            Err(_) => None,
-        }
+        value_in(chunks, begun(chunks, 0, id), id)
+    }
+
+    /// Look-ups that come near one another.
+    pub fn finder(&self) -> Finder<'_, V>
+        ensures { result ≡ self.now }
+    {
+        Finder::of(self.chunks.as_slice())
     }
 
     /// The entries, by rising id.
@@ -168,5 +169,15 @@ impl<V: Share> Map<V> {
         self.chunks = Spine::of(alloc, made)?;
         self.count = count;
         Ok(())
+    }
+}
+
+impl<V: Pack> Map<V> {
+    /// Lays the values anew, chunk by chunk, as `V` says and as far as there is memory for it. Where a
+    /// copy shares the map's memory, all stays as it is.
+    pub fn pack(&mut self, alloc: Global)
+        ensures { self.new ≡ self.old }
+    {
+        pack_spine(alloc, &mut self.chunks);
     }
 }

@@ -1,6 +1,6 @@
 ghost use Rattle.std.specs.Prelude.{◌≡◌, ◌<◌, IfOk};
 
-use crate::{Map, Memory, VertexId};
+use crate::{Map, Memory, Pack, VertexId};
 use std::alloc::Global;
 use std::process::Abort;
 use std::test::Fail;
@@ -31,6 +31,15 @@ fn two_entries(alloc: Global, low: VertexId, high: VertexId) -> Result<Map<i64>,
 {
     let entries = vec![in alloc; (low, 5), (high, -6)]?;
     Map::from_rising(alloc, entries)
+}
+
+impl Pack for i64 {
+    fn packed(
+        alloc: Global,
+        entries: &[(VertexId, i64)],
+    ) -> Result<Option<Vec<(VertexId, i64)>>, Memory> {
+        Ok(Some(Vec::from_slice(alloc, entries)?))
+    }
 }
 
 // Sets each third number below 3,000 to itself, in an order that jumps.
@@ -126,5 +135,31 @@ fn a_refused_growth_leaves_the_map(rt: HostRuntime) -> Result<(), Fail> {
     assert_eq!(rt; map.len(), 600);
     assert_eq!(rt; map.get(id(700)?).copied(), Some(2));
     assert_eq!(rt; before.get(id(3)?).copied(), Some(1));
+    Ok(())
+}
+
+#[test]
+fn packing_changes_nothing(rt: HostRuntime) -> Result<(), Fail> {
+    let mut map = thousand(rt.alloc())?;
+    let copy = map.share()?;
+    map.pack(rt.alloc());
+    is_thousand(&rt, &copy)?;
+    drop(copy);
+    map.pack(rt.alloc());
+    is_thousand(&rt, &map)
+}
+
+#[test]
+fn a_finder_goes_both_ways(rt: HostRuntime) -> Result<(), Fail> {
+    let map = thousand(rt.alloc())?;
+    let mut finder = map.finder();
+    for number in 0..3000u64 {
+        let near = id(number)?;
+        assert_eq!(rt; finder.get(near).copied(), map.get(near).copied());
+    }
+    for number in 0..3000u64 {
+        let far = id(number * 7919 % 3001)?;
+        assert_eq!(rt; finder.get(far).copied(), map.get(far).copied());
+    }
     Ok(())
 }

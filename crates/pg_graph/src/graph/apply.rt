@@ -1,7 +1,7 @@
 //! A batch of edits, made of a graph at once.
-ghost use Rattle.std.specs.Prelude.{◌≡◌, ◌<◌, ◌≤◌, length, Ok, Err, IfOk, IfErr, IsTrue, OnOk, OnErr};
-ghost use Rattle.pg_graph.specs.Edit.{batch_edited, batch_limit, too_long_fault, RefusesBatch};
-ghost use Rattle.pg_graph.specs.RowEdit.{HasRoom};
+ghost use Rattle.std.specs.Prelude.{◌≡◌, ◌⊎◌, ◌<◌, ◌≤◌, length, Ok, Err, IfOk, IfErr, IsTrue, OnOk, OnErr};
+ghost use Rattle.pg_graph.specs.Edit.{batch_edited, batch_limit, memory_fault, too_long_fault, RefusesBatch};
+ghost use Rattle.pg_graph.specs.RowEdit.{AreRowsMade, HasRoom, IsEarliestFault};
 ghost use Rattle.pg_graph.specs.Rows.{HasRisingIds, edge_count, vertex_count};
 ghost use Rattle.pg_graph.specs.Draft.{Makes};
 ghost use Rattle.pg_map.specs.Entries.{with_changes};
@@ -12,17 +12,25 @@ use crate::grouped::changes_by_vertex;
 use crate::{Batch, EditFault, EditKind, Memory};
 use std::alloc::Global;
 
+/// Each changed row pays for a look at so many.
+const ROWS_TO_PAY: u64 = 64;
+
 impl Graph {
     /// Makes all edits of a batch, in their order, or none. The first edit that has no result
     /// decides which fault is answered; a batch of more than 100,000 edits is refused first.
     ///
     /// With k edits of a graph of n vertices it takes O(n / 128 + k log(n + k)), and O(d log d) for
-    /// each vertex whose edges are edited, where d is how many it has. Other edges are shared as before.
+    /// each vertex whose edges are edited, where d is how many it has. Other edges are shared as before,
+    /// but where a 64th of all rows is changed or more: then it goes over all rows, and the edges of
+    /// rows that stand beside changed ones may be copied.
     /// The edits are made of one vertex after another, unless so many could meet a limit.
     pub fn apply(&mut self, alloc: Global, batch: &Batch) -> Result<(), EditFault>
         ensures ok { OnOk result (batch_edited self.old batch.now ≡ Ok self.new) }
         ensures refused { IfErr result (RefusesBatch self.old batch.now) }
         ensures too_long { batch_limit < length batch.now → result ≡ Err too_long_fault }
+        ensures rows { OnOk result (HasRoom (vertex_count self.old) (edge_count self.old) (length batch.now) → AreRowsMade self.old batch.now self.new) }
+        ensures first { IfErr result (λ fault. HasRoom (vertex_count self.old) (edge_count self.old) (length batch.now) → length batch.now ≤ batch_limit
+            → (fault ≡ memory_fault) ⊎ IsEarliestFault self.old batch.now fault) }
         ensures position { IfErr result (λ fault. fault.position ≤ length batch.now) }
         ensures err { OnErr result (self.new ≡ self.old) }
     {
@@ -55,8 +63,16 @@ impl Graph {
     {
         self.rows.change(alloc, changes.rows.as_slice())?;
         self.total_edges = changes.edges;
+        if is_many(changes.rows.len() as u64, self.vertices()) {
+            self.rows.pack(alloc);
+        }
         Ok(())
     }
+}
+
+/// Whether so many rows are changed that a walk over all of them is paid for.
+fn is_many(changed: u64, vertices: u64) -> bool {
+    changed.saturating_mul(ROWS_TO_PAY) >= vertices
 }
 
 /// What a batch changes, or the first of its edits that has no result, found edit by edit.

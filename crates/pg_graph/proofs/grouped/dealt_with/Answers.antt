@@ -5,11 +5,12 @@ use Rattle.pg_graph.specs.Changes.{degree_of}
 use Rattle.pg_graph.specs.RowEdit.{source_of, vertex_after}
 use Rattle.pg_graph.specs.Grouped.{AreDealt}
 use Rattle.pg_graph.specs.Rows.{edge_count, row_at}
-use Rattle.pg_graph.proofs.Dealing.{IsTurn, no_changes, none_dealt, row_found, fault_found, not_changed, next_counted, degree_fits}
+use Rattle.pg_graph.proofs.Dealing.{IsTurn, fewer_left, no_changes, none_dealt, row_found, fault_found, not_changed, next_counted, degree_fits}
 use Rattle.pg_graph.proofs.grouped.dealt_with.Goals as goal
 
 pub loop-first-init : goal.loop-first-init
 loop-first-init c = record {
+  found = c.finder-finder.ensures;
   dealt = none_dealt c.args.graph.now c.args.edits.now _ c.new-rows.ensures.items (no_changes _ c.new-rows.ensures.items) c.requires.edits_rise;
   counted = c.edges-edges.ensures.value ∙ ap (λ l. edge_count (with_changes l c.args.graph.now)) (sym c.new-rows.ensures.items);
 }
@@ -33,7 +34,7 @@ edges_with-requires c =
     let none = not_changed rows c.args.edits.now left here _ _ c.in-Some.first.now c.count_of.result changes c.loop-first.fault turn
     c.loop-first.invariant.dealt in
     let fits = degree_fits rows changes c.requires.rising c.loop-first.invariant.dealt.changes_rise _ none in
-    omega (arith, fits, ap degree_of (c.row-row.ensures ∙ ap (λ k. row_at k rows) id), c.loop-first.invariant.counted)
+    omega (arith, fits, ap degree_of (c.get-row.ensures.value ∙ ap (row_at c.source-id.result) c.loop-first.invariant.found ∙ ap (λ k. row_at k rows) id), c.loop-first.invariant.counted)
 
 pub loop-first-preserved-in_ok-push-in-Ok : goal.loop-first-preserved-in_ok-push-in-Ok
 loop-first-preserved-in_ok-push-in-Ok c =
@@ -51,7 +52,7 @@ loop-first-preserved-in_ok-push-in-Ok c =
       parts = subst (λ k. IsPartitionPoint (λ e. leb (source_of e.1) k ≡ true)
           (λ e. leb (source_of e.1) k ≡ false) left c.count_of.result) id c.count_of.ensures.parts;
     } in
-    let was = c.row-row.ensures ∙ ap (λ k. row_at k rows) id in
+    let was = c.get-row.ensures.value ∙ ap (row_at c.source-id.result) c.loop-first.invariant.found ∙ ap (λ k. row_at k rows) id in
     let made = sym c.in-Ok.is ∙ c.in_ok-changed.ensures ∙ ap (λ r. vertex_after r here) was in
     let grown = c.in_ok-push-in-Ok.ensures.items ∙ ap (λ k. changes ++ (k, c.in-Ok.changed) ∷ []) id in
     let none = not_changed rows c.args.edits.now left here _ _ c.in-Some.first.now c.count_of.result changes c.loop-first.fault turn
@@ -60,6 +61,7 @@ loop-first-preserved-in_ok-push-in-Ok c =
     (with_changes changes rows) + degree_of c.in-Ok.changed =
     omega (arith, c.in_ok-edges-in-Ok.ensures, ap degree_of was, ap degree_of c.as_ref.ensures.value, c.loop-first.invariant.counted) in
     record {
+      found = c.get-row.ensures.same ∙ c.loop-first.invariant.found;
       dealt = row_found rows c.args.edits.now left here _ _ c.in-Some.first.now c.count_of.result changes c.loop-first.fault turn
           c.loop-first.invariant.dealt c.in-Ok.changed made _ grown;
       counted =
@@ -83,10 +85,25 @@ loop-first-preserved c =
       parts = subst (λ k. IsPartitionPoint (λ e. leb (source_of e.1) k ≡ true)
           (λ e. leb (source_of e.1) k ≡ false) left c.count_of.result) id c.count_of.ensures.parts;
     } in
-    let made = sym c.in-Err.is ∙ c.in_ok-changed.ensures ∙ ap (λ r. vertex_after r here) (c.row-row.ensures ∙ ap (λ k. row_at k rows) id) in
+    let made = sym c.in-Err.is ∙ c.in_ok-changed.ensures ∙ ap (λ r. vertex_after r here) (c.get-row.ensures.value ∙ ap (row_at c.source-id.result) c.loop-first.invariant.found ∙ ap (λ k. row_at k rows) id) in
     record {
+      found = c.get-row.ensures.same ∙ c.loop-first.invariant.found;
       dealt = subst (λ f. AreDealt rows c.args.edits.now c.split_at.result.1.now changes (Some f)) (sym c.earlier.ensures)
           (fault_found rows c.args.edits.now left here _ _ c.in-Some.first.now c.count_of.result changes c.loop-first.fault turn
           c.loop-first.invariant.dealt c.in-Err.found made);
       counted = c.loop-first.invariant.counted;
     }
+
+pub loop-first-smaller-in_ok-push-in-Ok : goal.loop-first-smaller-in_ok-push-in-Ok
+loop-first-smaller-in_ok-push-in-Ok c =
+    let id = c.source-id.ensures in
+    let left = c.loop-first.left.now in
+    fewer_left left c.split_at.result.0.now c.split_at.result.1.now c.in-Some.field-0-1.now c.in-Some.first.now c.count_of.result (record {
+      next = c.in-Some.ensures.cases.0;
+      front = c.split_at.ensures.front;
+      back = c.split_at.ensures.back;
+      whole = c.split_at.ensures.by_index.0;
+      within = c.count_of.ensures.bound;
+      parts = subst (λ k. IsPartitionPoint (λ e. leb (source_of e.1) k ≡ true)
+          (λ e. leb (source_of e.1) k ≡ false) left c.count_of.result) id c.count_of.ensures.parts;
+    })

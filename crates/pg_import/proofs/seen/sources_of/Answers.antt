@@ -1,4 +1,4 @@
-use Rattle.std.proofs.Common.{◌≡◌, ◌<◌, length, Some, arith, refl, sym, ◌∙◌}
+use Rattle.std.proofs.Common.{◌≡◌, ◌<◌, length, Some, arith, refl, sym, ◌∙◌, subst}
 use borrow.Author.Tests.{ltb-true}
 use Rattle.std.specs.List.{slice_get}
 use Rattle.std.proofs.lemmas.List.{length-set}
@@ -18,10 +18,11 @@ loop-place-preserved c = elim c.match-get.branch [
       let at : slice_get lines place ≡ Some w.in-Some.line.now = slice_get_read lines (length lines) place w.in-Some.line.now refl inside looked.1 in
       let within : place < length c.loop-place.seen.items = omega (arith, inside, c.loop-place.invariant.long) in
       let source = w.source_of.result in
-      rw w.seen-is (record {
+      rw (w.seen-is, w.finder-is) (record {
         seen = seen_more (IsSource c.args.graph.now) lines c.loop-place.seen.items place within c.loop-place.invariant.seen w.in-Some.line.now
-            source at w.source_of.ensures;
+            source at (subst (λ rows. IsSource rows w.in-Some.line.now source) c.loop-place.invariant.found w.source_of.ensures.value);
+        found = w.source_of.ensures.same ∙ c.loop-place.invariant.found;
         long = length-set c.loop-place.seen.items place (Some source) ∙ c.loop-place.invariant.long;
       })
-  | in_default w ↦ rw w.seen-is (record { seen = c.loop-place.invariant.seen; long = c.loop-place.invariant.long })
+  | in_default w ↦ rw (w.seen-is, w.finder-is) (record { seen = c.loop-place.invariant.seen; found = c.loop-place.invariant.found; long = c.loop-place.invariant.long })
 ]
