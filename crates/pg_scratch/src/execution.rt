@@ -83,8 +83,9 @@ pub(crate) fn execute_all<P: Computation>(
     ensures lists { IfOk result (λ found. ListsActive standings.new.items found.unhalted.items) }
     ensures edges { IfOk result (λ found. Counts found.edges (edges_of standings.new.items)) }
 {
+    let unhalted = Vec::with_capacity(alloc, work.len())?;
     let mut found = Findings {
-        unhalted: Vec::new(alloc),
+        unhalted,
         edges: exact(edges),
     };
     if work.is_empty() {
@@ -92,7 +93,15 @@ pub(crate) fn execute_all<P: Computation>(
     }
     let mut vertex = vertex_like(alloc, &standings[work[0]])?;
     for place in work {
-        execute_at(alloc, program, standings, *place, &mut vertex, cx, &mut found)?;
+        execute_at(
+            alloc,
+            program,
+            standings,
+            *place,
+            &mut vertex,
+            cx,
+            &mut found,
+        )?;
     }
     Ok(found)
 }

@@ -17,7 +17,7 @@ index-requires g c =
 
 pub loop-place-init : goal.loop-place-init
 loop-place-init g c =
-    passed_first (g.P.Computation.program c.args.program.now) c.args.standings.now.items c.args.cx.now c.args.work.now c.exact.result c.requires.fits c.requires.lists (c.exact.ensures _ c.requires.edges) c.new.result.items c.new.ensures.items
+    passed_first (g.P.Computation.program c.args.program.now) c.args.standings.now.items c.args.cx.now c.args.work.now c.exact.result c.requires.fits c.requires.lists (c.exact.ensures _ c.requires.edges) c.in_ok-unhalted.unhalted.items c.in_ok-unhalted.ensures.items
 
 pub execute_at-requires-clause-within : goal.execute_at-requires-clause-within
 execute_at-requires-clause-within g c =
