@@ -35,11 +35,29 @@ impl<M: Drop> Cx<M> {
         ensures { result
             ≡ record { view = view; writes = declared.writes; sent = []; contributed = []; calls = meter } }
     {
+        let (sent, contributed) = (Sequence::new(alloc), Sequence::new(alloc));
+        Cx::with_room(view, declared, meter, sent, contributed)
+    }
+
+    /// The same, where what is sent and contributed takes the memory of these lists, whose values are let go
+    /// of. So contexts that follow one another need not grow anew.
+    pub fn with_room(
+        view: View,
+        declared: Declared,
+        meter: Meter,
+        mut sent: Sequence<(VertexId, M)>,
+        mut contributed: Sequence<(Place, i64)>,
+    ) -> Cx<M>
+        ensures { result
+            ≡ record { view = view; writes = declared.writes; sent = []; contributed = []; calls = meter } }
+    {
+        sent.clear();
+        contributed.clear();
         Cx {
             view,
             writes: declared.writes,
-            sent: Sequence::new(alloc),
-            contributed: Sequence::new(alloc),
+            sent,
+            contributed,
             meter,
         }
     }

@@ -7,6 +7,7 @@ use crate::search::place_of;
 use pg_graph::{Edges, Memory, VertexId};
 use std::alloc::Global;
 use std::marker::Model;
+use std::mem;
 
 /// Memory in which one vertex after another may change its out-edges.
 #[derive(Drop)]
@@ -57,6 +58,33 @@ impl OwnEdges {
             room,
             is_changed: false,
         })
+    }
+
+    /// Takes over these edges, in exchange for others that nothing is said of. The room grows where it
+    /// has to.
+    pub(crate) fn take(&mut self, edges: &mut Edges) -> Result<(), Memory>
+        ensures { OnOk result (self.new ≡ edges.old) }
+    {
+        self.room.clear();
+        self.is_changed = true;
+        self.room.reserve(edges.as_slice().len())?;
+        mem::swap(&mut self.shared, edges);
+        self.is_changed = false;
+        Ok(())
+    }
+
+    /// Gives the edges back, shared again, in exchange for others that nothing is said of.
+    pub(crate) fn give_back(&mut self, alloc: Global, edges: &mut Edges) -> Result<(), Memory>
+        ensures { OnOk result (edges.new ≡ self.old) }
+    {
+        if self.is_changed {
+            let changed = Vec::from_slice(alloc, self.room.as_slice())?;
+            self.shared = Edges::from_rising(alloc, changed)?;
+        }
+        self.room.clear();
+        self.is_changed = true;
+        mem::swap(&mut self.shared, edges);
+        Ok(())
     }
 
     pub(crate) fn as_slice(&self) -> &[(VertexId, i64)]

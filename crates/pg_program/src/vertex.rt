@@ -7,6 +7,7 @@ use pg_graph::{Edges, Memory, VertexId};
 use pg_model::VertexState;
 use std::alloc::Global;
 use std::marker::Model;
+use std::mem;
 
 /// A vertex in one execution: its id, its value and its out-edges, and whether it voted to halt
 /// (Pregel, section 3).
@@ -43,6 +44,36 @@ impl<V> Vertex<V> {
             edges: OwnEdges::new(edges, room)?,
             halted: false,
         })
+    }
+
+    /// Begins the execution of the vertex that is in this state, which is lent until [`Vertex::give_back`]: in
+    /// the meantime another state stands there, of which nothing is said. So one vertex may serve the
+    /// executions of many, and no state is moved. The room grows where it has to.
+    ///
+    /// Nothing is said of the vertex and the state where it answers want of memory.
+    pub fn take(&mut self, state: &mut VertexState<V>) -> Result<(), Memory>
+        ensures { OnOk result
+            (self.new
+            ≡ record { id = state.old.id; value = state.old.value; edges = state.old.edges; halted = false }) }
+    {
+        self.edges.take(&mut state.edges)?;
+        mem::swap(&mut self.id, &mut state.id);
+        mem::swap(&mut self.value, &mut state.value);
+        self.halted = false;
+        Ok(())
+    }
+
+    /// Gives the state back that the execution leaves. Edges that weren't changed stay shared.
+    ///
+    /// Nothing is said of the vertex afterwards, nor of the state where it answers want of memory.
+    pub fn give_back(&mut self, alloc: Global, state: &mut VertexState<V>) -> Result<(), Memory>
+        ensures { OnOk result (state.new ≡ self.old) }
+    {
+        self.edges.give_back(alloc, &mut state.edges)?;
+        mem::swap(&mut self.id, &mut state.id);
+        mem::swap(&mut self.value, &mut state.value);
+        state.halted = self.halted;
+        Ok(())
     }
 
     /// The id.

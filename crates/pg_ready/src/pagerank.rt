@@ -129,7 +129,10 @@ fn part(whole: u64, parts: u64) -> i64
 fn damped(sum: i64) -> i64
     ensures { result ≡ int_div (sum *ℤ pos 85) (pos 100) }
 {
-    (i128::from(sum) * 85 / 100) as i64
+    match sum.checked_mul(85) {
+        Some(product) => product / 100,
+        None => (i128::from(sum) * 85 / 100) as i64,
+    }
 }
 
 /// How far two ranks are apart, at most the greatest number.

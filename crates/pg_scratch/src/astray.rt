@@ -61,7 +61,7 @@ fn waiting_of<M: Plain, C: MessageCombiner<M>>(
         combiner,
         &ids,
         &mut blanks,
-        strays,
+        strays.as_slice(),
         &mut lost,
         false,
         &mut receivers,

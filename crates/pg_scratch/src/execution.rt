@@ -13,18 +13,9 @@ ghost use Rattle.pg_scratch.specs.Worklist.{ListsActive};
 
 use crate::totals::{exact, exchanged};
 use pg_graph::Memory;
-use pg_model::{Standing, VertexState};
+use pg_model::Standing;
 use pg_program::{Computation, Cx, EdgeRoom, Plain, Vertex};
 use std::alloc::Global;
-use std::mem;
-
-/// What an execution borrows and gives back: a state that stands in for the vertex's own in the meantime,
-/// and room for changed edges.
-#[derive(Drop)]
-struct Bench<V> {
-    stand_in: VertexState<V>,
-    room: EdgeRoom,
-}
 
 /// What a pass over the vertices finds: the places of those that aren't halted then, and how many edges all
 /// vertices have, where it is known.
@@ -41,14 +32,14 @@ pub(crate) fn is_active<V, M>(standing: &Standing<V, M>) -> bool
     !standing.state.halted || standing.inbox.len() != 0
 }
 
-/// Executes an active vertex, which has then received nothing since.
+/// Executes an active vertex, which has then received nothing since. It is lent `vertex` to work in.
 fn execute<P: Computation>(
     alloc: Global,
     program: &P,
     standing: &mut Standing<P::Value, P::Message>,
-    bench: Bench<P::Value>,
+    vertex: &mut Vertex<P::Value>,
     cx: &mut Cx<P::Message>,
-) -> Result<Bench<P::Value>, Memory>
+) -> Result<(), Memory>
     requires active { active_test standing.old ≡ true }
     requires shown { ShowsDeclared (P.program program.now).declared cx.old.view }
     requires writes { cx.old.writes ≡ (P.program program.now).declared.writes }
@@ -62,20 +53,11 @@ fn execute<P: Computation>(
       calls = capped (cx.old.calls + 1);
     }) }
 {
-    let Bench { stand_in, room } = bench;
-    let state = mem::replace(&mut standing.state, stand_in);
-    let VertexState {
-        id,
-        value,
-        edges,
-        halted: _,
-    } = state;
-    let mut vertex = Vertex::new(id, value, edges, room)?;
-    program.compute(alloc, &mut vertex, standing.inbox.as_slice(), cx)?;
+    vertex.take(&mut standing.state)?;
+    program.compute(alloc, vertex, standing.inbox.as_slice(), cx)?;
     standing.inbox.clear();
-    let (state, room) = vertex.into_parts(alloc)?;
-    let stand_in = mem::replace(&mut standing.state, state);
-    Ok(Bench { stand_in, room })
+    vertex.give_back(alloc, &mut standing.state)?;
+    Ok(())
 }
 
 /// Executes the active vertices, whose places are on the list `work`, by rising place. `edges` is how many
@@ -101,31 +83,34 @@ pub(crate) fn execute_all<P: Computation>(
     ensures lists { IfOk result (λ found. ListsActive standings.new.items found.unhalted.items) }
     ensures edges { IfOk result (λ found. Counts found.edges (edges_of standings.new.items)) }
 {
+    let unhalted = Vec::with_capacity(alloc, work.len())?;
     let mut found = Findings {
-        unhalted: Vec::new(alloc),
+        unhalted,
         edges: exact(edges),
     };
     if work.is_empty() {
         return Ok(found);
     }
-    let mut bench = bench_of(alloc, &standings[work[0]])?;
+    let mut vertex = vertex_like(alloc, &standings[work[0]])?;
     for place in work {
-        bench = execute_at(alloc, program, standings, *place, bench, cx, &mut found)?;
+        execute_at(
+            alloc,
+            program,
+            standings,
+            *place,
+            &mut vertex,
+            cx,
+            &mut found,
+        )?;
     }
     Ok(found)
 }
 
-/// A bench whose state is a copy of a vertex's.
-fn bench_of<V: Plain, M>(alloc: Global, standing: &Standing<V, M>) -> Result<Bench<V>, Memory> {
-    Ok(Bench {
-        stand_in: VertexState {
-            id: standing.state.id,
-            value: standing.state.value.copy(alloc)?,
-            edges: standing.state.edges.copy()?,
-            halted: standing.state.halted,
-        },
-        room: EdgeRoom::new(alloc),
-    })
+/// A vertex to work in, which is a copy of another.
+fn vertex_like<V: Plain, M>(alloc: Global, standing: &Standing<V, M>) -> Result<Vertex<V>, Memory> {
+    let value = standing.state.value.copy(alloc)?;
+    let edges = standing.state.edges.copy()?;
+    Vertex::new(standing.state.id, value, edges, EdgeRoom::new(alloc))
 }
 
 /// Executes a vertex, if it is active.
@@ -133,9 +118,9 @@ fn visit<P: Computation>(
     alloc: Global,
     program: &P,
     standing: &mut Standing<P::Value, P::Message>,
-    bench: Bench<P::Value>,
+    vertex: &mut Vertex<P::Value>,
     cx: &mut Cx<P::Message>,
-) -> Result<Bench<P::Value>, Memory>
+) -> Result<(), Memory>
     requires shown { ShowsDeclared (P.program program.now).declared cx.old.view }
     requires writes { cx.old.writes ≡ (P.program program.now).declared.writes }
     requires fits { cx.old.calls < 2 ^ 64 }
@@ -145,10 +130,10 @@ fn visit<P: Computation>(
         (cx.new ≡ context_after (P.program program.now) cx.old standing.old) }
 {
     if !is_active(standing) {
-        return Ok(bench);
+        return Ok(());
     }
-    let bench = execute(alloc, program, standing, bench, cx)?;
-    Ok(bench)
+    execute(alloc, program, standing, vertex, cx)?;
+    Ok(())
 }
 
 /// Executes a vertex, if it is active, and keeps the number of all edges.
@@ -156,10 +141,10 @@ fn visit_counted<P: Computation>(
     alloc: Global,
     program: &P,
     standing: &mut Standing<P::Value, P::Message>,
-    bench: Bench<P::Value>,
+    vertex: &mut Vertex<P::Value>,
     cx: &mut Cx<P::Message>,
     edges: &mut Option<u64>,
-) -> Result<Bench<P::Value>, Memory>
+) -> Result<(), Memory>
     requires shown { ShowsDeclared (P.program program.now).declared cx.old.view }
     requires writes { cx.old.writes ≡ (P.program program.now).declared.writes }
     requires fits { cx.old.calls < 2 ^ 64 }
@@ -173,10 +158,10 @@ fn visit_counted<P: Computation>(
         (ran (P.program program.now) cx.old.view standing.old)) }
 {
     let before = standing.state.edges.as_slice().len();
-    let bench = visit(alloc, program, standing, bench, cx)?;
+    visit(alloc, program, standing, vertex, cx)?;
     let after = standing.state.edges.as_slice().len();
     *edges = exchanged(*edges, before, after);
-    Ok(bench)
+    Ok(())
 }
 
 /// Executes the vertex at a place, if it is active, and notes what it finds there.
@@ -185,10 +170,10 @@ fn execute_at<P: Computation>(
     program: &P,
     standings: &mut Vec<Standing<P::Value, P::Message>>,
     place: usize,
-    bench: Bench<P::Value>,
+    vertex: &mut Vertex<P::Value>,
     cx: &mut Cx<P::Message>,
     found: &mut Findings,
-) -> Result<Bench<P::Value>, Memory>
+) -> Result<(), Memory>
     requires within { place < length standings.old.items }
     requires shown { ShowsDeclared (P.program program.now).declared cx.old.view }
     requires writes { cx.old.writes ≡ (P.program program.now).declared.writes }
@@ -209,9 +194,9 @@ fn execute_at<P: Computation>(
         → Exchanges found.old.edges found.new.edges x (ran (P.program program.now) cx.old.view x)) }
 {
     let standing = &mut standings[place];
-    let bench = visit_counted(alloc, program, standing, bench, cx, &mut found.edges)?;
+    visit_counted(alloc, program, standing, vertex, cx, &mut found.edges)?;
     if !standing.state.halted {
         found.unhalted.push(place)?;
     }
-    Ok(bench)
+    Ok(())
 }

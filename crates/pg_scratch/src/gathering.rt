@@ -114,7 +114,7 @@ fn push_gathered(
 fn values_at(alloc: Global, place: usize, contributed: &[(Place, i64)]) -> Result<Vec<i64>, Memory>
     ensures { IfOk result (λ v. v.items ≡ at_place place contributed.now) }
 {
-    let mut values = Vec::new(alloc);
+    let mut values = Vec::with_capacity(alloc, contributed.len())?;
     for contribution in contributed {
         push_if_at(&mut values, place, contribution)?;
     }

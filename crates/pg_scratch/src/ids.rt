@@ -50,6 +50,7 @@ pub(crate) struct Ids {
     items: Vec<VertexId>,
     spread: Spread,
     starts: Vec<u32>,
+    is_dense: bool,
 }
 
 impl Model for Ids {
@@ -67,11 +68,25 @@ impl Ids {
     {
         let spread = Spread::over(items.as_slice());
         let starts = starts_of(alloc, items.as_slice(), spread)?;
+        let is_dense = spread.shift == 0 && starts.len() == items.len();
         Ok(Ids {
             items,
             spread,
             starts,
+            is_dense,
         })
+    }
+
+    /// Where an id is looked for first: at its slot where no id is left out between the first and the last.
+    fn start_of(&self, id: VertexId) -> usize {
+        let slot = self.spread.slot(id);
+        if self.is_dense {
+            return slot;
+        }
+        match self.starts.get(slot) {
+            Some(start) => *start as usize,
+            None => 0,
+        }
     }
 
     /// The place of an id.
@@ -80,11 +95,7 @@ impl Ids {
         ensures { MatchOption result (has_id self.now id ≡ false)
             (λ place. slice_get self.now place ≡ Some id) }
     {
-        let start = match self.starts.get(self.spread.slot(id)) {
-            Some(start) => *start as usize,
-            None => 0,
-        };
-        match found_near(self.items.as_slice(), start, id) {
+        match found_near(self.items.as_slice(), self.start_of(id), id) {
             Some(place) => Some(place),
             None => found_in(self.items.as_slice(), id),
         }

@@ -13,6 +13,7 @@ use pg_program::Plain;
 use std::alloc::Global;
 
 /// Adds a message to an inbox, which the combiner leaves one message at most.
+#[inline]
 pub(crate) fn put<M: Plain, C: MessageCombiner<M>>(
     alloc: Global,
     combiner: &C,

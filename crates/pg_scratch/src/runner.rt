@@ -12,7 +12,7 @@ ghost use Rattle.pg_scratch.specs.Worklist.{ListsActive};
 use crate::beginning::{initial_values, registrations_of, standings_of};
 use crate::ids::Ids;
 use crate::roster::ids_of;
-use crate::superstep::{Progress, Runner, is_anyone_active, superstep};
+use crate::superstep::{Progress, Runner, Spare, is_anyone_active, superstep};
 use pg_global::{MasterCompute, MessageCombiner, RegisterFault, Registration, Registry};
 use pg_graph::{Graph, Memory, Missing, Superstep, VertexId};
 use pg_model::{Configuration, Declared, Ending, Run, Sequence, Standing, VertexState};
@@ -167,6 +167,10 @@ fn begin<P: Computation>(
         work,
         edges: graph.edges(),
         meter,
+        spare: Spare {
+            sent: Sequence::new(alloc),
+            contributed: Sequence::new(alloc),
+        },
     })
 }
 
@@ -196,6 +200,7 @@ fn run_registered<P: Computation, C: MessageCombiner<P::Message>, M: MasterCompu
                 work: _,
                 edges: _,
                 meter,
+                spare: _,
             } = next;
             let run = answer_of(alloc, configuration, ending, done + 1)?;
             return Ok((run, meter));

@@ -36,8 +36,15 @@ pub(crate) struct Runner<'a, P, C, M> {
     pub limit: u32,
 }
 
+/// The memory of what a superstep sent and contributed, which the next one uses again.
+#[derive(Drop)]
+pub(crate) struct Spare<M> {
+    pub sent: Sequence<(VertexId, M)>,
+    pub contributed: Sequence<(Place, i64)>,
+}
+
 /// A run between two supersteps: what stands, the ids of the vertices that have a state, the places of the
-/// active ones, how many edges they have (at most 2^64 - 1), and the meter.
+/// active ones, how many edges they have (at most 2^64 - 1), the meter, and memory to use again.
 #[derive(Drop)]
 pub(crate) struct Progress<V, M> {
     pub configuration: Configuration<V, M>,
@@ -45,6 +52,7 @@ pub(crate) struct Progress<V, M> {
     pub work: Vec<usize>,
     pub edges: u64,
     pub meter: Meter,
+    pub spare: Spare<M>,
 }
 
 /// What the executions of a superstep leave: the vertices, with the places of those that aren't halted,
@@ -58,11 +66,13 @@ pub(crate) struct Played<V, M> {
     pub meter: Meter,
 }
 
-/// What the messages of a superstep make of its vertices, and of those that are no vertices.
+/// What the messages of a superstep make of its vertices, and of those that are no vertices, and the list
+/// that they stood on.
 #[derive(Drop)]
 pub(crate) struct Received<V, M> {
     pub roster: Roster<V, M>,
     pub astray: Astray<M>,
+    pub sent: Vec<(VertexId, M)>,
 }
 
 /// Whether any vertex is active, by the list of the places of the active ones.
@@ -86,6 +96,7 @@ fn play<P: Computation>(
     roster: Roster<P::Value, P::Message>,
     edges: u64,
     meter: Meter,
+    spare: Spare<P::Message>,
 ) -> Result<Played<P::Value, P::Message>, Memory>
     requires shown { ShowsDeclared (P.program program.now).declared view }
     requires in_place { IsInPlace roster }
@@ -98,7 +109,8 @@ fn play<P: Computation>(
         ids,
         work,
     } = roster;
-    let mut cx = Cx::new(alloc, view, program.declared(), meter);
+    let Spare { sent, contributed } = spare;
+    let mut cx = Cx::with_room(view, program.declared(), meter, sent, contributed);
     let found = execute_all(
         alloc,
         program,
@@ -149,7 +161,7 @@ fn receive<V: Drop, M: Plain, C: MessageCombiner<M>>(
         combiner,
         &ids,
         &mut standings,
-        sent,
+        sent.as_slice(),
         &mut strays,
         is_listed,
         &mut work,
@@ -163,6 +175,7 @@ fn receive<V: Drop, M: Plain, C: MessageCombiner<M>>(
             work,
         },
         astray,
+        sent,
     })
 }
 
@@ -188,6 +201,7 @@ pub(crate) fn superstep<P: Computation, C: MessageCombiner<P::Message>, M: Maste
         work,
         edges,
         meter,
+        spare,
     } = progress;
     let Configuration {
         standings,
@@ -212,7 +226,7 @@ pub(crate) fn superstep<P: Computation, C: MessageCombiner<P::Message>, M: Maste
         contributed,
         edges,
         meter,
-    } = play(alloc, runner.program, view, roster, edges, meter)?;
+    } = play(alloc, runner.program, view, roster, edges, meter, spare)?;
     let gathered = gather_all(
         alloc,
         runner.registrations,
@@ -220,13 +234,11 @@ pub(crate) fn superstep<P: Computation, C: MessageCombiner<P::Message>, M: Maste
         contributed.as_slice(),
     )?;
     let sent = sent.saturating_add(now_sent.len() as u64);
-    let Received { roster, astray } = receive(
-        alloc,
-        runner.combiner,
-        runner.missing,
+    let Received {
         roster,
-        now_sent,
-    )?;
+        astray,
+        sent: delivered,
+    } = receive(alloc, runner.combiner, runner.missing, roster, now_sent)?;
     let Roster {
         standings,
         ids,
@@ -245,6 +257,10 @@ pub(crate) fn superstep<P: Computation, C: MessageCombiner<P::Message>, M: Maste
         work,
         edges,
         meter,
+        spare: Spare {
+            sent: Sequence::from_vec(delivered),
+            contributed,
+        },
     };
     Ok((progress, visible.halt))
 }

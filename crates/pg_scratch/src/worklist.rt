@@ -56,7 +56,7 @@ pub(crate) fn active_places<V, M>(
     ensures lists { IfOk result (λ places. ListsActive standings.now places.items) }
     ensures in_order { IfOk result (λ places. IsStrictlySortedBy nat_cmp places.items) }
 {
-    let mut places = Vec::new(alloc);
+    let mut places = Vec::with_capacity(alloc, standings.len())?;
     for place in 0..standings.len() {
         if is_active_at(standings, place) {
             places.push(place)?;

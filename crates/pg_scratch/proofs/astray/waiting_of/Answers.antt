@@ -1,8 +1,9 @@
-use Rattle.std.proofs.Common.{ap, sym, ◌∙◌, subst, ℕ}
+use Rattle.std.proofs.Common.{ap, sym, ◌∙◌, subst, ℕ, List}
 use Rattle.std.specs.Ordering.{nat_cmp}
 use Rattle.std.specs.List.Sorted.{IsStrictlySortedBy}
 use Rattle.pg_model.specs.Superstep.{targets}
 use Rattle.pg_model.proofs.LawsMade.{targets-rise}
+use Rattle.pg_scratch.specs.Inbox.{with_messages}
 use Rattle.pg_scratch.proofs.Settling.{blank_ids, blank_empty, blank_inboxes}
 use Rattle.pg_scratch.proofs.astray.waiting_of.Goals as goal
 
@@ -22,4 +23,5 @@ pub returns : goal.returns
 returns g c =
     blank_inboxes (g.C.MessageCombiner.combining c.args.combiner.now) c.args.strays.items c.as_slice-2.result.now (targets c.args.strays.items) c.in_ok-blanks.blanks.items c.deliver.new.standings.items c.in_ok-inboxes.inboxes c.in_ok-blanks.ensures
     (c.as_slice-2.ensures.value ∙ (c.in_ok-ids.ensures ∙ ap (targets {M = g.row.M.Denot}) c.as_slice.ensures.value))
-    c.in_ok-deliver.ensures.standings c.in_ok-inboxes.ensures
+    (c.in_ok-deliver.ensures.standings ∙ ap (λ (l : List (ℕ × g.row.M.Denot)). with_messages (g.C.MessageCombiner.combining c.args.combiner.now) l c.in_ok-blanks.blanks.items) c.as_slice-3.ensures.value)
+    c.in_ok-inboxes.ensures

@@ -17,7 +17,7 @@ index-requires g c =
 
 pub loop-place-init : goal.loop-place-init
 loop-place-init g c =
-    passed_first (g.P.Computation.program c.args.program.now) c.args.standings.now.items c.args.cx.now c.args.work.now c.exact.result c.requires.fits c.requires.lists (c.exact.ensures _ c.requires.edges) c.new.result.items c.new.ensures.items
+    passed_first (g.P.Computation.program c.args.program.now) c.args.standings.now.items c.args.cx.now c.args.work.now c.exact.result c.requires.fits c.requires.lists (c.exact.ensures _ c.requires.edges) c.in_ok-unhalted.unhalted.items c.in_ok-unhalted.ensures.items
 
 pub execute_at-requires-clause-within : goal.execute_at-requires-clause-within
 execute_at-requires-clause-within g c =
@@ -43,7 +43,7 @@ pub loop-place-preserved : goal.loop-place-preserved
 loop-place-preserved g c =
     let p = c.loop-place.invariant in
     pass_on (g.P.Computation.program c.args.program.now) c.args.standings.now.items c.loop-place.standings.items c.args.cx.now c.loop-place.cx c.args.work.now c.loop-place.found.unhalted.items c.loop-place.found.edges c.loop-place.place-index p.0 c.requires.lists c.requires.rising p.1 c.loop-place-test.true
-    c.execute_at.new.standings.items c.execute_at.new.cx c.execute_at.new.found.unhalted.items c.execute_at.new.found.edges c.in_ok-bench-2.ensures.standings c.in_ok-bench-2.ensures.context c.in_ok-bench-2.ensures.unhalted c.in_ok-bench-2.ensures.edges
+    c.execute_at.new.standings.items c.execute_at.new.cx c.execute_at.new.found.unhalted.items c.execute_at.new.found.edges c.in_ok-execute_at.ensures.standings c.in_ok-execute_at.ensures.context c.in_ok-execute_at.ensures.unhalted c.in_ok-execute_at.ensures.edges
 
 pub returns-clause-standings : goal.returns-clause-standings
 returns-clause-standings g c =

@@ -14,4 +14,4 @@ returns-then-not-is_active-clause-context g c =
 pub returns-clause-context : goal.returns-clause-context
 returns-clause-context g c =
     context_after-active (g.P.Computation.program c.args.program.now) c.args.cx.now c.args.standing.now c.execute.new.cx (sym c.is_active.ensures
-    ∙ c.if-not-is_active.false) c.in_ok-bench.ensures.context
+    ∙ c.if-not-is_active.false) c.in_ok-execute.ensures.context

@@ -1,6 +1,7 @@
-use Rattle.std.proofs.Common.{ℕ, ◌+◌, ℤ, List, length, ap, sym, ◌∙◌, refl}
+use Rattle.std.proofs.Common.{ℕ, ◌+◌, ℤ, List, length, ap, sym, ◌∙◌, refl, subst}
+use Rattle.pg_model.specs.InOrder.{AreWaiting}
 use Rattle.pg_model.specs.Job.{Totals, Aggregating}
-use Rattle.pg_model.specs.Superstep.{capped, edges_of, visible_in, view_of, gathered_from, with_made}
+use Rattle.pg_model.specs.Superstep.{capped, edges_of, ids, visible_in, view_of, gathered_from, with_made}
 use Rattle.pg_model.specs.declared.view.Declared.{Declared}
 use Rattle.pg_model.specs.declared.configuration.Standing.{Standing}
 use Rattle.pg_global.specs.Master.{job_of}
@@ -8,6 +9,10 @@ use Rattle.pg_scratch.proofs.Merging.{edges-made}
 use Rattle.pg_scratch.proofs.Stepping.{shown_in}
 use Rattle.pg_scratch.proofs.Whole.{played_ids, played_empty, aggregators-registered, as_many-registered, stepped}
 use Rattle.pg_scratch.proofs.superstep.superstep.Goals as goal
+
+pub with_waiting-requires-clause-waiting : goal.with_waiting-requires-clause-waiting
+with_waiting-requires-clause-waiting g c =
+    λ _ _. subst (λ (l : List (Standing g.row.P-Value.Denot g.row.P-Message.Denot)). AreWaiting {M = g.row.P-Message.Denot} (ids l) c.args.progress.configuration.waiting) (sym c.into_vec-standings.ensures) c.requires.ready.in_order.waiting
 
 pub play-requires-clause-shown : goal.play-requires-clause-shown
 play-requires-clause-shown g c =

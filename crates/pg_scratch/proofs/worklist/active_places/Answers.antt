@@ -4,7 +4,7 @@ use Rattle.pg_scratch.proofs.worklist.active_places.Goals as goal
 use Rattle.pg_scratch.proofs.worklist.active_places.Goals.{then-is_active_at+in_ok-push, else-is_active_at}
 
 pub loop-place-init : goal.loop-place-init
-loop-place-init g c = found_none c.args.standings.now c.new-places.result.items c.new-places.ensures.items
+loop-place-init g c = found_none c.args.standings.now c.in_ok-places.places.items c.in_ok-places.ensures.items
 
 pub loop-place-preserved : goal.loop-place-preserved
 loop-place-preserved g c =
