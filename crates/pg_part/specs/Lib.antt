@@ -1,0 +1,4 @@
+pub mod Found
+pub mod Lent
+pub mod Lists
+pub mod Sending

@@ -1,0 +1,30 @@
+-- What a step sends, and what of the old run it withdraws, by the changes of records.
+use Rattle.std.specs.Prelude.{ℕ, Bool, List, [], map, Option, None, Some}
+use Rattle.std.specs.List.{filter}
+use Rattle.pg_inbox.specs.Sends.{Sends}
+use Rattle.pg_model.specs.Share.{belongs}
+use Rattle.pg_model.specs.declared.record.Record.{Record}
+use Rattle.pg_trace.specs.Trace.{Trace, record_at}
+
+-- items to one of n partitions, of items with their targets
+abbrev pub items_to : {X : Type 0} → ℕ → ℕ → List (ℕ × X) → List X
+items_to n q items = map (λ i. i.1) (filter (λ i. belongs n q i.0) items)
+
+module _ {V M : Type 0} where
+  -- what a vertex sends by a record, if it has one, with the targets
+  abbrev pub sends_by : ℕ → Option (Record V M) → List (ℕ × (ℕ × ℕ × M))
+  sends_by id None = []
+  sends_by id (Some r) = map (λ m. (m.0, (id, m.0, m.1))) r.sent
+
+  -- to whom it sent by it
+  abbrev pub pairs_by : ℕ → Option (Record V M) → List (ℕ × (ℕ × ℕ))
+  pairs_by id None = []
+  pairs_by id (Some r) = map (λ m. (m.0, (id, m.0))) r.sent
+
+  -- what is sent by a change of records
+  abbrev pub sends_of : ℕ × Option (Record V M) → List (ℕ × (ℕ × ℕ × M))
+  sends_of change = sends_by change.0 change.1
+
+  -- and what the trace of the old run has sent by that vertex
+  abbrev pub pairs_of : Trace V M → ℕ → ℕ × Option (Record V M) → List (ℕ × (ℕ × ℕ))
+  pairs_of old s change = pairs_by change.0 (record_at change.0 s old)

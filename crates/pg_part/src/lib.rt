@@ -1,0 +1,12 @@
+//! One partition of a run: what it holds as a superstep begins, and what a step makes of it.
+#![tactic(auto)]
+
+mod execution;
+mod found;
+mod partitioner;
+mod reading;
+mod sending;
+mod view;
+
+pub use partitioner::Partitioner;
+pub use pg_graph::Memory;
