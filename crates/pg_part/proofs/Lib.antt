@@ -1,2 +1,4 @@
+pub mod Delivery
+pub mod Finding
 pub mod Listing
 pub mod Splitting
