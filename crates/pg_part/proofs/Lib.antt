@@ -1,3 +1,4 @@
+pub mod Callees
 pub mod Delivery
 pub mod Finding
 pub mod Listing

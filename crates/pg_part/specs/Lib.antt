@@ -1,3 +1,4 @@
+pub mod Candidates
 pub mod Found
 pub mod Lent
 pub mod Lists

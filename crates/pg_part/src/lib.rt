@@ -1,6 +1,7 @@
 //! One partition of a run: what it holds as a superstep begins, and what a step makes of it.
 #![tactic(auto)]
 
+mod candidates;
 mod execution;
 mod found;
 mod partitioner;

@@ -56,24 +56,23 @@ fn bundles_at<M: Plain>(
 /// What each of these ids receives.
 pub(crate) fn inboxes_at<M: Plain, C: MessageCombiner<M>>(
     alloc: Global,
-    bundles: &[Bundle<M>],
+    bundles: &[&Bundle<M>],
     ids: &[VertexId],
     combiner: &C,
 ) -> Result<Vec<(VertexId, Sequence<M>)>, Memory>
     ensures ids { IfOk result (λ inboxes. keys_of inboxes.items ≡ ids.now) }
-    ensures delivered { IfOk result (λ inboxes. AllByRecursion (λ w. Delivers (C.combining combiner.now) w.0 bundles.now w.1) inboxes.items) }
+    ensures delivered { IfOk result (λ inboxes. AllByRecursion (λ w. Delivers (C.combining combiner.now) w.0 (map (λ b. b.now) bundles.now) w.1) inboxes.items) }
 {
-    let lent = lent_bundles(alloc, bundles)?;
     let mut inboxes = Vec::with_capacity(alloc, ids.len())?;
     for id in ids {
-        let inbox = inbox(alloc, lent.as_slice(), *id, combiner)?;
+        let inbox = inbox(alloc, bundles, *id, combiner)?;
         inboxes.push((*id, Sequence::from_vec(inbox)))?;
     }
     Ok(inboxes)
 }
 
 /// Bundles, lent.
-fn lent_bundles<M: Plain>(alloc: Global, bundles: &[Bundle<M>]) -> Result<Vec<&Bundle<M>>, Memory>
+pub(crate) fn lent_bundles<M: Plain>(alloc: Global, bundles: &[Bundle<M>]) -> Result<Vec<&Bundle<M>>, Memory>
     ensures { IfOk result (λ lent. map (λ b. b.now) lent.items ≡ bundles.now) }
 {
     bundles.iter().collect(alloc)
