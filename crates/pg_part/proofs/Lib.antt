@@ -2,4 +2,6 @@ pub mod Callees
 pub mod Delivery
 pub mod Finding
 pub mod Listing
+pub mod Mending
 pub mod Splitting
+pub mod States

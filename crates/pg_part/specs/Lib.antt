@@ -1,4 +1,5 @@
 pub mod Candidates
+pub mod Differing
 pub mod Found
 pub mod Lent
 pub mod Lists

@@ -1,7 +1,11 @@
 -- What a step sends, and what of the old run it withdraws, by the changes of records.
-use Rattle.std.specs.Prelude.{ℕ, Bool, List, [], map, Option, None, Some}
+use Rattle.std.specs.Prelude.{◌≡◌, ℕ, Bool, List, [], map, Option, None, Some}
 use Rattle.std.specs.List.{filter}
+use Rattle.pg_inbox.specs.Bundles.{bundle_of}
+use Rattle.pg_inbox.specs.Patched.{IsPatched, TellsChanges}
 use Rattle.pg_inbox.specs.Sends.{Sends}
+use Rattle.pg_inbox.specs.declared.logs.Logged.{Logged}
+use Rattle.pg_model.specs.Job.{Combining}
 use Rattle.pg_model.specs.Share.{belongs}
 use Rattle.pg_model.specs.declared.record.Record.{Record}
 use Rattle.pg_trace.specs.Trace.{Trace, record_at}
@@ -28,3 +32,16 @@ module _ {V M : Type 0} where
   -- and what the trace of the old run has sent by that vertex
   abbrev pub pairs_of : Trace V M → ℕ → ℕ × Option (Record V M) → List (ℕ × (ℕ × ℕ))
   pairs_of old s change = pairs_by change.0 (record_at change.0 s old)
+
+module _ {M : Type 0} where
+  -- the bundle of these sends, of which nothing else is known
+  abbrev pub IsFresh : Option (Combining M) → Sends M → Option (Logged M) → Type 0
+  IsFresh combining sends None = ⊥
+  IsFresh combining sends (Some logged) = (logged.bundle ≡ bundle_of combining sends) × (logged.changed ≡ None)
+
+  -- the old bundle, if there is one, with messages withdrawn and added; or the fresh one of what is added
+  abbrev pub IsMended : Option (Combining M) → List (ℕ × ℕ) → Sends M → Option (Logged M) → Option (Logged M) → Type 0
+  IsMended combining withdrawn added before None = ⊥
+  IsMended combining withdrawn added None (Some logged) = IsFresh combining added (Some logged)
+  IsMended combining withdrawn added (Some before) (Some logged) =
+      IsPatched combining withdrawn added before.bundle logged.bundle × TellsChanges before.bundle logged

@@ -2,11 +2,13 @@
 #![tactic(auto)]
 
 mod candidates;
+mod differing;
 mod execution;
 mod found;
 mod partitioner;
 mod reading;
 mod sending;
+mod sent;
 mod view;
 
 pub use partitioner::Partitioner;
