@@ -1,6 +1,6 @@
 -- Which vertices a step looks at, and how it finds them.
 use Rattle.std.specs.Prelude.{◌≡◌, ℕ, zero, suc, true, false, Bool, ◌+◌, List, [], map, Option, None, Some}
-use Rattle.std.specs.List.{AllByRecursion, count_by, flat_map}
+use Rattle.std.specs.List.{AllByRecursion, count_by, filter, flat_map}
 use Rattle.std.specs.Map.{keys_of}
 use denote.Ref.{Bor}
 use Rattle.pg_graph.specs.declared.missing.Missing.{Missing}
@@ -8,6 +8,7 @@ use Rattle.pg_inbox.specs.Bundles.{Parcels}
 use Rattle.pg_inbox.specs.Inboxes.{Delivers}
 use Rattle.pg_map.specs.Entries.{HasRisingIds}
 use Rattle.pg_model.specs.Job.{Combining, Program}
+use Rattle.pg_model.specs.Share.{belongs}
 use Rattle.pg_model.specs.Superstep.{capped, has_id}
 use Rattle.pg_model.specs.declared.configuration.Standing.{Standing}
 use Rattle.pg_model.specs.declared.view.View.{View}
@@ -42,14 +43,18 @@ pub record AreCallees {M : Type 0} (combining : Option (Combining M)) (bundles :
   pub have : (id : ℕ) → has_id ids id ≡ true → has_id (keys_of callees) id ≡ true
   pub others : all ≡ true → (id : ℕ) → has_id (keys_of callees) id ≡ false → Delivers combining id bundles []
 
+-- those of one partition
+abbrev pub own : {X : Type 0} → ℕ → ℕ → List (ℕ × X) → List (ℕ × X)
+own n p callees = filter (λ c. belongs n p c.0) callees
+
 -- these vertices were looked at, with this view, and executed where they didn't read what they read in another run,
 -- where that saw the same
-pub record IsPlayed {V M : Type 0} (value_eq : V → V → Bool) (message_eq : M → M → Bool) (program : Program V M) (missing : Missing) (combining : Option (Combining M)) (view : View) (s : ℕ) (new : Scene V M) (beside : Option (Scene V M)) (ids : List ℕ) (all seen : Bool) (before : ℕ) (played : Played V M) : Type 0 where
+pub record IsPlayed {V M : Type 0} (value_eq : V → V → Bool) (message_eq : M → M → Bool) (program : Program V M) (missing : Missing) (combining : Option (Combining M)) (view : View) (n p s : ℕ) (new : Scene V M) (beside : Option (Scene V M)) (ids : List ℕ) (all seen : Bool) (before : ℕ) (played : Played V M) : Type 0 where
   pub callees : List (ℕ × List M)
   pub are : AreCallees combining (map (λ b. b.now) new.bundles.now) ids all callees
   pub candidates : List (Candidate V M)
-  pub ids_are : map (λ c. c.id) candidates ≡ keys_of callees
-  pub new_are : map (λ c. c.new) candidates ≡ map (found_at program missing s new.trace.now) callees
+  pub ids_are : map (λ c. c.id) candidates ≡ keys_of (own n p callees)
+  pub new_are : map (λ c. c.new) candidates ≡ map (found_at program missing s new.trace.now) (own n p callees)
   pub beside_are : AllByRecursion (λ c. IsFoundBeside program missing combining s beside c.id c.old) candidates
   pub changes_are : played.changes.items ≡ flat_map (change_of value_eq message_eq program view seen) candidates
   pub counted : played.stage.meter ≡ capped (before + count_by (is_run value_eq message_eq program view seen) candidates)

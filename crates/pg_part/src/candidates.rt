@@ -1,14 +1,15 @@
 //! The vertices that a step looks at: which they are, and how it finds them.
-ghost use Rattle.std.specs.Prelude.{◌≡◌, ◌++◌, ◌<◌, ◌^◌, map, None, Some, true, false, IfOk};
+ghost use Rattle.std.specs.Prelude.{◌≡◌, ◌++◌, ◌<◌, ◌^◌, map, [], ◌∷◌, None, Some, true, false, IfOk, OnOk};
 ghost use Rattle.std.specs.List.Sorted.{IsStrictlySortedBy};
 ghost use Rattle.std.specs.Ordering.{nat_cmp};
 ghost use Rattle.std.specs.List.{AllByRecursion};
 ghost use Rattle.std.specs.Map.{keys_of};
 ghost use Rattle.std.specs.Option.{option_copied};
 ghost use Rattle.pg_inbox.specs.Inboxes.{Delivers};
-ghost use Rattle.pg_part.specs.Candidates.{AreCallees, IsFoundBeside, IsPlayed, awake_ids, found_at};
+ghost use Rattle.pg_part.specs.Candidates.{AreCallees, IsFoundBeside, IsPlayed, awake_ids, found_at, own};
 ghost use Rattle.pg_program.specs.Context.{ShowsDeclared};
 
+use crate::Share;
 use crate::execution::{Played, Stage, play};
 use crate::found::{Candidate, vertex_at};
 use crate::reading::{awake_after, inboxes_at, with_empty};
@@ -46,6 +47,36 @@ pub(crate) fn awake_ids<V: Drop, M: Drop>(
             Ok(ids)
         }
     }
+}
+
+/// Those that belong to a partition.
+fn own<M: Plain>(
+    alloc: Global,
+    share: &Share,
+    callees: Vec<(VertexId, Sequence<M>)>,
+) -> Result<Vec<(VertexId, Sequence<M>)>, Memory>
+    ensures { IfOk result (λ found. found.items ≡ own share.now.partitions share.now.partition callees.items) }
+{
+    let mut found = Vec::with_capacity(alloc, callees.len())?;
+    for callee in callees {
+        add_own(&mut found, share, callee)?;
+    }
+    Ok(found)
+}
+
+/// Adds a vertex that belongs to a partition.
+fn add_own<M: Plain>(
+    found: &mut Vec<(VertexId, Sequence<M>)>,
+    share: &Share,
+    callee: (VertexId, Sequence<M>),
+) -> Result<(), Memory>
+    ensures { OnOk result (found.new.items ≡ found.old.items ++ own share.now.partitions share.now.partition (callee ∷ [])) }
+{
+    if !share.has(callee.0) {
+        return Ok(());
+    }
+    found.push(callee)?;
+    Ok(())
 }
 
 /// These vertices, by rising id, with what is delivered to each; and where all are asked for, each that receives
@@ -89,6 +120,7 @@ pub(crate) fn play_at<P: Computation, C: MessageCombiner<P::Message>>(
     program: &P,
     combiner: &C,
     missing: Missing,
+    share: Share,
     superstep: Superstep,
     new: &Scene<'_, P::Value, P::Message>,
     old: Option<&Scene<'_, P::Value, P::Message>>,
@@ -101,9 +133,10 @@ pub(crate) fn play_at<P: Computation, C: MessageCombiner<P::Message>>(
     requires shown { ShowsDeclared (P.program program.now).declared stage.view }
     requires fits { stage.meter < 2 ^ 64 }
     ensures { IfOk result (λ played. IsPlayed P.Value.PartialEq.eq P.Message.PartialEq.eq (P.program program.now) missing
-        (C.combining combiner.now) stage.view superstep new.now (option_copied old.entry) ids.now all seen stage.meter played) }
+        (C.combining combiner.now) stage.view share.partitions share.partition superstep new.now (option_copied old.entry) ids.now all seen stage.meter played) }
 {
     let callees = callees(alloc, new.bundles, ids, all, combiner)?;
+    let callees = own(alloc, &share, callees)?;
     let candidates = candidates(alloc, program, combiner, missing, superstep, new.trace, callees, old)?;
     let played = play(alloc, program, candidates, seen, stage)?;
     Ok(played)

@@ -12,4 +12,5 @@ mod sent;
 mod view;
 
 pub use partitioner::Partitioner;
+pub(crate) use partitioner::Share;
 pub use pg_graph::Memory;

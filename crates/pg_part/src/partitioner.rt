@@ -1,5 +1,6 @@
 //! Which vertex belongs to which partition.
 ghost use Rattle.std.specs.Prelude.{◌≡◌, ◌<◌, ◌≤◌, ◌↔◌, ◌%◌, IsSome, IfSome};
+ghost use Rattle.pg_model.specs.Share.{belongs};
 
 use pg_graph::{PartitionId, VertexId};
 use std::marker::Model;
@@ -49,5 +50,21 @@ impl Partitioner {
         ensures within { result < self }
     {
         PartitionId::new((id.number() % u64::from(self.partitions)) as u32)
+    }
+}
+
+/// One of so many partitions.
+#[derive(Clone, Copy)]
+pub(crate) struct Share {
+    pub partition: PartitionId,
+    pub partitions: Partitioner,
+}
+
+impl Share {
+    /// Whether a vertex belongs to it.
+    pub(crate) fn has(self, id: VertexId) -> bool
+        ensures { result ≡ belongs self.partitions self.partition id }
+    {
+        self.partitions.partition(id) == self.partition
     }
 }
