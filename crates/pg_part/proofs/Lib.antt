@@ -1,4 +1,5 @@
 pub mod Callees
+pub mod Changing
 pub mod Coverage
 pub mod Delivery
 pub mod Finding
