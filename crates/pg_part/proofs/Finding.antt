@@ -23,7 +23,7 @@ use Rattle.pg_trace.specs.Trace.{Trace, state_at}
 use Rattle.pg_trace.proofs.RunStates.{state_of_run}
 
 -- nothing that is delivered arrives as nothing
-arrives_nothing : {V M : Type 0} (missing : Missing) (state : Option (VertexState V)) (none : List M) → none ≡ [] → arriving missing state none ≡ []
+pub arrives_nothing : {V M : Type 0} (missing : Missing) (state : Option (VertexState V)) (none : List M) → none ≡ [] → arriving missing state none ≡ []
 arrives_nothing Drop None none e = refl
 arrives_nothing Drop (Some x) none e = e
 arrives_nothing Create state none e = e

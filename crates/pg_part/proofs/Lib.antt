@@ -5,5 +5,8 @@ pub mod Delivery
 pub mod Finding
 pub mod Listing
 pub mod Mending
+pub mod ReadVertices
+pub mod Recording
+pub mod Sends
 pub mod Splitting
 pub mod States

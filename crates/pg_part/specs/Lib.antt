@@ -3,4 +3,5 @@ pub mod Differing
 pub mod Found
 pub mod Lent
 pub mod Lists
+pub mod Part
 pub mod Sending

@@ -5,12 +5,15 @@ mod candidates;
 mod differing;
 mod execution;
 mod found;
+mod part;
 mod partitioner;
 mod reading;
 mod sending;
 mod sent;
 mod view;
 
+pub use part::Part;
 pub use partitioner::Partitioner;
 pub(crate) use partitioner::Share;
 pub use pg_graph::Memory;
+pub use sent::Sent;
