@@ -1,3 +1,4 @@
+pub mod Alone
 pub mod Callees
 pub mod Changing
 pub mod Coverage
@@ -10,3 +11,4 @@ pub mod Recording
 pub mod Sends
 pub mod Splitting
 pub mod States
+pub mod Stepping

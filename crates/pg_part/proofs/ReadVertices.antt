@@ -34,7 +34,7 @@ use Rattle.pg_trace.specs.Trace.{Trace, state_at}
 -- ---- those of a partition
 
 module _ {X : Type 0} (n p : ℕ) where
-  own_belong : (xs : List (ℕ × X)) → AllByRecursion (λ k. belongs n p k ≡ true) (keys_of (own n p xs))
+  pub own_belong : (xs : List (ℕ × X)) → AllByRecursion (λ k. belongs n p k ≡ true) (keys_of (own n p xs))
   own_belong [] = tt
   own_belong (x ∷ xs) = by (belongs n p x.0) refl (own_belong xs)
     where
@@ -54,7 +54,7 @@ module _ {X : Type 0} (n p : ℕ) where
       by false e false f rest = rest
 
 module _ {M : Type 0} (P : ℕ × List M → Type 0) (n p : ℕ) where
-  all_own : (xs : List (ℕ × List M)) → AllByRecursion P xs → AllByRecursion P (own n p xs)
+  pub all_own : (xs : List (ℕ × List M)) → AllByRecursion P xs → AllByRecursion P (own n p xs)
   all_own [] h = tt
   all_own (x ∷ xs) h = by (belongs n p x.0) (all_own xs h.1)
     where
@@ -74,7 +74,7 @@ module _ {X : Type 0} where
 
 module _ {V M : Type 0} where
   -- each vertex is found by what is delivered to it
-  all_found : (program : Program V M) (missing : Missing) (combining : Option (Combining M)) (trace : Trace V M) (s : ℕ) (bundles : List (Parcels M))
+  pub all_found : (program : Program V M) (missing : Missing) (combining : Option (Combining M)) (trace : Trace V M) (s : ℕ) (bundles : List (Parcels M))
       → (cs : List (Candidate V M)) (ws : List (ℕ × List M)) → map (λ c. c.id) cs ≡ keys_of ws → map (λ c. c.new) cs ≡ map (found_at program missing s trace) ws
       → AllByRecursion (λ c. Delivers combining c.0 bundles c.1) ws
       → AllByRecursion (λ c. IsFound program missing combining trace s bundles c.id c.new) cs

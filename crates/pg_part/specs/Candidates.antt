@@ -2,7 +2,6 @@
 use Rattle.std.specs.Prelude.{◌≡◌, ℕ, zero, suc, true, false, Bool, ◌+◌, List, [], map, Option, None, Some}
 use Rattle.std.specs.List.{AllByRecursion, count_by, filter, flat_map}
 use Rattle.std.specs.Map.{keys_of}
-use denote.Ref.{Bor}
 use Rattle.pg_graph.specs.declared.missing.Missing.{Missing}
 use Rattle.pg_inbox.specs.Bundles.{Parcels}
 use Rattle.pg_inbox.specs.Inboxes.{Delivers}
@@ -14,7 +13,6 @@ use Rattle.pg_model.specs.declared.configuration.Standing.{Standing}
 use Rattle.pg_model.specs.declared.view.View.{View}
 use Rattle.pg_part.specs.Found.{IsFound, change_of, is_run, vertex_of}
 use Rattle.pg_part.specs.Lists.{awake_after}
-use Rattle.pg_part.specs.declared.candidates.Scene.{Scene}
 use Rattle.pg_part.specs.declared.execution.Played.{Played}
 use Rattle.pg_part.specs.declared.found.Candidate.{Candidate}
 use Rattle.pg_trace.specs.Trace.{Trace, records_of, state_at}
@@ -30,10 +28,9 @@ module _ {V M : Type 0} where
   found_at program missing s trace callee = vertex_of program missing callee.0 (state_at callee.0 s trace) callee.1
 
   -- a vertex as it is found in another run, where that is there
-  abbrev pub IsFoundBeside : Program V M → Missing → Option (Combining M) → ℕ → Option (Scene V M) → ℕ → Option (Standing V M) → Type 0
+  abbrev pub IsFoundBeside : Program V M → Missing → Option (Combining M) → ℕ → Option (Trace V M × List (Parcels M)) → ℕ → Option (Standing V M) → Type 0
   IsFoundBeside program missing combining s None id found = found ≡ None
-  IsFoundBeside program missing combining s (Some scene) id found =
-      IsFound program missing combining scene.trace.now s (map (λ b. b.now) scene.bundles.now) id found
+  IsFoundBeside program missing combining s (Some (trace, bundles)) id found = IsFound program missing combining trace s bundles id found
 
 -- vertices by rising id with what is delivered to each: these ones, and where all are asked for each to which
 -- anything is delivered
@@ -49,12 +46,12 @@ own n p callees = filter (λ c. belongs n p c.0) callees
 
 -- these vertices were looked at, with this view, and executed where they didn't read what they read in another run,
 -- where that saw the same
-pub record IsPlayed {V M : Type 0} (value_eq : V → V → Bool) (message_eq : M → M → Bool) (program : Program V M) (missing : Missing) (combining : Option (Combining M)) (view : View) (n p s : ℕ) (new : Scene V M) (beside : Option (Scene V M)) (ids : List ℕ) (all seen : Bool) (before : ℕ) (played : Played V M) : Type 0 where
+pub record IsPlayed {V M : Type 0} (value_eq : V → V → Bool) (message_eq : M → M → Bool) (program : Program V M) (missing : Missing) (combining : Option (Combining M)) (view : View) (n p s : ℕ) (trace : Trace V M) (bundles : List (Parcels M)) (beside : Option (Trace V M × List (Parcels M))) (ids : List ℕ) (all seen : Bool) (before : ℕ) (played : Played V M) : Type 0 where
   pub callees : List (ℕ × List M)
-  pub are : AreCallees combining (map (λ b. b.now) new.bundles.now) ids all callees
+  pub are : AreCallees combining bundles ids all callees
   pub candidates : List (Candidate V M)
   pub ids_are : map (λ c. c.id) candidates ≡ keys_of (own n p callees)
-  pub new_are : map (λ c. c.new) candidates ≡ map (found_at program missing s new.trace.now) (own n p callees)
+  pub new_are : map (λ c. c.new) candidates ≡ map (found_at program missing s trace) (own n p callees)
   pub beside_are : AllByRecursion (λ c. IsFoundBeside program missing combining s beside c.id c.old) candidates
   pub changes_are : played.changes.items ≡ flat_map (change_of value_eq message_eq program view seen) candidates
   pub counted : played.stage.meter ≡ capped (before + count_by (is_run value_eq message_eq program view seen) candidates)

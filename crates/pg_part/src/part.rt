@@ -13,7 +13,7 @@ ghost use Rattle.pg_program.specs.Context.{ShowsDeclared};
 ghost use Rattle.pg_part.specs.Lists.{reaching};
 ghost use Rattle.pg_trace.specs.Trace.{with_replaced};
 
-use crate::candidates::{Scene, awake_ids, play_at};
+use crate::candidates::{awake_ids, play_alone};
 use crate::execution::{Played, Stage};
 use crate::sent::fresh_bundles;
 use crate::{Partitioner, Sent, Share};
@@ -30,7 +30,8 @@ use std::marker::Model;
 /// the supersteps before. Where it is warm it has the trace of an old run too, and steps beside that.
 #[derive(Drop)]
 pub struct Part<V, M> {
-    share: Share,
+    partition: PartitionId,
+    partitions: Partitioner,
     missing: Missing,
     place: Superstep,
     trace: Trace<V, M>,
@@ -45,8 +46,8 @@ impl<V, M> Model for Part<V, M> {
     ghost Value = { Holding V M };
 
     ghost view = { λ p. record {
-      partition = p.share.partition;
-      partitions = p.share.partitions;
+      partition = p.partition;
+      partitions = p.partitions;
       missing = p.missing;
       place = p.place;
       trace = p.trace;
@@ -70,7 +71,7 @@ impl<V: Plain, M: Plain> Part<V, M> {
     pub fn partition(&self) -> PartitionId
         ensures { result ≡ self.now.partition }
     {
-        self.share.partition
+        self.partition
     }
 
     /// The superstep at which it stands.
@@ -78,6 +79,74 @@ impl<V: Plain, M: Plain> Part<V, M> {
         ensures { result ≡ self.now.place }
     {
         self.place
+    }
+}
+
+impl<V: Plain, M: Plain> Part<V, M> {
+    /// A step beside nothing, or past the end of the old run: every active vertex is executed.
+    fn alone<P: Computation<Value = V, Message = M>, C: MessageCombiner<M>>(
+        self,
+        alloc: Global,
+        bundles: Vec<Bundle<M>>,
+        program: &P,
+        combiner: &C,
+        stage: Stage,
+    ) -> Result<Stepped<V, M>, Memory>
+        requires shown { ShowsDeclared (P.program program.now).declared stage.view }
+        requires fits { stage.meter < 2 ^ 64 }
+        requires counts { self.place + 1 < 2 ^ 32 }
+        ensures { IfOk result (λ stepped. (job : Job V M) (kept : Option GraphRows) (rows : GraphRows) (n p s : ℕ) (logs : Slots M)
+            → job.program ≡ P.program program.now → job.combining ≡ C.combining combiner.now
+            → Holds job kept rows n p s self → kept_length job kept ≤ s → s < run_length job rows
+            → HasMessages job rows n p s logs → bundles.items ≡ bundles_before logs n p s
+            → stage.view ≡ view_at job rows s
+            → HasStepped job V.PartialEq.eq M.PartialEq.eq kept rows n p s stepped.part stepped.sent stage.meter stepped.meter) }
+    {
+        let Part {
+            partition,
+            partitions,
+            missing,
+            place,
+            trace,
+            kept,
+            differing: _,
+        } = self;
+        // Tells the prover that there is a partition.
+        partitions.partitions();
+        let ids = awake_ids(alloc, &trace, place)?;
+        let played = play_alone(
+            alloc,
+            program,
+            combiner,
+            missing,
+            Share {
+                partition,
+                partitions,
+            },
+            place,
+            &trace,
+            bundles.as_slice(),
+            ids.as_slice(),
+            stage,
+        )?;
+        let Played { changes, stage } = played;
+        let Stage { meter, .. } = stage;
+        let bundles = fresh_bundles(alloc, partitions, changes.as_slice(), combiner)?;
+        let trace = with_records(alloc, trace, place, changes)?;
+        let part = Part {
+            partition,
+            partitions,
+            missing,
+            place: Superstep::new(place.number() + 1),
+            trace,
+            kept,
+            differing: Vec::new(alloc),
+        };
+        Ok(Stepped {
+            part,
+            sent: Sent::of(bundles),
+            meter,
+        })
     }
 }
 

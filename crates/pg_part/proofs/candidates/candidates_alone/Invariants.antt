@@ -1,9 +1,8 @@
-use Rattle.std.proofs.Common.{◌≡◌, ◌++◌, map}
+use Rattle.std.proofs.Common.{◌≡◌, ◌++◌, None, map}
 use Rattle.std.specs.List.{AllByRecursion}
 use Rattle.std.specs.Map.{keys_of}
-use Rattle.std.specs.Option.{option_copied}
-use Rattle.pg_part.specs.Candidates.{IsFoundBeside, found_at}
-use Rattle.pg_part.proofs.candidates.candidates.Given as goal
+use Rattle.pg_part.specs.Candidates.{found_at}
+use Rattle.pg_part.proofs.candidates.candidates_alone.Given as goal
 
 abbrev pub invariant-loop-id : goal.invariant-loop-id
 invariant-loop-id g l =
@@ -11,6 +10,6 @@ invariant-loop-id g l =
     record {
       ids : map (λ c. c.id) l.candidates.items ≡ keys_of l.yielded;
       new : map (λ c. c.new) l.candidates.items ≡ map (found_at program l.missing l.superstep l.trace) l.yielded;
-      old : AllByRecursion (λ c. IsFoundBeside program l.missing (g.C.MessageCombiner.combining l.combiner) l.superstep (option_copied l.old) c.id c.old) l.candidates.items;
+      old : AllByRecursion (λ c. c.old ≡ None) l.candidates.items;
       whole : l.yielded ++ l.id-iterator.rest.items ≡ l.fn.callees.items;
     }
