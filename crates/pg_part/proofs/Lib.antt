@@ -1,14 +1,12 @@
-pub mod Alone
 pub mod Callees
 pub mod Changing
 pub mod Coverage
 pub mod Delivery
 pub mod Finding
 pub mod Listing
-pub mod Mending
+pub mod OneStep
 pub mod ReadVertices
 pub mod Recording
 pub mod Sends
 pub mod Splitting
-pub mod States
 pub mod Stepping

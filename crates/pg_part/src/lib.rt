@@ -2,7 +2,6 @@
 #![tactic(auto)]
 
 mod candidates;
-mod differing;
 mod execution;
 mod found;
 mod part;

@@ -8,7 +8,7 @@ ghost use Rattle.pg_map.specs.Entries.{ChangesRise};
 ghost use Rattle.pg_model.specs.Job.{Job};
 ghost use Rattle.pg_model.specs.Run.{run_length, view_at};
 ghost use Rattle.pg_part.specs.Lent.{HasMessages, bundles_before};
-ghost use Rattle.pg_part.specs.Part.{HasStepped, Holds, kept_length};
+ghost use Rattle.pg_part.specs.Part.{HasStepped, Holds};
 ghost use Rattle.pg_program.specs.Context.{ShowsDeclared};
 ghost use Rattle.pg_part.specs.Lists.{reaching};
 ghost use Rattle.pg_trace.specs.Trace.{with_replaced};
@@ -27,7 +27,7 @@ use std::alloc::Global;
 use std::marker::Model;
 
 /// One partition of a run as a superstep begins: the states with which it began, and the records of
-/// the supersteps before. Where it is warm it has the trace of an old run too, and steps beside that.
+/// the supersteps before.
 #[derive(Drop)]
 pub struct Part<V, M> {
     partition: PartitionId,
@@ -35,8 +35,6 @@ pub struct Part<V, M> {
     missing: Missing,
     place: Superstep,
     trace: Trace<V, M>,
-    kept: Option<Trace<V, M>>,
-    differing: Vec<VertexId>,
 }
 
 impl<V, M> Model for Part<V, M> {
@@ -51,8 +49,6 @@ impl<V, M> Model for Part<V, M> {
       missing = p.missing;
       place = p.place;
       trace = p.trace;
-      kept = p.kept;
-      differing = p.differing.items;
     } };
 
     ghost invariant = { λ p. p.place ≤ length p.trace.records };
@@ -83,8 +79,8 @@ impl<V: Plain, M: Plain> Part<V, M> {
 }
 
 impl<V: Plain, M: Plain> Part<V, M> {
-    /// A step beside nothing, or past the end of the old run: every active vertex is executed.
-    fn alone<P: Computation<Value = V, Message = M>, C: MessageCombiner<M>>(
+    /// A step: each active vertex is executed.
+    fn stepped<P: Computation<Value = V, Message = M>, C: MessageCombiner<M>>(
         self,
         alloc: Global,
         bundles: Vec<Bundle<M>>,
@@ -95,12 +91,12 @@ impl<V: Plain, M: Plain> Part<V, M> {
         requires shown { ShowsDeclared (P.program program.now).declared stage.view }
         requires fits { stage.meter < 2 ^ 64 }
         requires counts { self.place + 1 < 2 ^ 32 }
-        ensures { IfOk result (λ stepped. (job : Job V M) (kept : Option GraphRows) (rows : GraphRows) (n p s : ℕ) (logs : Slots M)
+        ensures { IfOk result (λ stepped. (job : Job V M) (rows : GraphRows) (n p s : ℕ) (logs : Slots M)
             → job.program ≡ P.program program.now → job.combining ≡ C.combining combiner.now
-            → Holds job kept rows n p s self → kept_length job kept ≤ s → s < run_length job rows
+            → Holds job rows n p s self → s < run_length job rows
             → HasMessages job rows n p s logs → bundles.items ≡ bundles_before logs n p s
             → stage.view ≡ view_at job rows s
-            → HasStepped job V.PartialEq.eq M.PartialEq.eq kept rows n p s stepped.part stepped.sent stage.meter stepped.meter) }
+            → HasStepped job rows n p s stepped.part stepped.sent stage.meter stepped.meter) }
     {
         let Part {
             partition,
@@ -108,8 +104,6 @@ impl<V: Plain, M: Plain> Part<V, M> {
             missing,
             place,
             trace,
-            kept,
-            differing: _,
         } = self;
         // Tells the prover that there is a partition.
         partitions.partitions();
@@ -139,8 +133,6 @@ impl<V: Plain, M: Plain> Part<V, M> {
             missing,
             place: Superstep::new(place.number() + 1),
             trace,
-            kept,
-            differing: Vec::new(alloc),
         };
         Ok(Stepped {
             part,
