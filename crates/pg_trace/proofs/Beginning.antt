@@ -35,3 +35,7 @@ module _ {V : Type 0} where
 
   pub rise-by_id : (states : List (VertexState V)) → StatesRise states → HasRisingIds (by_id states)
   rise-by_id states rise = subst (IsStrictlySortedBy nat_cmp) (sym (keys-by_id states)) rise
+
+  pub ids-values : (entries : List (ℕ × VertexState V)) → AreById entries → map (λ x. x.id) (values_of entries) ≡ keys_of entries
+  ids-values [] are = refl
+  ids-values (e ∷ entries) are = ap (λ k. k ∷ map (λ x. x.id) (values_of entries)) are.0 ∙ ap (λ l. e.0 ∷ l) (ids-values entries are.1)

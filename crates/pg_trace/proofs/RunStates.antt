@@ -8,7 +8,7 @@ use Rattle.std.specs.Ordering.{nat_cmp}
 use Rattle.std.specs.declared.cmp.Ordering.TheVariants.{Less}
 use Rattle.std.proofs.lemmas.Bool.{cases_lt, eqb-true}
 use Rattle.std.proofs.lemmas.Bool.Decides.{nat_tests}
-use Rattle.std.proofs.lemmas.List.{take-append-le, length-append, take_all}
+use Rattle.std.proofs.lemmas.List.{take-append-le, take-take, length-append, take_all}
 use Rattle.std.proofs.lemmas.Option.{none-some, same_Some}
 use Rattle.pg_graph.specs.Rows.{HasRisingIds, Rows}
 use Rattle.pg_map.specs.Entries.{value_at}
@@ -255,7 +255,8 @@ pub state_of_run : {V M : Type 0} (trace : Trace V M) (id s : ℕ) → IsOfRun t
 state_of_run {V = V} {M = M} trace id s job rows n p r holds mine within =
     let reads : List (List (ℕ × Record V M)) → List (VertexState V)
     → Option (VertexState V) = λ rs initial. option_or (option_map (left_by id) (last_record id rs)) (state_of id initial) in
-    ap (λ rs. reads (take s rs) trace.initial) holds.records
+    ap (λ rs. reads rs trace.initial) (sym (take-take s r trace.records within))
+    ∙ ap (λ rs. reads (take s rs) trace.initial) holds.records
     ∙ ap (λ rs. reads rs trace.initial) (take_below n p id mine job rows holds.rise r s within)
     ∙ ap (λ initial. reads (records_below job rows n p s) initial) holds.initial
     ∙ read-run n p id mine job rows holds.rise s

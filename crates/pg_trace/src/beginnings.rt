@@ -1,6 +1,8 @@
 //! The states with which a partition began.
-ghost use Rattle.std.specs.Prelude.{◌≡◌, [], IfOk};
+ghost use Rattle.std.specs.Prelude.{◌≡◌, [], map, IfOk};
+ghost use Rattle.std.specs.Map.{keys_of};
 ghost use Rattle.std.specs.Option.{option_copied};
+ghost use Rattle.pg_map.specs.Entries.{HasRisingIds};
 ghost use Rattle.pg_trace.specs.Beginning.{by_id};
 ghost use Rattle.pg_trace.specs.Trace.{StatesRise, state_of};
 
@@ -83,6 +85,15 @@ impl<V: Drop> Beginnings<V> {
         Ok(Beginnings { states })
     }
 
+    /// The ids, rising.
+    pub(crate) fn ids(&self, alloc: Global) -> Result<Vec<VertexId>, Memory>
+        ensures ids { IfOk result (λ ids. ids.items ≡ map (λ x. x.id) self.now) }
+        ensures rising { StatesRise self.now }
+    {
+        let ids = keys_of(alloc, &self.states)?;
+        Ok(ids)
+    }
+
     /// The state with an id. Costs two binary searches.
     pub(crate) fn get(&self, id: VertexId) -> Option<&VertexState<V>>
         ensures { option_copied result ≡ state_of id self.now }
@@ -115,4 +126,16 @@ fn entries_of<V: Drop>(
         entries.push((state.id, Begun::of(alloc, state)?))?;
     }
     Ok(entries)
+}
+
+/// The ids of a map.
+fn keys_of<X: Drop>(alloc: Global, map: &Map<X>) -> Result<Vec<VertexId>, Memory>
+    ensures ids { IfOk result (λ ids. ids.items ≡ keys_of map.now) }
+    ensures rising { HasRisingIds map.now }
+{
+    let mut ids = Vec::with_capacity(alloc, map.len())?;
+    for id in map.ids() {
+        ids.push(*id)?;
+    }
+    Ok(ids)
 }

@@ -61,6 +61,14 @@ impl<V: Drop, M: Drop> Trace<V, M> {
         self.supersteps.len()
     }
 
+    /// The ids of the vertices with which it began, rising.
+    pub fn initial_ids(&self, alloc: Global) -> Result<Vec<VertexId>, Memory>
+        ensures ids { IfOk result (λ ids. ids.items ≡ map (λ x. x.id) self.now.initial) }
+        ensures rising { StatesRise self.now.initial }
+    {
+        self.initial.ids(alloc)
+    }
+
     /// The record of a vertex in a superstep, if it ran in it. Costs two binary searches.
     pub fn record_at(&self, id: VertexId, superstep: Superstep) -> Option<&Record<V, M>>
         ensures { option_copied result ≡ record_at id superstep self.now }

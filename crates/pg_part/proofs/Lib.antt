@@ -1,0 +1,12 @@
+pub mod Callees
+pub mod Changing
+pub mod Coverage
+pub mod Delivery
+pub mod Finding
+pub mod Listing
+pub mod OneStep
+pub mod ReadVertices
+pub mod Recording
+pub mod Sends
+pub mod Splitting
+pub mod Stepping

@@ -1,0 +1,6 @@
+pub mod Candidates
+pub mod Found
+pub mod Lent
+pub mod Lists
+pub mod Part
+pub mod Sending

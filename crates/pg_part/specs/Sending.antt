@@ -1,0 +1,29 @@
+-- What a step sends, by the changes of records.
+use Rattle.std.specs.Prelude.{◌≡◌, ℕ, Bool, List, [], map, Option, None, Some}
+use Rattle.std.specs.List.{filter}
+use Rattle.pg_inbox.specs.Bundles.{bundle_of}
+use Rattle.pg_inbox.specs.Sends.{Sends}
+use Rattle.pg_inbox.specs.declared.logs.Logged.{Logged}
+use Rattle.pg_model.specs.Job.{Combining}
+use Rattle.pg_model.specs.Share.{belongs}
+use Rattle.pg_model.specs.declared.record.Record.{Record}
+
+-- items to one of n partitions, of items with their targets
+abbrev pub items_to : {X : Type 0} → ℕ → ℕ → List (ℕ × X) → List X
+items_to n q items = map (λ i. i.1) (filter (λ i. belongs n q i.0) items)
+
+module _ {V M : Type 0} where
+  -- what a vertex sends by a record, if it has one, with the targets
+  abbrev pub sends_by : ℕ → Option (Record V M) → List (ℕ × (ℕ × ℕ × M))
+  sends_by id None = []
+  sends_by id (Some r) = map (λ m. (m.0, (id, m.0, m.1))) r.sent
+
+  -- what is sent by a change of records
+  abbrev pub sends_of : ℕ × Option (Record V M) → List (ℕ × (ℕ × ℕ × M))
+  sends_of change = sends_by change.0 change.1
+
+module _ {M : Type 0} where
+  -- the bundle of these sends, of which nothing else is known
+  abbrev pub IsFresh : Option (Combining M) → Sends M → Option (Logged M) → Type 0
+  IsFresh combining sends None = ⊥
+  IsFresh combining sends (Some logged) = (logged.bundle ≡ bundle_of combining sends) × (logged.changed ≡ None)

@@ -1,0 +1,70 @@
+//! Which vertex belongs to which partition.
+ghost use Rattle.std.specs.Prelude.{◌≡◌, ◌<◌, ◌≤◌, ◌↔◌, ◌%◌, IsSome, IfSome};
+ghost use Rattle.pg_model.specs.Share.{belongs};
+
+use pg_graph::{PartitionId, VertexId};
+use std::marker::Model;
+
+/// So many partitions, 1 to 64. A vertex belongs to the one whose number is its id modulo that.
+#[derive(Clone, Copy, Debug, PartialEq, Eq)]
+pub struct Partitioner {
+    partitions: u32,
+}
+
+impl Model for Partitioner {
+    ghost use Rattle.std.specs.Prelude.{ℕ, ◌<◌, ◌≤◌};
+
+    ghost Value = { ℕ };
+
+    ghost view = { λ p. p.partitions };
+
+    ghost invariant = { λ p. (0 < p.partitions) × (p.partitions ≤ 64) };
+
+    ghost inverse = { λ n. record { partitions = n } };
+}
+
+impl Partitioner {
+    /// So many partitions, or `None` for none and above 64.
+    pub fn new(partitions: u32) -> Option<Partitioner>
+        ensures some { IsSome result ↔ ((0 < partitions) × (partitions ≤ 64)) }
+        ensures value { IfSome result (λ p. p ≡ partitions) }
+    {
+        if partitions == 0 || partitions > 64 {
+            return None;
+        }
+        Some(Partitioner { partitions })
+    }
+
+    /// How many partitions there are.
+    pub fn partitions(self) -> u32
+        ensures value { result ≡ self }
+        ensures some { 0 < self }
+        ensures most { self ≤ 64 }
+    {
+        self.partitions
+    }
+
+    /// The partition of a vertex.
+    pub fn partition(self, id: VertexId) -> PartitionId
+        ensures value { result ≡ id % self }
+        ensures within { result < self }
+    {
+        PartitionId::new((id.number() % u64::from(self.partitions)) as u32)
+    }
+}
+
+/// One of so many partitions.
+#[derive(Clone, Copy)]
+pub(crate) struct Share {
+    pub partition: PartitionId,
+    pub partitions: Partitioner,
+}
+
+impl Share {
+    /// Whether a vertex belongs to it.
+    pub(crate) fn has(self, id: VertexId) -> bool
+        ensures { result ≡ belongs self.partitions self.partition id }
+    {
+        self.partitions.partition(id) == self.partition
+    }
+}
