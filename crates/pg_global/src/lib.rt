@@ -5,6 +5,7 @@ mod aggregator;
 mod combiner;
 mod master;
 mod registry;
+mod seen;
 #[cfg(test)]
 mod tests;
 
@@ -13,3 +14,4 @@ pub use combiner::{AnyCombiner, MessageCombiner};
 pub use master::{MasterCompute, MasterState, NoMaster};
 pub use pg_model::{Ending, Run, Visible};
 pub use registry::{RegisterFault, Registration, Registry};
+pub use seen::view_of;

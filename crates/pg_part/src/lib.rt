@@ -9,7 +9,6 @@ mod partitioner;
 mod reading;
 mod sending;
 mod sent;
-mod view;
 
 pub use part::Part;
 pub use partitioner::Partitioner;

@@ -1,12 +1,12 @@
 //! What the vertices of a superstep see, and what they contribute.
 ghost use Rattle.std.specs.Prelude.{◌≡◌, ◌==◌, [], ◌∷◌, ◌++◌, ◌≤◌, length, map, cond, IfOk, OnOk};
-ghost use Rattle.pg_model.specs.Job.{has_place, Totals};
-ghost use Rattle.pg_model.specs.Superstep.{visible_in, view_of, shown, at_place, gathered_at, gathered_from};
+ghost use Rattle.pg_model.specs.Job.{Totals};
+ghost use Rattle.pg_model.specs.Superstep.{visible_in, at_place, gathered_at, gathered_from};
 ghost use Rattle.pg_global.specs.Registry.{aggregating_of};
 
 use pg_global::{Aggregator, MasterCompute, MasterState, Registration, Visible, gather};
 use pg_graph::{Memory, Superstep};
-use pg_model::{Declared, Place, Sequence, View};
+use pg_model::{Place, Sequence};
 use std::alloc::Global;
 
 /// What the master shows in a superstep, where these values were gathered in the one before.
@@ -28,39 +28,6 @@ pub(crate) fn visible_in<M: MasterCompute>(
     let mut state = MasterState::new(superstep, total_vertices, total_edges, gathered);
     master.compute(alloc, &mut state)?;
     Ok(state.into_parts())
-}
-
-/// What a program sees of that.
-#[tactic(auto, unfolding(pg_model::specs::Superstep::view_of))]
-pub(crate) fn view_of(
-    alloc: Global,
-    declared: Declared,
-    superstep: Superstep,
-    visible: &Visible,
-) -> Result<View, Memory>
-    requires { length visible.now.values ≤ 16 }
-    ensures { IfOk result (λ v. v ≡ view_of declared superstep visible.now) }
-{
-    let aggregates = shown(alloc, declared.reads, visible.values.as_slice())?;
-    Ok(View {
-        superstep,
-        aggregates,
-        total_vertices: declared.total_vertices.then_some(visible.total_vertices),
-        total_edges: declared.total_edges.then_some(visible.total_edges),
-    })
-}
-
-/// The values at the declared places.
-fn shown(alloc: Global, places: u16, values: &[i64]) -> Result<Sequence<Option<i64>>, Memory>
-    requires { length values.now ≤ 16 }
-    ensures { IfOk result (λ s. s ≡ shown places 0 values.now) }
-{
-    let mut shown = Sequence::new(alloc);
-    for place in 0..values.len() {
-        let is_declared = (places >> place) % 2 == 1;
-        shown.push(is_declared.then_some(values[place]))?;
-    }
-    Ok(shown)
 }
 
 /// What the contributions of a superstep come to, where these values were visible in it. Costs one walk over the

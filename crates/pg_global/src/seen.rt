@@ -6,9 +6,10 @@ use pg_graph::{Memory, Superstep};
 use pg_model::{Declared, Sequence, View, Visible};
 use std::alloc::Global;
 
-/// What a program that has declared this sees of what the master shows.
+/// What a program that has declared this sees of what the master shows in a superstep: the aggregators and totals
+/// that it reads, and nothing else.
 #[tactic(auto, unfolding(pg_model::specs::Superstep::view_of))]
-pub(crate) fn view_of(
+pub fn view_of(
     alloc: Global,
     declared: Declared,
     superstep: Superstep,

@@ -1,6 +1,0 @@
-use Rattle.std.proofs.Common.{◌≡◌, ◌++◌, drop}
-use Rattle.pg_model.specs.Superstep.{shown}
-use Rattle.pg_scratch.proofs.gathering.shown.Given as goal
-
-abbrev pub invariant-loop-place : goal.invariant-loop-place
-invariant-loop-place l = l.shown ++ shown l.places l.place (drop l.place l.values) ≡ shown l.places 0 l.values
