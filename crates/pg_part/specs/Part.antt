@@ -11,6 +11,12 @@ use Rattle.pg_part.specs.Lent.{bundle_sent}
 use Rattle.pg_trace.specs.OfRun.{HoldsRun}
 use Rattle.pg_trace.specs.Trace.{Trace}
 
+-- the rows of a graph, and which partition of how many is meant
+pub record PartRows : Type 0 where
+  pub graph : Rows
+  pub partition : ℕ
+  pub partitions : ℕ
+
 -- a partition at a superstep: which it is, and its trace so far
 pub record Holding (V M : Type 0) : Type 0 where
   pub partition : ℕ
@@ -40,3 +46,10 @@ module _ {V M : Type 0} (job : Job V M) (rows : Rows) (n p : ℕ) where
     pub to_each : length sent ≡ n
     pub sends : (q : ℕ) → q < n → IsSentTo q r (slice_get sent q)
     pub counted : calls_after ≡ capped (calls + length (records_in job rows n p r))
+
+-- the same partition, one superstep later
+pub record IsFurther {V M : Type 0} (before after : Holding V M) : Type 0 where
+  pub partition_stays : after.partition ≡ before.partition
+  pub partitions_stay : after.partitions ≡ before.partitions
+  pub missing_stays : after.missing ≡ before.missing
+  pub place_is : after.place ≡ before.place + 1

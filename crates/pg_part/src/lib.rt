@@ -1,6 +1,7 @@
 //! One partition of a run: what it holds as a superstep begins, and what a step makes of it.
 #![tactic(auto)]
 
+mod begin;
 mod candidates;
 mod execution;
 mod found;
@@ -10,8 +11,11 @@ mod reading;
 mod sending;
 mod sent;
 
-pub use part::Part;
-pub use partitioner::Partitioner;
+pub use part::{Lost, Part};
+pub use partitioner::{Partitioner, Rows};
 pub(crate) use partitioner::Share;
 pub use pg_graph::Memory;
 pub use sent::Sent;
+
+#[cfg(test)]
+mod tests;

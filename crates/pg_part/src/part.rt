@@ -1,27 +1,30 @@
 //! One partition of a run, and its steps.
-ghost use Rattle.std.specs.Prelude.{◌≡◌, ℕ, ◌+◌, ◌<◌, ◌≤◌, ◌^◌, [], map, length, Option, None, Some, IfOk};
+ghost use Rattle.std.specs.Prelude.{◌≡◌, ℕ, ◌+◌, ◌<◌, ◌≤◌, ◌^◌, true, length, IfOk};
 ghost use Rattle.std.specs.List.Sorted.{IsStrictlySortedBy};
 ghost use Rattle.std.specs.Ordering.{nat_cmp};
+ghost use Rattle.pg_global.specs.Master.{has_places};
 ghost use Rattle.pg_graph.specs.Rows.{Rows as GraphRows};
 ghost use Rattle.pg_inbox.specs.Logged.{Slots};
 ghost use Rattle.pg_map.specs.Entries.{ChangesRise};
 ghost use Rattle.pg_model.specs.Job.{Job};
 ghost use Rattle.pg_model.specs.Run.{run_length, view_at};
-ghost use Rattle.pg_part.specs.Lent.{HasMessages, bundles_before};
-ghost use Rattle.pg_part.specs.Part.{HasStepped, Holds};
+ghost use Rattle.pg_part.specs.Lent.{HasMessages, IsLent, bundles_before};
+ghost use Rattle.pg_part.specs.Part.{HasStepped, Holds, IsFurther};
 ghost use Rattle.pg_program.specs.Context.{ShowsDeclared};
 ghost use Rattle.pg_part.specs.Lists.{reaching};
 ghost use Rattle.pg_trace.specs.Trace.{with_replaced};
 
+use crate::begin::first_states;
 use crate::candidates::{awake_ids, play_alone};
 use crate::execution::{Played, Stage};
+use crate::reading::bundles_before;
 use crate::sent::fresh_bundles;
-use crate::{Partitioner, Sent, Share};
-use pg_global::MessageCombiner;
+use crate::{Partitioner, Rows, Sent, Share};
+use pg_global::{MessageCombiner, Visible, view_of};
 use pg_graph::{Memory, Missing, PartitionId, Superstep, VertexId};
-use pg_inbox::Bundle;
+use pg_inbox::{Bundle, Logs};
 use pg_model::Record;
-use pg_program::{Computation, Meter, Plain};
+use pg_program::{Computation, EdgeRoom, Meter, Plain};
 use pg_trace::Trace;
 use std::alloc::Global;
 use std::marker::Model;
@@ -54,6 +57,10 @@ impl<V, M> Model for Part<V, M> {
     ghost invariant = { λ p. p.place ≤ length p.trace.records };
 }
 
+/// A step was given up, and its part with it, since memory was refused.
+#[derive(Clone, Copy, Debug, PartialEq, Eq)]
+pub struct Lost;
+
 /// What a step makes of a part.
 #[derive(Drop)]
 pub(crate) struct Stepped<V, M: Plain> {
@@ -76,9 +83,116 @@ impl<V: Plain, M: Plain> Part<V, M> {
     {
         self.place
     }
+
+    /// Its trace: the states with which it began, and its records so far.
+    pub fn trace(&self) -> &Trace<V, M>
+        ensures { result.now ≡ self.now.trace }
+    {
+        &self.trace
+    }
+
+    /// A partition as a run begins. Costs one walk over the graph's rows.
+    pub fn begin<P: Computation<Value = V, Message = M>>(
+        alloc: Global,
+        rows: Rows<'_>,
+        missing: Missing,
+        program: &P,
+    ) -> Result<Part<V, M>, Memory>
+        ensures { IfOk result (λ part. (job : Job V M) → job.program ≡ P.program program.now → job.missing ≡ missing
+            → Holds job rows.entry.graph rows.entry.partitions rows.entry.partition 0 part) }
+    {
+        let Rows {
+            graph,
+            partition,
+            partitions,
+        } = rows;
+        let share = Share {
+            partition,
+            partitions,
+        };
+        let states = first_states(alloc, graph, &share, program)?;
+        let trace = Trace::new(alloc, states)?;
+        Ok(Part {
+            partition,
+            partitions,
+            missing,
+            place: Superstep::new(0),
+            trace,
+        })
+    }
+
+    /// One superstep: executes each active vertex of the partition once, in the order of their ids, and counts each
+    /// execution. It reads what the logs have from each partition to this one of the superstep before, and what is
+    /// visible. A part whose step answers `Lost` is gone.
+    ///
+    /// Costs what it executes, the messages that it receives and sends, and a walk over the records of the superstep
+    /// before.
+    pub fn step<P: Computation<Value = V, Message = M>, C: MessageCombiner<M>>(
+        self,
+        alloc: Global,
+        logs: &Logs<M>,
+        visible: &Visible,
+        program: &P,
+        combiner: &C,
+        meter: &mut Meter,
+    ) -> Result<(Part<V, M>, Sent<M>), Lost>
+        requires few { length visible.now.values ≤ 16 }
+        requires declared { has_places (P.program program.now).declared (length visible.now.values) ≡ true }
+        requires counts { self.place + 1 < 2 ^ 32 }
+        ensures further { IfOk result (λ stepped. IsFurther self stepped.0) }
+        ensures stepped { IfOk result (λ stepped. (job : Job V M) (rows : GraphRows) (n p r : ℕ)
+            → job.program ≡ P.program program.now → job.combining ≡ C.combining combiner.now
+            → Holds job rows n p r self → IsLent job rows n p r logs.now visible.now
+            → HasStepped job rows n p r stepped.0 stepped.1 meter.old meter.new) }
+    {
+        match self.lent_step(alloc, logs, visible, program, combiner, meter.copy()) {
+            Ok(stepped) => {
+                let Stepped {
+                    part,
+                    sent,
+                    meter: counted,
+                } = stepped;
+                *meter = counted;
+                Ok((part, sent))
+            }
+            Err(_) => Err(Lost),
+        }
+    }
 }
 
 impl<V: Plain, M: Plain> Part<V, M> {
+    /// A step with what it is lent.
+    fn lent_step<P: Computation<Value = V, Message = M>, C: MessageCombiner<M>>(
+        self,
+        alloc: Global,
+        logs: &Logs<M>,
+        visible: &Visible,
+        program: &P,
+        combiner: &C,
+        meter: Meter,
+    ) -> Result<Stepped<V, M>, Memory>
+        requires few { length visible.now.values ≤ 16 }
+        requires declared { has_places (P.program program.now).declared (length visible.now.values) ≡ true }
+        requires counts { self.place + 1 < 2 ^ 32 }
+        ensures further { IfOk result (λ stepped. IsFurther self stepped.part) }
+        ensures stepped { IfOk result (λ stepped. (job : Job V M) (rows : GraphRows) (n p r : ℕ)
+            → job.program ≡ P.program program.now → job.combining ≡ C.combining combiner.now
+            → Holds job rows n p r self → IsLent job rows n p r logs.now visible.now
+            → HasStepped job rows n p r stepped.part stepped.sent meter stepped.meter) }
+    {
+        // Tells the prover that the count fits.
+        meter.count();
+        let view = view_of(alloc, program.declared(), self.place, visible)?;
+        let bundles = bundles_before(alloc, logs, self.partitions, self.partition, self.place)?;
+        let stage = Stage {
+            view,
+            room: EdgeRoom::new(alloc),
+            meter,
+        };
+        let stepped = self.stepped(alloc, bundles, program, combiner, stage)?;
+        Ok(stepped)
+    }
+
     /// A step: each active vertex is executed.
     fn stepped<P: Computation<Value = V, Message = M>, C: MessageCombiner<M>>(
         self,
@@ -91,7 +205,8 @@ impl<V: Plain, M: Plain> Part<V, M> {
         requires shown { ShowsDeclared (P.program program.now).declared stage.view }
         requires fits { stage.meter < 2 ^ 64 }
         requires counts { self.place + 1 < 2 ^ 32 }
-        ensures { IfOk result (λ stepped. (job : Job V M) (rows : GraphRows) (n p s : ℕ) (logs : Slots M)
+        ensures further { IfOk result (λ stepped. IsFurther self stepped.part) }
+        ensures stepped { IfOk result (λ stepped. (job : Job V M) (rows : GraphRows) (n p s : ℕ) (logs : Slots M)
             → job.program ≡ P.program program.now → job.combining ≡ C.combining combiner.now
             → Holds job rows n p s self → s < run_length job rows
             → HasMessages job rows n p s logs → bundles.items ≡ bundles_before logs n p s

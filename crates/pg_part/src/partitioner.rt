@@ -2,7 +2,7 @@
 ghost use Rattle.std.specs.Prelude.{◌≡◌, ◌<◌, ◌≤◌, ◌↔◌, ◌%◌, IsSome, IfSome};
 ghost use Rattle.pg_model.specs.Share.{belongs};
 
-use pg_graph::{PartitionId, VertexId};
+use pg_graph::{Graph, PartitionId, VertexId};
 use std::marker::Model;
 
 /// So many partitions, 1 to 64. A vertex belongs to the one whose number is its id modulo that.
@@ -51,6 +51,33 @@ impl Partitioner {
     {
         PartitionId::new((id.number() % u64::from(self.partitions)) as u32)
     }
+
+    /// The vertices of a partition, with their rows in a graph. Takes no memory.
+    pub fn rows(self, graph: &Graph, partition: PartitionId) -> Rows<'_>
+        ensures { result ≡ record { graph = graph.now; partition = partition; partitions = self } }
+    {
+        Rows {
+            graph,
+            partition,
+            partitions: self,
+        }
+    }
+}
+
+/// The vertices of one partition, with their rows.
+#[derive(Drop)]
+pub struct Rows<'a> {
+    pub(crate) graph: &'a Graph,
+    pub(crate) partition: PartitionId,
+    pub(crate) partitions: Partitioner,
+}
+
+impl<'a> Model for Rows<'a> {
+    ghost use Rattle.pg_part.specs.Part.{PartRows};
+
+    ghost Value = { PartRows };
+
+    ghost view = { λ r. record { graph = r.graph.now; partition = r.partition; partitions = r.partitions } };
 }
 
 /// One of so many partitions.

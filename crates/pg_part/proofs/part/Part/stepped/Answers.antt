@@ -33,8 +33,8 @@ invariant_of-part g c =
     let fact : c.new.result ≤ length c.in_ok-trace.trace.records = omega (arith, next, long, reached) in
     fact
 
-pub returns : goal.returns
-returns g c job rows n p s logs program combining holds within has bundled sees =
+pub returns-clause-stepped : goal.returns-clause-stepped
+returns-clause-stepped g c job rows n p s logs program combining holds within has bundled sees =
     let part : Holding g.row.V.Denot g.row.M.Denot = record {
       partition = c.self.inside.partition;
       partitions = c.self.inside.partitions;
