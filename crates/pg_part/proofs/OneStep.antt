@@ -188,7 +188,7 @@ module _ {V M : Type 0} (value_eq : V → V → Bool) (message_eq : M → M → 
       let all = holds.partitions_are in
       share_steps value_eq message_eq job rows n p s (subst (λ k. 0 < k) all some) part holds within logs has view sees before bundles bundled played
       (subst (λ k. IsPlayed value_eq message_eq job.program job.missing job.combining view n p s part.trace bundles None k true false before played)
-          (awake ∙ ap (λ k. awake_ids k part.trace) here)
+      (awake ∙ ap (λ k. awake_ids k part.trace) here)
       (subst (λ k. IsPlayed value_eq message_eq job.program job.missing job.combining view n p k part.trace bundles None ids true false before played) here
       (subst (λ k. IsPlayed value_eq message_eq job.program job.missing job.combining view n k part.place part.trace bundles None ids true false before played) holds.partition_is
       (subst (λ k. IsPlayed value_eq message_eq job.program job.missing job.combining view k part.partition part.place part.trace bundles None ids true false before played) all
@@ -199,4 +199,4 @@ module _ {V M : Type 0} (value_eq : V → V → Bool) (message_eq : M → M → 
       (further ∙ ap (λ k. record part { place = k + 1; trace = with_replaced k played.changes.items (reaching k part.trace) }) here)
       (to_each ∙ all)
       (λ q below. subst (λ k. IsFresh k (items_to n q (flat_map sends_of played.changes.items)) (slice_get sent q)) (sym combining_is)
-          (subst (λ k. IsFresh combining (items_to k q (flat_map sends_of played.changes.items)) (slice_get sent q)) all (fresh q (subst (λ k. q < k) (sym all) below))))
+      (subst (λ k. IsFresh combining (items_to k q (flat_map sends_of played.changes.items)) (slice_get sent q)) all (fresh q (subst (λ k. q < k) (sym all) below))))

@@ -81,15 +81,16 @@ module _ {V M : Type 0} where
   all_found program missing combining trace s bundles [] ws is news h = tt
   all_found program missing combining trace s bundles (c ∷ cs) [] is news h = absurd (not_nil c.id (map (λ c. c.id) cs) is)
   all_found program missing combining trace s bundles (c ∷ cs) (w ∷ ws) is news h =
-      let same = heads c.id w.0 (map (λ c. c.id) cs) (keys_of ws) is in
-      (record {
-        inbox = w.1;
-        delivers = subst (λ (i : ℕ). Delivers combining i bundles w.1) (sym same) h.0;
-        is = heads c.new (found_at program missing s trace w) (map (λ c. c.new) cs) (map (found_at program missing s trace) ws) news
-            ∙ ap (λ (i : ℕ). vertex_of program missing i (state_at i s trace) w.1) (sym same);
-      },
-      all_found program missing combining trace s bundles cs ws (tails c.id w.0 (map (λ c. c.id) cs) (keys_of ws) is)
-      (tails c.new (found_at program missing s trace w) (map (λ c. c.new) cs) (map (found_at program missing s trace) ws) news) h.1)
+      let same = heads c.id w.0 (map (λ c. c.id) cs) (keys_of ws) is in (
+        record {
+          inbox = w.1;
+          delivers = subst (λ (i : ℕ). Delivers combining i bundles w.1) (sym same) h.0;
+          is = heads c.new (found_at program missing s trace w) (map (λ c. c.new) cs) (map (found_at program missing s trace) ws) news
+              ∙ ap (λ (i : ℕ). vertex_of program missing i (state_at i s trace) w.1) (sym same);
+        },
+        all_found program missing combining trace s bundles cs ws (tails c.id w.0 (map (λ c. c.id) cs) (keys_of ws) is)
+            (tails c.new (found_at program missing s trace w) (map (λ c. c.new) cs) (map (found_at program missing s trace) ws) news) h.1,
+      )
 
   module _ (job : Job V M) (rows : Rows) (n p r : ℕ) where
     -- a candidate is of the partition, and found as it stands in the run

@@ -12,8 +12,8 @@ mod sending;
 mod sent;
 
 pub use part::{Lost, Part};
-pub use partitioner::{Partitioner, Rows};
 pub(crate) use partitioner::Share;
+pub use partitioner::{Partitioner, Rows};
 pub use pg_graph::Memory;
 pub use sent::Sent;
 

@@ -41,7 +41,8 @@ impl Partitioner {
         ensures some { 0 < self }
         ensures most { self ≤ 64 }
     {
-        self.partitions
+        let Partitioner { partitions } = self;
+        partitions
     }
 
     /// The partition of a vertex.

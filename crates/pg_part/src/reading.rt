@@ -72,7 +72,10 @@ pub(crate) fn inboxes_at<M: Plain, C: MessageCombiner<M>>(
 }
 
 /// Bundles, lent.
-pub(crate) fn lent_bundles<M: Plain>(alloc: Global, bundles: &[Bundle<M>]) -> Result<Vec<&Bundle<M>>, Memory>
+pub(crate) fn lent_bundles<M: Plain>(
+    alloc: Global,
+    bundles: &[Bundle<M>],
+) -> Result<Vec<&Bundle<M>>, Memory>
     ensures { IfOk result (λ lent. map (λ b. b.now) lent.items ≡ bundles.now) }
 {
     bundles.iter().collect(alloc)

@@ -91,7 +91,15 @@ fn run_parts<P: Computation, C: MessageCombiner<P::Message>>(
     let mut meter = Meter::new();
     let mut supersteps = 0u32;
     for total_edges in totals {
-        parts = further(alloc, parts, &mut logs, *total_edges, program, combiner, &mut meter)?;
+        parts = further(
+            alloc,
+            parts,
+            &mut logs,
+            *total_edges,
+            program,
+            combiner,
+            &mut meter,
+        )?;
         supersteps = supersteps.saturating_add(1);
     }
     let mut text = String::new(alloc);
@@ -163,7 +171,10 @@ fn messages_to_nobody_make_a_vertex_or_are_dropped(rt: HostRuntime) -> Result<()
             &Tally,
             &AnyCombiner::NoCombiner,
         )?;
-        assert_eq!(rt; created.as_str(), "1=(10 []) 2=(20 []) 9=(2 [10 20]) calls 3");
+        assert_eq!(rt;
+            created.as_str(),
+            "1=(10 []) 2=(20 []) 9=(2 [10 20]) calls 3"
+        );
         let dropped = run_parts(
             alloc,
             &graph,
