@@ -1,10 +1,9 @@
 -- A partition begins with its share of the states with which the run begins.
-use Rattle.std.proofs.Common.{◌≡◌, ℕ, zero, Bool, true, false, cond, List, [], ◌∷◌, ◌++◌, map, refl, sym, ap, ◌∙◌, subst, filter}
+use Rattle.std.proofs.Common.{◌≡◌, ℕ, Bool, true, false, cond, List, [], ◌∷◌, ◌++◌, map, refl, sym, ap, ◌∙◌, subst, filter}
 use Rattle.std.specs.List.Sorted.{IsStrictlySortedBy}
 use Rattle.std.specs.Map.{keys_of}
 use Rattle.std.specs.Ordering.{nat_cmp}
 use Rattle.pg_graph.specs.Rows.{HasRisingIds, Rows}
-use Rattle.pg_graph.specs.declared.graph.Row.{Row}
 use Rattle.pg_model.specs.ByIds.{state_first}
 use Rattle.pg_model.specs.Job.{Job, Program}
 use Rattle.pg_model.specs.Run.{beginning, configuration, first}
@@ -14,7 +13,7 @@ use Rattle.pg_model.specs.declared.configuration.VertexState.{VertexState}
 use Rattle.pg_part.specs.Candidates.{own}
 use Rattle.pg_part.proofs.Stepping.{own_rise}
 use Rattle.pg_trace.specs.OfRun.{HoldsRun}
-use Rattle.pg_trace.specs.Trace.{StatesRise, Trace, begun}
+use Rattle.pg_trace.specs.Trace.{StatesRise, begun}
 
 module _ {V M : Type 0} (program : Program V M) (n p : ℕ) where
   states : Rows → List (VertexState V)

@@ -1,7 +1,6 @@
 -- Vertices with what is delivered to each: which they are.
-use Rattle.std.proofs.Common.{◌≡◌, ℕ, ◌==◌, ◌||◌, Bool, true, false, cond, List, [], ◌∷◌, map, Option, None, Some, is_some, refl, sym, ap, ◌∙◌, arith, true≢false, subst}
+use Rattle.std.proofs.Common.{◌≡◌, ℕ, ◌==◌, ◌||◌, Bool, true, false, cond, List, [], ◌∷◌, map, Option, None, Some, is_some, refl, sym, ap, ◌∙◌, true≢false, subst}
 use Rattle.std.specs.BTreeMap.{insert_entry, is_at}
-use Rattle.std.specs.List.{AllByRecursion}
 use Rattle.std.specs.List.Sorted.{IsStrictlySortedBy}
 use Rattle.std.specs.Map.{keys_of}
 use Rattle.std.specs.Option.{option_or}
@@ -9,7 +8,7 @@ use Rattle.std.specs.Ordering.{nat_cmp}
 use Rattle.std.proofs.lemmas.Bool.{eqb-true, eq-eqb}
 use Rattle.std.proofs.lemmas.Option.{none-some, same_Some}
 use Rattle.pg_inbox.specs.Bundles.{Parcels}
-use Rattle.pg_inbox.specs.Inboxes.{AreInboxes, Delivers, inbox_at}
+use Rattle.pg_inbox.specs.Inboxes.{AreInboxes, Delivers}
 use Rattle.pg_inbox.proofs.Bundling.{all_from_lookups}
 use Rattle.pg_map.specs.Entries.{HasRisingIds, value_at}
 use Rattle.pg_map.proofs.Parts.{rises_after}

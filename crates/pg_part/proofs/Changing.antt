@@ -1,6 +1,5 @@
 -- Changes of records, one for each of some vertices by rising id.
-use Rattle.std.proofs.Common.{◌≡◌, ℕ, ◌==◌, ◌||◌, Bool, true, false, cond, List, [], ◌∷◌, ◌++◌, map, Option, None, Some, refl, sym, ap, ◌∙◌, subst, true≢false, flat_map}
-use Rattle.std.specs.BTreeMap.{is_at}
+use Rattle.std.proofs.Common.{◌≡◌, ℕ, ◌==◌, ◌||◌, Bool, true, false, cond, List, [], ◌∷◌, ◌++◌, map, None, Some, refl, sym, ap, ◌∙◌, subst, true≢false, flat_map}
 use Rattle.std.specs.List.{AllByRecursion}
 use Rattle.std.specs.List.Sorted.{IsStrictlySortedBy}
 use Rattle.std.specs.Map.{keys_of}
@@ -11,7 +10,6 @@ use Rattle.pg_map.specs.Entries.{HasRisingIds, value_at}
 use Rattle.pg_model.specs.Superstep.{has_id}
 use Rattle.pg_model.proofs.LawsMade.{not_below}
 use Rattle.pg_model.proofs.LawsPresent.{at_key}
-use Rattle.pg_part.proofs.Callees.{not_key}
 
 module _ {C X : Type 0} (id_of : C → ℕ) (skips : C → Bool) (gives : C → X) where
   -- each of them with its id, but for those that are skipped

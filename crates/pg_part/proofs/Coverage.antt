@@ -1,14 +1,11 @@
 -- The vertices that a step looks at are all that may be active.
-use Rattle.std.proofs.Common.{◌≡◌, ℕ, zero, suc, ◌+◌, ◌<◌, ◌≤◌, ◌==◌, ◌||◌, not, Bool, true, false, cond, List, [], ◌∷◌, ◌++◌, map, take, length, slice_index_or, Option, None, Some, option_map, is_some, refl, sym, ap, ◌∙◌, arith, subst, true≢false, filter, inl, inr}
-use Rattle.std.specs.BTreeMap.{is_at}
-use Rattle.std.specs.Map.{keys_of, lookup}
-use Rattle.std.specs.Ordering.{nat_cmp}
-use Rattle.std.proofs.lemmas.Bool.{cases_lt, eqb-true, false_from_ne_true, true_from_ne_false}
+use Rattle.std.proofs.Common.{◌≡◌, ℕ, zero, suc, ◌<◌, ◌==◌, ◌||◌, not, Bool, true, false, cond, List, [], ◌∷◌, map, length, slice_index_or, Option, None, Some, option_map, is_some, refl, sym, ap, ◌∙◌, arith, true≢false, filter, inl, inr}
+use Rattle.std.proofs.lemmas.Bool.{cases_lt, eqb-true}
 use Rattle.std.proofs.lemmas.List.{get_or-take, get_or_append_left, get_or_push, length-append}
 use Rattle.std.proofs.lemmas.Option.{none-some, same_Some}
-use Rattle.pg_graph.specs.Rows.{HasRisingIds, Rows}
+use Rattle.pg_graph.specs.Rows.{Rows}
 use Rattle.pg_map.specs.Entries.{value_at}
-use Rattle.pg_model.specs.ByIds.{inbox_at, standing_with, state_at as run_state_at, state_left}
+use Rattle.pg_model.specs.ByIds.{state_at as run_state_at, state_left}
 use Rattle.pg_model.specs.Job.{Job}
 use Rattle.pg_model.specs.Needed.{standing_at}
 use Rattle.pg_model.specs.Run.{configuration, present_at, run_length, view_at}
@@ -16,7 +13,7 @@ use Rattle.pg_model.specs.Share.{belongs, records_below, records_in, share}
 use Rattle.pg_model.specs.Superstep.{has_id, ids, is_active, is_empty, outcome}
 use Rattle.pg_model.proofs.LawsAgreement.{outcome-active, outcome-idle}
 use Rattle.pg_model.proofs.LawsInputs.{inputs_of_executed}
-use Rattle.pg_model.proofs.LawsPresent.{is_some-standing_at, at_key, standing_at-state, state_at-next}
+use Rattle.pg_model.proofs.LawsPresent.{is_some-standing_at, at_key, state_at-next}
 use Rattle.pg_model.proofs.LawsSharesAlike.{record_in_share}
 use Rattle.pg_model.specs.declared.configuration.Standing.{Standing}
 use Rattle.pg_model.specs.declared.configuration.VertexState.{VertexState}

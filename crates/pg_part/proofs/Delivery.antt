@@ -1,11 +1,10 @@
 -- The bundles to a partition deliver what the superstep delivers to its ids.
-use Rattle.std.proofs.Common.{◌≡◌, ℕ, zero, suc, ◌+◌, ◌%◌, ◌<◌, ◌≤◌, ◌==◌, Bool, true, false, cond, List, [], ◌∷◌, ◌++◌, length, map, get_or, Option, None, Some, refl, sym, ap, ap₂, ◌∙◌, arith, subst, filter, flat_map, mod-lt}
+use Rattle.std.proofs.Common.{◌≡◌, ℕ, zero, suc, ◌+◌, ◌%◌, ◌<◌, ◌≤◌, ◌==◌, Bool, true, false, cond, List, [], ◌∷◌, ◌++◌, length, map, get_or, refl, sym, ap, ◌∙◌, arith, filter, flat_map, mod-lt}
 use Rattle.std.specs.List.{AllByRecursion, range_with_len}
 use Rattle.std.specs.Option.{option_to_list}
 use Rattle.std.specs.List.Sorted.{IsNonDecreasingBy, IsStrictlySortedBy}
-use Rattle.std.specs.Ordering.{nat_cmp}
 use Rattle.std.specs.declared.cmp.Ordering.TheVariants.{Less}
-use Rattle.std.proofs.lemmas.Bool.{cond_both, eqb-true, eq-eqb}
+use Rattle.std.proofs.lemmas.Bool.{cond_both, eqb-true}
 use Rattle.std.proofs.lemmas.Bool.Decides.{nat_tests}
 use Rattle.std.proofs.lemmas.List.{append-nil}
 use Rattle.std.proofs.lemmas.List.Elements.{filter-append}
@@ -20,8 +19,8 @@ use Rattle.pg_model.specs.ByIds.{delivered_at}
 use Rattle.pg_model.specs.Job.{Job, Program}
 use Rattle.pg_model.specs.Order.{Sending, sending_cmp, sendings, sendings_from}
 use Rattle.pg_model.specs.Run.{present_at, view_at}
-use Rattle.pg_model.specs.Share.{belongs, present_in_share, records_in, sendings_of, sent_to}
-use Rattle.pg_model.specs.Superstep.{combined, delivered, ids, messages_to, outcome, sends}
+use Rattle.pg_model.specs.Share.{belongs, records_in, sendings_of, sent_to}
+use Rattle.pg_model.specs.Superstep.{combined, delivered, messages_to, outcome}
 use Rattle.pg_model.proofs.LawsDelivered.{messages_to-sendings, sendings_rise}
 use Rattle.pg_model.proofs.LawsIds.{ids_rise}
 use Rattle.pg_model.proofs.LawsLists.{filter-filter, filter-map}

@@ -1,12 +1,12 @@
 -- What a step finds of a vertex is how the vertex stands in the run.
-use Rattle.std.proofs.Common.{◌≡◌, ℕ, zero, suc, ◌+◌, ◌<◌, ◌≤◌, true, List, [], ◌∷◌, Option, None, Some, refl, sym, ap, ap₂, ◌∙◌, arith, le_refl}
+use Rattle.std.proofs.Common.{◌≡◌, ℕ, zero, suc, ◌<◌, true, List, [], Option, None, Some, refl, sym, ap, ◌∙◌, arith, le_refl}
 use Rattle.pg_graph.specs.Rows.{Rows}
 use Rattle.pg_graph.specs.declared.missing.Missing.{Missing}
 use Rattle.pg_graph.specs.declared.missing.Missing.TheVariants.{Drop, Create}
 use Rattle.pg_inbox.specs.Inboxes.{Delivers}
 use Rattle.pg_inbox.specs.Logged.{Slots}
 use Rattle.pg_inbox.specs.Sends.{AreAllOf}
-use Rattle.pg_model.specs.ByIds.{arriving, delivered_at, inbox_at, standing_with, state_at as run_state_at}
+use Rattle.pg_model.specs.ByIds.{arriving, inbox_at, standing_with, state_at as run_state_at}
 use Rattle.pg_model.specs.Job.{Combining, Job}
 use Rattle.pg_model.specs.Needed.{standing_at}
 use Rattle.pg_model.specs.Run.{present_at}

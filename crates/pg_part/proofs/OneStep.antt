@@ -1,8 +1,7 @@
 -- A step takes a partition's share of the run one superstep further.
-use Rattle.std.proofs.Common.{◌≡◌, ℕ, ◌+◌, ◌<◌, ◌≤◌, ◌==◌, max, Bool, true, false, cond, List, [], ◌∷◌, map, length, Option, None, Some, option_map, is_some, refl, sym, ap, ◌∙◌, arith, subst, true≢false, flat_map, count_by, inl, inr}
+use Rattle.std.proofs.Common.{◌≡◌, ℕ, ◌+◌, ◌<◌, Bool, true, false, List, [], map, length, Option, None, Some, option_map, is_some, refl, sym, ap, ◌∙◌, arith, subst, true≢false, flat_map, count_by, inl, inr}
 use Rattle.std.specs.List.{AllByRecursion, slice_get}
 use Rattle.std.specs.List.Sorted.{IsStrictlySortedBy}
-use Rattle.std.specs.Map.{keys_of}
 use Rattle.std.specs.Ordering.{nat_cmp}
 use Rattle.std.proofs.lemmas.Bool.{cases_Bool, false_from_ne_true}
 use Rattle.std.proofs.lemmas.List.{length-set}
@@ -10,19 +9,17 @@ use Rattle.pg_graph.specs.Rows.{Rows}
 use Rattle.pg_inbox.specs.Bundles.{Parcels, bundle_of}
 use Rattle.pg_inbox.specs.Logged.{Slots}
 use Rattle.pg_inbox.specs.declared.logs.Logged.{Logged}
-use Rattle.pg_inbox.proofs.Delivery.{all_to_map}
-use Rattle.pg_map.specs.Entries.{ChangesRise, value_at, with_changes}
+use Rattle.pg_map.specs.Entries.{ChangesRise, with_changes}
 use Rattle.pg_model.specs.Job.{Combining, Inputs, Job, Program}
-use Rattle.pg_model.specs.Needed.{inputs_at, is_changed, is_needed, standing_at}
+use Rattle.pg_model.specs.Needed.{inputs_at, is_changed, is_needed}
 use Rattle.pg_model.specs.Run.{present_at, run_length, view_at}
 use Rattle.pg_model.specs.Share.{belongs, records_in, sent_to}
-use Rattle.pg_model.specs.Superstep.{capped, has_id, ids, is_active}
+use Rattle.pg_model.specs.Superstep.{capped, has_id, is_active}
 use Rattle.pg_model.proofs.LawsInputs.{no_inputs_missing}
 use Rattle.pg_model.proofs.LawsLists.{all_weaker}
 use Rattle.pg_model.proofs.LawsPresent.{standing_at-none}
 use Rattle.pg_model.proofs.LawsShares.{needed_in_share-none}
 use Rattle.pg_model.proofs.LawsSharesAlike.{record_in_share}
-use Rattle.pg_model.specs.declared.configuration.Standing.{Standing}
 use Rattle.pg_model.specs.declared.record.Record.{Record}
 use Rattle.pg_model.specs.declared.view.View.{View}
 use Rattle.pg_part.specs.Candidates.{AreCallees, IsPlayed, awake_ids, own}
@@ -37,10 +34,9 @@ use Rattle.pg_part.proofs.Changing.{entries, entries-rise}
 use Rattle.pg_part.proofs.ReadVertices.{IsRead, active_among, all_found, all_own, all_read, gives_record, no_inputs_if_inactive, own_belong, reads_inputs}
 use Rattle.pg_part.proofs.Recording.{IsCounted, IsRight, counted_are, no_other_record, records_are, records_rise}
 use Rattle.pg_part.proofs.Callees.{nothing_rises}
-use Rattle.pg_part.proofs.Sends.{sends_of_changes, somes, somes_are}
+use Rattle.pg_part.proofs.Sends.{sends_of_changes, somes_are}
 use Rattle.pg_part.proofs.Stepping.{own_rise, reaching_next, stepped_holds}
-use Rattle.pg_trace.specs.OfRun.{HoldsRun}
-use Rattle.pg_trace.specs.Trace.{Trace, records_of, with_replaced}
+use Rattle.pg_trace.specs.Trace.{records_of, with_replaced}
 
 module _ {V M : Type 0} (value_eq : V → V → Bool) (message_eq : M → M → Bool) (job : Job V M) (rows : Rows) (n p s : ℕ)
     (some : 0 < n) (part : Holding V M) (holds : Holds job rows n p s part) (within : s < run_length job rows)

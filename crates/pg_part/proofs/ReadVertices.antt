@@ -1,8 +1,8 @@
 -- What a step reads of the run, vertex by vertex.
-use Rattle.std.proofs.Common.{◌≡◌, ℕ, ◌+◌, ◌<◌, ◌==◌, ◌||◌, ◌&&◌, not, Bool, true, false, cond, List, [], ◌∷◌, map, Option, None, Some, option_map, option_and_then, refl, sym, ap, ◌∙◌, subst, true≢false, filter}
+use Rattle.std.proofs.Common.{◌≡◌, ℕ, ◌<◌, ◌==◌, ◌||◌, not, Bool, true, false, cond, List, [], ◌∷◌, map, Option, None, Some, option_map, refl, sym, ap, ◌∙◌, subst, true≢false}
 use Rattle.std.specs.List.{AllByRecursion}
 use Rattle.std.specs.Map.{keys_of}
-use Rattle.std.proofs.lemmas.Bool.{eqb-true, false_from_ne_true, true_from_ne_false}
+use Rattle.std.proofs.lemmas.Bool.{eqb-true, true_from_ne_false}
 use Rattle.std.proofs.lemmas.Option.{none-some, same_Some}
 use Rattle.pg_graph.specs.Rows.{Rows}
 use Rattle.pg_graph.specs.declared.missing.Missing.{Missing}
@@ -10,12 +10,12 @@ use Rattle.pg_inbox.specs.Bundles.{Parcels}
 use Rattle.pg_inbox.specs.Inboxes.{Delivers}
 use Rattle.pg_inbox.specs.Logged.{Slots}
 use Rattle.pg_map.specs.Entries.{value_at}
-use Rattle.pg_model.specs.ByIds.{inbox_at, inbox_of, record_at, standing_with, state_at as run_state_at}
-use Rattle.pg_model.specs.Job.{Combining, Inputs, Job, Program}
-use Rattle.pg_model.specs.Needed.{inputs_at, inputs_if_active, standing_at}
+use Rattle.pg_model.specs.ByIds.{inbox_at, standing_with, state_at as run_state_at}
+use Rattle.pg_model.specs.Job.{Combining, Job, Program}
+use Rattle.pg_model.specs.Needed.{inputs_at, standing_at}
 use Rattle.pg_model.specs.Run.{present_at, run_length, view_at}
 use Rattle.pg_model.specs.Share.{belongs, records_in}
-use Rattle.pg_model.specs.Superstep.{has_id, is_active, is_empty, made}
+use Rattle.pg_model.specs.Superstep.{has_id, is_active}
 use Rattle.pg_model.proofs.LawsInputs.{no_inputs_idle, no_inputs_missing}
 use Rattle.pg_model.proofs.LawsPresent.{inputs_within, standing_at-state}
 use Rattle.pg_model.proofs.LawsSharesAlike.{record_in_share}

@@ -1,12 +1,12 @@
 -- A trace that holds a run up to a superstep holds it one further with that superstep's records.
-use Rattle.std.proofs.Common.{◌≡◌, ℕ, ◌+◌, ◌<◌, ◌≤◌, ◌==◌, Bool, true, false, cond, List, [], ◌∷◌, ◌++◌, length, map, take, slice_index_or, slice_set, Option, refl, sym, ap, ap₂, ◌∙◌, arith, subst, le_refl, suc}
-use Rattle.std.specs.List.{AllByRecursion, filter}
+use Rattle.std.proofs.Common.{◌≡◌, ℕ, ◌+◌, ◌<◌, ◌≤◌, ◌==◌, Bool, true, false, cond, List, [], ◌∷◌, ◌++◌, length, slice_set, Option, refl, sym, ap, ap₂, ◌∙◌, arith, le_refl, suc}
+use Rattle.std.specs.List.{AllByRecursion}
 use Rattle.std.specs.List.Sorted.{IsStrictlySortedBy}
 use Rattle.std.specs.Map.{keys_of}
 use Rattle.std.specs.Ordering.{nat_cmp}
 use Rattle.std.specs.declared.cmp.Ordering.TheVariants.{Less}
-use Rattle.std.proofs.lemmas.Bool.{eq-eqb, eqb-true}
-use Rattle.std.proofs.lemmas.List.{get_or-set_same, get_or_append_left, get_or_push, length-append, length-set, take-append-le, take-set-le, take_all, take_more}
+use Rattle.std.proofs.lemmas.Bool.{eq-eqb}
+use Rattle.std.proofs.lemmas.List.{get_or-set_same, get_or_push, length-append, length-set, take-append-le, take-set-le, take_more}
 use Rattle.pg_graph.specs.Rows.{Rows}
 use Rattle.pg_map.specs.Entries.{with_changes, HasRisingIds as Rises}
 use Rattle.pg_model.specs.Job.{Job}

@@ -1,5 +1,5 @@
 -- The vertices that a step looks at, as it finds them in the new run and in the old one.
-use Rattle.std.specs.Prelude.{◌≡◌, ℕ, ◌==◌, ◌&&◌, not, Bool, false, cond, List, [], ◌∷◌, map, Option, None, Some, is_some}
+use Rattle.std.specs.Prelude.{◌≡◌, ℕ, ◌==◌, ◌&&◌, not, Bool, false, cond, List, [], ◌∷◌, Option, None, Some, is_some}
 use Rattle.std.specs.Cmp.Lexicographic.{pointwise}
 use Rattle.std.specs.Option.{option_and_then, option_map}
 use Rattle.pg_graph.specs.declared.missing.Missing.{Missing}

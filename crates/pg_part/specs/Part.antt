@@ -5,7 +5,7 @@ use Rattle.pg_graph.specs.Rows.{Rows}
 use Rattle.pg_graph.specs.declared.missing.Missing.{Missing}
 use Rattle.pg_inbox.specs.declared.logs.Logged.{Logged}
 use Rattle.pg_model.specs.Job.{Job}
-use Rattle.pg_model.specs.Share.{belongs, records_in}
+use Rattle.pg_model.specs.Share.{records_in}
 use Rattle.pg_model.specs.Superstep.{capped}
 use Rattle.pg_part.specs.Lent.{bundle_sent}
 use Rattle.pg_trace.specs.OfRun.{HoldsRun}

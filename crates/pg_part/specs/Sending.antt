@@ -1,5 +1,5 @@
 -- What a step sends, by the changes of records.
-use Rattle.std.specs.Prelude.{◌≡◌, ℕ, Bool, List, [], map, Option, None, Some}
+use Rattle.std.specs.Prelude.{◌≡◌, ℕ, List, [], map, Option, None, Some}
 use Rattle.std.specs.List.{filter}
 use Rattle.pg_inbox.specs.Bundles.{bundle_of}
 use Rattle.pg_inbox.specs.Sends.{Sends}

@@ -1,6 +1,5 @@
 use Rattle.std.proofs.Common.{◌≡◌, ℕ, ◌++◌, [], ◌∷◌, List, append_assoc, map, ap, ap₂, sym, ◌∙◌, subst, None, refl}
 use Rattle.std.specs.List.{AllByRecursion}
-use Rattle.std.specs.Map.{keys_of}
 use Rattle.std.proofs.lemmas.List.{map-append}
 use Rattle.pg_model.proofs.LawsLists.{all-append}
 use Rattle.pg_part.specs.Candidates.{found_at}

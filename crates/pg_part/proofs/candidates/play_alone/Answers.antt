@@ -1,4 +1,4 @@
-use Rattle.std.proofs.Common.{◌≡◌, true, map, ap, ◌∙◌, subst}
+use Rattle.std.proofs.Common.{true, map, ap, ◌∙◌, subst}
 use Rattle.std.specs.Map.{keys_of}
 use Rattle.pg_part.specs.Candidates.{AreCallees, found_at}
 use Rattle.pg_part.proofs.candidates.play_alone.Goals as goal

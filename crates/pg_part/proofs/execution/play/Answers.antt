@@ -1,4 +1,4 @@
-use Rattle.std.proofs.Common.{◌≡◌, ℕ, ◌+◌, ◌++◌, cond, List, [], ◌∷◌, append_assoc, rules, ap, ap₂, sym, ◌∙◌}
+use Rattle.std.proofs.Common.{◌≡◌, ◌+◌, ◌++◌, cond, [], ◌∷◌, append_assoc, rules, ap, ap₂, sym, ◌∙◌}
 use Rattle.std.specs.List.{count_by, flat_map}
 use Rattle.pg_model.specs.Superstep.{capped}
 use Rattle.pg_model.specs.declared.view.View.{View}

@@ -1,4 +1,4 @@
-use Rattle.std.proofs.Common.{◌≡◌, ℕ, ◌++◌, List, [], ◌∷◌, ap, ap₂, sym, ◌∙◌, refl}
+use Rattle.std.proofs.Common.{ℕ, ◌++◌, List, [], ◌∷◌, ap, ap₂, sym, ◌∙◌}
 use Rattle.std.specs.Option.{option_to_list}
 use Rattle.std.proofs.lemmas.List.{append-nil}
 use Rattle.pg_inbox.specs.Bundles.{Parcels}

@@ -1,4 +1,4 @@
-use Rattle.std.proofs.Common.{◌≡◌, ℕ, ◌<◌, ◌++◌, [], ◌∷◌, length, rules, arith, append_assoc, ap, sym, ◌∙◌}
+use Rattle.std.proofs.Common.{ℕ, ◌<◌, ◌++◌, [], ◌∷◌, length, arith, append_assoc, ap, sym, ◌∙◌}
 use Rattle.std.proofs.lemmas.List.{get_or_default, length-set}
 use Rattle.pg_part.proofs.Splitting.{item_put}
 use Rattle.pg_part.proofs.sending.by_partition.Goals as goal

@@ -1,4 +1,4 @@
-use Rattle.std.proofs.Common.{◌≡◌, ◌<◌, [], ap, sym, ◌∙◌, subst, length, slice_index_or, arith}
+use Rattle.std.proofs.Common.{◌<◌, [], ap, ◌∙◌, subst, length, slice_index_or, arith}
 use Rattle.std.specs.List.{slice_get}
 use Rattle.pg_part.specs.Sending.{IsFresh, items_to}
 use Rattle.pg_part.proofs.sent.fresh_bundles.Goals as goal

@@ -1,4 +1,4 @@
-use Rattle.std.proofs.Common.{◌≡◌, length, ap, sym, ◌∙◌, subst, refl}
+use Rattle.std.proofs.Common.{length, ap, sym, ◌∙◌, subst, refl}
 use Rattle.pg_part.specs.Part.{Holding, Holds}
 use Rattle.pg_part.proofs.Beginning.{begun_holds, states_rise}
 use Rattle.pg_trace.specs.OfRun.{HoldsRun}

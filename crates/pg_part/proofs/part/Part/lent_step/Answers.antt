@@ -1,4 +1,4 @@
-use Rattle.std.proofs.Common.{◌≡◌, length, ap, sym, ◌∙◌, subst, refl}
+use Rattle.std.proofs.Common.{length, ap, sym, ◌∙◌, subst, refl}
 use Rattle.pg_global.proofs.Shown.{shows_declared}
 use Rattle.pg_model.specs.Superstep.{view_of}
 use Rattle.pg_part.specs.Lent.{bundles_before}
