@@ -47,7 +47,8 @@ fn own<M: Plain>(
     share: &Share,
     callees: Vec<(VertexId, Sequence<M>)>,
 ) -> Result<Vec<(VertexId, Sequence<M>)>, Memory>
-    ensures { IfOk result (λ found. found.items ≡ own share.now.partitions share.now.partition callees.items) }
+    ensures { IfOk result
+        (λ found. found.items ≡ own share.now.partitions share.now.partition callees.items) }
 {
     let mut found = Vec::with_capacity(alloc, callees.len())?;
     for callee in callees {
@@ -62,7 +63,8 @@ fn add_own<M: Plain>(
     share: &Share,
     callee: (VertexId, Sequence<M>),
 ) -> Result<(), Memory>
-    ensures { OnOk result (found.new.items ≡ found.old.items ++ own share.now.partitions share.now.partition (callee ∷ [])) }
+    ensures { OnOk result (found.new.items
+        ≡ found.old.items ++ own share.now.partitions share.now.partition (callee ∷ [])) }
 {
     if !share.has(callee.0) {
         return Ok(());
@@ -81,7 +83,8 @@ fn callees<M: Plain, C: MessageCombiner<M>>(
     combiner: &C,
 ) -> Result<Vec<(VertexId, Sequence<M>)>, Memory>
     requires { all ≡ false → IsStrictlySortedBy nat_cmp ids.now }
-    ensures { IfOk result (λ callees. AreCallees (C.combining combiner.now) (map (λ b. b.now) bundles.now) ids.now all callees.items) }
+    ensures { IfOk result (λ callees.
+        AreCallees (C.combining combiner.now) (map (λ b. b.now) bundles.now) ids.now all callees.items) }
 {
     if all {
         let callees = all_callees(alloc, bundles, ids, combiner)?;
@@ -98,7 +101,8 @@ fn all_callees<M: Plain, C: MessageCombiner<M>>(
     ids: &[VertexId],
     combiner: &C,
 ) -> Result<Vec<(VertexId, Sequence<M>)>, Memory>
-    ensures { IfOk result (λ callees. AreCallees (C.combining combiner.now) (map (λ b. b.now) bundles.now) ids.now true callees.items) }
+    ensures { IfOk result (λ callees.
+        AreCallees (C.combining combiner.now) (map (λ b. b.now) bundles.now) ids.now true callees.items) }
 {
     let inboxes = inboxes(alloc, bundles, combiner)?;
     let callees = with_empty(alloc, ids, inboxes)?;
@@ -120,8 +124,10 @@ pub(crate) fn play_alone<P: Computation, C: MessageCombiner<P::Message>>(
 ) -> Result<Played<P::Value, P::Message>, Memory>
     requires shown { ShowsDeclared (P.program program.now).declared stage.view }
     requires fits { stage.meter < 2 ^ 64 }
-    ensures { IfOk result (λ played. IsPlayed P.Value.PartialEq.eq P.Message.PartialEq.eq (P.program program.now) missing
-        (C.combining combiner.now) stage.view share.partitions share.partition superstep trace.now bundles.now None ids.now true false stage.meter played) }
+    ensures { IfOk result (λ played.
+        IsPlayed P.Value.PartialEq.eq P.Message.PartialEq.eq (P.program program.now) missing
+        (C.combining combiner.now) stage.view share.partitions share.partition superstep trace.now
+        bundles.now None ids.now true false stage.meter played) }
 {
     let lent = lent_bundles(alloc, bundles)?;
     let callees = callees(alloc, lent.as_slice(), ids, true, combiner)?;
@@ -140,7 +146,8 @@ fn candidates_alone<P: Computation>(
     trace: &Trace<P::Value, P::Message>,
     callees: Vec<(VertexId, Sequence<P::Message>)>,
 ) -> Result<Vec<Candidate<P::Value, P::Message>>, Memory>
-    ensures ids { IfOk result (λ candidates. map (λ c. c.id) candidates.items ≡ keys_of callees.items) }
+    ensures ids { IfOk result
+        (λ candidates. map (λ c. c.id) candidates.items ≡ keys_of callees.items) }
     ensures new { IfOk result (λ candidates. map (λ c. c.new) candidates.items
         ≡ map (found_at (P.program program.now) missing superstep trace.now) callees.items) }
     ensures old { IfOk result (λ candidates. AllByRecursion (λ c. c.old ≡ None) candidates.items) }

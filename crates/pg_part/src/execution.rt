@@ -87,9 +87,11 @@ fn given_by<P: Computation>(
 ) -> Result<(Option<Record<P::Value, P::Message>>, Stage), Memory>
     requires shown { ShowsDeclared (P.program program.now).declared stage.view }
     requires fits { stage.meter < 2 ^ 64 }
-    ensures given { IfOk result (λ r. r.0 ≡ option_map (P.program program.now).step (reads stage.view vertex)) }
+    ensures given { IfOk result
+        (λ r. r.0 ≡ option_map (P.program program.now).step (reads stage.view vertex)) }
     ensures view { IfOk result (λ r. r.1.view ≡ stage.view) }
-    ensures meter { IfOk result (λ r. r.1.meter ≡ capped (stage.meter + cond (is_some (reads stage.view vertex)) 1 0)) }
+    ensures meter { IfOk result
+        (λ r. r.1.meter ≡ capped (stage.meter + cond (is_some (reads stage.view vertex)) 1 0)) }
 {
     match vertex {
         Some(vertex) => {
@@ -111,7 +113,8 @@ fn execute<P: Computation>(
     stage: Stage,
 ) -> Result<(Record<P::Value, P::Message>, Stage), Memory>
     requires shown { ShowsDeclared (P.program program.now).declared stage.view }
-    ensures given { IfOk result (λ r. r.0 ≡ (P.program program.now).step (inputs_of stage.view vertex)) }
+    ensures given { IfOk result
+        (λ r. r.0 ≡ (P.program program.now).step (inputs_of stage.view vertex)) }
     ensures view { IfOk result (λ r. r.1.view ≡ stage.view) }
     ensures meter { IfOk result (λ r. r.1.meter ≡ capped (stage.meter + 1)) }
 {

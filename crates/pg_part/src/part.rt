@@ -98,7 +98,8 @@ impl<V: Plain, M: Plain> Part<V, M> {
         missing: Missing,
         program: &P,
     ) -> Result<Part<V, M>, Memory>
-        ensures { IfOk result (λ part. (job : Job V M) → job.program ≡ P.program program.now → job.missing ≡ missing
+        ensures { IfOk result (λ part. (job : Job V M)
+            → job.program ≡ P.program program.now → job.missing ≡ missing
             → Holds job rows.entry.graph rows.entry.partitions rows.entry.partition 0 part) }
     {
         let Rows {
@@ -206,7 +207,8 @@ impl<V: Plain, M: Plain> Part<V, M> {
         requires fits { stage.meter < 2 ^ 64 }
         requires counts { self.place + 1 < 2 ^ 32 }
         ensures further { IfOk result (λ stepped. IsFurther self stepped.part) }
-        ensures stepped { IfOk result (λ stepped. (job : Job V M) (rows : GraphRows) (n p s : ℕ) (logs : Slots M)
+        ensures stepped { IfOk result
+            (λ stepped. (job : Job V M) (rows : GraphRows) (n p s : ℕ) (logs : Slots M)
             → job.program ≡ P.program program.now → job.combining ≡ C.combining combiner.now
             → Holds job rows n p s self → s < run_length job rows
             → HasMessages job rows n p s logs → bundles.items ≡ bundles_before logs n p s
@@ -266,7 +268,8 @@ fn with_records<V: Plain, M: Plain>(
 ) -> Result<Trace<V, M>, Memory>
     requires rise { ChangesRise changes.items }
     requires within { superstep ≤ length trace.records }
-    ensures { IfOk result (λ after. after ≡ with_replaced superstep changes.items (reaching superstep trace)) }
+    ensures { IfOk result
+        (λ after. after ≡ with_replaced superstep changes.items (reaching superstep trace)) }
 {
     let mut trace = reaching(alloc, trace, superstep)?;
     trace.replace(alloc, superstep, changes)?;

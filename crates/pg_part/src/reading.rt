@@ -26,7 +26,8 @@ pub(crate) fn bundles_before<M: Plain>(
     to: PartitionId,
     superstep: Superstep,
 ) -> Result<Vec<Bundle<M>>, Memory>
-    ensures { IfOk result (λ bundles. bundles.items ≡ bundles_before logs.now partitions to superstep) }
+    ensures { IfOk result
+        (λ bundles. bundles.items ≡ bundles_before logs.now partitions to superstep) }
 {
     match superstep.number().checked_sub(1) {
         Some(before) => bundles_at(alloc, logs, partitions, to, Superstep::new(before)),
@@ -61,7 +62,9 @@ pub(crate) fn inboxes_at<M: Plain, C: MessageCombiner<M>>(
     combiner: &C,
 ) -> Result<Vec<(VertexId, Sequence<M>)>, Memory>
     ensures ids { IfOk result (λ inboxes. keys_of inboxes.items ≡ ids.now) }
-    ensures delivered { IfOk result (λ inboxes. AllByRecursion (λ w. Delivers (C.combining combiner.now) w.0 (map (λ b. b.now) bundles.now) w.1) inboxes.items) }
+    ensures delivered { IfOk result (λ inboxes. AllByRecursion
+        (λ w. Delivers (C.combining combiner.now) w.0 (map (λ b. b.now) bundles.now) w.1)
+        inboxes.items) }
 {
     let mut inboxes = Vec::with_capacity(alloc, ids.len())?;
     for id in ids {
@@ -100,7 +103,8 @@ fn put_empty<M: Plain>(
     all: &mut BTreeMap<VertexId, Sequence<M>>,
     ids: &[VertexId],
 ) -> Result<(), Memory>
-    ensures { OnOk result (all.new.entries ≡ with_entries (map (λ id. (id, [])) ids.now) all.old.entries) }
+    ensures { OnOk result
+        (all.new.entries ≡ with_entries (map (λ id. (id, [])) ids.now) all.old.entries) }
 {
     for id in ids {
         all.insert(*id, Sequence::new(alloc))?;

@@ -30,7 +30,8 @@ fn add_sends<V: Plain, M: Plain>(
     sender: VertexId,
     by: Option<&Record<V, M>>,
 ) -> Result<(), Memory>
-    ensures { OnOk result (sends.new.items ≡ sends.old.items ++ sends_by sender (option_copied by.entry)) }
+    ensures { OnOk result
+        (sends.new.items ≡ sends.old.items ++ sends_by sender (option_copied by.entry)) }
 {
     match by {
         Some(given) => {
@@ -47,7 +48,8 @@ fn push_sends<M: Plain>(
     sender: VertexId,
     sent: &[(VertexId, M)],
 ) -> Result<(), Memory>
-    ensures { OnOk result (sends.new.items ≡ sends.old.items ++ map (λ m. (m.0, (sender, m.0, m.1))) sent.now) }
+    ensures { OnOk result (sends.new.items
+        ≡ sends.old.items ++ map (λ m. (m.0, (sender, m.0, m.1))) sent.now) }
 {
     for (target, message) in sent {
         let message = message.copy(alloc)?;
