@@ -5,23 +5,14 @@ use Rattle.pg_map.specs.Entries.{with_changes}
 use Rattle.pg_part.specs.Lists.{reaching}
 use Rattle.pg_part.specs.Part.{Holding, Holds}
 use Rattle.pg_part.specs.Sending.{IsFresh, items_to, sends_of}
-use Rattle.pg_part.proofs.OneStep.{part_steps, played_rise}
-use Rattle.pg_part.proofs.Stepping.{length-reaching}
+use Rattle.pg_part.proofs.Alone.{alone_steps}
+use Rattle.pg_part.proofs.Stepping.{length-reaching, played_rise}
 use Rattle.pg_trace.specs.Trace.{records_of}
-use Rattle.pg_part.proofs.part.Part.stepped.Goals as goal
+use Rattle.pg_part.proofs.part.Part.alone.Goals as goal
 
 pub with_records-requires-clause-rise : goal.with_records-requires-clause-rise
 with_records-requires-clause-rise g c κs lives =
-    let part : Holding g.row.V.Denot g.row.M.Denot = record {
-      partition = c.self.inside.partition;
-      partitions = c.self.inside.partitions;
-      missing = c.self.inside.missing;
-      place = c.self.inside.place;
-      trace = c.self.inside.trace;
-    } in
-    played_rise g.V.PartialEq.eq g.M.PartialEq.eq part (g.P.Computation.program c.args.program.now) (g.C.MessageCombiner.combining c.args.combiner.now)
-    c.args.stage.view c.args.stage.meter c.as_slice.result.now c.as_slice-2.result.now (c.as_slice-2.ensures.value ∙ c.in_ok-ids.ensures) c.in_ok-played.played
-    c.in_ok-played.ensures
+    played_rise g.V.PartialEq.eq g.M.PartialEq.eq _ _ _ _ _ _ _ _ _ _ _ _ _ _ _ c.in_ok-played.ensures
 
 pub invariant_of-part : goal.invariant_of-part
 invariant_of-part g c =
@@ -34,18 +25,20 @@ invariant_of-part g c =
     fact
 
 pub returns-clause-stepped : goal.returns-clause-stepped
-returns-clause-stepped g c job rows n p s logs program combining holds within has bundled sees =
+returns-clause-stepped g c job kept rows n p s logs program combining holds past within has bundled sees =
     let part : Holding g.row.V.Denot g.row.M.Denot = record {
       partition = c.self.inside.partition;
       partitions = c.self.inside.partitions;
       missing = c.self.inside.missing;
       place = c.self.inside.place;
       trace = c.self.inside.trace;
+      kept = c.self.inside.kept;
+      differing = c.self.inside.differing.items;
     } in
-    let holds' : Holds job rows n p s part = subst (Holds job rows n p s) (sym c.self.view_is) holds in
-    let steps = part_steps g.V.PartialEq.eq g.M.PartialEq.eq part (g.P.Computation.program c.args.program.now) (g.C.MessageCombiner.combining c.args.combiner.now)
+    let holds' : Holds job kept rows n p s part = subst (Holds job kept rows n p s) (sym c.self.view_is) holds in
+    let steps = alone_steps g.V.PartialEq.eq g.M.PartialEq.eq part (g.P.Computation.program c.args.program.now) (g.C.MessageCombiner.combining c.args.combiner.now)
     c.args.stage.view c.args.stage.meter c.as_slice.result.now c.as_slice-2.result.now (c.as_slice-2.ensures.value ∙ c.in_ok-ids.ensures) c.in_ok-played.played
-    c.in_ok-played.ensures job rows n p s logs program combining c.partitions.ensures.some holds' within has (c.as_slice.ensures.value ∙ bundled) sees in
+    c.in_ok-played.ensures job kept rows n p s logs program combining c.partitions.ensures.some holds' past within has (c.as_slice.ensures.value ∙ bundled) sees in
     steps _ _
     (λ i. record {
       partition = c.self.inside.partition;
@@ -53,6 +46,8 @@ returns-clause-stepped g c job rows n p s logs program combining holds within ha
       missing = c.self.inside.missing;
       place = (c.new.ensures ∙ ap (λ k. k + 1) c.number.ensures) i;
       trace = c.in_ok-trace.ensures i;
+      kept = c.self.inside.kept;
+      differing = c.new-2.ensures.items i;
     })
     (ap length c.of.ensures ∙ c.in_ok-bundles.ensures.len)
     (λ q below.
