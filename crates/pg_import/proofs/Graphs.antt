@@ -29,7 +29,7 @@ is_eq-reverse Less = refl
 is_eq-reverse Equal = refl
 is_eq-reverse Greater = refl
 
-cmp-refl : (k : ℕ) → nat_cmp k k ≡ Equal
+pub cmp-refl : (k : ℕ) → nat_cmp k k ≡ Equal
 cmp-refl k = self_reverse (nat_cmp k k) (nat_cmp_total.antisymm k k)
 
 -- a key is at a query as the query is at the key
@@ -111,7 +111,7 @@ has_vertex-with_vertex rows id q = elim (cases_Bool (has_vertex id rows)) [
   | inr new ↦ rw (with_vertex-new rows id new) (has_vertex-with_row rows id q _)
 ]
 
-cond-true : (b : Bool) → cond b true true ≡ true
+pub cond-true : (b : Bool) → cond b true true ≡ true
 cond-true true = refl
 cond-true false = refl
 

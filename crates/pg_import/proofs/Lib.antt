@@ -8,6 +8,7 @@ pub mod Fields
 pub mod RecordReadings
 pub mod Graphs
 pub mod NamedFacts
+pub mod NamedBefore
 pub mod Limits
 pub mod BatchLaw
 pub mod BatchSteps

@@ -35,12 +35,10 @@ known_edge rows line s t there = elim (cases_Bool (is_at (nat_cmp line.source) s
   | inr apart ↦ rw apart refl
 ]
 
--- a vertex that the graph has
-pub Shows-there : (graph : Rows) (named : Named) (rows : Rows) (id : ℕ) → Shows graph named rows → has_vertex id graph ≡ true
+-- a vertex that is there
+pub Shows-there : (graph : Rows) (named : Named) (rows : Rows) (id : ℕ) → Shows graph named rows → has_vertex id rows ≡ true
     → (false ≡ not (has_vertex id rows)) × Shows graph named (with_vertex id rows)
-Shows-there graph named rows id shows there =
-    let has : has_vertex id rows ≡ true = shows.vertices id ∙ or-true _ _ there in
-    (rw has refl, rw (with_vertex-there rows id has) shows)
+Shows-there graph named rows id shows has = (rw has refl, rw (with_vertex-there rows id has) shows)
 
 -- a vertex that it lacks, which was put among the named ones
 pub Shows-vertex : (graph : Rows) (named : Named) (vertices : BTreeSet ℕ) (rows : Rows) (id : ℕ) (added : Bool) → Shows graph named rows

@@ -1,8 +1,8 @@
 //! The batch of edits that brings the edges of a list into a graph.
-ghost use Rattle.std.specs.Prelude.{◌≡◌, ◌∷◌, ◌++◌, [], true, not, IfOk, OnOk};
+ghost use Rattle.std.specs.Prelude.{◌≡◌, ◌∷◌, ◌++◌, [], take, true, not, IfOk, OnOk};
 ghost use Rattle.pg_graph.specs.Rows.{Rows};
 ghost use Rattle.pg_import.specs.Batch.{Makes, batch_of, edge_edit, has_edge, has_vertex, vertex_edits, with_line_edge, with_lines, with_vertex};
-ghost use Rattle.pg_import.specs.Named.{Shows};
+ghost use Rattle.pg_import.specs.Named.{IsSaid, Shows};
 
 use crate::seen::Seen;
 use crate::{Line, Memory};
@@ -25,11 +25,30 @@ pub fn into_batch(alloc: Global, lines: &[Line], graph: &Graph) -> Result<Batch,
     for (place, line) in lines.iter().enumerate() {
         let source = seen.source_at(place, line, graph);
         let target = seen.target_at(place, line, graph);
-        push_vertex(&mut batch, &mut named, line.source, source.vertex)?;
-        push_vertex(&mut batch, &mut named, line.target, target)?;
+        let source_there = is_there(source.vertex, lines, place, source.first, line.source);
+        let target_there = is_there(target.vertex, lines, place, target.first, line.target);
+        push_vertex(&mut batch, &mut named, line.source, source_there)?;
+        push_vertex(&mut batch, &mut named, line.target, target_there)?;
         push_edge(&mut batch, &mut named, line, source.edge)?;
     }
     Ok(batch)
+}
+
+// Whether a vertex is known to be there after the lines before a place: the graph has it, or the line at
+// `first` is one of them and names it.
+fn is_there(in_graph: bool, lines: &[Line], place: usize, first: usize, id: VertexId) -> bool
+    ensures { (graph : Rows) → in_graph ≡ has_vertex id graph → IsSaid result id graph (with_lines (take place lines.now) graph) }
+{
+    if in_graph {
+        return true;
+    }
+    if first >= place {
+        return false;
+    }
+    match lines.get(first) {
+        Some(line) => line.source == id || line.target == id,
+        None => false,
+    }
 }
 
 // Names a vertex, and adds it by an edit where it wasn't there yet.
@@ -38,12 +57,12 @@ fn push_vertex(
     batch: &mut Batch,
     named: &mut Named,
     id: VertexId,
-    in_graph: bool,
+    there: bool,
 ) -> Result<(), Memory>
-    ensures { OnOk result ((graph rows : Rows) → in_graph ≡ has_vertex id graph → Shows graph named.old rows
+    ensures { OnOk result ((graph rows : Rows) → IsSaid there id graph rows → Shows graph named.old rows
         → (batch.new ≡ batch.old ++ vertex_edits id rows) × Shows graph named.new (with_vertex id rows)) }
 {
-    if named.add_vertex(id, in_graph)? {
+    if named.add_vertex(id, there)? {
         batch.push(Edit::AddVertex(id, 0))?;
     }
     Ok(())
@@ -87,11 +106,11 @@ impl Named {
     }
 
     // Names a vertex, and says whether it wasn't there yet.
-    fn add_vertex(&mut self, id: VertexId, in_graph: bool) -> Result<bool, Memory>
-        ensures { IfOk result (λ added. (graph rows : Rows) → in_graph ≡ has_vertex id graph → Shows graph self.old rows
+    fn add_vertex(&mut self, id: VertexId, there: bool) -> Result<bool, Memory>
+        ensures { IfOk result (λ added. (graph rows : Rows) → IsSaid there id graph rows → Shows graph self.old rows
             → (added ≡ not (has_vertex id rows)) × Shows graph self.new (with_vertex id rows)) }
     {
-        if in_graph {
+        if there {
             return Ok(false);
         }
         let added = self.vertices.insert(id)?;

@@ -1,22 +1,34 @@
 //! What a graph has of the lines of a list, looked up by rising id: look-ups that lie near one another
 //! in memory come one after another.
-ghost use Rattle.std.specs.Prelude.{◌≡◌, Bool, is_some, option_and_then, map, None, Some, IfOk};
+ghost use Rattle.std.specs.Prelude.{◌≡◌, is_some, option_and_then, map, None, Some, IfOk};
 ghost use Rattle.std.specs.List.{slice_get};
 ghost use Rattle.std.specs.Option.{option_copied};
 ghost use Rattle.pg_graph.specs.EdgeList.{weight_at};
-ghost use Rattle.pg_import.specs.Batch.{has_vertex};
+ghost use Rattle.pg_graph.specs.Rows.{Rows, row_at};
 ghost use Rattle.pg_import.specs.Seen.{AreSeen, IsSource, IsTarget};
 ghost use Rattle.pg_import.specs.declared.seen.Source.{Source};
+ghost use Rattle.pg_import.specs.declared.seen.Target.{Target};
 
 use crate::{Line, Memory};
 use pg_graph::{Finder, Graph, Row, VertexId};
 use std::alloc::Global;
+use std::marker::Model;
 
-/// Whether the graph has the source of a line, and the line's edge.
+/// Whether the graph has the source of a line, and the line's edge. `first` is the first line with that
+/// source, as far as it was looked up.
 #[derive(Clone, Copy)]
 pub(crate) struct Source {
     pub(crate) vertex: bool,
     pub(crate) edge: bool,
+    pub(crate) first: usize,
+}
+
+/// Whether the graph has the target of a line. `first` is the first line with that target, as far as
+/// it was looked up.
+#[derive(Clone, Copy)]
+pub(crate) struct Target {
+    pub(crate) vertex: bool,
+    pub(crate) first: usize,
 }
 
 /// What the graph has of lines, as far as it was looked up. A place with none is looked up again by
@@ -25,7 +37,7 @@ pub(crate) struct Source {
 #[derive(Drop)]
 pub(crate) struct Seen {
     pub(crate) sources: Vec<Option<Source>>,
-    pub(crate) targets: Vec<Option<bool>>,
+    pub(crate) targets: Vec<Option<Target>>,
 }
 
 impl Seen {
@@ -46,18 +58,18 @@ impl Seen {
     {
         match self.sources.get(place) {
             Some(Some(source)) => *source,
-            _ => source_of(line, &mut graph.finder()),
+            _ => source_of(line, graph.row(line.source), place),
         }
     }
 
     /// Whether the graph has the target of the line at this place.
-    pub(crate) fn target_at(&self, place: usize, line: &Line, graph: &Graph) -> bool
-        requires { (x : Bool) → slice_get self.now.targets.items place ≡ Some (Some x) → IsTarget graph.now line.now x }
+    pub(crate) fn target_at(&self, place: usize, line: &Line, graph: &Graph) -> Target
+        requires { (x : Target) → slice_get self.now.targets.items place ≡ Some (Some x) → IsTarget graph.now line.now x }
         ensures { IsTarget graph.now line.now result }
     {
         match self.targets.get(place) {
-            Some(Some(there)) => *there,
-            _ => graph.row(line.target).is_some(),
+            Some(Some(target)) => *target,
+            _ => target_of(graph.row(line.target), place),
         }
     }
 }
@@ -67,27 +79,86 @@ fn sources_of(alloc: Global, lines: &[Line], graph: &Graph) -> Result<Vec<Option
 {
     let mut seen = none_of(alloc, lines)?;
     let places = by_rising(alloc, lines, End::Source)?;
-    let mut finder = graph.finder();
+    let Some((id, first)) = places.first() else {
+        return Ok(seen);
+    };
+    let mut last = LastRow::of(graph, *id, *first);
     for (_, place) in places.as_slice() {
         if let Some(line) = lines.get(*place) {
-            seen[*place] = Some(source_of(line, &mut finder));
+            let row = last.row_at(line.source, *place);
+            seen[*place] = Some(source_of(line, row, last.place));
         }
     }
     Ok(seen)
 }
 
-fn targets_of(alloc: Global, lines: &[Line], graph: &Graph) -> Result<Vec<Option<bool>>, Memory>
+fn targets_of(alloc: Global, lines: &[Line], graph: &Graph) -> Result<Vec<Option<Target>>, Memory>
     ensures { IfOk result (λ seen. AreSeen (IsTarget graph.now) lines.now seen.items) }
 {
     let mut seen = none_of(alloc, lines)?;
     let places = by_rising(alloc, lines, End::Target)?;
-    let mut finder = graph.finder();
+    let Some((id, first)) = places.first() else {
+        return Ok(seen);
+    };
+    let mut last = LastRow::of(graph, *id, *first);
     for (_, place) in places.as_slice() {
         if let Some(line) = lines.get(*place) {
-            seen[*place] = Some(finder.get(line.target).is_some());
+            let row = last.row_at(line.target, *place);
+            seen[*place] = Some(target_of(row, last.place));
         }
     }
     Ok(seen)
+}
+
+/// The row that was looked up last, and the line that it was first looked up for. A contract sees the
+/// graph.
+#[derive(Drop)]
+struct LastRow<'a> {
+    finder: Finder<'a, Row>,
+    id: VertexId,
+    row: Option<&'a Row>,
+    place: usize,
+}
+
+impl<'a> Model for LastRow<'a> {
+    ghost use Rattle.std.specs.Prelude.{◌≡◌};
+    ghost use Rattle.std.specs.Option.{option_copied};
+    ghost use Rattle.pg_graph.specs.Rows.{Rows, row_at};
+
+    ghost Value = { Rows };
+
+    ghost view = { λ last. last.finder };
+
+    ghost invariant = { λ last. option_copied last.row ≡ row_at last.id last.finder };
+}
+
+impl<'a> LastRow<'a> {
+    /// The row at an id, for this line.
+    fn of(graph: &'a Graph, id: VertexId, place: usize) -> LastRow<'a>
+        ensures { result ≡ graph.now }
+    {
+        let mut finder = graph.finder();
+        let row = finder.get(id);
+        LastRow {
+            finder,
+            id,
+            row,
+            place,
+        }
+    }
+
+    /// The row at an id, for this line. It is looked up where the last one was at another id.
+    fn row_at(&mut self, id: VertexId, place: usize) -> Option<&'a Row>
+        ensures row { option_copied result ≡ row_at id self.old }
+        ensures same { self.new ≡ self.old }
+    {
+        if self.id != id {
+            self.id = id;
+            self.row = self.finder.get(id);
+            self.place = place;
+        }
+        self.row
+    }
 }
 
 /// Nothing, for each line.
@@ -108,7 +179,7 @@ enum End {
     Target,
 }
 
-/// The places of lines with the ids of this end, by rising id.
+/// The places of lines with the ids of this end, by rising id, those with one id as they stand.
 fn by_rising(alloc: Global, lines: &[Line], end: End) -> Result<Vec<(VertexId, usize)>, Memory> {
     let mut places = Vec::with_capacity(alloc, lines.len())?;
     for (place, line) in lines.iter().enumerate() {
@@ -118,19 +189,28 @@ fn by_rising(alloc: Global, lines: &[Line], end: End) -> Result<Vec<(VertexId, u
         };
         places.push((id, place))?;
     }
-    places.sort_unstable_by_key(|at| at.0);
+    places.sort_unstable();
     Ok(places)
 }
 
-/// Whether the graph has the source of a line, and the line's edge.
-fn source_of(line: &Line, finder: &mut Finder<'_, Row>) -> Source
-    ensures value { IsSource finder.old line.now result }
-    ensures same { finder.new ≡ finder.old }
+/// What the row of a line's source says, if the graph has one.
+fn source_of(line: &Line, row: Option<&Row>, first: usize) -> Source
+    ensures { (graph : Rows) → option_copied row.entry ≡ row_at line.now.source graph → IsSource graph line.now result }
 {
-    let row = finder.get(line.source);
     Source {
         vertex: row.is_some(),
         edge: has_edge_to(row, line.target),
+        first,
+    }
+}
+
+/// What the row of a line's target says, if the graph has one.
+fn target_of(row: Option<&Row>, first: usize) -> Target
+    ensures { result.vertex ≡ is_some (option_copied row.entry) }
+{
+    Target {
+        vertex: row.is_some(),
+        first,
     }
 }
 
