@@ -9,6 +9,7 @@ pub mod RecordReadings
 pub mod Graphs
 pub mod NamedFacts
 pub mod NamedBefore
+pub mod NamedEdgeFacts
 pub mod Limits
 pub mod BatchLaw
 pub mod BatchSteps
