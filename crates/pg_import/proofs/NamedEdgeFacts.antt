@@ -1,5 +1,5 @@
 -- Edges that stand once: which of them were named, with one more or one more named.
-use Rattle.std.proofs.Common.{◌≡◌, ℕ, zero, suc, ◌<◌, ◌≤◌, ◌⊎◌, inl, inr, Bool, true, false, ◌&&◌, ◌||◌, cond, not, nat_eq, List, [], ◌∷◌, ◌++◌, Option, Some, refl, ap, sym, ◌∙◌, subst, arith, slice_set, ◌+◌}
+use Rattle.std.proofs.Common.{◌≡◌, ℕ, zero, suc, ◌<◌, ◌≤◌, ◌⊎◌, inl, inr, Bool, true, false, ◌&&◌, ◌||◌, cond, nat_eq, List, [], ◌∷◌, ◌++◌, Some, refl, ap, sym, ◌∙◌, subst, arith, slice_set, ◌+◌}
 use Rattle.std.specs.BTreeMap.{is_at}
 use Rattle.std.specs.List.{AllByRecursion, slice_get}
 use Rattle.std.specs.Ordering.{nat_cmp}
@@ -40,14 +40,14 @@ and-false : (b : Bool) → (b && false) ≡ false
 and-false true = refl
 and-false false = refl
 
-or-false : (b : Bool) → (b || false) ≡ b
+pub or-false : (b : Bool) → (b || false) ≡ b
 or-false true = refl
 or-false false = refl
 
-or-cond : (b v c : Bool) → (v || cond b true c) ≡ cond b true (v || c)
-or-cond true true c = refl
-or-cond true false c = refl
-or-cond false v c = refl
+pub cond-or : (b v c : Bool) → cond b true (v || c) ≡ (v || cond b true c)
+cond-or true true c = refl
+cond-or true false c = refl
+cond-or false v c = refl
 
 -- ---- edges
 is_edge-self : (edge : NamedEdge) → is_edge edge.source edge.target edge ≡ true
@@ -117,13 +117,13 @@ module _ (e : NamedEdge) (is : e.named ≡ true) where
       rw same (set_here s t x.named (named_in s t xs))
   named_in-set (x ∷ xs) (suc i) old s t at source target =
       ap (λ b. (is_edge s t x && x.named) || b) (named_in-set xs i old s t at source target)
-      ∙ or-cond (is_edge s t e) (is_edge s t x && x.named) (named_in s t xs)
+      ∙ sym (cond-or (is_edge s t e) (is_edge s t x && x.named) (named_in s t xs))
 
   pub named_in-push_named : (es : List NamedEdge) (s t : ℕ) → named_in s t (es ++ e ∷ []) ≡ cond (is_edge s t e) true (named_in s t es)
   named_in-push_named [] s t = rw is (elim (cases_Bool (is_edge s t e)) [ inl there ↦ rw there refl | inr apart ↦ rw apart refl ])
   named_in-push_named (x ∷ xs) s t =
       ap (λ b. (is_edge s t x && x.named) || b) (named_in-push_named xs s t)
-      ∙ or-cond (is_edge s t e) (is_edge s t x && x.named) (named_in s t xs)
+      ∙ sym (cond-or (is_edge s t e) (is_edge s t x && x.named) (named_in s t xs))
 
 -- an edge more that isn't named
 pub named_in-push : (e : NamedEdge) → e.named ≡ false → (es : List NamedEdge) (s t : ℕ) → named_in s t es ≡ false → named_in s t (es ++ e ∷ []) ≡ false

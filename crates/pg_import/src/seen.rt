@@ -14,17 +14,17 @@ use pg_graph::{Finder, Graph, Row, VertexId};
 use std::alloc::Global;
 use std::marker::Model;
 
-/// Whether the graph has the source of a line, and the line's edge. `first` is the first line with that
-/// source, as far as it was looked up.
+/// Whether the graph has the source of a line, and the line's edge. `first` is an early line with that
+/// source, and `rank` says how many edges of the list come before the line's, as far as it was looked up.
 #[derive(Clone, Copy)]
 pub(crate) struct Source {
     pub(crate) vertex: bool,
     pub(crate) edge: bool,
     pub(crate) first: usize,
+    pub(crate) rank: usize,
 }
 
-/// Whether the graph has the target of a line. `first` is the first line with that target, as far as
-/// it was looked up.
+/// Whether the graph has the target of a line. `first` is an early line with that target.
 #[derive(Clone, Copy)]
 pub(crate) struct Target {
     pub(crate) vertex: bool,
@@ -41,12 +41,18 @@ pub(crate) struct Seen {
 }
 
 impl Seen {
-    /// All of it looked up. Costs O(k log(n + k)) for k lines and a graph of n vertices and edges.
-    pub(crate) fn of(alloc: Global, lines: &[Line], graph: &Graph) -> Result<Seen, Memory>
+    /// All of it looked up, for lines whose edges are given by rising source and target. Costs
+    /// O(k log(n + k)) for k lines and a graph of n vertices and edges.
+    pub(crate) fn of(
+        alloc: Global,
+        lines: &[Line],
+        edges: &[(VertexId, VertexId, usize)],
+        graph: &Graph,
+    ) -> Result<Seen, Memory>
         ensures sources { IfOk result (λ seen. AreSeen (IsSource graph.now) lines.now seen.sources.items) }
         ensures targets { IfOk result (λ seen. AreSeen (IsTarget graph.now) lines.now seen.targets.items) }
     {
-        let sources = sources_of(alloc, lines, graph)?;
+        let sources = sources_of(alloc, lines, edges, graph)?;
         let targets = targets_of(alloc, lines, graph)?;
         Ok(Seen { sources, targets })
     }
@@ -58,7 +64,7 @@ impl Seen {
     {
         match self.sources.get(place) {
             Some(Some(source)) => *source,
-            _ => source_of(line, graph.row(line.source), place),
+            _ => source_of(line, graph.row(line.source), place, place),
         }
     }
 
@@ -74,19 +80,25 @@ impl Seen {
     }
 }
 
-fn sources_of(alloc: Global, lines: &[Line], graph: &Graph) -> Result<Vec<Option<Source>>, Memory>
+fn sources_of(
+    alloc: Global,
+    lines: &[Line],
+    edges: &[(VertexId, VertexId, usize)],
+    graph: &Graph,
+) -> Result<Vec<Option<Source>>, Memory>
     ensures { IfOk result (λ seen. AreSeen (IsSource graph.now) lines.now seen.items) }
 {
     let mut seen = none_of(alloc, lines)?;
-    let places = by_rising(alloc, lines, End::Source)?;
-    let Some((id, first)) = places.first() else {
+    let Some((source, target, first)) = edges.first() else {
         return Ok(seen);
     };
-    let mut last = LastRow::of(graph, *id, *first);
-    for (_, place) in places.as_slice() {
+    let mut last = LastRow::of(graph, *source, *first);
+    let mut edge = LastEdge::of(*source, *target);
+    for (source, target, place) in edges {
         if let Some(line) = lines.get(*place) {
             let row = last.row_at(line.source, *place);
-            seen[*place] = Some(source_of(line, row, last.place));
+            let rank = edge.rank_of(*source, *target);
+            seen[*place] = Some(source_of(line, row, last.place, rank));
         }
     }
     Ok(seen)
@@ -96,7 +108,7 @@ fn targets_of(alloc: Global, lines: &[Line], graph: &Graph) -> Result<Vec<Option
     ensures { IfOk result (λ seen. AreSeen (IsTarget graph.now) lines.now seen.items) }
 {
     let mut seen = none_of(alloc, lines)?;
-    let places = by_rising(alloc, lines, End::Target)?;
+    let places = by_target(alloc, lines)?;
     let Some((id, first)) = places.first() else {
         return Ok(seen);
     };
@@ -110,7 +122,7 @@ fn targets_of(alloc: Global, lines: &[Line], graph: &Graph) -> Result<Vec<Option
     Ok(seen)
 }
 
-/// The row that was looked up last, and the line that it was first looked up for. A contract sees the
+/// The row that was looked up last, and the earliest line that it was looked up for. A contract sees the
 /// graph.
 #[derive(Drop)]
 struct LastRow<'a> {
@@ -157,7 +169,37 @@ impl<'a> LastRow<'a> {
             self.row = self.finder.get(id);
             self.place = place;
         }
+        self.place = self.place.min(place);
         self.row
+    }
+}
+
+/// The last edge on a walk by rising source and target, and how many others came before it.
+#[derive(Drop)]
+struct LastEdge {
+    source: VertexId,
+    target: VertexId,
+    rank: usize,
+}
+
+impl LastEdge {
+    /// The first edge.
+    fn of(source: VertexId, target: VertexId) -> LastEdge {
+        LastEdge {
+            source,
+            target,
+            rank: 0,
+        }
+    }
+
+    /// How many others come before an edge, which is the last one or comes after it.
+    fn rank_of(&mut self, source: VertexId, target: VertexId) -> usize {
+        if self.source != source || self.target != target {
+            self.source = source;
+            self.target = target;
+            self.rank = self.rank.saturating_add(1);
+        }
+        self.rank
     }
 }
 
@@ -172,35 +214,38 @@ fn none_of<T: Drop>(alloc: Global, lines: &[Line]) -> Result<Vec<Option<T>>, Mem
     Ok(seen)
 }
 
-/// An end of a line.
-#[derive(Clone, Copy)]
-enum End {
-    Source,
-    Target,
+/// The edges of lines by rising source and target, each with the place of its line.
+pub(crate) fn by_edge(
+    alloc: Global,
+    lines: &[Line],
+) -> Result<Vec<(VertexId, VertexId, usize)>, Memory> {
+    let mut edges = Vec::with_capacity(alloc, lines.len())?;
+    for (place, line) in lines.iter().enumerate() {
+        edges.push((line.source, line.target, place))?;
+    }
+    edges.sort_unstable();
+    Ok(edges)
 }
 
-/// The places of lines with the ids of this end, by rising id, those with one id as they stand.
-fn by_rising(alloc: Global, lines: &[Line], end: End) -> Result<Vec<(VertexId, usize)>, Memory> {
+/// The targets of lines by rising id, each with the place of its line.
+fn by_target(alloc: Global, lines: &[Line]) -> Result<Vec<(VertexId, usize)>, Memory> {
     let mut places = Vec::with_capacity(alloc, lines.len())?;
     for (place, line) in lines.iter().enumerate() {
-        let id = match end {
-            End::Source => line.source,
-            End::Target => line.target,
-        };
-        places.push((id, place))?;
+        places.push((line.target, place))?;
     }
-    places.sort_unstable();
+    places.sort_unstable_by_key(|at| at.0);
     Ok(places)
 }
 
 /// What the row of a line's source says, if the graph has one.
-fn source_of(line: &Line, row: Option<&Row>, first: usize) -> Source
+fn source_of(line: &Line, row: Option<&Row>, first: usize, rank: usize) -> Source
     ensures { (graph : Rows) → option_copied row.entry ≡ row_at line.now.source graph → IsSource graph line.now result }
 {
     Source {
         vertex: row.is_some(),
         edge: has_edge_to(row, line.target),
         first,
+        rank,
     }
 }
 

@@ -1,4 +1,4 @@
-use Rattle.std.proofs.Common.{◌≡◌, ℕ, true, not, refl, ap, sym, ◌∙◌}
+use Rattle.std.proofs.Common.{◌≡◌, true, not, refl, ap, sym, ◌∙◌}
 use Rattle.std.proofs.lemmas.Option.{get_or_from_slice_get}
 use Rattle.pg_import.specs.NamedEdges.{AreDistinct}
 use Rattle.pg_import.specs.declared.named_edges.NamedEdge.{NamedEdge}

@@ -1,4 +1,4 @@
-use Rattle.std.proofs.Common.{◌≡◌, ℕ, false, refl}
+use Rattle.std.proofs.Common.{false, refl}
 use Rattle.pg_import.specs.declared.named_edges.NamedEdge.{NamedEdge}
 use Rattle.pg_import.proofs.NamedEdgeFacts.{AreBefore-push, AreDistinct-push, IsApart-before, named_in-push}
 use Rattle.pg_import.proofs.named_edges.NamedEdges.of.Goals as goal
