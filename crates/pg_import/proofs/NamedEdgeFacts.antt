@@ -1,12 +1,10 @@
 -- Edges that stand once: which of them were named, with one more or one more named.
-use Rattle.std.proofs.Common.{◌≡◌, ℕ, zero, suc, ◌<◌, ◌≤◌, ◌⊎◌, inl, inr, Bool, true, false, ◌&&◌, ◌||◌, cond, nat_eq, List, [], ◌∷◌, ◌++◌, Some, refl, ap, sym, ◌∙◌, subst, arith, slice_set, ◌+◌}
+use Rattle.std.proofs.Common.{◌≡◌, ℕ, zero, suc, ◌<◌, ◌≤◌, ◌⊎◌, inl, inr, Bool, true, false, ◌&&◌, ◌||◌, cond, List, [], ◌∷◌, ◌++◌, Some, refl, ap, sym, ◌∙◌, subst, arith, slice_set, ◌+◌}
 use Rattle.std.specs.BTreeMap.{is_at}
 use Rattle.std.specs.List.{AllByRecursion, slice_get}
 use Rattle.std.specs.Ordering.{nat_cmp}
 use Rattle.std.proofs.lemmas.Bool.{cases_Bool, true≢false}
-use Rattle.std.proofs.lemmas.Bool.Decides.{nat_tests}
 use Rattle.pg_import.proofs.Graphs.{cmp-refl, is_at-sym, same_from_is_at}
-use Rattle.pg_import.proofs.NamedBefore.{is_same}
 use Rattle.pg_import.proofs.SeenFacts.{Some_same}
 use Rattle.pg_import.specs.NamedEdges.{AreBefore, AreDistinct, IsApart, is_edge, named_in}
 use Rattle.pg_import.specs.declared.named_edges.NamedEdge.{NamedEdge}
@@ -19,21 +17,6 @@ is_at-apart : (k q : ℕ) → (k ≡ q → ⊥) → is_at (nat_cmp k) q ≡ fals
 is_at-apart k q apart = elim (cases_Bool (is_at (nat_cmp k) q)) [
   | inl there ↦ absurd (apart (same_from_is_at k q there))
   | inr not_there ↦ not_there
-]
-
-nat_eq-self : (k : ℕ) → nat_eq k k ≡ true
-nat_eq-self k = grind (arith, nat_tests)
-
--- a test for equality is the test of a look-up
-pub eq-is_at : (k q : ℕ) → nat_eq k q ≡ is_at (nat_cmp k) q
-eq-is_at k q = elim (cases_Bool (is_at (nat_cmp k) q)) [
-  | inl there ↦ rw (there, ← same_from_is_at k q there) (nat_eq-self k)
-  | inr apart ↦ elim (cases_Bool (nat_eq k q)) [
-    | inl same ↦
-        let is : k ≡ q = is_same k q (nat_eq k q) refl same in
-        absurd (true≢false (sym (subst (λ x. is_at (nat_cmp k) x ≡ true) is (is_at-self k)) ∙ apart))
-    | inr other ↦ rw (apart, other) refl
-  ]
 ]
 
 and-false : (b : Bool) → (b && false) ≡ false

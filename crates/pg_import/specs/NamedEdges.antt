@@ -1,7 +1,7 @@
 -- The edges that a list may name, each once, and which of them were named.
-use Rattle.std.specs.Prelude.{◌≡◌, ℕ, ◌<◌, ◌⊎◌, ⊤, Bool, false, ◌&&◌, ◌||◌, List, [], ◌∷◌}
+use Rattle.std.specs.Prelude.{◌≡◌, ℕ, ◌<◌, ◌⊎◌, ⊤, Bool, false, ◌&&◌, ◌||◌, List, [], ◌∷◌, Some}
 use Rattle.std.specs.BTreeMap.{is_at}
-use Rattle.std.specs.List.{AllByRecursion}
+use Rattle.std.specs.List.{AllByRecursion, slice_get}
 use Rattle.std.specs.Ordering.{nat_cmp}
 use Rattle.pg_import.specs.declared.named_edges.NamedEdge.{NamedEdge}
 
@@ -17,6 +17,11 @@ named_in source target (edge ∷ edges) = (is_edge source target edge && edge.na
 -- this edge is none of those
 abbrev pub IsApart : ℕ → ℕ → List NamedEdge → Type 0
 IsApart source target edges = AllByRecursion (λ edge. is_edge source target edge ≡ false) edges
+
+-- the edge between two vertices stands at this place
+abbrev pub StandsAt : ℕ → ℕ → List NamedEdge → ℕ → Type 0
+StandsAt source target edges place =
+    (edge : NamedEdge) × (slice_get edges place ≡ Some edge) × (edge.source ≡ source) × (edge.target ≡ target)
 
 -- no edge stands twice
 abbrev pub AreDistinct : List NamedEdge → Type 0

@@ -40,7 +40,8 @@ pub fn into_batch(alloc: Global, lines: &[Line], graph: &Graph) -> Result<Batch,
 // Whether a vertex is known to be there after the lines before a place: the graph has it, or the line at
 // `first` is one of them and names it.
 fn is_there(in_graph: bool, lines: &[Line], place: usize, first: usize, id: VertexId) -> bool
-    ensures { (graph : Rows) → in_graph ≡ has_vertex id graph → IsSaid result id graph (with_lines (take place lines.now) graph) }
+    ensures { (graph : Rows) → in_graph ≡ has_vertex id graph
+        → IsSaid result id graph (with_lines (take place lines.now) graph) }
 {
     if in_graph {
         return true;

@@ -1,10 +1,8 @@
 //! The edges that the lines of a list name, each once, and which of them were named so far.
-ghost use Rattle.std.specs.Prelude.{◌≡◌, ◌<◌, ◌≤◌, ◌⊎◌, ◌&&◌, ℕ, true, false, cond, not, Some, IfOk, IfSome, IsNone, IsTrue};
+ghost use Rattle.std.specs.Prelude.{◌≡◌, ◌<◌, ◌≤◌, ◌⊎◌, ◌&&◌, ℕ, true, false, cond, not, IfOk, IfSome, IsNone, IsTrue};
 ghost use Rattle.std.specs.BTreeMap.{is_at};
-ghost use Rattle.std.specs.List.{slice_get};
 ghost use Rattle.std.specs.Ordering.{nat_cmp};
-ghost use Rattle.pg_import.specs.NamedEdges.{IsApart, is_edge, named_in};
-ghost use Rattle.pg_import.specs.declared.named_edges.NamedEdge.{NamedEdge};
+ghost use Rattle.pg_import.specs.NamedEdges.{IsApart, StandsAt, is_edge, named_in};
 
 use crate::Memory;
 use pg_graph::VertexId;
@@ -103,8 +101,7 @@ impl NamedEdges {
 
     /// Where an edge is, if it is anywhere.
     fn place_of(&self, source: VertexId, target: VertexId, expected: usize) -> Option<usize>
-        ensures some { IfSome result (λ place. (edge : NamedEdge) × (slice_get self.now place ≡ Some edge)
-            × (edge.source ≡ source) × (edge.target ≡ target)) }
+        ensures some { IfSome result (StandsAt source target self.now) }
         ensures none { IsNone result → IsApart source target self.now }
     {
         if let Some(edge) = self.edges.get(expected) {
@@ -117,8 +114,7 @@ impl NamedEdges {
 
     /// Where an edge is, if it is anywhere, found by going over all.
     fn search(&self, source: VertexId, target: VertexId) -> Option<usize>
-        ensures some { IfSome result (λ place. (edge : NamedEdge) × (slice_get self.now place ≡ Some edge)
-            × (edge.source ≡ source) × (edge.target ≡ target)) }
+        ensures some { IfSome result (StandsAt source target self.now) }
         ensures none { IsNone result → IsApart source target self.now }
     {
         for (place, edge) in self.edges.iter().enumerate() {

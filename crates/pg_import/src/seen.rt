@@ -239,7 +239,8 @@ fn by_target(alloc: Global, lines: &[Line]) -> Result<Vec<(VertexId, usize)>, Me
 
 /// What the row of a line's source says, if the graph has one.
 fn source_of(line: &Line, row: Option<&Row>, first: usize, rank: usize) -> Source
-    ensures { (graph : Rows) → option_copied row.entry ≡ row_at line.now.source graph → IsSource graph line.now result }
+    ensures { (graph : Rows) → option_copied row.entry ≡ row_at line.now.source graph
+        → IsSource graph line.now result }
 {
     Source {
         vertex: row.is_some(),

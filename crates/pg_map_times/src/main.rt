@@ -1,6 +1,6 @@
-//! Times the map beside a vector and beside the standard library's map, each with the same entries. A line for each
-//! kind of work goes to standard error, with the nanoseconds of its fastest turn. The program's argument is how many
-//! entries there are; without one there are a few.
+//! Times the map beside a vector and beside the standard library's map, each with the same entries.
+//! A line for each kind of work goes to standard error, with the nanoseconds of its fastest turn. The
+//! program's argument is how many entries there are; without one there are a few.
 #![tactic(auto)]
 
 ghost use Rattle.std.specs.Prelude.{◌≡◌, IfOk};
