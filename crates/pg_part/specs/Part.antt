@@ -1,7 +1,7 @@
 -- One partition of a run at a superstep, and what a step makes of it.
 use Rattle.std.specs.Prelude.{◌≡◌, ℕ, ◌+◌, ◌<◌, ◌≤◌, max, length, Bool, true, false, List, Option, None, Some}
 use Rattle.std.specs.List.{slice_get}
-use Rattle.pg_graph.specs.Rows.{Rows}
+use Rattle.pg_graph.specs.Rows.{Rows, row_at}
 use Rattle.pg_graph.specs.declared.missing.Missing.{Missing}
 use Rattle.pg_inbox.specs.Patched.{TellsChanges}
 use Rattle.pg_inbox.specs.declared.logs.Logged.{Logged}
@@ -32,7 +32,16 @@ pub record Holding (V M : Type 0) : Type 0 where
   pub kept : Option (Trace V M)
   pub differing : List ℕ
 
+-- at all other ids two graphs have the same rows
+abbrev pub AreTouched : List ℕ → Rows → Rows → Type 0
+AreTouched ids old new = (id : ℕ) → has_id ids id ≡ false → row_at id old ≡ row_at id new
+
 module _ {V M : Type 0} (job : Job V M) where
+  -- a partition's trace of a whole run
+  pub record IsWhole (rows : Rows) (n p : ℕ) (trace : Trace V M) : Type 0 where
+    pub run : HoldsRun job rows n p (run_length job rows) trace
+    pub supersteps : length trace.records ≡ run_length job rows
+
   -- how many supersteps the kept run has
   abbrev pub kept_length : Option Rows → ℕ
   kept_length None = 0

@@ -1,5 +1,5 @@
 //! One partition of a run, and its steps.
-ghost use Rattle.std.specs.Prelude.{◌≡◌, ℕ, ◌+◌, ◌<◌, ◌≤◌, ◌^◌, true, length, Option, None, IfOk, IfSome};
+ghost use Rattle.std.specs.Prelude.{◌≡◌, ℕ, ◌+◌, ◌<◌, ◌≤◌, ◌^◌, true, length, Option, None, Some, IfOk, IfSome};
 ghost use Rattle.std.specs.List.Sorted.{IsStrictlySortedBy};
 ghost use Rattle.std.specs.Option.{option_copied};
 ghost use Rattle.std.specs.Ordering.{nat_cmp};
@@ -10,7 +10,7 @@ ghost use Rattle.pg_map.specs.Entries.{ChangesRise};
 ghost use Rattle.pg_model.specs.Job.{Job};
 ghost use Rattle.pg_model.specs.Run.{run_length, view_at};
 ghost use Rattle.pg_part.specs.Lent.{HasMessages, IsBesideOld, IsLent, IsLentBeside, bundles_before};
-ghost use Rattle.pg_part.specs.Part.{HasStepped, Holds, IsFurther, kept_length};
+ghost use Rattle.pg_part.specs.Part.{AreTouched, HasStepped, Holds, IsFurther, IsWhole, kept_length};
 ghost use Rattle.pg_program.specs.Context.{ShowsDeclared};
 ghost use Rattle.pg_part.specs.Lists.{reaching};
 ghost use Rattle.pg_trace.specs.Trace.{with_replaced};
@@ -128,6 +128,45 @@ impl<V: Plain, M: Plain> Part<V, M> {
             trace,
             kept: None,
             differing: Vec::new(alloc),
+        })
+    }
+
+    /// A partition as a run begins beside an old one: with its trace of that, and with ids outside of which the
+    /// graph's rows are those of the old run's graph. Costs one walk over the graph's rows.
+    pub fn begin_beside<P: Computation<Value = V, Message = M>>(
+        alloc: Global,
+        rows: Rows<'_>,
+        missing: Missing,
+        old: Trace<V, M>,
+        touched: &[VertexId],
+        program: &P,
+    ) -> Result<Part<V, M>, Memory>
+        ensures { IfOk result (λ part. (job : Job V M) (kept : GraphRows)
+            → job.program ≡ P.program program.now → job.missing ≡ missing
+            → IsWhole job kept rows.entry.partitions rows.entry.partition old
+            → AreTouched touched.now kept rows.entry.graph
+            → Holds job (Some kept) rows.entry.graph rows.entry.partitions rows.entry.partition 0 part) }
+    {
+        let Rows {
+            graph,
+            partition,
+            partitions,
+        } = rows;
+        let share = Share {
+            partition,
+            partitions,
+        };
+        let states = first_states(alloc, graph, &share, program)?;
+        let trace = old.restarted(alloc, states)?;
+        let differing = copied(alloc, touched)?;
+        Ok(Part {
+            partition,
+            partitions,
+            missing,
+            place: Superstep::new(0),
+            trace,
+            kept: Some(old),
+            differing,
         })
     }
 
@@ -360,6 +399,17 @@ impl<V: Plain, M: Plain> Part<V, M> {
             meter,
         })
     }
+}
+
+/// A copy of these ids.
+fn copied(alloc: Global, ids: &[VertexId]) -> Result<Vec<VertexId>, Memory>
+    ensures { IfOk result (λ copy. copy.items ≡ ids.now) }
+{
+    let mut copy = Vec::with_capacity(alloc, ids.len())?;
+    for id in ids {
+        copy.push(*id)?;
+    }
+    Ok(copy)
 }
 
 /// A trace with these changes of the records of a superstep, which it has or which comes next.
