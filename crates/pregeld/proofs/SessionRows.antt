@@ -19,7 +19,7 @@ use Rattle.pg_ready.specs.declared.ready.ReadyJob.{ReadyJob}
 use Rattle.pg_ready.specs.Ready.{ready_job}
 use Rattle.pregeld.specs.Reply.{report_text, text_of}
 use Rattle.pregeld.specs.Service.{next_graph}
-use Rattle.pregeld.specs.Session.{State, answer_to}
+use Rattle.pregeld.specs.Session.{State, action_answer, answer_to}
 use Rattle.pregeld.specs.declared.names.ProgramName.{ProgramName}
 use Rattle.pregeld.specs.declared.names.ProgramName.TheVariants.{Sssp, Peel}
 use Rattle.pregeld.specs.declared.options.Options.{Options}
@@ -41,7 +41,7 @@ session job input = answers (length (raw_lines input)) job 0 empty (raw_lines in
 
 -- what a row unfolds: how lines are read, what an import makes of the graph, the run, and what is printed
 unfoldable reading : ⊤
-unfolding answer_to command_in named alone import_of edge_of edges_from list_of reading_of id_of number_up_to weight_of
+unfolding answer_to action_answer command_in named alone import_of edge_of edges_from list_of reading_of id_of number_up_to weight_of
 reading = tt
 
 unfoldable batching : ⊤

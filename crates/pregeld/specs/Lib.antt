@@ -1,5 +1,7 @@
 pub mod Arguments
 pub mod Command
+pub mod Edits
+pub mod Notes
 pub mod Program
 pub mod Reading
 pub mod Reply

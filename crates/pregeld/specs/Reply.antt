@@ -8,7 +8,7 @@ use Rattle.pg_model.specs.declared.run.Ending.TheVariants.{MasterHalted, Finishe
 use Rattle.pg_scratch.specs.declared.runner.RunFault.{RunFault}
 use Rattle.pg_scratch.specs.declared.runner.RunFault.TheVariants as run
 use Rattle.pregeld.specs.declared.command.LineFault.{LineFault}
-use Rattle.pregeld.specs.declared.command.LineFault.TheVariants.{NoCommand, WordCount, BadWord, CutShort}
+use Rattle.pregeld.specs.declared.command.LineFault.TheVariants.{NoCommand, WordCount, BadWord, CutShort, EditsPending}
 use Rattle.pregeld.specs.declared.reply.Reply.{Reply}
 use Rattle.pregeld.specs.declared.reply.Reply.TheVariants.{Edition, ImportRefused, BatchRefused, Refreshed, RefreshRefused, Unpublished, End, Fault}
 use Rattle.pregeld.specs.declared.answers.Report.{Report}
@@ -31,6 +31,7 @@ fault_number NoCommand = 1
 fault_number WordCount = 2
 fault_number BadWord = 3
 fault_number CutShort = 4
+fault_number EditsPending = 5
 
 -- the answer to a refresh
 unfoldable pub report_text : Report → List ℕ

@@ -1,7 +1,7 @@
 -- What a service keeps, and what an edit and a refresh make of it.
-use Rattle.std.specs.Prelude.{◌≡◌, ◌⊎◌, ℕ, ℤ, nat_lt, if◌then◌else◌, List, [], Option, None, Result, Err}
+use Rattle.std.specs.Prelude.{◌≡◌, ◌⊎◌, ℕ, ℤ, ◌<◌, ◌≤◌, nat_lt, if◌then◌else◌, List, [], length, Option, None, Result, Err}
 use Rattle.std.specs.Ordering.{int_eq}
-use Rattle.pg_graph.specs.Edit.{batch_edited, memory_fault}
+use Rattle.pg_graph.specs.Edit.{batch_edited, batch_limit, memory_fault}
 use Rattle.pg_graph.specs.Rows.{Rows}
 use Rattle.pg_graph.specs.declared.edit.Edit.{Edit}
 use Rattle.pg_graph.specs.declared.edit.EditFault.{EditFault}
@@ -36,9 +36,14 @@ no_edition_left = record { position = 0; kind = Full }
 unfoldable pub next_graph : ℕ → Rows → List Edit → Result Rows EditFault
 next_graph edition graph batch = if nat_lt edition edition_limit then batch_edited graph batch else Err no_edition_left
 
+-- a batch is tried where an edition is left for it and it isn't too long; only then memory may be wanted
+abbrev pub IsTried : ℕ → List Edit → Type 0
+IsTried edition batch = (edition < edition_limit) × (length batch ≤ batch_limit)
+
 -- why a batch makes no edition: want of memory, or a fault of its own
 abbrev pub RefusesEdition : ℕ → Rows → List Edit → EditFault → Type 0
-RefusesEdition edition graph batch fault = (fault ≡ memory_fault) ⊎ (next_graph edition graph batch ≡ Err fault)
+RefusesEdition edition graph batch fault =
+    ((fault ≡ memory_fault) × IsTried edition batch) ⊎ (next_graph edition graph batch ≡ Err fault)
 
 module _ (job : Job ℤ ℤ) where
   -- what a refresh publishes

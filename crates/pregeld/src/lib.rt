@@ -4,13 +4,17 @@
 mod answers;
 mod arguments;
 mod block;
+mod carrying;
 mod command;
+mod edits;
 mod names;
+mod notes;
 mod options;
 mod program;
 mod reply;
 mod service;
 mod session;
+mod writing;
 
 pub use answers::{Answers, Report};
 pub use program::start;

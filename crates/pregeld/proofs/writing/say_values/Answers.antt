@@ -1,5 +1,5 @@
 use Rattle.pregeld.proofs.Written.{all_written, nothing_written, one_more_written}
-use Rattle.pregeld.proofs.session.say_values.Goals as goal
+use Rattle.pregeld.proofs.writing.say_values.Goals as goal
 
 pub loop-id-init : goal.loop-id-init
 loop-id-init g c = nothing_written (g.W.Write.contents c.args.writer.now)
