@@ -6,12 +6,12 @@ use Rattle.std.proofs.lemmas.Grind.{common_steps}
 use Rattle.pg_graph.specs.declared.edit.Edit.{Edit}
 use Rattle.pg_ready.specs.Ready.{ready_job}
 use Rattle.pregeld.specs.Notes.{Held, Noted, stored}
-use Rattle.pregeld.specs.Reading.{AreNotes, Edits, Imports, ImportsLines, Keeps, Refreshes, RepliesTo, SkipsLines, TakesLines}
+use Rattle.pregeld.specs.Reading.{AreNotes, Checks, Edits, Imports, ImportsLines, Keeps, Refreshes, RepliesTo, SkipsLines, TakesLines}
 use Rattle.pregeld.specs.Service.{ServiceState, next_graph, publication_of, report_of}
 use Rattle.pregeld.specs.Session.{Imported, Place, State, after, action_answer, answer_to, answered, edges_of, edited, emptied, import_answer, imported, past, refresh_answer}
 use Rattle.pregeld.specs.declared.block.Block.{Block}
 use Rattle.pregeld.specs.declared.block.Block.TheVariants.{Whole, CutShort, NoMemory}
-use Rattle.pregeld.specs.declared.command.Action.TheVariants.{Commit, Import, Refresh}
+use Rattle.pregeld.specs.declared.command.Action.TheVariants.{Commit, Import, Refresh, Recompute}
 use Rattle.pregeld.specs.declared.command.Command.TheVariants.{Act}
 use Rattle.pregeld.specs.declared.command.Form.{Form}
 use Rattle.pregeld.specs.declared.command.LineFault.TheVariants as fault
@@ -63,6 +63,26 @@ pub refresh_replies : (here : Place) (old : ServiceState) (notes : Noted) (reply
 refresh_replies here old notes reply new left keeps left_is =
     subst (λ o. Refreshes (record { service = o; notes = notes }) reply new → RepliesTo (Ok (Act Refresh)) here o reply here.number new left) (sym keeps.service_is)
     (refreshes_at old notes here reply new left keeps.notes_are left_is)
+
+-- ---- checks
+
+checks_at : (s : ServiceState) (notes : Noted) (here : Place) (reply : Reply) (left : Option (List (List ℕ))) → AreNotes notes here.state → left ≡ Some here.lines
+    → Checks (after s here.state) reply → RepliesTo (Ok (Act Recompute)) here (after s here.state) reply here.number (record { service = after s here.state; notes = notes }) left
+unfolding answer_to action_answer
+checks_at s notes here reply left are left_is checked = record {
+  next = here;
+  answers = elim checked [ inl done ↦ inl (ap (λ r. answered r here) done) | inr refused ↦ inr (ap (λ r. answered r here) refused) ];
+  service_is = refl;
+  notes_are = are;
+  number_is = refl;
+  left_is = left_is;
+}
+
+pub check_replies : (here : Place) (held : Held) (reply : Reply) (left : Option (List (List ℕ))) → Keeps held here.state → left ≡ Some here.lines
+    → Checks held.service reply → RepliesTo (Ok (Act Recompute)) here held.service reply here.number held left
+check_replies here held reply left keeps left_is =
+    subst (λ o. Checks o reply → RepliesTo (Ok (Act Recompute)) here o reply here.number (record { service = o; notes = held.notes }) left) (sym keeps.service_is)
+    (checks_at held.service held.notes here reply left keeps.notes_are left_is)
 
 -- ---- commits
 

@@ -1,12 +1,12 @@
 -- What lines are answered, beside what a session may be answered.
-use Rattle.std.proofs.Common.{◌≡◌, ℕ, List, [], ◌∷◌, ◌++◌, Option, None, Some, option_to_list, Result, Ok, Err, refl, sym, ap, subst, ◌∙◌, inl, inr}
+use Rattle.std.proofs.Common.{◌≡◌, ℕ, List, [], ◌∷◌, ◌++◌, Option, None, Some, option_to_list, Result, Ok, Err, refl, sym, ap, ap₂, subst, ◌∙◌, inl, inr}
 use Rattle.std.specs.Io.KnownBytes.{Appends}
 use Rattle.std.specs.List.{last_or}
 use Rattle.pg_graph.specs.declared.edit.Edit.{Edit as OneEdit}
 use Rattle.pregeld.specs.Command.{command_of}
 use Rattle.pregeld.specs.Notes.{Held, Noted, stored}
 use Rattle.pg_ready.specs.Ready.{ready_job}
-use Rattle.pregeld.specs.Reading.{AnswersLine, AreNotes, FailsLine, Keeps, RepliesTo}
+use Rattle.pregeld.specs.Reading.{AnswersLine, AreNotes, FailsLine, FailsToTell, Keeps, RepliesTo}
 use Rattle.pregeld.specs.Reply.{line_of_reply}
 use Rattle.pregeld.specs.Service.{ServiceState}
 use Rattle.pregeld.specs.Session.{Answer, Answers, Place, State, after, answer_to, answered, noted, opened, query_text}
@@ -99,17 +99,21 @@ published_is : (service : ServiceState) (state : State) → service ≡ after se
 published_is service state is = ap (λ s. s.published) is
 
 -- what is told
+query_is : (query : Query) (here : Place) (held : Held) → Keeps held here.state → query_text query (last_or None here.state.publications) here.state.report ≡ query_text query held.service.published held.notes.report
+query_is query here held keeps = ap₂ (query_text query) (sym (published_is held.service here.state keeps.service_is)) (sym keeps.notes_are.report_is)
+
 pub query_answered : (line : List ℕ) (query : Query) (here : Place) (held : Held) (left : Option (List (List ℕ))) (before now : Option (List ℕ)) → command_of line ≡ Ok (Ask query)
     → Keeps held here.state → left ≡ Some here.lines
-    → Appends before now (query_text query held.service.published) → AnswersLine line here held.service held here.number left before now
+    → Appends before now (query_text query held.service.published held.notes.report) → AnswersLine line here held.service held here.number left before now
 unfolding answer_to
 query_answered line query here held left before now asks keeps left_is wrote =
-    rest_answered line (Ok (Ask query)) here held.service held (record { text = query_text query held.service.published; next = here }) left before now asks
-    (ap (λ p. record { text = query_text query p; next = here }) (sym (published_is held.service here.state keeps.service_is))) keeps.service_is keeps.notes_are left_is wrote
+    rest_answered line (Ok (Ask query)) here held.service held (record { text = query_text query held.service.published held.notes.report; next = here }) left before now asks
+    (ap (λ t. record { text = t; next = here }) (query_is query here held keeps)) keeps.service_is keeps.notes_are left_is wrote
 
--- what was to be told can't be written
-pub query_unwritten : (fault : ServeFault) (line : List ℕ) (query : Query) (here : Place) (held : Held) (before now : Option (List ℕ)) → command_of line ≡ Ok (Ask query) → Keeps held here.state → fault ≡ Write
-    → FailsLine fault line here held.service held.service before now
+-- what was to be told can't be
+pub query_untold : (fault : ServeFault) (line : List ℕ) (query : Query) (here : Place) (held : Held) (before now : Option (List ℕ)) → command_of line ≡ Ok (Ask query) → Keeps held here.state
+    → FailsToTell fault before now → FailsLine fault line here held.service held.service before now
 unfolding answer_to
-query_unwritten fault line query here held before now asks keeps failed =
-    inr (failed, record { text = query_text query (last_or None here.state.publications); next = here }, inl (ap (λ c. answer_to (ready_job held.service.job) c here) (sym asks)), keeps.service_is)
+query_untold fault line query here held before now asks keeps (inl failed) =
+    inr (failed, record { text = query_text query (last_or None here.state.publications) here.state.report; next = here }, inl (ap (λ c. answer_to (ready_job held.service.job) c here) (sym asks)), keeps.service_is)
+query_untold fault line query here held before now asks keeps (inr other) = inl (other.0, refl, other.1)

@@ -8,11 +8,11 @@ use Rattle.pg_import.specs.Number.{id_of}
 use Rattle.pg_import.specs.Text.{line_of, words_of}
 use Rattle.pg_import.specs.declared.line.ImportKind.{ImportKind}
 use Rattle.pg_graph.specs.declared.edit.Edit.{Edit as OneEdit}
-use Rattle.pregeld.specs.Edits.{edge_of, given, input_of, reweigh_of, unedge_of, unvertex_of, vertex_of}
+use Rattle.pregeld.specs.Edits.{edge_of, given, in_place, input_of, reweigh_of, unedge_of, unvertex_of, vertex_of}
 use Rattle.pregeld.specs.declared.command.Command.{Command}
 use Rattle.pregeld.specs.declared.command.Command.TheVariants.{Nothing, Edit, Act, Ask}
-use Rattle.pregeld.specs.declared.command.Action.TheVariants.{Commit, Import, Refresh}
-use Rattle.pregeld.specs.declared.command.Query.TheVariants.{Dump}
+use Rattle.pregeld.specs.declared.command.Action.TheVariants.{Commit, Import, Refresh, Recompute}
+use Rattle.pregeld.specs.declared.command.Query.TheVariants.{Dump, Get, Reported}
 use Rattle.pregeld.specs.declared.command.Form.{Form}
 use Rattle.pregeld.specs.declared.command.Form.TheVariants.{List as ListForm, Csv}
 use Rattle.pregeld.specs.declared.command.LineFault.{LineFault}
@@ -39,6 +39,12 @@ import_of (form ∷ []) = Err WordCount
 import_of (form ∷ number ∷ []) = import_in (form_of form) (id_of number)
 import_of (form ∷ number ∷ more ∷ words) = Err WordCount
 
+-- the word after `get`: an id
+unfoldable pub get_of : List (List ℕ) → Result Command LineFault
+get_of [] = Err WordCount
+get_of (id ∷ []) = given (in_place (id_of id)) (λ v. Ok (Ask (Get v)))
+get_of (id ∷ more ∷ words) = Err WordCount
+
 -- a command that has no words after it
 unfoldable pub alone : Command → List (List ℕ) → Result Command LineFault
 alone command [] = Ok command
@@ -61,7 +67,10 @@ named first words =
     if bytes_eq first (codes "import") then import_of words
     else if bytes_eq first (codes "commit") then alone (Act Commit) words
     else if bytes_eq first (codes "refresh") then alone (Act Refresh) words
+    else if bytes_eq first (codes "check") then alone (Act Recompute) words
     else if bytes_eq first (codes "dump") then alone (Ask Dump) words
+    else if bytes_eq first (codes "report") then alone (Ask Reported) words
+    else if bytes_eq first (codes "get") then get_of words
     else given (edit_named first words) (λ edit. Ok (Edit edit))
 
 -- the command of words: none asks for nothing, nor does a comment, which begins with `#`; a command has no byte above 127

@@ -1,3 +1,4 @@
+pub mod Answers
 pub mod Arguments
 pub mod Command
 pub mod Edits
@@ -5,5 +6,6 @@ pub mod Notes
 pub mod Program
 pub mod Reading
 pub mod Reply
+pub mod ReportJson
 pub mod Service
 pub mod Session

@@ -13,7 +13,7 @@ use Rattle.pg_scratch.specs.declared.runner.RunFault.TheVariants.{Memory}
 use Rattle.pregeld.specs.Command.{command_of}
 use Rattle.pg_ready.specs.Ready.{ready_job}
 use Rattle.pregeld.specs.Notes.{Held, Noted, stored}
-use Rattle.pregeld.specs.Service.{IsTried, ServiceState, next_graph, publication_of, report_of}
+use Rattle.pregeld.specs.Service.{IsTried, ServiceState, check_of, next_graph, publication_of, report_of}
 use Rattle.pregeld.specs.Session.{Answer, Answers, IsTriedOf, Place, State, after, answered, edges_of, edited, imported}
 use Rattle.pregeld.specs.declared.block.Block.{Block}
 use Rattle.pregeld.specs.declared.block.Block.TheVariants.{Whole, CutShort, NoMemory}
@@ -21,7 +21,7 @@ use Rattle.pregeld.specs.declared.command.Command.{Command}
 use Rattle.pregeld.specs.declared.command.Form.{Form}
 use Rattle.pregeld.specs.declared.command.LineFault.{LineFault}
 use Rattle.pregeld.specs.declared.reply.Reply.{Reply}
-use Rattle.pregeld.specs.declared.reply.Reply.TheVariants.{ImportRefused, BatchRefused, Refreshed, RefreshRefused}
+use Rattle.pregeld.specs.declared.reply.Reply.TheVariants.{ImportRefused, BatchRefused, Refreshed, RunRefused, Checked}
 use Rattle.pregeld.specs.declared.session.ServeFault.{ServeFault}
 use Rattle.pregeld.specs.declared.session.ServeFault.TheVariants.{Write}
 
@@ -82,7 +82,12 @@ Refreshes old reply new =
     ((reply ≡ Refreshed report)
     × (new.service ≡ record service { published = Some (publication_of own service.edition service.graph) })
     × (new.notes ≡ record old.notes { report = Some report }))
-    ⊎ ((reply ≡ RefreshRefused Memory) × (new ≡ old))
+    ⊎ ((reply ≡ RunRefused Memory) × (new ≡ old))
+
+-- a check may be answered so, or for want of memory
+abbrev pub Checks : ServiceState → Reply → Type 0
+Checks old reply =
+    (reply ≡ Checked (check_of (ready_job old.job) old.edition old.graph old.published)) ⊎ (reply ≡ RunRefused Memory)
 
 -- ---- a service beside a session
 
@@ -117,6 +122,10 @@ pub record AnswersLine (line : List ℕ) (here : Place) (old : ServiceState) (ne
   pub number_is : answer.next.number ≡ number
   pub left_is : left ≡ Some answer.next.lines
   pub wrote : Appends before now answer.text
+
+-- what was to be told couldn't be written, or there was no memory for it
+abbrev pub FailsToTell : ServeFault → Option (List ℕ) → Option (List ℕ) → Type 0
+FailsToTell fault before now = (fault ≡ Write) ⊎ ((fault ≢ Write) × (now ≡ before))
 
 -- a line couldn't be carried out, or its answer couldn't be written
 abbrev pub FailsLine : ServeFault → List ℕ → Place → ServiceState → ServiceState → Option (List ℕ) → Option (List ℕ) → Type 0

@@ -15,22 +15,23 @@ use Rattle.pg_model.specs.Job.{Job}
 use Rattle.pg_model.specs.Publications.{Publication, Publications}
 use Rattle.pg_scratch.specs.declared.runner.RunFault.TheVariants.{Memory}
 use Rattle.pg_import.specs.Text.{raw_lines}
+use Rattle.pregeld.specs.Answers.{value_of}
 use Rattle.pregeld.specs.Command.{command_of}
 use Rattle.pg_ready.specs.Ready.{ready_job}
-use Rattle.pregeld.specs.Reply.{line_of_reply, values_text}
-use Rattle.pregeld.specs.Service.{IsTried, ServiceState, next_graph, publication_of, report_of}
+use Rattle.pregeld.specs.Reply.{json_text, line_of_reply, values_text}
+use Rattle.pregeld.specs.Service.{IsTried, ServiceState, check_of, next_graph, publication_of, report_of}
 use Rattle.pregeld.specs.declared.command.Command.{Command}
 use Rattle.pregeld.specs.declared.command.Command.TheVariants.{Nothing, Edit, Act, Ask}
 use Rattle.pregeld.specs.declared.command.Action.{Action}
-use Rattle.pregeld.specs.declared.command.Action.TheVariants.{Commit, Import, Refresh}
+use Rattle.pregeld.specs.declared.command.Action.TheVariants.{Commit, Import, Refresh, Recompute}
 use Rattle.pregeld.specs.declared.command.Query.{Query}
-use Rattle.pregeld.specs.declared.command.Query.TheVariants.{Dump}
+use Rattle.pregeld.specs.declared.command.Query.TheVariants.{Dump, Get, Reported}
 use Rattle.pregeld.specs.declared.command.Form.{Form}
 use Rattle.pregeld.specs.declared.command.Form.TheVariants.{List as ListForm, Csv}
 use Rattle.pregeld.specs.declared.command.LineFault.{LineFault}
 use Rattle.pregeld.specs.declared.command.LineFault.TheVariants.{CutShort, EditsPending}
 use Rattle.pregeld.specs.declared.reply.Reply.{Reply}
-use Rattle.pregeld.specs.declared.reply.Reply.TheVariants.{Edition, ImportRefused, BatchRefused, Refreshed, RefreshRefused, Unpublished, Fault}
+use Rattle.pregeld.specs.declared.reply.Reply.TheVariants.{Edition, ImportRefused, BatchRefused, Refreshed, RunRefused, Checked, Unpublished, Value, NoValue, Fault}
 use Rattle.pregeld.specs.declared.answers.Report.{Report}
 use Rattle.pregeld.specs.declared.session.ServeFault.{ServeFault}
 use Rattle.pregeld.specs.declared.session.ServeFault.TheVariants.{Write}
@@ -133,9 +134,25 @@ abbrev pub dump_text : Option (Publication ℤ) → List ℕ
 dump_text None = line_of_reply Unpublished
 dump_text (Some publication) = values_text publication.answer.values
 
--- what is told of what was published last
-abbrev pub query_text : Query → Option (Publication ℤ) → List ℕ
-query_text Dump published = dump_text published
+-- the value that was published last of a vertex
+abbrev pub value_reply : ℕ → Option ℤ → Reply
+value_reply id None = NoValue id
+value_reply id (Some value) = Value id value
+
+abbrev pub get_reply : ℕ → Option (Publication ℤ) → Reply
+get_reply id None = Unpublished
+get_reply id (Some publication) = value_reply id (value_of id publication.answer.values)
+
+-- the report of the last refresh of this session that was answered
+abbrev pub report_line : Option Report → List ℕ
+report_line None = line_of_reply Unpublished
+report_line (Some report) = json_text report ++ 10 ∷ []
+
+-- what is told, of what was published last and of the last report
+abbrev pub query_text : Query → Option (Publication ℤ) → Option Report → List ℕ
+query_text Dump published report = dump_text published
+query_text (Get id) published report = line_of_reply (get_reply id published)
+query_text Reported published report = report_line report
 
 module _ (own : Job ℤ ℤ) where
   -- the run on the graph as it stands is published and reported
@@ -155,6 +172,8 @@ module _ (own : Job ℤ ℤ) where
   action_answer Commit place = commit_answer place
   action_answer (Import form n) place = import_answer place.state.pending form n place
   action_answer Refresh place = refresh_answer place
+  action_answer Recompute place =
+      answered (Checked (check_of own place.state.edition place.state.graph (last_or None place.state.publications))) place
 
   -- the answer to a command, which stands in the last line that was read
   unfoldable pub answer_to : Result Command LineFault → Place → Answer
@@ -162,7 +181,7 @@ module _ (own : Job ℤ ℤ) where
   answer_to (Ok Nothing) place = record { text = []; next = place }
   answer_to (Ok (Edit edit)) place = record { text = []; next = record place { state = noted edit place.state } }
   answer_to (Ok (Act action)) place = action_answer action place
-  answer_to (Ok (Ask query)) place = record { text = query_text query (last_or None place.state.publications); next = place }
+  answer_to (Ok (Ask query)) place = record { text = query_text query (last_or None place.state.publications) place.state.report; next = place }
 
   -- an action for which there is no memory: graph, edition and publications stay, no run is kept after a
   -- refresh, and no edit is pending after a commit
@@ -171,7 +190,8 @@ module _ (own : Job ℤ ℤ) where
       IsTried place.state.edition place.state.pending × (answer ≡ answered (BatchRefused memory_fault) (record place { state = emptied place.state }))
   WantsMemory (Import form n) place answer =
       (reply : Reply) × ImportWantsMemory form n place reply × (answer ≡ answered reply (past n place))
-  WantsMemory Refresh place answer = answer ≡ answered (RefreshRefused Memory) (record place { state = record place.state { kept = None } })
+  WantsMemory Refresh place answer = answer ≡ answered (RunRefused Memory) (record place { state = record place.state { kept = None } })
+  WantsMemory Recompute place answer = answer ≡ answered (RunRefused Memory) place
 
   -- the answers for want of memory
   abbrev pub ForWantOfMemory : Result Command LineFault → Place → Answer → Type 0

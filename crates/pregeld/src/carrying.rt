@@ -1,7 +1,7 @@
 //! Commands that are answered by one line, carried out.
 ghost use Rattle.std.specs.Prelude.{◌≡◌, ◌≢◌, [], List, ℕ, Some, Ok, IfOk, IfErr};
 ghost use Rattle.pg_import.specs.Import.{Gives};
-ghost use Rattle.pregeld.specs.Reading.{Edits, Imports, ImportsLines, Keeps, Refreshes, RepliesTo, lines_left};
+ghost use Rattle.pregeld.specs.Reading.{Checks, Edits, Imports, ImportsLines, Keeps, Refreshes, RepliesTo, lines_left};
 ghost use Rattle.pregeld.specs.Session.{State, edges_of};
 
 use crate::block::{Block, skip_lines, take_block};
@@ -11,6 +11,7 @@ use crate::reply::Reply;
 use crate::{ServeFault, Service};
 use pg_graph::Batch;
 use pg_import::{ImportFault, Line, into_batch, read_csv, read_list};
+use pg_scratch::RunFault;
 use std::alloc::Global;
 use std::io::BufRead;
 
@@ -36,6 +37,7 @@ pub(crate) fn carry_out<R: BufRead>(
     match action {
         Action::Commit => Ok((commit(alloc, service, notes), number)),
         Action::Refresh => Ok((refresh(alloc, service, notes), number)),
+        Action::Recompute => Ok((check(alloc, service), number)),
         Action::Import(form, lines) => {
             import(alloc, number, form, lines, reader, service, notes)
         }
@@ -71,7 +73,17 @@ fn refresh(alloc: Global, service: &mut Service, notes: &mut Notes) -> Reply
             notes.keep_report(&report);
             Reply::Refreshed(report)
         }
-        Err(fault) => Reply::RefreshRefused(fault),
+        Err(fault) => Reply::RunRefused(fault),
+    }
+}
+
+/// Compares what was published with a run from scratch.
+fn check(alloc: Global, service: &Service) -> Reply
+    ensures { Checks service.now result }
+{
+    match service.check(alloc) {
+        Ok(check) => Reply::Checked(check),
+        Err(_) => Reply::RunRefused(RunFault::Memory),
     }
 }
 

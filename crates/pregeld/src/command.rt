@@ -2,11 +2,11 @@
 ghost use Rattle.std.specs.Prelude.{◌≡◌};
 ghost use Rattle.std.specs.Char.{is_ascii};
 ghost use Rattle.std.specs.List.{list_all};
-ghost use Rattle.pregeld.specs.Command.{alone, command_of, edit_named, form_of, import_of, named};
+ghost use Rattle.pregeld.specs.Command.{alone, command_of, edit_named, form_of, get_of, import_of, named};
 ghost use Rattle.pregeld.specs.Reply.{fault_number};
 
-use crate::edits::{edge_of, input_of, reweigh_of, unedge_of, unvertex_of, vertex_of};
-use pg_graph::Edit;
+use crate::edits::{edge_of, id_in, input_of, reweigh_of, unedge_of, unvertex_of, vertex_of};
+use pg_graph::{Edit, VertexId};
 use pg_import::{Words, bare_line, read_id};
 
 /// The most lines of an import.
@@ -73,6 +73,8 @@ pub(crate) enum Action {
     Import(Form, u32),
     /// To run the program on the graph as it stands.
     Refresh,
+    /// To compare what was published with a run from scratch.
+    Recompute,
 }
 
 /// What a line asks to be told.
@@ -80,6 +82,10 @@ pub(crate) enum Action {
 pub(crate) enum Query {
     /// All published values.
     Dump,
+    /// The published value of a vertex.
+    Get(VertexId),
+    /// The last report.
+    Reported,
 }
 
 /// The command of a line, which may end in its line feed.
@@ -121,8 +127,17 @@ fn named(first: &[u8], words: Words<'_>) -> Result<Command, LineFault>
     if first == b"refresh".as_slice() {
         return alone(Command::Act(Action::Refresh), words);
     }
+    if first == b"check".as_slice() {
+        return alone(Command::Act(Action::Recompute), words);
+    }
     if first == b"dump".as_slice() {
         return alone(Command::Ask(Query::Dump), words);
+    }
+    if first == b"report".as_slice() {
+        return alone(Command::Ask(Query::Reported), words);
+    }
+    if first == b"get".as_slice() {
+        return get_of(words);
     }
     let edit = edit_named(first, words)?;
     Ok(Command::Edit(edit))
@@ -152,6 +167,20 @@ fn edit_named(first: &[u8], words: Words<'_>) -> Result<Edit, LineFault>
         return unedge_of(words);
     }
     Err(LineFault::NoCommand)
+}
+
+/// `get ID`.
+#[tactic(auto, unfolding(crate::specs::Command::get_of))]
+fn get_of(mut words: Words<'_>) -> Result<Command, LineFault>
+    ensures { result ≡ get_of words.entry }
+{
+    let Some(id) = words.next() else {
+        return Err(LineFault::WordCount);
+    };
+    if words.next().is_some() {
+        return Err(LineFault::WordCount);
+    }
+    Ok(Command::Ask(Query::Get(id_in(id)?)))
 }
 
 /// A command with no words after it.

@@ -46,6 +46,13 @@ impl Notes {
         &self.pending
     }
 
+    /// The last report.
+    pub(crate) fn report(&self) -> Option<Report>
+        ensures { result ≡ self.now.report }
+    {
+        self.report
+    }
+
     /// Whether an edit is pending.
     pub(crate) fn has_pending(&self) -> bool
         ensures { MatchBool result (self.now.pending ≢ []) (self.now.pending ≡ []) }

@@ -111,7 +111,7 @@ fn answer_line<R: BufRead, W: Write>(
             Ok(()) => Ok(number),
             Err(_) => Err(ServeFault::Memory),
         },
-        Ok(Command::Ask(query)) => match tell(writer, query, service) {
+        Ok(Command::Ask(query)) => match tell(alloc, writer, query, service, notes) {
             Ok(()) => Ok(number),
             Err(fault) => Err(fault),
         },

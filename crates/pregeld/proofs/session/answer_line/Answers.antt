@@ -5,7 +5,7 @@ use Rattle.pregeld.specs.Reading.{lines_left}
 use Rattle.pregeld.specs.Session.{Place}
 use Rattle.pregeld.specs.declared.command.Command.TheVariants.{Nothing, Edit, Act, Ask}
 use Rattle.pregeld.specs.declared.reply.Reply.TheVariants.{Fault}
-use Rattle.pregeld.proofs.Commands.{edit_answered, fault_replies, line_answered, line_unwritten, nothing_answered, query_answered, query_unwritten}
+use Rattle.pregeld.proofs.Commands.{edit_answered, fault_replies, line_answered, line_unwritten, nothing_answered, query_answered, query_untold}
 use Rattle.pregeld.proofs.Written.{nothing_written}
 use Rattle.pregeld.proofs.session.answer_line.Goals as goal
 
@@ -42,7 +42,7 @@ returns-in-Err-tell-clause-err g c state lines keeps there =
     let here : Place = record { number = c.args.number; state = state; lines = lines } in
     let held : Held = record { service = c.args.service.now; notes = c.args.notes.now } in
     let asks : command_of c.args.line.now ≡ Ok (Ask c.in-Ok-Ask.query) = sym c.command_of.ensures ∙ (c.in-Ok-Ask.is ∙ ap Ok c.in-Ok-Ask.field-0-is) in
-    query_unwritten c.in-Err-tell.fault c.args.line.now c.in-Ok-Ask.query here held
+    query_untold c.in-Err-tell.fault c.args.line.now c.in-Ok-Ask.query here held
     (g.W.Write.contents c.args.writer.now) (g.W.Write.contents c.tell.new.writer) asks keeps c.in-Err-tell.ensures.err
 
 -- actions
