@@ -300,7 +300,7 @@ pub(crate) fn shortest_paths(source: VertexId) -> ReadyJob
 }
 
 // The graph of 1 to 2 of weight 5 and 2 to 3 of weight 1.
-fn two_hops_batch(alloc: Global) -> Result<Batch, Fail> {
+pub(crate) fn two_hops_batch(alloc: Global) -> Result<Batch, Fail> {
     let mut batch = Batch::new(alloc);
     for number in 1..4 {
         batch.push(Edit::AddVertex(id(number)?, 0))?;

@@ -1,7 +1,99 @@
 // Sessions of edits, commits and imports, on the program.
-use crate::runs::{Session, answers, prints};
+use crate::runs::{Session, answers, prints, shortest_paths, two_hops_batch};
+use pg_global::AnyCombiner;
+use pg_graph::{Batch, Edit, Graph, Missing, VertexId};
+use pg_model::Run;
+use pg_program::Meter;
+use pg_ready::{ReadyMaster, ReadyProgram, Sssp};
+use pg_scratch::run;
+use pregeld::{Check, Service, same};
+use std::alloc::Global;
 use std::io::Write;
+use std::process::Abort;
 use std::test::Fail;
+
+#[test]
+fn two_hops_reported(rt: HostRuntime) {
+    prints(
+        &rt,
+        rt.alloc(),
+        b"report\nget 1\nimport list 2\n1 2 5\n2 3\nreport\nrefresh\nreport\nget 3\nget 0003\nget 9\n",
+        "unpublished\nunpublished\nedition 1\nunpublished\nrefreshed edition 1 supersteps 3 ending finished calls 5 losses 0\n{\"calls\":5,\"dropped\":0,\"edition\":1,\"ending\":\"finished\",\"losses\":0,\"sent\":2,\"supersteps\":3}\nvalue 3 6\nvalue 3 6\nnone 9\n",
+    );
+}
+
+// Between an edit and a refresh what was published is stale; pending edits don't count.
+#[test]
+fn checks(rt: HostRuntime) {
+    prints(
+        &rt,
+        rt.alloc(),
+        b"check\nimport list 2\n1 2 5\n2 3\ncheck\nrefresh\ncheck\nedge 2 3 4\ncheck\ncommit\ncheck\ncommit\ncheck\nrefresh\nreport\ncheck now\n",
+        "check stale\nedition 1\ncheck stale\nrefreshed edition 1 supersteps 3 ending finished calls 5 losses 0\ncheck same calls 5\ncheck same calls 5\nrefused 4 position 1\ncheck same calls 5\nedition 2\ncheck stale\nrefreshed edition 2 supersteps 3 ending finished calls 5 losses 0\n{\"calls\":5,\"dropped\":0,\"edition\":2,\"ending\":\"finished\",\"losses\":0,\"sent\":2,\"supersteps\":3}\nerror 2 line 16\n",
+    );
+}
+
+// What is asked for is what was published, and not what the graph has.
+#[test]
+fn asked_of_what_was_published(rt: HostRuntime) {
+    prints(
+        &rt,
+        rt.alloc(),
+        b"import list 2\n1 2 5\n2 3\nrefresh\nunvertex 3\nvertex 4\ncommit\nget 3\nget 4\nget\nget x\nget 1 2\nget 9223372036854775808\nget 9223372036854775807\nreport 1\n",
+        "edition 1\nrefreshed edition 1 supersteps 3 ending finished calls 5 losses 0\nedition 2\nvalue 3 6\nnone 4\nerror 2 line 10\nerror 3 line 11\nerror 2 line 12\nerror 3 line 13\nnone 9223372036854775807\nerror 2 line 15\n",
+    );
+}
+
+// A run whose edges lead to no vertex drops messages, and its report says so.
+#[test]
+fn dropped_messages_reported(rt: HostRuntime) {
+    prints(
+        &rt,
+        rt.alloc(),
+        b"import list 2\n1 2 5\n2 3\nunvertex 2\ncommit\nrefresh\nreport\ncheck\n",
+        "edition 1\nedition 2\nrefreshed edition 2 supersteps 1 ending finished calls 2 losses 0\n{\"calls\":2,\"dropped\":1,\"edition\":2,\"ending\":\"finished\",\"losses\":0,\"sent\":1,\"supersteps\":1}\ncheck same calls 2\n",
+    );
+}
+
+// The answers of one graph are those of a run on it, and not those of a run on another.
+#[test]
+fn same_answers(rt: HostRuntime) -> Result<(), Fail> {
+    let alloc = rt.alloc();
+    let source = VertexId::new(1).ok_or("an id")?;
+    let mut service = Service::new(alloc, shortest_paths(source));
+    let first = two_hops_batch(alloc)?;
+    assert!(&rt; service.edit(alloc, &first).is_ok());
+    assert!(&rt; service.refresh(alloc).is_ok());
+    let own = run_of(&rt, alloc, service.graph())?;
+    let answers = service.answers().ok_or("answers")?;
+    assert!(&rt; same(answers, &own));
+    assert_eq!(&rt; answers.value(source).copied(), Some(0));
+    let mut shortcut = Batch::new(alloc);
+    let target = VertexId::new(3).ok_or("an id")?;
+    shortcut.push(Edit::AddEdge(source, target, 2))?;
+    assert!(&rt; service.edit(alloc, &shortcut).is_ok());
+    let other = run_of(&rt, alloc, service.graph())?;
+    let answers = service.answers().ok_or("answers")?;
+    assert!(&rt; !same(answers, &other));
+    assert_eq!(&rt; service.check(alloc).ok(), Some(Check::Stale));
+    Ok(())
+}
+
+// Shortest paths from 1, from scratch.
+fn run_of(rt: &impl Abort, alloc: Global, graph: &Graph) -> Result<Run<i64>, Fail> {
+    let program = Sssp {
+        source: VertexId::new(1).ok_or("an id")?,
+    };
+    let master = ReadyMaster {
+        program: ReadyProgram::Sssp(program),
+    };
+    let (combiner, missing) = (AnyCombiner::NoCombiner, Missing::Drop);
+    let mut meter = Meter::new();
+    let answer = run(
+        alloc, graph, &program, &combiner, &master, missing, 1000, &mut meter,
+    );
+    Ok(answer.expect(rt, "an answer"))
+}
 
 #[test]
 fn shortcut_added(rt: HostRuntime) {
@@ -60,7 +152,15 @@ fn created_then_added(rt: HostRuntime) {
 fn waiting_at_the_limit(rt: HostRuntime) {
     let input = b"vertex 1\nedge 1 2 5\ncommit\nrefresh\ndump\n";
     let created = Session {
-        words: &["pregeld", "--program", "sssp", "--limit", "1", "--missing", "create"],
+        words: &[
+            "pregeld",
+            "--program",
+            "sssp",
+            "--limit",
+            "1",
+            "--missing",
+            "create",
+        ],
         input,
         status: 0,
         output: "edition 1\nrefreshed edition 1 supersteps 1 ending limit calls 1 losses 0\nvalue 1 0\nend 1\n",

@@ -1,5 +1,5 @@
 -- The text of a report.
-use Rattle.std.proofs.Common.{◌≡◌, ℕ, false, List, codes, refl, rules}
+use Rattle.std.proofs.Common.{◌≡◌, false, refl, rules}
 use Rattle.pg_model.specs.declared.run.Ending.{Ending}
 use Rattle.pg_model.specs.declared.run.Ending.TheVariants.{MasterHalted, Finished, LimitReached}
 use Rattle.std.specs.Fmt.{digits}
