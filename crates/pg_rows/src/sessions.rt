@@ -55,6 +55,17 @@ fn dropped_messages_reported(rt: HostRuntime) {
     );
 }
 
+// The sessions of the document on the commands, one after the other.
+#[test]
+fn documented(rt: HostRuntime) {
+    prints(
+        &rt,
+        rt.alloc(),
+        b"import list 3\n1 2 5\n2 3\n# a road back\nrefresh\ndump\nedge 1 3 2\ncommit\ncheck\nrefresh\nget 3\ncheck\nedge 1 3\nvertex 9\ncommit\nreport\n",
+        "edition 1\nrefreshed edition 1 supersteps 3 ending finished calls 5 losses 0\nvalue 1 0\nvalue 2 5\nvalue 3 6\nend 3\nedition 2\ncheck stale\nrefreshed edition 2 supersteps 3 ending finished calls 6 losses 0\nvalue 3 2\ncheck same calls 6\nrefused 4 position 1\n{\"calls\":6,\"dropped\":0,\"edition\":2,\"ending\":\"finished\",\"losses\":0,\"sent\":3,\"supersteps\":3}\n",
+    );
+}
+
 // The answers of one graph are those of a run on it, and not those of a run on another.
 #[test]
 fn same_answers(rt: HostRuntime) -> Result<(), Fail> {

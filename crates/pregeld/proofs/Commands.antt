@@ -1,5 +1,5 @@
 -- What lines are answered, beside what a session may be answered.
-use Rattle.std.proofs.Common.{◌≡◌, ℕ, List, [], ◌∷◌, ◌++◌, Option, None, Some, option_to_list, Result, Ok, Err, refl, sym, ap, ap₂, subst, ◌∙◌, inl, inr}
+use Rattle.std.proofs.Common.{◌≡◌, ◌≢◌, ℕ, ℤ, List, [], ◌∷◌, ◌++◌, length, flat_map, Option, None, Some, option_to_list, Result, Ok, Err, refl, sym, ap, ap₂, subst, ◌∙◌, inl, inr}
 use Rattle.std.specs.Io.KnownBytes.{Appends}
 use Rattle.std.specs.List.{last_or}
 use Rattle.pg_graph.specs.declared.edit.Edit.{Edit as OneEdit}
@@ -7,15 +7,18 @@ use Rattle.pregeld.specs.Command.{command_of}
 use Rattle.pregeld.specs.Notes.{Held, Noted, stored}
 use Rattle.pg_ready.specs.Ready.{ready_job}
 use Rattle.pregeld.specs.Reading.{AnswersLine, AreNotes, FailsLine, FailsToTell, Keeps, RepliesTo}
-use Rattle.pregeld.specs.Reply.{line_of_reply}
+use Rattle.pregeld.specs.Reply.{json_text, line_of_reply, line_of_value, text_of}
 use Rattle.pregeld.specs.Service.{ServiceState}
-use Rattle.pregeld.specs.Session.{Answer, Answers, Place, State, after, answer_to, answered, noted, opened, query_text}
+use Rattle.pregeld.specs.Session.{Answer, Answers, Place, State, after, answer_to, answered, get_reply, noted, opened, query_text}
 use Rattle.pregeld.specs.declared.command.Command.{Command}
 use Rattle.pregeld.specs.declared.command.Command.TheVariants.{Nothing, Edit, Ask}
 use Rattle.pregeld.specs.declared.command.LineFault.{LineFault}
+use Rattle.pg_model.specs.Publications.{Publication}
+use Rattle.pregeld.specs.declared.answers.Report.{Report}
 use Rattle.pregeld.specs.declared.command.Query.{Query}
+use Rattle.pregeld.specs.declared.command.Query.TheVariants.{Dump, Get, Reported}
 use Rattle.pregeld.specs.declared.reply.Reply.{Reply}
-use Rattle.pregeld.specs.declared.reply.Reply.TheVariants.{Fault}
+use Rattle.pregeld.specs.declared.reply.Reply.TheVariants.{End, Fault, Unpublished}
 use Rattle.pregeld.specs.declared.session.ServeFault.{ServeFault}
 use Rattle.pregeld.specs.declared.session.ServeFault.TheVariants.{Write}
 use Rattle.pregeld.proofs.Pending.{stored_later}
@@ -27,6 +30,25 @@ last-one (Some x) = refl
 -- what a session begins with is what its service keeps
 pub opened_is : (service : ServiceState) → service ≡ after service (opened service)
 opened_is service = ap (λ p. record service { published = p }) (sym (last-one service.published))
+
+-- ---- no answer is empty
+
+some_later : (xs ys : List ℕ) → ys ≢ [] → xs ++ ys ≢ []
+some_later [] ys some none = some none
+some_later (x ∷ xs) ys some none = absurd cc
+
+one_some : (x : ℕ) → x ∷ [] ≢ []
+one_some x none = absurd cc
+
+line_some : (reply : Reply) → line_of_reply reply ≢ []
+line_some reply = some_later (text_of reply) (10 ∷ []) (one_some 10)
+
+query_some : (query : Query) (published : Option (Publication ℤ)) (report : Option Report) → query_text query published report ≢ []
+query_some Dump None report = line_some Unpublished
+query_some Dump (Some p) report = some_later (flat_map line_of_value p.answer.values) (line_of_reply (End (length p.answer.values))) (line_some (End (length p.answer.values)))
+query_some (Get id) published report = line_some (get_reply id published)
+query_some Reported published None = line_some Unpublished
+query_some Reported published (Some report) = some_later (json_text report) (10 ∷ []) (one_some 10)
 
 -- ---- one line that answers a command
 
@@ -46,7 +68,7 @@ line_answered line command here old new reply number left before now asks r wrot
 pub line_unwritten : (fault : ServeFault) (line : List ℕ) (command : Result Command LineFault) (here : Place) (old : ServiceState) (new : Held) (reply : Reply) (number : ℕ) (left : Option (List (List ℕ))) (before now : Option (List ℕ))
     → command_of line ≡ command → RepliesTo command here old reply number new left → fault ≡ Write → FailsLine fault line here old new.service before now
 line_unwritten fault line command here old new reply number left before now asks r failed =
-    inr (failed, answered reply r.next, subst (λ c. Answers (ready_job old.job) c here (answered reply r.next)) (sym asks) r.answers, r.service_is)
+    inr (failed, answered reply r.next, subst (λ c. Answers (ready_job old.job) c here (answered reply r.next)) (sym asks) r.answers, r.service_is, line_some reply)
 
 -- a line with a fault changes nothing
 pub fault_replies : (fault : LineFault) (here : Place) (held : Held) (left : Option (List (List ℕ))) → Keeps held here.state → left ≡ Some here.lines
@@ -115,5 +137,5 @@ pub query_untold : (fault : ServeFault) (line : List ℕ) (query : Query) (here 
     → FailsToTell fault before now → FailsLine fault line here held.service held.service before now
 unfolding answer_to
 query_untold fault line query here held before now asks keeps (inl failed) =
-    inr (failed, record { text = query_text query (last_or None here.state.publications) here.state.report; next = here }, inl (ap (λ c. answer_to (ready_job held.service.job) c here) (sym asks)), keeps.service_is)
+    inr (failed, record { text = query_text query (last_or None here.state.publications) here.state.report; next = here }, inl (ap (λ c. answer_to (ready_job held.service.job) c here) (sym asks)), keeps.service_is, query_some query (last_or None here.state.publications) here.state.report)
 query_untold fault line query here held before now asks keeps (inr other) = inl (other.0, refl, other.1)

@@ -1,5 +1,5 @@
 -- A session, line by line.
-use Rattle.std.proofs.Common.{◌≡◌, ℕ, ℤ, ◌+◌, List, [], ◌∷◌, ◌++◌, Option, None, Some, IfSome, IfErr, Result, Ok, Err, refl, sym, ap, subst, inl, inr, append-nil, append_assoc, ◌∙◌}
+use Rattle.std.proofs.Common.{◌≡◌, ◌≢◌, ℕ, ℤ, ◌+◌, List, [], ◌∷◌, ◌++◌, Option, None, Some, IfSome, IfErr, Result, Ok, Err, refl, sym, ap, subst, inl, inr, append-nil, append_assoc, ◌∙◌}
 use Rattle.std.specs.Io.KnownBytes.{Appends}
 use Rattle.pg_import.specs.Text.{raw_lines}
 use Rattle.pg_model.specs.Job.{Job}
@@ -78,12 +78,13 @@ at_end input old now number left before written m no_more = record {
 
 -- a session that breaks off between two lines
 pub between_lines : (fault : ServeFault) (input : List ℕ) (old : ServiceState) (now : Held) (number : ℕ) (left : Option (List (List ℕ))) (before written : Option (List ℕ))
-    → Midway input old now number left before written → BreaksOff fault input old now.service before written
-between_lines fault input old now number left before written m = record {
+    → fault ≢ Write → Midway input old now number left before written → BreaksOff fault input old now.service before written
+between_lines fault input old now number left before written other m = record {
   text = m.text;
   place = record { number = number; state = m.state; lines = m.lines };
   comes = record { runs = whole (ready_job old.job) (start old input) (record { number = number; state = m.state; lines = m.lines }) m.text m.so_far; service_is = m.service_is };
-  wrote = λ other. m.wrote;
+  wrote = λ _. m.wrote;
+  unwritten = λ is. absurd (other is);
 }
 
 module _ (input : List ℕ) (old : ServiceState) (number : ℕ) (state : State) (line : List ℕ) (lines : List (List ℕ)) (text : List ℕ)
@@ -105,8 +106,8 @@ module _ (input : List ℕ) (old : ServiceState) (number : ℕ) (state : State) 
 
   -- a line is answered, and the answer can't be written
   unwritten : (new : ServiceState) (before now : Option (List ℕ)) (answer : Answer) → Answers (ready_job old.job) (command_of line) (record { number = number + 1; state = state; lines = lines }) answer
-      → new ≡ after old answer.next.state → BreaksOff Write input old new before now
-  unwritten new before now answer answers new_is = record {
+      → new ≡ after old answer.next.state → answer.text ≢ [] → BreaksOff Write input old new before now
+  unwritten new before now answer answers new_is some = record {
     text = text ++ answer.text;
     place = answer.next;
     comes = record {
@@ -114,12 +115,20 @@ module _ (input : List ℕ) (old : ServiceState) (number : ℕ) (state : State) 
       service_is = new_is;
     };
     wrote = λ other. absurd (other refl);
+    unwritten = λ _. record {
+      front = text;
+      number = number;
+      state = state;
+      line = line;
+      lines = lines;
+      answer = answer;
+      runs = whole (ready_job old.job) (start old input) (record { number = number; state = state; lines = line ∷ lines }) text so_far;
+      answers = answers;
+      some = some;
+      text_is = refl;
+      end_is = refl;
+    };
   }
-
--- what holds of every fault
-pub if_failed : {T E : Type 0} {P : E → Type 0} (r : Result T E) → ((e : E) → P e) → IfErr r P
-if_failed (Ok x) h = tt
-if_failed (Err e) h = h e
 
 -- what holds of known bytes
 pub if_known : {P : List ℕ → Type 0} (known : Option (List ℕ)) → ((input : List ℕ) → known ≡ Some input → P input) → IfSome known P
@@ -143,9 +152,9 @@ module _ (input : List ℕ) (old : ServiceState) (now : Held) (number : ℕ) (le
   -- a line that fails breaks the session off
   pub breaks_off : (fault : ServeFault) (new : ServiceState) (more : Option (List ℕ)) → FailsLine fault line here now.service new written more → BreaksOff fault input old new before more
   breaks_off fault new more (inl kept) =
-      subst (λ w. BreaksOff fault input old new before w) (sym kept.2) (subst (λ s. BreaksOff fault input old s before written) (sym kept.1) (between_lines fault input old now number left before written m))
+      subst (λ w. BreaksOff fault input old new before w) (sym kept.2) (subst (λ s. BreaksOff fault input old s before written) (sym kept.1) (between_lines fault input old now number left before written kept.0 m))
   breaks_off fault new more (inr failed) =
       subst (λ f. BreaksOff f input old new before more) (sym failed.0)
       (unwritten input old number m.state line rest m.text so_far_at new before more failed.1
       (subst (λ s. Answers (ready_job s.job) (command_of line) here failed.1) m.service_is failed.2)
-      (subst (λ s. new ≡ after s failed.1.next.state) m.service_is failed.3))
+      (subst (λ s. new ≡ after s failed.1.next.state) m.service_is failed.3) failed.4)

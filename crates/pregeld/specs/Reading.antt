@@ -131,4 +131,4 @@ FailsToTell fault before now = (fault ≡ Write) ⊎ ((fault ≢ Write) × (now 
 abbrev pub FailsLine : ServeFault → List ℕ → Place → ServiceState → ServiceState → Option (List ℕ) → Option (List ℕ) → Type 0
 FailsLine fault line here old new before now =
     ((fault ≢ Write) × (new ≡ old) × (now ≡ before))
-    ⊎ ((fault ≡ Write) × (answer : Answer) × Answers (ready_job old.job) (command_of line) here answer × (new ≡ after old answer.next.state))
+    ⊎ ((fault ≡ Write) × (answer : Answer) × Answers (ready_job old.job) (command_of line) here answer × (new ≡ after old answer.next.state) × (answer.text ≢ []))

@@ -213,6 +213,20 @@ module _ (own : Job ℤ ℤ) where
         → Runs answer.next text end
         → Runs (record { number = number; state = state; lines = line ∷ lines }) (answer.text ++ text) end
 
+  -- a session's text ends in an answer that isn't empty: the one to the last line that was read
+  pub record EndsInAnswer (first : Place) (text : List ℕ) (end : Place) : Type 0 where
+    pub front : List ℕ
+    pub number : ℕ
+    pub state : State
+    pub line : List ℕ
+    pub lines : List (List ℕ)
+    pub answer : Answer
+    pub runs : Runs first front (record { number = number; state = state; lines = line ∷ lines })
+    pub answers : Answers (command_of line) (record { number = number + 1; state = state; lines = lines }) answer
+    pub some : answer.text ≢ []
+    pub text_is : text ≡ front ++ answer.text
+    pub end_is : end ≡ answer.next
+
 -- ---- the service of a session
 
 -- a session begins with what a service keeps
@@ -243,9 +257,11 @@ pub record Serves (input : List ℕ) (old new : ServiceState) (before now : Opti
   pub ends : place.lines ≡ []
   pub wrote : Appends before now text
 
--- a fault broke a session off: all was written that was answered until then, but where writing failed
+-- a fault broke a session off: all was written that was answered until then; where writing failed, it was the last
+-- answer that couldn't be written
 pub record BreaksOff (fault : ServeFault) (input : List ℕ) (old new : ServiceState) (before now : Option (List ℕ)) : Type 0 where
   pub text : List ℕ
   pub place : Place
   pub comes : Comes input old new text place
   pub wrote : fault ≢ Write → Appends before now text
+  pub unwritten : fault ≡ Write → EndsInAnswer (ready_job old.job) (record { number = 0; state = opened old; lines = raw_lines input }) text place

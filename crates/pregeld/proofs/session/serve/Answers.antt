@@ -1,9 +1,13 @@
-use Rattle.std.proofs.Common.{◌≡◌, ◌+◌, List, ℕ, option_map, rules, subst}
+use Rattle.std.proofs.lemmas.Result.{err_from_is_err_and}
+use Rattle.std.proofs.Common.{◌≡◌, ◌≢◌, ◌+◌, List, ℕ, option_map, rules, subst}
 use Rattle.pregeld.specs.Notes.{Held}
 use Rattle.pregeld.specs.Reading.{AnswersLine, FailsLine, NextLine, lines_left}
-use Rattle.pregeld.specs.declared.session.ServeFault.TheVariants.{Read}
-use Rattle.pregeld.proofs.Serving.{at_end, at_first, between_lines, breaks_off, goes_on, if_failed, if_known, keeps_midway}
+use Rattle.pregeld.specs.declared.session.ServeFault.TheVariants.{Read, Write}
+use Rattle.pregeld.proofs.Serving.{at_end, at_first, between_lines, breaks_off, goes_on, if_known, keeps_midway}
 use Rattle.pregeld.proofs.session.serve.Goals as goal
+
+read_is_not_write : Read ≢ Write
+read_is_not_write same = absurd cc
 
 pub loop-turn-init : goal.loop-turn-init
 loop-turn-init g c input there = at_first input (g.R.Read.remaining c.args.reader.now) c.args.service.now c.new-notes.result (g.W.Write.contents c.args.writer.now) there c.new-notes.ensures
@@ -17,18 +21,20 @@ returns-in_default-clause-ok g c =
 
 pub returns-in_err-line-clause-err : goal.returns-in_err-line-clause-err
 returns-in_err-line-clause-err g c =
-    if_failed c.from_residual.result (λ fault. if_known (g.R.Read.remaining c.args.reader.now) (λ input there.
-    between_lines fault input c.args.service.now (record { service = c.loop-turn.service; notes = c.loop-turn.notes }) c.loop-turn.number (lines_left (g.R.Read.remaining c.loop-turn.reader)) (g.W.Write.contents c.args.writer.now) (g.W.Write.contents c.loop-turn.writer) (c.loop-turn.invariant input there)))
+    let p = err_from_is_err_and c.from_residual.result c.from_residual.ensures.1 in
+    rw (p.1, p.2) (if_known (g.R.Read.remaining c.args.reader.now) (λ input there.
+    between_lines _ input c.args.service.now (record { service = c.loop-turn.service; notes = c.loop-turn.notes }) c.loop-turn.number (lines_left (g.R.Read.remaining c.loop-turn.reader)) (g.W.Write.contents c.args.writer.now) (g.W.Write.contents c.loop-turn.writer)
+    c.in_err-line.ensures.err (c.loop-turn.invariant input there)))
 
 pub returns-in_default-checked_add-clause-err : goal.returns-in_default-checked_add-clause-err
 returns-in_default-checked_add-clause-err g c =
     if_known (g.R.Read.remaining c.args.reader.now) (λ input there.
-    between_lines Read input c.args.service.now (record { service = c.loop-turn.service; notes = c.loop-turn.notes }) c.loop-turn.number (lines_left (g.R.Read.remaining c.loop-turn.reader)) (g.W.Write.contents c.args.writer.now) (g.W.Write.contents c.loop-turn.writer) (c.loop-turn.invariant input there))
+    between_lines Read input c.args.service.now (record { service = c.loop-turn.service; notes = c.loop-turn.notes }) c.loop-turn.number (lines_left (g.R.Read.remaining c.loop-turn.reader)) (g.W.Write.contents c.args.writer.now) (g.W.Write.contents c.loop-turn.writer) read_is_not_write (c.loop-turn.invariant input there))
 
 pub returns-clause-err : goal.returns-clause-err
 returns-clause-err g c =
     if_known (g.R.Read.remaining c.args.reader.now) (λ input there.
-    between_lines Read input c.args.service.now (record { service = c.loop-turn.service; notes = c.loop-turn.notes }) c.loop-turn.number (lines_left (g.R.Read.remaining c.loop-turn.reader)) (g.W.Write.contents c.args.writer.now) (g.W.Write.contents c.loop-turn.writer) (c.loop-turn.invariant input there))
+    between_lines Read input c.args.service.now (record { service = c.loop-turn.service; notes = c.loop-turn.notes }) c.loop-turn.number (lines_left (g.R.Read.remaining c.loop-turn.reader)) (g.W.Write.contents c.args.writer.now) (g.W.Write.contents c.loop-turn.writer) read_is_not_write (c.loop-turn.invariant input there))
 
 pub returns-in-Err-clause-err : goal.returns-in-Err-clause-err
 returns-in-Err-clause-err g c =
