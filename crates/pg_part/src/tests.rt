@@ -1,4 +1,5 @@
-ghost use Rattle.std.specs.Prelude.{◌≡◌, true};
+ghost use Rattle.std.specs.Prelude.{◌≡◌, ◌≤◌, length, true, IfSome};
+ghost use Rattle.std.specs.Option.{option_copied};
 ghost use Rattle.pg_global.specs.Master.{has_places};
 
 use crate::{Part, Partitioner};
@@ -30,24 +31,34 @@ fn graph_of(alloc: Global, vertices: &[(u64, i64)], edges: &[(u64, u64)]) -> Res
     Ok(graph)
 }
 
-// Each part one superstep further. What it sends is put into the logs.
+// What is visible where nothing but the number of edges is.
+fn showing(alloc: Global, total_edges: u64) -> Visible
+    ensures { length result.values ≡ 0 }
+{
+    Visible {
+        values: Sequence::new(alloc),
+        halt: false,
+        total_vertices: 0,
+        total_edges,
+    }
+}
+
+// Each part one superstep further, beside an old run if there is one. What it sends is put into the logs.
 fn further<P: Computation, C: MessageCombiner<P::Message>>(
     alloc: Global,
     parts: Vec<Part<P::Value, P::Message>>,
     logs: &mut Logs<P::Message>,
     total_edges: u64,
+    old_logs: Option<&Logs<P::Message>>,
+    old_visible: Option<&Visible>,
     program: &P,
     combiner: &C,
     meter: &mut Meter,
 ) -> Result<Vec<Part<P::Value, P::Message>>, Fail>
-    requires { has_places (P.program program.now).declared 0 ≡ true }
+    requires declared { has_places (P.program program.now).declared 0 ≡ true }
+    requires few { IfSome (option_copied old_visible) (λ v. length v.values ≤ 16) }
 {
-    let visible = Visible {
-        values: Sequence::new(alloc),
-        halt: false,
-        total_vertices: 0,
-        total_edges,
-    };
+    let visible = showing(alloc, total_edges);
     let mut all = Vec::new(alloc);
     for part in parts {
         let (partition, place) = (part.partition(), part.place());
@@ -55,7 +66,16 @@ fn further<P: Computation, C: MessageCombiner<P::Message>>(
             return Err(Fail::from("a run without an end"));
         }
         let (part, sent) = part
-            .step(alloc, logs, &visible, None, None, program, combiner, meter)
+            .step(
+                alloc,
+                logs,
+                &visible,
+                old_logs,
+                old_visible,
+                program,
+                combiner,
+                meter,
+            )
             .ok()
             .ok_or("a step was lost")?;
         let mut to = 0u32;
@@ -68,8 +88,132 @@ fn further<P: Computation, C: MessageCombiner<P::Message>>(
     Ok(all)
 }
 
-// The values of the ids up to nine after as many supersteps as there are totals of edges, on so many partitions, and
-// how many executions there were.
+// A run that was made on parts, with the number of edges in each superstep.
+#[derive(Drop)]
+struct Made<V: Plain, M: Plain> {
+    parts: Vec<Part<V, M>>,
+    logs: Logs<M>,
+    totals: Vec<u64>,
+    meter: Meter,
+}
+
+// A run from scratch of as many supersteps as there are totals of edges, on so many partitions.
+fn cold_run<P: Computation, C: MessageCombiner<P::Message>>(
+    alloc: Global,
+    graph: &Graph,
+    partitioner: Partitioner,
+    missing: Missing,
+    totals: &[u64],
+    program: &P,
+    combiner: &C,
+) -> Result<Made<P::Value, P::Message>, Fail>
+    requires { has_places (P.program program.now).declared 0 ≡ true }
+{
+    let mut parts = Vec::new(alloc);
+    for partition in 0..partitioner.partitions() {
+        let rows = partitioner.rows(graph, PartitionId::new(partition));
+        parts.push(Part::begin(alloc, rows, missing, program)?)?;
+    }
+    let mut logs = Logs::new(alloc);
+    let mut meter = Meter::new();
+    let mut all = Vec::new(alloc);
+    for total in totals {
+        parts = further(
+            alloc, parts, &mut logs, *total, None, None, program, combiner, &mut meter,
+        )?;
+        all.push(*total)?;
+    }
+    Ok(Made {
+        parts,
+        logs,
+        totals: all,
+        meter,
+    })
+}
+
+// The same beside an old run, with the ids that were touched since.
+fn warm_run<P: Computation, C: MessageCombiner<P::Message>>(
+    alloc: Global,
+    graph: &Graph,
+    partitioner: Partitioner,
+    missing: Missing,
+    old: &Made<P::Value, P::Message>,
+    touched: &[VertexId],
+    totals: &[u64],
+    program: &P,
+    combiner: &C,
+) -> Result<Made<P::Value, P::Message>, Fail>
+    requires { has_places (P.program program.now).declared 0 ≡ true }
+{
+    let mut parts = Vec::new(alloc);
+    for part in &old.parts {
+        let rows = partitioner.rows(graph, part.partition());
+        let kept = part.trace().share(alloc)?;
+        parts.push(Part::begin_beside(alloc, rows, missing, kept, touched, program)?)?;
+    }
+    let mut logs = Logs::new(alloc);
+    let mut meter = Meter::new();
+    let mut all = Vec::new(alloc);
+    for total in totals {
+        let place = all.len();
+        parts = match old.totals.get(place) {
+            Some(old_total) => {
+                let seen = showing(alloc, *old_total);
+                further(
+                    alloc,
+                    parts,
+                    &mut logs,
+                    *total,
+                    Some(&old.logs),
+                    Some(&seen),
+                    program,
+                    combiner,
+                    &mut meter,
+                )?
+            }
+            None => further(
+                alloc, parts, &mut logs, *total, None, None, program, combiner, &mut meter,
+            )?,
+        };
+        all.push(*total)?;
+    }
+    Ok(Made {
+        parts,
+        logs,
+        totals: all,
+        meter,
+    })
+}
+
+// The values of the ids up to nine as a run ends, and how many executions there were.
+fn told<V: Plain, M: Plain>(
+    alloc: Global,
+    partitioner: Partitioner,
+    made: &Made<V, M>,
+) -> Result<String, Fail> {
+    let mut supersteps = 0u32;
+    for _ in &made.totals {
+        supersteps = supersteps.saturating_add(1);
+    }
+    let mut text = String::new(alloc);
+    for number in 1..10 {
+        let vertex = id(number)?;
+        let part = made
+            .parts
+            .get(partitioner.partition(vertex).number() as usize)
+            .ok_or("a partition is missing")?;
+        if let Some(state) = part.trace().state_at(vertex, Superstep::new(supersteps)) {
+            write!(text, "{number}=")?;
+            state.value().show(&mut text)?;
+            text.push_str(" ")?;
+        }
+    }
+    let calls = made.meter.count();
+    write!(text, "calls {calls}")?;
+    Ok(text)
+}
+
+// The values of a run from scratch, and how many executions there were.
 fn run_parts<P: Computation, C: MessageCombiner<P::Message>>(
     alloc: Global,
     graph: &Graph,
@@ -82,41 +226,59 @@ fn run_parts<P: Computation, C: MessageCombiner<P::Message>>(
     requires { has_places (P.program program.now).declared 0 ≡ true }
 {
     let partitioner = Partitioner::new(partitions).ok_or("no such number of partitions")?;
-    let mut parts = Vec::new(alloc);
-    for partition in 0..partitions {
-        let rows = partitioner.rows(graph, PartitionId::new(partition));
-        parts.push(Part::begin(alloc, rows, missing, program)?)?;
+    let made = cold_run(
+        alloc,
+        graph,
+        partitioner,
+        missing,
+        totals,
+        program,
+        combiner,
+    )?;
+    told(alloc, partitioner, &made)
+}
+
+// The values of a run on another graph beside the one on this graph, and how many executions it had.
+fn run_again<P: Computation, C: MessageCombiner<P::Message>>(
+    alloc: Global,
+    before: &Graph,
+    after: &Graph,
+    touched: &[u64],
+    partitions: u32,
+    missing: Missing,
+    old_totals: &[u64],
+    totals: &[u64],
+    program: &P,
+    combiner: &C,
+) -> Result<String, Fail>
+    requires { has_places (P.program program.now).declared 0 ≡ true }
+{
+    let partitioner = Partitioner::new(partitions).ok_or("no such number of partitions")?;
+    let old = cold_run(
+        alloc,
+        before,
+        partitioner,
+        missing,
+        old_totals,
+        program,
+        combiner,
+    )?;
+    let mut ids = Vec::new(alloc);
+    for number in touched {
+        ids.push(id(*number)?)?;
     }
-    let mut logs = Logs::new(alloc);
-    let mut meter = Meter::new();
-    let mut supersteps = 0u32;
-    for total_edges in totals {
-        parts = further(
-            alloc,
-            parts,
-            &mut logs,
-            *total_edges,
-            program,
-            combiner,
-            &mut meter,
-        )?;
-        supersteps = supersteps.saturating_add(1);
-    }
-    let mut text = String::new(alloc);
-    for number in 1..10 {
-        let vertex = id(number)?;
-        let part = parts
-            .get(partitioner.partition(vertex).number() as usize)
-            .ok_or("a partition is missing")?;
-        if let Some(state) = part.trace().state_at(vertex, Superstep::new(supersteps)) {
-            write!(text, "{number}=")?;
-            state.value().show(&mut text)?;
-            text.push_str(" ")?;
-        }
-    }
-    let calls = meter.count();
-    write!(text, "calls {calls}")?;
-    Ok(text)
+    let made = warm_run(
+        alloc,
+        after,
+        partitioner,
+        missing,
+        &old,
+        ids.as_slice(),
+        totals,
+        program,
+        combiner,
+    )?;
+    told(alloc, partitioner, &made)
 }
 
 static SIZES: [u32; 5] = [1, 2, 3, 5, 64];
@@ -215,5 +377,209 @@ fn there_are_one_to_64_partitions(rt: HostRuntime) -> Result<(), Fail> {
     let partitioner = Partitioner::new(64).ok_or("no 64 partitions")?;
     assert_eq!(rt; partitioner.partitions(), 64);
     assert_eq!(rt; partitioner.partition(id(130)?).number(), 2);
+    Ok(())
+}
+
+// Tally's vertices read an input and the messages to them: 3 has (4 [10 20 40 50]) first, and 1 has (1 [30]).
+#[test]
+fn only_what_reads_something_else_is_executed_again(rt: HostRuntime) -> Result<(), Fail> {
+    let alloc = rt.alloc();
+    let edges = [(5, 3), (4, 3), (3, 1), (2, 3), (1, 3)];
+    let vertices = [(1, 10), (2, 20), (3, 30), (4, 40), (5, 50)];
+    let before = graph_of(alloc, &vertices, &edges)?;
+    let changed = graph_of(
+        alloc,
+        &[(1, 10), (2, 21), (3, 30), (4, 40), (5, 50)],
+        &edges,
+    )?;
+    let fewer = graph_of(
+        alloc,
+        &[(1, 10), (2, 20), (3, 30), (5, 50)],
+        &[(5, 3), (3, 1), (2, 3), (1, 3)],
+    )?;
+    for partitions in SIZES {
+        let tally = &AnyCombiner::NoCombiner;
+        // Nothing is touched, or what is touched is as it was.
+        for touched in [&[][..], &[2, 3][..]] {
+            let same = run_again(
+                alloc,
+                &before,
+                &before,
+                touched,
+                partitions,
+                Missing::Drop,
+                &[5, 5],
+                &[5, 5],
+                &Tally,
+                tally,
+            )?;
+            assert_eq!(rt;
+                same.as_str(),
+                "1=(1 [30]) 2=(20 []) 3=(4 [10 20 40 50]) 4=(40 []) 5=(50 []) calls 0"
+            );
+        }
+        // 2 sends something else, and 3 receives it.
+        let one = run_again(
+            alloc,
+            &before,
+            &changed,
+            &[2],
+            partitions,
+            Missing::Drop,
+            &[5, 5],
+            &[5, 5],
+            &Tally,
+            tally,
+        )?;
+        assert_eq!(rt;
+            one.as_str(),
+            "1=(1 [30]) 2=(21 []) 3=(4 [10 21 40 50]) 4=(40 []) 5=(50 []) calls 2"
+        );
+        // 4 is gone, and so is its message.
+        let gone = run_again(
+            alloc,
+            &before,
+            &fewer,
+            &[4],
+            partitions,
+            Missing::Drop,
+            &[5, 5],
+            &[5, 5],
+            &Tally,
+            tally,
+        )?;
+        assert_eq!(rt;
+            gone.as_str(),
+            "1=(1 [30]) 2=(20 []) 3=(3 [10 20 50]) 5=(50 []) calls 1"
+        );
+        // It comes back.
+        let back = run_again(
+            alloc,
+            &fewer,
+            &before,
+            &[4],
+            partitions,
+            Missing::Drop,
+            &[5, 5],
+            &[5, 5],
+            &Tally,
+            tally,
+        )?;
+        assert_eq!(rt;
+            back.as_str(),
+            "1=(1 [30]) 2=(20 []) 3=(4 [10 20 40 50]) 4=(40 []) 5=(50 []) calls 2"
+        );
+    }
+    Ok(())
+}
+
+// 10 and 20 come to 30, as 15 and 15 do: what is compared is what the messages come to.
+#[test]
+fn inboxes_are_compared_as_they_are_combined(rt: HostRuntime) -> Result<(), Fail> {
+    let alloc = rt.alloc();
+    let edges = [(1, 3), (2, 3)];
+    let before = graph_of(alloc, &[(1, 10), (2, 20), (3, 0)], &edges)?;
+    let after = graph_of(alloc, &[(1, 15), (2, 15), (3, 0)], &edges)?;
+    for partitions in SIZES {
+        let combined = run_again(
+            alloc,
+            &before,
+            &after,
+            &[1, 2],
+            partitions,
+            Missing::Drop,
+            &[2, 2],
+            &[2, 2],
+            &Tally,
+            &AnyCombiner::Sum,
+        )?;
+        assert_eq!(rt; combined.as_str(), "1=(15 []) 2=(15 []) 3=(1 [30]) calls 2");
+        let apart = run_again(
+            alloc,
+            &before,
+            &after,
+            &[1, 2],
+            partitions,
+            Missing::Drop,
+            &[2, 2],
+            &[2, 2],
+            &Tally,
+            &AnyCombiner::NoCombiner,
+        )?;
+        assert_eq!(rt; apart.as_str(), "1=(15 []) 2=(15 []) 3=(2 [15 15]) calls 3");
+    }
+    Ok(())
+}
+
+// A vertex that messages made is there no more where none comes, and has a row where one is added.
+#[test]
+fn vertices_that_messages_made_come_and_go(rt: HostRuntime) -> Result<(), Fail> {
+    let alloc = rt.alloc();
+    let before = graph_of(alloc, &[(1, 10), (2, 20)], &[(1, 9), (2, 9)])?;
+    let without = graph_of(alloc, &[(1, 10), (2, 20)], &[])?;
+    for partitions in SIZES {
+        let gone = run_again(
+            alloc,
+            &before,
+            &without,
+            &[1, 2],
+            partitions,
+            Missing::Create,
+            &[2, 2],
+            &[0, 0],
+            &Tally,
+            &AnyCombiner::NoCombiner,
+        )?;
+        assert_eq!(rt; gone.as_str(), "1=(10 []) 2=(20 []) calls 2");
+        let made = run_again(
+            alloc,
+            &without,
+            &before,
+            &[1, 2],
+            partitions,
+            Missing::Create,
+            &[0],
+            &[2, 2],
+            &Tally,
+            &AnyCombiner::NoCombiner,
+        )?;
+        assert_eq!(rt; made.as_str(), "1=(10 []) 2=(20 []) 9=(2 [10 20]) calls 3");
+    }
+    Ok(())
+}
+
+// Shed reads the number of edges: where that is another, all that are active are executed.
+#[test]
+fn what_a_program_reads_of_the_whole_counts(rt: HostRuntime) -> Result<(), Fail> {
+    let alloc = rt.alloc();
+    let before = graph_of(alloc, &[(1, 0), (2, 0), (3, 0)], &[(1, 2), (1, 3), (2, 3)])?;
+    for partitions in SIZES {
+        let same = run_again(
+            alloc,
+            &before,
+            &before,
+            &[],
+            partitions,
+            Missing::Drop,
+            &[3, 1],
+            &[3, 1],
+            &Shed,
+            &AnyCombiner::NoCombiner,
+        )?;
+        assert_eq!(rt; same.as_str(), "1=1 2=1 3=1 calls 0");
+        let other = run_again(
+            alloc,
+            &before,
+            &before,
+            &[],
+            partitions,
+            Missing::Drop,
+            &[3, 2],
+            &[3, 1],
+            &Shed,
+            &AnyCombiner::NoCombiner,
+        )?;
+        assert_eq!(rt; other.as_str(), "1=1 2=1 3=1 calls 3");
+    }
     Ok(())
 }
