@@ -43,21 +43,29 @@ fn showing(alloc: Global, total_edges: u64) -> Visible
     }
 }
 
-// Each part one superstep further, beside an old run if there is one. What it sends is put into the logs.
+// This, or nothing.
+fn lent_if<X>(there: bool, value: &X) -> Option<&X>
+    ensures { IfSome (option_copied result) (λ x. x ≡ value.now) }
+{
+    if there { Some(value) } else { None }
+}
+
+// Each part one superstep further, beside an old run where that has the superstep, with as many edges as are told. What
+// it sends is put into the logs.
 fn further<P: Computation, C: MessageCombiner<P::Message>>(
     alloc: Global,
     parts: Vec<Part<P::Value, P::Message>>,
     logs: &mut Logs<P::Message>,
     total_edges: u64,
-    old_logs: Option<&Logs<P::Message>>,
-    old_visible: Option<&Visible>,
+    old_logs: &Logs<P::Message>,
+    old_edges: Option<u64>,
     program: &P,
     combiner: &C,
     meter: &mut Meter,
 ) -> Result<Vec<Part<P::Value, P::Message>>, Fail>
-    requires declared { has_places (P.program program.now).declared 0 ≡ true }
-    requires few { IfSome (option_copied old_visible) (λ v. length v.values ≤ 16) }
+    requires { has_places (P.program program.now).declared 0 ≡ true }
 {
+    let seen = showing(alloc, old_edges.unwrap_or(0));
     let visible = showing(alloc, total_edges);
     let mut all = Vec::new(alloc);
     for part in parts {
@@ -70,8 +78,8 @@ fn further<P: Computation, C: MessageCombiner<P::Message>>(
                 alloc,
                 logs,
                 &visible,
-                old_logs,
-                old_visible,
+                lent_if(old_edges.is_some(), old_logs),
+                lent_if(old_edges.is_some(), &seen),
                 program,
                 combiner,
                 meter,
@@ -117,9 +125,10 @@ fn cold_run<P: Computation, C: MessageCombiner<P::Message>>(
     let mut logs = Logs::new(alloc);
     let mut meter = Meter::new();
     let mut all = Vec::new(alloc);
+    let none = Logs::new(alloc);
     for total in totals {
         parts = further(
-            alloc, parts, &mut logs, *total, None, None, program, combiner, &mut meter,
+            alloc, parts, &mut logs, *total, &none, None, program, combiner, &mut meter,
         )?;
         all.push(*total)?;
     }
@@ -155,26 +164,10 @@ fn warm_run<P: Computation, C: MessageCombiner<P::Message>>(
     let mut meter = Meter::new();
     let mut all = Vec::new(alloc);
     for total in totals {
-        let place = all.len();
-        parts = match old.totals.get(place) {
-            Some(old_total) => {
-                let seen = showing(alloc, *old_total);
-                further(
-                    alloc,
-                    parts,
-                    &mut logs,
-                    *total,
-                    Some(&old.logs),
-                    Some(&seen),
-                    program,
-                    combiner,
-                    &mut meter,
-                )?
-            }
-            None => further(
-                alloc, parts, &mut logs, *total, None, None, program, combiner, &mut meter,
-            )?,
-        };
+        let old_edges = old.totals.get(all.len()).copied();
+        parts = further(
+            alloc, parts, &mut logs, *total, &old.logs, old_edges, program, combiner, &mut meter,
+        )?;
         all.push(*total)?;
     }
     Ok(Made {

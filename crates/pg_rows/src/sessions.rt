@@ -151,9 +151,29 @@ fn vertex_removed(rt: HostRuntime) {
 fn created_then_added(rt: HostRuntime) {
     let session = Session {
         words: &["pregeld", "--program", "sssp", "--missing", "create"],
-        input: b"import list 2\n1 2 5\n2 3\nunvertex 2\ncommit\nrefresh\ndump\ninput 2 4\ncommit\nvertex 2\ncommit\nrefresh\n",
+        input: b"import list 2\n1 2 5\n2 3\nunvertex 2\ncommit\nrefresh\ndump\nreport\ninput 2 4\ncommit\nvertex 2\ncommit\nrefresh\n",
         status: 0,
-        output: "edition 1\nedition 2\nrefreshed edition 2 supersteps 2 ending finished calls 3 losses 0\nvalue 1 0\nvalue 2 5\nvalue 3 9223372036854775807\nend 3\nrefused 3 position 1\nedition 3\nrefreshed edition 3 supersteps 2 ending finished calls 4 losses 0\n",
+        output: "edition 1\nedition 2\nrefreshed edition 2 supersteps 2 ending finished calls 3 losses 0\nvalue 1 0\nvalue 2 5\nvalue 3 9223372036854775807\nend 3\n{\"calls\":3,\"dropped\":0,\"edition\":2,\"ending\":\"finished\",\"losses\":0,\"sent\":1,\"supersteps\":2}\nrefused 3 position 1\nedition 3\nrefreshed edition 3 supersteps 2 ending finished calls 4 losses 0\n",
+        errors: "",
+    };
+    answers(&rt, rt.alloc(), &session);
+}
+
+#[test]
+fn ranks_created(rt: HostRuntime) {
+    let session = Session {
+        words: &[
+            "pregeld",
+            "--program",
+            "pagerank",
+            "--rounds",
+            "2",
+            "--missing",
+            "create",
+        ],
+        input: b"vertex 1\nedge 1 2\ncommit\nrefresh\ndump\nreport\n",
+        status: 0,
+        output: "edition 1\nrefreshed edition 1 supersteps 3 ending finished calls 5 losses 0\nvalue 1 75000000000\nvalue 2 202500000000\nend 2\n{\"calls\":5,\"dropped\":0,\"edition\":1,\"ending\":\"finished\",\"losses\":0,\"sent\":2,\"supersteps\":3}\n",
         errors: "",
     };
     answers(&rt, rt.alloc(), &session);
