@@ -373,206 +373,211 @@ fn there_are_one_to_64_partitions(rt: HostRuntime) -> Result<(), Fail> {
     Ok(())
 }
 
-// Tally's vertices read an input and the messages to them: 3 has (4 [10 20 40 50]) first, and 1 has (1 [30]).
-#[test]
-fn only_what_reads_something_else_is_executed_again(rt: HostRuntime) -> Result<(), Fail> {
-    let alloc = rt.alloc();
-    let edges = [(5, 3), (4, 3), (3, 1), (2, 3), (1, 3)];
-    let vertices = [(1, 10), (2, 20), (3, 30), (4, 40), (5, 50)];
-    let before = graph_of(alloc, &vertices, &edges)?;
-    let changed = graph_of(
+// What a run on another graph comes to beside the one on this graph, on however many partitions.
+fn comes_to<P: Computation, C: MessageCombiner<P::Message>>(
+    rt: &impl Abort,
+    alloc: Global,
+    graphs: (&Graph, &Graph),
+    touched: &[u64],
+    missing: Missing,
+    totals: (&[u64], &[u64]),
+    program: &P,
+    combiner: &C,
+    wanted: &str,
+) -> Result<(), Fail>
+    requires { has_places (P.program program.now).declared 0 ≡ true }
+{
+    for partitions in SIZES {
+        let text = run_again(
+            alloc, graphs.0, graphs.1, touched, partitions, missing, totals.0, totals.1, program,
+            combiner,
+        )?;
+        assert_eq!(rt; text.as_str(), wanted);
+    }
+    Ok(())
+}
+
+static EDGES: [(u64, u64); 5] = [(5, 3), (4, 3), (3, 1), (2, 3), (1, 3)];
+
+// Five vertices whose inputs are ten times their ids, but for this one of the second.
+fn five(alloc: Global, second: i64) -> Result<Graph, Fail> {
+    graph_of(
         alloc,
-        &[(1, 10), (2, 21), (3, 30), (4, 40), (5, 50)],
-        &edges,
-    )?;
-    let fewer = graph_of(
+        &[(1, 10), (2, second), (3, 30), (4, 40), (5, 50)],
+        &EDGES,
+    )
+}
+
+#[test]
+fn what_is_as_it_was_is_not_executed_again(rt: HostRuntime) -> Result<(), Fail> {
+    let alloc = rt.alloc();
+    let graph = five(alloc, 20)?;
+    comes_to(
+        &rt,
+        alloc,
+        (&graph, &graph),
+        &[2, 3],
+        Missing::Drop,
+        (&[5, 5], &[5, 5]),
+        &Tally,
+        &AnyCombiner::NoCombiner,
+        "1=(1 [30]) 2=(20 []) 3=(4 [10 20 40 50]) 4=(40 []) 5=(50 []) calls 0",
+    )
+}
+
+// 2 sends something else, and 3 receives it.
+#[test]
+fn what_reads_something_else_is_executed_again(rt: HostRuntime) -> Result<(), Fail> {
+    let alloc = rt.alloc();
+    let before = five(alloc, 20)?;
+    let after = five(alloc, 21)?;
+    comes_to(
+        &rt,
+        alloc,
+        (&before, &after),
+        &[2],
+        Missing::Drop,
+        (&[5, 5], &[5, 5]),
+        &Tally,
+        &AnyCombiner::NoCombiner,
+        "1=(1 [30]) 2=(21 []) 3=(4 [10 21 40 50]) 4=(40 []) 5=(50 []) calls 2",
+    )
+}
+
+// Without 4 there is no message of it.
+fn without_the_fourth(alloc: Global) -> Result<Graph, Fail> {
+    graph_of(
         alloc,
         &[(1, 10), (2, 20), (3, 30), (5, 50)],
         &[(5, 3), (3, 1), (2, 3), (1, 3)],
-    )?;
-    for partitions in SIZES {
-        let tally = &AnyCombiner::NoCombiner;
-        // Nothing is touched, or what is touched is as it was.
-        for touched in [&[][..], &[2, 3][..]] {
-            let same = run_again(
-                alloc,
-                &before,
-                &before,
-                touched,
-                partitions,
-                Missing::Drop,
-                &[5, 5],
-                &[5, 5],
-                &Tally,
-                tally,
-            )?;
-            assert_eq!(rt;
-                same.as_str(),
-                "1=(1 [30]) 2=(20 []) 3=(4 [10 20 40 50]) 4=(40 []) 5=(50 []) calls 0"
-            );
-        }
-        // 2 sends something else, and 3 receives it.
-        let one = run_again(
-            alloc,
-            &before,
-            &changed,
-            &[2],
-            partitions,
-            Missing::Drop,
-            &[5, 5],
-            &[5, 5],
-            &Tally,
-            tally,
-        )?;
-        assert_eq!(rt;
-            one.as_str(),
-            "1=(1 [30]) 2=(21 []) 3=(4 [10 21 40 50]) 4=(40 []) 5=(50 []) calls 2"
-        );
-        // 4 is gone, and so is its message.
-        let gone = run_again(
-            alloc,
-            &before,
-            &fewer,
-            &[4],
-            partitions,
-            Missing::Drop,
-            &[5, 5],
-            &[5, 5],
-            &Tally,
-            tally,
-        )?;
-        assert_eq!(rt;
-            gone.as_str(),
-            "1=(1 [30]) 2=(20 []) 3=(3 [10 20 50]) 5=(50 []) calls 1"
-        );
-        // It comes back.
-        let back = run_again(
-            alloc,
-            &fewer,
-            &before,
-            &[4],
-            partitions,
-            Missing::Drop,
-            &[5, 5],
-            &[5, 5],
-            &Tally,
-            tally,
-        )?;
-        assert_eq!(rt;
-            back.as_str(),
-            "1=(1 [30]) 2=(20 []) 3=(4 [10 20 40 50]) 4=(40 []) 5=(50 []) calls 2"
-        );
-    }
-    Ok(())
+    )
 }
 
-// 10 and 20 come to 30, as 15 and 15 do: what is compared is what the messages come to.
+#[test]
+fn a_removed_vertex_takes_its_messages_away(rt: HostRuntime) -> Result<(), Fail> {
+    let alloc = rt.alloc();
+    let before = five(alloc, 20)?;
+    let after = without_the_fourth(alloc)?;
+    comes_to(
+        &rt,
+        alloc,
+        (&before, &after),
+        &[4],
+        Missing::Drop,
+        (&[5, 4], &[4, 4]),
+        &Tally,
+        &AnyCombiner::NoCombiner,
+        "1=(1 [30]) 2=(20 []) 3=(3 [10 20 50]) 5=(50 []) calls 1",
+    )
+}
+
+#[test]
+fn an_added_vertex_brings_its_messages(rt: HostRuntime) -> Result<(), Fail> {
+    let alloc = rt.alloc();
+    let before = without_the_fourth(alloc)?;
+    let after = five(alloc, 20)?;
+    comes_to(
+        &rt,
+        alloc,
+        (&before, &after),
+        &[4],
+        Missing::Drop,
+        (&[4, 4], &[5, 5]),
+        &Tally,
+        &AnyCombiner::NoCombiner,
+        "1=(1 [30]) 2=(20 []) 3=(4 [10 20 40 50]) 4=(40 []) 5=(50 []) calls 2",
+    )
+}
+
+// 10 and 20 come to 30, as 15 and 15 do.
 #[test]
 fn inboxes_are_compared_as_they_are_combined(rt: HostRuntime) -> Result<(), Fail> {
     let alloc = rt.alloc();
-    let edges = [(1, 3), (2, 3)];
-    let before = graph_of(alloc, &[(1, 10), (2, 20), (3, 0)], &edges)?;
-    let after = graph_of(alloc, &[(1, 15), (2, 15), (3, 0)], &edges)?;
-    for partitions in SIZES {
-        let combined = run_again(
-            alloc,
-            &before,
-            &after,
-            &[1, 2],
-            partitions,
-            Missing::Drop,
-            &[2, 2],
-            &[2, 2],
-            &Tally,
-            &AnyCombiner::Sum,
-        )?;
-        assert_eq!(rt; combined.as_str(), "1=(15 []) 2=(15 []) 3=(1 [30]) calls 2");
-        let apart = run_again(
-            alloc,
-            &before,
-            &after,
-            &[1, 2],
-            partitions,
-            Missing::Drop,
-            &[2, 2],
-            &[2, 2],
-            &Tally,
-            &AnyCombiner::NoCombiner,
-        )?;
-        assert_eq!(rt; apart.as_str(), "1=(15 []) 2=(15 []) 3=(2 [15 15]) calls 3");
-    }
-    Ok(())
+    let before = graph_of(alloc, &[(1, 10), (2, 20), (3, 0)], &[(1, 3), (2, 3)])?;
+    let after = graph_of(alloc, &[(1, 15), (2, 15), (3, 0)], &[(1, 3), (2, 3)])?;
+    comes_to(
+        &rt,
+        alloc,
+        (&before, &after),
+        &[1, 2],
+        Missing::Drop,
+        (&[2, 2], &[2, 2]),
+        &Tally,
+        &AnyCombiner::Sum,
+        "1=(15 []) 2=(15 []) 3=(1 [30]) calls 2",
+    )
 }
 
-// A vertex that messages made is there no more where none comes, and has a row where one is added.
 #[test]
-fn vertices_that_messages_made_come_and_go(rt: HostRuntime) -> Result<(), Fail> {
+fn inboxes_are_compared_one_by_one(rt: HostRuntime) -> Result<(), Fail> {
+    let alloc = rt.alloc();
+    let before = graph_of(alloc, &[(1, 10), (2, 20), (3, 0)], &[(1, 3), (2, 3)])?;
+    let after = graph_of(alloc, &[(1, 15), (2, 15), (3, 0)], &[(1, 3), (2, 3)])?;
+    comes_to(
+        &rt,
+        alloc,
+        (&before, &after),
+        &[1, 2],
+        Missing::Drop,
+        (&[2, 2], &[2, 2]),
+        &Tally,
+        &AnyCombiner::NoCombiner,
+        "1=(15 []) 2=(15 []) 3=(2 [15 15]) calls 3",
+    )
+}
+
+// A vertex that messages made is there no more where none comes.
+#[test]
+fn a_made_vertex_goes_with_its_messages(rt: HostRuntime) -> Result<(), Fail> {
     let alloc = rt.alloc();
     let before = graph_of(alloc, &[(1, 10), (2, 20)], &[(1, 9), (2, 9)])?;
-    let without = graph_of(alloc, &[(1, 10), (2, 20)], &[])?;
-    for partitions in SIZES {
-        let gone = run_again(
-            alloc,
-            &before,
-            &without,
-            &[1, 2],
-            partitions,
-            Missing::Create,
-            &[2, 2],
-            &[0, 0],
-            &Tally,
-            &AnyCombiner::NoCombiner,
-        )?;
-        assert_eq!(rt; gone.as_str(), "1=(10 []) 2=(20 []) calls 2");
-        let made = run_again(
-            alloc,
-            &without,
-            &before,
-            &[1, 2],
-            partitions,
-            Missing::Create,
-            &[0],
-            &[2, 2],
-            &Tally,
-            &AnyCombiner::NoCombiner,
-        )?;
-        assert_eq!(rt; made.as_str(), "1=(10 []) 2=(20 []) 9=(2 [10 20]) calls 3");
-    }
-    Ok(())
+    let after = graph_of(alloc, &[(1, 10), (2, 20)], &[])?;
+    comes_to(
+        &rt,
+        alloc,
+        (&before, &after),
+        &[1, 2],
+        Missing::Create,
+        (&[2, 2], &[0, 0]),
+        &Tally,
+        &AnyCombiner::NoCombiner,
+        "1=(10 []) 2=(20 []) calls 2",
+    )
+}
+
+// The old run ended before messages came.
+#[test]
+fn a_run_goes_on_past_the_old_one(rt: HostRuntime) -> Result<(), Fail> {
+    let alloc = rt.alloc();
+    let before = graph_of(alloc, &[(1, 10), (2, 20)], &[])?;
+    let after = graph_of(alloc, &[(1, 10), (2, 20)], &[(1, 9), (2, 9)])?;
+    comes_to(
+        &rt,
+        alloc,
+        (&before, &after),
+        &[1, 2],
+        Missing::Create,
+        (&[0], &[2, 2]),
+        &Tally,
+        &AnyCombiner::NoCombiner,
+        "1=(10 []) 2=(20 []) 9=(2 [10 20]) calls 3",
+    )
 }
 
 // Shed reads the number of edges: where that is another, all that are active are executed.
 #[test]
 fn what_a_program_reads_of_the_whole_counts(rt: HostRuntime) -> Result<(), Fail> {
     let alloc = rt.alloc();
-    let before = graph_of(alloc, &[(1, 0), (2, 0), (3, 0)], &[(1, 2), (1, 3), (2, 3)])?;
-    for partitions in SIZES {
-        let same = run_again(
-            alloc,
-            &before,
-            &before,
-            &[],
-            partitions,
-            Missing::Drop,
-            &[3, 1],
-            &[3, 1],
-            &Shed,
-            &AnyCombiner::NoCombiner,
-        )?;
-        assert_eq!(rt; same.as_str(), "1=1 2=1 3=1 calls 0");
-        let other = run_again(
-            alloc,
-            &before,
-            &before,
-            &[],
-            partitions,
-            Missing::Drop,
-            &[3, 2],
-            &[3, 1],
-            &Shed,
-            &AnyCombiner::NoCombiner,
-        )?;
-        assert_eq!(rt; other.as_str(), "1=1 2=1 3=1 calls 3");
-    }
-    Ok(())
+    let graph = graph_of(alloc, &[(1, 0), (2, 0), (3, 0)], &[(1, 2), (1, 3), (2, 3)])?;
+    comes_to(
+        &rt,
+        alloc,
+        (&graph, &graph),
+        &[],
+        Missing::Drop,
+        (&[3, 2], &[3, 1]),
+        &Shed,
+        &AnyCombiner::NoCombiner,
+        "1=1 2=1 3=1 calls 3",
+    )
 }
