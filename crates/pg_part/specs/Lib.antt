@@ -5,4 +5,5 @@ pub mod Lent
 pub mod Lists
 pub mod Part
 pub mod Sending
+pub mod Starting
 pub mod Warm

@@ -1,8 +1,10 @@
 //! A partition as a run begins.
 ghost use Rattle.std.specs.Prelude.{◌≡◌, ◌++◌, ◌∷◌, [], map, IfOk, OnOk};
+ghost use Rattle.std.specs.Option.{option_copied, option_map};
 ghost use Rattle.pg_map.specs.Entries.{HasRisingIds};
 ghost use Rattle.pg_model.specs.ByIds.{state_first};
 ghost use Rattle.pg_part.specs.Candidates.{own};
+ghost use Rattle.pg_part.specs.Starting.{first_changes};
 
 use crate::Share;
 use pg_graph::{Graph, Memory, Row, VertexId};
@@ -50,4 +52,67 @@ fn add_state<P: Computation>(
         halted: false,
     })?;
     Ok(())
+}
+
+/// The states with which those of these vertices begin that belong to a partition, or none where the graph hasn't
+/// the vertex.
+pub(crate) fn first_changes<P: Computation>(
+    alloc: Global,
+    graph: &Graph,
+    share: &Share,
+    ids: &[VertexId],
+    program: &P,
+) -> Result<Vec<(VertexId, Option<VertexState<P::Value>>)>, Memory>
+    ensures changes { IfOk result (λ changes. changes.items
+        ≡ first_changes (P.program program.now) graph.now share.now.partitions share.now.partition ids.now) }
+    ensures rising { HasRisingIds graph.now }
+{
+    // Tells the prover that the ids of the graph rise.
+    graph.iter();
+    let mut changes = Vec::new(alloc);
+    for id in ids {
+        add_change(alloc, &mut changes, graph, share, *id, program)?;
+    }
+    Ok(changes)
+}
+
+/// Adds the state with which a vertex begins, or that it has none, if it belongs to the partition.
+fn add_change<P: Computation>(
+    alloc: Global,
+    changes: &mut Vec<(VertexId, Option<VertexState<P::Value>>)>,
+    graph: &Graph,
+    share: &Share,
+    id: VertexId,
+    program: &P,
+) -> Result<(), Memory>
+    ensures { OnOk result (changes.new.items ≡ changes.old.items
+        ++ first_changes (P.program program.now) graph.now share.now.partitions share.now.partition (id ∷ [])) }
+{
+    if !share.has(id) {
+        return Ok(());
+    }
+    let state = first_state(alloc, graph.row(id), id, program)?;
+    changes.push((id, state))?;
+    Ok(())
+}
+
+/// The state with which a vertex begins that has this row, if it has one.
+fn first_state<P: Computation>(
+    alloc: Global,
+    row: Option<&Row>,
+    id: VertexId,
+    program: &P,
+) -> Result<Option<VertexState<P::Value>>, Memory>
+    ensures { IfOk result (λ state.
+        state ≡ option_map (state_first (P.program program.now) id) (option_copied row.entry)) }
+{
+    match row {
+        Some(row) => Ok(Some(VertexState {
+            id,
+            value: program.initial(alloc, id, row.input)?,
+            edges: row.edges.copy()?,
+            halted: false,
+        })),
+        None => Ok(None),
+    }
 }

@@ -69,7 +69,7 @@ fn add_awake<V: Plain, M: Plain>(
 }
 
 /// These ids by rising id, each once.
-fn rising(ids: Vec<VertexId>) -> Vec<VertexId>
+pub(crate) fn rising(ids: Vec<VertexId>) -> Vec<VertexId>
     ensures rise { IsStrictlySortedBy nat_cmp result.items }
     ensures same { (id : ℕ) → has_id result.items id ≡ has_id ids.items id }
 {

@@ -15,8 +15,9 @@ ghost use Rattle.pg_program.specs.Context.{ShowsDeclared};
 ghost use Rattle.pg_part.specs.Lists.{reaching};
 ghost use Rattle.pg_trace.specs.Trace.{with_replaced};
 
-use crate::begin::first_states;
+use crate::begin::{first_changes, first_states};
 use crate::candidates::{awake_ids, play_alone};
+use crate::changed::rising;
 use crate::execution::{Played, Stage};
 use crate::reading::bundles_before;
 use crate::sent::fresh_bundles;
@@ -132,7 +133,8 @@ impl<V: Plain, M: Plain> Part<V, M> {
     }
 
     /// A partition as a run begins beside an old one: with its trace of that, and with ids outside of which the
-    /// graph's rows are those of the old run's graph. Costs one walk over the graph's rows.
+    /// graph's rows are those of the old run's graph. Costs k look-ups for k such ids, a sort of them, a copy of the
+    /// chunks of the trace's first states that they lie in, and one count a superstep of the old run.
     pub fn begin_beside<P: Computation<Value = V, Message = M>>(
         alloc: Global,
         rows: Rows<'_>,
@@ -156,9 +158,9 @@ impl<V: Plain, M: Plain> Part<V, M> {
             partition,
             partitions,
         };
-        let states = first_states(alloc, graph, &share, program)?;
-        let trace = old.restarted(alloc, states)?;
-        let differing = copied(alloc, touched)?;
+        let differing = rising(copied(alloc, touched)?);
+        let changes = first_changes(alloc, graph, &share, differing.as_slice(), program)?;
+        let trace = old.restarted(alloc, changes)?;
         Ok(Part {
             partition,
             partitions,

@@ -1,13 +1,15 @@
 -- States found by their ids.
-use Rattle.std.proofs.Common.{◌≡◌, ℕ, ◌==◌, cond, List, [], ◌∷◌, map, Some, refl, sym, ap, ◌∙◌, subst, arith}
-use Rattle.std.specs.BTreeMap.{is_at}
+use Rattle.std.proofs.Common.{◌≡◌, ℕ, ◌==◌, Bool, true, false, cond, List, [], ◌∷◌, map, Option, None, Some, refl, sym, ap, ◌∙◌, subst, arith}
+use Rattle.std.specs.BTreeMap.{insert_entry, is_at}
 use Rattle.std.specs.List.Sorted.{IsStrictlySortedBy}
-use Rattle.std.specs.Map.{keys_of, values_of}
-use Rattle.std.specs.Ordering.{nat_cmp}
+use Rattle.std.specs.Map.{keys_of, remove_entry, values_of}
+use Rattle.std.specs.Ordering.{match_ordering, nat_cmp}
+use Rattle.std.specs.declared.cmp.Ordering.{Ordering}
+use Rattle.std.specs.declared.cmp.Ordering.TheVariants.{Equal, Greater, Less}
 use Rattle.std.proofs.lemmas.Bool.Decides.{nat_tests}
-use Rattle.pg_map.specs.Entries.{HasRisingIds, value_at}
+use Rattle.pg_map.specs.Entries.{HasRisingIds, value_at, with_changes}
 use Rattle.pg_model.specs.declared.configuration.VertexState.{VertexState}
-use Rattle.pg_trace.specs.Beginning.{AreById, by_id}
+use Rattle.pg_trace.specs.Beginning.{AreById, ChangesById, by_id}
 use Rattle.pg_trace.specs.Trace.{StatesRise, state_of}
 
 same_test : (a b : ℕ) → (b == a) ≡ is_at (nat_cmp a) b
@@ -39,3 +41,33 @@ module _ {V : Type 0} where
   pub ids-values : (entries : List (ℕ × VertexState V)) → AreById entries → map (λ x. x.id) (values_of entries) ≡ keys_of entries
   ids-values [] are = refl
   ids-values (e ∷ entries) are = ap (λ k. k ∷ map (λ x. x.id) (values_of entries)) are.0 ∙ ap (λ l. e.0 ∷ l) (ids-values entries are.1)
+
+  pub by_id-values : (entries : List (ℕ × VertexState V)) → AreById entries → by_id (values_of entries) ≡ entries
+  by_id-values [] are = refl
+  by_id-values (e ∷ entries) are = λ i. (are.0 i, e.1) ∷ by_id-values entries are.1 i
+
+  -- ---- changed
+
+  are-insert : (id : ℕ) (x : VertexState V) → x.id ≡ id → (entries : List (ℕ × VertexState V)) → AreById entries → AreById (insert_entry nat_cmp entries id x)
+  are-insert id x same [] are = (same, tt)
+  are-insert id x same (e ∷ entries) are = by (nat_cmp id e.0) refl (are-insert id x same entries are.1)
+    where
+      by : (o : Ordering) → nat_cmp id e.0 ≡ o → AreById (insert_entry nat_cmp entries id x)
+          → AreById (match_ordering o ((id, x) ∷ e ∷ entries) ((e.0, x) ∷ entries) (e ∷ insert_entry nat_cmp entries id x))
+      by Less h later = (same, are)
+      by Equal h later = (same ∙ (let equal : id ≡ e.0 = grind (arith, nat_tests) in equal), are.1)
+      by Greater h later = (are.0, later)
+
+  are-remove : (id : ℕ) (entries : List (ℕ × VertexState V)) → AreById entries → AreById (remove_entry (is_at (nat_cmp id)) entries)
+  are-remove id [] are = tt
+  are-remove id (e ∷ entries) are = by (is_at (nat_cmp id) e.0) (are-remove id entries are.1)
+    where
+      by : (b : Bool) → AreById (remove_entry (is_at (nat_cmp id)) entries) → AreById (cond b entries (e ∷ remove_entry (is_at (nat_cmp id)) entries))
+      by true later = are.1
+      by false later = (are.0, later)
+
+  pub are-changes : (changes : List (ℕ × Option (VertexState V))) (entries : List (ℕ × VertexState V)) → ChangesById changes → AreById entries
+      → AreById (with_changes changes entries)
+  are-changes [] entries by are = are
+  are-changes ((id, None) ∷ changes) entries by are = are-changes changes (remove_entry (is_at (nat_cmp id)) entries) by.1 (are-remove id entries are)
+  are-changes ((id, Some x) ∷ changes) entries by are = are-changes changes (insert_entry nat_cmp entries id x) by.1 (are-insert id x by.0 entries are)

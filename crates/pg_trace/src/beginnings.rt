@@ -2,8 +2,8 @@
 ghost use Rattle.std.specs.Prelude.{◌≡◌, [], map, IfOk};
 ghost use Rattle.std.specs.Map.{keys_of};
 ghost use Rattle.std.specs.Option.{option_copied};
-ghost use Rattle.pg_map.specs.Entries.{HasRisingIds};
-ghost use Rattle.pg_trace.specs.Beginning.{by_id};
+ghost use Rattle.pg_map.specs.Entries.{ChangesRise, HasRisingIds};
+ghost use Rattle.pg_trace.specs.Beginning.{ChangesById, by_id, with_first};
 ghost use Rattle.pg_trace.specs.Trace.{StatesRise, state_of};
 
 use pg_graph::{Memory, VertexId};
@@ -104,6 +104,23 @@ impl<V: Drop> Beginnings<V> {
         }
     }
 
+    /// These states with others in place of some, by rising id, or none there. Copies the chunks with these ids, and
+    /// shares the others.
+    pub(crate) fn changed(
+        &self,
+        alloc: Global,
+        changes: Vec<(VertexId, Option<VertexState<V>>)>,
+    ) -> Result<Beginnings<V>, Memory>
+        requires rise { ChangesRise changes.items }
+        requires by_id { ChangesById changes.items }
+        ensures { IfOk result (λ beginnings. beginnings ≡ with_first changes.items self.now) }
+    {
+        let changes = each_begun(alloc, changes)?;
+        let mut states = self.states.share()?;
+        states.change(alloc, changes.as_slice())?;
+        Ok(Beginnings { states })
+    }
+
     /// The same states, in the same memory. Costs O(1).
     pub(crate) fn share(&self) -> Result<Beginnings<V>, Memory>
         ensures { IfOk result (λ beginnings. beginnings ≡ self.now) }
@@ -126,6 +143,33 @@ fn entries_of<V: Drop>(
         entries.push((state.id, Begun::of(alloc, state)?))?;
     }
     Ok(entries)
+}
+
+/// Keeps the states among these changes.
+fn each_begun<V: Drop>(
+    alloc: Global,
+    changes: Vec<(VertexId, Option<VertexState<V>>)>,
+) -> Result<Vec<(VertexId, Option<Begun<V>>)>, Memory>
+    ensures { IfOk result (λ begun. begun.items ≡ changes.items) }
+{
+    let mut all = Vec::with_capacity(alloc, changes.len())?;
+    for (id, change) in changes {
+        all.push((id, begun_if_any(alloc, change)?))?;
+    }
+    Ok(all)
+}
+
+/// Keeps a state, if there is one.
+fn begun_if_any<V: Drop>(
+    alloc: Global,
+    change: Option<VertexState<V>>,
+) -> Result<Option<Begun<V>>, Memory>
+    ensures { IfOk result (λ begun. begun ≡ change) }
+{
+    match change {
+        Some(state) => Ok(Some(Begun::of(alloc, state)?)),
+        None => Ok(None),
+    }
 }
 
 /// The ids of a map.

@@ -2,6 +2,7 @@
 ghost use Rattle.std.specs.Prelude.{◌≡◌, ℕ, [], length, map, take, slice_index_or, ◌<◌, IfOk, OnOk, OnErr};
 ghost use Rattle.std.specs.Option.{option_copied};
 ghost use Rattle.pg_map.specs.Entries.{ChangesRise, HasRisingIds, value_at};
+ghost use Rattle.pg_trace.specs.Beginning.{ChangesById, with_first};
 ghost use Rattle.pg_trace.specs.OfRun.{IsOfRun};
 ghost use Rattle.pg_trace.specs.Trace.{StatesRise, begun, lent, record_at, records_of, state_at, with_superstep, first_supersteps, last_record, with_replaced};
 
@@ -54,16 +55,19 @@ impl<V: Drop, M: Drop> Trace<V, M> {
         })
     }
 
-    /// A trace of the same records, from other states of the vertices, by rising id. Shares the records.
+    /// A trace of the same records, with other first states of these vertices, by rising id, or none. Copies the chunks
+    /// with these ids, and shares all else.
     pub fn restarted(
         &self,
         alloc: Global,
-        initial: Vec<VertexState<V>>,
+        changes: Vec<(VertexId, Option<VertexState<V>>)>,
     ) -> Result<Trace<V, M>, Memory>
-        requires { StatesRise initial.items }
-        ensures { IfOk result (λ trace. trace ≡ record self.now { initial = initial.items }) }
+        requires rise { ChangesRise changes.items }
+        requires by_id { ChangesById changes.items }
+        ensures { IfOk result (λ trace.
+            trace ≡ record self.now { initial = with_first changes.items self.now.initial }) }
     {
-        let initial = Beginnings::of(alloc, initial)?;
+        let initial = self.initial.changed(alloc, changes)?;
         let shared = self.share(alloc)?;
         let Trace {
             initial: _,

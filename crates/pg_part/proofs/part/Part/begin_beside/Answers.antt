@@ -1,19 +1,31 @@
 use Rattle.std.proofs.Common.{Some, ap, sym, ◌∙◌, subst, refl}
+use Rattle.pg_map.specs.Entries.{ChangesRise}
+use Rattle.pg_model.specs.Superstep.{has_id}
 use Rattle.pg_part.specs.Part.{AreTouched, Holding, Holds, IsWhole}
-use Rattle.pg_part.proofs.Beginning.{holds_beside, states_rise}
-use Rattle.pg_trace.specs.Trace.{StatesRise}
+use Rattle.pg_part.specs.Starting.{first_changes}
+use Rattle.pg_part.proofs.Beginning.{changes_by_id, changes_rise, holds_beside}
+use Rattle.pg_trace.specs.Beginning.{ChangesById, with_first}
 use Rattle.pg_part.proofs.part.Part.begin_beside.Goals as goal
 
-pub restarted-requires : goal.restarted-requires
-restarted-requires g c =
-    subst StatesRise (sym c.in_ok-states.ensures.states)
-    (states_rise (g.P.Computation.program c.args.program.now) c.rows.inside.partitions c.rows.inside.partition c.rows.inside.graph.now c.in_ok-states.ensures.rising)
+pub restarted-requires-clause-rise : goal.restarted-requires-clause-rise
+restarted-requires-clause-rise g c =
+    let program = g.P.Computation.program c.args.program.now in
+    let share = first_changes program c.rows.inside.graph.now c.rows.inside.partitions c.rows.inside.partition in
+    subst ChangesRise (sym (c.in_ok-changes.ensures.changes ∙ ap share c.as_slice.ensures.value))
+    (changes_rise program c.rows.inside.partitions c.rows.inside.partition c.rows.inside.graph.now c.rising-differing.result.items c.rising-differing.ensures.rise)
+
+pub restarted-requires-clause-by_id : goal.restarted-requires-clause-by_id
+restarted-requires-clause-by_id g c =
+    subst ChangesById (sym c.in_ok-changes.ensures.changes)
+    (changes_by_id (g.P.Computation.program c.args.program.now) c.rows.inside.partitions c.rows.inside.partition c.rows.inside.graph.now c.as_slice.result.now)
 
 pub returns : goal.returns
 returns g c job kept program missing whole touched =
     let n = c.rows.inside.partitions in
     let p = c.rows.inside.partition in
     let graph = c.rows.inside.graph.now in
+    let ids = c.rising-differing.result.items in
+    let program' = g.P.Computation.program c.args.program.now in
     let part : Holding g.row.V.Denot g.row.M.Denot = record {
       partition = p;
       partitions = n;
@@ -21,11 +33,13 @@ returns g c job kept program missing whole touched =
       place = c.new.result;
       trace = c.in_ok-trace.trace;
       kept = Some c.args.old;
-      differing = c.in_ok-differing.differing.items;
+      differing = ids;
     } in
     let old : IsWhole job kept n p c.args.old = subst (λ r. IsWhole job kept r.partitions r.partition c.args.old) (sym c.rows.view_is) whole in
     let same : AreTouched c.args.touched.now kept graph = subst (λ r. AreTouched c.args.touched.now kept r.graph) (sym c.rows.view_is) touched in
     subst (λ r. Holds job (Some kept) r.graph r.partitions r.partition 0 part) c.rows.view_is
-    (holds_beside job kept graph n p c.in_ok-states.ensures.rising (g.P.Computation.program c.args.program.now) program c.args.missing (sym missing) c.args.old old
-    c.args.touched.now same part refl refl refl c.new.ensures (c.in_ok-trace.ensures ∙ ap (λ l. record c.args.old { initial = l }) c.in_ok-states.ensures.states) refl
-    c.in_ok-differing.ensures)
+    (holds_beside job kept graph n p c.in_ok-changes.ensures.rising program' program c.args.missing (sym missing) c.args.old old ids c.rising-differing.ensures.rise
+    (λ id other. same id (sym (ap (λ l. has_id l id) c.in_ok-copied.ensures) ∙ (sym (c.rising-differing.ensures.same id) ∙ other)))
+    part refl refl refl c.new.ensures
+    (c.in_ok-trace.ensures ∙ ap (λ l. record c.args.old { initial = with_first l c.args.old.initial })
+    (c.in_ok-changes.ensures.changes ∙ ap (first_changes program' graph n p) c.as_slice.ensures.value)) refl refl)
