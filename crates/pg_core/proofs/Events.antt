@@ -75,7 +75,7 @@ place_without w zero (host ∷ hosts) (place ∷ places) e = cond-false (host ==
 place_without w (suc p) (host ∷ hosts) (place ∷ places) e = place_without w p hosts places e
 
 -- what is at a place is within the list
-some_within : {X : Type 0} (xs : List (Option X)) (p : ℕ) (x : X) → get_or xs p None ≡ Some x → p < length xs
+pub some_within : {X : Type 0} (xs : List (Option X)) (p : ℕ) (x : X) → get_or xs p None ≡ Some x → p < length xs
 some_within xs p x e =
     elim (cases_lt p (length xs)) [
       | inl less ↦ less
@@ -126,12 +126,12 @@ place_by_steps_from p k state (e ∷ es) allowed kept here =
     place_by_steps_from p (k + one) (after state e) es a.1 l.1 (place_after p k state e a.0 l.0 here) ∙ ap Some sums
 
 module _ (partitions workers : ℕ) where
-  starts_at : (p : ℕ) → p < partitions → place_at p (first_state partitions workers) ≡ Some 0
+  pub starts_at : (p : ℕ) → p < partitions → place_at p (first_state partitions workers) ≡ Some 0
   starts_at p within =
       let none : 0 + p ≡ p = omega arith in
       get_or-map-range_with_len (λ (p : ℕ). Some 0) 0 partitions p p None within none
 
-  length-first : length (first_state partitions workers).places ≡ partitions
+  pub length-first : length (first_state partitions workers).places ≡ partitions
   length-first = length-map-range_with_len (λ (p : ℕ). Some 0) 0 partitions
 
   -- a partition that was not lost is at its number of steps

@@ -1,2 +1,4 @@
 pub mod Events
+pub mod Opened
 pub mod Opening
+pub mod Parts

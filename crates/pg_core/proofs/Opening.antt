@@ -35,9 +35,9 @@ module _ {V M : Type 0} (program : Program V M) (missing : Missing) (rows : Rows
         | inl same ↦ subst (λ (k : ℕ). IsBegun program missing rows n k (get_or (before ++ Some part ∷ []) k None)) (sym same)
             (subst (IsBegun program missing rows n k) (sym (get_or_push before (Some part) none k many)) here)
         | inr less ↦ (
-          let inside : p < length before = omega (arith, many) in
-          subst (IsBegun program missing rows n p) (sym (get_or_append_left before (Some part ∷ []) none p inside)) (begun p less)
-        )
+            let inside : p < length before = omega (arith, many) in
+            subst (IsBegun program missing rows n p) (sym (get_or_append_left before (Some part ∷ []) none p inside)) (begun p less)
+            )
       ])
 
 -- a graph has as many edges as its vertices have as a run begins

@@ -4,10 +4,12 @@
 mod beginning;
 mod event;
 mod limits;
+mod running;
 mod state;
 mod tally;
 
 pub use event::{Closed, Event};
 pub use limits::Limits;
+pub use running::Core;
 pub use state::State;
 pub use tally::Tally;
