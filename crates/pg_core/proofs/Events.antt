@@ -63,7 +63,7 @@ length-places state (Save p) = refl
 length-places state (Close Next) = refl
 length-places state (Close Ended) = refl
 
-length-places_all : (state : State) (events : List Event) → length (after_all state events).places ≡ length state.places
+pub length-places_all : (state : State) (events : List Event) → length (after_all state events).places ≡ length state.places
 length-places_all state [] = refl
 length-places_all state (e ∷ es) = length-places_all (after state e) es ∙ length-places state e
 

@@ -1,5 +1,5 @@
 -- A run over partitions between two events, and when it is right.
-use Rattle.std.specs.Prelude.{◌≡◌, ◌==◌, ℕ, ◌+◌, ◌<◌, ◌≤◌, nat_lt, Bool, true, false, cond, ◌&&◌, List, [], ◌∷◌, ◌++◌, map, length, slice_index_or, slice_set, Option, None, Some, IsSome, is_some}
+use Rattle.std.specs.Prelude.{◌≡◌, ◌==◌, ℕ, ◌+◌, ◌<◌, ◌≤◌, nat_lt, Bool, true, false, cond, ◌&&◌, List, [], ◌∷◌, ◌++◌, map, length, slice_index_or, slice_set, take, Option, None, Some, IsSome, is_some}
 use Rattle.std.specs.List.{All, filter, range_with_len, slice_get}
 use Rattle.pg_core.specs.Limits.{Limits}
 use Rattle.pg_core.specs.Machine.{State, Reaches, after, first_state, host_of, is_allowed, place_at}
@@ -15,6 +15,7 @@ use Rattle.pg_model.specs.Run.{configuration, run_length, visible_at}
 use Rattle.pg_model.specs.declared.configuration.Configuration.{Configuration}
 use Rattle.pg_model.specs.declared.view.Declared.{Declared}
 use Rattle.pg_model.specs.declared.view.Visible.{Visible}
+use Rattle.pg_part.specs.Lent.{IsLent}
 use Rattle.pg_part.specs.Part.{Holding, Holds, IsSentTo}
 
 -- what a run over partitions is made with, and where it stands: its state and its events so far; the parts that aren't
@@ -141,19 +142,26 @@ module _ {P C A V M : Type 0} where
     parts = slice_set core.parts p (Some part);
   }
 
--- these bundles of a partition were put into the logs, one to each partition, and nothing else
+-- these bundles of partition p were put into the logs of superstep s, one to each partition from 0 on, and nothing else
 abbrev pub HasPut : {M : Type 0} → ℕ → ℕ → List (Logged M) → Slots M → Slots M → Type 0
 HasPut s p bundles before after =
     (t other q : ℕ) → slot_at after t other q ≡ cond ((p == other) && ((s == t) && nat_lt q (length bundles))) (slice_get bundles q) (slot_at before t other q)
 
 module _ {P C A V M : Type 0} where
-  -- a step of partition p was taken in: the part, the event, and what was sent in the superstep that the partition was at
+  -- a step of partition p was taken in: the part, the event, and what was sent to each partition in the superstep that it
+  -- was at
   pub record TakesIn (p : ℕ) (part : Holding V M) (sent : List (Logged M)) (before after : Progress P C A V M) : Type 0 where
     pub core_is : after ≡ record (with_step p part before) { logs = after.logs }
-    pub logs_are : (r : ℕ) → place_at p before.state ≡ Some r → HasPut r p sent before.logs after.logs
+    pub logs_are : (r : ℕ) → place_at p before.state ≡ Some r → HasPut r p (take before.limits.partitions sent) before.logs after.logs
 
   -- a part and what it sent are those of the run after a step of partition p
   pub record IsStepOf (job : Job V M) (core : Progress P C A V M) (p : ℕ) (part : Holding V M) (sent : List (Logged M)) : Type 0 where
     pub holds : (r : ℕ) → place_at p core.state ≡ Some r → Holds job core.graph core.limits.partitions p (r + 1) part
     pub to_each : length sent ≡ core.limits.partitions
     pub sends : (r q : ℕ) → place_at p core.state ≡ Some r → q < core.limits.partitions → IsSentTo job core.graph core.limits.partitions p q r (slice_get sent q)
+
+  -- what a step of partition p from r is lent of the run, and the part that makes it
+  pub record IsStepLent (job : Job V M) (core : Progress P C A V M) (p r : ℕ) (part : Holding V M) : Type 0 where
+    pub holds : Holds job core.graph core.limits.partitions p r part
+    pub lent : IsLent job core.graph core.limits.partitions p r core.logs (visible_at job core.graph r)
+    pub open_or_before : r ≤ core.state.current

@@ -1,7 +1,7 @@
 //! The core: a run over partitions between two events.
-ghost use Rattle.std.specs.Prelude.{◌≡◌, ◌<◌, ◌≤◌, [], true, length, None, Some, IsSome, IfOk, slice_get};
-ghost use Rattle.pg_core.specs.Machine.{Reaches, RestoresFollowLosses, StepsTell, first_state};
-ghost use Rattle.pg_core.specs.Progress.{IsOpened, IsPartAt, IsRight, job_by, part_at};
+ghost use Rattle.std.specs.Prelude.{◌≡◌, ◌<◌, ◌≤◌, ◌∷◌, ◌++◌, [], true, cond, length, None, Some, IsSome, IfOk, OnOk, slice_get};
+ghost use Rattle.pg_core.specs.Machine.{Reaches, RestoresFollowLosses, StepsTell, first_state, host_of, is_allowed};
+ghost use Rattle.pg_core.specs.Progress.{HasPut, IsNext, IsOpened, IsPartAt, IsRight, IsStepLent, IsStepOf, TakesIn, is_ready as ready_test, job_by, part_at, ready_of, without_part};
 ghost use Rattle.pg_global.specs.Master.{has_places, is_registered};
 ghost use Rattle.pg_global.specs.Registry.{first_refusal};
 ghost use Rattle.pg_model.specs.Run.{visible_at};
@@ -9,10 +9,10 @@ ghost use Rattle.pg_model.specs.Run.{visible_at};
 use crate::beginning::{begun_parts, copied, initial_values, registered, shown_in};
 use crate::{Event, Limits, State, Tally};
 use pg_global::{MasterCompute, MessageCombiner, Visible};
-use pg_graph::{Graph, Memory, PartitionId, Superstep};
-use pg_inbox::Logs;
-use pg_part::{Part, Partitioner};
-use pg_program::Computation;
+use pg_graph::{Graph, Memory, PartitionId, Superstep, WorkerId};
+use pg_inbox::{Logged, Logs};
+use pg_part::{Part, Partitioner, Sent};
+use pg_program::{Computation, Plain};
 use std::alloc::Global;
 use std::marker::Model;
 
@@ -160,6 +160,80 @@ impl<'a, P: Computation, C: MessageCombiner<P::Message>, M: MasterCompute> Core<
         self.parts[partition.number() as usize].as_ref().unwrap()
     }
 
+    /// The partitions whose parts can be taken for a step, with their hosts, by rising partition. None that is taken is
+    /// among them.
+    pub fn ready(&self, alloc: Global) -> Result<Vec<(WorkerId, PartitionId)>, Memory>
+        ensures { IfOk result (λ ready. ready.items ≡ ready_of self.now) }
+    {
+        let mut ready = Vec::new(alloc);
+        for number in 0..self.limits.partitions() {
+            self.push_ready(&mut ready, PartitionId::new(number))?;
+        }
+        Ok(ready)
+    }
+
+    /// Adds a partition with its host, where it is ready.
+    fn push_ready(
+        &self,
+        ready: &mut Vec<(WorkerId, PartitionId)>,
+        partition: PartitionId,
+    ) -> Result<(), Memory>
+        ensures { OnOk result (ready.new.items
+            ≡ ready.old.items ++ cond (ready_test self.now partition) ((host_of partition self.now.state, partition) ∷ []) []) }
+    {
+        if self.is_ready(partition) {
+            ready.push((self.state.host(partition), partition))?;
+        }
+        Ok(())
+    }
+
+    /// Whether the part of a partition can be taken for a step.
+    pub fn is_ready(&self, partition: PartitionId) -> bool
+        ensures { result ≡ ready_test self.now partition }
+    {
+        let place = partition.number() as usize;
+        place < self.parts.len() && self.parts[place].is_some() && self.state.may_step(partition)
+    }
+
+    /// Takes the part of a partition that is ready. A step of it is lent the logs, and what is visible in its superstep.
+    pub fn take(&mut self, partition: PartitionId) -> Part<P::Value, P::Message>
+        requires { ready_test self.old partition ≡ true }
+        ensures core { self.new ≡ without_part partition self.old }
+        ensures part { part_at partition self.old ≡ Some result }
+        ensures at { IsPartAt self.old.limits.partitions self.old.state partition result }
+        ensures right { let job = job_by P.program C.combining M.master self.old in
+            IsRight job self.old → IsRight job self.new × IsStepLent job self.old partition result.place result }
+    {
+        self.parts[partition.number() as usize].take().unwrap()
+    }
+
+    /// Takes in a step of a partition: its part, which was taken, one superstep further, and what it sent. Bundles to
+    /// partitions that there aren't are left out. Where memory is refused the core is to be given up.
+    pub fn stepped(
+        &mut self,
+        alloc: Global,
+        partition: PartitionId,
+        part: Part<P::Value, P::Message>,
+        sent: Sent<P::Message>,
+    ) -> Result<(), Memory>
+        requires allowed { is_allowed self.old.state (Event.Step partition) ≡ true }
+        requires taken { part_at partition self.old ≡ None }
+        requires next { IsNext self.old.limits.partitions self.old.state partition part }
+        ensures core { OnOk result (TakesIn partition part sent self.old self.new) }
+        ensures right { let job = job_by P.program C.combining M.master self.old in
+            OnOk result (IsRight job self.old → IsStepOf job self.old partition part sent → IsRight job self.new) }
+    {
+        let next = part.place();
+        let place = Superstep::new(next.number() - 1);
+        let mut bundles = sent.into_bundles();
+        bundles.truncate(self.limits.partitions() as usize);
+        put_all(alloc, &mut self.logs, place, partition, bundles)?;
+        self.history.push(Event::Step(partition))?;
+        self.state.step(partition, next);
+        self.parts[partition.number() as usize] = Some(part);
+        Ok(())
+    }
+
     /// The graph of the run.
     pub fn graph(&self) -> &'a Graph
         ensures { result.now ≡ self.now.graph }
@@ -194,6 +268,25 @@ impl<'a, P: Computation, C: MessageCombiner<P::Message>, M: MasterCompute> Core<
     {
         self.run
     }
+}
+
+/// Puts the bundles of a partition into the logs, one to each partition from 0 on.
+fn put_all<M: Plain>(
+    alloc: Global,
+    logs: &mut Logs<M>,
+    superstep: Superstep,
+    from: PartitionId,
+    bundles: Vec<Logged<M>>,
+) -> Result<(), Memory>
+    requires { length bundles.items ≤ 64 }
+    ensures { OnOk result (HasPut superstep from bundles.items logs.old logs.new) }
+{
+    let mut to = 0u32;
+    for logged in bundles {
+        logs.put(alloc, superstep, from, PartitionId::new(to), logged)?;
+        to += 1;
+    }
+    Ok(())
 }
 
 /// What tells the partition of a vertex.

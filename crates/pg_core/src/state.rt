@@ -2,7 +2,7 @@
 ghost use Rattle.std.specs.Prelude.{◌≡◌, ◌+◌, ◌%◌, ◌<◌, ◌^◌, map, Some, IfOk};
 ghost use Rattle.std.specs.List.{list_all, range_with_len};
 ghost use Rattle.std.specs.Option.{option_map};
-ghost use Rattle.pg_core.specs.Machine.{after, first_state, is_allowed, is_at, is_from as from_test, place_at};
+ghost use Rattle.pg_core.specs.Machine.{after, first_state, host_of, is_allowed, is_at, is_from as from_test, place_at};
 ghost use Rattle.pg_core.specs.declared.event.Closed.{Closed};
 ghost use Rattle.pg_core.specs.declared.event.Event.{Event};
 
@@ -89,6 +89,17 @@ impl State {
             return None;
         }
         self.places[place]
+    }
+
+    /// The worker that hosts a partition; worker 0 for a number that is none of a partition.
+    pub fn host(&self, partition: PartitionId) -> WorkerId
+        ensures { result ≡ host_of partition self.now }
+    {
+        let place = partition.number() as usize;
+        if place >= self.hosts.len() {
+            return WorkerId::new(0);
+        }
+        self.hosts[place]
     }
 
     /// Whether a partition may step: the run hasn't ended, the partition's superstep isn't past the open one, and no
