@@ -19,7 +19,10 @@ use Rattle.pg_model.specs.Job.{Job}
 use Rattle.pg_model.specs.declared.view.Declared.{Declared}
 use Rattle.pg_model.specs.declared.view.Visible.{Visible}
 use Rattle.pg_part.specs.Lent.{HasMessages, bundle_in, bundle_sent}
-use Rattle.pg_part.specs.Part.{Holding, Holds, IsSentTo}
+use Rattle.pg_part.specs.Part.{HasStepped, Holding, Holds, IsFurther, IsSentTo}
+
+pub one_of : {X : Type 0} (x y : X) → Some x ≡ Some y → x ≡ y
+one_of x y e = cc
 
 -- ---- the partition that steps
 
@@ -44,6 +47,14 @@ StepsFrom-from_allowed state p allowed = by (place_at p state) refl (and_parts _
           others = λ q within. AllPass-from_list_all (is_from r) state.places parts.1 q None within;
         }
 
+-- a part that made a step is the next of its partition
+pub IsNext-from_IsFurther : {V M : Type 0} (partitions : ℕ) (state : State) (p : ℕ) (before after : Holding V M) → IsPartAt partitions state p before → IsFurther before after → IsNext partitions state p after
+IsNext-from_IsFurther partitions state p before after at further = record {
+  partition_is = further.partition_stays ∙ at.partition_is;
+  partitions_are = further.partitions_stay ∙ at.partitions_are;
+  place_is = λ r is. let same : before.place ≡ r = one_of before.place r (sym at.place_is ∙ is) in further.place_is ∙ ap (λ (k : ℕ). k + 1) same;
+}
+
 -- the place of the partition after its step, and those of the others
 place_after_own : (state : State) (p r : ℕ) → place_at p state ≡ Some r → place_at p (after state (Step p)) ≡ Some (r + 1)
 place_after_own state p r at =
@@ -51,9 +62,6 @@ place_after_own state p r at =
 
 place_after_other : (state : State) (p q : ℕ) → q ≢ p → place_at q (after state (Step p)) ≡ place_at q state
 place_after_other state p q apart = get_or-set_other state.places p q _ None apart
-
-one_of : {X : Type 0} (x y : X) → Some x ≡ Some y → x ≡ y
-one_of x y e = cc
 
 -- ---- what is so of every run
 
@@ -259,3 +267,11 @@ module _ {V M : Type 0} (job : Job V M) {P C A : Type 0} (core : Progress P C A 
           shown = right.shown;
           tally = right.tally;
         })
+
+-- what a part's step promises is what a step taken in asks for
+pub IsStepOf-from_HasStepped : {V M : Type 0} (job : Job V M) {P C A : Type 0} (core : Progress P C A V M) (p r : ℕ) (part : Holding V M) (sent : List (Logged M)) (calls calls_after : ℕ) → place_at p core.state ≡ Some r → HasStepped job core.graph core.limits.partitions p r part sent calls calls_after → IsStepOf job core p part sent
+IsStepOf-from_HasStepped job core p r part sent calls calls_after at stepped = record {
+  holds = λ s is. let same : r ≡ s = one_of r s (sym at ∙ is) in subst (λ (s : ℕ). Holds job core.graph core.limits.partitions p (s + 1) part) same stepped.holds;
+  to_each = stepped.to_each;
+  sends = λ s q is within. let same : r ≡ s = one_of r s (sym at ∙ is) in subst (λ (s : ℕ). IsSentTo job core.graph core.limits.partitions p q s (slice_get sent q)) same (stepped.sends q within);
+}

@@ -13,3 +13,6 @@ pub use limits::Limits;
 pub use running::Core;
 pub use state::State;
 pub use tally::Tally;
+
+#[cfg(test)]
+mod tests;

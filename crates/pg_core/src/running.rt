@@ -200,10 +200,15 @@ impl<'a, P: Computation, C: MessageCombiner<P::Message>, M: MasterCompute> Core<
         requires { ready_test self.old partition ≡ true }
         ensures core { self.new ≡ without_part partition self.old }
         ensures part { part_at partition self.old ≡ Some result }
+        ensures gone { part_at partition self.new ≡ None }
+        ensures reached { result.place ≤ self.old.state.current }
+        ensures small { self.old.state.current < 10000 }
         ensures at { IsPartAt self.old.limits.partitions self.old.state partition result }
         ensures right { let job = job_by P.program C.combining M.master self.old in
             IsRight job self.old → IsRight job self.new × IsStepLent job self.old partition result.place result }
     {
+        // Tells the prover the least and the most that they may be.
+        self.limits.limit();
         self.parts[partition.number() as usize].take().unwrap()
     }
 
