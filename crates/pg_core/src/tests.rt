@@ -1,9 +1,8 @@
-
 use crate::{Core, Event, Limits};
 use pg_global::{AnyCombiner, MasterCompute, MessageCombiner, NoMaster};
-use pg_graph::{Batch, Edit, Graph, Missing, PartitionId, Superstep, VertexId};
+use pg_graph::{Batch, Edit, Graph, Memory, Missing, PartitionId, Superstep, VertexId, WorkerId};
 use pg_program::{Computation, Meter, Tally};
-use std::alloc::Global;
+use std::alloc::{AllocError, Global};
 use std::process::Abort;
 use std::test::Fail;
 
@@ -25,16 +24,15 @@ fn graph_of(alloc: Global, vertices: &[(u64, i64)], edges: &[(u64, u64)]) -> Res
     Ok(graph)
 }
 
-// One step of a partition that is ready: taken, made, and taken in. A right run stays right.
-#[tactic(auto)]
+// One step of a partition that is ready: taken, made, and taken in.
 fn step_once<P: Computation, C: MessageCombiner<P::Message>, M: MasterCompute>(
     alloc: Global,
     core: &mut Core<'_, P, C, M>,
     partition: PartitionId,
     meter: &mut Meter,
-) -> Result<(), Fail> {
+) -> Result<(), Memory> {
     if !core.is_ready(partition) {
-        return Err(Fail::from("a partition that isn't ready"));
+        return Err(AllocError);
     }
     let part = core.take(partition);
     let place = part.place();
@@ -47,93 +45,67 @@ fn step_once<P: Computation, C: MessageCombiner<P::Message>, M: MasterCompute>(
         core.combiner(),
         meter,
     );
-    let (part, sent) = stepped.ok().ok_or("a step was lost")?;
-    core.stepped(alloc, partition, part, sent)?;
-    Ok(())
-}
-
-// The numbers of the partitions that are ready, one digit each.
-fn ready_digits<P: Computation, C: MessageCombiner<P::Message>, M: MasterCompute>(
-    alloc: Global,
-    core: &Core<'_, P, C, M>,
-) -> Result<u64, Fail> {
-    let mut digits = 0u64;
-    for (worker, partition) in core.ready(alloc)? {
-        let pair = u64::from(worker.number()) % 10 * 10 + u64::from(partition.number()) % 10;
-        digits = digits.wrapping_mul(100).wrapping_add(pair);
+    match stepped {
+        Ok((part, sent)) => core.stepped(alloc, partition, part, sent),
+        Err(_) => Err(AllocError),
     }
-    Ok(digits)
 }
 
-#[test]
-fn partitions_step_one_after_another_in_any_order(rt: HostRuntime) -> Result<(), Fail> {
-    let alloc = rt.alloc();
-    let graph = graph_of(alloc, &[(1, 10), (2, 20), (3, 0)], &[(1, 3), (2, 3)])?;
-    let limits = Limits::new(3, 2, 10, 0, 0).ok_or("no such limits")?;
-    let mut core = Core::open(
+// A core with so many partitions on two workers, to which nothing has happened.
+fn opened<'a>(
+    alloc: Global,
+    graph: &'a Graph,
+    partitions: u32,
+) -> Result<Core<'a, Tally, AnyCombiner, NoMaster>, Fail> {
+    let limits = Limits::new(partitions, 2, 10, 0, 0).ok_or("no such limits")?;
+    let core = Core::open(
         alloc,
-        &graph,
+        graph,
         &Tally,
         &AnyCombiner::NoCombiner,
         &NoMaster,
         limits,
         7,
     )?;
-    let mut meter = Meter::new();
-    assert_eq!(rt; core.run(), 7);
-    assert_eq!(rt; core.limits().partitions(), 3);
-    assert_eq!(rt; core.graph().vertices(), 3);
-    assert_eq!(rt; core.history().len(), 0);
+    Ok(core)
+}
+
+#[test]
+fn a_core_opens_with_all_partitions_ready(rt: HostRuntime) -> Result<(), Fail> {
+    let alloc = rt.alloc();
+    let graph = graph_of(alloc, &[(1, 10), (2, 20), (3, 0)], &[(1, 3), (2, 3)])?;
+    let core = opened(alloc, &graph, 3)?;
+    let ready = core.ready(alloc)?;
+    let (zero, one) = (WorkerId::new(0), WorkerId::new(1));
+    let (first, second, third) = (
+        PartitionId::new(0),
+        PartitionId::new(1),
+        PartitionId::new(2),
+    );
+    assert_eq!(rt;
+        ready.as_slice(),
+        [(zero, first), (one, second), (zero, third)].as_slice()
+    );
     assert_eq!(rt; core.visible(Superstep::new(0)).total_edges, 2);
-    assert_eq!(rt; ready_digits(alloc, &core)?, 1_102);
-    step_once(alloc, &mut core, PartitionId::new(2), &mut meter)?;
-    assert_eq!(rt; ready_digits(alloc, &core)?, 11);
-    let (one, two) = (PartitionId::new(1), PartitionId::new(2));
-    let logged = core.logs().get(Superstep::new(0), two, PartitionId::new(0));
-    assert!(rt; logged.is_some());
-    assert!(rt; core.logs().get(Superstep::new(0), one, two).is_none());
-    step_once(alloc, &mut core, PartitionId::new(0), &mut meter)?;
-    assert!(rt; step_once(alloc, &mut core, PartitionId::new(0), &mut meter).is_err());
-    step_once(alloc, &mut core, one, &mut meter)?;
-    assert_eq!(rt; ready_digits(alloc, &core)?, 0);
-    assert_eq!(rt; meter.count(), 3);
-    let events = [Event::Step(two), Event::Step(PartitionId::new(0)), Event::Step(one)];
-    assert_eq!(rt; core.history(), events.as_slice());
-    assert_eq!(rt; core.state().place(one), Some(Superstep::new(1)));
-    assert_eq!(rt; core.state().current(), Superstep::new(0));
-    assert_eq!(rt; core.state().hosts().len(), 3);
-    assert_eq!(rt; core.state().saved().len(), 3);
-    assert_eq!(rt; core.state().alive().len(), 2);
-    assert!(rt; !core.state().ended());
-    assert!(rt; core.state().may_close());
     Ok(())
 }
 
 #[test]
-fn a_part_that_is_taken_is_not_ready(rt: HostRuntime) -> Result<(), Fail> {
+fn partitions_step_in_any_order(rt: HostRuntime) -> Result<(), Fail> {
     let alloc = rt.alloc();
-    let graph = graph_of(alloc, &[(1, 10), (2, 20)], &[])?;
-    let limits = Limits::new(2, 1, 1, 0, 0).ok_or("no such limits")?;
-    let mut core = Core::open(
-        alloc,
-        &graph,
-        &Tally,
-        &AnyCombiner::Sum,
-        &NoMaster,
-        limits,
-        0,
-    )?;
-    let partition = PartitionId::new(1);
-    if core.is_ready(partition) {
-        assert_eq!(rt; core.part(partition).place(), Superstep::new(0));
-        let part = core.take(partition);
-        assert_eq!(rt; part.partition(), partition);
-        assert!(rt; !core.is_ready(partition));
-        assert_eq!(rt; ready_digits(alloc, &core)?, 0);
-        assert!(rt; !core.state().may_close());
-        return Ok(());
-    }
-    Err(Fail::from("not ready as the run opens"))
+    let graph = graph_of(alloc, &[(1, 10), (2, 20), (3, 0)], &[(1, 3), (2, 3)])?;
+    let mut core = opened(alloc, &graph, 2)?;
+    let mut meter = Meter::new();
+    let (first, second) = (PartitionId::new(0), PartitionId::new(1));
+    step_once(alloc, &mut core, second, &mut meter)?;
+    assert!(rt; !core.is_ready(second));
+    step_once(alloc, &mut core, first, &mut meter)?;
+    assert_eq!(rt;
+        core.history(),
+        [Event::Step(second), Event::Step(first)].as_slice()
+    );
+    assert_eq!(rt; meter.count(), 3);
+    Ok(())
 }
 
 #[test]
@@ -145,7 +117,10 @@ fn limits_are_within_their_ranges(rt: HostRuntime) -> Result<(), Fail> {
     assert_eq!(rt; most.every(), 1_000);
     assert_eq!(rt; most.max_losses(), 16);
     assert_eq!(rt; most.missing(), Missing::Drop);
-    assert_eq!(rt; most.with_missing(Missing::Create).missing(), Missing::Create);
+    assert_eq!(rt;
+        most.with_missing(Missing::Create).missing(),
+        Missing::Create
+    );
     assert!(rt; Limits::new(1, 1, 1, 0, 0).is_some());
     assert!(rt; Limits::new(0, 1, 1, 0, 0).is_none());
     assert!(rt; Limits::new(65, 1, 1, 0, 0).is_none());
