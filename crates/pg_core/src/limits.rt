@@ -62,9 +62,23 @@ impl Limits {
         every: u32,
         max_losses: u32,
     ) -> Option<Limits>
-        ensures some { IsSome result ↔ AreLimits (record { partitions = partitions; workers = workers; limit = limit; every = every; max_losses = max_losses; missing = DropThem }) }
+        ensures some { IsSome result ↔ AreLimits (record {
+          partitions = partitions;
+          workers = workers;
+          limit = limit;
+          every = every;
+          max_losses = max_losses;
+          missing = DropThem;
+        }) }
         ensures value { IfSome result
-            (λ limits. limits ≡ record { partitions = partitions; workers = workers; limit = limit; every = every; max_losses = max_losses; missing = DropThem }) }
+            (λ limits. limits ≡ record {
+              partitions = partitions;
+              workers = workers;
+              limit = limit;
+              every = every;
+              max_losses = max_losses;
+              missing = DropThem;
+            }) }
     {
         let are_least = partitions > 0 && workers > 0 && limit > 0;
         let are_most = partitions <= 64 && workers <= 16 && limit <= 10_000;

@@ -1,7 +1,8 @@
 //! The core: a run over partitions between two events.
 ghost use Rattle.std.specs.Prelude.{◌≡◌, ◌<◌, ◌≤◌, ◌∷◌, ◌++◌, [], true, cond, length, None, Some, IsSome, IfOk, OnOk, slice_get};
 ghost use Rattle.pg_core.specs.Machine.{Reaches, RestoresFollowLosses, StepsTell, first_state, host_of, is_allowed};
-ghost use Rattle.pg_core.specs.Progress.{HasPut, IsNext, IsOpened, IsPartAt, IsRight, IsStepLent, IsStepOf, TakesIn, is_ready as ready_test, job_by, part_at, ready_of, without_part};
+ghost use Rattle.pg_core.specs.Progress.{HasPut, IsNext, IsOpened, IsPartAt, IsRight, IsStepLent, IsStepOf, TakesIn};
+ghost use Rattle.pg_core.specs.Progress.{is_ready as ready_test, job_by, part_at, ready_of, without_part};
 ghost use Rattle.pg_global.specs.Master.{has_places, is_registered};
 ghost use Rattle.pg_global.specs.Registry.{first_refusal};
 ghost use Rattle.pg_model.specs.Run.{visible_at};
@@ -124,8 +125,10 @@ impl<'a, P: Computation, C: MessageCombiner<P::Message>, M: MasterCompute> Core<
     /// before, and one that wasn't lost has made as many steps as it is far.
     pub fn history(&self) -> &[Event]
         ensures value { result.now ≡ self.now.history }
-        ensures leads { Reaches (first_state self.now.limits.partitions self.now.limits.workers) self.now.history self.now.state }
-        ensures restores { RestoresFollowLosses (first_state self.now.limits.partitions self.now.limits.workers) self.now.history }
+        ensures leads { Reaches (first_state self.now.limits.partitions self.now.limits.workers)
+            self.now.history self.now.state }
+        ensures restores { RestoresFollowLosses
+            (first_state self.now.limits.partitions self.now.limits.workers) self.now.history }
         ensures steps { StepsTell self.now.limits.partitions
             (first_state self.now.limits.partitions self.now.limits.workers) self.now.history self.now.state }
     {
