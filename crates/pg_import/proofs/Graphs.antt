@@ -3,7 +3,7 @@ use Rattle.std.proofs.Common.{◌≡◌, ℕ, ◌&&◌, Bool, true, false, cond,
 use Rattle.std.specs.BTreeMap.{insert_entry, is_at}
 use Rattle.std.specs.Map.{lookup}
 use Rattle.std.specs.Option.{is_some, option_and_then}
-use Rattle.std.specs.Ordering.{is_eq, nat_cmp, ordering_reverse, ordering_then}
+use Rattle.std.specs.Ordering.{is_eq, nat_cmp, ordering_reverse}
 use Rattle.std.proofs.lemmas.Bool.{cases_Bool}
 use Rattle.std.proofs.lemmas.Cmp.{nat_cmp_total}
 use Rattle.std.proofs.lemmas.Map.Lookups.{exact_unsigned}
@@ -29,7 +29,7 @@ is_eq-reverse Less = refl
 is_eq-reverse Equal = refl
 is_eq-reverse Greater = refl
 
-cmp-refl : (k : ℕ) → nat_cmp k k ≡ Equal
+pub cmp-refl : (k : ℕ) → nat_cmp k k ≡ Equal
 cmp-refl k = self_reverse (nat_cmp k k) (nat_cmp_total.antisymm k k)
 
 -- a key is at a query as the query is at the key
@@ -111,7 +111,7 @@ has_vertex-with_vertex rows id q = elim (cases_Bool (has_vertex id rows)) [
   | inr new ↦ rw (with_vertex-new rows id new) (has_vertex-with_row rows id q _)
 ]
 
-cond-true : (b : Bool) → cond b true true ≡ true
+pub cond-true : (b : Bool) → cond b true true ≡ true
 cond-true true = refl
 cond-true false = refl
 
@@ -195,9 +195,3 @@ pub has_edge-with_line_edge : (line : Line) (rows : Rows) (s t : ℕ) → has_ve
     → has_edge s t (with_line_edge line rows) ≡ cond (is_at (nat_cmp line.source) s && is_at (nat_cmp line.target) t) true (has_edge s t rows)
 has_edge-with_line_edge line rows s t there =
     let (row, at) = row_there (row_at line.source rows) there in edge_added line rows row s t at
-
--- ---- both parts of a pair
-pub is_eq-then : (x y : Ordering) → is_eq (ordering_then x y) ≡ (is_eq x && is_eq y)
-is_eq-then Less y = refl
-is_eq-then Equal y = refl
-is_eq-then Greater y = refl

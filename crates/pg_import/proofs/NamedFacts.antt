@@ -1,28 +1,22 @@
 -- What was named so far shows the graph with it.
-use Rattle.std.proofs.Common.{◌≡◌, ℕ, ◌||◌, ◌&&◌, Bool, true, false, not, cond, Ordering, inl, inr, refl, ap, sym, ◌∙◌}
+use Rattle.std.proofs.Common.{◌≡◌, ℕ, ◌||◌, ◌&&◌, Bool, true, false, not, cond, List, inl, inr, refl, ap, sym, ◌∙◌}
 use Rattle.std.specs.BTreeMap.{is_at}
 use Rattle.std.specs.BTreeSet.{BTreeSet, contains}
-use Rattle.std.specs.Ordering.{nat_cmp, ordering_then}
+use Rattle.std.specs.Ordering.{nat_cmp}
 use Rattle.std.proofs.lemmas.Bool.{cases_Bool}
 use Rattle.pg_graph.specs.Rows.{Rows}
-use Rattle.pg_import.proofs.Graphs.{has_edge-with_line_edge, has_edge-with_vertex, has_vertex-with_line_edge, has_vertex-with_vertex, is_eq-then, same_from_is_at, with_vertex-there}
+use Rattle.pg_import.proofs.Graphs.{has_edge-with_line_edge, has_edge-with_vertex, has_vertex-with_line_edge, has_vertex-with_vertex, same_from_is_at, with_vertex-there}
+use Rattle.pg_import.proofs.NamedEdgeFacts.{cond-or}
 use Rattle.pg_import.specs.Batch.{has_edge, has_vertex, with_line_edge, with_vertex}
 use Rattle.pg_import.specs.Named.{Shows}
+use Rattle.pg_import.specs.NamedEdges.{named_in}
+use Rattle.pg_import.specs.declared.named_edges.NamedEdge.{NamedEdge}
 use Rattle.pg_import.specs.declared.batch.Named.{Named}
 use Rattle.pg_import.specs.declared.line.Line.{Line}
-
-or-cond : (b v c : Bool) → cond b true (v || c) ≡ (v || cond b true c)
-or-cond true true c = refl
-or-cond true false c = refl
-or-cond false v c = refl
 
 or-true : (b c : Bool) → b ≡ true → (b || c) ≡ true
 or-true true c e = refl
 or-true false c e = cc e
-
--- how edges compare: by source, then by target
-abbrev pub pair_cmp : ℕ × ℕ → ℕ × ℕ → Ordering
-pair_cmp a b = ordering_then (nat_cmp a.0 b.0) (nat_cmp a.1 b.1)
 
 -- nothing is new at an edge that is there
 known_edge : (rows : Rows) (line : Line) (s t : ℕ) → has_edge line.source line.target rows ≡ true
@@ -35,12 +29,10 @@ known_edge rows line s t there = elim (cases_Bool (is_at (nat_cmp line.source) s
   | inr apart ↦ rw apart refl
 ]
 
--- a vertex that the graph has
-pub Shows-there : (graph : Rows) (named : Named) (rows : Rows) (id : ℕ) → Shows graph named rows → has_vertex id graph ≡ true
+-- a vertex that is there
+pub Shows-there : (graph : Rows) (named : Named) (rows : Rows) (id : ℕ) → Shows graph named rows → has_vertex id rows ≡ true
     → (false ≡ not (has_vertex id rows)) × Shows graph named (with_vertex id rows)
-Shows-there graph named rows id shows there =
-    let has : has_vertex id rows ≡ true = shows.vertices id ∙ or-true _ _ there in
-    (rw has refl, rw (with_vertex-there rows id has) shows)
+Shows-there graph named rows id shows has = (rw has refl, rw (with_vertex-there rows id has) shows)
 
 -- a vertex that it lacks, which was put among the named ones
 pub Shows-vertex : (graph : Rows) (named : Named) (vertices : BTreeSet ℕ) (rows : Rows) (id : ℕ) (added : Bool) → Shows graph named rows
@@ -53,7 +45,7 @@ Shows-vertex graph named vertices rows id added shows absent is put =
       is ∙ ap not (sym has),
       record {
         vertices = λ q. has_vertex-with_vertex rows id q
-            ∙ rw (shows.vertices q, put q) (or-cond (is_at (nat_cmp id) q) (has_vertex q graph) (contains nat_cmp named.vertices q));
+            ∙ rw (shows.vertices q, put q) (cond-or (is_at (nat_cmp id) q) (has_vertex q graph) (contains nat_cmp named.vertices q));
         edges = λ s t. has_edge-with_vertex rows id s t ∙ shows.edges s t;
       },
     )
@@ -72,19 +64,19 @@ Shows-edge_there graph named rows line shows source there =
     )
 
 -- an edge that it lacks, which was put among the named ones
-pub Shows-edge : (graph : Rows) (named : Named) (edges : BTreeSet (ℕ × ℕ)) (rows : Rows) (line : Line) (added : Bool) → Shows graph named rows
+pub Shows-edge : (graph : Rows) (named : Named) (edges : List NamedEdge) (rows : Rows) (line : Line) (added : Bool) → Shows graph named rows
     → has_vertex line.source rows ≡ true
-    → has_edge line.source line.target graph ≡ false → added ≡ not (contains pair_cmp named.edges (line.source, line.target))
-    → ((q : ℕ × ℕ) → contains pair_cmp edges q ≡ cond (is_at (pair_cmp (line.source, line.target)) q) true (contains pair_cmp named.edges q))
+    → has_edge line.source line.target graph ≡ false → added ≡ not (named_in line.source line.target named.edges)
+    → ((s t : ℕ) → named_in s t edges ≡ cond (is_at (nat_cmp line.source) s && is_at (nat_cmp line.target) t) true (named_in s t named.edges))
     → (added ≡ not (has_edge line.source line.target rows)) × Shows graph (record named { edges = edges }) (with_line_edge line rows)
 Shows-edge graph named edges rows line added shows source absent is put =
-    let has : has_edge line.source line.target rows ≡ contains pair_cmp named.edges (line.source, line.target) =
+    let has : has_edge line.source line.target rows ≡ named_in line.source line.target named.edges =
     rw absent at (shows.edges line.source line.target) in (
       is ∙ ap not (sym has),
       record {
         vertices = λ q. has_vertex-with_line_edge line rows q source ∙ shows.vertices q;
         edges = λ s t. has_edge-with_line_edge line rows s t source
-            ∙ rw (shows.edges s t, put (s, t), is_eq-then (nat_cmp line.source s) (nat_cmp line.target t))
-            (or-cond (is_at (nat_cmp line.source) s && is_at (nat_cmp line.target) t) (has_edge s t graph) (contains pair_cmp named.edges (s, t)));
+            ∙ rw (shows.edges s t, put s t)
+            (cond-or (is_at (nat_cmp line.source) s && is_at (nat_cmp line.target) t) (has_edge s t graph) (named_in s t named.edges));
       },
     )

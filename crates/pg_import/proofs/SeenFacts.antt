@@ -7,7 +7,7 @@ use Rattle.std.proofs.lemmas.Option.{slice_get-get_or, slice_get_within}
 use Rattle.pg_import.specs.Seen.{AreSeen}
 use Rattle.pg_import.specs.declared.line.Line.{Line}
 
-Some_same : {X : Type 0} {x y : X} → Some x ≡ Some y → x ≡ y
+pub Some_same : {X : Type 0} {x y : X} → Some x ≡ Some y → x ≡ y
 Some_same h = cc
 
 module _ {Y : Type 0} (seen : List Y) (place : ℕ) (within : place < length seen) where

@@ -3,6 +3,7 @@ pub mod Comma
 pub mod Import
 pub mod ImportKind
 pub mod Named
+pub mod NamedEdges
 pub mod Number
 pub mod Records
 pub mod Seen

@@ -1,18 +1,19 @@
 -- What was looked up of the lines of a list, in a graph.
-use Rattle.std.specs.Prelude.{◌≡◌, ℕ, Bool, List, Option, Some}
+use Rattle.std.specs.Prelude.{◌≡◌, ℕ, List, Option, Some}
 use Rattle.std.specs.List.{slice_get}
 use Rattle.pg_graph.specs.Rows.{Rows}
 use Rattle.pg_import.specs.Batch.{has_edge, has_vertex}
 use Rattle.pg_import.specs.declared.line.Line.{Line}
 use Rattle.pg_import.specs.declared.seen.Source.{Source}
+use Rattle.pg_import.specs.declared.seen.Target.{Target}
 
 -- what a graph has of the source of a line
 abbrev pub IsSource : Rows → Line → Source → Type 0
-IsSource graph line source = source ≡ record { vertex = has_vertex line.source graph; edge = has_edge line.source line.target graph }
+IsSource graph line source = (source.vertex ≡ has_vertex line.source graph) × (source.edge ≡ has_edge line.source line.target graph)
 
 -- whether a graph has the target of a line
-abbrev pub IsTarget : Rows → Line → Bool → Type 0
-IsTarget graph line there = there ≡ has_vertex line.target graph
+abbrev pub IsTarget : Rows → Line → Target → Type 0
+IsTarget graph line target = target.vertex ≡ has_vertex line.target graph
 
 -- what was seen of a line is so
 abbrev pub AreSeen : {X : Type 0} → (Line → X → Type 0) → List Line → List (Option X) → Type 0

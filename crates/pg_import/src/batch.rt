@@ -1,10 +1,12 @@
 //! The batch of edits that brings the edges of a list into a graph.
-ghost use Rattle.std.specs.Prelude.{◌≡◌, ◌∷◌, ◌++◌, [], true, not, IfOk, OnOk};
+ghost use Rattle.std.specs.Prelude.{◌≡◌, ◌∷◌, ◌++◌, [], ℕ, take, true, false, not, IfOk, OnOk};
 ghost use Rattle.pg_graph.specs.Rows.{Rows};
 ghost use Rattle.pg_import.specs.Batch.{Makes, batch_of, edge_edit, has_edge, has_vertex, vertex_edits, with_line_edge, with_lines, with_vertex};
-ghost use Rattle.pg_import.specs.Named.{Shows};
+ghost use Rattle.pg_import.specs.Named.{IsSaid, Shows};
+ghost use Rattle.pg_import.specs.NamedEdges.{named_in};
 
-use crate::seen::Seen;
+use crate::named_edges::NamedEdges;
+use crate::seen::{Seen, by_edge};
 use crate::{Line, Memory};
 use pg_graph::{Batch, Edit, Graph, VertexId};
 use std::alloc::Global;
@@ -19,17 +21,38 @@ pub fn into_batch(alloc: Global, lines: &[Line], graph: &Graph) -> Result<Batch,
     ensures value { IfOk result (λ batch. batch ≡ batch_of lines.now graph.now) }
     ensures makes { IfOk result (λ batch. Makes graph.now batch (with_lines lines.now graph.now)) }
 {
-    let seen = Seen::of(alloc, lines, graph)?;
+    let edges = by_edge(alloc, lines)?;
+    let seen = Seen::of(alloc, lines, edges.as_slice(), graph)?;
     let mut batch = Batch::new(alloc);
-    let mut named = Named::new(alloc);
+    let mut named = Named::new(alloc, NamedEdges::of(alloc, edges.as_slice())?);
     for (place, line) in lines.iter().enumerate() {
         let source = seen.source_at(place, line, graph);
         let target = seen.target_at(place, line, graph);
-        push_vertex(&mut batch, &mut named, line.source, source.vertex)?;
-        push_vertex(&mut batch, &mut named, line.target, target)?;
-        push_edge(&mut batch, &mut named, line, source.edge)?;
+        let source_there = is_there(source.vertex, lines, place, source.first, line.source);
+        let target_there = is_there(target.vertex, lines, place, target.first, line.target);
+        push_vertex(&mut batch, &mut named, line.source, source_there)?;
+        push_vertex(&mut batch, &mut named, line.target, target_there)?;
+        push_edge(&mut batch, &mut named, line, source.edge, source.rank)?;
     }
     Ok(batch)
+}
+
+// Whether a vertex is known to be there after the lines before a place: the graph has it, or the line at
+// `first` is one of them and names it.
+fn is_there(in_graph: bool, lines: &[Line], place: usize, first: usize, id: VertexId) -> bool
+    ensures { (graph : Rows) → in_graph ≡ has_vertex id graph
+        → IsSaid result id graph (with_lines (take place lines.now) graph) }
+{
+    if in_graph {
+        return true;
+    }
+    if first >= place {
+        return false;
+    }
+    match lines.get(first) {
+        Some(line) => line.source == id || line.target == id,
+        None => false,
+    }
 }
 
 // Names a vertex, and adds it by an edit where it wasn't there yet.
@@ -38,12 +61,12 @@ fn push_vertex(
     batch: &mut Batch,
     named: &mut Named,
     id: VertexId,
-    in_graph: bool,
+    there: bool,
 ) -> Result<(), Memory>
-    ensures { OnOk result ((graph rows : Rows) → in_graph ≡ has_vertex id graph → Shows graph named.old rows
+    ensures { OnOk result ((graph rows : Rows) → IsSaid there id graph rows → Shows graph named.old rows
         → (batch.new ≡ batch.old ++ vertex_edits id rows) × Shows graph named.new (with_vertex id rows)) }
 {
-    if named.add_vertex(id, in_graph)? {
+    if named.add_vertex(id, there)? {
         batch.push(Edit::AddVertex(id, 0))?;
     }
     Ok(())
@@ -56,12 +79,13 @@ fn push_edge(
     named: &mut Named,
     line: &Line,
     in_graph: bool,
+    rank: usize,
 ) -> Result<(), Memory>
     ensures { OnOk result ((graph rows : Rows) → in_graph ≡ has_edge line.now.source line.now.target graph
         → Shows graph named.old rows → has_vertex line.now.source rows ≡ true
         → (batch.new ≡ batch.old ++ edge_edit line.now rows ∷ []) × Shows graph named.new (with_line_edge line.now rows)) }
 {
-    if named.add_edge(line, in_graph)? {
+    if named.add_edge(line, in_graph, rank)? {
         batch.push(Edit::AddEdge(line.source, line.target, line.weight))
     } else {
         batch.push(Edit::SetEdge(line.source, line.target, line.weight))
@@ -72,34 +96,35 @@ fn push_edge(
 #[derive(Drop)]
 struct Named {
     vertices: BTreeSet<VertexId>,
-    edges: BTreeSet<(VertexId, VertexId)>,
+    edges: NamedEdges,
 }
 
 impl Named {
-    // Nothing yet.
-    fn new(alloc: Global) -> Named
+    // Nothing yet, of these edges.
+    fn new(alloc: Global, edges: NamedEdges) -> Named
+        requires { (source target : ℕ) → named_in source target edges ≡ false }
         ensures { (graph : Rows) → Shows graph result graph }
     {
         Named {
             vertices: BTreeSet::new(alloc),
-            edges: BTreeSet::new(alloc),
+            edges,
         }
     }
 
     // Names a vertex, and says whether it wasn't there yet.
-    fn add_vertex(&mut self, id: VertexId, in_graph: bool) -> Result<bool, Memory>
-        ensures { IfOk result (λ added. (graph rows : Rows) → in_graph ≡ has_vertex id graph → Shows graph self.old rows
+    fn add_vertex(&mut self, id: VertexId, there: bool) -> Result<bool, Memory>
+        ensures { IfOk result (λ added. (graph rows : Rows) → IsSaid there id graph rows → Shows graph self.old rows
             → (added ≡ not (has_vertex id rows)) × Shows graph self.new (with_vertex id rows)) }
     {
-        if in_graph {
+        if there {
             return Ok(false);
         }
         let added = self.vertices.insert(id)?;
         Ok(added)
     }
 
-    // Names the edge of a line, and says whether it wasn't there yet.
-    fn add_edge(&mut self, line: &Line, in_graph: bool) -> Result<bool, Memory>
+    // Names the edge of a line, and says whether it wasn't there yet. It is expected at this rank.
+    fn add_edge(&mut self, line: &Line, in_graph: bool, rank: usize) -> Result<bool, Memory>
         ensures { IfOk result (λ added. (graph rows : Rows) → in_graph ≡ has_edge line.now.source line.now.target graph
             → Shows graph self.old rows → has_vertex line.now.source rows ≡ true
             → (added ≡ not (has_edge line.now.source line.now.target rows)) × Shows graph self.new (with_line_edge line.now rows)) }
@@ -107,7 +132,7 @@ impl Named {
         if in_graph {
             return Ok(false);
         }
-        let added = self.edges.insert((line.source, line.target))?;
+        let added = self.edges.name(line.source, line.target, rank)?;
         Ok(added)
     }
 }

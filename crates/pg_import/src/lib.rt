@@ -5,6 +5,7 @@ mod batch;
 mod comma;
 mod line;
 mod list;
+mod named_edges;
 mod number;
 mod seen;
 mod text;

@@ -1,22 +1,34 @@
 //! What a graph has of the lines of a list, looked up by rising id: look-ups that lie near one another
 //! in memory come one after another.
-ghost use Rattle.std.specs.Prelude.{◌≡◌, Bool, is_some, option_and_then, map, None, Some, IfOk};
+ghost use Rattle.std.specs.Prelude.{◌≡◌, is_some, option_and_then, map, None, Some, IfOk};
 ghost use Rattle.std.specs.List.{slice_get};
 ghost use Rattle.std.specs.Option.{option_copied};
 ghost use Rattle.pg_graph.specs.EdgeList.{weight_at};
-ghost use Rattle.pg_import.specs.Batch.{has_vertex};
+ghost use Rattle.pg_graph.specs.Rows.{Rows, row_at};
 ghost use Rattle.pg_import.specs.Seen.{AreSeen, IsSource, IsTarget};
 ghost use Rattle.pg_import.specs.declared.seen.Source.{Source};
+ghost use Rattle.pg_import.specs.declared.seen.Target.{Target};
 
 use crate::{Line, Memory};
 use pg_graph::{Finder, Graph, Row, VertexId};
 use std::alloc::Global;
+use std::marker::Model;
 
-/// Whether the graph has the source of a line, and the line's edge.
+/// Whether the graph has the source of a line, and the line's edge. `first` is an early line with that
+/// source, and `rank` says how many edges of the list come before the line's, as far as it was looked up.
 #[derive(Clone, Copy)]
 pub(crate) struct Source {
     pub(crate) vertex: bool,
     pub(crate) edge: bool,
+    pub(crate) first: usize,
+    pub(crate) rank: usize,
+}
+
+/// Whether the graph has the target of a line. `first` is an early line with that target.
+#[derive(Clone, Copy)]
+pub(crate) struct Target {
+    pub(crate) vertex: bool,
+    pub(crate) first: usize,
 }
 
 /// What the graph has of lines, as far as it was looked up. A place with none is looked up again by
@@ -25,16 +37,22 @@ pub(crate) struct Source {
 #[derive(Drop)]
 pub(crate) struct Seen {
     pub(crate) sources: Vec<Option<Source>>,
-    pub(crate) targets: Vec<Option<bool>>,
+    pub(crate) targets: Vec<Option<Target>>,
 }
 
 impl Seen {
-    /// All of it looked up. Costs O(k log(n + k)) for k lines and a graph of n vertices and edges.
-    pub(crate) fn of(alloc: Global, lines: &[Line], graph: &Graph) -> Result<Seen, Memory>
+    /// All of it looked up, for lines whose edges are given by rising source and target. Costs
+    /// O(k log(n + k)) for k lines and a graph of n vertices and edges.
+    pub(crate) fn of(
+        alloc: Global,
+        lines: &[Line],
+        edges: &[(VertexId, VertexId, usize)],
+        graph: &Graph,
+    ) -> Result<Seen, Memory>
         ensures sources { IfOk result (λ seen. AreSeen (IsSource graph.now) lines.now seen.sources.items) }
         ensures targets { IfOk result (λ seen. AreSeen (IsTarget graph.now) lines.now seen.targets.items) }
     {
-        let sources = sources_of(alloc, lines, graph)?;
+        let sources = sources_of(alloc, lines, edges, graph)?;
         let targets = targets_of(alloc, lines, graph)?;
         Ok(Seen { sources, targets })
     }
@@ -46,48 +64,143 @@ impl Seen {
     {
         match self.sources.get(place) {
             Some(Some(source)) => *source,
-            _ => source_of(line, &mut graph.finder()),
+            _ => source_of(line, graph.row(line.source), place, place),
         }
     }
 
     /// Whether the graph has the target of the line at this place.
-    pub(crate) fn target_at(&self, place: usize, line: &Line, graph: &Graph) -> bool
-        requires { (x : Bool) → slice_get self.now.targets.items place ≡ Some (Some x) → IsTarget graph.now line.now x }
+    pub(crate) fn target_at(&self, place: usize, line: &Line, graph: &Graph) -> Target
+        requires { (x : Target) → slice_get self.now.targets.items place ≡ Some (Some x) → IsTarget graph.now line.now x }
         ensures { IsTarget graph.now line.now result }
     {
         match self.targets.get(place) {
-            Some(Some(there)) => *there,
-            _ => graph.row(line.target).is_some(),
+            Some(Some(target)) => *target,
+            _ => target_of(graph.row(line.target), place),
         }
     }
 }
 
-fn sources_of(alloc: Global, lines: &[Line], graph: &Graph) -> Result<Vec<Option<Source>>, Memory>
+fn sources_of(
+    alloc: Global,
+    lines: &[Line],
+    edges: &[(VertexId, VertexId, usize)],
+    graph: &Graph,
+) -> Result<Vec<Option<Source>>, Memory>
     ensures { IfOk result (λ seen. AreSeen (IsSource graph.now) lines.now seen.items) }
 {
     let mut seen = none_of(alloc, lines)?;
-    let places = by_rising(alloc, lines, End::Source)?;
-    let mut finder = graph.finder();
-    for (_, place) in places.as_slice() {
+    let Some((source, target, first)) = edges.first() else {
+        return Ok(seen);
+    };
+    let mut last = LastRow::of(graph, *source, *first);
+    let mut edge = LastEdge::of(*source, *target);
+    for (source, target, place) in edges {
         if let Some(line) = lines.get(*place) {
-            seen[*place] = Some(source_of(line, &mut finder));
+            let row = last.row_at(line.source, *place);
+            let rank = edge.rank_of(*source, *target);
+            seen[*place] = Some(source_of(line, row, last.place, rank));
         }
     }
     Ok(seen)
 }
 
-fn targets_of(alloc: Global, lines: &[Line], graph: &Graph) -> Result<Vec<Option<bool>>, Memory>
+fn targets_of(alloc: Global, lines: &[Line], graph: &Graph) -> Result<Vec<Option<Target>>, Memory>
     ensures { IfOk result (λ seen. AreSeen (IsTarget graph.now) lines.now seen.items) }
 {
     let mut seen = none_of(alloc, lines)?;
-    let places = by_rising(alloc, lines, End::Target)?;
-    let mut finder = graph.finder();
+    let places = by_target(alloc, lines)?;
+    let Some((id, first)) = places.first() else {
+        return Ok(seen);
+    };
+    let mut last = LastRow::of(graph, *id, *first);
     for (_, place) in places.as_slice() {
         if let Some(line) = lines.get(*place) {
-            seen[*place] = Some(finder.get(line.target).is_some());
+            let row = last.row_at(line.target, *place);
+            seen[*place] = Some(target_of(row, last.place));
         }
     }
     Ok(seen)
+}
+
+/// The row that was looked up last, and the earliest line that it was looked up for. A contract sees the
+/// graph.
+#[derive(Drop)]
+struct LastRow<'a> {
+    finder: Finder<'a, Row>,
+    id: VertexId,
+    row: Option<&'a Row>,
+    place: usize,
+}
+
+impl<'a> Model for LastRow<'a> {
+    ghost use Rattle.std.specs.Prelude.{◌≡◌};
+    ghost use Rattle.std.specs.Option.{option_copied};
+    ghost use Rattle.pg_graph.specs.Rows.{Rows, row_at};
+
+    ghost Value = { Rows };
+
+    ghost view = { λ last. last.finder };
+
+    ghost invariant = { λ last. option_copied last.row ≡ row_at last.id last.finder };
+}
+
+impl<'a> LastRow<'a> {
+    /// The row at an id, for this line.
+    fn of(graph: &'a Graph, id: VertexId, place: usize) -> LastRow<'a>
+        ensures { result ≡ graph.now }
+    {
+        let mut finder = graph.finder();
+        let row = finder.get(id);
+        LastRow {
+            finder,
+            id,
+            row,
+            place,
+        }
+    }
+
+    /// The row at an id, for this line. It is looked up where the last one was at another id.
+    fn row_at(&mut self, id: VertexId, place: usize) -> Option<&'a Row>
+        ensures row { option_copied result ≡ row_at id self.old }
+        ensures same { self.new ≡ self.old }
+    {
+        if self.id != id {
+            self.id = id;
+            self.row = self.finder.get(id);
+            self.place = place;
+        }
+        self.place = self.place.min(place);
+        self.row
+    }
+}
+
+/// The last edge on a walk by rising source and target, and how many others came before it.
+#[derive(Drop)]
+struct LastEdge {
+    source: VertexId,
+    target: VertexId,
+    rank: usize,
+}
+
+impl LastEdge {
+    /// The first edge.
+    fn of(source: VertexId, target: VertexId) -> LastEdge {
+        LastEdge {
+            source,
+            target,
+            rank: 0,
+        }
+    }
+
+    /// How many others come before an edge, which is the last one or comes after it.
+    fn rank_of(&mut self, source: VertexId, target: VertexId) -> usize {
+        if self.source != source || self.target != target {
+            self.source = source;
+            self.target = target;
+            self.rank = self.rank.saturating_add(1);
+        }
+        self.rank
+    }
 }
 
 /// Nothing, for each line.
@@ -101,36 +214,49 @@ fn none_of<T: Drop>(alloc: Global, lines: &[Line]) -> Result<Vec<Option<T>>, Mem
     Ok(seen)
 }
 
-/// An end of a line.
-#[derive(Clone, Copy)]
-enum End {
-    Source,
-    Target,
+/// The edges of lines by rising source and target, each with the place of its line.
+pub(crate) fn by_edge(
+    alloc: Global,
+    lines: &[Line],
+) -> Result<Vec<(VertexId, VertexId, usize)>, Memory> {
+    let mut edges = Vec::with_capacity(alloc, lines.len())?;
+    for (place, line) in lines.iter().enumerate() {
+        edges.push((line.source, line.target, place))?;
+    }
+    edges.sort_unstable();
+    Ok(edges)
 }
 
-/// The places of lines with the ids of this end, by rising id.
-fn by_rising(alloc: Global, lines: &[Line], end: End) -> Result<Vec<(VertexId, usize)>, Memory> {
+/// The targets of lines by rising id, each with the place of its line.
+fn by_target(alloc: Global, lines: &[Line]) -> Result<Vec<(VertexId, usize)>, Memory> {
     let mut places = Vec::with_capacity(alloc, lines.len())?;
     for (place, line) in lines.iter().enumerate() {
-        let id = match end {
-            End::Source => line.source,
-            End::Target => line.target,
-        };
-        places.push((id, place))?;
+        places.push((line.target, place))?;
     }
     places.sort_unstable_by_key(|at| at.0);
     Ok(places)
 }
 
-/// Whether the graph has the source of a line, and the line's edge.
-fn source_of(line: &Line, finder: &mut Finder<'_, Row>) -> Source
-    ensures value { IsSource finder.old line.now result }
-    ensures same { finder.new ≡ finder.old }
+/// What the row of a line's source says, if the graph has one.
+fn source_of(line: &Line, row: Option<&Row>, first: usize, rank: usize) -> Source
+    ensures { (graph : Rows) → option_copied row.entry ≡ row_at line.now.source graph
+        → IsSource graph line.now result }
 {
-    let row = finder.get(line.source);
     Source {
         vertex: row.is_some(),
         edge: has_edge_to(row, line.target),
+        first,
+        rank,
+    }
+}
+
+/// What the row of a line's target says, if the graph has one.
+fn target_of(row: Option<&Row>, first: usize) -> Target
+    ensures { result.vertex ≡ is_some (option_copied row.entry) }
+{
+    Target {
+        vertex: row.is_some(),
+        first,
     }
 }
 

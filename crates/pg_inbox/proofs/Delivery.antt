@@ -247,7 +247,7 @@ module _ {M : Type 0} {is_value : M → Type 0} (c : Combining M) (law : IsCommu
 -- ---- the inbox of one target
 
 module _ {M : Type 0} (id : ℕ) where
-  letters_of_all : (bundles : List (Parcels M)) → flat_map (λ c. c.letters) (contents_to id bundles) ≡ flat_map (letters_at id) bundles
+  pub letters_of_all : (bundles : List (Parcels M)) → flat_map (λ c. c.letters) (contents_to id bundles) ≡ flat_map (letters_at id) bundles
   letters_of_all [] = refl
   letters_of_all (b ∷ bundles) =
       flat_map-append (λ (c : Contents M). c.letters) (option_to_list (value_at id b)) (contents_to id bundles)
@@ -257,7 +257,7 @@ module _ {M : Type 0} (id : ℕ) where
       by None = refl
       by (Some c) = append-nil c.letters
 
-  folded_of_all : (bundles : List (Parcels M)) → flat_map (λ c. option_to_list c.folded) (contents_to id bundles) ≡ flat_map (folded_at id) bundles
+  pub folded_of_all : (bundles : List (Parcels M)) → flat_map (λ c. option_to_list c.folded) (contents_to id bundles) ≡ flat_map (folded_at id) bundles
   folded_of_all [] = refl
   folded_of_all (b ∷ bundles) =
       flat_map-append (λ (c : Contents M). option_to_list c.folded) (option_to_list (value_at id b)) (contents_to id bundles)

@@ -67,33 +67,39 @@ none_at {X = X} (e ∷ es) q h = ap (λ b. cond b (Some e.1) (value_at q es)) (a
     by false k later = later k
 
 module _ {M : Type 0} (old new : Parcels M) where
+  -- where the bundles differ at each id found, and at no other that was looked at
   abbrev pub AreTold : List ℕ → List ℕ → Type 0
-  AreTold found seen = (q : ℕ) → (has_id found q ≡ true) ↔ ((has_id seen q ≡ true) × DifferAt old new q)
+  AreTold found seen =
+      (q : ℕ) → (has_id found q ≡ true → DifferAt old new q) × (has_id found q ≡ false → has_id seen q ≡ true → AreSameAt old new q)
 
   pub told-none : (found : List ℕ) → found ≡ [] → AreTold found []
-  told-none found none q = (λ h. let k : false ≡ true = sym (ap (λ l. has_id l q) none) ∙ h in absurd cc, λ h. absurd (let k : false ≡ true = h.0 in cc))
+  told-none found none q = (λ h. let k : false ≡ true = sym (ap (λ l. has_id l q) none) ∙ h in absurd cc, λ h seen. absurd (true≢false (sym seen)))
 
   pub told-more : (found found' seen : List ℕ) (id : ℕ) → AreTold found seen → IsAdded old new id found found' → AreTold found' (seen ++ id ∷ [])
   told-more found found' seen id so_far (inl same) q = (
-    λ h. let k = (so_far q).0 (sym (ap (λ l. has_id l q) same.1) ∙ h) in (has_id-push seen id q ∙ or_left (has_id seen q) (id == q) k.0, k.1),
-    λ h. ap (λ l. has_id l q) same.1 ∙ by (or_cases (has_id seen q) (id == q) (sym (has_id-push seen id q) ∙ h.0)) h.1,
+    λ h. (so_far q).0 (sym (ap (λ l. has_id l q) same.1) ∙ h),
+    λ other h. by (sym (ap (λ l. has_id l q) same.1) ∙ other) (or_cases (has_id seen q) (id == q) (sym (has_id-push seen id q) ∙ h)),
   )
     where
-      by : (has_id seen q ≡ true) ⊎ ((id == q) ≡ true) → DifferAt old new q → has_id found q ≡ true
-      by (inl k) d = (so_far q).1 (k, d)
-      by (inr k) d = absurd (d (subst (AreSameAt old new) (same_id id q k) same.0))
+      by : has_id found q ≡ false → (has_id seen q ≡ true) ⊎ ((id == q) ≡ true) → AreSameAt old new q
+      by other (inl k) = (so_far q).1 other k
+      by other (inr k) = subst (AreSameAt old new) (same_id id q k) same.0
   told-more found found' seen id so_far (inr differ) q = (
-    λ h. by (or_cases (has_id found q) (id == q) (sym (has_id-push found id q) ∙ (sym (ap (λ l. has_id l q) differ.1) ∙ h))),
-    λ h. ap (λ l. has_id l q) differ.1 ∙ (has_id-push found id q ∙ back (or_cases (has_id seen q) (id == q) (sym (has_id-push seen id q) ∙ h.0)) h.1),
+    λ h. by (or_cases (has_id found q) (id == q) (sym more ∙ h)),
+    λ other h. back (has_id found q) refl (sym more ∙ other) (or_cases (has_id seen q) (id == q) (sym (has_id-push seen id q) ∙ h)),
   )
     where
-      by : (has_id found q ≡ true) ⊎ ((id == q) ≡ true) → (has_id (seen ++ id ∷ []) q ≡ true) × DifferAt old new q
-      by (inl k) = let told = (so_far q).0 k in (has_id-push seen id q ∙ or_left (has_id seen q) (id == q) told.0, told.1)
-      by (inr k) = (has_id-push seen id q ∙ or_right (has_id seen q) (id == q) k, subst (DifferAt old new) (same_id id q k) differ.0)
+      more : has_id found' q ≡ (has_id found q || (id == q))
+      more = ap (λ l. has_id l q) differ.1 ∙ has_id-push found id q
 
-      back : (has_id seen q ≡ true) ⊎ ((id == q) ≡ true) → DifferAt old new q → (has_id found q || (id == q)) ≡ true
-      back (inl k) d = or_left (has_id found q) (id == q) ((so_far q).1 (k, d))
-      back (inr k) d = or_right (has_id found q) (id == q) k
+      by : (has_id found q ≡ true) ⊎ ((id == q) ≡ true) → DifferAt old new q
+      by (inl k) = (so_far q).0 k
+      by (inr k) = subst (DifferAt old new) (same_id id q k) differ.0
+
+      back : (b : Bool) → has_id found q ≡ b → (b || (id == q)) ≡ false → (has_id seen q ≡ true) ⊎ ((id == q) ≡ true) → AreSameAt old new q
+      back true e other seen = absurd (true≢false other)
+      back false e other (inl k) = (so_far q).1 e k
+      back false e other (inr k) = absurd (true≢false (sym k ∙ other))
 
   pub rises-more : (found found' rest : List ℕ) (id : ℕ) → IsStrictlySortedBy nat_cmp (found ++ id ∷ rest) → IsAdded old new id found found'
       → IsStrictlySortedBy nat_cmp (found' ++ rest)
@@ -105,12 +111,13 @@ module _ {M : Type 0} (old new : Parcels M) where
       → AreChanged old new found
   changed_all ids found targets rise told = record {
     rise = subst (IsStrictlySortedBy nat_cmp) (append-nil found) rise;
-    told = λ id. ((λ h. ((told id).0 h).1), λ d. (told id).1 (by id d (has_id ids id) refl, d));
+    differ = λ id. (told id).0;
+    others = λ id other. by id other (has_id ids id) refl;
   }
     where
-      by : (id : ℕ) → DifferAt old new id → (b : Bool) → has_id ids id ≡ b → has_id ids id ≡ true
-      by id d true e = e
-      by id d false e = absurd (d (targets.others id e))
+      by : (id : ℕ) → has_id found id ≡ false → (b : Bool) → has_id ids id ≡ b → AreSameAt old new id
+      by id other true e = (told id).1 other e
+      by id other false e = targets.others id e
 
 -- ---- entries tell what they are made of
 
@@ -121,10 +128,10 @@ module _ {M : Type 0} (target : ℕ) where
     | Some m ↦ record { target = target; from = None; message = m; count = length letters } ∷ []
   ]
 
-  letter_of : Entry M → ℕ × M
+  pub letter_of : Entry M → ℕ × M
   letter_of e = (unwrap_or e.from 0, e.message)
 
-  letters_back : (l : List (ℕ × M)) → map letter_of (each_entry target l) ≡ l
+  pub letters_back : (l : List (ℕ × M)) → map letter_of (each_entry target l) ≡ l
   unfolding letter_of
   letters_back [] = refl
   letters_back (x ∷ l) = ap (λ k. x ∷ k) (letters_back l)

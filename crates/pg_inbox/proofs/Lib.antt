@@ -5,4 +5,5 @@ pub mod Differing
 pub mod Grouping
 pub mod Ordering
 pub mod Replacing
+pub mod SameDelivery
 pub mod Senders

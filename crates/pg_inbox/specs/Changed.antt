@@ -1,5 +1,5 @@
 -- Where two bundles differ.
-use Rattle.std.specs.Prelude.{◌≡◌, ℕ, ◌↔◌, ◌++◌, ◌⊎◌, true, false, List, [], ◌∷◌, None}
+use Rattle.std.specs.Prelude.{◌≡◌, ℕ, ◌++◌, ◌⊎◌, true, false, List, [], ◌∷◌, None}
 use Rattle.std.specs.List.Sorted.{IsStrictlySortedBy}
 use Rattle.std.specs.Ordering.{nat_cmp}
 use Rattle.pg_map.specs.Entries.{value_at}
@@ -17,7 +17,8 @@ module _ {M : Type 0} (old new : Parcels M) where
   -- just the ids whose entries differ, rising
   pub record AreChanged (ids : List ℕ) : Type 0 where
     pub rise : IsStrictlySortedBy nat_cmp ids
-    pub told : (id : ℕ) → (has_id ids id ≡ true) ↔ DifferAt id
+    pub differ : (id : ℕ) → has_id ids id ≡ true → DifferAt id
+    pub others : (id : ℕ) → has_id ids id ≡ false → AreSameAt id
 
   -- rising ids; at no other do the bundles differ
   pub record AreCandidates (ids : List ℕ) : Type 0 where

@@ -1,3 +1,4 @@
+pub mod Alike
 pub mod Bundles
 pub mod Changed
 pub mod Grouping

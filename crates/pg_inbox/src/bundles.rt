@@ -2,7 +2,7 @@
 ghost use Rattle.std.specs.Prelude.{◌≡◌, [], IfOk};
 ghost use Rattle.std.specs.Option.{option_copied};
 ghost use Rattle.pg_map.specs.Entries.{value_at};
-ghost use Rattle.pg_inbox.specs.Holding.{HoldsAt};
+ghost use Rattle.pg_inbox.specs.Holding.{HoldAll, HoldsAt};
 
 use crate::parcel::Parcel;
 use pg_graph::{Memory, VertexId};
@@ -19,10 +19,13 @@ pub struct Bundle<M: Plain> {
 
 impl<M: Plain> Model for Bundle<M> {
     ghost use Rattle.pg_inbox.specs.Bundles.{Parcels};
+    ghost use Rattle.pg_inbox.specs.Holding.{HoldAll};
 
     ghost Value = { Parcels M };
 
     ghost view = { λ b. b.parcels };
+
+    ghost invariant = { λ b. HoldAll M.is_value b.parcels };
 }
 
 impl<M: Plain> Bundle<M> {
@@ -42,6 +45,13 @@ impl<M: Plain> Bundle<M> {
         Ok(Bundle {
             parcels: self.parcels.share()?,
         })
+    }
+
+    /// Tells the prover that each of its messages is a value of its type.
+    pub(crate) fn holds(&self)
+        ensures { HoldAll M.is_value self.now }
+    {
+        let _ = &self.parcels;
     }
 
     /// The messages to a target. Costs two binary searches.

@@ -1,6 +1,7 @@
 //! What partitions send to each other: bundles, the inboxes that they make, and the logs of a run.
 #![tactic(auto)]
 
+mod alike;
 mod bundles;
 mod changing;
 mod grouped;
@@ -12,6 +13,7 @@ mod places;
 mod receivers;
 mod receiving;
 
+pub use alike::tell_alike;
 pub use bundles::Bundle;
 pub use changing::changed_targets;
 pub use logs::{Logged, Logs};

@@ -5,6 +5,7 @@ ghost use Rattle.std.specs.List.{AllByRecursion};
 ghost use Rattle.std.specs.Map.{keys_of};
 ghost use Rattle.std.specs.Ordering.{nat_cmp};
 ghost use Rattle.pg_map.specs.Entries.{HasRisingIds, with_changes};
+ghost use Rattle.pg_inbox.specs.Holding.{HoldsAt};
 ghost use Rattle.pg_inbox.specs.Inboxes.{letters_at};
 ghost use Rattle.pg_inbox.specs.Mending.{HasJust, HasMore, additions, as_addition, as_withdrawal, changes_of, mended, mended_at, mends_of, others, senders_of, withdrawn_by};
 ghost use Rattle.pg_inbox.specs.Patched.{IsPatched, TellsChanges};
@@ -129,13 +130,32 @@ fn changes_at<M: Plain, C: MessageCombiner<M>>(
     groups: &[(VertexId, Sequence<Mend<M>>)],
     combiner: &C,
 ) -> Result<Vec<(VertexId, Option<Parcel<M>>)>, Memory>
-    ensures { IfOk result (λ changes. changes.items ≡ changes_of (C.combining combiner.now) old.now groups.now) }
+    ensures items { IfOk result (λ changes. changes.items ≡ changes_of (C.combining combiner.now) old.now groups.now) }
+    ensures hold { IfOk result (λ changes. AllByRecursion (λ c. HoldsAt M.is_value c.1) changes.items) }
 {
     let mut changes = Vec::with_capacity(alloc, groups.len())?;
     for group in groups {
-        changes.push((group.0, parcel_after(alloc, old, group, combiner)?))?;
+        add_change(alloc, &mut changes, old, group, combiner)?;
     }
     Ok(changes)
+}
+
+/// Adds the new contents of a target.
+fn add_change<M: Plain, C: MessageCombiner<M>>(
+    alloc: Global,
+    changes: &mut Vec<(VertexId, Option<Parcel<M>>)>,
+    old: &Bundle<M>,
+    group: &(VertexId, Sequence<Mend<M>>),
+    combiner: &C,
+) -> Result<(), Memory>
+    requires { AllByRecursion (λ c. HoldsAt M.is_value c.1) changes.old.items }
+    ensures items { OnOk result (changes.new.items
+        ≡ changes.old.items ++ changes_of (C.combining combiner.now) old.now (group.now ∷ [])) }
+    ensures hold { OnOk result (AllByRecursion (λ c. HoldsAt M.is_value c.1) changes.new.items) }
+{
+    let parcel = parcel_after(alloc, old, group, combiner)?;
+    changes.push((group.0, parcel))?;
+    Ok(())
 }
 
 /// What becomes of the messages to a target; nothing where none is left.
@@ -145,7 +165,8 @@ fn parcel_after<M: Plain, C: MessageCombiner<M>>(
     group: &(VertexId, Sequence<Mend<M>>),
     combiner: &C,
 ) -> Result<Option<Parcel<M>>, Memory>
-    ensures { IfOk result (λ parcel. parcel ≡ mended_at (C.combining combiner.now) old.now group.now) }
+    ensures value { IfOk result (λ parcel. parcel ≡ mended_at (C.combining combiner.now) old.now group.now) }
+    ensures holds { IfOk result (λ parcel. HoldsAt M.is_value parcel) }
 {
     let letters = mended_letters(alloc, old, group.0, group.1.as_slice())?;
     if letters.is_empty() {

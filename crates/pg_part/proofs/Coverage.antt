@@ -60,7 +60,7 @@ module _ {V M : Type 0} where
       by false e k later false g = later k
 
   module _ (job : Job V M) (rows : Rows) (n p : ℕ) (trace : Trace V M) where
-    length_below : (r : ℕ) → length (records_below job rows n p r) ≡ r
+    pub length_below : (r : ℕ) → length (records_below job rows n p r) ≡ r
     unfolding records_below
     length_below zero = refl
     length_below (suc r) = length-append (records_below job rows n p r) (records_in job rows n p r ∷ []) ∙ (let h = length_below r in omega arith)

@@ -1,5 +1,5 @@
 -- The bundles to a partition deliver what the superstep delivers to its ids.
-use Rattle.std.proofs.Common.{◌≡◌, ℕ, zero, suc, ◌+◌, ◌%◌, ◌<◌, ◌≤◌, ◌==◌, Bool, true, false, cond, List, [], ◌∷◌, ◌++◌, length, map, get_or, refl, sym, ap, ◌∙◌, arith, filter, flat_map, mod-lt}
+use Rattle.std.proofs.Common.{◌≡◌, ℕ, zero, suc, ◌+◌, ◌%◌, ◌<◌, ◌≤◌, ◌==◌, Bool, true, false, cond, List, [], ◌∷◌, ◌++◌, length, map, get_or, refl, sym, ap, ◌∙◌, arith, filter, flat_map, mod-lt, subst}
 use Rattle.std.specs.List.{AllByRecursion, range_with_len}
 use Rattle.std.specs.Option.{option_to_list}
 use Rattle.std.specs.List.Sorted.{IsNonDecreasingBy, IsStrictlySortedBy}
@@ -12,20 +12,20 @@ use Rattle.pg_graph.specs.Rows.{HasRisingIds, Rows}
 use Rattle.pg_inbox.specs.Bundles.{bundle_of}
 use Rattle.pg_inbox.specs.Inboxes.{Delivers}
 use Rattle.pg_inbox.specs.Logged.{Slots, slot_at}
-use Rattle.pg_inbox.specs.Sends.{AreAllOf, Sends, sent_by, without_senders}
+use Rattle.pg_inbox.specs.Sends.{AreAllOf, RiseBySender, Sends, sent_by, without_senders}
 use Rattle.pg_inbox.proofs.Delivery.{flat_map-of_map}
 use Rattle.pg_inbox.proofs.Senders.{IsUp, up-filter}
 use Rattle.pg_model.specs.ByIds.{delivered_at}
 use Rattle.pg_model.specs.Job.{Job, Program}
 use Rattle.pg_model.specs.Order.{Sending, sending_cmp, sendings, sendings_from}
 use Rattle.pg_model.specs.Run.{present_at, view_at}
-use Rattle.pg_model.specs.Share.{belongs, records_in, sendings_of, sent_to}
+use Rattle.pg_model.specs.Share.{belongs, present_in_share, records_in, sendings_of, sent_to}
 use Rattle.pg_model.specs.Superstep.{combined, delivered, messages_to, outcome}
 use Rattle.pg_model.proofs.LawsDelivered.{messages_to-sendings, sendings_rise}
 use Rattle.pg_model.proofs.LawsIds.{ids_rise}
 use Rattle.pg_model.proofs.LawsLists.{filter-filter, filter-map}
 use Rattle.std.proofs.lemmas.Simd.{map-map}
-use Rattle.pg_model.proofs.LawsShares.{sendings-records_in}
+use Rattle.pg_model.proofs.LawsShares.{ids_rise_in_share, sendings-records_in}
 use Rattle.pg_model.specs.declared.configuration.Standing.{Standing}
 use Rattle.pg_model.specs.declared.view.View.{View}
 use Rattle.pg_part.specs.Lent.{HasMessages, as_sends, bundle_in, bundle_sent, bundles_at}
@@ -44,6 +44,21 @@ module _ {X : Type 0} (key : X → ℕ) where
   non_decreasing (x ∷ xs) h zero (suc j) d low within = up_at x xs h.0 j d (omega arith)
   non_decreasing (x ∷ xs) h (suc i) zero d low within = absurd (omega arith)
   non_decreasing (x ∷ xs) h (suc i) (suc j) d low within = non_decreasing xs h.1 i j d (omega arith) (omega arith)
+
+-- what passes two tests, in either order
+module _ {X : Type 0} where
+  pub either_order : (p q : X → Bool) (ts : List X) → filter p (filter q ts) ≡ filter q (filter p ts)
+  either_order p q [] = refl
+  either_order p q (t ∷ ts) = by (p t) refl (q t) refl (either_order p q ts)
+    where
+      by : (a : Bool) → p t ≡ a → (b : Bool) → q t ≡ b → filter p (filter q ts) ≡ filter q (filter p ts)
+          → filter p (cond b (t ∷ filter q ts) (filter q ts)) ≡ filter q (cond a (t ∷ filter p ts) (filter p ts))
+      by true e true f h =
+          ap (λ (c : Bool). cond c (t ∷ filter p (filter q ts)) (filter p (filter q ts))) e
+          ∙ (ap (λ l. t ∷ l) h ∙ sym (ap (λ (c : Bool). cond c (t ∷ filter q (filter p ts)) (filter q (filter p ts))) f))
+      by true e false f h = h ∙ sym (ap (λ (c : Bool). cond c (t ∷ filter q (filter p ts)) (filter q (filter p ts))) f)
+      by false e true f h = ap (λ (c : Bool). cond c (t ∷ filter p (filter q ts)) (filter p (filter q ts))) e ∙ h
+      by false e false f h = h
 
 module _ {M : Type 0} where
   no_later : (a b : Sending M) → sending_cmp a b ≡ Less → a.sender ≤ b.sender
@@ -94,19 +109,6 @@ module _ {M : Type 0} where
           → cond b (first ∷ by_sender u (sendings_from v (k + 1) ms)) (by_sender u (sendings_from v (k + 1) ms)) ≡ cond b (first ∷ sendings_from v (k + 1) ms) []
       by true h = ap (λ l. first ∷ l) h
       by false h = h
-
-  either_order : (p q : Sending M → Bool) (ts : List (Sending M)) → filter p (filter q ts) ≡ filter q (filter p ts)
-  either_order p q [] = refl
-  either_order p q (t ∷ ts) = by (p t) refl (q t) refl (either_order p q ts)
-    where
-      by : (a : Bool) → p t ≡ a → (b : Bool) → q t ≡ b → filter p (filter q ts) ≡ filter q (filter p ts)
-          → filter p (cond b (t ∷ filter q ts) (filter q ts)) ≡ filter q (cond a (t ∷ filter p ts) (filter p ts))
-      by true e true f h =
-          ap (λ (c : Bool). cond c (t ∷ filter p (filter q ts)) (filter p (filter q ts))) e
-          ∙ (ap (λ l. t ∷ l) h ∙ sym (ap (λ (c : Bool). cond c (t ∷ filter q (filter p ts)) (filter q (filter p ts))) f))
-      by true e false f h = h ∙ sym (ap (λ (c : Bool). cond c (t ∷ filter q (filter p ts)) (filter q (filter p ts))) f)
-      by false e true f h = ap (λ (c : Bool). cond c (t ∷ filter p (filter q ts)) (filter p (filter q ts))) e ∙ h
-      by false e false f h = h
 
 -- a number below n is one of those from 0 to n
 one_class : {Y : Type 0} (k : ℕ) (y : List Y) (a n : ℕ) → a ≤ k → k < a + n → flat_map (λ q. cond (k == q) y []) (range_with_len a n) ≡ y
@@ -187,13 +189,13 @@ module _ {V M : Type 0} (program : Program V M) (view : View) (n u : ℕ) where
 
 module _ {V M : Type 0} (job : Job V M) (rows : Rows) (n p s : ℕ) (rising : HasRisingIds rows) where
   -- all messages of the superstep to ids of the partition
-  to_part : List (Sending M)
+  pub to_part : List (Sending M)
   to_part = filter (λ t. belongs n p t.target) (sendings job.program (view_at job rows s) (present_at job rows s))
 
-  lists : List (Sends M)
+  pub lists : List (Sends M)
   lists = map (λ q. as_sends (sent_to job rows n q p s)) (range_with_len 0 n)
 
-  are_all : 0 < n → AreAllOf lists (as_sends to_part)
+  pub are_all : 0 < n → AreAllOf lists (as_sends to_part)
   unfolding to_part lists by_sender
   are_all some = record {
     rise = non_decreasing (λ (s : ℕ × ℕ × M). s.0) (as_sends to_part)
@@ -232,7 +234,7 @@ module _ {V M : Type 0} (job : Job V M) (rows : Rows) (n p s : ℕ) (rising : Ha
           by true = refl
           by false = refl
 
-  to_id : (id : ℕ) → belongs n p id ≡ true → delivered job.combining id (without_senders (as_sends to_part)) ≡ delivered_at job rows s id
+  pub to_id : (id : ℕ) → belongs n p id ≡ true → delivered job.combining id (without_senders (as_sends to_part)) ≡ delivered_at job rows s id
   unfolding to_part
   to_id id mine =
       ap (combined job.combining)
@@ -252,17 +254,27 @@ module _ {V M : Type 0} (job : Job V M) (rows : Rows) (n p s : ℕ) (rising : Ha
       each t true e = ap (λ (c : Bool). cond c true false) (ap (belongs n p) (eqb-true t.target id e) ∙ mine)
       each t false e = cond_both (belongs n p t.target) false false (λ (c : Bool). c ≡ false) (λ _. refl) (λ _. refl)
 
-  -- the bundles to the partition deliver to its ids what the superstep delivers
+  -- the bundles to the partition are those of what each partition sent to it
+  pub bundles_are : (logs : Slots M) → HasMessages job rows n p (s + 1) logs → bundles_at logs n p s ≡ map (λ q. bundle_sent job rows n q p s) (range_with_len 0 n)
+  bundles_are logs has =
+      each_one (λ q. option_to_list (bundle_in (slot_at logs s q p))) (λ q. bundle_sent job rows n q p s) 0 n
+      (λ q below. ap option_to_list (has s q refl (omega (arith, below))))
+
+  pub of_lists : map (λ q. bundle_sent job rows n q p s) (range_with_len 0 n) ≡ map (bundle_of job.combining) lists
+  unfolding lists
+  of_lists = sym (map-map (bundle_of job.combining) (λ q. as_sends (sent_to job rows n q p s)) (range_with_len 0 n))
+
+  -- they deliver to its ids what the superstep delivers
   pub delivers_in_part : 0 < n → (logs : Slots M) → HasMessages job rows n p (s + 1) logs → (id : ℕ) → belongs n p id ≡ true → (inbox : List M)
       → Delivers job.combining id (bundles_at logs n p s) inbox → inbox ≡ delivered_at job rows s id
-  unfolding lists
-  delivers_in_part some logs has id mine inbox delivers = delivers lists (as_sends to_part) are (are_all some) ∙ to_id id mine
-    where
-      sent : ℕ → Sends M
-      sent q = as_sends (sent_to job rows n q p s)
+  delivers_in_part some logs has id mine inbox delivers =
+      delivers lists (as_sends to_part) (bundles_are logs has ∙ of_lists) (are_all some) ∙ to_id id mine
 
-      are : bundles_at logs n p s ≡ map (bundle_of job.combining) lists
-      are =
-          each_one (λ q. option_to_list (bundle_in (slot_at logs s q p))) (λ q. bundle_sent job rows n q p s) 0 n
-          (λ q below. ap option_to_list (has s q refl (omega (arith, below))))
-          ∙ sym (map-map (bundle_of job.combining) sent (range_with_len 0 n))
+  -- what one partition sends to another rises by sender
+  pub sent_rise : (q : ℕ) → RiseBySender (as_sends (sent_to job rows n p q s))
+  sent_rise q =
+      non_decreasing (λ (s : ℕ × ℕ × M). s.0) (as_sends (sent_to job rows n p q s))
+      (up_sends (sent_to job rows n p q s) (up-filter (λ t. t.sender) (λ t. belongs n q t.target) (sendings_of (records_in job rows n p s))
+      (subst (IsUp (λ t. t.sender)) (sym (sendings-records_in job rows n p s))
+      (up_by_sender (sendings job.program (view_at job rows s) (present_in_share job rows n p s))
+      (sendings_rise job.program (view_at job rows s) (present_in_share job rows n p s) (ids_rise_in_share job rows n p rising s))))))

@@ -33,3 +33,14 @@ module _ {Y : Type 0} (f : ℕ → List Y) where
   -- one number more
   pub flat_map-range : (n : ℕ) → flat_map f (range_with_len 0 (n + 1)) ≡ flat_map f (range_with_len 0 n) ++ f n
   flat_map-range n = flat_map-range_from 0 n ∙ ap (λ k. flat_map f (range_with_len 0 n) ++ f k) (let e : 0 + n ≡ n = omega arith in e)
+
+module _ {X : Type 0} where
+  -- what stands before, and what was pushed
+  pub slice_get-before : (xs : List X) (y : X) (q : ℕ) → q < length xs → slice_get (xs ++ y ∷ []) q ≡ slice_get xs q
+  slice_get-before [] y q within = absurd (omega arith)
+  slice_get-before (x ∷ xs) y zero within = refl
+  slice_get-before (x ∷ xs) y (suc q) within = slice_get-before xs y q (omega arith)
+
+  pub slice_get-last : (xs : List X) (y : X) → slice_get (xs ++ y ∷ []) (length xs) ≡ Some y
+  slice_get-last [] y = refl
+  slice_get-last (x ∷ xs) y = slice_get-last xs y

@@ -23,7 +23,7 @@ use Rattle.pg_model.specs.declared.configuration.Standing.{Standing}
 use Rattle.pg_model.specs.declared.configuration.VertexState.{VertexState}
 use Rattle.pg_model.specs.declared.view.View.{View}
 use Rattle.pg_part.specs.Candidates.{AreCallees, awake_ids, found_at, own}
-use Rattle.pg_part.specs.Found.{IsFound, reads, vertex_of}
+use Rattle.pg_part.specs.Found.{IsFound, IsTold, are_same_reading, reads, vertex_of}
 use Rattle.pg_part.specs.Lent.{HasMessages, bundles_before}
 use Rattle.pg_part.specs.declared.found.Candidate.{Candidate}
 use Rattle.pg_part.proofs.Coverage.{awake_in_run}
@@ -91,6 +91,13 @@ module _ {V M : Type 0} where
         all_found program missing combining trace s bundles cs ws (tails c.id w.0 (map (λ c. c.id) cs) (keys_of ws) is)
             (tails c.new (found_at program missing s trace w) (map (λ c. c.new) cs) (map (found_at program missing s trace) ws) news) h.1,
       )
+
+  -- beside nothing nothing is found the same
+  pub untold : (value_eq : V → V → Bool) (message_eq : M → M → Bool) (cs : List (Candidate V M)) → AllByRecursion (λ c. c.old ≡ None) cs
+      → AllByRecursion (IsTold value_eq message_eq) cs
+  untold value_eq message_eq [] h = tt
+  untold value_eq message_eq (c ∷ cs) h =
+      ((λ same. absurd (true≢false (sym same ∙ ap (λ o. are_same_reading value_eq message_eq o c.new) h.0))), untold value_eq message_eq cs h.1)
 
   module _ (job : Job V M) (rows : Rows) (n p r : ℕ) where
     -- a candidate is of the partition, and found as it stands in the run

@@ -119,7 +119,7 @@ module _ {V M : Type 0} (taken : Candidate V M → Bool) (gives : Candidate V M 
 
 -- ---- needed executions
 
-all_picked : {X : Type 0} (p : X → Bool) (xs : List X) → AllByRecursion (λ x. p x ≡ true) xs → filter p xs ≡ xs
+pub all_picked : {X : Type 0} (p : X → Bool) (xs : List X) → AllByRecursion (λ x. p x ≡ true) xs → filter p xs ≡ xs
 all_picked p [] h = refl
 all_picked p (x ∷ xs) h = ap (λ (b : Bool). cond b (x ∷ filter p xs) (filter p xs)) h.0 ∙ ap (λ l. x ∷ l) (all_picked p xs h.1)
 

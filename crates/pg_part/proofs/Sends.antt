@@ -32,13 +32,13 @@ module _ {X : Type 0} where
   somes_above k ((id, None) ∷ changes) h = somes_above k changes h.1
   somes_above k ((id, Some x) ∷ changes) h = (h.0, somes_above k changes h.1)
 
-  somes_rise : (changes : List (ℕ × Option X)) → ChangesRise changes → Rises (somes changes)
+  pub somes_rise : (changes : List (ℕ × Option X)) → ChangesRise changes → Rises (somes changes)
   unfolding IsStrictlySortedBy
   somes_rise [] h = tt
   somes_rise ((id, None) ∷ changes) h = somes_rise changes h.1
   somes_rise ((id, Some x) ∷ changes) h = (somes_above id changes h.0, somes_rise changes h.1)
 
-  value_at-somes : (changes : List (ℕ × Option X)) → ChangesRise changes → (q : ℕ) → value_at q (somes changes) ≡ unwrap_or (value_at q changes) None
+  pub value_at-somes : (changes : List (ℕ × Option X)) → ChangesRise changes → (q : ℕ) → value_at q (somes changes) ≡ unwrap_or (value_at q changes) None
   unfolding IsStrictlySortedBy
   value_at-somes [] h q = refl
   value_at-somes ((id, None) ∷ changes) h q = value_at-somes changes h.1 q ∙ by (is_at (nat_cmp q) id) refl
@@ -61,27 +61,25 @@ module _ {X : Type 0} where
 
 module _ {V M : Type 0} where
   -- what records send, with the targets
-  sends_by_records : List (ℕ × Record V M) → List (ℕ × (ℕ × ℕ × M))
+  abbrev pub sends_by_records : List (ℕ × Record V M) → List (ℕ × (ℕ × ℕ × M))
   sends_by_records records = flat_map (λ r. sends_by r.0 (Some r.1)) records
 
-  sends-somes : (changes : List (ℕ × Option (Record V M))) → flat_map sends_of changes ≡ sends_by_records (somes changes)
-  unfolding sends_by_records
+  pub sends-somes : (changes : List (ℕ × Option (Record V M))) → flat_map sends_of changes ≡ sends_by_records (somes changes)
   sends-somes [] = refl
   sends-somes ((id, None) ∷ changes) = sends-somes changes
   sends-somes ((id, Some r) ∷ changes) = ap (λ l. map (λ m. (m.0, (id, m.0, m.1))) r.sent ++ l) (sends-somes changes)
 
-module _ {M : Type 0} (n q : ℕ) where
-  to_them : Sending M → Bool
-  to_them t = belongs n q t.target
+pub items-append : {X : Type 0} (n q : ℕ) (a b : List (ℕ × X)) → items_to n q (a ++ b) ≡ items_to n q a ++ items_to n q b
+items-append {X} n q a b =
+    ap (map (λ (i : ℕ × X). i.1)) (filter-append (λ (i : ℕ × X). belongs n q i.0) a b)
+    ∙ map-append (λ (i : ℕ × X). i.1) (filter (λ i. belongs n q i.0) a) (filter (λ i. belongs n q i.0) b)
 
-  items-append : (a b : List (ℕ × (ℕ × ℕ × M))) → items_to n q (a ++ b) ≡ items_to n q a ++ items_to n q b
-  items-append a b =
-      ap (map (λ (i : ℕ × (ℕ × ℕ × M)). i.1)) (filter-append (λ (i : ℕ × (ℕ × ℕ × M)). belongs n q i.0) a b)
-      ∙ map-append (λ (i : ℕ × (ℕ × ℕ × M)). i.1) (filter (λ i. belongs n q i.0) a) (filter (λ i. belongs n q i.0) b)
+module _ {M : Type 0} (n q : ℕ) where
+  abbrev pub to_them : Sending M → Bool
+  to_them t = belongs n q t.target
 
   one_sender : (id k : ℕ) (sent : List (ℕ × M))
       → items_to n q (map {B = ℕ × (ℕ × ℕ × M)} (λ m. (m.0, (id, m.0, m.1))) sent) ≡ as_sends (filter to_them (sendings_from id k sent))
-  unfolding to_them
   one_sender id k [] = refl
   one_sender id k (m ∷ sent) = by (belongs n q m.0) (one_sender id (k + 1) sent)
     where
@@ -98,8 +96,7 @@ module _ {M : Type 0} (n q : ℕ) where
       by false h = h
 
 module _ {V M : Type 0} (n q : ℕ) where
-  by_records : (records : List (ℕ × Record V M)) → items_to n q (sends_by_records records) ≡ as_sends (filter (to_them n q) (sendings_of records))
-  unfolding sends_by_records
+  pub by_records : (records : List (ℕ × Record V M)) → items_to n q (sends_by_records records) ≡ as_sends (filter (to_them n q) (sendings_of records))
   by_records [] = refl
   by_records (r ∷ records) =
       items-append n q (map (λ m. (m.0, (r.0, m.0, m.1))) r.1.sent) (sends_by_records records)
@@ -110,6 +107,5 @@ module _ {V M : Type 0} (n q : ℕ) where
   -- changes send what the records send that they leave
   pub sends_of_changes : (changes : List (ℕ × Option (Record V M))) (records : List (ℕ × Record V M)) → somes changes ≡ records
       → items_to n q (flat_map sends_of changes) ≡ as_sends (filter (λ t. belongs n q t.target) (sendings_of records))
-  unfolding to_them
   sends_of_changes changes records are =
       ap (items_to n q) (sends-somes changes ∙ ap sends_by_records are) ∙ by_records records

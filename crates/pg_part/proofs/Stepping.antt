@@ -1,5 +1,5 @@
 -- A trace that holds a run up to a superstep holds it one further with that superstep's records.
-use Rattle.std.proofs.Common.{◌≡◌, ℕ, ◌+◌, ◌<◌, ◌≤◌, ◌==◌, Bool, true, false, cond, List, [], ◌∷◌, ◌++◌, length, slice_set, Option, refl, sym, ap, ap₂, ◌∙◌, arith, le_refl, suc}
+use Rattle.std.proofs.Common.{◌≡◌, ℕ, ◌+◌, ◌<◌, ◌≤◌, ◌==◌, Bool, true, false, cond, List, [], ◌∷◌, ◌++◌, length, slice_set, Option, option_map, refl, sym, ap, ap₂, ◌∙◌, arith, le_refl, subst, suc}
 use Rattle.std.specs.List.{AllByRecursion}
 use Rattle.std.specs.List.Sorted.{IsStrictlySortedBy}
 use Rattle.std.specs.Map.{keys_of}
@@ -8,12 +8,18 @@ use Rattle.std.specs.declared.cmp.Ordering.TheVariants.{Less}
 use Rattle.std.proofs.lemmas.Bool.{eq-eqb}
 use Rattle.std.proofs.lemmas.List.{get_or-set_same, get_or_push, length-append, length-set, take-append-le, take-set-le, take_more}
 use Rattle.pg_graph.specs.Rows.{Rows}
-use Rattle.pg_map.specs.Entries.{with_changes, HasRisingIds as Rises}
-use Rattle.pg_model.specs.Job.{Job}
+use Rattle.pg_graph.specs.declared.missing.Missing.{Missing}
+use Rattle.pg_inbox.specs.Bundles.{Parcels}
+use Rattle.pg_map.specs.Entries.{ChangesRise, with_changes, HasRisingIds as Rises}
+use Rattle.pg_model.specs.Job.{Combining, Job, Program}
 use Rattle.pg_model.specs.Share.{belongs, records_below, records_in}
 use Rattle.pg_model.specs.declared.record.Record.{Record}
-use Rattle.pg_part.specs.Candidates.{own}
+use Rattle.pg_model.specs.declared.view.View.{View}
+use Rattle.pg_part.specs.Candidates.{IsPlayed, own}
+use Rattle.pg_part.specs.Found.{is_taken_over, reads}
 use Rattle.pg_part.specs.Lists.{reaching}
+use Rattle.pg_part.specs.declared.execution.Played.{Played}
+use Rattle.pg_part.proofs.Changing.{entries-rise}
 use Rattle.pg_trace.specs.OfRun.{HoldsRun}
 use Rattle.pg_trace.specs.Trace.{Trace, records_of, with_replaced, with_superstep}
 
@@ -96,3 +102,12 @@ module _ {X : Type 0} (n p : ℕ) where
       by : (b : Bool) → Rises (own n p xs) → AllByRecursion (λ i. nat_cmp x.0 i ≡ Less) (keys_of (own n p xs)) → Rises (cond b (x ∷ own n p xs) (own n p xs))
       by true rest above = (above, rest)
       by false rest above = rest
+
+-- what is played changes records by rising id
+pub played_rise : {V M : Type 0} (value_eq : V → V → Bool) (message_eq : M → M → Bool) (program : Program V M) (missing : Missing) (combining : Option (Combining M)) (view : View)
+    (n p s : ℕ) (trace : Trace V M) (bundles : List (Parcels M)) (beside : Option (Trace V M × List (Parcels M))) (ids : List ℕ) (all seen : Bool) (before : ℕ) (played : Played V M)
+    → IsPlayed value_eq message_eq program missing combining view n p s trace bundles beside ids all seen before played → ChangesRise played.changes.items
+played_rise value_eq message_eq program missing combining view n p s trace bundles beside ids all seen before played is =
+    subst ChangesRise (sym is.changes_are)
+    (entries-rise (λ c. c.id) (is_taken_over value_eq message_eq seen) (λ c. option_map program.step (reads view c.new)) is.candidates
+    (subst (IsStrictlySortedBy nat_cmp) (sym is.ids_are) (own_rise n p is.callees is.are.rise)))

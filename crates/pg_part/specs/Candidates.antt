@@ -1,17 +1,21 @@
 -- Which vertices a step looks at, and how it finds them.
-use Rattle.std.specs.Prelude.{◌≡◌, ℕ, zero, suc, true, false, Bool, ◌+◌, List, [], map, Option, None, Some}
+use Rattle.std.specs.Prelude.{◌≡◌, ℕ, zero, suc, true, false, Bool, ◌+◌, ◌<◌, List, [], map, Option, None, Some}
 use Rattle.std.specs.List.{AllByRecursion, count_by, filter, flat_map}
+use Rattle.std.specs.List.Sorted.{IsStrictlySortedBy}
 use Rattle.std.specs.Map.{keys_of}
+use Rattle.std.specs.Ordering.{nat_cmp}
 use Rattle.pg_graph.specs.declared.missing.Missing.{Missing}
 use Rattle.pg_inbox.specs.Bundles.{Parcels}
 use Rattle.pg_inbox.specs.Inboxes.{Delivers}
+use Rattle.pg_inbox.specs.Logged.{Slots, slot_at}
 use Rattle.pg_map.specs.Entries.{HasRisingIds}
 use Rattle.pg_model.specs.Job.{Combining, Program}
 use Rattle.pg_model.specs.Share.{belongs}
 use Rattle.pg_model.specs.Superstep.{capped, has_id}
 use Rattle.pg_model.specs.declared.configuration.Standing.{Standing}
 use Rattle.pg_model.specs.declared.view.View.{View}
-use Rattle.pg_part.specs.Found.{IsFound, change_of, is_run, vertex_of}
+use Rattle.pg_part.specs.Found.{IsFound, IsTold, change_of, is_run, vertex_of}
+use Rattle.pg_part.specs.Lent.{AreSameTo}
 use Rattle.pg_part.specs.Lists.{awake_after}
 use Rattle.pg_part.specs.declared.execution.Played.{Played}
 use Rattle.pg_part.specs.declared.found.Candidate.{Candidate}
@@ -53,5 +57,14 @@ pub record IsPlayed {V M : Type 0} (value_eq : V → V → Bool) (message_eq : M
   pub ids_are : map (λ c. c.id) candidates ≡ keys_of (own n p callees)
   pub new_are : map (λ c. c.new) candidates ≡ map (found_at program missing s trace) (own n p callees)
   pub beside_are : AllByRecursion (λ c. IsFoundBeside program missing combining s beside c.id c.old) candidates
+  pub told : AllByRecursion (IsTold value_eq message_eq) candidates
   pub changes_are : played.changes.items ≡ flat_map (change_of value_eq message_eq program view seen) candidates
   pub counted : played.stage.meter ≡ capped (before + count_by (is_run value_eq message_eq program view seen) candidates)
+
+-- rising ids with all that a step beside an old run has to look at: where states may differ, where other messages may
+-- come from, and where the old run saw something else all that aren't halted
+pub record AreLookedAt {V M : Type 0} (n p s : ℕ) (trace : Trace V M) (differing : List ℕ) (logs old_logs : Slots M) (seen : Bool) (ids : List ℕ) : Type 0 where
+  pub rise : IsStrictlySortedBy nat_cmp ids
+  pub states : (id : ℕ) → has_id ids id ≡ false → has_id differing id ≡ false
+  pub messages : (r q id : ℕ) → r + 1 ≡ s → q < n → has_id ids id ≡ false → AreSameTo id (slot_at old_logs r q p) (slot_at logs r q p)
+  pub awake : seen ≡ false → (id : ℕ) → has_id ids id ≡ false → has_id (awake_ids s trace) id ≡ false

@@ -1,12 +1,14 @@
--- What a step sends, by the changes of records.
+-- What a step sends, and what of the old run it withdraws, by the changes of records.
 use Rattle.std.specs.Prelude.{◌≡◌, ℕ, List, [], map, Option, None, Some}
 use Rattle.std.specs.List.{filter}
 use Rattle.pg_inbox.specs.Bundles.{bundle_of}
+use Rattle.pg_inbox.specs.Patched.{IsPatched, TellsChanges}
 use Rattle.pg_inbox.specs.Sends.{Sends}
 use Rattle.pg_inbox.specs.declared.logs.Logged.{Logged}
 use Rattle.pg_model.specs.Job.{Combining}
 use Rattle.pg_model.specs.Share.{belongs}
 use Rattle.pg_model.specs.declared.record.Record.{Record}
+use Rattle.pg_trace.specs.Trace.{Trace, record_at}
 
 -- items to one of n partitions, of items with their targets
 abbrev pub items_to : {X : Type 0} → ℕ → ℕ → List (ℕ × X) → List X
@@ -18,12 +20,28 @@ module _ {V M : Type 0} where
   sends_by id None = []
   sends_by id (Some r) = map (λ m. (m.0, (id, m.0, m.1))) r.sent
 
+  -- to whom it sent by it
+  abbrev pub pairs_by : ℕ → Option (Record V M) → List (ℕ × (ℕ × ℕ))
+  pairs_by id None = []
+  pairs_by id (Some r) = map (λ m. (m.0, (id, m.0))) r.sent
+
   -- what is sent by a change of records
   abbrev pub sends_of : ℕ × Option (Record V M) → List (ℕ × (ℕ × ℕ × M))
   sends_of change = sends_by change.0 change.1
+
+  -- and what the trace of the old run has sent by that vertex
+  abbrev pub pairs_of : Trace V M → ℕ → ℕ × Option (Record V M) → List (ℕ × (ℕ × ℕ))
+  pairs_of old s change = pairs_by change.0 (record_at change.0 s old)
 
 module _ {M : Type 0} where
   -- the bundle of these sends, of which nothing else is known
   abbrev pub IsFresh : Option (Combining M) → Sends M → Option (Logged M) → Type 0
   IsFresh combining sends None = ⊥
   IsFresh combining sends (Some logged) = (logged.bundle ≡ bundle_of combining sends) × (logged.changed ≡ None)
+
+  -- the old bundle, if there is one, with messages withdrawn and added; or the fresh one of what is added
+  abbrev pub IsMended : Option (Combining M) → List (ℕ × ℕ) → Sends M → Option (Logged M) → Option (Logged M) → Type 0
+  IsMended combining withdrawn added before None = ⊥
+  IsMended combining withdrawn added None (Some logged) = IsFresh combining added (Some logged)
+  IsMended combining withdrawn added (Some before) (Some logged) =
+      IsPatched combining withdrawn added before.bundle logged.bundle × TellsChanges before.bundle logged

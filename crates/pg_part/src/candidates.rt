@@ -1,21 +1,22 @@
 //! The vertices that a step looks at: which they are, and how it finds them.
-ghost use Rattle.std.specs.Prelude.{◌≡◌, ◌++◌, ◌<◌, ◌^◌, map, [], ◌∷◌, None, Some, true, false, IfOk, OnOk};
+ghost use Rattle.std.specs.Prelude.{◌≡◌, ◌++◌, ◌<◌, ◌^◌, map, [], ◌∷◌, None, Some, true, false, not, IfOk, OnOk};
 ghost use Rattle.std.specs.List.Sorted.{IsStrictlySortedBy};
 ghost use Rattle.std.specs.Ordering.{nat_cmp};
 ghost use Rattle.std.specs.List.{AllByRecursion};
 ghost use Rattle.std.specs.Map.{keys_of};
 ghost use Rattle.pg_inbox.specs.Inboxes.{Delivers};
 ghost use Rattle.pg_part.specs.Candidates.{AreCallees, IsPlayed, awake_ids, found_at, own};
+ghost use Rattle.pg_part.specs.Found.{IsFound, IsTold};
 ghost use Rattle.pg_program.specs.Context.{ShowsDeclared};
 
 use crate::Share;
 use crate::execution::{Played, Stage, play};
-use crate::found::{Candidate, vertex_at};
+use crate::found::{Candidate, tell_same, vertex_at};
 use crate::reading::{awake_after, inboxes_at, lent_bundles, with_empty};
 use pg_global::MessageCombiner;
 use pg_graph::{Memory, Missing, Superstep, VertexId};
-use pg_inbox::{Bundle, inboxes};
-use pg_model::Sequence;
+use pg_inbox::{Bundle, inbox, inboxes};
+use pg_model::{Sequence, Standing};
 use pg_program::{Computation, Plain};
 use pg_trace::Trace;
 use std::alloc::Global;
@@ -135,6 +136,118 @@ pub(crate) fn play_alone<P: Computation, C: MessageCombiner<P::Message>>(
     let candidates = candidates_alone(alloc, program, missing, superstep, trace, callees)?;
     let played = play(alloc, program, candidates, false, stage)?;
     Ok(played)
+}
+
+/// Looks at these vertices, in the new run and in the old one, and executes those that are active and don't read
+/// what they read there. Where the old run saw something else, it looks at all that receive something too.
+pub(crate) fn play_beside<P: Computation, C: MessageCombiner<P::Message>>(
+    alloc: Global,
+    program: &P,
+    combiner: &C,
+    missing: Missing,
+    share: Share,
+    superstep: Superstep,
+    trace: &Trace<P::Value, P::Message>,
+    bundles: &[Bundle<P::Message>],
+    old: &Trace<P::Value, P::Message>,
+    old_bundles: &[Bundle<P::Message>],
+    ids: &[VertexId],
+    seen: bool,
+    stage: Stage,
+) -> Result<Played<P::Value, P::Message>, Memory>
+    requires rise { IsStrictlySortedBy nat_cmp ids.now }
+    requires shown { ShowsDeclared (P.program program.now).declared stage.view }
+    requires fits { stage.meter < 2 ^ 64 }
+    ensures { IfOk result (λ played.
+        IsPlayed P.Value.PartialEq.eq P.Message.PartialEq.eq (P.program program.now) missing
+        (C.combining combiner.now) stage.view share.partitions share.partition superstep trace.now
+        bundles.now (Some (old.now, old_bundles.now)) ids.now (not seen) seen stage.meter played) }
+{
+    let lent = lent_bundles(alloc, bundles)?;
+    let callees = callees(alloc, lent.as_slice(), ids, !seen, combiner)?;
+    let callees = own(alloc, &share, callees)?;
+    let old_lent = lent_bundles(alloc, old_bundles)?;
+    let candidates = candidates_beside(
+        alloc,
+        program,
+        combiner,
+        missing,
+        superstep,
+        trace,
+        old,
+        old_lent.as_slice(),
+        callees,
+    )?;
+    let played = play(alloc, program, candidates, seen, stage)?;
+    Ok(played)
+}
+
+/// These vertices, with what is delivered to each, as they stand in the run and in the old one.
+fn candidates_beside<P: Computation, C: MessageCombiner<P::Message>>(
+    alloc: Global,
+    program: &P,
+    combiner: &C,
+    missing: Missing,
+    superstep: Superstep,
+    trace: &Trace<P::Value, P::Message>,
+    old: &Trace<P::Value, P::Message>,
+    old_bundles: &[&Bundle<P::Message>],
+    callees: Vec<(VertexId, Sequence<P::Message>)>,
+) -> Result<Vec<Candidate<P::Value, P::Message>>, Memory>
+    ensures ids { IfOk result
+        (λ candidates. map (λ c. c.id) candidates.items ≡ keys_of callees.items) }
+    ensures new { IfOk result (λ candidates. map (λ c. c.new) candidates.items
+        ≡ map (found_at (P.program program.now) missing superstep trace.now) callees.items) }
+    ensures old { IfOk result (λ candidates.
+        AllByRecursion (λ c. IsFound (P.program program.now) missing (C.combining combiner.now) old.now superstep
+        (map (λ b. b.now) old_bundles.now) c.id c.old) candidates.items) }
+    ensures told { IfOk result (λ candidates.
+        AllByRecursion (IsTold P.Value.PartialEq.eq P.Message.PartialEq.eq) candidates.items) }
+{
+    let mut candidates = Vec::with_capacity(alloc, callees.len())?;
+    for (id, delivered) in callees {
+        let new = vertex_at(alloc, program, missing, trace, superstep, id, delivered)?;
+        let old = found(
+            alloc,
+            program,
+            combiner,
+            missing,
+            superstep,
+            old,
+            old_bundles,
+            id,
+        )?;
+        tell_same(&old, &new);
+        candidates.push(Candidate { id, old, new })?;
+    }
+    Ok(candidates)
+}
+
+/// A vertex as it stands in a run.
+fn found<P: Computation, C: MessageCombiner<P::Message>>(
+    alloc: Global,
+    program: &P,
+    combiner: &C,
+    missing: Missing,
+    superstep: Superstep,
+    trace: &Trace<P::Value, P::Message>,
+    bundles: &[&Bundle<P::Message>],
+    id: VertexId,
+) -> Result<Option<Standing<P::Value, P::Message>>, Memory>
+    ensures { IfOk result (λ x. IsFound (P.program program.now) missing (C.combining combiner.now) trace.now superstep
+        (map (λ b. b.now) bundles.now) id x) }
+{
+    let delivered = inbox(alloc, bundles, id, combiner)?;
+    let vertex = vertex_at(
+        alloc,
+        program,
+        missing,
+        trace,
+        superstep,
+        id,
+        Sequence::from_vec(delivered),
+    )?;
+    Ok(vertex)
 }
 
 /// These vertices, with what is delivered to each, as they stand in the run.

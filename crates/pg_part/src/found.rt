@@ -1,9 +1,10 @@
 //! The vertices that a step looks at.
 ghost use Rattle.std.specs.Prelude.{◌≡◌, ℕ, [], IfOk, IsTrue, pos, true};
 ghost use Rattle.std.specs.Cmp.Lexicographic.{pointwise};
+ghost use Rattle.std.specs.List.{AllByRecursion};
 ghost use Rattle.pg_model.specs.Needed.{edge_eq};
 ghost use Rattle.pg_model.specs.Superstep.{is_active, made};
-ghost use Rattle.pg_part.specs.Found.{are_same_reading, is_same_vertex, vertex_of};
+ghost use Rattle.pg_part.specs.Found.{AreSameVertices, IsSameVertex, are_same_reading, is_same_vertex, vertex_of};
 ghost use Rattle.pg_trace.specs.Trace.{state_at};
 
 use pg_graph::{Edges, Memory, Missing, Superstep, VertexId};
@@ -111,4 +112,47 @@ fn is_same_vertex<V: Plain, M: Plain>(old: &Standing<V, M>, new: &Standing<V, M>
         && old.state.value == new.state.value
         && old.state.edges.as_slice() == new.state.edges.as_slice()
         && old.inbox.as_slice() == new.inbox.as_slice()
+}
+
+/// Tells the prover that a vertex that is found the same in both runs is the same.
+pub(crate) fn tell_same<V: Plain, M: Plain>(
+    old: &Option<Standing<V, M>>,
+    new: &Option<Standing<V, M>>,
+)
+    ensures { are_same_reading V.PartialEq.eq M.PartialEq.eq old.now new.now ≡ true → AreSameVertices old.now new.now }
+{
+    if let (Some(old), Some(new)) = (old, new) {
+        tell_same_vertex(old, new);
+    }
+}
+
+/// The same of two vertices.
+fn tell_same_vertex<V: Plain, M: Plain>(old: &Standing<V, M>, new: &Standing<V, M>)
+    ensures { is_same_vertex V.PartialEq.eq M.PartialEq.eq old.now new.now ≡ true → IsSameVertex old.now new.now }
+{
+    tell_same_value(&old.state.value, &new.state.value);
+    tell_same_messages(old.inbox.as_slice(), new.inbox.as_slice());
+}
+
+fn tell_same_value<X: Plain>(old: &X, new: &X)
+    ensures { X.PartialEq.eq old.now new.now ≡ true → old.now ≡ new.now }
+{
+    old.fits();
+    new.fits();
+}
+
+fn tell_same_messages<M: Plain>(old: &[M], new: &[M])
+    ensures { pointwise M.PartialEq.eq old.now new.now ≡ true → old.now ≡ new.now }
+{
+    tell_messages(old);
+    tell_messages(new);
+}
+
+/// Tells the prover that these messages are values of their type.
+fn tell_messages<M: Plain>(messages: &[M])
+    ensures { AllByRecursion M.is_value messages.now }
+{
+    for message in messages {
+        message.fits();
+    }
 }

@@ -3,6 +3,8 @@
 
 mod begin;
 mod candidates;
+mod changed;
+mod differing;
 mod execution;
 mod found;
 mod part;
@@ -10,6 +12,7 @@ mod partitioner;
 mod reading;
 mod sending;
 mod sent;
+mod warm;
 
 pub use part::{Lost, Part};
 pub(crate) use partitioner::Share;

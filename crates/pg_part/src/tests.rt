@@ -55,7 +55,7 @@ fn further<P: Computation, C: MessageCombiner<P::Message>>(
             return Err(Fail::from("a run without an end"));
         }
         let (part, sent) = part
-            .step(alloc, logs, &visible, program, combiner, meter)
+            .step(alloc, logs, &visible, None, None, program, combiner, meter)
             .ok()
             .ok_or("a step was lost")?;
         let mut to = 0u32;

@@ -12,4 +12,6 @@ mod programs;
 #[cfg(test)]
 mod runs;
 #[cfg(test)]
+mod sessions;
+#[cfg(test)]
 mod streams;

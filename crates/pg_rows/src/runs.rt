@@ -16,16 +16,16 @@ const TWO_HOPS: &[u8] = b"import list 2\n1 2 5\n2 3\nrefresh\ndump\n";
 
 // What the program is given, and what it has to answer.
 #[derive(Clone, Copy)]
-struct Session<'a> {
-    words: &'a [&'a str],
-    input: &'a [u8],
-    status: u8,
-    output: &'a str,
-    errors: &'a str,
+pub(crate) struct Session<'a> {
+    pub(crate) words: &'a [&'a str],
+    pub(crate) input: &'a [u8],
+    pub(crate) status: u8,
+    pub(crate) output: &'a str,
+    pub(crate) errors: &'a str,
 }
 
 // The program on its words and its input answers this.
-fn answers(rt: &impl Abort, alloc: Global, session: &Session<'_>) {
+pub(crate) fn answers(rt: &impl Abort, alloc: Global, session: &Session<'_>) {
     let mut reader = session.input;
     let mut writer = Vec::new(alloc);
     let mut errors = Vec::new(alloc);
@@ -36,7 +36,7 @@ fn answers(rt: &impl Abort, alloc: Global, session: &Session<'_>) {
 }
 
 // Shortest paths from 1 on these lines print this.
-fn prints(rt: &impl Abort, alloc: Global, input: &[u8], output: &str) {
+pub(crate) fn prints(rt: &impl Abort, alloc: Global, input: &[u8], output: &str) {
     let session = Session {
         words: &["pregeld", "--program", "sssp"],
         input,
@@ -300,7 +300,7 @@ pub(crate) fn shortest_paths(source: VertexId) -> ReadyJob
 }
 
 // The graph of 1 to 2 of weight 5 and 2 to 3 of weight 1.
-fn two_hops_batch(alloc: Global) -> Result<Batch, Fail> {
+pub(crate) fn two_hops_batch(alloc: Global) -> Result<Batch, Fail> {
     let mut batch = Batch::new(alloc);
     for number in 1..4 {
         batch.push(Edit::AddVertex(id(number)?, 0))?;

@@ -8,12 +8,12 @@ use std::io::{BufReader, Read, Write};
 use std::process::Abort;
 use std::test::Fail;
 
-// Every command, a comment, faults and a block of each form.
+// A command of each kind, a comment, faults and a block of each form.
 const INPUT: &[u8] =
-    b"dump\n# a list\nimport list 2\n1 2 5\n2 3\nrefresh\nimport csv 1\n3,1\nfly\nrefresh\ndump\n";
+    b"dump\n# a list\nimport list 2\n1 2 5\n2 3\nrefresh\nimport csv 1\n3,1\nfly\nrefresh\ndump\nedge 1 3 2\nget 3\ncommit\nreport\ncheck\n";
 
 const OUTPUT: &[u8] =
-    b"unpublished\nedition 1\nrefreshed edition 1 supersteps 3 ending finished calls 5 losses 0\nedition 2\nerror 1 line 9\nrefreshed edition 2 supersteps 4 ending finished calls 6 losses 0\nvalue 1 0\nvalue 2 5\nvalue 3 6\nend 3\n";
+    b"unpublished\nedition 1\nrefreshed edition 1 supersteps 3 ending finished calls 5 losses 0\nedition 2\nerror 1 line 9\nrefreshed edition 2 supersteps 4 ending finished calls 6 losses 0\nvalue 1 0\nvalue 2 5\nvalue 3 6\nend 3\nvalue 3 6\nedition 3\n{\"calls\":6,\"dropped\":0,\"edition\":2,\"ending\":\"finished\",\"losses\":0,\"sent\":3,\"supersteps\":4}\ncheck stale\n";
 
 // Gives its text a byte a call, and fails at the nth call.
 #[derive(Drop)]
@@ -74,7 +74,8 @@ fn edition_after(lines: usize) -> u64 {
     match lines {
         0 | 1 => 0,
         2 | 3 => 1,
-        _ => 2,
+        4..=11 => 2,
+        _ => 3,
     }
 }
 

@@ -54,6 +54,29 @@ impl<V: Drop, M: Drop> Trace<V, M> {
         })
     }
 
+    /// A trace of the same records, from other states of the vertices, by rising id. Shares the records.
+    pub fn restarted(
+        &self,
+        alloc: Global,
+        initial: Vec<VertexState<V>>,
+    ) -> Result<Trace<V, M>, Memory>
+        requires { StatesRise initial.items }
+        ensures { IfOk result (λ trace. trace ≡ record self.now { initial = initial.items }) }
+    {
+        let initial = Beginnings::of(alloc, initial)?;
+        let shared = self.share(alloc)?;
+        let Trace {
+            initial: _,
+            supersteps,
+            ran,
+        } = shared;
+        Ok(Trace {
+            initial,
+            supersteps,
+            ran,
+        })
+    }
+
     /// How many supersteps it has.
     pub fn supersteps(&self) -> usize
         ensures { result ≡ length self.now.records }

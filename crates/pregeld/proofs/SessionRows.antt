@@ -12,14 +12,15 @@ use Rattle.pg_model.specs.Run.{answer, configuration, first, length_from}
 use Rattle.pg_model.specs.Superstep.{gathered_from, next, outcome, view_of, visible_in}
 use Rattle.std.specs.Fmt.{digits}
 use Rattle.pregeld.specs.Arguments.{job_in}
-use Rattle.pregeld.specs.Command.{alone, command_in, command_of, import_of, named}
+use Rattle.pregeld.specs.Command.{alone, command_in, command_of, edit_named, get_of, import_of, named}
+use Rattle.pregeld.specs.Edits.{edge_of as edge_asked, input_of, vertex_of}
 use Rattle.pg_global.specs.declared.combiner.AnyCombiner.TheVariants.{NoCombiner}
 use Rattle.pg_graph.specs.declared.missing.Missing.TheVariants.{Drop, Create}
 use Rattle.pg_ready.specs.declared.ready.ReadyJob.{ReadyJob}
 use Rattle.pg_ready.specs.Ready.{ready_job}
-use Rattle.pregeld.specs.Reply.{report_text, text_of}
+use Rattle.pregeld.specs.Reply.{json_text, report_text, text_of}
 use Rattle.pregeld.specs.Service.{next_graph}
-use Rattle.pregeld.specs.Session.{State, answer_to}
+use Rattle.pregeld.specs.Session.{State, action_answer, answer_to}
 use Rattle.pregeld.specs.declared.names.ProgramName.{ProgramName}
 use Rattle.pregeld.specs.declared.names.ProgramName.TheVariants.{Sssp, Peel}
 use Rattle.pregeld.specs.declared.options.Options.{Options}
@@ -41,7 +42,7 @@ session job input = answers (length (raw_lines input)) job 0 empty (raw_lines in
 
 -- what a row unfolds: how lines are read, what an import makes of the graph, the run, and what is printed
 unfoldable reading : ⊤
-unfolding answer_to command_in named alone import_of edge_of edges_from list_of reading_of id_of number_up_to weight_of
+unfolding answer_to action_answer command_in named edit_named vertex_of input_of edge_asked alone get_of import_of edge_of edges_from list_of reading_of id_of number_up_to weight_of
 reading = tt
 
 unfoldable batching : ⊤
@@ -53,7 +54,7 @@ unfolding inputs_at needed_below answer configuration first length_from gathered
 running = tt
 
 unfoldable printing : ⊤
-unfolding text_of report_text digits
+unfolding text_of report_text json_text digits
 printing = tt
 
 -- the options of a program where nothing else is said
@@ -76,3 +77,21 @@ no_core : session (job_in (defaults Peel)) (codes "import list 2\n1 2 5\n2 3\nre
     ≡ codes "edition 1\nrefreshed edition 1 supersteps 2 ending finished calls 5 losses 0\nvalue 1 0\nvalue 2 0\nvalue 3 0\nend 3\n"
 unfolding reading batching running printing peel_step
 no_core = refl
+
+-- an import beside a pending edit is a fault, and its block is set aside; the edit is made by a commit
+beside_an_edit : session (job_in (defaults Sssp)) (codes "vertex 1\nimport list 1\n2 3\ncommit\nrefresh\ndump\n")
+    ≡ codes "error 5 line 2\nedition 1\nrefreshed edition 1 supersteps 1 ending finished calls 1 losses 0\nvalue 1 0\nend 1\n"
+unfolding reading batching running printing sssp_step
+beside_an_edit = refl
+
+-- a refused batch is given up
+refused_batch : session (job_in (defaults Sssp)) (codes "import list 1\n1 2 5\nvertex 9\ninput 9 7\nedge 1 2\ncommit\ncommit\n")
+    ≡ codes "edition 1\nrefused 4 position 3\nedition 2\n"
+unfolding reading batching running printing sssp_step
+refused_batch = refl
+
+-- what was published is told, and compared with a run from scratch
+asked : session (job_in (defaults Sssp)) (codes "report\nimport list 2\n1 2 5\n2 3\nrefresh\nget 3\nget 9\nreport\ncheck\nedge 1 3 2\ncommit\ncheck\n")
+    ≡ codes "unpublished\nedition 1\nrefreshed edition 1 supersteps 3 ending finished calls 5 losses 0\nvalue 3 6\nnone 9\n{\"calls\":5,\"dropped\":0,\"edition\":1,\"ending\":\"finished\",\"losses\":0,\"sent\":2,\"supersteps\":3}\ncheck same calls 5\nedition 2\ncheck stale\n"
+unfolding reading batching running printing sssp_step
+asked = refl

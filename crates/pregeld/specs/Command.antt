@@ -7,8 +7,12 @@ use Rattle.pg_import.specs.Import.{begins_with}
 use Rattle.pg_import.specs.Number.{id_of}
 use Rattle.pg_import.specs.Text.{line_of, words_of}
 use Rattle.pg_import.specs.declared.line.ImportKind.{ImportKind}
+use Rattle.pg_graph.specs.declared.edit.Edit.{Edit as OneEdit}
+use Rattle.pregeld.specs.Edits.{edge_of, given, in_place, input_of, reweigh_of, unedge_of, unvertex_of, vertex_of}
 use Rattle.pregeld.specs.declared.command.Command.{Command}
-use Rattle.pregeld.specs.declared.command.Command.TheVariants.{Nothing, Import, Refresh, Dump}
+use Rattle.pregeld.specs.declared.command.Command.TheVariants.{Nothing, Edit, Act, Ask}
+use Rattle.pregeld.specs.declared.command.Action.TheVariants.{Commit, Import, Refresh, Recompute}
+use Rattle.pregeld.specs.declared.command.Query.TheVariants.{Dump, Get, Reported}
 use Rattle.pregeld.specs.declared.command.Form.{Form}
 use Rattle.pregeld.specs.declared.command.Form.TheVariants.{List as ListForm, Csv}
 use Rattle.pregeld.specs.declared.command.LineFault.{LineFault}
@@ -26,7 +30,7 @@ form_of word = if bytes_eq word (codes "list") then Some ListForm else if bytes_
 abbrev pub import_in : Option Form → Result ℕ ImportKind → Result Command LineFault
 import_in None number = Err BadWord
 import_in (Some form) (Err kind) = Err BadWord
-import_in (Some form) (Ok number) = if nat_lt line_limit number then Err BadWord else Ok (Import form number)
+import_in (Some form) (Ok number) = if nat_lt line_limit number then Err BadWord else Ok (Act (Import form number))
 
 -- the words after `import`: a form and a number of lines
 unfoldable pub import_of : List (List ℕ) → Result Command LineFault
@@ -35,18 +39,39 @@ import_of (form ∷ []) = Err WordCount
 import_of (form ∷ number ∷ []) = import_in (form_of form) (id_of number)
 import_of (form ∷ number ∷ more ∷ words) = Err WordCount
 
+-- the word after `get`: an id
+unfoldable pub get_of : List (List ℕ) → Result Command LineFault
+get_of [] = Err WordCount
+get_of (id ∷ []) = given (in_place (id_of id)) (λ v. Ok (Ask (Get v)))
+get_of (id ∷ more ∷ words) = Err WordCount
+
 -- a command that has no words after it
 unfoldable pub alone : Command → List (List ℕ) → Result Command LineFault
 alone command [] = Ok command
 alone command (word ∷ words) = Err WordCount
 
+-- the edit that a first word names, with the words after it
+unfoldable pub edit_named : List ℕ → List (List ℕ) → Result OneEdit LineFault
+edit_named first words =
+    if bytes_eq first (codes "vertex") then vertex_of words
+    else if bytes_eq first (codes "input") then input_of words
+    else if bytes_eq first (codes "unvertex") then unvertex_of words
+    else if bytes_eq first (codes "edge") then edge_of words
+    else if bytes_eq first (codes "reweigh") then reweigh_of words
+    else if bytes_eq first (codes "unedge") then unedge_of words
+    else Err NoCommand
+
 -- the command that a first word names, with the words after it
 unfoldable pub named : List ℕ → List (List ℕ) → Result Command LineFault
 named first words =
     if bytes_eq first (codes "import") then import_of words
-    else if bytes_eq first (codes "refresh") then alone Refresh words
-    else if bytes_eq first (codes "dump") then alone Dump words
-    else Err NoCommand
+    else if bytes_eq first (codes "commit") then alone (Act Commit) words
+    else if bytes_eq first (codes "refresh") then alone (Act Refresh) words
+    else if bytes_eq first (codes "check") then alone (Act Recompute) words
+    else if bytes_eq first (codes "dump") then alone (Ask Dump) words
+    else if bytes_eq first (codes "report") then alone (Ask Reported) words
+    else if bytes_eq first (codes "get") then get_of words
+    else given (edit_named first words) (λ edit. Ok (Edit edit))
 
 -- the command of words: none asks for nothing, nor does a comment, which begins with `#`; a command has no byte above 127
 unfoldable pub command_in : Bool → List (List ℕ) → Result Command LineFault

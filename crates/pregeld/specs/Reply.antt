@@ -8,9 +8,11 @@ use Rattle.pg_model.specs.declared.run.Ending.TheVariants.{MasterHalted, Finishe
 use Rattle.pg_scratch.specs.declared.runner.RunFault.{RunFault}
 use Rattle.pg_scratch.specs.declared.runner.RunFault.TheVariants as run
 use Rattle.pregeld.specs.declared.command.LineFault.{LineFault}
-use Rattle.pregeld.specs.declared.command.LineFault.TheVariants.{NoCommand, WordCount, BadWord, CutShort}
+use Rattle.pregeld.specs.declared.command.LineFault.TheVariants.{NoCommand, WordCount, BadWord, CutShort, EditsPending}
 use Rattle.pregeld.specs.declared.reply.Reply.{Reply}
-use Rattle.pregeld.specs.declared.reply.Reply.TheVariants.{Edition, ImportRefused, BatchRefused, Refreshed, RefreshRefused, Unpublished, End, Fault}
+use Rattle.pregeld.specs.declared.reply.Reply.TheVariants.{Edition, ImportRefused, BatchRefused, Refreshed, RunRefused, Checked, Unpublished, Value, NoValue, End, Fault}
+use Rattle.pregeld.specs.declared.answers.Check.{Check}
+use Rattle.pregeld.specs.declared.answers.Check.TheVariants.{Stale, Same, Different}
 use Rattle.pregeld.specs.declared.answers.Report.{Report}
 
 -- the word for an ending
@@ -31,6 +33,7 @@ fault_number NoCommand = 1
 fault_number WordCount = 2
 fault_number BadWord = 3
 fault_number CutShort = 4
+fault_number EditsPending = 5
 
 -- the answer to a refresh
 unfoldable pub report_text : Report → List ℕ
@@ -41,14 +44,34 @@ report_text report =
     ++ (codes " calls " ++ (decimal report.calls
     ++ codes " losses 0")))))))
 
+-- the report of a refresh, as JSON
+unfoldable pub json_text : Report → List ℕ
+json_text report =
+    codes "{\"calls\":" ++ (decimal report.calls
+    ++ (codes ",\"dropped\":" ++ (decimal report.dropped
+    ++ (codes ",\"edition\":" ++ (decimal report.edition
+    ++ (codes ",\"ending\":\"" ++ (ending_name report.ending
+    ++ (codes "\",\"losses\":0,\"sent\":" ++ (decimal report.sent
+    ++ (codes ",\"supersteps\":" ++ (decimal report.supersteps
+    ++ codes "}")))))))))))
+
+-- what a check has found
+abbrev pub check_text : Check → List ℕ
+check_text Stale = codes "check stale"
+check_text (Same calls) = codes "check same calls " ++ decimal calls
+check_text (Different calls) = codes "check different calls " ++ decimal calls
+
 -- an answer, without its line feed
 unfoldable pub text_of : Reply → List ℕ
 text_of (Edition edition) = codes "edition " ++ decimal edition
 text_of (ImportRefused fault) = codes "import refused " ++ decimal (import.number_of fault.kind) ++ codes " line " ++ decimal fault.line
 text_of (BatchRefused fault) = codes "refused " ++ decimal (edit.number_of fault.kind) ++ codes " position " ++ decimal fault.position
 text_of (Refreshed report) = report_text report
-text_of (RefreshRefused fault) = codes "refused " ++ decimal (refusal_number fault)
+text_of (RunRefused fault) = codes "refused " ++ decimal (refusal_number fault)
+text_of (Checked check) = check_text check
 text_of Unpublished = codes "unpublished"
+text_of (Value id value) = codes "value " ++ decimal id ++ codes " " ++ signed_decimal value
+text_of (NoValue id) = codes "none " ++ decimal id
 text_of (End count) = codes "end " ++ decimal count
 text_of (Fault fault line) = codes "error " ++ decimal (fault_number fault) ++ codes " line " ++ decimal line
 

@@ -1,7 +1,7 @@
 -- What a service keeps, and what an edit and a refresh make of it.
-use Rattle.std.specs.Prelude.{◌≡◌, ◌⊎◌, ℕ, ℤ, nat_lt, if◌then◌else◌, List, [], Option, None, Result, Err}
+use Rattle.std.specs.Prelude.{◌≡◌, ◌⊎◌, ℕ, ℤ, ◌<◌, ◌≤◌, Bool, false, ◌==◌, nat_lt, if◌then◌else◌, List, [], length, Option, None, Some, Result, Err}
 use Rattle.std.specs.Ordering.{int_eq}
-use Rattle.pg_graph.specs.Edit.{batch_edited, memory_fault}
+use Rattle.pg_graph.specs.Edit.{batch_edited, batch_limit, memory_fault}
 use Rattle.pg_graph.specs.Rows.{Rows}
 use Rattle.pg_graph.specs.declared.edit.Edit.{Edit}
 use Rattle.pg_graph.specs.declared.edit.EditFault.{EditFault}
@@ -11,6 +11,8 @@ use Rattle.pg_model.specs.Needed.{needed_count}
 use Rattle.pg_model.specs.Publications.{Publication}
 use Rattle.pg_model.specs.Run.{answer}
 use Rattle.pg_model.specs.Superstep.{capped}
+use Rattle.pregeld.specs.declared.answers.Check.{Check}
+use Rattle.pregeld.specs.declared.answers.Check.TheVariants.{Same, Stale}
 use Rattle.pregeld.specs.declared.answers.Report.{Report}
 use Rattle.pg_ready.specs.declared.ready.ReadyJob.{ReadyJob}
 
@@ -19,6 +21,11 @@ pub record ServiceState : Type 0 where
   pub graph : Rows
   pub edition : ℕ
   pub published : Option (Publication ℤ)
+
+-- what was published is of this edition of the graph or of an earlier one; of this one it is the answer
+pub record IsPublished (job : Job ℤ ℤ) (graph : Rows) (edition : ℕ) (publication : Publication ℤ) : Type 0 where
+  pub not_later : publication.edition ≤ edition
+  pub is_answer : publication.edition ≡ edition → publication.answer ≡ answer job graph
 
 -- a service as it begins: an empty graph, and nothing published
 abbrev pub fresh : ReadyJob → ServiceState
@@ -36,9 +43,14 @@ no_edition_left = record { position = 0; kind = Full }
 unfoldable pub next_graph : ℕ → Rows → List Edit → Result Rows EditFault
 next_graph edition graph batch = if nat_lt edition edition_limit then batch_edited graph batch else Err no_edition_left
 
+-- a batch is tried where an edition is left for it and it isn't too long; only then memory may be wanted
+abbrev pub IsTried : ℕ → List Edit → Type 0
+IsTried edition batch = (edition < edition_limit) × (length batch ≤ batch_limit)
+
 -- why a batch makes no edition: want of memory, or a fault of its own
 abbrev pub RefusesEdition : ℕ → Rows → List Edit → EditFault → Type 0
-RefusesEdition edition graph batch fault = (fault ≡ memory_fault) ⊎ (next_graph edition graph batch ≡ Err fault)
+RefusesEdition edition graph batch fault =
+    ((fault ≡ memory_fault) × IsTried edition batch) ⊎ (next_graph edition graph batch ≡ Err fault)
 
 module _ (job : Job ℤ ℤ) where
   -- what a refresh publishes
@@ -57,3 +69,14 @@ module _ (job : Job ℤ ℤ) where
         dropped = run.dropped;
         calls = capped (needed_count int_eq int_eq job kept graph);
       }
+
+  -- whether the last publication is of this edition
+  abbrev pub is_current : ℕ → Option (Publication ℤ) → Bool
+  is_current edition None = false
+  is_current edition (Some publication) = publication.edition == edition
+
+  -- what a check finds: what was published is of another edition, or it is the answer of the run from scratch,
+  -- which has so many calls
+  abbrev pub check_of : ℕ → Rows → Option (Publication ℤ) → Check
+  check_of edition graph published =
+      if is_current edition published then Same (capped (needed_count int_eq int_eq job None graph)) else Stale

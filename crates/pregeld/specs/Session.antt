@@ -4,7 +4,7 @@ use Rattle.std.specs.Io.KnownBytes.{Appends}
 use Rattle.std.specs.List.{concat, last_or}
 use Rattle.pg_graph.specs.Edit.{memory_fault}
 use Rattle.pg_graph.specs.Rows.{Rows}
-use Rattle.pg_graph.specs.declared.edit.Edit.{Edit}
+use Rattle.pg_graph.specs.declared.edit.Edit.{Edit as OneEdit}
 use Rattle.pg_graph.specs.declared.edit.EditFault.{EditFault}
 use Rattle.pg_import.specs.Batch.{batch_of}
 use Rattle.pg_import.specs.Comma.{csv_of}
@@ -15,18 +15,23 @@ use Rattle.pg_model.specs.Job.{Job}
 use Rattle.pg_model.specs.Publications.{Publication, Publications}
 use Rattle.pg_scratch.specs.declared.runner.RunFault.TheVariants.{Memory}
 use Rattle.pg_import.specs.Text.{raw_lines}
+use Rattle.pregeld.specs.Answers.{value_of}
 use Rattle.pregeld.specs.Command.{command_of}
 use Rattle.pg_ready.specs.Ready.{ready_job}
-use Rattle.pregeld.specs.Reply.{line_of_reply, values_text}
-use Rattle.pregeld.specs.Service.{ServiceState, next_graph, publication_of, report_of}
+use Rattle.pregeld.specs.Reply.{json_text, line_of_reply, values_text}
+use Rattle.pregeld.specs.Service.{IsTried, ServiceState, check_of, next_graph, publication_of, report_of}
 use Rattle.pregeld.specs.declared.command.Command.{Command}
-use Rattle.pregeld.specs.declared.command.Command.TheVariants.{Nothing, Import, Refresh, Dump}
+use Rattle.pregeld.specs.declared.command.Command.TheVariants.{Nothing, Edit, Act, Ask}
+use Rattle.pregeld.specs.declared.command.Action.{Action}
+use Rattle.pregeld.specs.declared.command.Action.TheVariants.{Commit, Import, Refresh, Recompute}
+use Rattle.pregeld.specs.declared.command.Query.{Query}
+use Rattle.pregeld.specs.declared.command.Query.TheVariants.{Dump, Get, Reported}
 use Rattle.pregeld.specs.declared.command.Form.{Form}
 use Rattle.pregeld.specs.declared.command.Form.TheVariants.{List as ListForm, Csv}
 use Rattle.pregeld.specs.declared.command.LineFault.{LineFault}
-use Rattle.pregeld.specs.declared.command.LineFault.TheVariants.{CutShort}
+use Rattle.pregeld.specs.declared.command.LineFault.TheVariants.{CutShort, EditsPending}
 use Rattle.pregeld.specs.declared.reply.Reply.{Reply}
-use Rattle.pregeld.specs.declared.reply.Reply.TheVariants.{Edition, ImportRefused, BatchRefused, Refreshed, RefreshRefused, Unpublished, Fault}
+use Rattle.pregeld.specs.declared.reply.Reply.TheVariants.{Edition, ImportRefused, BatchRefused, Refreshed, RunRefused, Checked, Unpublished, Value, NoValue, Fault}
 use Rattle.pregeld.specs.declared.answers.Report.{Report}
 use Rattle.pregeld.specs.declared.session.ServeFault.{ServeFault}
 use Rattle.pregeld.specs.declared.session.ServeFault.TheVariants.{Write}
@@ -35,7 +40,7 @@ use Rattle.pregeld.specs.declared.session.ServeFault.TheVariants.{Write}
 pub record State : Type 0 where
   pub graph : Rows
   pub edition : ℕ
-  pub pending : List Edit  -- edits that wait to be made as one batch
+  pub pending : List OneEdit  -- edits that wait to be made as one batch, in their order
   pub publications : Publications ℤ
   pub report : Option Report  -- of the last refresh of this session that was answered
   pub kept : Option Rows  -- the graph of the run that the next refresh may reuse
@@ -82,13 +87,45 @@ abbrev pub imported : Result (List Line) ImportFault → ℕ → Rows → Import
 imported (Err fault) edition graph = record { reply = ImportRefused fault; edition = edition; graph = graph }
 imported (Ok edges) edition graph = edited (next_graph edition graph (batch_of edges graph)) edition graph
 
+-- the batch of these edges is tried
+abbrev pub IsTriedOf : ℕ → Rows → Result (List Line) ImportFault → Type 0
+IsTriedOf edition graph (Ok edges) = IsTried edition (batch_of edges graph)
+IsTriedOf edition graph (Err fault) = ⊥
+
 -- an import takes so many lines, or is cut short by the end of the input, and then nothing is applied
-abbrev pub import_answer : Form → ℕ → Place → Answer
-import_answer form n place =
+abbrev pub block_answer : Form → ℕ → Place → Answer
+block_answer form n place =
     if nat_lt (length place.lines) n then answered (Fault CutShort place.number) (record place { lines = [] })
     else
     let now = imported (edges_of form (concat (take n place.lines))) place.state.edition place.state.graph in
     answered now.reply (record (past n place) { state = record place.state { edition = now.edition; graph = now.graph } })
+
+-- an import while edits are pending is a fault, and its block is set aside
+abbrev pub import_answer : List OneEdit → Form → ℕ → Place → Answer
+import_answer [] form n place = block_answer form n place
+import_answer (edit ∷ edits) form n place = answered (Fault EditsPending place.number) (past n place)
+
+-- memory may be wanted for an import before its batch is applied, and while it is, where it is tried
+abbrev pub ImportWantsMemory : Form → ℕ → Place → Reply → Type 0
+ImportWantsMemory form n place reply =
+    (place.state.pending ≡ []) × (n ≤ length place.lines)
+    × ((reply ≡ ImportRefused no_memory) ⊎ ((reply ≡ BatchRefused memory_fault) × IsTriedOf place.state.edition place.state.graph (edges_of form (concat (take n place.lines)))))
+
+-- ---- edits
+
+-- one more edit is pending
+abbrev pub noted : OneEdit → State → State
+noted edit state = record state { pending = state.pending ++ edit ∷ [] }
+
+-- no edit is pending
+abbrev pub emptied : State → State
+emptied state = record state { pending = [] }
+
+-- the pending edits make the next edition, or are refused; in both cases none is pending afterwards
+abbrev pub commit_answer : Place → Answer
+commit_answer place =
+    let now = edited (next_graph place.state.edition place.state.graph place.state.pending) place.state.edition place.state.graph in
+    answered now.reply (record place { state = record (emptied place.state) { edition = now.edition; graph = now.graph } })
 
 -- ---- all commands
 
@@ -96,6 +133,26 @@ import_answer form n place =
 abbrev pub dump_text : Option (Publication ℤ) → List ℕ
 dump_text None = line_of_reply Unpublished
 dump_text (Some publication) = values_text publication.answer.values
+
+-- the value that was published last of a vertex
+abbrev pub value_reply : ℕ → Option ℤ → Reply
+value_reply id None = NoValue id
+value_reply id (Some value) = Value id value
+
+abbrev pub get_reply : ℕ → Option (Publication ℤ) → Reply
+get_reply id None = Unpublished
+get_reply id (Some publication) = value_reply id (value_of id publication.answer.values)
+
+-- the report of the last refresh of this session that was answered
+abbrev pub report_line : Option Report → List ℕ
+report_line None = line_of_reply Unpublished
+report_line (Some report) = json_text report ++ 10 ∷ []
+
+-- what is told, of what was published last and of the last report
+abbrev pub query_text : Query → Option (Publication ℤ) → Option Report → List ℕ
+query_text Dump published report = dump_text published
+query_text (Get id) published report = line_of_reply (get_reply id published)
+query_text Reported published report = report_line report
 
 module _ (own : Job ℤ ℤ) where
   -- the run on the graph as it stands is published and reported
@@ -110,21 +167,38 @@ module _ (own : Job ℤ ℤ) where
         };
       })
 
+  -- what is done, and what it is answered
+  unfoldable pub action_answer : Action → Place → Answer
+  action_answer Commit place = commit_answer place
+  action_answer (Import form n) place = import_answer place.state.pending form n place
+  action_answer Refresh place = refresh_answer place
+  action_answer Recompute place =
+      answered (Checked (check_of own place.state.edition place.state.graph (last_or None place.state.publications))) place
+
   -- the answer to a command, which stands in the last line that was read
   unfoldable pub answer_to : Result Command LineFault → Place → Answer
   answer_to (Err fault) place = answered (Fault fault place.number) place
   answer_to (Ok Nothing) place = record { text = []; next = place }
-  answer_to (Ok (Import form n)) place = import_answer form n place
-  answer_to (Ok Refresh) place = refresh_answer place
-  answer_to (Ok Dump) place = record { text = dump_text (last_or None place.state.publications); next = place }
+  answer_to (Ok (Edit edit)) place = record { text = []; next = record place { state = noted edit place.state } }
+  answer_to (Ok (Act action)) place = action_answer action place
+  answer_to (Ok (Ask query)) place = record { text = query_text query (last_or None place.state.publications) place.state.report; next = place }
 
-  -- the answers for want of memory, which change nothing
+  -- an action for which there is no memory: graph, edition and publications stay, no run is kept after a
+  -- refresh, and no edit is pending after a commit
+  abbrev pub WantsMemory : Action → Place → Answer → Type 0
+  WantsMemory Commit place answer =
+      IsTried place.state.edition place.state.pending × (answer ≡ answered (BatchRefused memory_fault) (record place { state = emptied place.state }))
+  WantsMemory (Import form n) place answer =
+      (reply : Reply) × ImportWantsMemory form n place reply × (answer ≡ answered reply (past n place))
+  WantsMemory Refresh place answer = answer ≡ answered (RunRefused Memory) (record place { state = record place.state { kept = None } })
+  WantsMemory Recompute place answer = answer ≡ answered (RunRefused Memory) place
+
+  -- the answers for want of memory
   abbrev pub ForWantOfMemory : Result Command LineFault → Place → Answer → Type 0
-  ForWantOfMemory (Ok (Import form n)) place answer =
-      (n ≤ length place.lines) × ((answer ≡ answered (ImportRefused no_memory) (past n place)) ⊎ (answer ≡ answered (BatchRefused memory_fault) (past n place)))
-  ForWantOfMemory (Ok Refresh) place answer = answer ≡ answered (RefreshRefused Memory) (record place { state = record place.state { kept = None } })
+  ForWantOfMemory (Ok (Act action)) place answer = WantsMemory action place answer
+  ForWantOfMemory (Ok (Edit edit)) place answer = ⊥
+  ForWantOfMemory (Ok (Ask query)) place answer = ⊥
   ForWantOfMemory (Ok Nothing) place answer = ⊥
-  ForWantOfMemory (Ok Dump) place answer = ⊥
   ForWantOfMemory (Err fault) place answer = ⊥
 
   -- an answer that a command may get
@@ -138,6 +212,20 @@ module _ (own : Job ℤ ℤ) where
         → Answers (command_of line) (record { number = number + 1; state = state; lines = lines }) answer
         → Runs answer.next text end
         → Runs (record { number = number; state = state; lines = line ∷ lines }) (answer.text ++ text) end
+
+  -- a session's text ends in an answer that isn't empty: the one to the last line that was read
+  pub record EndsInAnswer (first : Place) (text : List ℕ) (end : Place) : Type 0 where
+    pub front : List ℕ
+    pub number : ℕ
+    pub state : State
+    pub line : List ℕ
+    pub lines : List (List ℕ)
+    pub answer : Answer
+    pub runs : Runs first front (record { number = number; state = state; lines = line ∷ lines })
+    pub answers : Answers (command_of line) (record { number = number + 1; state = state; lines = lines }) answer
+    pub some : answer.text ≢ []
+    pub text_is : text ≡ front ++ answer.text
+    pub end_is : end ≡ answer.next
 
 -- ---- the service of a session
 
@@ -169,9 +257,11 @@ pub record Serves (input : List ℕ) (old new : ServiceState) (before now : Opti
   pub ends : place.lines ≡ []
   pub wrote : Appends before now text
 
--- a fault broke a session off: all was written that was answered until then, but where writing failed
+-- a fault broke a session off: all was written that was answered until then; where writing failed, it was the last
+-- answer that couldn't be written
 pub record BreaksOff (fault : ServeFault) (input : List ℕ) (old new : ServiceState) (before now : Option (List ℕ)) : Type 0 where
   pub text : List ℕ
   pub place : Place
   pub comes : Comes input old new text place
   pub wrote : fault ≢ Write → Appends before now text
+  pub unwritten : fault ≡ Write → EndsInAnswer (ready_job old.job) (record { number = 0; state = opened old; lines = raw_lines input }) text place

@@ -1,7 +1,10 @@
 //! What a refresh publishes, and what it tells.
 ghost use Rattle.std.specs.Prelude.{◌≡◌};
+ghost use Rattle.std.specs.Bool.{Decides};
+ghost use Rattle.std.specs.Option.{option_copied};
+ghost use Rattle.pregeld.specs.Answers.{HaveRisingIds, value_of};
 
-use pg_graph::Edition;
+use pg_graph::{Edition, VertexId};
 use pg_model::{Ending, Run};
 use std::marker::Model;
 
@@ -15,15 +18,19 @@ pub struct Answers {
 impl Model for Answers {
     ghost use Rattle.std.specs.Prelude.{ℤ};
     ghost use Rattle.pg_model.specs.Publications.{Publication};
+    ghost use Rattle.pregeld.specs.Answers.{HaveRisingIds};
 
     ghost Value = { Publication ℤ };
 
     ghost view = { λ a. record { edition = a.edition; answer = a.run } };
+
+    ghost invariant = { λ a. HaveRisingIds a.run.values };
 }
 
 impl Answers {
     /// The answer of the run on this edition of a graph.
     pub(crate) fn new(edition: Edition, run: Run<i64>) -> Answers
+        requires { HaveRisingIds run.values }
         ensures { result ≡ record { edition = edition; answer = run } }
     {
         Answers { edition, run }
@@ -34,6 +41,25 @@ impl Answers {
         ensures { result ≡ self.now.edition }
     {
         self.edition
+    }
+
+    /// The value of each vertex, by rising id.
+    pub fn values(&self) -> &[(VertexId, i64)]
+        ensures value { result.now ≡ self.now.answer.values }
+        ensures rising { HaveRisingIds result.now }
+    {
+        self.run.values.as_slice()
+    }
+
+    /// The value of a vertex, found by halving.
+    pub fn value(&self, id: VertexId) -> Option<&i64>
+        ensures { option_copied result ≡ value_of id self.now.answer.values }
+    {
+        let values = self.values();
+        match values.binary_search_by_key(&id, |entry| entry.0) {
+            Ok(place) => Some(&values[place].1),
+            Err(_) => None,
+        }
     }
 
     /// The answer of the run.
@@ -55,4 +81,46 @@ pub struct Report {
     pub sent: u64,
     pub dropped: u64,
     pub calls: u64,
+}
+
+/// Whether these are the answers of a run: its values, aggregates, ending and counts. The edition isn't looked at.
+pub fn same(answers: &Answers, run: &Run<i64>) -> bool
+    ensures { Decides result (answers.now.answer ≡ run.now) }
+{
+    let own = answers.run();
+    if !are_same_values(own.values.as_slice(), run.values.as_slice()) {
+        return false;
+    }
+    if !are_same_aggregates(own.aggregates.as_slice(), run.aggregates.as_slice()) {
+        return false;
+    }
+    if own.ending != run.ending || own.supersteps != run.supersteps {
+        return false;
+    }
+    own.sent == run.sent && own.dropped == run.dropped
+}
+
+/// Whether these are the same ids with the same values.
+fn are_same_values(own: &[(VertexId, i64)], others: &[(VertexId, i64)]) -> bool
+    ensures { Decides result (own.now ≡ others.now) }
+{
+    own == others
+}
+
+/// Whether these are the same aggregates.
+fn are_same_aggregates(own: &[i64], others: &[i64]) -> bool
+    ensures { Decides result (own.now ≡ others.now) }
+{
+    own == others
+}
+
+/// What a check has found.
+#[derive(Clone, Copy, Debug, PartialEq, Eq)]
+pub enum Check {
+    /// What was published is of another edition, or nothing was published.
+    Stale,
+    /// It is the answer of the run from scratch, which calls compute so many times.
+    Same(u64),
+    /// It is another answer than that of the run from scratch, which calls compute so many times.
+    Different(u64),
 }

@@ -110,7 +110,7 @@ fn ends_line(text: &[u8]) -> bool
 }
 
 /// Sets so many lines aside.
-fn skip_lines<R: BufRead>(count: u32, reader: &mut R) -> Result<Block, ServeFault>
+pub(crate) fn skip_lines<R: BufRead>(count: u32, reader: &mut R) -> Result<Block, ServeFault>
     ensures ok { IfOk result (λ block. (lines : List (List ℕ)) → lines_left (R.remaining reader.old) ≡ Some lines
         → SkipsLines count block lines (lines_left (R.remaining reader.new))) }
     ensures err { IfErr result (λ fault. fault ≢ ServeFault.Write) }

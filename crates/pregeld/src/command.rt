@@ -2,9 +2,11 @@
 ghost use Rattle.std.specs.Prelude.{◌≡◌};
 ghost use Rattle.std.specs.Char.{is_ascii};
 ghost use Rattle.std.specs.List.{list_all};
-ghost use Rattle.pregeld.specs.Command.{alone, command_of, form_of, import_of, named};
+ghost use Rattle.pregeld.specs.Command.{alone, command_of, edit_named, form_of, get_of, import_of, named};
 ghost use Rattle.pregeld.specs.Reply.{fault_number};
 
+use crate::edits::{edge_of, id_in, input_of, reweigh_of, unedge_of, unvertex_of, vertex_of};
+use pg_graph::{Edit, VertexId};
 use pg_import::{Words, bare_line, read_id};
 
 /// The most lines of an import.
@@ -21,6 +23,8 @@ pub(crate) enum LineFault {
     BadWord,
     /// 4: the input ends inside of an import.
     CutShort,
+    /// 5: an import while edits are pending.
+    EditsPending,
 }
 
 impl LineFault {
@@ -33,6 +37,7 @@ impl LineFault {
             LineFault::WordCount => 2,
             LineFault::BadWord => 3,
             LineFault::CutShort => 4,
+            LineFault::EditsPending => 5,
         }
     }
 }
@@ -51,12 +56,36 @@ pub(crate) enum Form {
 pub(crate) enum Command {
     /// Nothing: the line is empty or a comment.
     Nothing,
+    /// To add an edit to those that are pending.
+    Edit(Edit),
+    /// To do something that is answered by one line.
+    Act(Action),
+    /// To tell something.
+    Ask(Query),
+}
+
+/// What a line asks to be done.
+#[derive(Clone, Copy, Debug, PartialEq, Eq)]
+pub(crate) enum Action {
+    /// To apply the pending edits as one batch.
+    Commit,
     /// To read an edge list in this form from so many lines that follow.
     Import(Form, u32),
     /// To run the program on the graph as it stands.
     Refresh,
-    /// To print all published values.
+    /// To compare what was published with a run from scratch.
+    Recompute,
+}
+
+/// What a line asks to be told.
+#[derive(Clone, Copy, Debug, PartialEq, Eq)]
+pub(crate) enum Query {
+    /// All published values.
     Dump,
+    /// The published value of a vertex.
+    Get(VertexId),
+    /// The last report.
+    Reported,
 }
 
 /// The command of a line, which may end in its line feed.
@@ -92,13 +121,66 @@ fn named(first: &[u8], words: Words<'_>) -> Result<Command, LineFault>
     if first == b"import".as_slice() {
         return import_of(words);
     }
+    if first == b"commit".as_slice() {
+        return alone(Command::Act(Action::Commit), words);
+    }
     if first == b"refresh".as_slice() {
-        return alone(Command::Refresh, words);
+        return alone(Command::Act(Action::Refresh), words);
+    }
+    if first == b"check".as_slice() {
+        return alone(Command::Act(Action::Recompute), words);
     }
     if first == b"dump".as_slice() {
-        return alone(Command::Dump, words);
+        return alone(Command::Ask(Query::Dump), words);
+    }
+    if first == b"report".as_slice() {
+        return alone(Command::Ask(Query::Reported), words);
+    }
+    if first == b"get".as_slice() {
+        return get_of(words);
+    }
+    let edit = edit_named(first, words)?;
+    Ok(Command::Edit(edit))
+}
+
+/// The edit that a first word names, with the words after it.
+#[tactic(auto, unfolding(crate::specs::Command::edit_named))]
+fn edit_named(first: &[u8], words: Words<'_>) -> Result<Edit, LineFault>
+    ensures { result ≡ edit_named first.now words.entry }
+{
+    if first == b"vertex".as_slice() {
+        return vertex_of(words);
+    }
+    if first == b"input".as_slice() {
+        return input_of(words);
+    }
+    if first == b"unvertex".as_slice() {
+        return unvertex_of(words);
+    }
+    if first == b"edge".as_slice() {
+        return edge_of(words);
+    }
+    if first == b"reweigh".as_slice() {
+        return reweigh_of(words);
+    }
+    if first == b"unedge".as_slice() {
+        return unedge_of(words);
     }
     Err(LineFault::NoCommand)
+}
+
+/// `get ID`.
+#[tactic(auto, unfolding(crate::specs::Command::get_of))]
+fn get_of(mut words: Words<'_>) -> Result<Command, LineFault>
+    ensures { result ≡ get_of words.entry }
+{
+    let Some(id) = words.next() else {
+        return Err(LineFault::WordCount);
+    };
+    if words.next().is_some() {
+        return Err(LineFault::WordCount);
+    }
+    Ok(Command::Ask(Query::Get(id_in(id)?)))
 }
 
 /// A command with no words after it.
@@ -136,7 +218,7 @@ fn import_of(mut words: Words<'_>) -> Result<Command, LineFault>
     if lines > LINE_LIMIT {
         return Err(LineFault::BadWord);
     }
-    Ok(Command::Import(form, lines as u32))
+    Ok(Command::Act(Action::Import(form, lines as u32)))
 }
 
 /// The form that a word names.

@@ -1,7 +1,7 @@
 //! The program.
 ghost use Rattle.std.specs.Prelude.{◌≡◌, ◌≤◌, map};
 ghost use Rattle.pregeld.specs.Arguments.{AreAtFault};
-ghost use Rattle.pregeld.specs.Program.{EndsWell};
+ghost use Rattle.pregeld.specs.Program.{EndsBroken, EndsWell};
 
 use crate::options::{NoOptions, job_of, options_of};
 use crate::{ServeFault, Service, serve};
@@ -22,7 +22,8 @@ pub fn start<S: AsStr, R: BufRead, W: Write, E: Write>(
     ensures status { result ≤ 2 }
     ensures fault { result ≡ 2 → AreAtFault (map S.text words.now) }
     ensures untouched { result ≡ 2 → (reader.new ≡ reader.old) × (writer.new ≡ writer.old) }
-    ensures done { result ≡ 0 → EndsWell (map S.text words.now) (R.remaining reader.old) (W.contents writer.old) (W.contents writer.new) }
+    ensures done { result ≡ 0 → EndsWell (map S.text words.now) (R.remaining reader.old) (R.remaining reader.new) (W.contents writer.old) (W.contents writer.new) }
+    ensures broken { result ≡ 1 → EndsBroken (map S.text words.now) (R.remaining reader.old) (R.remaining reader.new) (W.contents writer.old) (W.contents writer.new) }
 {
     let options = match options_of(alloc, words) {
         Ok(options) => options,
@@ -38,9 +39,16 @@ pub fn start<S: AsStr, R: BufRead, W: Write, E: Write>(
     let mut service = Service::new(alloc, job_of(&options));
     match serve(alloc, reader, writer, &mut service) {
         Ok(()) => 0,
-        Err(ServeFault::Memory) => fail(errors, "memory", 1),
-        Err(ServeFault::Read) => fail(errors, "input", 1),
-        Err(ServeFault::Write) => fail(errors, "output", 1),
+        Err(fault) => fail(errors, name_of(fault), 1),
+    }
+}
+
+/// What failed.
+fn name_of(fault: ServeFault) -> &'static str {
+    match fault {
+        ServeFault::Memory => "memory",
+        ServeFault::Read => "input",
+        ServeFault::Write => "output",
     }
 }
 

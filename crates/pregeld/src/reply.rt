@@ -2,9 +2,9 @@
 ghost use Rattle.std.specs.Prelude.{◌≡◌};
 ghost use Rattle.pregeld.specs.Reply.{refusal_number};
 
-use crate::Report;
 use crate::command::LineFault;
-use pg_graph::{EditFault, Edition};
+use crate::{Check, Report};
+use pg_graph::{EditFault, Edition, VertexId};
 use pg_import::ImportFault;
 use pg_model::Ending;
 use pg_scratch::RunFault;
@@ -22,9 +22,15 @@ pub(crate) enum Reply {
     /// The answers of a run were published.
     Refreshed(Report),
     /// A run was refused.
-    RefreshRefused(RunFault),
+    RunRefused(RunFault),
+    /// What was published was compared with a run from scratch.
+    Checked(Check),
     /// Nothing was published.
     Unpublished,
+    /// The value of a vertex.
+    Value(VertexId, i64),
+    /// A vertex has no value.
+    NoValue(VertexId),
     /// All values were printed, so many.
     End(usize),
     /// This line has a fault.
@@ -50,10 +56,28 @@ impl fmt::Display for Reply {
                 write!(f, "refused {number} position {position}")
             }
             Reply::Refreshed(report) => write!(f, "{report}"),
-            Reply::RefreshRefused(fault) => write!(f, "refused {}", refusal_number(fault)),
+            Reply::RunRefused(fault) => write!(f, "refused {}", refusal_number(fault)),
+            Reply::Checked(check) => write!(f, "{check}"),
             Reply::Unpublished => write!(f, "unpublished"),
+            Reply::Value(id, value) => write!(f, "value {id} {value}"),
+            Reply::NoValue(id) => write!(f, "none {id}"),
             Reply::End(count) => write!(f, "end {count}"),
             Reply::Fault(fault, line) => write!(f, "error {} line {line}", fault.number()),
+        }
+    }
+}
+
+impl fmt::Display for Check {
+    ghost use Rattle.std.specs.Prelude.{Some};
+    ghost use Rattle.pregeld.specs.Reply.{check_text};
+
+    ghost output = { λ check. Some (check_text check) };
+
+    fn fmt<W: fmt::Write>(&self, f: &mut fmt::Formatter<W>) -> fmt::Result {
+        match *self {
+            Check::Stale => write!(f, "check stale"),
+            Check::Same(calls) => write!(f, "check same calls {calls}"),
+            Check::Different(calls) => write!(f, "check different calls {calls}"),
         }
     }
 }

@@ -4,10 +4,14 @@ ghost use Rattle.std.specs.Option.{option_copied};
 ghost use Rattle.pg_graph.specs.Rows.{HasRisingIds};
 ghost use Rattle.pg_model.specs.Run.{answer};
 ghost use Rattle.pg_ready.specs.Ready.{ready_job};
-ghost use Rattle.pregeld.specs.Service.{RefusesEdition, fresh, next_graph, publication_of, report_of};
+ghost use Rattle.pregeld.specs.Answers.{HaveRisingIds};
+ghost use Rattle.pregeld.specs.Service.{RefusesEdition, check_of, fresh, next_graph, publication_of, report_of};
+ghost use Rattle.pregeld.specs.Reply.{json_text};
+ghost use Rattle.std.specs.String.{string_bytes};
 
-use crate::{Answers, Report};
-use pg_graph::{Batch, EditFault, EditKind, Edition, Graph};
+use crate::report_json::value_of_report;
+use crate::{Answers, Check, Report, same};
+use pg_graph::{Batch, EditFault, EditKind, Edition, Graph, Memory};
 use pg_model::Run;
 use pg_program::Meter;
 use pg_ready::{ReadyJob, ReadyMaster};
@@ -26,11 +30,15 @@ pub struct Service {
 }
 
 impl Model for Service {
-    ghost use Rattle.pregeld.specs.Service.{ServiceState};
+    ghost use Rattle.std.specs.Prelude.{IfSome};
+    ghost use Rattle.pg_ready.specs.Ready.{ready_job};
+    ghost use Rattle.pregeld.specs.Service.{IsPublished, ServiceState};
 
     ghost Value = { ServiceState };
 
     ghost view = { λ s. record { job = s.job; graph = s.graph; edition = s.edition; published = s.published } };
+
+    ghost invariant = { λ s. IfSome s.published (IsPublished (ready_job s.job) s.graph s.edition) };
 }
 
 impl Service {
@@ -123,9 +131,50 @@ impl Service {
         Ok(report)
     }
 
+    /// Runs the program from scratch on the graph as it stands, and compares what was published with the
+    /// answer. Where what was published is of another edition, nothing is run.
+    ///
+    /// # Errors
+    ///
+    /// Want of memory.
+    ///
+    /// # Cost
+    ///
+    /// That of a whole run.
+    pub fn check(&self, alloc: Global) -> Result<Check, Memory>
+        ensures { IfOk result (λ check. check ≡ check_of (ready_job self.now.job) self.now.edition self.now.graph self.now.published) }
+    {
+        let Some(answers) = self.answers() else {
+            return Ok(Check::Stale);
+        };
+        if answers.edition() != self.edition {
+            return Ok(Check::Stale);
+        }
+        let Ok((run, calls)) = self.run_now(alloc) else {
+            return Err(Memory);
+        };
+        if same(answers, &run) {
+            return Ok(Check::Same(calls));
+        }
+        Ok(Check::Different(calls))
+    }
+
+    /// The text of a report: compact JSON with its keys in the order of the alphabet.
+    ///
+    /// # Errors
+    ///
+    /// Want of memory.
+    pub fn report_json(&self, alloc: Global, report: &Report) -> Result<String, Memory>
+        ensures { IfOk result (λ text. string_bytes text ≡ json_text report.now) }
+    {
+        let value = value_of_report(alloc, report)?;
+        value.to_string(alloc)
+    }
+
     /// The run on the graph as it stands, with the number of calls of compute.
     fn run_now(&self, alloc: Global) -> Result<(Run<i64>, u64), RunFault>
         ensures answer { IfOk result (λ r. r.0 ≡ answer (ready_job self.now.job) self.now.graph) }
+        ensures rising { IfOk result (λ r. HaveRisingIds r.0.values) }
         ensures calls { IfOk result (λ r. r.1 ≡ (report_of (ready_job self.now.job) None self.now.edition self.now.graph).calls) }
         ensures registered { IfErr result (λ fault. fault ≡ RunFault.Memory) }
     {

@@ -1,7 +1,8 @@
-use Rattle.std.proofs.Common.{ap, take, arith}
+use Rattle.std.proofs.Common.{take, arith}
 use Rattle.pg_import.proofs.BatchLaw.{Makes-batch_of}
 use Rattle.pg_import.proofs.BatchSteps.{batch_of-end, batch_of-more, with_lines-more}
 use Rattle.pg_import.proofs.Graphs.{has_vertex-with_ends}
+use Rattle.pg_import.proofs.NamedBefore.{IsSaid-more}
 use Rattle.pg_import.specs.Batch.{batch_of, with_ends, with_lines, with_vertex}
 use Rattle.pg_import.proofs.batch.into_batch.Goals as goal
 
@@ -13,9 +14,10 @@ loop-place-preserved c =
     let before = with_lines (take i lines) c.args.graph.now in
     let graph = c.args.graph.now in
     let seen = c.source_at-source.ensures in
-    let source = c.in_ok-push_vertex.ensures graph before (ap (λ s. s.vertex) seen) c.loop-place.invariant.shows in
-    let target = c.in_ok-push_vertex-2.ensures graph (with_vertex line.source before) c.target_at-target.ensures source.1 in
-    let edge = c.in_ok-push_edge.ensures graph (with_ends line before) (ap (λ s. s.edge) seen) target.1 (has_vertex-with_ends line before) in
+    let target_said = IsSaid-more _ _ line.source graph before (c.is_there-target_there.ensures graph c.target_at-target.ensures) in
+    let source = c.in_ok-push_vertex.ensures graph before (c.is_there-source_there.ensures graph seen.0) c.loop-place.invariant.shows in
+    let target = c.in_ok-push_vertex-2.ensures graph (with_vertex line.source before) target_said source.1 in
+    let edge = c.in_ok-push_edge.ensures graph (with_ends line before) seen.1 target.1 (has_vertex-with_ends line before) in
     let after = with_lines-more lines line i graph (omega arith) c.index-lines-place.is in
     record {
       shows = rw after edge.1;

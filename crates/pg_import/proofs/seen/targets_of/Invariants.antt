@@ -5,6 +5,6 @@ use Rattle.pg_import.proofs.seen.targets_of.Given as goal
 abbrev pub invariant-loop-place : goal.invariant-loop-place
 invariant-loop-place l = record {
   seen : AreSeen (IsTarget l.graph) l.lines l.seen.items;
-  found : l.finder ≡ l.graph;
+  found : l.last ≡ l.graph;
   long : length l.seen.items ≡ length l.lines;
 }

@@ -1,6 +1,7 @@
 use Rattle.std.proofs.Common.{true, map, ap, ◌∙◌, subst}
 use Rattle.std.specs.Map.{keys_of}
 use Rattle.pg_part.specs.Candidates.{AreCallees, found_at}
+use Rattle.pg_part.proofs.ReadVertices.{untold}
 use Rattle.pg_part.proofs.candidates.play_alone.Goals as goal
 
 pub returns : goal.returns
@@ -15,6 +16,7 @@ returns g c =
       ids_are = c.in_ok-candidates.ensures.ids ∙ ap keys_of own;
       new_are = c.in_ok-candidates.ensures.new ∙ ap (map (found_at program c.args.missing c.args.superstep c.args.trace.now)) own;
       beside_are = c.in_ok-candidates.ensures.old;
+      told = untold g.P.Value.PartialEq.eq g.P.Message.PartialEq.eq c.in_ok-candidates.candidates.items c.in_ok-candidates.ensures.old;
       changes_are = c.in_ok-played.ensures.changes;
       counted = c.in_ok-played.ensures.meter;
     }

@@ -8,6 +8,6 @@ returns-then-in_graph c = λ graph rows known shows source.
 
 pub returns : goal.returns
 returns c = λ graph rows known shows source.
-    Shows-edge graph c.args.self.now c.insert.new.self rows c.args.line.now c.in_ok-added.added shows source
+    Shows-edge graph c.args.self.now c.name.new.self rows c.args.line.now c.in_ok-added.added shows source
     (sym known ∙ c.if-in_graph.false) c.in_ok-added.ensures.added
-    c.in_ok-added.ensures.updates.0
+    c.in_ok-added.ensures.named

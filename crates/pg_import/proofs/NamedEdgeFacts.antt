@@ -1,0 +1,149 @@
+-- Edges that stand once: which of them were named, with one more or one more named.
+use Rattle.std.proofs.Common.{◌≡◌, ℕ, zero, suc, ◌<◌, ◌≤◌, ◌⊎◌, inl, inr, Bool, true, false, ◌&&◌, ◌||◌, cond, List, [], ◌∷◌, ◌++◌, Some, refl, ap, sym, ◌∙◌, subst, arith, slice_set, ◌+◌}
+use Rattle.std.specs.BTreeMap.{is_at}
+use Rattle.std.specs.List.{AllByRecursion, slice_get}
+use Rattle.std.specs.Ordering.{nat_cmp}
+use Rattle.std.proofs.lemmas.Bool.{cases_Bool, true≢false}
+use Rattle.pg_import.proofs.Graphs.{cmp-refl, is_at-sym, same_from_is_at}
+use Rattle.pg_import.proofs.SeenFacts.{Some_same}
+use Rattle.pg_import.specs.NamedEdges.{AreBefore, AreDistinct, IsApart, is_edge, named_in}
+use Rattle.pg_import.specs.declared.named_edges.NamedEdge.{NamedEdge}
+
+-- ---- tests of numbers
+is_at-self : (k : ℕ) → is_at (nat_cmp k) k ≡ true
+is_at-self k = rw (cmp-refl k) refl
+
+is_at-apart : (k q : ℕ) → (k ≡ q → ⊥) → is_at (nat_cmp k) q ≡ false
+is_at-apart k q apart = elim (cases_Bool (is_at (nat_cmp k) q)) [
+  | inl there ↦ absurd (apart (same_from_is_at k q there))
+  | inr not_there ↦ not_there
+]
+
+and-false : (b : Bool) → (b && false) ≡ false
+and-false true = refl
+and-false false = refl
+
+pub or-false : (b : Bool) → (b || false) ≡ b
+or-false true = refl
+or-false false = refl
+
+pub cond-or : (b v c : Bool) → cond b true (v || c) ≡ (v || cond b true c)
+cond-or true true c = refl
+cond-or true false c = refl
+cond-or false v c = refl
+
+-- ---- edges
+is_edge-self : (edge : NamedEdge) → is_edge edge.source edge.target edge ≡ true
+is_edge-self edge = rw (is_at-self edge.source, is_at-self edge.target) refl
+
+is_edge-sym : (x y : NamedEdge) → is_edge x.source x.target y ≡ is_edge y.source y.target x
+is_edge-sym x y = rw (is_at-sym y.source x.source, is_at-sym y.target x.target) refl
+
+-- an edge that comes before is another one
+apart_before : (edge : NamedEdge) (from to source target : ℕ) → (edge.source < from) ⊎ ((edge.source ≡ from) × (edge.target < to))
+    → (from < source) ⊎ ((from ≡ source) × (to ≤ target)) → is_edge source target edge ≡ false
+apart_before edge from to source target (inl below) (inl past) = rw (is_at-apart edge.source source (λ e. omega (arith, below, past, e))) refl
+apart_before edge from to source target (inl below) (inr past) =
+    rw (is_at-apart edge.source source (λ e. omega (arith, below, past.0, e))) refl
+apart_before edge from to source target (inr at) (inl past) = rw (is_at-apart edge.source source (λ e. omega (arith, at.0, past, e))) refl
+apart_before edge from to source target (inr at) (inr past) =
+    rw (is_at-apart edge.target target (λ e. omega (arith, at.1, past.1, e))) (and-false (is_at (nat_cmp edge.source) source))
+
+pub IsApart-before : (edges : List NamedEdge) (from to source target : ℕ) → AreBefore from to edges
+    → (from < source) ⊎ ((from ≡ source) × (to ≤ target)) → IsApart source target edges
+IsApart-before [] from to source target before past = tt
+IsApart-before (e ∷ es) from to source target before past =
+    (apart_before e from to source target before.0 past, IsApart-before es from to source target before.1 past)
+
+-- ---- what holds of all edges holds with one more, or one in the place of another
+module _ (P : NamedEdge → Type 0) where
+  all_at : (es : List NamedEdge) (i : ℕ) (e : NamedEdge) → AllByRecursion P es → slice_get es i ≡ Some e → P e
+  all_at [] i e all at = cc at
+  all_at (x ∷ xs) zero e all at = subst P (Some_same at) all.0
+  all_at (x ∷ xs) (suc i) e all at = all_at xs i e all.1 at
+
+  all_push : (es : List NamedEdge) (e : NamedEdge) → AllByRecursion P es → P e → AllByRecursion P (es ++ e ∷ [])
+  all_push [] e all more = (more, tt)
+  all_push (x ∷ xs) e all more = (all.0, all_push xs e all.1 more)
+
+  all_set : (es : List NamedEdge) (i : ℕ) (e : NamedEdge) → AllByRecursion P es → P e → AllByRecursion P (slice_set es i e)
+  all_set [] i e all more = tt
+  all_set (x ∷ xs) zero e all more = (more, all.1)
+  all_set (x ∷ xs) (suc i) e all more = (all.0, all_set xs i e all.1 more)
+
+-- ---- an edge apart from all was not named
+pub named_in-apart : (s t : ℕ) (es : List NamedEdge) → IsApart s t es → named_in s t es ≡ false
+named_in-apart s t [] all = refl
+named_in-apart s t (x ∷ xs) all = rw all.0 (named_in-apart s t xs all.1)
+
+here : (x : NamedEdge) (xs : List NamedEdge) → IsApart x.source x.target xs → named_in x.source x.target (x ∷ xs) ≡ x.named
+here x xs all = rw (is_edge-self x, named_in-apart x.source x.target xs all) (or-false x.named)
+
+-- an edge that stands there was named if it says so
+pub named_at : (es : List NamedEdge) (i : ℕ) (e : NamedEdge) → AreDistinct es → slice_get es i ≡ Some e → named_in e.source e.target es ≡ e.named
+named_at [] i e distinct at = cc at
+named_at (x ∷ xs) zero e distinct at = subst (λ y. named_in y.source y.target (x ∷ xs) ≡ y.named) (Some_same at) (here x xs distinct.0)
+named_at (x ∷ xs) (suc i) e distinct at =
+    rw (is_edge-sym e x ∙ all_at (λ y. is_edge x.source x.target y ≡ false) xs i e distinct.0 at) (named_at xs i e distinct.1 at)
+
+-- ---- one edge is named
+module _ (e : NamedEdge) (is : e.named ≡ true) where
+  set_here : (s t : ℕ) (v c : Bool) → ((is_edge s t e && e.named) || c) ≡ cond (is_edge s t e) true ((is_edge s t e && v) || c)
+  set_here s t v c = rw is (elim (cases_Bool (is_edge s t e)) [ inl there ↦ rw there refl | inr apart ↦ rw apart refl ])
+
+  pub named_in-set : (es : List NamedEdge) (i : ℕ) (old : NamedEdge) (s t : ℕ) → slice_get es i ≡ Some old
+      → old.source ≡ e.source → old.target ≡ e.target
+      → named_in s t (slice_set es i e) ≡ cond (is_edge s t e) true (named_in s t es)
+  named_in-set [] i old s t at source target = cc at
+  named_in-set (x ∷ xs) zero old s t at source target =
+      let same : is_edge s t x ≡ is_edge s t e = rw (Some_same at, source, target) refl in
+      rw same (set_here s t x.named (named_in s t xs))
+  named_in-set (x ∷ xs) (suc i) old s t at source target =
+      ap (λ b. (is_edge s t x && x.named) || b) (named_in-set xs i old s t at source target)
+      ∙ sym (cond-or (is_edge s t e) (is_edge s t x && x.named) (named_in s t xs))
+
+  pub named_in-push_named : (es : List NamedEdge) (s t : ℕ) → named_in s t (es ++ e ∷ []) ≡ cond (is_edge s t e) true (named_in s t es)
+  named_in-push_named [] s t = rw is (elim (cases_Bool (is_edge s t e)) [ inl there ↦ rw there refl | inr apart ↦ rw apart refl ])
+  named_in-push_named (x ∷ xs) s t =
+      ap (λ b. (is_edge s t x && x.named) || b) (named_in-push_named xs s t)
+      ∙ sym (cond-or (is_edge s t e) (is_edge s t x && x.named) (named_in s t xs))
+
+-- an edge more that isn't named
+pub named_in-push : (e : NamedEdge) → e.named ≡ false → (es : List NamedEdge) (s t : ℕ) → named_in s t es ≡ false → named_in s t (es ++ e ∷ []) ≡ false
+named_in-push e is [] s t none = rw is (rw (and-false (is_edge s t e)) refl)
+named_in-push e is (x ∷ xs) s t none = elim (cases_Bool (is_edge s t x && x.named)) [
+  | inl named ↦ absurd (true≢false (rw named at none))
+  | inr apart ↦ rw apart (named_in-push e is xs s t (rw apart at none))
+]
+
+-- ---- none stands twice
+pub AreDistinct-set : (es : List NamedEdge) (i : ℕ) (old e : NamedEdge) → AreDistinct es → slice_get es i ≡ Some old
+    → old.source ≡ e.source → old.target ≡ e.target → AreDistinct (slice_set es i e)
+AreDistinct-set [] i old e distinct at source target = tt
+AreDistinct-set (x ∷ xs) zero old e distinct at source target =
+    (rw (ap (λ y. y.source) (Some_same at) ∙ source, ap (λ y. y.target) (Some_same at) ∙ target) at distinct.0, distinct.1)
+AreDistinct-set (x ∷ xs) (suc i) old e distinct at source target =
+    let apart : is_edge x.source x.target e ≡ false =
+    rw (source, target) at (all_at (λ y. is_edge x.source x.target y ≡ false) xs i old distinct.0 at) in (
+      all_set (λ y. is_edge x.source x.target y ≡ false) xs i e distinct.0 apart,
+      AreDistinct-set xs i old e distinct.1 at source target,
+    )
+
+pub AreDistinct-push : (es : List NamedEdge) (e : NamedEdge) → AreDistinct es → IsApart e.source e.target es → AreDistinct (es ++ e ∷ [])
+AreDistinct-push [] e distinct apart = (tt, tt)
+AreDistinct-push (x ∷ xs) e distinct apart =
+    (all_push (λ y. is_edge x.source x.target y ≡ false) xs e distinct.0 (is_edge-sym x e ∙ apart.0), AreDistinct-push xs e distinct.1 apart.1)
+
+-- ---- all come before
+later : (from to source target : ℕ) → (from < source) ⊎ ((from ≡ source) × (to ≤ target)) → (e : NamedEdge)
+    → (e.source < from) ⊎ ((e.source ≡ from) × (e.target < to)) → (e.source < source) ⊎ ((e.source ≡ source) × (e.target < target + 1))
+later from to source target (inl past) e (inl below) = inl (omega (arith, past, below))
+later from to source target (inr past) e (inl below) = inl (omega (arith, past.0, below))
+later from to source target (inl past) e (inr at) = inl (omega (arith, past, at.0))
+later from to source target (inr past) e (inr at) = inr (at.0 ∙ past.0, omega (arith, past.1, at.1))
+
+pub AreBefore-push : (es : List NamedEdge) (from to : ℕ) (e : NamedEdge) → AreBefore from to es
+    → (from < e.source) ⊎ ((from ≡ e.source) × (to ≤ e.target)) → AreBefore e.source (e.target + 1) (es ++ e ∷ [])
+AreBefore-push [] from to e before past = (inr (refl, omega arith), tt)
+AreBefore-push (x ∷ xs) from to e before past =
+    (later from to e.source e.target past x before.0, AreBefore-push xs from to e before.1 past)

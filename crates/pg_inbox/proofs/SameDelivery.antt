@@ -1,0 +1,128 @@
+-- Bundles that are the same at a target deliver the same to it; and what bundles hold as they are made.
+use Rattle.std.proofs.Common.{◌≡◌, ℕ, Bool, true, false, cond, List, [], ◌∷◌, ◌++◌, map, Option, None, Some, option_map, refl, sym, ap, ap₂, ◌∙◌, subst, subst₂, flat_map}
+use Rattle.std.specs.BTreeMap.{insert_entry, is_at}
+use Rattle.std.specs.List.{AllByRecursion}
+use Rattle.std.specs.Map.{remove_entry, values_of}
+use Rattle.std.specs.Option.{IfSome, option_to_list}
+use Rattle.std.specs.Ordering.{nat_cmp}
+use Rattle.std.proofs.lemmas.List.Elements.{All-from_recursion}
+use Rattle.std.proofs.lemmas.Map.Views.{All-map-remove_entry, All-values-insert_entry, IfSome-lookup_from_All}
+use Rattle.pg_global.specs.Combiner.{IsLawful}
+use Rattle.pg_map.specs.Entries.{value_at, with_changes}
+use Rattle.pg_model.specs.Job.{Combining}
+use Rattle.pg_model.specs.Superstep.{combined}
+use Rattle.pg_inbox.specs.Alike.{AllSameAt, DeliverAlike}
+use Rattle.pg_inbox.specs.Bundles.{Entry, Parcels, bundle_of, contents_of, entries_in, entries_to, messages}
+use Rattle.pg_inbox.specs.Grouping.{any_of}
+use Rattle.pg_inbox.specs.Holding.{HoldAll, Holds, HoldsAt, IsLetters}
+use Rattle.pg_inbox.specs.Inboxes.{contents_to, letters_at, received_of}
+use Rattle.pg_inbox.specs.Ordered.{in_order}
+use Rattle.pg_inbox.specs.Sends.{Sends, letters_to}
+use Rattle.pg_inbox.specs.declared.parcel.Contents.{Contents}
+use Rattle.pg_inbox.proofs.Bundling.{value_at-bundle_of}
+use Rattle.pg_inbox.proofs.Delivery.{delivers_received, folded_at, folded_of_all, letters_at-bundle_of, letters_of_all}
+use Rattle.pg_inbox.proofs.Differing.{letter_of, letters_back}
+
+-- ---- what is held
+
+module _ {M : Type 0} (is_value : M → Type 0) where
+  -- of the groups of a bundle's messages
+  pub hold-groups : (combining : Option (Combining M)) (groups : List (ℕ × List (ℕ × M))) (parcels : Parcels M)
+      → AllByRecursion (λ g. IsLetters is_value g.1) groups → parcels ≡ map (λ g. (g.0, contents_of combining g.1)) groups → HoldAll is_value parcels
+  hold-groups combining groups parcels letters are =
+      subst (HoldAll is_value) (sym are) (All-from_recursion (Holds is_value) (values_of (map (λ g. (g.0, contents_of combining g.1)) groups)) (each groups letters))
+    where
+      each : (gs : List (ℕ × List (ℕ × M))) → AllByRecursion (λ g. IsLetters is_value g.1) gs
+          → AllByRecursion (Holds is_value) (values_of (map (λ g. (g.0, contents_of combining g.1)) gs))
+      each [] h = tt
+      each (g ∷ gs) h = (h.0, each gs h.1)
+
+  -- after changes that hold
+  pub hold-changes : (changes : List (ℕ × Option (Contents M))) (old : Parcels M) → AllByRecursion (λ c. HoldsAt is_value c.1) changes
+      → HoldAll is_value old → HoldAll is_value (with_changes changes old)
+  hold-changes [] old h before = before
+  hold-changes ((id, None) ∷ changes) old h before =
+      hold-changes changes (remove_entry (is_at (nat_cmp id)) old) h.1 (All-map-remove_entry (is_at (nat_cmp id)) (λ e. e.1) (Holds is_value) old before)
+  hold-changes ((id, Some contents) ∷ changes) old h before =
+      hold-changes changes (insert_entry nat_cmp old id contents) h.1 (All-values-insert_entry nat_cmp id contents (Holds is_value) old before h.0)
+
+  holds_at : (id : ℕ) (b : Parcels M) → HoldAll is_value b → HoldsAt is_value (value_at id b)
+  holds_at id b h = by (value_at id b) (IfSome-lookup_from_All (Holds is_value) (is_at (nat_cmp id)) b h)
+    where
+      by : (o : Option (Contents M)) → IfSome o (Holds is_value) → HoldsAt is_value o
+      by None h = tt
+      by (Some c) h = h
+
+  pub all_hold : (id : ℕ) (bundles : List (Parcels M)) → AllByRecursion (HoldAll is_value) bundles → AllByRecursion (λ b. HoldsAt is_value (value_at id b)) bundles
+  all_hold id [] h = tt
+  all_hold id (b ∷ bundles) h = (holds_at id b h.0, all_hold id bundles h.1)
+
+-- ---- what is seen of it tells what is delivered
+
+module _ {M : Type 0} (id : ℕ) where
+  -- the messages that entries have, and with their senders
+  heard : List (Entry M) → List M
+  heard entries = map (λ e. e.message) entries
+
+  letters_heard : List (Entry M) → List (ℕ × M)
+  letters_heard entries = map (letter_of id) entries
+
+  -- where messages aren't combined, entries tell them
+  told_apart : (l : List (ℕ × M)) → letters_heard (entries_in id (option_map (contents_of None) (any_of l))) ≡ l
+  unfolding letters_heard
+  told_apart [] = refl
+  told_apart (x ∷ l) = letters_back id (x ∷ l)
+
+  -- where they are, what they come to
+  told_together : (c : Combining M) (l : List (ℕ × M))
+      → heard (entries_in id (option_map (contents_of (Some c)) (any_of l)))
+      ≡ elim (option_map (contents_of (Some c)) (any_of l)) [ None ↦ [] | Some contents ↦ option_to_list contents.folded ]
+  unfolding heard
+  told_together c [] = refl
+  told_together c (x ∷ l) = refl
+
+  letters_told : (sent : Sends M) → letters_at id (bundle_of None sent) ≡ letters_heard (entries_to id (bundle_of None sent))
+  letters_told sent =
+      letters_at-bundle_of id None sent
+      ∙ (sym (told_apart (letters_to id sent))
+      ∙ sym (ap (λ o. letters_heard (entries_in id o)) (value_at-bundle_of None id sent)))
+
+  fold_told : (c : Combining M) (sent : Sends M) → folded_at id (bundle_of (Some c) sent) ≡ heard (entries_to id (bundle_of (Some c) sent))
+  fold_told c sent =
+      ap (λ (o : Option (Contents M)). elim o [ None ↦ [] | Some contents ↦ option_to_list contents.folded ]) (value_at-bundle_of (Some c) id sent)
+      ∙ (sym (told_together c (letters_to id sent))
+      ∙ sym (ap (λ o. heard (entries_in id o)) (value_at-bundle_of (Some c) id sent)))
+
+  -- what is read of each of two lists of bundles is the same where their entries tell it and are the same
+  same_read : {X : Type 0} (made : Sends M → Parcels M) (read : Parcels M → List X) (tell : List (Entry M) → List X)
+      → ((sent : Sends M) → read (made sent) ≡ tell (entries_to id (made sent)))
+      → (lists lists' : List (Sends M)) → AllSameAt id (map made lists) (map made lists')
+      → flat_map read (map made lists) ≡ flat_map read (map made lists')
+  same_read made read tell told [] [] h = refl
+  same_read made read tell told [] (l ∷ lists') h = absurd h
+  same_read made read tell told (l ∷ lists) [] h = absurd h
+  same_read made read tell told (l ∷ lists) (l' ∷ lists') h =
+      ap₂ ◌++◌ (told l ∙ (ap tell h.0 ∙ sym (told l'))) (same_read made read tell told lists lists' h.1)
+
+  same_received : (combining : Option (Combining M)) (lists lists' : List (Sends M))
+      → AllSameAt id (map (bundle_of combining) lists) (map (bundle_of combining) lists')
+      → received_of combining (contents_to id (map (bundle_of combining) lists)) ≡ received_of combining (contents_to id (map (bundle_of combining) lists'))
+  same_received None lists lists' h =
+      ap (λ l. messages (in_order l))
+      (letters_of_all id (map (bundle_of None) lists)
+      ∙ (same_read (bundle_of None) (letters_at id) letters_heard letters_told lists lists' h
+      ∙ sym (letters_of_all id (map (bundle_of None) lists'))))
+  same_received (Some c) lists lists' h =
+      ap (combined (Some c))
+      (folded_of_all id (map (bundle_of (Some c)) lists)
+      ∙ (same_read (bundle_of (Some c)) (folded_at id) heard (fold_told c) lists lists' h
+      ∙ sym (folded_of_all id (map (bundle_of (Some c)) lists'))))
+
+  pub alike : (is_value : M → Type 0) (combining : Option (Combining M)) → IsLawful is_value combining → (old new : List (Parcels M))
+      → AllByRecursion (HoldAll is_value) old → AllByRecursion (HoldAll is_value) new → DeliverAlike combining id old new
+  alike is_value combining law old new hold hold' lists lists' all all' are are' of of' same =
+      sym (delivers_received id is_value combining law old (all_hold is_value id old hold) lists all are of)
+      ∙ (ap (λ l. received_of combining (contents_to id l)) are
+      ∙ (same_received combining lists lists' (subst₂ (AllSameAt id) are are' same)
+      ∙ (sym (ap (λ l. received_of combining (contents_to id l)) are')
+      ∙ delivers_received id is_value combining law new (all_hold is_value id new hold') lists' all' are' of')))

@@ -1,0 +1,59 @@
+use Rattle.std.proofs.Common.{◌≡◌, None, sym, ◌∙◌, subst}
+use Rattle.pg_part.specs.Part.{HasStepped, Holding, Holds}
+use Rattle.pg_part.specs.Warm.{IsConcluded, IsReplayed}
+use Rattle.pg_part.proofs.Stepping.{played_rise}
+use Rattle.pg_part.proofs.WarmStep.{beside_steps, nothing_kept}
+use Rattle.pg_part.proofs.part.Part.beside.Goals as goal
+
+pub concluded-requires-clause-rise : goal.concluded-requires-clause-rise
+concluded-requires-clause-rise g c κs within =
+    played_rise g.V.PartialEq.eq g.M.PartialEq.eq _ _ _ _ _ _ _ _ _ _ _ _ _ _ _ c.in_ok-played-in-Some.ensures.is
+
+pub returns-in_ok-stepped-in-Some-clause-stepped : goal.returns-in_ok-stepped-in-Some-clause-stepped
+returns-in_ok-stepped-in-Some-clause-stepped g c job kept rows n p s program combining holds within has bundled sees lent =
+    let values = g.met.V.Eq g.world.𝓛 g.world.𝓜 g.world.𝓡 ((λ s x. x), (λ x. x), (λ x. x), λ x. x) in
+    let messages = g.met.M.Eq g.world.𝓛 g.world.𝓜 g.world.𝓡 ((λ s x. x), (λ x. x), (λ x. x), λ x. x) in
+    let value_eq = g.V.PartialEq.eq in
+    let message_eq = g.M.PartialEq.eq in
+    let old = c.in-Some.old in
+    let combining' = g.C.MessageCombiner.combining c.args.combiner.now in
+    let program' = g.P.Computation.program c.args.program.now in
+    let played = c.in_ok-played-in-Some.played in
+    let after = c.in_ok-stepped-in-Some.stepped.part in
+    let sent = c.in_ok-stepped-in-Some.stepped.sent in
+    let part : Holding g.row.V.Denot g.row.M.Denot = record {
+      partition = c.part.inside.partition;
+      partitions = c.part.inside.partitions;
+      missing = c.part.inside.missing;
+      place = c.part.inside.place;
+      trace = c.part.inside.trace;
+      kept = c.part.inside.kept;
+      differing = c.part.inside.differing.items;
+    } in
+    let steps = beside_steps value_eq message_eq values.laws.refl messages.laws.refl part old combining' program' c.args.logs.now c.args.old_logs.now c.args.old_view c.args.stage.view
+    c.as_slice.result.now c.args.stage.meter played c.partitions.ensures.some
+    (sym c.take.ensures.value ∙ c.in-Some.is)
+    (subst (λ k. IsReplayed value_eq message_eq combining' (record part { kept = k }) old c.args.old_logs.now program' c.args.logs.now c.args.old_view c.args.stage.view
+    c.as_slice.result.now c.args.stage.meter played) c.take.ensures.after c.in_ok-played-in-Some.ensures)
+    after sent
+    (subst (λ k. IsConcluded value_eq message_eq combining' (record part { kept = k }) old c.args.old_logs.now played.changes.items after sent) c.take.ensures.after
+    c.in_ok-stepped-in-Some.ensures.concluded) in
+    subst (HasStepped job value_eq message_eq kept rows n p s after sent c.args.stage.meter) (sym c.in_ok-stepped-in-Some.ensures.counted)
+    (steps job kept rows n p s program combining (subst (Holds job kept rows n p s) (sym c.part.view_is) holds) within has (c.as_slice.ensures.value ∙ bundled) sees lent)
+
+pub returns-in_ok-stepped-in-None-clause-stepped : goal.returns-in_ok-stepped-in-None-clause-stepped
+returns-in_ok-stepped-in-None-clause-stepped g c job kept rows n p s program combining holds within has bundled sees lent =
+    let part : Holding g.row.V.Denot g.row.M.Denot = record {
+      partition = c.part.inside.partition;
+      partitions = c.part.inside.partitions;
+      missing = c.part.inside.missing;
+      place = c.part.inside.place;
+      trace = c.part.inside.trace;
+      kept = c.part.inside.kept;
+      differing = c.part.inside.differing.items;
+    } in
+    let here : Holds job kept rows n p s part = subst (Holds job kept rows n p s) (sym c.part.view_is) holds in
+    let none : part.kept ≡ None = sym c.take.ensures.value ∙ c.in-None.is in
+    c.in_ok-stepped-in-None.ensures.stepped job kept rows n p s c.args.logs.now program combining
+    (subst (Holds job kept rows n p s) (λ i. record part { kept = (none ∙ sym c.take.ensures.after) i }) here)
+    (nothing_kept job kept rows n p s part here none) within has bundled sees

@@ -1,0 +1,31 @@
+-- The vertices whose states differ between two runs.
+use Rattle.std.specs.Prelude.{ℕ, ◌==◌, ◌&&◌, not, Bool, cond, ◌≡◌, true, List}
+use Rattle.std.specs.Cmp.Lexicographic.{pointwise}
+use Rattle.std.specs.List.{AllByRecursion, filter}
+use Rattle.std.specs.Option.{option_eq}
+use Rattle.std.specs.Ordering.{int_eq}
+use Rattle.pg_model.specs.declared.configuration.VertexState.{VertexState}
+use Rattle.pg_trace.specs.Trace.{Trace, state_at}
+
+module _ {V : Type 0} where
+  -- two states with the same id, edges and vote
+  abbrev pub has_same_rest : VertexState V → VertexState V → Bool
+  has_same_rest x y =
+      (x.id == y.id) && (pointwise (λ a b. (a.0 == b.0) && int_eq a.1 b.1) x.edges y.edges && cond x.halted y.halted (not y.halted))
+
+  -- and the same value
+  abbrev pub is_same_state : (V → V → Bool) → VertexState V → VertexState V → Bool
+  is_same_state value_eq x y = value_eq x.value y.value && has_same_rest x y
+
+module _ {V M : Type 0} (value_eq : V → V → Bool) where
+  -- two traces have the same state of a vertex as superstep s begins, or none
+  abbrev pub has_same_state : Trace V M → Trace V M → ℕ → ℕ → Bool
+  has_same_state old new s id = option_eq (is_same_state value_eq) (state_at id s old) (state_at id s new)
+
+  -- those of some vertices of which they don't
+  abbrev pub differing : Trace V M → Trace V M → ℕ → List ℕ → List ℕ
+  differing old new s ids = filter (λ id. not (has_same_state old new s id)) ids
+
+  -- where states are found the same, they are
+  abbrev pub AreTold : Trace V M → Trace V M → ℕ → List ℕ → Type 0
+  AreTold old new s ids = AllByRecursion (λ id. has_same_state old new s id ≡ true → state_at id s old ≡ state_at id s new) ids

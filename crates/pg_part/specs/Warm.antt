@@ -1,0 +1,47 @@
+-- What a step beside an old run makes of a partition, by what it looked at.
+use Rattle.std.specs.Prelude.{◌≡◌, ℕ, ◌+◌, ◌<◌, not, length, Bool, List, Option, Some}
+use Rattle.std.specs.List.{flat_map, slice_get}
+use Rattle.std.specs.Map.{keys_of}
+use Rattle.pg_inbox.specs.Alike.{DeliverAlike}
+use Rattle.pg_inbox.specs.Bundles.{Parcels}
+use Rattle.pg_inbox.specs.Logged.{Slots, slot_at}
+use Rattle.pg_inbox.specs.declared.logs.Logged.{Logged}
+use Rattle.pg_model.specs.Job.{Combining, Program}
+use Rattle.pg_model.specs.declared.record.Record.{Record}
+use Rattle.pg_model.specs.declared.view.View.{View}
+use Rattle.pg_part.specs.Candidates.{AreLookedAt, IsPlayed}
+use Rattle.pg_part.specs.Differing.{AreTold, differing}
+use Rattle.pg_part.specs.Found.{is_same_view}
+use Rattle.pg_part.specs.Lent.{bundles_before}
+use Rattle.pg_part.specs.Lists.{reaching}
+use Rattle.pg_part.specs.Part.{Holding}
+use Rattle.pg_part.specs.Sending.{IsMended, items_to, pairs_of, sends_of}
+use Rattle.pg_part.specs.declared.execution.Played.{Played}
+use Rattle.pg_trace.specs.Trace.{Trace, with_replaced}
+
+module _ {V M : Type 0} (value_eq : V → V → Bool) (message_eq : M → M → Bool) (combining : Option (Combining M)) (part : Holding V M) (old : Trace V M) (old_logs : Slots M) where
+  -- the bundles to the partition in the old run
+  abbrev pub old_bundles : List (Parcels M)
+  old_bundles = bundles_before old_logs part.partitions part.partition part.place
+
+  -- all that had to be looked at was, and executed where the old run read something else
+  pub record IsReplayed (program : Program V M) (logs : Slots M) (old_view view : View) (bundles : List (Parcels M)) (before : ℕ) (played : Played V M) : Type 0 where
+    pub ids : List ℕ
+    pub looked : AreLookedAt part.partitions part.partition part.place part.trace part.differing logs old_logs (is_same_view old_view view) ids
+    pub is : IsPlayed value_eq message_eq program part.missing combining view part.partitions part.partition part.place part.trace bundles
+        (Some (old, old_bundles)) ids (not (is_same_view old_view view)) (is_same_view old_view view) before played
+    pub alike : (id : ℕ) → DeliverAlike combining id old_bundles bundles
+
+  -- the trace has the changed records, what the old run sent is mended, and the states where they changed are compared
+  pub record IsConcluded (changes : List (ℕ × Option (Record V M))) (after : Holding V M) (sent : List (Logged M)) : Type 0 where
+    pub part_is : after ≡ record part {
+      place = part.place + 1;
+      trace = with_replaced part.place changes (reaching part.place part.trace);
+      kept = Some old;
+      differing = differing value_eq old (with_replaced part.place changes (reaching part.place part.trace)) (part.place + 1) (keys_of changes);
+    }
+    pub told : AreTold value_eq old (with_replaced part.place changes (reaching part.place part.trace)) (part.place + 1) (keys_of changes)
+    pub to_each : length sent ≡ part.partitions
+    pub sends : (q : ℕ) → q < part.partitions → IsMended combining
+        (items_to part.partitions q (flat_map (pairs_of old part.place) changes)) (items_to part.partitions q (flat_map sends_of changes))
+        (slot_at old_logs part.place part.partition q) (slice_get sent q)

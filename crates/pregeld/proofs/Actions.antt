@@ -1,0 +1,216 @@
+-- What actions are answered, beside what a session may be answered.
+use Rattle.std.proofs.Common.{◌≡◌, ℕ, ◌+◌, true, false, nat_lt, List, [], ◌∷◌, ◌++◌, length, take, drop, Option, None, Some, Ok, refl, sym, ap, subst, ◌∙◌, inl, inr, arith}
+use Rattle.std.specs.List.{concat, last_or}
+use Rattle.std.proofs.lemmas.Bool.Decides.{nat_tests}
+use Rattle.std.proofs.lemmas.Grind.{common_steps}
+use Rattle.pg_graph.specs.declared.edit.Edit.{Edit}
+use Rattle.pg_ready.specs.Ready.{ready_job}
+use Rattle.pregeld.specs.Notes.{Held, Noted, stored}
+use Rattle.pregeld.specs.Reading.{AreNotes, Checks, Edits, Imports, ImportsLines, Keeps, Refreshes, RepliesTo, SkipsLines, TakesLines}
+use Rattle.pregeld.specs.Service.{ServiceState, next_graph, publication_of, report_of}
+use Rattle.pregeld.specs.Session.{Imported, Place, State, after, action_answer, answer_to, answered, edges_of, edited, emptied, import_answer, imported, past, refresh_answer}
+use Rattle.pregeld.specs.declared.block.Block.{Block}
+use Rattle.pregeld.specs.declared.block.Block.TheVariants.{Whole, CutShort, NoMemory}
+use Rattle.pregeld.specs.declared.command.Action.TheVariants.{Commit, Import, Refresh, Recompute}
+use Rattle.pregeld.specs.declared.command.Command.TheVariants.{Act}
+use Rattle.pregeld.specs.declared.command.Form.{Form}
+use Rattle.pregeld.specs.declared.command.LineFault.TheVariants as fault
+use Rattle.pregeld.specs.declared.reply.Reply.{Reply}
+use Rattle.pregeld.specs.declared.reply.Reply.TheVariants.{Refreshed, Fault}
+use Rattle.pregeld.proofs.Pending.{next_of_stored, none_pending, stored_none, tried_of_stored}
+
+-- ---- refreshes
+
+last-append : {A : Type 0} (o : Option A) (xs : List A) (x : A) → last_or o (xs ++ x ∷ []) ≡ Some x
+last-append o [] x = refl
+last-append o (y ∷ xs) x = last-append (Some y) xs x
+
+refreshes_at : (s : ServiceState) (notes : Noted) (here : Place) (reply : Reply) (new : Held) (left : Option (List (List ℕ))) → AreNotes notes here.state → left ≡ Some here.lines
+    → Refreshes (record { service = after s here.state; notes = notes }) reply new → RepliesTo (Ok (Act Refresh)) here (after s here.state) reply here.number new left
+unfolding answer_to action_answer
+refreshes_at s notes here reply new left are left_is (inl done) =
+    let own = ready_job s.job in
+    let next : Place = (refresh_answer own here).next in
+    let same : report_of own None here.state.edition here.state.graph ≡ report_of own here.state.kept here.state.edition here.state.graph =
+    ap (λ k. report_of own k here.state.edition here.state.graph) (sym are.no_run) in
+    record {
+      next = next;
+      answers = inl (ap (λ r. answered r next) (done.0 ∙ ap Refreshed same));
+      service_is = done.1 ∙ ap (λ p. record (after s here.state) { published = p }) (sym (last-append None here.state.publications (publication_of own here.state.edition here.state.graph)));
+      notes_are = record {
+        pending_is = ap (λ (n : Noted). n.pending) done.2 ∙ are.pending_is;
+        report_is = ap (λ (n : Noted). n.report) done.2 ∙ ap Some same;
+        no_run = are.no_run;
+      };
+      number_is = refl;
+      left_is = left_is;
+    }
+refreshes_at s notes here reply new left are left_is (inr refused) = record {
+  next = record here { state = record here.state { kept = None } };
+  answers = inr (ap (λ r. answered r (record here { state = record here.state { kept = None } })) refused.0);
+  service_is = ap (λ (h : Held). h.service) refused.1;
+  notes_are = record {
+    pending_is = ap (λ (h : Held). h.notes.pending) refused.1 ∙ are.pending_is;
+    report_is = ap (λ (h : Held). h.notes.report) refused.1 ∙ are.report_is;
+    no_run = refl;
+  };
+  number_is = refl;
+  left_is = left_is;
+}
+
+pub refresh_replies : (here : Place) (old : ServiceState) (notes : Noted) (reply : Reply) (new : Held) (left : Option (List (List ℕ))) → Keeps (record { service = old; notes = notes }) here.state → left ≡ Some here.lines
+    → Refreshes (record { service = old; notes = notes }) reply new → RepliesTo (Ok (Act Refresh)) here old reply here.number new left
+refresh_replies here old notes reply new left keeps left_is =
+    subst (λ o. Refreshes (record { service = o; notes = notes }) reply new → RepliesTo (Ok (Act Refresh)) here o reply here.number new left) (sym keeps.service_is)
+    (refreshes_at old notes here reply new left keeps.notes_are left_is)
+
+-- ---- checks
+
+checks_at : (s : ServiceState) (notes : Noted) (here : Place) (reply : Reply) (left : Option (List (List ℕ))) → AreNotes notes here.state → left ≡ Some here.lines
+    → Checks (after s here.state) reply → RepliesTo (Ok (Act Recompute)) here (after s here.state) reply here.number (record { service = after s here.state; notes = notes }) left
+unfolding answer_to action_answer
+checks_at s notes here reply left are left_is checked = record {
+  next = here;
+  answers = elim checked [ inl done ↦ inl (ap (λ r. answered r here) done) | inr refused ↦ inr (ap (λ r. answered r here) refused) ];
+  service_is = refl;
+  notes_are = are;
+  number_is = refl;
+  left_is = left_is;
+}
+
+pub check_replies : (here : Place) (held : Held) (reply : Reply) (left : Option (List (List ℕ))) → Keeps held here.state → left ≡ Some here.lines
+    → Checks held.service reply → RepliesTo (Ok (Act Recompute)) here held.service reply here.number held left
+check_replies here held reply left keeps left_is =
+    subst (λ o. Checks o reply → RepliesTo (Ok (Act Recompute)) here o reply here.number (record { service = o; notes = held.notes }) left) (sym keeps.service_is)
+    (checks_at held.service held.notes here reply left keeps.notes_are left_is)
+
+-- ---- commits
+
+-- where the pending edits are emptied, none is pending
+none_noted : (notes now : Noted) (state : State) → AreNotes notes state → now ≡ record notes { pending = [] } → AreNotes now (emptied state)
+none_noted notes now state are now_is = record {
+  pending_is = ap (λ n. n.pending) now_is ∙ sym stored_none;
+  report_is = ap (λ n. n.report) now_is ∙ are.report_is;
+  no_run = are.no_run;
+}
+
+commits_at : (s : ServiceState) (notes now : Noted) (here : Place) (reply : Reply) (new : ServiceState) (left : Option (List (List ℕ))) → AreNotes notes here.state → left ≡ Some here.lines
+    → now ≡ record notes { pending = [] } → Edits notes.pending (after s here.state) reply new
+    → RepliesTo (Ok (Act Commit)) here (after s here.state) reply here.number (record { service = new; notes = now }) left
+unfolding answer_to action_answer
+commits_at s notes now here reply new left are left_is now_is (inl done) =
+    let state = here.state in
+    let same : next_graph state.edition state.graph notes.pending ≡ next_graph state.edition state.graph state.pending =
+    ap (next_graph state.edition state.graph) are.pending_is ∙ next_of_stored state.edition state.graph state.pending in
+    let made : Imported = edited (next_graph state.edition state.graph state.pending) state.edition state.graph in
+    let told : (reply ≡ made.reply) × (new ≡ record (after s state) { edition = made.edition; graph = made.graph }) = rw same at done in
+    let next : Place = record here { state = record (emptied state) { edition = made.edition; graph = made.graph } } in
+    let none = none_noted notes now state are now_is in
+    record {
+      next = next;
+      answers = inl (ap (λ r. answered r next) told.0);
+      service_is = told.1;
+      notes_are = record { pending_is = none.pending_is; report_is = none.report_is; no_run = none.no_run };
+      number_is = refl;
+      left_is = left_is;
+    }
+commits_at s notes now here reply new left are left_is now_is (inr refused) =
+    let next : Place = record here { state = emptied here.state } in
+    record {
+      next = next;
+      answers = inr (tried_of_stored here.state.edition here.state.pending (rw are.pending_is at refused.2), ap (λ r. answered r next) refused.1);
+      service_is = refused.0;
+      notes_are = none_noted notes now here.state are now_is;
+      number_is = refl;
+      left_is = left_is;
+    }
+
+pub commit_replies : (here : Place) (old : ServiceState) (notes now : Noted) (reply : Reply) (new : ServiceState) (left : Option (List (List ℕ))) → Keeps (record { service = old; notes = notes }) here.state
+    → left ≡ Some here.lines → now ≡ record notes { pending = [] } → Edits notes.pending old reply new
+    → RepliesTo (Ok (Act Commit)) here old reply here.number (record { service = new; notes = now }) left
+commit_replies here old notes now reply new left keeps left_is now_is =
+    subst (λ o. Edits notes.pending o reply new → RepliesTo (Ok (Act Commit)) here o reply here.number (record { service = new; notes = now }) left) (sym keeps.service_is)
+    (commits_at old notes now here reply new left keeps.notes_are left_is now_is)
+
+-- ---- imports
+
+-- beside pending edits, an import is a fault
+beside_edits : (edits : List Edit) (form : Form) (n : ℕ) (here : Place) → (edits ≡ [] → ⊥) → import_answer edits form n here ≡ answered (Fault fault.EditsPending here.number) (past n here)
+beside_edits [] form n here some = absurd (some refl)
+beside_edits (edit ∷ edits) form n here some = refl
+
+-- so many lines were set aside, or all that there were
+lines_aside : (block : Block) (n : ℕ) (lines : List (List ℕ)) (left : Option (List (List ℕ))) → SkipsLines n block lines left → left ≡ Some (drop n lines)
+lines_aside Whole n lines left skipped = absurd skipped
+lines_aside NoMemory n lines left skipped = skipped.1
+lines_aside CutShort n lines left skipped = let none : drop n lines ≡ [] = grind (arith, common_steps, skipped.0) in skipped.1 ∙ ap Some (sym none)
+
+pub aside_replies : (form : Form) (n : ℕ) (block : Block) (here : Place) (held : Held) (left : Option (List (List ℕ))) → Keeps held here.state → (held.notes.pending ≡ [] → ⊥)
+    → SkipsLines n block here.lines left → RepliesTo (Ok (Act (Import form n))) here held.service (Fault fault.EditsPending here.number) (here.number + n) held left
+unfolding answer_to action_answer
+aside_replies form n block here held left keeps some skipped = record {
+  next = past n here;
+  answers = inl (sym (beside_edits here.state.pending form n here (λ none. some (keeps.notes_are.pending_is ∙ (ap stored none ∙ stored_none)))));
+  service_is = keeps.service_is;
+  notes_are = keeps.notes_are;
+  number_is = refl;
+  left_is = lines_aside block n here.lines left skipped;
+}
+
+-- the lines of an import were read, and its block was answered
+pub lines_imported : (form : Form) (n : ℕ) (lines : List (List ℕ)) (block : List ℕ) (old : ServiceState) (reply : Reply) (new : ServiceState) (left : Option (List (List ℕ)))
+    → TakesLines n Whole lines [] block left → Imports (edges_of form block) old reply new → ImportsLines form n lines old (Some reply) new left
+lines_imported form n lines block old reply new left taken imports =
+    (taken.0, subst (λ t. Imports (edges_of form t) old reply new) taken.1 imports, taken.2)
+
+-- where none is pending, no edit stands before an import
+alone_at : (held : Held) (state : State) → Keeps held state → held.notes.pending ≡ [] → state.pending ≡ []
+alone_at held state keeps none = none_pending state.pending (sym keeps.notes_are.pending_is ∙ none)
+
+-- an import that is cut short applies nothing
+pub cut_short_replies : (form : Form) (n : ℕ) (here : Place) (held : Held) (new : ServiceState) (left : Option (List (List ℕ))) → Keeps held here.state → held.notes.pending ≡ []
+    → ImportsLines form n here.lines held.service None new left
+    → RepliesTo (Ok (Act (Import form n))) here held.service (Fault fault.CutShort here.number) here.number (record { service = new; notes = held.notes }) left
+unfolding answer_to action_answer
+cut_short_replies form n here held new left keeps none taken =
+    let short : nat_lt (length here.lines) n ≡ true = grind (arith, nat_tests, taken.0) in
+    record {
+      next = record here { lines = [] };
+      answers = inl (sym (ap (λ es. import_answer es form n here) (alone_at held here.state keeps none) ∙ rw short refl));
+      service_is = taken.1 ∙ keeps.service_is;
+      notes_are = keeps.notes_are;
+      number_is = refl;
+      left_is = taken.2;
+    }
+
+imports_at : (form : Form) (n : ℕ) (s : ServiceState) (notes : Noted) (here : Place) (reply : Reply) (new : ServiceState) (left : Option (List (List ℕ))) → AreNotes notes here.state → here.state.pending ≡ []
+    → ImportsLines form n here.lines (after s here.state) (Some reply) new left
+    → RepliesTo (Ok (Act (Import form n))) here (after s here.state) reply (here.number + n) (record { service = new; notes = notes }) left
+unfolding answer_to action_answer
+imports_at form n s notes here reply new left are none (there, inl done, left_is) =
+    let within : nat_lt (length here.lines) n ≡ false = grind (arith, nat_tests, there) in
+    let now : Imported = imported (edges_of form (concat (take n here.lines))) here.state.edition here.state.graph in
+    let next : Place = record (past n here) { state = record here.state { edition = now.edition; graph = now.graph } } in
+    record {
+      next = next;
+      answers = inl (ap (λ r. answered r next) done.0 ∙ sym (ap (λ es. import_answer es form n here) none ∙ rw within refl));
+      service_is = done.1;
+      notes_are = record { pending_is = are.pending_is; report_is = are.report_is; no_run = are.no_run };
+      number_is = refl;
+      left_is = left_is;
+    }
+imports_at form n s notes here reply new left are none (there, inr refused, left_is) = record {
+  next = past n here;
+  answers = inr (reply, (none, there, refused.1), refl);
+  service_is = refused.0;
+  notes_are = are;
+  number_is = refl;
+  left_is = left_is;
+}
+
+pub import_replies : (form : Form) (n : ℕ) (here : Place) (old : ServiceState) (notes : Noted) (reply : Reply) (new : ServiceState) (left : Option (List (List ℕ)))
+    → Keeps (record { service = old; notes = notes }) here.state → notes.pending ≡ [] → ImportsLines form n here.lines old (Some reply) new left
+    → RepliesTo (Ok (Act (Import form n))) here old reply (here.number + n) (record { service = new; notes = notes }) left
+import_replies form n here old notes reply new left keeps none =
+    subst (λ o. ImportsLines form n here.lines o (Some reply) new left → RepliesTo (Ok (Act (Import form n))) here o reply (here.number + n) (record { service = new; notes = notes }) left) (sym keeps.service_is)
+    (imports_at form n old notes here reply new left keeps.notes_are (alone_at (record { service = old; notes = notes }) here.state keeps none))

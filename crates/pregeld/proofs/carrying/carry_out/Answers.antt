@@ -1,0 +1,32 @@
+use Rattle.std.proofs.Common.{Ok, subst, sym}
+use Rattle.pregeld.specs.Notes.{Held}
+use Rattle.pregeld.specs.Reading.{RepliesTo, lines_left}
+use Rattle.pregeld.specs.Session.{Place}
+use Rattle.pregeld.specs.declared.command.Command.TheVariants.{Act}
+use Rattle.pregeld.proofs.Actions.{check_replies, commit_replies, refresh_replies}
+use Rattle.pregeld.proofs.carrying.carry_out.Goals as goal
+
+pub returns-in-Commit-clause-ok : goal.returns-in-Commit-clause-ok
+returns-in-Commit-clause-ok g c state lines keeps there =
+    let here : Place = record { number = c.args.number; state = state; lines = lines } in
+    let held : Held = record { service = c.commit.new.service; notes = c.commit.new.notes } in
+    let left = lines_left (g.R.Read.remaining c.args.reader.now) in
+    subst (λ a. RepliesTo (Ok (Act a)) here c.args.service.now c.commit.result c.args.number held left) (sym c.in-Commit.is)
+    (commit_replies here c.args.service.now c.args.notes.now c.commit.new.notes c.commit.result c.commit.new.service left keeps there
+    c.commit.ensures.emptied c.commit.ensures.edits)
+
+pub returns-in-Refresh-clause-ok : goal.returns-in-Refresh-clause-ok
+returns-in-Refresh-clause-ok g c state lines keeps there =
+    let here : Place = record { number = c.args.number; state = state; lines = lines } in
+    let held : Held = record { service = c.refresh.new.service; notes = c.refresh.new.notes } in
+    let left = lines_left (g.R.Read.remaining c.args.reader.now) in
+    subst (λ a. RepliesTo (Ok (Act a)) here c.args.service.now c.refresh.result c.args.number held left) (sym c.in-Refresh.is)
+    (refresh_replies here c.args.service.now c.args.notes.now c.refresh.result held left keeps there c.refresh.ensures)
+
+pub returns-in-Recompute-clause-ok : goal.returns-in-Recompute-clause-ok
+returns-in-Recompute-clause-ok g c state lines keeps there =
+    let here : Place = record { number = c.args.number; state = state; lines = lines } in
+    let held : Held = record { service = c.args.service.now; notes = c.args.notes.now } in
+    let left = lines_left (g.R.Read.remaining c.args.reader.now) in
+    subst (λ a. RepliesTo (Ok (Act a)) here c.args.service.now c.check.result c.args.number held left) (sym c.in-Recompute.is)
+    (check_replies here held c.check.result left keeps there c.check.ensures)

@@ -1,0 +1,162 @@
+//! Commands that are answered by one line, carried out.
+ghost use Rattle.std.specs.Prelude.{◌≡◌, ◌≢◌, [], List, ℕ, Some, Ok, IfOk, IfErr};
+ghost use Rattle.pg_import.specs.Import.{Gives};
+ghost use Rattle.pregeld.specs.Reading.{Checks, Edits, Imports, ImportsLines, Keeps, Refreshes, RepliesTo, lines_left};
+ghost use Rattle.pregeld.specs.Session.{State, edges_of};
+
+use crate::block::{Block, skip_lines, take_block};
+use crate::command::{Action, Command, Form, LineFault};
+use crate::notes::Notes;
+use crate::reply::Reply;
+use crate::{ServeFault, Service};
+use pg_graph::Batch;
+use pg_import::{ImportFault, Line, into_batch, read_csv, read_list};
+use pg_scratch::RunFault;
+use std::alloc::Global;
+use std::io::BufRead;
+
+/// Does what is asked for, and gives its answer and the number of the last line that it has taken.
+///
+/// # Errors
+///
+/// A reader that fails, or has 2^64 lines; then nothing was done.
+pub(crate) fn carry_out<R: BufRead>(
+    alloc: Global,
+    number: u64,
+    action: Action,
+    reader: &mut R,
+    service: &mut Service,
+    notes: &mut Notes,
+) -> Result<(Reply, u64), ServeFault>
+    ensures ok { IfOk result (λ r. (state : State) (lines : List (List ℕ)) → Keeps (record { service = service.old; notes = notes.old }) state
+        → lines_left (R.remaining reader.old) ≡ Some lines
+        → RepliesTo (Ok (Command.Act action)) (record { number = number; state = state; lines = lines }) service.old r.0 r.1
+        (record { service = service.new; notes = notes.new }) (lines_left (R.remaining reader.new))) }
+    ensures err { IfErr result (λ fault. (fault ≢ ServeFault.Write) × (service.new ≡ service.old)) }
+{
+    match action {
+        Action::Commit => Ok((commit(alloc, service, notes), number)),
+        Action::Refresh => Ok((refresh(alloc, service, notes), number)),
+        Action::Recompute => Ok((check(alloc, service), number)),
+        Action::Import(form, lines) => {
+            import(alloc, number, form, lines, reader, service, notes)
+        }
+    }
+}
+
+/// Applies the pending edits as one batch. None is pending afterwards.
+fn commit(alloc: Global, service: &mut Service, notes: &mut Notes) -> Reply
+    ensures edits { Edits notes.old.pending service.old result service.new }
+    ensures emptied { notes.new ≡ record notes.old { pending = [] } }
+{
+    let reply = apply(alloc, notes.pending(), service);
+    notes.empty(alloc);
+    reply
+}
+
+/// Applies a batch.
+fn apply(alloc: Global, batch: &Batch, service: &mut Service) -> Reply
+    ensures { Edits batch.now service.old result service.new }
+{
+    match service.edit(alloc, batch) {
+        Ok(edition) => Reply::Edition(edition),
+        Err(fault) => Reply::BatchRefused(fault),
+    }
+}
+
+/// Runs the program, publishes the answer and keeps the report.
+fn refresh(alloc: Global, service: &mut Service, notes: &mut Notes) -> Reply
+    ensures { Refreshes (record { service = service.old; notes = notes.old }) result (record { service = service.new; notes = notes.new }) }
+{
+    match service.refresh(alloc) {
+        Ok(report) => {
+            notes.keep_report(&report);
+            Reply::Refreshed(report)
+        }
+        Err(fault) => Reply::RunRefused(fault),
+    }
+}
+
+/// Compares what was published with a run from scratch.
+fn check(alloc: Global, service: &Service) -> Reply
+    ensures { Checks service.now result }
+{
+    match service.check(alloc) {
+        Ok(check) => Reply::Checked(check),
+        Err(_) => Reply::RunRefused(RunFault::Memory),
+    }
+}
+
+/// Reads the lines of an edge list and applies it as one batch, or sets them aside where edits are
+/// pending. Gives the number of the last line too.
+fn import<R: BufRead>(
+    alloc: Global,
+    number: u64,
+    form: Form,
+    lines: u32,
+    reader: &mut R,
+    service: &mut Service,
+    notes: &Notes,
+) -> Result<(Reply, u64), ServeFault>
+    ensures ok { IfOk result (λ r. (state : State) (rest : List (List ℕ)) → Keeps (record { service = service.old; notes = notes.now }) state
+        → lines_left (R.remaining reader.old) ≡ Some rest
+        → RepliesTo (Ok (Command.Act (Action.Import form lines))) (record { number = number; state = state; lines = rest }) service.old r.0 r.1
+        (record { service = service.new; notes = notes.now }) (lines_left (R.remaining reader.new))) }
+    ensures err { IfErr result (λ fault. (fault ≢ ServeFault.Write) × (service.new ≡ service.old)) }
+{
+    let Some(reached) = number.checked_add(u64::from(lines)) else {
+        return Err(ServeFault::Read);
+    };
+    if notes.has_pending() {
+        let _aside = skip_lines(lines, reader)?;
+        return Ok((Reply::Fault(LineFault::EditsPending, number), reached));
+    }
+    match import_lines(alloc, form, lines, reader, service)? {
+        Some(reply) => Ok((reply, reached)),
+        None => Ok((Reply::Fault(LineFault::CutShort, number), number)),
+    }
+}
+
+/// Reads the lines of an edge list and applies it as one batch, or finds the input at its end before.
+fn import_lines<R: BufRead>(
+    alloc: Global,
+    form: Form,
+    lines: u32,
+    reader: &mut R,
+    service: &mut Service,
+) -> Result<Option<Reply>, ServeFault>
+    ensures ok { IfOk result (λ reply. (rest : List (List ℕ)) → lines_left (R.remaining reader.old) ≡ Some rest
+        → ImportsLines form lines rest service.old reply service.new (lines_left (R.remaining reader.new))) }
+    ensures err { IfErr result (λ fault. (fault ≢ ServeFault.Write) × (service.new ≡ service.old)) }
+{
+    let mut block = Vec::new(alloc);
+    match take_block(lines, reader, &mut block)? {
+        Block::CutShort => Ok(None),
+        Block::NoMemory => Ok(Some(Reply::ImportRefused(ImportFault::NO_MEMORY))),
+        Block::Whole => Ok(Some(import_block(alloc, form, block.as_slice(), service))),
+    }
+}
+
+/// Applies the text of an edge list as one batch.
+fn import_block(alloc: Global, form: Form, text: &[u8], service: &mut Service) -> Reply
+    ensures { Imports (edges_of form text.now) service.old result service.new }
+{
+    let edges = match read_block(alloc, form, text) {
+        Ok(edges) => edges,
+        Err(fault) => return Reply::ImportRefused(fault),
+    };
+    let Ok(batch) = into_batch(alloc, edges.as_slice(), service.graph()) else {
+        return Reply::ImportRefused(ImportFault::NO_MEMORY);
+    };
+    apply(alloc, &batch, service)
+}
+
+/// The edges of a text.
+fn read_block(alloc: Global, form: Form, text: &[u8]) -> Result<Vec<Line>, ImportFault>
+    ensures { Gives (λ lines. lines.items) result (edges_of form text.now) }
+{
+    match form {
+        Form::List => read_list(alloc, text),
+        Form::Csv => read_csv(alloc, text),
+    }
+}

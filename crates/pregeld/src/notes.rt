@@ -1,0 +1,87 @@
+//! What a session has beside its service.
+ghost use Rattle.std.specs.Prelude.{◌≡◌, ◌≢◌, ◌≤◌, [], ◌∷◌, ◌++◌, None, Some, length, MatchBool, OnOk, OnErr};
+ghost use Rattle.pregeld.specs.Notes.{stored, stored_limit};
+
+use crate::Report;
+use pg_graph::{Batch, Edit, Memory};
+use std::alloc::Global;
+use std::marker::Model;
+
+/// So many pending edits are stored, which are too many for a batch.
+const STORED_LIMIT: usize = 100_001;
+
+/// The edits that wait to be made as one batch, and the report of the last refresh that was answered.
+#[derive(Drop)]
+pub(crate) struct Notes {
+    pending: Batch,
+    report: Option<Report>,
+}
+
+impl Model for Notes {
+    ghost use Rattle.std.specs.Prelude.{◌≤◌, length};
+    ghost use Rattle.pregeld.specs.Notes.{Noted, stored_limit};
+
+    ghost Value = { Noted };
+
+    ghost view = { λ n. record { pending = n.pending; report = n.report } };
+
+    ghost invariant = { λ n. length n.pending ≤ stored_limit };
+}
+
+impl Notes {
+    /// No edit is pending, and nothing was reported.
+    pub(crate) fn new(alloc: Global) -> Notes
+        ensures { result ≡ record { pending = []; report = None } }
+    {
+        Notes {
+            pending: Batch::new(alloc),
+            report: None,
+        }
+    }
+
+    /// The pending edits, as far as they are stored.
+    pub(crate) fn pending(&self) -> &Batch
+        ensures { result.now ≡ self.now.pending }
+    {
+        &self.pending
+    }
+
+    /// The last report.
+    pub(crate) fn report(&self) -> Option<Report>
+        ensures { result ≡ self.now.report }
+    {
+        self.report
+    }
+
+    /// Whether an edit is pending.
+    pub(crate) fn has_pending(&self) -> bool
+        ensures { MatchBool result (self.now.pending ≢ []) (self.now.pending ≡ []) }
+    {
+        !self.pending.as_slice().is_empty()
+    }
+
+    /// One more edit is pending. It is stored where a batch may have it, or would be too long with it.
+    pub(crate) fn note(&mut self, edit: Edit) -> Result<(), Memory>
+        ensures ok { OnOk result (self.new ≡ record self.old { pending = stored (self.old.pending ++ edit ∷ []) }) }
+        ensures err { OnErr result (self.new ≡ self.old) }
+    {
+        if self.pending.as_slice().len() < STORED_LIMIT {
+            self.pending.push(edit)?;
+        }
+        Ok(())
+    }
+
+    /// No edit is pending any more.
+    pub(crate) fn empty(&mut self, alloc: Global)
+        ensures { self.new ≡ record self.old { pending = [] } }
+    {
+        self.pending = Batch::new(alloc);
+    }
+
+    /// This is the last report.
+    pub(crate) fn keep_report(&mut self, report: &Report)
+        ensures { self.new ≡ record self.old { report = Some report.now } }
+    {
+        self.report = Some(*report);
+    }
+}

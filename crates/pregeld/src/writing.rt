@@ -1,0 +1,132 @@
+//! Answers, written.
+ghost use Rattle.std.specs.Prelude.{◌≡◌, flat_map, IfErr, OnOk};
+ghost use Rattle.std.specs.Io.KnownBytes.{Appends};
+ghost use Rattle.pregeld.specs.Reply.{line_of_reply, line_of_value};
+ghost use Rattle.pregeld.specs.Reading.{FailsToTell};
+ghost use Rattle.pregeld.specs.Session.{dump_text, get_reply, query_text, report_line};
+
+use crate::command::Query;
+use crate::notes::Notes;
+use crate::reply::Reply;
+use crate::{ServeFault, Service};
+use pg_graph::VertexId;
+use std::alloc::Global;
+use std::io::Write;
+
+/// Writes an answer, and hands it on.
+pub(crate) fn say<W: Write>(writer: &mut W, reply: Reply) -> Result<(), ServeFault>
+    ensures ok { OnOk result (Appends (W.contents writer.old) (W.contents writer.new) (line_of_reply reply)) }
+    ensures err { IfErr result (λ fault. fault ≡ ServeFault.Write) }
+{
+    let Ok(()) = writeln!(writer, "{reply}") else {
+        return Err(ServeFault::Write);
+    };
+    let Ok(()) = writer.flush() else {
+        return Err(ServeFault::Write);
+    };
+    Ok(())
+}
+
+/// Tells what is asked for.
+///
+/// # Errors
+///
+/// A writer that fails, or want of memory for a report, and then nothing was written.
+pub(crate) fn tell<W: Write>(
+    alloc: Global,
+    writer: &mut W,
+    query: Query,
+    service: &Service,
+    notes: &Notes,
+) -> Result<(), ServeFault>
+    ensures ok { OnOk result (Appends (W.contents writer.old) (W.contents writer.new) (query_text query service.now.published notes.now.report)) }
+    ensures err { IfErr result (λ fault. FailsToTell fault (W.contents writer.old) (W.contents writer.new)) }
+{
+    match query {
+        Query::Dump => match dump(writer, service) {
+            Ok(()) => Ok(()),
+            Err(fault) => Err(fault),
+        },
+        Query::Get(id) => match say(writer, get(id, service)) {
+            Ok(()) => Ok(()),
+            Err(fault) => Err(fault),
+        },
+        Query::Reported => report(alloc, writer, service, notes),
+    }
+}
+
+/// The published value of a vertex.
+fn get(id: VertexId, service: &Service) -> Reply
+    ensures { result ≡ get_reply id service.now.published }
+{
+    let Some(answers) = service.answers() else {
+        return Reply::Unpublished;
+    };
+    match answers.value(id) {
+        Some(value) => Reply::Value(id, *value),
+        None => Reply::NoValue(id),
+    }
+}
+
+/// Prints the last report.
+fn report<W: Write>(
+    alloc: Global,
+    writer: &mut W,
+    service: &Service,
+    notes: &Notes,
+) -> Result<(), ServeFault>
+    ensures ok { OnOk result (Appends (W.contents writer.old) (W.contents writer.new) (report_line notes.now.report)) }
+    ensures err { IfErr result (λ fault. FailsToTell fault (W.contents writer.old) (W.contents writer.new)) }
+{
+    let Some(report) = notes.report() else {
+        return match say(writer, Reply::Unpublished) {
+            Ok(()) => Ok(()),
+            Err(fault) => Err(fault),
+        };
+    };
+    let Ok(text) = service.report_json(alloc, &report) else {
+        return Err(ServeFault::Memory);
+    };
+    let Ok(()) = writeln!(writer, "{text}") else {
+        return Err(ServeFault::Write);
+    };
+    let Ok(()) = writer.flush() else {
+        return Err(ServeFault::Write);
+    };
+    Ok(())
+}
+
+/// Prints the published values by rising id, and their number.
+fn dump<W: Write>(writer: &mut W, service: &Service) -> Result<(), ServeFault>
+    ensures ok { OnOk result (Appends (W.contents writer.old) (W.contents writer.new) (dump_text service.now.published)) }
+    ensures err { IfErr result (λ fault. fault ≡ ServeFault.Write) }
+{
+    let Some(answers) = service.answers() else {
+        return say(writer, Reply::Unpublished);
+    };
+    let values = answers.values();
+    say_values(writer, values)?;
+    say(writer, Reply::End(values.len()))
+}
+
+/// Writes a line for each vertex and its value.
+fn say_values<W: Write>(writer: &mut W, values: &[(VertexId, i64)]) -> Result<(), ServeFault>
+    ensures ok { OnOk result (Appends (W.contents writer.old) (W.contents writer.new) (flat_map line_of_value values.now)) }
+    ensures err { IfErr result (λ fault. fault ≡ ServeFault.Write) }
+{
+    for (id, value) in values {
+        say_value(writer, id, value)?;
+    }
+    Ok(())
+}
+
+/// Writes the line of a vertex and its value.
+fn say_value<W: Write>(writer: &mut W, id: &VertexId, value: &i64) -> Result<(), ServeFault>
+    ensures ok { OnOk result (Appends (W.contents writer.old) (W.contents writer.new) (line_of_value (id.now, value.now))) }
+    ensures err { IfErr result (λ fault. fault ≡ ServeFault.Write) }
+{
+    let Ok(()) = writeln!(writer, "value {id} {value}") else {
+        return Err(ServeFault::Write);
+    };
+    Ok(())
+}
