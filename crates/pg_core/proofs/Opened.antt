@@ -42,7 +42,7 @@ module _ {V M : Type 0} (job : Job V M) (rows : Rows) where
 
 -- a part that is among those that have begun
 module _ {V M : Type 0} (program : Program V M) (master : Master) (combining : Option (Combining M)) (limits : Limits) (rows : Rows) (parts : List (Option (Holding V M))) (each : length parts ≡ limits.partitions) (begun : (p : ℕ) → p < limits.partitions → IsBegun program limits.missing rows limits.partitions p (get_or parts p None)) where
-  begun_part : (p : ℕ) (part : Holding V M) → get_or parts p None ≡ Some part → Holds (job_of program combining master limits.missing limits.limit) rows limits.partitions p 0 part
+  begun_part : (p : ℕ) (part : Holding V M) → get_or parts p None ≡ Some part → Holds (job_of program combining master limits.missing limits.limit) None rows limits.partitions p 0 part
   begun_part p part is =
       let within : p < limits.partitions = subst (λ (n : ℕ). p < n) each (some_within parts p part is) in
       subst (IsBegun program limits.missing rows limits.partitions p) is (begun p within)

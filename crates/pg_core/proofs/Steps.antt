@@ -1,5 +1,5 @@
 -- What taking a part, and taking in its step, leave of a run over partitions.
-use Rattle.std.proofs.Common.{◌≡◌, ℕ, ◌+◌, ◌<◌, ◌≤◌, ◌≢◌, true, false, ◌&&◌, List, [], ◌∷◌, ◌++◌, length, take, get_or, set, Option, None, Some, is_some, refl, ap, sym, ◌∙◌, subst, arith, inl, inr}
+use Rattle.std.proofs.Common.{◌≡◌, ℕ, ◌+◌, ◌<◌, ◌≤◌, ◌≢◌, Bool, true, false, ◌&&◌, List, [], ◌∷◌, ◌++◌, length, take, get_or, set, Option, None, Some, is_some, refl, ap, sym, ◌∙◌, subst, arith, inl, inr}
 use Rattle.std.specs.Prelude.{◌==◌, nat_lt, nat_le}
 use Rattle.std.specs.List.{list_all, slice_get}
 use Rattle.std.specs.Option.{option_map}
@@ -167,7 +167,7 @@ module _ {V M : Type 0} (job : Job V M) {P C A : Type 0} (core : Progress P C A 
   IsStepLent-taken many part at =
       let steps = StepsFrom-from_allowed core.state p allowed in
       let n : ℕ = core.limits.partitions in
-      let holds : Holds job core.graph n p steps.from part = subst (λ place. HoldsAt job core.graph n p place part) steps.at (right.parts p part at) in
+      let holds : Holds job None core.graph n p steps.from part = subst (λ place. HoldsAt job core.graph n p place part) steps.at (right.parts p part at) in
       let p_within : p < n = subst (λ (k : ℕ). p < k) many (some_within core.state.places p steps.from steps.at) in
       let is : steps.from ≡ part.place = sym holds.place_is in
       let lent : HasMessages job core.graph n p steps.from core.logs =
@@ -180,7 +180,7 @@ module _ {V M : Type 0} (job : Job V M) {P C A : Type 0} (core : Progress P C A 
         open_or_before = steps.open_or_before;
       })
     where
-      sent_is : (s q : ℕ) (slot : Option (Logged M)) → IsSentTo job core.graph core.limits.partitions q p s slot → bundle_in slot ≡ Some (bundle_sent job core.graph core.limits.partitions q p s)
+      sent_is : (s q : ℕ) (slot : Option (Logged M)) → IsSentTo job None core.graph core.limits.partitions q p s slot → bundle_in slot ≡ Some (bundle_sent job core.graph core.limits.partitions q p s)
       sent_is s q None h = absurd h
       sent_is s q (Some logged) h = ap Some h.0
 
@@ -206,22 +206,22 @@ module _ {V M : Type 0} (job : Job V M) {P C A : Type 0} (core : Progress P C A 
         let own_place : place_at p (after core.state (Step p)) ≡ Some (r + 1) = place_after_own core.state p r steps.at in
         record {
           sent = λ s u q past within. elim (cases_eq u p) [
-            | inl same ↦ subst (λ (u : ℕ). IsSentTo job core.graph n u q s (slot_at new.logs s u q)) (sym same)
+            | inl same ↦ subst (λ (u : ℕ). IsSentTo job None core.graph n u q s (slot_at new.logs s u q)) (sym same)
                 (let before : is_past s (Some (r + 1)) ≡ true = sym (ap (is_past s) own_place) ∙ (ap (λ (u : ℕ). is_past s (place_at u (after core.state (Step p)))) (sym same) ∙ past) in
                 elim (cases_eq s r) [
                   | inl now ↦ (
                       let here : (p == p) && ((r == r) && nat_lt q (length sent)) ≡ true =
                       ap (λ b. b && ((r == r) && nat_lt q (length sent))) (eq-eqb p p refl)
                       ∙ (ap (λ b. b && nat_lt q (length sent)) (eq-eqb r r refl) ∙ lt-ltb q (length sent) (omega (arith, is_step.to_each, within))) in
-                      subst (λ (s : ℕ). IsSentTo job core.graph n p q s (slot_at new.logs s p q)) (sym now)
-                      (subst (IsSentTo job core.graph n p q r) (sym (put r p q ∙ cond-true _ (slice_get sent q) (slot_at core.logs r p q) here)) (is_step.sends r q steps.at within))
+                      subst (λ (s : ℕ). IsSentTo job None core.graph n p q s (slot_at new.logs s p q)) (sym now)
+                      (subst (IsSentTo job None core.graph n p q r) (sym (put r p q ∙ cond-true _ (slice_get sent q) (slot_at core.logs r p q) here)) (is_step.sends r q steps.at within))
                       )
                   | inr apart ↦ (
                       let still : is_past s (place_at p core.state) ≡ true = ap (is_past s) steps.at ∙ lt-ltb s r (omega (arith, ltb-true s (r + 1) before, apart)) in
-                      subst (IsSentTo job core.graph n p q s) (sym (earlier s q apart)) (right.logs.sent s p q still within)
+                      subst (IsSentTo job None core.graph n p q s) (sym (earlier s q apart)) (right.logs.sent s p q still within)
                       )
                 ])
-            | inr apart ↦ subst (IsSentTo job core.graph n u q s) (sym (elsewhere s u q apart)) (right.logs.sent s u q (ap (is_past s) (sym (place_after_other core.state p u apart)) ∙ past) within)
+            | inr apart ↦ subst (IsSentTo job None core.graph n u q s) (sym (elsewhere s u q apart)) (right.logs.sent s u q (ap (is_past s) (sym (place_after_other core.state p u apart)) ∙ past) within)
           ];
           no_more = λ s u q not_yet. elim (cases_eq u p) [
             | inl same ↦ subst (λ (u : ℕ). slot_at new.logs s u q ≡ None) (sym same)
@@ -258,7 +258,7 @@ module _ {V M : Type 0} (job : Job V M) {P C A : Type 0} (core : Progress P C A 
                 let is : part ≡ part' = one_of part part' (sym own ∙ (ap (λ (q : ℕ). get_or (set core.parts p (Some part)) q None) (sym same) ∙ at)) in
                 subst (λ (q : ℕ). HoldsAt job core.graph n q (place_at q (after core.state (Step p))) part') (sym same)
                 (subst (λ place. HoldsAt job core.graph n p place part') (sym (place_after_own core.state p steps.from steps.at))
-                (subst (Holds job core.graph n p (steps.from + 1)) is (is_step.holds steps.from steps.at)))
+                (subst (Holds job None core.graph n p (steps.from + 1)) is (is_step.holds steps.from steps.at)))
                 )
             | inr apart ↦ subst (λ place. HoldsAt job core.graph n q place part') (sym (place_after_other core.state p q apart))
                 (right.parts q part' (sym (get_or-set_other core.parts p q (Some part) None apart) ∙ at))
@@ -269,9 +269,9 @@ module _ {V M : Type 0} (job : Job V M) {P C A : Type 0} (core : Progress P C A 
         })
 
 -- what a part's step promises is what a step taken in asks for
-pub IsStepOf-from_HasStepped : {V M : Type 0} (job : Job V M) {P C A : Type 0} (core : Progress P C A V M) (p r : ℕ) (part : Holding V M) (sent : List (Logged M)) (calls calls_after : ℕ) → place_at p core.state ≡ Some r → HasStepped job core.graph core.limits.partitions p r part sent calls calls_after → IsStepOf job core p part sent
-IsStepOf-from_HasStepped job core p r part sent calls calls_after at stepped = record {
-  holds = λ s is. let same : r ≡ s = one_of r s (sym at ∙ is) in subst (λ (s : ℕ). Holds job core.graph core.limits.partitions p (s + 1) part) same stepped.holds;
+pub IsStepOf-from_HasStepped : {V M : Type 0} (job : Job V M) {P C A : Type 0} (core : Progress P C A V M) (p r : ℕ) (part : Holding V M) (sent : List (Logged M)) (value_eq : V → V → Bool) (message_eq : M → M → Bool) (calls calls_after : ℕ) → place_at p core.state ≡ Some r → HasStepped job value_eq message_eq None core.graph core.limits.partitions p r part sent calls calls_after → IsStepOf job core p part sent
+IsStepOf-from_HasStepped job core p r part sent value_eq message_eq calls calls_after at stepped = record {
+  holds = λ s is. let same : r ≡ s = one_of r s (sym at ∙ is) in subst (λ (s : ℕ). Holds job None core.graph core.limits.partitions p (s + 1) part) same stepped.holds;
   to_each = stepped.to_each;
-  sends = λ s q is within. let same : r ≡ s = one_of r s (sym at ∙ is) in subst (λ (s : ℕ). IsSentTo job core.graph core.limits.partitions p q s (slice_get sent q)) same (stepped.sends q within);
+  sends = λ s q is within. let same : r ≡ s = one_of r s (sym at ∙ is) in subst (λ (s : ℕ). IsSentTo job None core.graph core.limits.partitions p q s (slice_get sent q)) same (stepped.sends q within);
 }

@@ -9,4 +9,4 @@ use Rattle.pg_part.specs.Part.{Holding, Holds}
 abbrev pub IsBegun : {V M : Type 0} → Program V M → Missing → Rows → ℕ → ℕ → Option (Holding V M) → Type 0
 IsBegun program missing rows n p None = ⊥
 IsBegun {V} {M} program missing rows n p (Some part) =
-    (job : Job V M) → job.program ≡ program → job.missing ≡ missing → Holds job rows n p 0 part
+    (job : Job V M) → job.program ≡ program → job.missing ≡ missing → Holds job None rows n p 0 part

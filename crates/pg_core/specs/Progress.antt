@@ -83,13 +83,13 @@ module _ {V M : Type 0} (job : Job V M) (rows : Rows) where
 
   -- the logs have what each partition sent in the supersteps that it has made, and nothing else
   pub record LogsHold (n : ℕ) (places : List (Option ℕ)) (logs : Slots M) : Type 0 where
-    pub sent : (s p q : ℕ) → is_past s (slice_index_or places p None) ≡ true → q < n → IsSentTo job rows n p q s (slot_at logs s p q)
+    pub sent : (s p q : ℕ) → is_past s (slice_index_or places p None) ≡ true → q < n → IsSentTo job None rows n p q s (slot_at logs s p q)
     pub no_more : (s p q : ℕ) → (is_past s (slice_index_or places p None) && nat_lt q n) ≡ false → slot_at logs s p q ≡ None
 
   -- partition p holds its share of the run at its place
   abbrev pub HoldsAt : ℕ → ℕ → Option ℕ → Holding V M → Type 0
   HoldsAt n p None part = ⊥
-  HoldsAt n p (Some r) part = Holds job rows n p r part
+  HoldsAt n p (Some r) part = Holds job None rows n p r part
 
 module _ {P C A V M : Type 0} where
   -- the job of a run, by what its program, its combiner and its master mean
@@ -156,12 +156,12 @@ module _ {P C A V M : Type 0} where
 
   -- a part and what it sent are those of the run after a step of partition p
   pub record IsStepOf (job : Job V M) (core : Progress P C A V M) (p : ℕ) (part : Holding V M) (sent : List (Logged M)) : Type 0 where
-    pub holds : (r : ℕ) → place_at p core.state ≡ Some r → Holds job core.graph core.limits.partitions p (r + 1) part
+    pub holds : (r : ℕ) → place_at p core.state ≡ Some r → Holds job None core.graph core.limits.partitions p (r + 1) part
     pub to_each : length sent ≡ core.limits.partitions
-    pub sends : (r q : ℕ) → place_at p core.state ≡ Some r → q < core.limits.partitions → IsSentTo job core.graph core.limits.partitions p q r (slice_get sent q)
+    pub sends : (r q : ℕ) → place_at p core.state ≡ Some r → q < core.limits.partitions → IsSentTo job None core.graph core.limits.partitions p q r (slice_get sent q)
 
   -- what a step of partition p from r is lent of the run, and the part that makes it
   pub record IsStepLent (job : Job V M) (core : Progress P C A V M) (p r : ℕ) (part : Holding V M) : Type 0 where
-    pub holds : Holds job core.graph core.limits.partitions p r part
+    pub holds : Holds job None core.graph core.limits.partitions p r part
     pub lent : IsLent job core.graph core.limits.partitions p r core.logs (visible_at job core.graph r)
     pub open_or_before : r ≤ core.state.current

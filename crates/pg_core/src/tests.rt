@@ -41,6 +41,8 @@ fn step_once<P: Computation, C: MessageCombiner<P::Message>, M: MasterCompute>(
         alloc,
         core.logs(),
         visible,
+        None,
+        None,
         core.program(),
         core.combiner(),
         meter,

@@ -1,4 +1,4 @@
-use Rattle.std.proofs.Common.{◌≡◌, ℕ, ◌+◌, List, [], ◌∷◌, ◌++◌, length, ap, ◌∙◌, subst}
+use Rattle.std.proofs.Common.{◌≡◌, ℕ, ◌+◌, List, [], ◌∷◌, ◌++◌, length, None, ap, ◌∙◌, subst}
 use Rattle.std.proofs.lemmas.List.{length_push}
 use Rattle.pg_core.proofs.Opening.{begun_more}
 use Rattle.pg_part.specs.Part.{Holds, PartRows}
@@ -15,7 +15,7 @@ loop-partition-preserved g c =
     record {
       each = pushed_length _ _ _ _ c.in_ok-push.ensures.items c.loop-partition.invariant.each;
       begun = begun_more program c.args.missing c.args.graph.now n c.loop-partition.parts.items _ part c.loop-partition.partition c.loop-partition.invariant.each c.loop-partition.invariant.begun c.in_ok-push.ensures.items
-          (λ job e m. subst (λ (r : PartRows). Holds job r.graph r.partitions r.partition 0 part)
+          (λ job e m. subst (λ (r : PartRows). Holds job None r.graph r.partitions r.partition 0 part)
           (c.rows-rows.ensures ∙ (λ i. record { graph = c.args.graph.now; partition = c.new.ensures i; partitions = n }))
           (c.in_ok-begin.ensures job e m));
     }
