@@ -1,6 +1,12 @@
+ghost use Rattle.std.specs.Prelude.{◌≡◌, ◌≤◌, ◌<◌, ◌+◌, ◌^◌, true, length, IfOk};
+ghost use Rattle.pg_global.specs.Master.{has_places};
+ghost use Rattle.pg_part.specs.Part.{IsFurther};
+
 use crate::{Core, Event, Limits};
-use pg_global::{AnyCombiner, MasterCompute, MessageCombiner, NoMaster};
+use pg_global::{AnyCombiner, MasterCompute, MessageCombiner, NoMaster, Visible};
 use pg_graph::{Batch, Edit, Graph, Memory, Missing, PartitionId, Superstep, VertexId, WorkerId};
+use pg_inbox::Logs;
+use pg_part::{Lost, Part, Sent};
 use pg_program::{Computation, Meter, Tally};
 use std::alloc::{AllocError, Global};
 use std::process::Abort;
@@ -24,6 +30,35 @@ fn graph_of(alloc: Global, vertices: &[(u64, i64)], edges: &[(u64, u64)]) -> Res
     Ok(graph)
 }
 
+// One step of a cold part.
+fn step_alone<'a, P: Computation, C: MessageCombiner<P::Message>>(
+    alloc: Global,
+    part: Part<P::Value, P::Message>,
+    logs: &'a Logs<P::Message>,
+    visible: &'a Visible,
+    program: &P,
+    combiner: &C,
+    meter: &mut Meter,
+) -> Result<(Part<P::Value, P::Message>, Sent<P::Message>), Lost>
+    requires few { length visible.now.values ≤ 16 }
+    requires declared { has_places (P.program program.now).declared (length visible.now.values) ≡ true }
+    requires counts { part.place + 1 < 2 ^ 32 }
+    ensures { IfOk result (λ stepped. IsFurther part stepped.0) }
+{
+    let old_logs: Option<&'a Logs<P::Message>> = None;
+    let old_visible: Option<&'a Visible> = None;
+    part.step(
+        alloc,
+        logs,
+        visible,
+        old_logs,
+        old_visible,
+        program,
+        combiner,
+        meter,
+    )
+}
+
 // One step of a partition that is ready: taken, made, and taken in.
 fn step_once<P: Computation, C: MessageCombiner<P::Message>, M: MasterCompute>(
     alloc: Global,
@@ -37,12 +72,11 @@ fn step_once<P: Computation, C: MessageCombiner<P::Message>, M: MasterCompute>(
     let part = core.take(partition);
     let place = part.place();
     let visible = core.visible(place);
-    let stepped = part.step(
+    let stepped = step_alone(
         alloc,
+        part,
         core.logs(),
         visible,
-        None,
-        None,
         core.program(),
         core.combiner(),
         meter,

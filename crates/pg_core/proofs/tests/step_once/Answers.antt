@@ -8,15 +8,15 @@ use Rattle.pg_global.specs.Master.{has_places}
 use Rattle.pg_part.specs.Part.{IsFurther}
 use Rattle.pg_core.proofs.tests.step_once.Goals as goal
 
-pub step-stepped-requires-clause-few : goal.step-stepped-requires-clause-few
-step-stepped-requires-clause-few g c = λ κs lives. c.visible-visible.ensures.few
+pub step_alone-stepped-requires-clause-few : goal.step_alone-stepped-requires-clause-few
+step_alone-stepped-requires-clause-few g c = λ κs lives. c.visible-visible.ensures.few
 
-pub step-stepped-requires-clause-declared : goal.step-stepped-requires-clause-declared
-step-stepped-requires-clause-declared g c =
+pub step_alone-stepped-requires-clause-declared : goal.step_alone-stepped-requires-clause-declared
+step_alone-stepped-requires-clause-declared g c =
     λ κs lives. subst (λ program. has_places (g.P.Computation.program program).declared (length c.visible-visible.result.now.values) ≡ true) (sym c.program.ensures) c.visible-visible.ensures.declared
 
-pub step-stepped-requires-clause-counts : goal.step-stepped-requires-clause-counts
-step-stepped-requires-clause-counts g c =
+pub step_alone-stepped-requires-clause-counts : goal.step_alone-stepped-requires-clause-counts
+step_alone-stepped-requires-clause-counts g c =
     λ κs lives. omega (arith, c.take-part.ensures.reached, c.take-part.ensures.small)
 
 pub stepped-requires-clause-allowed : goal.stepped-requires-clause-allowed
@@ -31,4 +31,4 @@ pub stepped-requires-clause-next : goal.stepped-requires-clause-next
 stepped-requires-clause-next g c =
     let core = c.args.core.now in
     λ κs lives. subst (λ core. IsNext core.limits.partitions core.state c.args.partition c.in-Ok.part) (sym c.take-part.ensures.core)
-    (IsNext-from_IsFurther core.limits.partitions core.state c.args.partition c.take-part.result c.in-Ok.part c.take-part.ensures.at (subst (IsFurther c.take-part.result) (sym c.in-Ok.part-is) c.in-Ok.ensures.further))
+    (IsNext-from_IsFurther core.limits.partitions core.state c.args.partition c.take-part.result c.in-Ok.part c.take-part.ensures.at (subst (IsFurther c.take-part.result) (sym c.in-Ok.part-is) c.in-Ok.ensures))
