@@ -88,7 +88,7 @@ module _ {V M : Type 0} (program : Program V M) (master : Master) (combining : O
       subst (λ (s : State). IsLawful limits program.declared (length master.registrations) s [] parts shown tally) (sym is)
       (subst (λ (l : List Visible). IsLawful limits program.declared (length master.registrations) start [] parts l tally) (sym shows) lawful)
 
-  pub IsRight-opened : {P C A : Type 0} (core : Progress P C A V M) → AreLimits limits → core.graph ≡ rows → core.limits ≡ limits → core.parts ≡ parts → core.state ≡ first_state limits.partitions limits.workers → ((s p q : ℕ) → slot_at core.logs s p q ≡ None) → core.shown ≡ shown_below (job_of program combining master limits.missing limits.limit) rows 1 → core.tally ≡ tally_at (job_of program combining master limits.missing limits.limit) rows 0 → IsRight (job_of program combining master limits.missing limits.limit) core
+  pub IsRight-opened : {P C A : Type 0} (core : Progress P C A V M) → AreLimits limits → core.graph ≡ rows → core.limits ≡ limits → core.parts ≡ parts → core.state ≡ first_state limits.partitions limits.workers → ((s p q : ℕ) → slot_at core.logs s p q ≡ None) → core.shown ≡ shown_below (job_of program combining master limits.missing limits.limit) rows 1 → core.tally ≡ tally_at (job_of program combining master limits.missing limits.limit) rows 0 → IsRight (job_of program combining master limits.missing limits.limit) None core
   IsRight-opened {P} {C} {A} core are graph_is limits_are parts_are state_is empty shows counts =
       let job : Job V M = job_of program combining master limits.missing limits.limit in
       let n : ℕ = limits.partitions in
@@ -96,11 +96,11 @@ module _ {V M : Type 0} (program : Program V M) (master : Master) (combining : O
       let is : core ≡ record core { graph = rows; limits = limits; parts = parts; state = start } =
       (λ i. record core { graph = graph_is i; limits = limits_are i; parts = parts_are i; state = state_is i }) in
       let not_past : (s p : ℕ) → is_past s (place_at p start) ≡ true → ⊥ = λ s p past. by_place s p (place_at p start) refl past in
-      subst (IsRight job) (sym is) (record {
+      subst (IsRight job None) (sym is) (record {
         within = run_length_pos job rows are.limit_least;
         parts = λ p part at.
             let within : p < n = subst (λ (n : ℕ). p < n) each (some_within parts p part at) in
-            subst (λ place. HoldsAt job rows n p place part) (sym (starts_at n limits.workers p within)) (begun_part p part at);
+            subst (λ place. HoldsAt job None rows n p place part) (sym (starts_at n limits.workers p within)) (begun_part p part at);
         logs = record { sent = λ s p q past within. absurd (not_past s p past); no_more = λ s p q not_yet. empty s p q };
         shown = shows;
         tally = counts;

@@ -13,6 +13,7 @@ use Rattle.pg_core.specs.declared.event.Event.{Event}
 use Rattle.pg_core.specs.declared.event.Event.TheVariants.{Step}
 use Rattle.pg_core.specs.declared.tally.Tally.{Tally}
 use Rattle.pg_core.proofs.Events.{Reaches-push, length-first, length-places_all, some_within}
+use Rattle.pg_graph.specs.Rows.{Rows}
 use Rattle.pg_inbox.specs.Logged.{slot_at}
 use Rattle.pg_inbox.specs.declared.logs.Logged.{Logged}
 use Rattle.pg_model.specs.Job.{Job}
@@ -147,8 +148,8 @@ module _ {V M : Type 0} (limits : Limits) (declared : Declared) (registered : �
 
 -- ---- what is so of a right one
 
-module _ {V M : Type 0} (job : Job V M) {P C A : Type 0} (core : Progress P C A V M) (p : ℕ) (right : IsRight job core) (allowed : is_allowed core.state (Step p) ≡ true) where
-  pub IsRight-take : p < length core.parts → IsRight job (without_part p core)
+module _ {V M : Type 0} (job : Job V M) (kept : Option Rows) {P C A : Type 0} (core : Progress P C A V M) (p : ℕ) (right : IsRight job kept core) (allowed : is_allowed core.state (Step p) ≡ true) where
+  pub IsRight-take : p < length core.parts → IsRight job kept (without_part p core)
   IsRight-take within =
       let gone : get_or (set core.parts p None) p None ≡ None = get_or-set_same core.parts p None None within in
       record {
@@ -163,24 +164,24 @@ module _ {V M : Type 0} (job : Job V M) {P C A : Type 0} (core : Progress P C A 
       }
 
   -- a step is lent what it reads of the run
-  pub IsStepLent-taken : (many : length core.state.places ≡ core.limits.partitions) (part : Holding V M) → part_at p core ≡ Some part → IsStepLent job core p part.place part
+  pub IsStepLent-taken : (many : length core.state.places ≡ core.limits.partitions) (part : Holding V M) → part_at p core ≡ Some part → IsStepLent job kept core p part.place part
   IsStepLent-taken many part at =
       let steps = StepsFrom-from_allowed core.state p allowed in
       let n : ℕ = core.limits.partitions in
-      let holds : Holds job None core.graph n p steps.from part = subst (λ place. HoldsAt job core.graph n p place part) steps.at (right.parts p part at) in
+      let holds : Holds job kept core.graph n p steps.from part = subst (λ place. HoldsAt job kept core.graph n p place part) steps.at (right.parts p part at) in
       let p_within : p < n = subst (λ (k : ℕ). p < k) many (some_within core.state.places p steps.from steps.at) in
       let is : steps.from ≡ part.place = sym holds.place_is in
       let lent : HasMessages job core.graph n p steps.from core.logs =
       (λ s q before within.
       sent_is s q (slot_at core.logs s q p)
       (right.logs.sent s q p (past s q before (place_at q core.state) (steps.others q (subst (λ (k : ℕ). q < k) (sym many) within))) p_within)) in
-      subst (λ (r : ℕ). IsStepLent job core p r part) is (record {
+      subst (λ (r : ℕ). IsStepLent job kept core p r part) is (record {
         holds = holds;
         lent = record { within = omega (arith, steps.open_or_before, right.within); messages = lent; sees = refl };
         open_or_before = steps.open_or_before;
       })
     where
-      sent_is : (s q : ℕ) (slot : Option (Logged M)) → IsSentTo job None core.graph core.limits.partitions q p s slot → bundle_in slot ≡ Some (bundle_sent job core.graph core.limits.partitions q p s)
+      sent_is : (s q : ℕ) (slot : Option (Logged M)) → IsSentTo job kept core.graph core.limits.partitions q p s slot → bundle_in slot ≡ Some (bundle_sent job core.graph core.limits.partitions q p s)
       sent_is s q None h = absurd h
       sent_is s q (Some logged) h = ap Some h.0
 
@@ -188,8 +189,8 @@ module _ {V M : Type 0} (job : Job V M) {P C A : Type 0} (core : Progress P C A 
       past s q before None from = absurd (true≢false (sym from))
       past s q before (Some r) from = lt-ltb s r (omega (arith, before, leb-true _ r from))
 
-  module _ (part : Holding V M) (sent : List (Logged M)) (new : Progress P C A V M) (is_step : IsStepOf job core p part sent) (takes : TakesIn p part sent core new) where
-    LogsHold-step : LogsHold job core.graph core.limits.partitions (after core.state (Step p)).places new.logs
+  module _ (part : Holding V M) (sent : List (Logged M)) (new : Progress P C A V M) (is_step : IsStepOf job kept core p part sent) (takes : TakesIn p part sent core new) where
+    LogsHold-step : LogsHold job kept core.graph core.limits.partitions (after core.state (Step p)).places new.logs
     LogsHold-step =
         let n : ℕ = core.limits.partitions in
         let steps = StepsFrom-from_allowed core.state p allowed in
@@ -206,22 +207,22 @@ module _ {V M : Type 0} (job : Job V M) {P C A : Type 0} (core : Progress P C A 
         let own_place : place_at p (after core.state (Step p)) ≡ Some (r + 1) = place_after_own core.state p r steps.at in
         record {
           sent = λ s u q past within. elim (cases_eq u p) [
-            | inl same ↦ subst (λ (u : ℕ). IsSentTo job None core.graph n u q s (slot_at new.logs s u q)) (sym same)
+            | inl same ↦ subst (λ (u : ℕ). IsSentTo job kept core.graph n u q s (slot_at new.logs s u q)) (sym same)
                 (let before : is_past s (Some (r + 1)) ≡ true = sym (ap (is_past s) own_place) ∙ (ap (λ (u : ℕ). is_past s (place_at u (after core.state (Step p)))) (sym same) ∙ past) in
                 elim (cases_eq s r) [
                   | inl now ↦ (
                       let here : (p == p) && ((r == r) && nat_lt q (length sent)) ≡ true =
                       ap (λ b. b && ((r == r) && nat_lt q (length sent))) (eq-eqb p p refl)
                       ∙ (ap (λ b. b && nat_lt q (length sent)) (eq-eqb r r refl) ∙ lt-ltb q (length sent) (omega (arith, is_step.to_each, within))) in
-                      subst (λ (s : ℕ). IsSentTo job None core.graph n p q s (slot_at new.logs s p q)) (sym now)
-                      (subst (IsSentTo job None core.graph n p q r) (sym (put r p q ∙ cond-true _ (slice_get sent q) (slot_at core.logs r p q) here)) (is_step.sends r q steps.at within))
+                      subst (λ (s : ℕ). IsSentTo job kept core.graph n p q s (slot_at new.logs s p q)) (sym now)
+                      (subst (IsSentTo job kept core.graph n p q r) (sym (put r p q ∙ cond-true _ (slice_get sent q) (slot_at core.logs r p q) here)) (is_step.sends r q steps.at within))
                       )
                   | inr apart ↦ (
                       let still : is_past s (place_at p core.state) ≡ true = ap (is_past s) steps.at ∙ lt-ltb s r (omega (arith, ltb-true s (r + 1) before, apart)) in
-                      subst (IsSentTo job None core.graph n p q s) (sym (earlier s q apart)) (right.logs.sent s p q still within)
+                      subst (IsSentTo job kept core.graph n p q s) (sym (earlier s q apart)) (right.logs.sent s p q still within)
                       )
                 ])
-            | inr apart ↦ subst (IsSentTo job None core.graph n u q s) (sym (elsewhere s u q apart)) (right.logs.sent s u q (ap (is_past s) (sym (place_after_other core.state p u apart)) ∙ past) within)
+            | inr apart ↦ subst (IsSentTo job kept core.graph n u q s) (sym (elsewhere s u q apart)) (right.logs.sent s u q (ap (is_past s) (sym (place_after_other core.state p u apart)) ∙ past) within)
           ];
           no_more = λ s u q not_yet. elim (cases_eq u p) [
             | inl same ↦ subst (λ (u : ℕ). slot_at new.logs s u q ≡ None) (sym same)
@@ -246,21 +247,21 @@ module _ {V M : Type 0} (job : Job V M) {P C A : Type 0} (core : Progress P C A 
           ];
         }
 
-    pub IsRight-step : p < length core.parts → IsRight job new
+    pub IsRight-step : p < length core.parts → IsRight job kept new
     IsRight-step within =
         let n : ℕ = core.limits.partitions in
         let steps = StepsFrom-from_allowed core.state p allowed in
         let own : get_or (set core.parts p (Some part)) p None ≡ Some part = get_or-set_same core.parts p (Some part) None within in
-        subst (IsRight job) (sym takes.core_is) (record {
+        subst (IsRight job kept) (sym takes.core_is) (record {
           within = right.within;
           parts = λ q part' at. elim (cases_eq q p) [
             | inl same ↦ (
                 let is : part ≡ part' = one_of part part' (sym own ∙ (ap (λ (q : ℕ). get_or (set core.parts p (Some part)) q None) (sym same) ∙ at)) in
-                subst (λ (q : ℕ). HoldsAt job core.graph n q (place_at q (after core.state (Step p))) part') (sym same)
-                (subst (λ place. HoldsAt job core.graph n p place part') (sym (place_after_own core.state p steps.from steps.at))
-                (subst (Holds job None core.graph n p (steps.from + 1)) is (is_step.holds steps.from steps.at)))
+                subst (λ (q : ℕ). HoldsAt job kept core.graph n q (place_at q (after core.state (Step p))) part') (sym same)
+                (subst (λ place. HoldsAt job kept core.graph n p place part') (sym (place_after_own core.state p steps.from steps.at))
+                (subst (Holds job kept core.graph n p (steps.from + 1)) is (is_step.holds steps.from steps.at)))
                 )
-            | inr apart ↦ subst (λ place. HoldsAt job core.graph n q place part') (sym (place_after_other core.state p q apart))
+            | inr apart ↦ subst (λ place. HoldsAt job kept core.graph n q place part') (sym (place_after_other core.state p q apart))
                 (right.parts q part' (sym (get_or-set_other core.parts p q (Some part) None apart) ∙ at))
           ];
           logs = LogsHold-step;
@@ -269,9 +270,9 @@ module _ {V M : Type 0} (job : Job V M) {P C A : Type 0} (core : Progress P C A 
         })
 
 -- what a part's step promises is what a step taken in asks for
-pub IsStepOf-from_HasStepped : {V M : Type 0} (job : Job V M) {P C A : Type 0} (core : Progress P C A V M) (p r : ℕ) (part : Holding V M) (sent : List (Logged M)) (value_eq : V → V → Bool) (message_eq : M → M → Bool) (calls calls_after : ℕ) → place_at p core.state ≡ Some r → HasStepped job value_eq message_eq None core.graph core.limits.partitions p r part sent calls calls_after → IsStepOf job core p part sent
-IsStepOf-from_HasStepped job core p r part sent value_eq message_eq calls calls_after at stepped = record {
-  holds = λ s is. let same : r ≡ s = one_of r s (sym at ∙ is) in subst (λ (s : ℕ). Holds job None core.graph core.limits.partitions p (s + 1) part) same stepped.holds;
+pub IsStepOf-from_HasStepped : {V M : Type 0} (job : Job V M) (kept : Option Rows) {P C A : Type 0} (core : Progress P C A V M) (p r : ℕ) (part : Holding V M) (sent : List (Logged M)) (value_eq : V → V → Bool) (message_eq : M → M → Bool) (calls calls_after : ℕ) → place_at p core.state ≡ Some r → HasStepped job value_eq message_eq kept core.graph core.limits.partitions p r part sent calls calls_after → IsStepOf job kept core p part sent
+IsStepOf-from_HasStepped job kept core p r part sent value_eq message_eq calls calls_after at stepped = record {
+  holds = λ s is. let same : r ≡ s = one_of r s (sym at ∙ is) in subst (λ (s : ℕ). Holds job kept core.graph core.limits.partitions p (s + 1) part) same stepped.holds;
   to_each = stepped.to_each;
-  sends = λ s q is within. let same : r ≡ s = one_of r s (sym at ∙ is) in subst (λ (s : ℕ). IsSentTo job None core.graph core.limits.partitions p q s (slice_get sent q)) same (stepped.sends q within);
+  sends = λ s q is within. let same : r ≡ s = one_of r s (sym at ∙ is) in subst (λ (s : ℕ). IsSentTo job kept core.graph core.limits.partitions p q s (slice_get sent q)) same (stepped.sends q within);
 }

@@ -81,15 +81,17 @@ module _ {V M : Type 0} (job : Job V M) (rows : Rows) where
       let c : Configuration V M = configuration job rows s in
       record { gathered = c.gathered; sent = c.sent; dropped = c.dropped }
 
-  -- the logs have what each partition sent in the supersteps that it has made, and nothing else
+module _ {V M : Type 0} (job : Job V M) (kept : Option Rows) (rows : Rows) where
+  -- the logs have what each partition sent in the supersteps that it has made, beside the kept run, if any, and nothing
+  -- else
   pub record LogsHold (n : ℕ) (places : List (Option ℕ)) (logs : Slots M) : Type 0 where
-    pub sent : (s p q : ℕ) → is_past s (slice_index_or places p None) ≡ true → q < n → IsSentTo job None rows n p q s (slot_at logs s p q)
+    pub sent : (s p q : ℕ) → is_past s (slice_index_or places p None) ≡ true → q < n → IsSentTo job kept rows n p q s (slot_at logs s p q)
     pub no_more : (s p q : ℕ) → (is_past s (slice_index_or places p None) && nat_lt q n) ≡ false → slot_at logs s p q ≡ None
 
-  -- partition p holds its share of the run at its place
+  -- partition p holds its share of the run at its place, beside the kept run, if any
   abbrev pub HoldsAt : ℕ → ℕ → Option ℕ → Holding V M → Type 0
   HoldsAt n p None part = ⊥
-  HoldsAt n p (Some r) part = Holds job None rows n p r part
+  HoldsAt n p (Some r) part = Holds job kept rows n p r part
 
 module _ {P C A V M : Type 0} where
   -- the job of a run, by what its program, its combiner and its master mean
@@ -102,11 +104,12 @@ module _ {P C A V M : Type 0} where
   part_at p core = slice_index_or core.parts p None
 
   -- what it has is the run's on its graph: each part that is here holds its share at its place, beside parts at other
-  -- places; the logs hold what the partitions sent on their way there; what was shown and counted is the run's
-  pub record IsRight (job : Job V M) (core : Progress P C A V M) : Type 0 where
+  -- places and beside the kept run, if any; the logs hold what the partitions sent on their way there; what was shown and
+  -- counted is the run's
+  pub record IsRight (job : Job V M) (kept : Option Rows) (core : Progress P C A V M) : Type 0 where
     pub within : core.state.current < run_length job core.graph
-    pub parts : (p : ℕ) (part : Holding V M) → part_at p core ≡ Some part → HoldsAt job core.graph core.limits.partitions p (place_at p core.state) part
-    pub logs : LogsHold job core.graph core.limits.partitions core.state.places core.logs
+    pub parts : (p : ℕ) (part : Holding V M) → part_at p core ≡ Some part → HoldsAt job kept core.graph core.limits.partitions p (place_at p core.state) part
+    pub logs : LogsHold job kept core.graph core.limits.partitions core.state.places core.logs
     pub shown : core.shown ≡ shown_below job core.graph (core.state.current + 1)
     pub tally : core.tally ≡ tally_at job core.graph (reached core.state)
 
@@ -154,14 +157,14 @@ module _ {P C A V M : Type 0} where
     pub core_is : after ≡ record (with_step p part before) { logs = after.logs }
     pub logs_are : (r : ℕ) → place_at p before.state ≡ Some r → HasPut r p (take before.limits.partitions sent) before.logs after.logs
 
-  -- a part and what it sent are those of the run after a step of partition p
-  pub record IsStepOf (job : Job V M) (core : Progress P C A V M) (p : ℕ) (part : Holding V M) (sent : List (Logged M)) : Type 0 where
-    pub holds : (r : ℕ) → place_at p core.state ≡ Some r → Holds job None core.graph core.limits.partitions p (r + 1) part
+  -- a part and what it sent are those of the run after a step of partition p, beside the kept run, if any
+  pub record IsStepOf (job : Job V M) (kept : Option Rows) (core : Progress P C A V M) (p : ℕ) (part : Holding V M) (sent : List (Logged M)) : Type 0 where
+    pub holds : (r : ℕ) → place_at p core.state ≡ Some r → Holds job kept core.graph core.limits.partitions p (r + 1) part
     pub to_each : length sent ≡ core.limits.partitions
-    pub sends : (r q : ℕ) → place_at p core.state ≡ Some r → q < core.limits.partitions → IsSentTo job None core.graph core.limits.partitions p q r (slice_get sent q)
+    pub sends : (r q : ℕ) → place_at p core.state ≡ Some r → q < core.limits.partitions → IsSentTo job kept core.graph core.limits.partitions p q r (slice_get sent q)
 
   -- what a step of partition p from r is lent of the run, and the part that makes it
-  pub record IsStepLent (job : Job V M) (core : Progress P C A V M) (p r : ℕ) (part : Holding V M) : Type 0 where
-    pub holds : Holds job None core.graph core.limits.partitions p r part
+  pub record IsStepLent (job : Job V M) (kept : Option Rows) (core : Progress P C A V M) (p r : ℕ) (part : Holding V M) : Type 0 where
+    pub holds : Holds job kept core.graph core.limits.partitions p r part
     pub lent : IsLent job core.graph core.limits.partitions p r core.logs (visible_at job core.graph r)
     pub open_or_before : r ≤ core.state.current

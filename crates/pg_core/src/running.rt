@@ -1,10 +1,11 @@
 //! The core: a run over partitions between two events.
-ghost use Rattle.std.specs.Prelude.{◌≡◌, ◌<◌, ◌≤◌, ◌∷◌, ◌++◌, [], true, cond, length, None, Some, IsSome, IfOk, OnOk, slice_get};
+ghost use Rattle.std.specs.Prelude.{◌≡◌, ◌<◌, ◌≤◌, ◌∷◌, ◌++◌, [], true, cond, length, Option, None, Some, IsSome, IfOk, OnOk, slice_get};
 ghost use Rattle.pg_core.specs.Machine.{Reaches, RestoresFollowLosses, StepsTell, first_state, host_of, is_allowed};
 ghost use Rattle.pg_core.specs.Progress.{HasPut, IsNext, IsOpened, IsPartAt, IsRight, IsStepLent, IsStepOf, TakesIn};
 ghost use Rattle.pg_core.specs.Progress.{is_ready as ready_test, job_by, part_at, ready_of, without_part};
 ghost use Rattle.pg_global.specs.Master.{has_places, is_registered};
 ghost use Rattle.pg_global.specs.Registry.{first_refusal};
+ghost use Rattle.pg_graph.specs.Rows.{Rows};
 ghost use Rattle.pg_model.specs.Run.{visible_at};
 
 use crate::beginning::{begun_parts, copied, initial_values, registered, shown_in};
@@ -79,7 +80,7 @@ impl<'a, P: Computation, C: MessageCombiner<P::Message>, M: MasterCompute> Core<
         ensures opened { IfOk result
             (λ core. IsOpened core program.now combiner.now master.now graph.now limits run) }
         ensures right { IfOk result
-            (λ core. IsRight (job_by P.program C.combining M.master core) core) }
+            (λ core. IsRight (job_by P.program C.combining M.master core) None core) }
     {
         let registry = registered(alloc, master)?;
         // Tells the prover that there are at most 16.
@@ -149,7 +150,7 @@ impl<'a, P: Computation, C: MessageCombiner<P::Message>, M: MasterCompute> Core<
         ensures few { length result.now.values ≤ 16 }
         ensures declared { has_places (P.program self.now.program).declared (length result.now.values) ≡ true }
         ensures right { let job = job_by P.program C.combining M.master self.now in
-            IsRight job self.now → result.now ≡ visible_at job self.now.graph superstep }
+            (kept : Option Rows) → IsRight job kept self.now → result.now ≡ visible_at job self.now.graph superstep }
     {
         &self.shown[superstep.number() as usize]
     }
@@ -208,7 +209,8 @@ impl<'a, P: Computation, C: MessageCombiner<P::Message>, M: MasterCompute> Core<
         ensures small { self.old.state.current < 10000 }
         ensures at { IsPartAt self.old.limits.partitions self.old.state partition result }
         ensures right { let job = job_by P.program C.combining M.master self.old in
-            IsRight job self.old → IsRight job self.new × IsStepLent job self.old partition result.place result }
+            (kept : Option Rows) → IsRight job kept self.old
+            → IsRight job kept self.new × IsStepLent job kept self.old partition result.place result }
     {
         // Tells the prover the least and the most that they may be.
         self.limits.limit();
@@ -229,7 +231,8 @@ impl<'a, P: Computation, C: MessageCombiner<P::Message>, M: MasterCompute> Core<
         requires next { IsNext self.old.limits.partitions self.old.state partition part }
         ensures core { OnOk result (TakesIn partition part sent self.old self.new) }
         ensures right { let job = job_by P.program C.combining M.master self.old in
-            OnOk result (IsRight job self.old → IsStepOf job self.old partition part sent → IsRight job self.new) }
+            OnOk result ((kept : Option Rows) → IsRight job kept self.old
+            → IsStepOf job kept self.old partition part sent → IsRight job kept self.new) }
     {
         let next = part.place();
         let place = Superstep::new(next.number() - 1);

@@ -60,7 +60,7 @@ returns-clause-core g c =
     }
 
 pub returns-clause-right : goal.returns-clause-right
-returns-clause-right g c right is_step =
+returns-clause-right g c kept right is_step =
     let inside = c.self.inside in
     let core = c.args.self.now in
     let p = c.args.partition in
@@ -68,4 +68,4 @@ returns-clause-right g c right is_step =
     let steps = StepsFrom-from_allowed core.state p c.requires.allowed in
     let many = subst (λ core. length core.state.places ≡ core.limits.partitions) c.self.view_is (length-places_lawful inside.limits inside.state inside.history.items c.self.invariant.events) in
     let each = subst (λ core. length core.parts ≡ core.limits.partitions) c.self.view_is c.self.invariant.each in
-    IsRight-step job core p right c.requires.allowed c.args.part c.args.sent _ is_step (returns-clause-core g c) (omega (arith, some_within core.state.places p steps.from steps.at, many, each))
+    IsRight-step job kept core p right c.requires.allowed c.args.part c.args.sent _ is_step (returns-clause-core g c) (omega (arith, some_within core.state.places p steps.from steps.at, many, each))

@@ -32,7 +32,7 @@ returns-clause-at g c =
     subst (λ core. IsPartAt core.limits.partitions core.state p c.unwrap.result) c.self.view_is (c.self.invariant.here p c.unwrap.result here)
 
 pub returns-clause-right : goal.returns-clause-right
-returns-clause-right g c right =
+returns-clause-right g c kept right =
     let inside = c.self.inside in
     let core = c.args.self.now in
     let parts = inside.parts.items in
@@ -57,7 +57,7 @@ returns-clause-right g c right =
       shown = inside.shown.items;
       tally = inside.tally;
     }) ∙ ap (without_part p) c.self.view_is in
-    (subst (IsRight job) (sym new) (IsRight-take job core p right was.0 (some_inside core.parts p was.1)), IsStepLent-taken job core p right was.0 many c.unwrap.result there)
+    (subst (IsRight job kept) (sym new) (IsRight-take job kept core p right was.0 (some_inside core.parts p was.1)), IsStepLent-taken job kept core p right was.0 many c.unwrap.result there)
 
 pub returns-clause-gone : goal.returns-clause-gone
 returns-clause-gone g c =

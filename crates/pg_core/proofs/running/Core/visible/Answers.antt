@@ -5,7 +5,7 @@ use Rattle.pg_model.specs.Run.{visible_at}
 use Rattle.pg_core.proofs.running.Core.visible.Goals as goal
 
 pub returns-clause-right : goal.returns-clause-right
-returns-clause-right g c right =
+returns-clause-right g c kept right =
     let core = c.args.self.now in
     let job = job_by g.P.Computation.program g.C.MessageCombiner.combining g.M.MasterCompute.master core in
     made_at (visible_at job core.graph) core.shown (core.state.current + 1) c.args.superstep c.index.result.now right.shown (omega (arith, c.requires))
