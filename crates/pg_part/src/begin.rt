@@ -45,13 +45,25 @@ fn add_state<P: Computation>(
     if !share.has(id) {
         return Ok(());
     }
-    states.push(VertexState {
+    states.push(begun(alloc, id, row, program)?)?;
+    Ok(())
+}
+
+/// The state with which a vertex begins that has this row.
+fn begun<P: Computation>(
+    alloc: Global,
+    id: VertexId,
+    row: &Row,
+    program: &P,
+) -> Result<VertexState<P::Value>, Memory>
+    ensures { IfOk result (λ state. state ≡ state_first (P.program program.now) id row.now) }
+{
+    Ok(VertexState {
         id,
         value: program.initial(alloc, id, row.input)?,
         edges: row.edges.copy()?,
         halted: false,
-    })?;
-    Ok(())
+    })
 }
 
 /// The states with which those of these vertices begin that belong to a partition, or none where the graph hasn't
@@ -96,7 +108,7 @@ fn add_change<P: Computation>(
     Ok(())
 }
 
-/// The state with which a vertex begins that has this row, if it has one.
+/// The state with which a vertex begins, if it has a row.
 fn first_state<P: Computation>(
     alloc: Global,
     row: Option<&Row>,
@@ -107,12 +119,7 @@ fn first_state<P: Computation>(
         state ≡ option_map (state_first (P.program program.now) id) (option_copied row.entry)) }
 {
     match row {
-        Some(row) => Ok(Some(VertexState {
-            id,
-            value: program.initial(alloc, id, row.input)?,
-            edges: row.edges.copy()?,
-            halted: false,
-        })),
+        Some(row) => Ok(Some(begun(alloc, id, row, program)?)),
         None => Ok(None),
     }
 }

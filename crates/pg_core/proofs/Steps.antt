@@ -1,0 +1,278 @@
+-- What taking a part, and taking in its step, leave of a run over partitions.
+use Rattle.std.proofs.Common.{◌≡◌, ℕ, ◌+◌, ◌<◌, ◌≤◌, ◌≢◌, Bool, true, false, ◌&&◌, List, [], ◌∷◌, ◌++◌, length, take, get_or, set, Option, None, Some, is_some, refl, ap, sym, ◌∙◌, subst, arith, inl, inr}
+use Rattle.std.specs.Prelude.{◌==◌, nat_lt, nat_le}
+use Rattle.std.specs.List.{list_all, slice_get}
+use Rattle.std.specs.Option.{option_map}
+use Rattle.std.proofs.lemmas.Bool.{and_parts, and_cases, and_left, and_right, cases_eq, cond-false, cond-true, eq-eqb, le-ltb, leb-true, lt-ltb, ltb-false, ltb-true, ne_eqb, true≢false}
+use Rattle.std.proofs.lemmas.List.{get_or-set_other, get_or-set_same, length-set, take_all}
+use Rattle.std.proofs.lemmas.List.Sums.{AllPass-from_list_all}
+use Rattle.pg_core.specs.Limits.{Limits}
+use Rattle.pg_core.specs.Machine.{Reaches, State, after, first_state, is_allowed, is_from, may_step, place_at}
+use Rattle.pg_core.specs.Progress.{HasPut, HoldsAt, IsLawful, IsNext, IsPartAt, IsRight, IsStepLent, IsStepOf, LogsHold, Progress, TakesIn, is_past, part_at, without_part}
+use Rattle.pg_core.specs.declared.event.Event.{Event}
+use Rattle.pg_core.specs.declared.event.Event.TheVariants.{Step}
+use Rattle.pg_core.specs.declared.tally.Tally.{Tally}
+use Rattle.pg_core.proofs.Events.{Reaches-push, length-first, length-places_all, some_within}
+use Rattle.pg_graph.specs.Rows.{Rows}
+use Rattle.pg_inbox.specs.Logged.{slot_at}
+use Rattle.pg_inbox.specs.declared.logs.Logged.{Logged}
+use Rattle.pg_model.specs.Job.{Job}
+use Rattle.pg_model.specs.declared.view.Declared.{Declared}
+use Rattle.pg_model.specs.declared.view.Visible.{Visible}
+use Rattle.pg_part.specs.Lent.{HasMessages, bundle_in, bundle_sent}
+use Rattle.pg_part.specs.Part.{HasStepped, Holding, Holds, IsFurther, IsSentTo}
+
+pub one_of : {X : Type 0} (x y : X) → Some x ≡ Some y → x ≡ y
+one_of x y e = cc
+
+-- ---- the partition that steps
+
+-- a partition that may step is at a superstep that is open or was, and so are the others, or further
+pub record StepsFrom (state : State) (p : ℕ) : Type 0 where
+  pub from : ℕ
+  pub at : place_at p state ≡ Some from
+  pub open_or_before : from ≤ state.current
+  pub others : (q : ℕ) → q < length state.places → is_from from (place_at q state) ≡ true
+
+pub StepsFrom-from_allowed : (state : State) (p : ℕ) → is_allowed state (Step p) ≡ true → StepsFrom state p
+StepsFrom-from_allowed state p allowed = by (place_at p state) refl (and_parts _ _ allowed).1
+  where
+    by : (place : Option ℕ) → place_at p state ≡ place → may_step state place ≡ true → StepsFrom state p
+    by None at may = absurd (true≢false (sym may))
+    by (Some r) at may =
+        let parts : (nat_le r state.current ≡ true) × (list_all (is_from r) state.places ≡ true) = and_parts _ _ may in
+        record {
+          from = r;
+          at = at;
+          open_or_before = leb-true r state.current parts.0;
+          others = λ q within. AllPass-from_list_all (is_from r) state.places parts.1 q None within;
+        }
+
+-- a part that made a step is the next of its partition
+pub IsNext-from_IsFurther : {V M : Type 0} (partitions : ℕ) (state : State) (p : ℕ) (before after : Holding V M) → IsPartAt partitions state p before → IsFurther before after → IsNext partitions state p after
+IsNext-from_IsFurther partitions state p before after at further = record {
+  partition_is = further.partition_stays ∙ at.partition_is;
+  partitions_are = further.partitions_stay ∙ at.partitions_are;
+  place_is = λ r is. let same : before.place ≡ r = one_of before.place r (sym at.place_is ∙ is) in further.place_is ∙ ap (λ (k : ℕ). k + 1) same;
+}
+
+-- the place of the partition after its step, and those of the others
+place_after_own : (state : State) (p r : ℕ) → place_at p state ≡ Some r → place_at p (after state (Step p)) ≡ Some (r + 1)
+place_after_own state p r at =
+    get_or-set_same state.places p _ None (some_within state.places p r at) ∙ ap (option_map (λ r. r + 1)) at
+
+place_after_other : (state : State) (p q : ℕ) → q ≢ p → place_at q (after state (Step p)) ≡ place_at q state
+place_after_other state p q apart = get_or-set_other state.places p q _ None apart
+
+-- ---- what is so of every run
+
+pub length-places_lawful : (limits : Limits) (state : State) (history : List Event) → Reaches (first_state limits.partitions limits.workers) history state → length state.places ≡ limits.partitions
+length-places_lawful limits state history reaches =
+    ap (λ (s : State). length s.places) (sym reaches.leads)
+    ∙ (length-places_all (first_state limits.partitions limits.workers) history ∙ length-first limits.partitions limits.workers)
+
+module _ {V M : Type 0} (limits : Limits) (declared : Declared) (registered : ℕ) (state : State) (history : List Event) (parts : List (Option (Holding V M))) (shown : List Visible) (tally : Tally) (lawful : IsLawful limits declared registered state history parts shown tally) (p : ℕ) (allowed : is_allowed state (Step p) ≡ true) where
+  -- there is a place for the part of a partition that is somewhere
+  pub part_within : (q r : ℕ) → place_at q state ≡ Some r → q < length parts
+  part_within q r at =
+      omega (arith, some_within state.places q r at, length-places_lawful limits state history lawful.events, lawful.each)
+
+  pub IsLawful-take : IsLawful limits declared registered state history (set parts p None) shown tally
+  IsLawful-take =
+      let steps = StepsFrom-from_allowed state p allowed in
+      let within : p < length parts = part_within p steps.from steps.at in
+      let gone : get_or (set parts p None) p None ≡ None = get_or-set_same parts p None None within in
+      let kept : (q : ℕ) → q ≢ p → get_or (set parts p None) q None ≡ get_or parts q None = λ q apart. get_or-set_other parts p q None None apart in
+      record {
+        few = lawful.few;
+        declared_are = lawful.declared_are;
+        events = lawful.events;
+        each = length-set parts p None ∙ lawful.each;
+        here = λ q part at. elim (cases_eq q p) [
+          | inl same ↦ (let none : None ≡ Some part = sym gone ∙ (ap (λ (q : ℕ). get_or (set parts p None) q None) (sym same) ∙ at) in absurd (cc))
+          | inr apart ↦ lawful.here q part (sym (kept q apart) ∙ at)
+        ];
+        stays = λ q r at past. elim (cases_eq q p) [
+          | inl same ↦ (
+              let is : r ≡ steps.from = one_of r steps.from (sym at ∙ (ap (λ (q : ℕ). place_at q state) same ∙ steps.at)) in
+              absurd (omega (arith, is, past, steps.open_or_before))
+              )
+          | inr apart ↦ ap is_some (kept q apart) ∙ lawful.stays q r at past
+        ];
+        within = lawful.within;
+        shown_so_far = lawful.shown_so_far;
+        shown_places = lawful.shown_places;
+        gathered_places = lawful.gathered_places;
+      }
+
+  pub IsLawful-step : (part : Holding V M) → IsNext limits.partitions state p part → IsLawful limits declared registered (after state (Step p)) (history ++ Step p ∷ []) (set parts p (Some part)) shown tally
+  IsLawful-step part next =
+      let steps = StepsFrom-from_allowed state p allowed in
+      let within : p < length parts = part_within p steps.from steps.at in
+      let own : get_or (set parts p (Some part)) p None ≡ Some part = get_or-set_same parts p (Some part) None within in
+      let kept : (q : ℕ) → q ≢ p → get_or (set parts p (Some part)) q None ≡ get_or parts q None = λ q apart. get_or-set_other parts p q (Some part) None apart in
+      record {
+        few = lawful.few;
+        declared_are = lawful.declared_are;
+        events = Reaches-push (first_state limits.partitions limits.workers) state history (Step p) lawful.events allowed;
+        each = length-set parts p (Some part) ∙ lawful.each;
+        here = λ q part' at. elim (cases_eq q p) [
+          | inl same ↦ (
+              let is : part ≡ part' = one_of part part' (sym own ∙ (ap (λ (q : ℕ). get_or (set parts p (Some part)) q None) (sym same) ∙ at)) in
+              let mine : IsPartAt limits.partitions (after state (Step p)) p part = record {
+                partition_is = next.partition_is;
+                partitions_are = next.partitions_are;
+                place_is = place_after_own state p steps.from steps.at ∙ ap Some (sym (next.place_is steps.from steps.at));
+              } in
+              subst (λ (q : ℕ). IsPartAt limits.partitions (after state (Step p)) q part') (sym same)
+              (subst (IsPartAt limits.partitions (after state (Step p)) p) is mine)
+              )
+          | inr apart ↦ (
+              let before = lawful.here q part' (sym (kept q apart) ∙ at) in
+              record {
+                partition_is = before.partition_is;
+                partitions_are = before.partitions_are;
+                place_is = place_after_other state p q apart ∙ before.place_is;
+              }
+              )
+        ];
+        stays = λ q r at past. elim (cases_eq q p) [
+          | inl same ↦ ap (λ (q : ℕ). is_some (get_or (set parts p (Some part)) q None)) same ∙ ap is_some own
+          | inr apart ↦ ap is_some (kept q apart) ∙ lawful.stays q r (sym (place_after_other state p q apart) ∙ at) past
+        ];
+        within = lawful.within;
+        shown_so_far = lawful.shown_so_far;
+        shown_places = lawful.shown_places;
+        gathered_places = lawful.gathered_places;
+      }
+
+-- ---- what is so of a right one
+
+module _ {V M : Type 0} (job : Job V M) (kept : Option Rows) {P C A : Type 0} (core : Progress P C A V M) (p : ℕ) (right : IsRight job kept core) (allowed : is_allowed core.state (Step p) ≡ true) where
+  pub IsRight-take : p < length core.parts → IsRight job kept (without_part p core)
+  IsRight-take within =
+      let gone : get_or (set core.parts p None) p None ≡ None = get_or-set_same core.parts p None None within in
+      record {
+        within = right.within;
+        parts = λ q part at. elim (cases_eq q p) [
+          | inl same ↦ (let none : None ≡ Some part = sym gone ∙ (ap (λ (q : ℕ). get_or (set core.parts p None) q None) (sym same) ∙ at) in absurd (cc))
+          | inr apart ↦ right.parts q part (sym (get_or-set_other core.parts p q None None apart) ∙ at)
+        ];
+        logs = right.logs;
+        shown = right.shown;
+        tally = right.tally;
+      }
+
+  -- a step is lent what it reads of the run
+  pub IsStepLent-taken : (many : length core.state.places ≡ core.limits.partitions) (part : Holding V M) → part_at p core ≡ Some part → IsStepLent job kept core p part.place part
+  IsStepLent-taken many part at =
+      let steps = StepsFrom-from_allowed core.state p allowed in
+      let n : ℕ = core.limits.partitions in
+      let holds : Holds job kept core.graph n p steps.from part = subst (λ place. HoldsAt job kept core.graph n p place part) steps.at (right.parts p part at) in
+      let p_within : p < n = subst (λ (k : ℕ). p < k) many (some_within core.state.places p steps.from steps.at) in
+      let is : steps.from ≡ part.place = sym holds.place_is in
+      let lent : HasMessages job core.graph n p steps.from core.logs =
+      (λ s q before within.
+      sent_is s q (slot_at core.logs s q p)
+      (right.logs.sent s q p (past s q before (place_at q core.state) (steps.others q (subst (λ (k : ℕ). q < k) (sym many) within))) p_within)) in
+      subst (λ (r : ℕ). IsStepLent job kept core p r part) is (record {
+        holds = holds;
+        lent = record { within = omega (arith, steps.open_or_before, right.within); messages = lent; sees = refl };
+        open_or_before = steps.open_or_before;
+      })
+    where
+      sent_is : (s q : ℕ) (slot : Option (Logged M)) → IsSentTo job kept core.graph core.limits.partitions q p s slot → bundle_in slot ≡ Some (bundle_sent job core.graph core.limits.partitions q p s)
+      sent_is s q None h = absurd h
+      sent_is s q (Some logged) h = ap Some h.0
+
+      past : (s q : ℕ) → s + 1 ≡ (StepsFrom-from_allowed core.state p allowed).from → (place : Option ℕ) → is_from (StepsFrom-from_allowed core.state p allowed).from place ≡ true → is_past s place ≡ true
+      past s q before None from = absurd (true≢false (sym from))
+      past s q before (Some r) from = lt-ltb s r (omega (arith, before, leb-true _ r from))
+
+  module _ (part : Holding V M) (sent : List (Logged M)) (new : Progress P C A V M) (is_step : IsStepOf job kept core p part sent) (takes : TakesIn p part sent core new) where
+    LogsHold-step : LogsHold job kept core.graph core.limits.partitions (after core.state (Step p)).places new.logs
+    LogsHold-step =
+        let n : ℕ = core.limits.partitions in
+        let steps = StepsFrom-from_allowed core.state p allowed in
+        let r : ℕ = steps.from in
+        let all : take n sent ≡ sent = take_all n sent (omega (arith, is_step.to_each)) in
+        let put : HasPut r p sent core.logs new.logs = subst (λ (l : List (Logged M)). HasPut r p l core.logs new.logs) all (takes.logs_are r steps.at) in
+        -- other slots are as they were
+        let other : (s u q : ℕ) → ((p == u) && ((r == s) && nat_lt q (length sent))) ≡ false → slot_at new.logs s u q ≡ slot_at core.logs s u q =
+        λ s u q apart. put s u q ∙ cond-false _ (slice_get sent q) (slot_at core.logs s u q) apart in
+        let elsewhere : (s u q : ℕ) → u ≢ p → slot_at new.logs s u q ≡ slot_at core.logs s u q =
+        λ s u q apart. other s u q (and_left (p == u) _ (ne_eqb p u (λ e. apart (sym e)))) in
+        let earlier : (s q : ℕ) → s ≢ r → slot_at new.logs s p q ≡ slot_at core.logs s p q =
+        λ s q apart. other s p q (and_right (p == p) _ (and_left (r == s) _ (ne_eqb r s (λ e. apart (sym e))))) in
+        let own_place : place_at p (after core.state (Step p)) ≡ Some (r + 1) = place_after_own core.state p r steps.at in
+        record {
+          sent = λ s u q past within. elim (cases_eq u p) [
+            | inl same ↦ subst (λ (u : ℕ). IsSentTo job kept core.graph n u q s (slot_at new.logs s u q)) (sym same)
+                (let before : is_past s (Some (r + 1)) ≡ true = sym (ap (is_past s) own_place) ∙ (ap (λ (u : ℕ). is_past s (place_at u (after core.state (Step p)))) (sym same) ∙ past) in
+                elim (cases_eq s r) [
+                  | inl now ↦ (
+                      let here : (p == p) && ((r == r) && nat_lt q (length sent)) ≡ true =
+                      ap (λ b. b && ((r == r) && nat_lt q (length sent))) (eq-eqb p p refl)
+                      ∙ (ap (λ b. b && nat_lt q (length sent)) (eq-eqb r r refl) ∙ lt-ltb q (length sent) (omega (arith, is_step.to_each, within))) in
+                      subst (λ (s : ℕ). IsSentTo job kept core.graph n p q s (slot_at new.logs s p q)) (sym now)
+                      (subst (IsSentTo job kept core.graph n p q r) (sym (put r p q ∙ cond-true _ (slice_get sent q) (slot_at core.logs r p q) here)) (is_step.sends r q steps.at within))
+                      )
+                  | inr apart ↦ (
+                      let still : is_past s (place_at p core.state) ≡ true = ap (is_past s) steps.at ∙ lt-ltb s r (omega (arith, ltb-true s (r + 1) before, apart)) in
+                      subst (IsSentTo job kept core.graph n p q s) (sym (earlier s q apart)) (right.logs.sent s p q still within)
+                      )
+                ])
+            | inr apart ↦ subst (IsSentTo job kept core.graph n u q s) (sym (elsewhere s u q apart)) (right.logs.sent s u q (ap (is_past s) (sym (place_after_other core.state p u apart)) ∙ past) within)
+          ];
+          no_more = λ s u q not_yet. elim (cases_eq u p) [
+            | inl same ↦ subst (λ (u : ℕ). slot_at new.logs s u q ≡ None) (sym same)
+                (let none : (is_past s (Some (r + 1)) && nat_lt q n) ≡ false = ap (λ place. is_past s place && nat_lt q n) (sym own_place) ∙ (ap (λ (u : ℕ). is_past s (place_at u (after core.state (Step p))) && nat_lt q n) (sym same) ∙ not_yet) in
+                let before : (is_past s (place_at p core.state) && nat_lt q n) ≡ false =
+                (elim (and_cases (nat_lt s (r + 1)) (nat_lt q n) none) [
+                  | inl late ↦ and_left _ (nat_lt q n) (ap (is_past s) steps.at ∙ le-ltb s r (omega (arith, ltb-false s (r + 1) late)))
+                  | inr out ↦ and_right (is_past s (place_at p core.state)) _ out
+                ]) in
+                elim (cases_eq s r) [
+                  | inl now ↦ (
+                      let out : nat_lt q (length sent) ≡ false =
+                      (elim (and_cases (nat_lt s (r + 1)) (nat_lt q n) none) [
+                        | inl late ↦ absurd (omega (arith, ltb-false s (r + 1) late, now))
+                        | inr out ↦ ap (nat_lt q) is_step.to_each ∙ out
+                      ]) in
+                      other s p q (and_right (p == p) _ (and_right (r == s) _ out)) ∙ right.logs.no_more s p q before
+                      )
+                  | inr apart ↦ earlier s q apart ∙ right.logs.no_more s p q before
+                ])
+            | inr apart ↦ elsewhere s u q apart ∙ right.logs.no_more s u q (ap (λ place. is_past s place && nat_lt q n) (sym (place_after_other core.state p u apart)) ∙ not_yet)
+          ];
+        }
+
+    pub IsRight-step : p < length core.parts → IsRight job kept new
+    IsRight-step within =
+        let n : ℕ = core.limits.partitions in
+        let steps = StepsFrom-from_allowed core.state p allowed in
+        let own : get_or (set core.parts p (Some part)) p None ≡ Some part = get_or-set_same core.parts p (Some part) None within in
+        subst (IsRight job kept) (sym takes.core_is) (record {
+          within = right.within;
+          parts = λ q part' at. elim (cases_eq q p) [
+            | inl same ↦ (
+                let is : part ≡ part' = one_of part part' (sym own ∙ (ap (λ (q : ℕ). get_or (set core.parts p (Some part)) q None) (sym same) ∙ at)) in
+                subst (λ (q : ℕ). HoldsAt job kept core.graph n q (place_at q (after core.state (Step p))) part') (sym same)
+                (subst (λ place. HoldsAt job kept core.graph n p place part') (sym (place_after_own core.state p steps.from steps.at))
+                (subst (Holds job kept core.graph n p (steps.from + 1)) is (is_step.holds steps.from steps.at)))
+                )
+            | inr apart ↦ subst (λ place. HoldsAt job kept core.graph n q place part') (sym (place_after_other core.state p q apart))
+                (right.parts q part' (sym (get_or-set_other core.parts p q (Some part) None apart) ∙ at))
+          ];
+          logs = LogsHold-step;
+          shown = right.shown;
+          tally = right.tally;
+        })
+
+-- what a part's step promises is what a step taken in asks for
+pub IsStepOf-from_HasStepped : {V M : Type 0} (job : Job V M) (kept : Option Rows) {P C A : Type 0} (core : Progress P C A V M) (p r : ℕ) (part : Holding V M) (sent : List (Logged M)) (value_eq : V → V → Bool) (message_eq : M → M → Bool) (calls calls_after : ℕ) → place_at p core.state ≡ Some r → HasStepped job value_eq message_eq kept core.graph core.limits.partitions p r part sent calls calls_after → IsStepOf job kept core p part sent
+IsStepOf-from_HasStepped job kept core p r part sent value_eq message_eq calls calls_after at stepped = record {
+  holds = λ s is. let same : r ≡ s = one_of r s (sym at ∙ is) in subst (λ (s : ℕ). Holds job kept core.graph core.limits.partitions p (s + 1) part) same stepped.holds;
+  to_each = stepped.to_each;
+  sends = λ s q is within. let same : r ≡ s = one_of r s (sym at ∙ is) in subst (λ (s : ℕ). IsSentTo job kept core.graph core.limits.partitions p q s (slice_get sent q)) same (stepped.sends q within);
+}

@@ -1,0 +1,71 @@
+use Rattle.std.proofs.Common.{◌≡◌, ℕ, ◌++◌, ◌∷◌, [], true, length, set, take, Some, ap, sym, ◌∙◌, subst, subst₂, arith}
+use Rattle.pg_core.specs.Machine.{after, is_allowed}
+use Rattle.pg_core.specs.Progress.{HasPut, IsLawful, IsNext, job_by, with_step}
+use Rattle.pg_core.specs.declared.event.Event.TheVariants.{Step}
+use Rattle.pg_core.proofs.Steps.{IsLawful-step, IsRight-step, StepsFrom-from_allowed, length-places_lawful, part_within}
+use Rattle.pg_core.proofs.Events.{some_within}
+use Rattle.pg_core.proofs.running.Core.stepped.Goals as goal
+
+pub index_mut-requires : goal.index_mut-requires
+index_mut-requires g c =
+    let inside = c.self.inside in
+    let p = c.args.partition in
+    let declared = (g.P.Computation.program inside.program.now).declared in
+    let registered = length (g.M.MasterCompute.master inside.master.now).registrations in
+    let allowed = subst (λ core. is_allowed core.state (Step p) ≡ true) (sym c.self.view_is) c.requires.allowed in
+    let steps = StepsFrom-from_allowed inside.state p allowed in
+    let within = part_within inside.limits declared registered inside.state inside.history.items inside.parts.items inside.shown.items inside.tally c.self.invariant p allowed p steps.from steps.at in
+    omega (arith, c.number-2.ensures, within, inside.parts.ok)
+
+pub invariant_of-self-2 : goal.invariant_of-self-2
+invariant_of-self-2 g c =
+    let inside = c.self.inside in
+    let p = c.args.partition in
+    let part = c.args.part in
+    let declared = (g.P.Computation.program inside.program.now).declared in
+    let registered = length (g.M.MasterCompute.master inside.master.now).registrations in
+    let allowed = subst (λ core. is_allowed core.state (Step p) ≡ true) (sym c.self.view_is) c.requires.allowed in
+    let next = subst (λ core. IsNext core.limits.partitions core.state p part) (sym c.self.view_is) c.requires.next in
+    subst (λ state. IsLawful inside.limits declared registered state c.push.new.self.items (set inside.parts.items c.number-2.result (Some part)) inside.shown.items inside.tally) (sym c.step.ensures)
+    (subst (λ events. IsLawful inside.limits declared registered (after inside.state (Step p)) events (set inside.parts.items c.number-2.result (Some part)) inside.shown.items inside.tally) (sym c.in_ok-push.ensures.items)
+    (subst (λ (p' : ℕ). IsLawful inside.limits declared registered (after inside.state (Step p)) (inside.history.items ++ Step p ∷ []) (set inside.parts.items p' (Some part)) inside.shown.items inside.tally) (sym c.number-2.ensures)
+    (IsLawful-step inside.limits declared registered inside.state inside.history.items inside.parts.items inside.shown.items inside.tally c.self.invariant p allowed part next)))
+
+pub returns-clause-core : goal.returns-clause-core
+returns-clause-core g c =
+    let inside = c.self.inside in
+    let p = c.args.partition in
+    let part = c.args.part in
+    let logs = c.put_all.new.logs in
+    record {
+      core_is = (λ i. record {
+        program = inside.program.now;
+        combiner = inside.combiner.now;
+        master = inside.master.now;
+        graph = inside.graph.now;
+        limits = inside.limits;
+        run = inside.run;
+        state = c.step.ensures i;
+        history = c.in_ok-push.ensures.items i;
+        parts = set inside.parts.items (c.number-2.ensures i) (Some part);
+        logs = logs;
+        shown = inside.shown.items;
+        tally = inside.tally;
+      }) ∙ ap (λ core. record (with_step p part core) { logs = logs }) c.self.view_is;
+      logs_are = λ r at.
+          let place : c.new-place.result ≡ r = omega (arith, c.new-place.ensures, c.number.ensures, c.place-next.ensures, c.requires.next.place_is r at) in
+          let bundles = c.truncate.ensures.items ∙ (ap (λ (n : ℕ). take n c.into_bundles-bundles.result.items) c.partitions.ensures.value ∙ ap (take inside.limits.partitions) c.into_bundles-bundles.ensures) in
+          subst (λ core. HasPut r p (take core.limits.partitions c.args.sent) core.logs logs) c.self.view_is
+          (subst₂ (λ r l. HasPut r p l inside.logs logs) place bundles c.in_ok-put_all.ensures);
+    }
+
+pub returns-clause-right : goal.returns-clause-right
+returns-clause-right g c kept right is_step =
+    let inside = c.self.inside in
+    let core = c.args.self.now in
+    let p = c.args.partition in
+    let job = job_by g.P.Computation.program g.C.MessageCombiner.combining g.M.MasterCompute.master core in
+    let steps = StepsFrom-from_allowed core.state p c.requires.allowed in
+    let many = subst (λ core. length core.state.places ≡ core.limits.partitions) c.self.view_is (length-places_lawful inside.limits inside.state inside.history.items c.self.invariant.events) in
+    let each = subst (λ core. length core.parts ≡ core.limits.partitions) c.self.view_is c.self.invariant.each in
+    IsRight-step job kept core p right c.requires.allowed c.args.part c.args.sent _ is_step (returns-clause-core g c) (omega (arith, some_within core.state.places p steps.from steps.at, many, each))

@@ -1,0 +1,5 @@
+pub mod Beginning
+pub mod Limits
+pub mod Machine
+pub mod MachineRows
+pub mod Progress

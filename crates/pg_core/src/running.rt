@@ -1,0 +1,308 @@
+//! The core: a run over partitions between two events.
+ghost use Rattle.std.specs.Prelude.{◌≡◌, ◌<◌, ◌≤◌, ◌∷◌, ◌++◌, [], true, cond, length, Option, None, Some, IsSome, IfOk, OnOk, slice_get};
+ghost use Rattle.pg_core.specs.Machine.{Reaches, RestoresFollowLosses, StepsTell, first_state, host_of, is_allowed};
+ghost use Rattle.pg_core.specs.Progress.{HasPut, IsNext, IsOpened, IsPartAt, IsRight, IsStepLent, IsStepOf, TakesIn};
+ghost use Rattle.pg_core.specs.Progress.{is_ready as ready_test, job_by, part_at, ready_of, without_part};
+ghost use Rattle.pg_global.specs.Master.{has_places, is_registered};
+ghost use Rattle.pg_global.specs.Registry.{first_refusal};
+ghost use Rattle.pg_graph.specs.Rows.{Rows};
+ghost use Rattle.pg_model.specs.Run.{visible_at};
+
+use crate::beginning::{begun_parts, copied, initial_values, registered, shown_in};
+use crate::{Event, Limits, State, Tally};
+use pg_global::{MasterCompute, MessageCombiner, Visible};
+use pg_graph::{Graph, Memory, PartitionId, Superstep, WorkerId};
+use pg_inbox::{Logged, Logs};
+use pg_part::{Part, Partitioner, Sent};
+use pg_program::{Computation, Plain};
+use std::alloc::Global;
+use std::marker::Model;
+
+/// A run over partitions between two events: where it stands, the parts that aren't taken, what was sent, and what
+/// the master showed so far.
+#[derive(Drop)]
+pub struct Core<'a, P: Computation, C: MessageCombiner<P::Message>, M: MasterCompute> {
+    program: &'a P,
+    combiner: &'a C,
+    master: &'a M,
+    graph: &'a Graph,
+    limits: Limits,
+    run: u64,
+    state: State,
+    history: Vec<Event>,
+    parts: Vec<Option<Part<P::Value, P::Message>>>,
+    logs: Logs<P::Message>,
+    shown: Vec<Visible>,
+    tally: Tally,
+}
+
+impl<'a, P: Computation, C: MessageCombiner<P::Message>, M: MasterCompute> Model
+    for Core<'a, P, C, M> {
+    ghost use Rattle.std.specs.Prelude.{length};
+    ghost use Rattle.pg_core.specs.Progress.{IsLawful, Progress};
+
+    ghost Value = { Progress P C M P.Value P.Message };
+
+    ghost view = { λ c. record {
+      program = c.program.now;
+      combiner = c.combiner.now;
+      master = c.master.now;
+      graph = c.graph.now;
+      limits = c.limits;
+      run = c.run;
+      state = c.state;
+      history = c.history.items;
+      parts = c.parts.items;
+      logs = c.logs;
+      shown = c.shown.items;
+      tally = c.tally;
+    } };
+
+    ghost invariant = { λ c. IsLawful c.limits (P.program c.program.now).declared
+        (length (M.master c.master.now).registrations) c.state c.history.items c.parts.items
+        c.shown.items c.tally };
+}
+
+impl<'a, P: Computation, C: MessageCombiner<P::Message>, M: MasterCompute> Core<'a, P, C, M> {
+    /// A core to which nothing has happened, with a number that names the run. Costs one walk over the graph's rows
+    /// for each partition.
+    pub fn open(
+        alloc: Global,
+        graph: &'a Graph,
+        program: &'a P,
+        combiner: &'a C,
+        master: &'a M,
+        limits: Limits,
+        run: u64,
+    ) -> Result<Core<'a, P, C, M>, Memory>
+        requires lawful { first_refusal [] (M.master master.now).registrations ≡ None }
+        requires registered { is_registered (P.program program.now) (M.master master.now) ≡ true }
+        ensures opened { IfOk result
+            (λ core. IsOpened core program.now combiner.now master.now graph.now limits run) }
+        ensures right { IfOk result
+            (λ core. IsRight (job_by P.program C.combining M.master core) None core) }
+    {
+        let registry = registered(alloc, master)?;
+        // Tells the prover that there are at most 16.
+        registry.len();
+        let gathered = initial_values(alloc, &registry)?;
+        let seen = copied(alloc, &gathered)?;
+        let (vertices, edges) = (graph.vertices(), graph.edges());
+        let visible = shown_in(alloc, master, Superstep::new(0), vertices, edges, seen)?;
+        let mut shown = Vec::new(alloc);
+        shown.push(visible)?;
+        let partitioner = partitioner_of(limits);
+        let parts = begun_parts(alloc, graph, partitioner, limits.missing(), program)?;
+        let state = State::first(alloc, limits.partitions(), limits.workers())?;
+        let tally = Tally {
+            gathered,
+            sent: 0,
+            dropped: 0,
+        };
+        Ok(Core {
+            program,
+            combiner,
+            master,
+            graph,
+            limits,
+            run,
+            state,
+            history: Vec::new(alloc),
+            parts,
+            logs: Logs::new(alloc),
+            shown,
+            tally,
+        })
+    }
+
+    /// Where the run stands.
+    pub fn state(&self) -> &State
+        ensures { result.now ≡ self.now.state }
+    {
+        &self.state
+    }
+
+    /// What has happened. The events led from the first state to the present one; each restored partition was lost
+    /// before, and one that wasn't lost has made as many steps as it is far.
+    pub fn history(&self) -> &[Event]
+        ensures value { result.now ≡ self.now.history }
+        ensures leads { Reaches (first_state self.now.limits.partitions self.now.limits.workers)
+            self.now.history self.now.state }
+        ensures restores { RestoresFollowLosses
+            (first_state self.now.limits.partitions self.now.limits.workers) self.now.history }
+        ensures steps { StepsTell self.now.limits.partitions
+            (first_state self.now.limits.partitions self.now.limits.workers) self.now.history self.now.state }
+    {
+        self.history.as_slice()
+    }
+
+    /// What was sent so far.
+    pub fn logs(&self) -> &Logs<P::Message>
+        ensures { result.now ≡ self.now.logs }
+    {
+        &self.logs
+    }
+
+    /// What the master showed in a superstep, up to the open one.
+    pub fn visible(&self, superstep: Superstep) -> &Visible
+        requires { superstep ≤ self.now.state.current }
+        ensures value { slice_get self.now.shown superstep ≡ Some result.now }
+        ensures few { length result.now.values ≤ 16 }
+        ensures declared { has_places (P.program self.now.program).declared (length result.now.values) ≡ true }
+        ensures right { let job = job_by P.program C.combining M.master self.now in
+            (kept : Option Rows) → IsRight job kept self.now → result.now ≡ visible_at job self.now.graph superstep }
+    {
+        &self.shown[superstep.number() as usize]
+    }
+
+    /// The part of a partition that is neither taken nor lost.
+    pub fn part(&self, partition: PartitionId) -> &Part<P::Value, P::Message>
+        requires { IsSome (part_at partition self.now) }
+        ensures value { part_at partition self.now ≡ Some result.now }
+        ensures at { IsPartAt self.now.limits.partitions self.now.state partition result.now }
+    {
+        self.parts[partition.number() as usize].as_ref().unwrap()
+    }
+
+    /// The partitions whose parts can be taken for a step, with their hosts, by rising partition. None that is taken is
+    /// among them.
+    pub fn ready(&self, alloc: Global) -> Result<Vec<(WorkerId, PartitionId)>, Memory>
+        ensures { IfOk result (λ ready. ready.items ≡ ready_of self.now) }
+    {
+        let mut ready = Vec::new(alloc);
+        for number in 0..self.limits.partitions() {
+            self.push_ready(&mut ready, PartitionId::new(number))?;
+        }
+        Ok(ready)
+    }
+
+    /// Adds a partition with its host, where it is ready.
+    fn push_ready(
+        &self,
+        ready: &mut Vec<(WorkerId, PartitionId)>,
+        partition: PartitionId,
+    ) -> Result<(), Memory>
+        ensures { OnOk result (ready.new.items
+            ≡ ready.old.items ++ cond (ready_test self.now partition) ((host_of partition self.now.state, partition) ∷ []) []) }
+    {
+        if self.is_ready(partition) {
+            ready.push((self.state.host(partition), partition))?;
+        }
+        Ok(())
+    }
+
+    /// Whether the part of a partition can be taken for a step.
+    pub fn is_ready(&self, partition: PartitionId) -> bool
+        ensures { result ≡ ready_test self.now partition }
+    {
+        let place = partition.number() as usize;
+        place < self.parts.len() && self.parts[place].is_some() && self.state.may_step(partition)
+    }
+
+    /// Takes the part of a partition that is ready. A step of it is lent the logs, and what is visible in its superstep.
+    pub fn take(&mut self, partition: PartitionId) -> Part<P::Value, P::Message>
+        requires { ready_test self.old partition ≡ true }
+        ensures core { self.new ≡ without_part partition self.old }
+        ensures part { part_at partition self.old ≡ Some result }
+        ensures gone { part_at partition self.new ≡ None }
+        ensures reached { result.place ≤ self.old.state.current }
+        ensures small { self.old.state.current < 10000 }
+        ensures at { IsPartAt self.old.limits.partitions self.old.state partition result }
+        ensures right { let job = job_by P.program C.combining M.master self.old in
+            (kept : Option Rows) → IsRight job kept self.old
+            → IsRight job kept self.new × IsStepLent job kept self.old partition result.place result }
+    {
+        // Tells the prover the least and the most that they may be.
+        self.limits.limit();
+        self.parts[partition.number() as usize].take().unwrap()
+    }
+
+    /// Takes in a step of a partition: its part, which was taken, one superstep further, and what it sent. Bundles to
+    /// partitions that there aren't are left out. Where memory is refused the core is to be given up.
+    pub fn stepped(
+        &mut self,
+        alloc: Global,
+        partition: PartitionId,
+        part: Part<P::Value, P::Message>,
+        sent: Sent<P::Message>,
+    ) -> Result<(), Memory>
+        requires allowed { is_allowed self.old.state (Event.Step partition) ≡ true }
+        requires taken { part_at partition self.old ≡ None }
+        requires next { IsNext self.old.limits.partitions self.old.state partition part }
+        ensures core { OnOk result (TakesIn partition part sent self.old self.new) }
+        ensures right { let job = job_by P.program C.combining M.master self.old in
+            OnOk result ((kept : Option Rows) → IsRight job kept self.old
+            → IsStepOf job kept self.old partition part sent → IsRight job kept self.new) }
+    {
+        let next = part.place();
+        let place = Superstep::new(next.number() - 1);
+        let mut bundles = sent.into_bundles();
+        bundles.truncate(self.limits.partitions() as usize);
+        put_all(alloc, &mut self.logs, place, partition, bundles)?;
+        self.history.push(Event::Step(partition))?;
+        self.state.step(partition, next);
+        self.parts[partition.number() as usize] = Some(part);
+        Ok(())
+    }
+
+    /// The graph of the run.
+    pub fn graph(&self) -> &'a Graph
+        ensures { result.now ≡ self.now.graph }
+    {
+        self.graph
+    }
+
+    /// The program.
+    pub fn program(&self) -> &'a P
+        ensures { result.now ≡ self.now.program }
+    {
+        self.program
+    }
+
+    /// The combiner.
+    pub fn combiner(&self) -> &'a C
+        ensures { result.now ≡ self.now.combiner }
+    {
+        self.combiner
+    }
+
+    /// The numbers of the run.
+    pub fn limits(&self) -> Limits
+        ensures { result ≡ self.now.limits }
+    {
+        self.limits
+    }
+
+    /// The number that names the run.
+    pub fn run(&self) -> u64
+        ensures { result ≡ self.now.run }
+    {
+        self.run
+    }
+}
+
+/// Puts the bundles of a partition into the logs, one to each partition from 0 on.
+fn put_all<M: Plain>(
+    alloc: Global,
+    logs: &mut Logs<M>,
+    superstep: Superstep,
+    from: PartitionId,
+    bundles: Vec<Logged<M>>,
+) -> Result<(), Memory>
+    requires { length bundles.items ≤ 64 }
+    ensures { OnOk result (HasPut superstep from bundles.items logs.old logs.new) }
+{
+    let mut to = 0u32;
+    for logged in bundles {
+        logs.put(alloc, superstep, from, PartitionId::new(to), logged)?;
+        to += 1;
+    }
+    Ok(())
+}
+
+/// What tells the partition of a vertex.
+pub(crate) fn partitioner_of(limits: Limits) -> Partitioner
+    ensures { result ≡ limits.partitions }
+{
+    Partitioner::new(limits.partitions()).unwrap()
+}

@@ -1,0 +1,212 @@
+//! Where a run over partitions stands.
+ghost use Rattle.std.specs.Prelude.{◌≡◌, ◌+◌, ◌%◌, ◌<◌, ◌^◌, map, Some, IfOk};
+ghost use Rattle.std.specs.List.{list_all, range_with_len};
+ghost use Rattle.std.specs.Option.{option_map};
+ghost use Rattle.pg_core.specs.Machine.{after, first_state, host_of, is_allowed, is_at, is_from as from_test, place_at};
+ghost use Rattle.pg_core.specs.declared.event.Closed.{Closed};
+ghost use Rattle.pg_core.specs.declared.event.Event.{Event};
+
+use crate::Closed;
+use pg_graph::{Memory, PartitionId, Superstep, WorkerId};
+use std::alloc::Global;
+use std::marker::Model;
+
+/// Where a run over partitions stands between two events.
+#[derive(Drop)]
+pub struct State {
+    hosts: Vec<WorkerId>,
+    places: Vec<Option<Superstep>>,
+    saved: Vec<Option<Superstep>>,
+    current: Superstep,
+    alive: Vec<bool>,
+    ended: bool,
+}
+
+impl Model for State {
+    ghost use Rattle.pg_core.specs.Machine.{State};
+
+    ghost Value = { State };
+
+    ghost view = { λ s. record {
+      hosts = s.hosts.items;
+      places = s.places.items;
+      saved = s.saved.items;
+      current = s.current;
+      alive = s.alive.items;
+      ended = s.ended;
+    } };
+}
+
+impl State {
+    /// By partition, the worker that hosts it.
+    pub fn hosts(&self) -> &[WorkerId]
+        ensures { result.now ≡ self.now.hosts }
+    {
+        self.hosts.as_slice()
+    }
+
+    /// By partition, the superstep that it is at; `None` where it is lost.
+    pub fn places(&self) -> &[Option<Superstep>]
+        ensures { result.now ≡ self.now.places }
+    {
+        self.places.as_slice()
+    }
+
+    /// By partition, the superstep that was saved, if one was.
+    pub fn saved(&self) -> &[Option<Superstep>]
+        ensures { result.now ≡ self.now.saved }
+    {
+        self.saved.as_slice()
+    }
+
+    /// The open superstep, or the last one of a run that has ended.
+    pub fn current(&self) -> Superstep
+        ensures { result ≡ self.now.current }
+    {
+        self.current
+    }
+
+    /// By worker, whether it is alive.
+    pub fn alive(&self) -> &[bool]
+        ensures { result.now ≡ self.now.alive }
+    {
+        self.alive.as_slice()
+    }
+
+    /// Whether the run has ended.
+    pub fn ended(&self) -> bool
+        ensures { result ≡ self.now.ended }
+    {
+        self.ended
+    }
+
+    /// The superstep that a partition is at. `None` where it is lost, and for a number that is none of a partition.
+    pub fn place(&self, partition: PartitionId) -> Option<Superstep>
+        ensures { result ≡ place_at partition self.now }
+    {
+        let place = partition.number() as usize;
+        if place >= self.places.len() {
+            return None;
+        }
+        self.places[place]
+    }
+
+    /// The worker that hosts a partition; worker 0 for a number that is none of a partition.
+    pub fn host(&self, partition: PartitionId) -> WorkerId
+        ensures { result ≡ host_of partition self.now }
+    {
+        let place = partition.number() as usize;
+        if place >= self.hosts.len() {
+            return WorkerId::new(0);
+        }
+        self.hosts[place]
+    }
+
+    /// Whether a partition may step: the run hasn't ended, the partition's superstep isn't past the open one, and no
+    /// partition is behind it or lost. Costs O(partitions).
+    pub fn may_step(&self, partition: PartitionId) -> bool
+        ensures { result ≡ is_allowed self.now (Event.Step partition) }
+    {
+        if self.ended {
+            return false;
+        }
+        match self.place(partition) {
+            Some(place) => place <= self.current && all_from(self.places.as_slice(), place),
+            None => false,
+        }
+    }
+
+    /// Whether the open superstep may be closed: the run hasn't ended, and all partitions are past it. Costs
+    /// O(partitions).
+    pub fn may_close(&self) -> bool
+        requires { self.now.current + 1 < 2 ^ 32 }
+        ensures { result ≡ is_allowed self.now (Event.Close Closed.Next) }
+    {
+        let next = Superstep::new(self.current.number() + 1);
+        !self.ended && all_at(self.places.as_slice(), next)
+    }
+
+    /// As a run begins.
+    pub(crate) fn first(alloc: Global, partitions: u32, workers: u32) -> Result<State, Memory>
+        requires { 0 < workers }
+        ensures { IfOk result (λ state. state ≡ first_state partitions workers) }
+    {
+        Ok(State {
+            hosts: first_hosts(alloc, partitions, workers)?,
+            places: filled(alloc, partitions, Some(Superstep::new(0)))?,
+            saved: filled(alloc, partitions, None)?,
+            current: Superstep::new(0),
+            alive: filled(alloc, workers, true)?,
+            ended: false,
+        })
+    }
+
+    /// A partition has made a step.
+    pub(crate) fn step(&mut self, partition: PartitionId, next: Superstep)
+        requires { option_map (λ r. r + 1) (place_at partition self.old) ≡ Some next }
+        ensures { self.new ≡ after self.old (Event.Step partition) }
+    {
+        let place = partition.number() as usize;
+        if place < self.places.len() {
+            self.places[place] = Some(next);
+        }
+    }
+
+    /// The open superstep was closed.
+    pub(crate) fn close(&mut self, closed: Closed)
+        requires { self.old.current + 1 < 2 ^ 32 }
+        ensures { self.new ≡ after self.old (Event.Close closed) }
+    {
+        match closed {
+            Closed::Next => self.current = Superstep::new(self.current.number() + 1),
+            Closed::Ended => self.ended = true,
+        }
+    }
+}
+
+/// The workers that host so many partitions at first: one after another, and again.
+fn first_hosts(alloc: Global, partitions: u32, workers: u32) -> Result<Vec<WorkerId>, Memory>
+    requires { 0 < workers }
+    ensures { IfOk result (λ hosts. hosts.items ≡ map (λ p. p % workers) (range_with_len 0 partitions)) }
+{
+    let mut hosts = Vec::new(alloc);
+    for partition in 0..partitions {
+        hosts.push(WorkerId::new(partition % workers))?;
+    }
+    Ok(hosts)
+}
+
+/// A value so many times.
+fn filled<T: Copy>(alloc: Global, count: u32, value: T) -> Result<Vec<T>, Memory>
+    ensures { IfOk result (λ values. values.items ≡ map (λ _. value) (range_with_len 0 count)) }
+{
+    let mut values = Vec::new(alloc);
+    for _place in 0..count {
+        values.push(value)?;
+    }
+    Ok(values)
+}
+
+/// Whether all of them are at a superstep.
+fn all_at(places: &[Option<Superstep>], superstep: Superstep) -> bool
+    ensures { result ≡ list_all (is_at superstep) places.now }
+{
+    places.iter().all(|place| *place == Some(superstep))
+}
+
+/// Whether all of them are at a superstep or further.
+fn all_from(places: &[Option<Superstep>], superstep: Superstep) -> bool
+    ensures { result ≡ list_all (from_test superstep) places.now }
+{
+    places.iter().all(|place| is_from(*place, superstep))
+}
+
+/// Whether a partition at this place is at a superstep or further.
+fn is_from(place: Option<Superstep>, superstep: Superstep) -> bool
+    ensures { result ≡ from_test superstep place }
+{
+    match place {
+        Some(place) => superstep <= place,
+        None => false,
+    }
+}
