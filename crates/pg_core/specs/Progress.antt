@@ -168,7 +168,8 @@ module _ {P C A V M : Type 0} where
   pub record IsStepOf (job : Job V M) (kept : Option Rows) (core : Progress P C A V M) (p : ℕ) (part : Holding V M) (sent : List (Logged M)) : Type 0 where
     pub holds : (r : ℕ) → place_at p core.state ≡ Some r → Holds job kept core.graph core.limits.partitions p (r + 1) part
     pub to_each : length sent ≡ core.limits.partitions
-    pub sends : (r q : ℕ) → place_at p core.state ≡ Some r → q < core.limits.partitions → IsSentTo job kept core.graph core.limits.partitions p q r (slice_get sent q)
+    pub sends : (r q : ℕ) → place_at p core.state ≡ Some r → q < core.limits.partitions
+        → IsSentTo job kept core.graph core.limits.partitions p q r (slice_get sent q)
 
   -- what a step of partition p from r is lent of the run, beside the kept run, if any, and the part that makes it
   pub record IsStepLent (job : Job V M) (kept : Option Rows) (core : Progress P C A V M) (p r : ℕ) (part : Holding V M) : Type 0 where
