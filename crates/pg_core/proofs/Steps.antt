@@ -8,18 +8,21 @@ use Rattle.std.proofs.lemmas.List.{get_or-set_other, get_or-set_same, length-set
 use Rattle.std.proofs.lemmas.List.Sums.{AllPass-from_list_all}
 use Rattle.pg_core.specs.Limits.{Limits}
 use Rattle.pg_core.specs.Machine.{Reaches, State, after, first_state, is_allowed, is_from, may_step, place_at}
-use Rattle.pg_core.specs.Progress.{HasPut, HoldsAt, IsLawful, IsNext, IsPartAt, IsRight, IsStepLent, IsStepOf, LogsHold, Progress, TakesIn, is_past, part_at, without_part}
+use Rattle.pg_core.specs.Progress.{HasPut, HoldsAt, IsLawful, IsNext, IsPartAt, IsRight, IsStepLent, IsStepOf, LogsHold, Progress, TakesIn, TellBefore, is_past, part_at, without_part}
 use Rattle.pg_core.specs.declared.event.Event.{Event}
 use Rattle.pg_core.specs.declared.event.Event.TheVariants.{Step}
 use Rattle.pg_core.specs.declared.tally.Tally.{Tally}
 use Rattle.pg_core.proofs.Events.{Reaches-push, length-first, length-places_all, some_within}
 use Rattle.pg_graph.specs.Rows.{Rows}
-use Rattle.pg_inbox.specs.Logged.{slot_at}
+use Rattle.pg_inbox.specs.Bundles.{Parcels}
+use Rattle.pg_inbox.specs.Changed.{AreChanged}
+use Rattle.pg_inbox.specs.Logged.{Slots, slot_at}
 use Rattle.pg_inbox.specs.declared.logs.Logged.{Logged}
 use Rattle.pg_model.specs.Job.{Job}
+use Rattle.pg_model.specs.Run.{run_length}
 use Rattle.pg_model.specs.declared.view.Declared.{Declared}
 use Rattle.pg_model.specs.declared.view.Visible.{Visible}
-use Rattle.pg_part.specs.Lent.{HasMessages, bundle_in, bundle_sent}
+use Rattle.pg_part.specs.Lent.{HasMessages, TellsAt, TellsFrom, bundle_in, bundle_sent}
 use Rattle.pg_part.specs.Part.{HasStepped, Holding, Holds, IsFurther, IsSentTo}
 
 pub one_of : {X : Type 0} (x y : X) → Some x ≡ Some y → x ≡ y
@@ -148,6 +151,28 @@ module _ {V M : Type 0} (limits : Limits) (declared : Declared) (registered : �
 
 -- ---- what is so of a right one
 
+-- one that tells where it differs; one that may
+abbrev Tells : {M : Type 0} → Parcels M → Parcels M → Option (List ℕ) → Type 0
+Tells old new changed = elim changed [ None ↦ ⊥ | Some ids ↦ AreChanged old new ids ]
+
+abbrev MayTell : {M : Type 0} → Parcels M → Parcels M → Option (List ℕ) → Type 0
+MayTell old new changed = elim changed [ None ↦ Unit {0} | Some ids ↦ AreChanged old new ids ]
+
+-- what is sent beside a kept run tells where it differs from what that sent
+TellsAt-from_sent : {V M : Type 0} (job : Job V M) (old rows : Rows) (n q p s : ℕ) (old_slot slot : Option (Logged M)) → s < run_length job old → bundle_in old_slot ≡ Some (bundle_sent job old n q p s) → IsSentTo job (Some old) rows n q p s slot → TellsAt old_slot slot
+TellsAt-from_sent job old rows n q p s old_slot None within had h = absurd h
+TellsAt-from_sent {V} {M} job old rows n q p s old_slot (Some logged) within had h =
+    subst (λ b. TellsFrom b logged) (sym had) (by logged.changed (h.1 within))
+  where
+    by : (changed : Option (List ℕ)) → Tells (bundle_sent job old n q p s) logged.bundle changed → MayTell (bundle_sent job old n q p s) logged.bundle changed
+    by None h = absurd h
+    by (Some ids) h = h
+
+TellBefore-from_sent : {V M : Type 0} (job : Job V M) (kept : Option Rows) (rows : Rows) (n p r : ℕ) (logs : Slots M) → ((s q : ℕ) → s + 1 ≡ r → q < n → IsSentTo job kept rows n q p s (slot_at logs s q p)) → TellBefore job kept n p r logs
+TellBefore-from_sent job None rows n p r logs sent = tt
+TellBefore-from_sent job (Some old) rows n p r logs sent = λ within old_logs had s q before inside.
+    TellsAt-from_sent job old rows n q p s (slot_at old_logs s q p) (slot_at logs s q p) (omega (arith, within, before)) (had s q before inside) (sent s q before inside)
+
 module _ {V M : Type 0} (job : Job V M) (kept : Option Rows) {P C A : Type 0} (core : Progress P C A V M) (p : ℕ) (right : IsRight job kept core) (allowed : is_allowed core.state (Step p) ≡ true) where
   pub IsRight-take : p < length core.parts → IsRight job kept (without_part p core)
   IsRight-take within =
@@ -171,13 +196,14 @@ module _ {V M : Type 0} (job : Job V M) (kept : Option Rows) {P C A : Type 0} (c
       let holds : Holds job kept core.graph n p steps.from part = subst (λ place. HoldsAt job kept core.graph n p place part) steps.at (right.parts p part at) in
       let p_within : p < n = subst (λ (k : ℕ). p < k) many (some_within core.state.places p steps.from steps.at) in
       let is : steps.from ≡ part.place = sym holds.place_is in
+      let sent : (s q : ℕ) → s + 1 ≡ steps.from → q < n → IsSentTo job kept core.graph n q p s (slot_at core.logs s q p) =
+      (λ s q before within. right.logs.sent s q p (past s q before (place_at q core.state) (steps.others q (subst (λ (k : ℕ). q < k) (sym many) within))) p_within) in
       let lent : HasMessages job core.graph n p steps.from core.logs =
-      (λ s q before within.
-      sent_is s q (slot_at core.logs s q p)
-      (right.logs.sent s q p (past s q before (place_at q core.state) (steps.others q (subst (λ (k : ℕ). q < k) (sym many) within))) p_within)) in
+      (λ s q before within. sent_is s q (slot_at core.logs s q p) (sent s q before within)) in
       subst (λ (r : ℕ). IsStepLent job kept core p r part) is (record {
         holds = holds;
         lent = record { within = omega (arith, steps.open_or_before, right.within); messages = lent; sees = refl };
+        told = TellBefore-from_sent job kept core.graph n p steps.from core.logs sent;
         open_or_before = steps.open_or_before;
       })
     where

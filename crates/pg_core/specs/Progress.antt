@@ -15,7 +15,7 @@ use Rattle.pg_model.specs.Run.{configuration, run_length, visible_at}
 use Rattle.pg_model.specs.declared.configuration.Configuration.{Configuration}
 use Rattle.pg_model.specs.declared.view.Declared.{Declared}
 use Rattle.pg_model.specs.declared.view.Visible.{Visible}
-use Rattle.pg_part.specs.Lent.{IsLent}
+use Rattle.pg_part.specs.Lent.{HasMessages, IsLent, TellsAt}
 use Rattle.pg_part.specs.Part.{Holding, Holds, IsSentTo}
 
 -- what a run over partitions is made with, and where it stands: its state and its events so far; the parts that aren't
@@ -93,6 +93,13 @@ module _ {V M : Type 0} (job : Job V M) (kept : Option Rows) (rows : Rows) where
   HoldsAt n p None part = ⊥
   HoldsAt n p (Some r) part = Holds job kept rows n p r part
 
+-- where the kept run has superstep r, what was sent to partition p in the one before tells where it differs from what logs
+-- of that run have
+abbrev pub TellBefore : {V M : Type 0} → Job V M → Option Rows → ℕ → ℕ → ℕ → Slots M → Type 0
+TellBefore job None n p r logs = Unit {0}
+TellBefore {V} {M} job (Some old) n p r logs = r < run_length job old → (old_logs : Slots M) → HasMessages job old n p r old_logs
+    → (s q : ℕ) → s + 1 ≡ r → q < n → TellsAt (slot_at old_logs s q p) (slot_at logs s q p)
+
 module _ {P C A V M : Type 0} where
   -- the job of a run, by what its program, its combiner and its master mean
   abbrev pub job_by : (P → Program V M) → (C → Option (Combining M)) → (A → Master) → Progress P C A V M → Job V M
@@ -161,10 +168,12 @@ module _ {P C A V M : Type 0} where
   pub record IsStepOf (job : Job V M) (kept : Option Rows) (core : Progress P C A V M) (p : ℕ) (part : Holding V M) (sent : List (Logged M)) : Type 0 where
     pub holds : (r : ℕ) → place_at p core.state ≡ Some r → Holds job kept core.graph core.limits.partitions p (r + 1) part
     pub to_each : length sent ≡ core.limits.partitions
-    pub sends : (r q : ℕ) → place_at p core.state ≡ Some r → q < core.limits.partitions → IsSentTo job kept core.graph core.limits.partitions p q r (slice_get sent q)
+    pub sends : (r q : ℕ) → place_at p core.state ≡ Some r → q < core.limits.partitions
+        → IsSentTo job kept core.graph core.limits.partitions p q r (slice_get sent q)
 
-  -- what a step of partition p from r is lent of the run, and the part that makes it
+  -- what a step of partition p from r is lent of the run, beside the kept run, if any, and the part that makes it
   pub record IsStepLent (job : Job V M) (kept : Option Rows) (core : Progress P C A V M) (p r : ℕ) (part : Holding V M) : Type 0 where
     pub holds : Holds job kept core.graph core.limits.partitions p r part
     pub lent : IsLent job core.graph core.limits.partitions p r core.logs (visible_at job core.graph r)
+    pub told : TellBefore job kept core.limits.partitions p r core.logs
     pub open_or_before : r ≤ core.state.current

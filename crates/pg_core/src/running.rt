@@ -150,7 +150,8 @@ impl<'a, P: Computation, C: MessageCombiner<P::Message>, M: MasterCompute> Core<
         ensures few { length result.now.values ≤ 16 }
         ensures declared { has_places (P.program self.now.program).declared (length result.now.values) ≡ true }
         ensures right { let job = job_by P.program C.combining M.master self.now in
-            (kept : Option Rows) → IsRight job kept self.now → result.now ≡ visible_at job self.now.graph superstep }
+            (kept : Option Rows) → IsRight job kept self.now
+            → result.now ≡ visible_at job self.now.graph superstep }
     {
         &self.shown[superstep.number() as usize]
     }
