@@ -178,7 +178,7 @@ EndsTogether-after_all state (e ∷ es) together allowed =
     let a = and_parts _ _ allowed in
     EndsTogether-after_all (after state e) es (EndsTogether-after state e a.0) a.1
 
-at_superstep : (r : ℕ) (place : Option ℕ) → is_at r place ≡ true → place ≡ Some r
+pub at_superstep : (r : ℕ) (place : Option ℕ) → is_at r place ≡ true → place ≡ Some r
 at_superstep r None e = absurd (true≢false (sym e))
 at_superstep r (Some k) e = ap Some (eqb-true k r e)
 

@@ -1,6 +1,13 @@
+pub mod Ends
 pub mod Events
+pub mod Left
+pub mod Near
+pub mod Needs
+pub mod Onward
 pub mod Opened
 pub mod Opening
 pub mod Parts
 pub mod Putting
 pub mod Steps
+pub mod AllStats
+pub mod ReadValues

@@ -4,14 +4,16 @@ use Rattle.std.specs.Option.{IsSome}
 use Rattle.std.proofs.lemmas.Bool.{ltb-true, true≢false}
 use Rattle.std.proofs.lemmas.List.{length-map}
 use Rattle.std.proofs.lemmas.List.Elements.{All-cons, All-nil}
-use Rattle.pg_core.specs.Beginning.{IsBegun}
+use Rattle.pg_core.specs.Beginning.{HasBegun, HaveBegun, HaveBegunBeside}
 use Rattle.pg_core.specs.Limits.{AreLimits, Limits}
 use Rattle.pg_core.specs.Machine.{State, first_state, place_at}
-use Rattle.pg_core.specs.Progress.{HoldsAt, IsLawful, IsRight, Progress, is_past, shown_below, tally_at}
+use Rattle.pg_core.specs.Progress.{HoldsAt, IsLawful, IsOpened, IsRight, Progress, job_by, is_past, tally_at}
+use Rattle.pg_core.specs.Traces.{HasLeft, IsLeftBy, KeepsLogs, Traces, shown_below}
 use Rattle.pg_core.specs.declared.tally.Tally.{Tally}
 use Rattle.pg_core.proofs.Events.{Reaches-none, length-first, some_within, starts_at}
 use Rattle.pg_core.proofs.Opening.{beginning-edges}
 use Rattle.pg_global.specs.Master.{Master, is_registered, job_of}
+use Rattle.pg_global.specs.Registry.{Registered}
 use Rattle.pg_graph.specs.Rows.{Rows, edge_count}
 use Rattle.pg_inbox.specs.Logged.{slot_at}
 use Rattle.pg_model.proofs.LawsLength.{run_length_pos}
@@ -19,7 +21,12 @@ use Rattle.pg_model.specs.Job.{Combining, Job, Program}
 use Rattle.pg_model.specs.Run.{beginning, configuration, first, visible_at}
 use Rattle.pg_model.specs.Superstep.{capped, edges_of, visible_in}
 use Rattle.pg_model.specs.declared.view.Visible.{Visible}
-use Rattle.pg_part.specs.Part.{Holding, Holds}
+use Rattle.pg_graph.specs.declared.missing.Missing.{Missing}
+use Rattle.pg_course.specs.Course.{AreTouched}
+use Rattle.pg_part.specs.Part.{HoldsShare, PartState}
+use Rattle.pg_recount.specs.Traffic.{AreMoved}
+use Rattle.pg_stats.specs.GlobalStats.{aggregators_of}
+use Rattle.std.specs.List.{slice_get}
 
 module _ {V M : Type 0} (job : Job V M) (rows : Rows) where
   -- what the master shows first
@@ -41,18 +48,17 @@ module _ {V M : Type 0} (job : Job V M) (rows : Rows) where
   tally_first tally is = is
 
 -- a part that is among those that have begun
-module _ {V M : Type 0} (program : Program V M) (master : Master) (combining : Option (Combining M)) (limits : Limits) (rows : Rows) (parts : List (Option (Holding V M))) (each : length parts ≡ limits.partitions) (begun : (p : ℕ) → p < limits.partitions → IsBegun program limits.missing rows limits.partitions p (get_or parts p None)) where
-  begun_part : (p : ℕ) (part : Holding V M) → get_or parts p None ≡ Some part → Holds (job_of program combining master limits.missing limits.limit) None rows limits.partitions p 0 part
+module _ {V M : Type 0} (program : Program V M) (master : Master) (combining : Option (Combining M)) (limits : Limits) (rows : Rows) (parts : List (Option (PartState V M))) (each : length parts ≡ limits.partitions) (old : Option Rows) (begun : (p : ℕ) → p < limits.partitions → HasBegun (job_of program combining master limits.missing limits.limit) old rows limits.partitions p (get_or parts p None)) where
+  begun_part : (p : ℕ) (part : PartState V M) → get_or parts p None ≡ Some part → HoldsShare (job_of program combining master limits.missing limits.limit) old rows limits.partitions p 0 part
   begun_part p part is =
       let within : p < limits.partitions = subst (λ (n : ℕ). p < n) each (some_within parts p part is) in
-      subst (IsBegun program limits.missing rows limits.partitions p) is (begun p within)
-      (job_of program combining master limits.missing limits.limit) refl refl
+      subst (HasBegun (job_of program combining master limits.missing limits.limit) old rows limits.partitions p) is (begun p within)
 
   -- all of them are here
   pub begun_are_here : (p : ℕ) → p < limits.partitions → IsSome (get_or parts p None)
   begun_are_here p within = by (get_or parts p None) (begun p within)
     where
-      by : (part : Option (Holding V M)) → IsBegun program limits.missing rows limits.partitions p part → is_some part ≡ true
+      by : (part : Option (PartState V M)) → HasBegun (job_of program combining master limits.missing limits.limit) old rows limits.partitions p part → is_some part ≡ true
       by None h = absurd h
       by (Some part) h = refl
 
@@ -62,11 +68,12 @@ module _ {V M : Type 0} (program : Program V M) (master : Master) (combining : O
       let zero_there : Some r ≡ Some 0 = sym at ∙ starts_at limits.partitions limits.workers p within in
       (within, cc)
 
-  pub IsLawful-opened : (state : State) (shown : List Visible) (visible : Visible) (tally : Tally) → AreLimits limits → length master.registrations ≤ 16 → is_registered program master ≡ true → state ≡ first_state limits.partitions limits.workers → shown ≡ visible ∷ [] → length visible.values ≡ length master.registrations → length tally.gathered ≡ length master.registrations → IsLawful limits program.declared (length master.registrations) state [] parts shown tally
-  IsLawful-opened state shown visible tally are few registered is shows places gathered =
+  pub IsLawful-opened : (registry : Registered) (state : State) (shown : List Visible) (visible : Visible) (tally : Tally) → registry ≡ master.registrations → AreLimits limits → length master.registrations ≤ 16 → is_registered program master ≡ true → state ≡ first_state limits.partitions limits.workers → shown ≡ visible ∷ [] → length visible.values ≡ length master.registrations → length tally.gathered ≡ length master.registrations → IsLawful limits program.declared master.registrations registry state [] parts shown tally
+  IsLawful-opened registry state shown visible tally registry_is are few registered is shows places gathered =
       let n : ℕ = limits.partitions in
       let start : State = first_state n limits.workers in
-      let lawful : IsLawful limits program.declared (length master.registrations) start [] parts (visible ∷ []) tally = record {
+      let lawful : IsLawful limits program.declared master.registrations registry start [] parts (visible ∷ []) tally = record {
+        registry_is = registry_is;
         few = few;
         declared_are = registered;
         events = Reaches-none start;
@@ -75,37 +82,64 @@ module _ {V M : Type 0} (program : Program V M) (master : Master) (combining : O
             let holds = begun_part p part at in
             let within : p < n = subst (λ (n : ℕ). p < n) each (some_within parts p part at) in
             record {
-              partition_is = holds.partition_is;
-              partitions_are = holds.partitions_are;
-              place_is = starts_at n limits.workers p within ∙ ap Some (sym holds.place_is);
+              partition_is = holds.course.partition_is;
+              partitions_are = holds.course.partitions_are;
+              place_is = starts_at n limits.workers p within ∙ ap Some (sym holds.course.place_is);
             };
         stays = λ p r at past. let none = (first_place p r at).1 in absurd (omega (arith, none, past));
         within = are.limit_least;
-        shown_so_far = refl;
+        shown_so_far = omega arith;
         shown_places = All-cons (λ v. length v.values ≡ length master.registrations) visible [] places (All-nil (λ v. length v.values ≡ length master.registrations));
         gathered_places = gathered;
       } in
-      subst (λ (s : State). IsLawful limits program.declared (length master.registrations) s [] parts shown tally) (sym is)
-      (subst (λ (l : List Visible). IsLawful limits program.declared (length master.registrations) start [] parts l tally) (sym shows) lawful)
+      subst (λ (s : State). IsLawful limits program.declared master.registrations registry s [] parts shown tally) (sym is)
+      (subst (λ (l : List Visible). IsLawful limits program.declared master.registrations registry start [] parts l tally) (sym shows) lawful)
 
-  pub IsRight-opened : {P C A : Type 0} (core : Progress P C A V M) → AreLimits limits → core.graph ≡ rows → core.limits ≡ limits → core.parts ≡ parts → core.state ≡ first_state limits.partitions limits.workers → ((s p q : ℕ) → slot_at core.logs s p q ≡ None) → core.shown ≡ shown_below (job_of program combining master limits.missing limits.limit) rows 1 → core.tally ≡ tally_at (job_of program combining master limits.missing limits.limit) rows 0 → IsRight (job_of program combining master limits.missing limits.limit) None core
-  IsRight-opened {P} {C} {A} core are graph_is limits_are parts_are state_is empty shows counts =
+  pub IsRight-opened : {P C A : Type 0} (core : Progress P C A V M) → AreLimits limits → core.graph ≡ rows → core.limits ≡ limits → core.parts ≡ parts → core.state ≡ first_state limits.partitions limits.workers → ((s p q : ℕ) → slot_at core.logs s p q ≡ None) → core.shown ≡ shown_below (job_of program combining master limits.missing limits.limit) rows 1 → core.tally ≡ tally_at (job_of program combining master limits.missing limits.limit) rows 0 → core.ending ≡ None → KeepsLogs (job_of program combining master limits.missing limits.limit) old limits.partitions core.kept → IsRight (job_of program combining master limits.missing limits.limit) old core
+  IsRight-opened {P} {C} {A} core are graph_is limits_are parts_are state_is empty shows counts goes_on keeps =
       let job : Job V M = job_of program combining master limits.missing limits.limit in
       let n : ℕ = limits.partitions in
       let start : State = first_state n limits.workers in
       let is : core ≡ record core { graph = rows; limits = limits; parts = parts; state = start } =
       (λ i. record core { graph = graph_is i; limits = limits_are i; parts = parts_are i; state = state_is i }) in
       let not_past : (s p : ℕ) → is_past s (place_at p start) ≡ true → ⊥ = λ s p past. by_place s p (place_at p start) refl past in
-      subst (IsRight job None) (sym is) (record {
+      subst (IsRight job old) (sym is) (record {
         within = run_length_pos job rows are.limit_least;
         parts = λ p part at.
             let within : p < n = subst (λ (n : ℕ). p < n) each (some_within parts p part at) in
-            subst (λ place. HoldsAt job None rows n p place part) (sym (starts_at n limits.workers p within)) (begun_part p part at);
+            subst (λ place. HoldsAt job old rows n p place part) (sym (starts_at n limits.workers p within)) (begun_part p part at);
         logs = record { sent = λ s p q past within. absurd (not_past s p past); no_more = λ s p q not_yet. empty s p q };
         shown = shows;
         tally = counts;
+        ending = goes_on;
+        at_end = λ ended. absurd (true≢false (sym ended));
+        beside = keeps;
       })
     where
       by_place : (s p : ℕ) (place : Option ℕ) → place_at p (first_state limits.partitions limits.workers) ≡ place → is_past s place ≡ true → ⊥
       by_place s p None at past = true≢false (sym past)
       by_place s p (Some r) at past = let none = (first_place p r at).1 in let less : s < r = ltb-true s r past in omega (arith, none, less)
+
+-- a core that has just opened is of the job that it was opened with
+pub job_as_opened : {P C A V M : Type 0} (program_of : P → Program V M) (combining_of : C → Option (Combining M)) (master_of : A → Master) (core : Progress P C A V M) (program : P) (combiner : C) (master : A) (graph : Rows) (limits : Limits) (run : ℕ) → IsOpened core program combiner master graph limits run
+    → job_of (program_of program) (combining_of combiner) (master_of master) limits.missing limits.limit ≡ job_by program_of combining_of master_of core
+job_as_opened program_of combining_of master_of core program combiner master graph limits run opened = λ i.
+    let l : Limits = sym opened.limits_are i in
+    job_of (program_of (sym opened.program_is i)) (combining_of (sym opened.combiner_is i)) (master_of (sym opened.master_is i)) l.missing l.limit
+
+module _ {V M : Type 0} (program : Program V M) (combining : Option (Combining M)) (master : Master) (limits : Limits) (rows : Rows) (n : ℕ) (missing : Missing) (registered : Registered) (many : n ≡ limits.partitions) (policy : missing ≡ limits.missing) (same : registered ≡ master.registrations) (parts : List (Option (PartState V M))) where
+  -- all parts have begun the run of this job
+  pub have_begun : HaveBegun program missing registered rows n n parts → (p : ℕ) → p < limits.partitions → HasBegun (job_of program combining master limits.missing limits.limit) None rows limits.partitions p (get_or parts p None)
+  have_begun begun =
+      subst (λ (m : ℕ). (p : ℕ) → p < m → HasBegun (job_of program combining master limits.missing limits.limit) None rows m p (get_or parts p None)) many
+      (begun (job_of program combining master limits.missing limits.limit) refl (sym policy) (ap aggregators_of (sym same)))
+
+  -- the same beside the run on the kept rows
+  pub have_begun_beside : (touched moved : List ℕ) (old : Traces V M) (kept : Rows) → HaveBegunBeside program missing registered rows touched moved old.lefts n n parts
+      → IsLeftBy (job_of program combining master limits.missing limits.limit) kept limits.partitions old → AreTouched touched kept rows → AreMoved moved kept rows
+      → (p : ℕ) → p < limits.partitions → HasBegun (job_of program combining master limits.missing limits.limit) (Some kept) rows limits.partitions p (get_or parts p None)
+  have_begun_beside touched moved old kept begun left untouched moves =
+      let job : Job V M = job_of program combining master limits.missing limits.limit in
+      subst (λ (m : ℕ). (p : ℕ) → p < m → HasBegun job (Some kept) rows m p (get_or parts p None)) many
+      (begun job kept refl (sym policy) (ap aggregators_of (sym same)) untouched moves
+      (subst (λ (m : ℕ). (p : ℕ) → p < m → HasLeft job kept m p (slice_get old.lefts p)) (sym many) left.whole))

@@ -4,14 +4,13 @@ use Rattle.std.specs.List.{slice_get}
 use Rattle.std.specs.Option.{option_map}
 use Rattle.std.proofs.lemmas.List.{get_or_append_left, get_or_push}
 use Rattle.std.proofs.lemmas.List.Sums.{sum_by-cons}
-use Rattle.pg_core.specs.Beginning.{IsBegun}
+use Rattle.pg_core.specs.Beginning.{HasBegun}
 use Rattle.pg_graph.specs.Rows.{Rows, edge_count}
 use Rattle.pg_graph.specs.declared.graph.Row.{Row}
-use Rattle.pg_graph.specs.declared.missing.Missing.{Missing}
-use Rattle.pg_model.specs.Job.{Program}
+use Rattle.pg_model.specs.Job.{Job, Program}
 use Rattle.pg_model.specs.Run.{beginning}
 use Rattle.pg_model.specs.Superstep.{edges_of}
-use Rattle.pg_part.specs.Part.{Holding}
+use Rattle.pg_part.specs.Part.{HoldsShare, PartState}
 
 module _ {E X Y : Type 0} (part : E → X) (made : X → Y) where
   next_taken : (es : List E) (i : ℕ) (x : X) → option_map part (slice_get es i) ≡ Some x → map (λ e. made (part e)) (take (suc i) es) ≡ map (λ e. made (part e)) (take i es) ++ made x ∷ []
@@ -25,20 +24,25 @@ module _ {E X Y : Type 0} (part : E → X) (made : X → Y) where
       pushed ∙ ap (λ l. l ++ y ∷ []) so_far ∙ ap (λ y. map (λ e. made (part e)) (take i es) ++ y ∷ []) is
       ∙ sym (next_taken es i x at) ∙ ap (λ (n : ℕ). map (λ e. made (part e)) (take n es)) (sym (add-one i))
 
-module _ {V M : Type 0} (program : Program V M) (missing : Missing) (rows : Rows) (n : ℕ) where
+module _ {V M : Type 0} (job : Job V M) (kept : Option Rows) (rows : Rows) (n : ℕ) where
   -- one part more has begun
-  pub begun_more : (before after : List (Option (Holding V M))) (part : Holding V M) (k : ℕ) → length before ≡ k → ((p : ℕ) → p < k → IsBegun program missing rows n p (get_or before p None)) → after ≡ before ++ Some part ∷ [] → IsBegun program missing rows n k (Some part) → (p : ℕ) → p < k + 1 → IsBegun program missing rows n p (get_or after p None)
+  pub begun_more : (before after : List (Option (PartState V M))) (part : PartState V M) (k : ℕ) → length before ≡ k → ((p : ℕ) → p < k → HasBegun job kept rows n p (get_or before p None)) → after ≡ before ++ Some part ∷ [] → HoldsShare job kept rows n k 0 part → (p : ℕ) → p < k + 1 → HasBegun job kept rows n p (get_or after p None)
   begun_more before after part k many begun pushed here p within =
-      let none : Option (Holding V M) = None in
-      subst (λ (l : List (Option (Holding V M))). IsBegun program missing rows n p (get_or l p None)) (sym pushed)
+      let none : Option (PartState V M) = None in
+      subst (λ (l : List (Option (PartState V M))). HasBegun job kept rows n p (get_or l p None)) (sym pushed)
       (elim (eq-or-lt_of_le (let le : p ≤ k = omega arith in le)) [
-        | inl same ↦ subst (λ (k : ℕ). IsBegun program missing rows n k (get_or (before ++ Some part ∷ []) k None)) (sym same)
-            (subst (IsBegun program missing rows n k) (sym (get_or_push before (Some part) none k many)) here)
+        | inl same ↦ subst (λ (k : ℕ). HasBegun job kept rows n k (get_or (before ++ Some part ∷ []) k None)) (sym same)
+            (subst (HasBegun job kept rows n k) (sym (get_or_push before (Some part) none k many)) here)
         | inr less ↦ (
             let inside : p < length before = omega (arith, many) in
-            subst (IsBegun program missing rows n p) (sym (get_or_append_left before (Some part ∷ []) none p inside)) (begun p less)
+            subst (HasBegun job kept rows n p) (sym (get_or_append_left before (Some part ∷ []) none p inside)) (begun p less)
             )
       ])
+
+-- the element between those before it and those after it
+pub slice_get-between : {X : Type 0} (xs ys : List X) (x : X) → slice_get (xs ++ x ∷ ys) (length xs) ≡ Some x
+slice_get-between [] ys x = refl
+slice_get-between (y ∷ xs) ys x = slice_get-between xs ys x
 
 -- a graph has as many edges as its vertices have as a run begins
 pub beginning-edges : {V M : Type 0} (program : Program V M) (rows : Rows) → edges_of (map (beginning program) rows) ≡ edge_count rows

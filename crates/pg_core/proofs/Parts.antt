@@ -1,6 +1,6 @@
 -- What stands at the place of a partition, and what is shown in a superstep.
-use Rattle.std.proofs.Common.{◌≡◌, ℕ, ◌+◌, ◌<◌, Bool, true, false, cond, List, [], ◌∷◌, ◌++◌, length, map, get_or, filter, Option, None, Some, is_some, refl, ap, sym, ◌∙◌, arith, inl, inr}
-use Rattle.std.specs.List.{range_with_len}
+use Rattle.std.proofs.Common.{◌≡◌, ℕ, zero, suc, ◌+◌, ◌<◌, Bool, true, false, cond, List, [], ◌∷◌, ◌++◌, length, map, get_or, filter, Option, None, Some, is_some, refl, ap, sym, ◌∙◌, arith, inl, inr}
+use Rattle.std.specs.List.{range_with_len, slice_get}
 use Rattle.std.specs.Option.{IsSome}
 use Rattle.std.proofs.lemmas.Bool.{cases_lt, true≢false}
 use Rattle.std.proofs.lemmas.List.{get_or_default, get_or_past, map-append, map-id}
@@ -36,3 +36,13 @@ listed_more test made n before after so_far pushed =
     (elim (test n) as (λ b. map made (cond b (n ∷ []) []) ≡ cond b (made n ∷ []) []) [ true ↦ refl | false ↦ refl ]) in
     pushed ∙ ap (λ l. l ++ cond (test n) (made n ∷ []) []) so_far
     ∙ sym (ap (λ l. map made (filter test l)) more ∙ (ap (map made) (filter-append test range (n ∷ [])) ∙ (map-append made (filter test range) (filter test (n ∷ [])) ∙ ap (λ l. map made (filter test range) ++ l) last)))
+
+-- the value of a number below n among those of all of them
+slice_get-range : {X : Type 0} (made : ℕ → X) (a n k : ℕ) → k < n → slice_get (map made (range_with_len a n)) k ≡ Some (made (a + k))
+slice_get-range made a zero k within = absurd (omega arith)
+slice_get-range made a (suc n) zero within = ap (λ (i : ℕ). Some (made i)) (let e : a ≡ a + 0 = omega arith in e)
+slice_get-range made a (suc n) (suc k) within =
+    slice_get-range made (a + 1) n k (omega arith) ∙ ap (λ (i : ℕ). Some (made i)) (let e : a + 1 + k ≡ a + suc k = omega arith in e)
+
+pub slice_get-made : {X : Type 0} (made : ℕ → X) (n k : ℕ) → k < n → slice_get (map made (range_with_len 0 n)) k ≡ Some (made k)
+slice_get-made made n k within = slice_get-range made 0 n k within ∙ ap (λ (i : ℕ). Some (made i)) (let e : 0 + k ≡ k = omega arith in e)

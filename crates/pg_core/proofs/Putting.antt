@@ -8,11 +8,11 @@ use Rattle.pg_core.specs.Progress.{HasPut}
 use Rattle.pg_inbox.specs.Logged.{Slots, is_pair, slot_at}
 use Rattle.pg_inbox.specs.declared.logs.Logged.{Logged}
 
-slice_get_pushed : {X : Type 0} (xs : List X) (x : X) → slice_get (xs ++ x ∷ []) (length xs) ≡ Some x
+pub slice_get_pushed : {X : Type 0} (xs : List X) (x : X) → slice_get (xs ++ x ∷ []) (length xs) ≡ Some x
 slice_get_pushed [] x = refl
 slice_get_pushed (y ∷ ys) x = slice_get_pushed ys x
 
-slice_get_before : {X : Type 0} (xs : List X) (x : X) (k : ℕ) → k < length xs → slice_get (xs ++ x ∷ []) k ≡ slice_get xs k
+pub slice_get_before : {X : Type 0} (xs : List X) (x : X) (k : ℕ) → k < length xs → slice_get (xs ++ x ∷ []) k ≡ slice_get xs k
 slice_get_before [] x k h = absurd (omega arith)
 slice_get_before (y ∷ ys) x zero h = refl
 slice_get_before (y ∷ ys) x (suc k) h = slice_get_before ys x k (omega arith)

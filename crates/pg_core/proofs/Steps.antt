@@ -1,29 +1,35 @@
 -- What taking a part, and taking in its step, leave of a run over partitions.
-use Rattle.std.proofs.Common.{◌≡◌, ℕ, ◌+◌, ◌<◌, ◌≤◌, ◌≢◌, Bool, true, false, ◌&&◌, List, [], ◌∷◌, ◌++◌, length, take, get_or, set, Option, None, Some, is_some, refl, ap, sym, ◌∙◌, subst, arith, inl, inr}
+use Rattle.std.proofs.Common.{◌≡◌, ℕ, zero, suc, ◌+◌, ◌<◌, ◌≤◌, ◌≢◌, Bool, true, false, ◌&&◌, List, [], ◌∷◌, ◌++◌, length, take, get_or, set, Option, None, Some, is_some, refl, ap, sym, ◌∙◌, subst, subst₂, arith, inl, inr}
 use Rattle.std.specs.Prelude.{◌==◌, nat_lt, nat_le}
 use Rattle.std.specs.List.{list_all, slice_get}
 use Rattle.std.specs.Option.{option_map}
-use Rattle.std.proofs.lemmas.Bool.{and_parts, and_cases, and_left, and_right, cases_eq, cond-false, cond-true, eq-eqb, le-ltb, leb-true, lt-ltb, ltb-false, ltb-true, ne_eqb, true≢false}
+use Rattle.std.proofs.lemmas.Bool.{and_parts, and_cases, and_left, and_right, cases_eq, cases_lt, cond-false, cond-true, eq-eqb, le-ltb, leb-true, lt-ltb, ltb-false, ltb-true, ne_eqb, true≢false}
+use Rattle.std.proofs.lemmas.List.FromFn.{length-map-range_with_len}
 use Rattle.std.proofs.lemmas.List.{get_or-set_other, get_or-set_same, length-set, take_all}
 use Rattle.std.proofs.lemmas.List.Sums.{AllPass-from_list_all}
 use Rattle.pg_core.specs.Limits.{Limits}
 use Rattle.pg_core.specs.Machine.{Reaches, State, after, first_state, is_allowed, is_from, may_step, place_at}
-use Rattle.pg_core.specs.Progress.{HasPut, HoldsAt, IsLawful, IsNext, IsPartAt, IsRight, IsStepLent, IsStepOf, LogsHold, Progress, TakesIn, TellBefore, is_past, part_at, without_part}
+use Rattle.pg_core.specs.Progress.{HasMadeStep, HasPut, HoldsAt, IsLawful, IsNext, IsPartAt, IsRight, IsStepLent, IsStepOf, LogsHold, Progress, TakesIn, is_past, part_at, with_step, without_part}
+use Rattle.pg_core.specs.Traces.{KeepsLogs, KeptLogs, logs_in, visible_in}
 use Rattle.pg_core.specs.declared.event.Event.{Event}
 use Rattle.pg_core.specs.declared.event.Event.TheVariants.{Step}
 use Rattle.pg_core.specs.declared.tally.Tally.{Tally}
+use Rattle.pg_core.proofs.Parts.{slice_get-made}
 use Rattle.pg_core.proofs.Events.{Reaches-push, length-first, length-places_all, some_within}
+use Rattle.pg_global.specs.Registry.{Registered}
 use Rattle.pg_graph.specs.Rows.{Rows}
 use Rattle.pg_inbox.specs.Bundles.{Parcels}
 use Rattle.pg_inbox.specs.Changed.{AreChanged}
 use Rattle.pg_inbox.specs.Logged.{Slots, slot_at}
 use Rattle.pg_inbox.specs.declared.logs.Logged.{Logged}
 use Rattle.pg_model.specs.Job.{Job}
-use Rattle.pg_model.specs.Run.{run_length}
+use Rattle.pg_model.specs.Run.{run_length, visible_at}
 use Rattle.pg_model.specs.declared.view.Declared.{Declared}
 use Rattle.pg_model.specs.declared.view.Visible.{Visible}
-use Rattle.pg_part.specs.Lent.{HasMessages, TellsAt, TellsFrom, bundle_in, bundle_sent}
-use Rattle.pg_part.specs.Part.{HasStepped, Holding, Holds, IsFurther, IsSentTo}
+use Rattle.pg_course.specs.Lent.{HasMessages, IsLent, IsLentBeside, LendsLogs, TellsAt, TellsFrom, bundle_in, bundle_sent}
+use Rattle.pg_course.specs.Course.{IsFurther, IsSentTo}
+use Rattle.pg_part.specs.Part as parts_of
+use Rattle.pg_part.specs.Part.{HoldsShare, PartState}
 
 pub one_of : {X : Type 0} (x y : X) → Some x ≡ Some y → x ≡ y
 one_of x y e = cc
@@ -52,19 +58,19 @@ StepsFrom-from_allowed state p allowed = by (place_at p state) refl (and_parts _
         }
 
 -- a part that made a step is the next of its partition
-pub IsNext-from_IsFurther : {V M : Type 0} (partitions : ℕ) (state : State) (p : ℕ) (before after : Holding V M) → IsPartAt partitions state p before → IsFurther before after → IsNext partitions state p after
+pub IsNext-from_IsFurther : {V M : Type 0} (partitions : ℕ) (state : State) (p : ℕ) (before after : PartState V M) → IsPartAt partitions state p before → IsFurther before.course after.course → IsNext partitions state p after
 IsNext-from_IsFurther partitions state p before after at further = record {
   partition_is = further.partition_stays ∙ at.partition_is;
   partitions_are = further.partitions_stay ∙ at.partitions_are;
-  place_is = λ r is. let same : before.place ≡ r = one_of before.place r (sym at.place_is ∙ is) in further.place_is ∙ ap (λ (k : ℕ). k + 1) same;
+  place_is = λ r is. let same : before.course.place ≡ r = one_of before.course.place r (sym at.place_is ∙ is) in further.place_is ∙ ap (λ (k : ℕ). k + 1) same;
 }
 
 -- the place of the partition after its step, and those of the others
-place_after_own : (state : State) (p r : ℕ) → place_at p state ≡ Some r → place_at p (after state (Step p)) ≡ Some (r + 1)
+pub place_after_own : (state : State) (p r : ℕ) → place_at p state ≡ Some r → place_at p (after state (Step p)) ≡ Some (r + 1)
 place_after_own state p r at =
     get_or-set_same state.places p _ None (some_within state.places p r at) ∙ ap (option_map (λ r. r + 1)) at
 
-place_after_other : (state : State) (p q : ℕ) → q ≢ p → place_at q (after state (Step p)) ≡ place_at q state
+pub place_after_other : (state : State) (p q : ℕ) → q ≢ p → place_at q (after state (Step p)) ≡ place_at q state
 place_after_other state p q apart = get_or-set_other state.places p q _ None apart
 
 -- ---- what is so of every run
@@ -74,19 +80,20 @@ length-places_lawful limits state history reaches =
     ap (λ (s : State). length s.places) (sym reaches.leads)
     ∙ (length-places_all (first_state limits.partitions limits.workers) history ∙ length-first limits.partitions limits.workers)
 
-module _ {V M : Type 0} (limits : Limits) (declared : Declared) (registered : ℕ) (state : State) (history : List Event) (parts : List (Option (Holding V M))) (shown : List Visible) (tally : Tally) (lawful : IsLawful limits declared registered state history parts shown tally) (p : ℕ) (allowed : is_allowed state (Step p) ≡ true) where
+module _ {V M : Type 0} (limits : Limits) (declared : Declared) (registered registry : Registered) (state : State) (history : List Event) (parts : List (Option (PartState V M))) (shown : List Visible) (tally : Tally) (lawful : IsLawful limits declared registered registry state history parts shown tally) (p : ℕ) (allowed : is_allowed state (Step p) ≡ true) where
   -- there is a place for the part of a partition that is somewhere
   pub part_within : (q r : ℕ) → place_at q state ≡ Some r → q < length parts
   part_within q r at =
       omega (arith, some_within state.places q r at, length-places_lawful limits state history lawful.events, lawful.each)
 
-  pub IsLawful-take : IsLawful limits declared registered state history (set parts p None) shown tally
+  pub IsLawful-take : IsLawful limits declared registered registry state history (set parts p None) shown tally
   IsLawful-take =
       let steps = StepsFrom-from_allowed state p allowed in
       let within : p < length parts = part_within p steps.from steps.at in
       let gone : get_or (set parts p None) p None ≡ None = get_or-set_same parts p None None within in
       let kept : (q : ℕ) → q ≢ p → get_or (set parts p None) q None ≡ get_or parts q None = λ q apart. get_or-set_other parts p q None None apart in
       record {
+        registry_is = lawful.registry_is;
         few = lawful.few;
         declared_are = lawful.declared_are;
         events = lawful.events;
@@ -108,13 +115,14 @@ module _ {V M : Type 0} (limits : Limits) (declared : Declared) (registered : �
         gathered_places = lawful.gathered_places;
       }
 
-  pub IsLawful-step : (part : Holding V M) → IsNext limits.partitions state p part → IsLawful limits declared registered (after state (Step p)) (history ++ Step p ∷ []) (set parts p (Some part)) shown tally
+  pub IsLawful-step : (part : PartState V M) → IsNext limits.partitions state p part → IsLawful limits declared registered registry (after state (Step p)) (history ++ Step p ∷ []) (set parts p (Some part)) shown tally
   IsLawful-step part next =
       let steps = StepsFrom-from_allowed state p allowed in
       let within : p < length parts = part_within p steps.from steps.at in
       let own : get_or (set parts p (Some part)) p None ≡ Some part = get_or-set_same parts p (Some part) None within in
       let kept : (q : ℕ) → q ≢ p → get_or (set parts p (Some part)) q None ≡ get_or parts q None = λ q apart. get_or-set_other parts p q (Some part) None apart in
       record {
+        registry_is = lawful.registry_is;
         few = lawful.few;
         declared_are = lawful.declared_are;
         events = Reaches-push (first_state limits.partitions limits.workers) state history (Step p) lawful.events allowed;
@@ -168,10 +176,31 @@ TellsAt-from_sent {V} {M} job old rows n q p s old_slot (Some logged) within had
     by None h = absurd h
     by (Some ids) h = h
 
-TellBefore-from_sent : {V M : Type 0} (job : Job V M) (kept : Option Rows) (rows : Rows) (n p r : ℕ) (logs : Slots M) → ((s q : ℕ) → s + 1 ≡ r → q < n → IsSentTo job kept rows n q p s (slot_at logs s q p)) → TellBefore job kept n p r logs
-TellBefore-from_sent job None rows n p r logs sent = tt
-TellBefore-from_sent job (Some old) rows n p r logs sent = λ within old_logs had s q before inside.
-    TellsAt-from_sent job old rows n q p s (slot_at old_logs s q p) (slot_at logs s q p) (omega (arith, within, before)) (had s q before inside) (sent s q before inside)
+-- what a step is lent of the kept run: what it reads there, and its logs tell where they differ
+IsLentBeside-kept : {V M : Type 0} (job : Job V M) (old : Option Rows) (rows : Rows) (n p r : ℕ) (logs : Slots M) (kept : Option (KeptLogs M)) → p < n → KeepsLogs job old n kept → ((s q : ℕ) → s + 1 ≡ r → q < n → IsSentTo job old rows n q p s (slot_at logs s q p)) → IsLentBeside job old n p r logs (logs_in r kept) (visible_in r kept)
+IsLentBeside-kept job None rows n p r logs kept mine keeps sent = tt
+IsLentBeside-kept job (Some old) rows n p r logs None mine keeps sent = absurd keeps
+IsLentBeside-kept {V} {M} job (Some old) rows n p r logs (Some kept) mine keeps sent =
+    elim (cases_lt r (run_length job old)) [
+      | inl less ↦ (
+          let there : logs_in r (Some kept) ≡ Some kept.logs = cond-true (nat_lt r (length kept.shown)) (Some kept.logs) None (lt-ltb r (length kept.shown) (omega (arith, many, less))) in
+          let shows : visible_in r (Some kept) ≡ Some (visible_at job old r) = ap (λ l. slice_get l r) keeps.shown ∙ slice_get-made (visible_at job old) (run_length job old) r less in
+          let lends : LendsLogs job old n p r logs kept.logs = record {
+            there = less;
+            received = λ s q before within. keeps.sent s q p (omega (arith, before, less)) within mine;
+            sent = λ q within. keeps.sent r p q less mine within;
+            told = λ s q before within. TellsAt-from_sent job old rows n q p s (slot_at kept.logs s q p) (slot_at logs s q p) (omega (arith, before, less)) (keeps.sent s q p (omega (arith, before, less)) within mine) (sent s q before within);
+          } in
+          subst₂ (IsLentBeside job (Some old) n p r logs) (sym there) (sym shows) (lends, refl)
+          )
+      | inr more ↦ (
+          let gone : logs_in r (Some kept) ≡ None = cond-false (nat_lt r (length kept.shown)) (Some kept.logs) None (le-ltb r (length kept.shown) (omega (arith, many, more))) in
+          subst (λ o. IsLentBeside job (Some old) n p r logs o (visible_in r (Some kept))) (sym gone) more
+          )
+    ]
+  where
+    many : length kept.shown ≡ run_length job old
+    many = ap length keeps.shown ∙ length-map-range_with_len (visible_at job old) 0 (run_length job old)
 
 module _ {V M : Type 0} (job : Job V M) (kept : Option Rows) {P C A : Type 0} (core : Progress P C A V M) (p : ℕ) (right : IsRight job kept core) (allowed : is_allowed core.state (Step p) ≡ true) where
   pub IsRight-take : p < length core.parts → IsRight job kept (without_part p core)
@@ -186,16 +215,19 @@ module _ {V M : Type 0} (job : Job V M) (kept : Option Rows) {P C A : Type 0} (c
         logs = right.logs;
         shown = right.shown;
         tally = right.tally;
+        ending = right.ending;
+        at_end = right.at_end;
+        beside = right.beside;
       }
 
   -- a step is lent what it reads of the run
-  pub IsStepLent-taken : (many : length core.state.places ≡ core.limits.partitions) (part : Holding V M) → part_at p core ≡ Some part → IsStepLent job kept core p part.place part
+  pub IsStepLent-taken : (many : length core.state.places ≡ core.limits.partitions) (part : PartState V M) → part_at p core ≡ Some part → IsStepLent job kept core p part.course.place part
   IsStepLent-taken many part at =
       let steps = StepsFrom-from_allowed core.state p allowed in
       let n : ℕ = core.limits.partitions in
-      let holds : Holds job kept core.graph n p steps.from part = subst (λ place. HoldsAt job kept core.graph n p place part) steps.at (right.parts p part at) in
+      let holds : HoldsShare job kept core.graph n p steps.from part = subst (λ place. HoldsAt job kept core.graph n p place part) steps.at (right.parts p part at) in
       let p_within : p < n = subst (λ (k : ℕ). p < k) many (some_within core.state.places p steps.from steps.at) in
-      let is : steps.from ≡ part.place = sym holds.place_is in
+      let is : steps.from ≡ part.course.place = sym holds.course.place_is in
       let sent : (s q : ℕ) → s + 1 ≡ steps.from → q < n → IsSentTo job kept core.graph n q p s (slot_at core.logs s q p) =
       (λ s q before within. right.logs.sent s q p (past s q before (place_at q core.state) (steps.others q (subst (λ (k : ℕ). q < k) (sym many) within))) p_within) in
       let lent : HasMessages job core.graph n p steps.from core.logs =
@@ -203,7 +235,7 @@ module _ {V M : Type 0} (job : Job V M) (kept : Option Rows) {P C A : Type 0} (c
       subst (λ (r : ℕ). IsStepLent job kept core p r part) is (record {
         holds = holds;
         lent = record { within = omega (arith, steps.open_or_before, right.within); messages = lent; sees = refl };
-        told = TellBefore-from_sent job kept core.graph n p steps.from core.logs sent;
+        beside = IsLentBeside-kept job kept core.graph n p steps.from core.logs core.kept p_within right.beside sent;
         open_or_before = steps.open_or_before;
       })
     where
@@ -215,7 +247,7 @@ module _ {V M : Type 0} (job : Job V M) (kept : Option Rows) {P C A : Type 0} (c
       past s q before None from = absurd (true≢false (sym from))
       past s q before (Some r) from = lt-ltb s r (omega (arith, before, leb-true _ r from))
 
-  module _ (part : Holding V M) (sent : List (Logged M)) (new : Progress P C A V M) (is_step : IsStepOf job kept core p part sent) (takes : TakesIn p part sent core new) where
+  module _ (part : PartState V M) (sent : List (Logged M)) (new : Progress P C A V M) (is_step : IsStepOf job kept core p part sent) (takes : TakesIn p part sent core new) where
     LogsHold-step : LogsHold job kept core.graph core.limits.partitions (after core.state (Step p)).places new.logs
     LogsHold-step =
         let n : ℕ = core.limits.partitions in
@@ -285,7 +317,7 @@ module _ {V M : Type 0} (job : Job V M) (kept : Option Rows) {P C A : Type 0} (c
                 let is : part ≡ part' = one_of part part' (sym own ∙ (ap (λ (q : ℕ). get_or (set core.parts p (Some part)) q None) (sym same) ∙ at)) in
                 subst (λ (q : ℕ). HoldsAt job kept core.graph n q (place_at q (after core.state (Step p))) part') (sym same)
                 (subst (λ place. HoldsAt job kept core.graph n p place part') (sym (place_after_own core.state p steps.from steps.at))
-                (subst (Holds job kept core.graph n p (steps.from + 1)) is (is_step.holds steps.from steps.at)))
+                (subst (HoldsShare job kept core.graph n p (steps.from + 1)) is (is_step.holds steps.from steps.at)))
                 )
             | inr apart ↦ subst (λ place. HoldsAt job kept core.graph n q place part') (sym (place_after_other core.state p q apart))
                 (right.parts q part' (sym (get_or-set_other core.parts p q (Some part) None apart) ∙ at))
@@ -293,12 +325,37 @@ module _ {V M : Type 0} (job : Job V M) (kept : Option Rows) {P C A : Type 0} (c
           logs = LogsHold-step;
           shown = right.shown;
           tally = right.tally;
+          ending = right.ending;
+          at_end = right.at_end;
+          beside = right.beside;
         })
 
 -- what a part's step promises is what a step taken in asks for
-pub IsStepOf-from_HasStepped : {V M : Type 0} (job : Job V M) (kept : Option Rows) {P C A : Type 0} (core : Progress P C A V M) (p r : ℕ) (part : Holding V M) (sent : List (Logged M)) (value_eq : V → V → Bool) (message_eq : M → M → Bool) (calls calls_after : ℕ) → place_at p core.state ≡ Some r → HasStepped job value_eq message_eq kept core.graph core.limits.partitions p r part sent calls calls_after → IsStepOf job kept core p part sent
-IsStepOf-from_HasStepped job kept core p r part sent value_eq message_eq calls calls_after at stepped = record {
-  holds = λ s is. let same : r ≡ s = one_of r s (sym at ∙ is) in subst (λ (s : ℕ). Holds job kept core.graph core.limits.partitions p (s + 1) part) same stepped.holds;
-  to_each = stepped.to_each;
-  sends = λ s q is within. let same : r ≡ s = one_of r s (sym at ∙ is) in subst (λ (s : ℕ). IsSentTo job kept core.graph core.limits.partitions p q s (slice_get sent q)) same (stepped.sends q within);
+pub IsStepOf-from_HasMadeStep : {V M : Type 0} (job : Job V M) (kept : Option Rows) {P C A : Type 0} (core : Progress P C A V M) (p r : ℕ) (part : PartState V M) (sent : List (Logged M)) (value_eq : V → V → Bool) (message_eq : M → M → Bool) (calls calls_after : ℕ) → place_at p core.state ≡ Some r → parts_of.HasMadeStep job value_eq message_eq kept core.graph core.limits.partitions p r part sent calls calls_after → IsStepOf job kept core p part sent
+IsStepOf-from_HasMadeStep job kept core p r part sent value_eq message_eq calls calls_after at stepped = record {
+  holds = λ s is. let same : r ≡ s = one_of r s (sym at ∙ is) in subst (λ (s : ℕ). HoldsShare job kept core.graph core.limits.partitions p (s + 1) part) same (record { course = stepped.course.holds; stats = stepped.stats });
+  to_each = stepped.course.to_each;
+  sends = λ s q is within. let same : r ≡ s = one_of r s (sym at ∙ is) in subst (λ (s : ℕ). IsSentTo job kept core.graph core.limits.partitions p q s (slice_get sent q)) same (stepped.course.sends q within);
 }
+
+set_twice : {X : Type 0} (xs : List X) (p : ℕ) (x y : X) → set (set xs p x) p y ≡ set xs p y
+set_twice [] p x y = refl
+set_twice (z ∷ zs) zero x y = refl
+set_twice (z ∷ zs) (suc p) x y = ap (λ l. z ∷ l) (set_twice zs p x y)
+
+-- a step that was taken in after its part was taken
+pub HasMadeStep-from_TakesIn : {P C A V M : Type 0} (core : Progress P C A V M) (p : ℕ) (part : PartState V M) (sent : List (Logged M)) (new : Progress P C A V M) → TakesIn p part sent (without_part p core) new → HasMadeStep p core new
+HasMadeStep-from_TakesIn core p part sent new takes = record {
+  part = part;
+  core_is = takes.core_is ∙ (λ i. record (with_step p part core) { parts = set_twice core.parts p None (Some part) i; logs = new.logs });
+}
+
+-- what a step was lent is what it asks for: the same by other names
+module _ {V M : Type 0} (job : Job V M) (kept : Option Rows) {P C A : Type 0} (core : Progress P C A V M) (p r : ℕ) (part : PartState V M) (lent : IsStepLent job kept core p r part) (logs : Slots M) (visible : Visible) (old_logs : Option (Slots M)) (old_visible : Option Visible) where
+  pub lent_run : logs ≡ core.logs → visible ≡ visible_at job core.graph r → IsLent job core.graph core.limits.partitions p r logs visible
+  lent_run same shows = subst₂ (IsLent job core.graph core.limits.partitions p r) (sym same) (sym shows) lent.lent
+
+  pub lent_beside : logs ≡ core.logs → old_logs ≡ logs_in r core.kept → old_visible ≡ visible_in r core.kept → IsLentBeside job kept core.limits.partitions p r logs old_logs old_visible
+  lent_beside same old shows =
+      subst (λ logs. IsLentBeside job kept core.limits.partitions p r logs old_logs old_visible) (sym same)
+      (subst₂ (IsLentBeside job kept core.limits.partitions p r core.logs) (sym old) (sym shows) lent.beside)

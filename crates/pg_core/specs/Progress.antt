@@ -2,25 +2,29 @@
 use Rattle.std.specs.Prelude.{◌≡◌, ◌==◌, ℕ, ◌+◌, ◌<◌, ◌≤◌, nat_lt, Bool, true, false, cond, ◌&&◌, List, [], ◌∷◌, ◌++◌, map, length, slice_index_or, slice_set, take, Option, None, Some, IsSome, is_some}
 use Rattle.std.specs.List.{All, filter, range_with_len, slice_get}
 use Rattle.pg_core.specs.Limits.{Limits}
+use Rattle.pg_core.specs.Traces.{KeepsLogs, KeptLogs, logs_in, shown_below, visible_in}
 use Rattle.pg_core.specs.Machine.{State, Reaches, after, first_state, host_of, is_allowed, place_at}
 use Rattle.pg_core.specs.declared.event.Event.{Event}
 use Rattle.pg_core.specs.declared.event.Event.TheVariants.{Step}
 use Rattle.pg_core.specs.declared.tally.Tally.{Tally}
 use Rattle.pg_global.specs.Master.{Master, has_places, job_of}
+use Rattle.pg_global.specs.Registry.{Registered}
 use Rattle.pg_graph.specs.Rows.{Rows}
 use Rattle.pg_inbox.specs.Logged.{Slots, slot_at}
 use Rattle.pg_inbox.specs.declared.logs.Logged.{Logged}
 use Rattle.pg_model.specs.Job.{Combining, Job, Program}
-use Rattle.pg_model.specs.Run.{configuration, run_length, visible_at}
+use Rattle.pg_model.specs.Run.{configuration, ending_after, run_length, visible_at}
 use Rattle.pg_model.specs.declared.configuration.Configuration.{Configuration}
+use Rattle.pg_model.specs.declared.run.Ending.{Ending}
 use Rattle.pg_model.specs.declared.view.Declared.{Declared}
 use Rattle.pg_model.specs.declared.view.Visible.{Visible}
-use Rattle.pg_part.specs.Lent.{HasMessages, IsLent, TellsAt}
-use Rattle.pg_part.specs.Part.{Holding, Holds, IsSentTo}
+use Rattle.pg_part.specs.Part.{HoldsShare, PartState}
+use Rattle.pg_course.specs.Lent.{IsLent, IsLentBeside}
+use Rattle.pg_course.specs.Course.{IsSentTo}
 
 -- what a run over partitions is made with, and where it stands: its state and its events so far; the parts that aren't
--- away; what the partitions sent; what the master showed in each superstep up to the open one; and what was counted as
--- the open superstep began, or as the run ended
+-- away; what the partitions sent; what the master showed in each superstep up to the open one; what was counted as the open
+-- superstep began, or as the run ended; why it ended, if it has; and the logs of the kept run, if there is one
 pub record Progress (P C A V M : Type 0) : Type 0 where
   pub program : P
   pub combiner : C
@@ -30,36 +34,39 @@ pub record Progress (P C A V M : Type 0) : Type 0 where
   pub run : ℕ
   pub state : State
   pub history : List Event
-  pub parts : List (Option (Holding V M))
+  pub parts : List (Option (PartState V M))
   pub logs : Slots M
   pub shown : List Visible
   pub tally : Tally
+  pub ending : Option Ending
+  pub kept : Option (KeptLogs M)
 
 -- a part that is here is of its partition, and at its place
-pub record IsPartAt {V M : Type 0} (partitions : ℕ) (state : State) (p : ℕ) (part : Holding V M) : Type 0 where
-  pub partition_is : part.partition ≡ p
-  pub partitions_are : part.partitions ≡ partitions
-  pub place_is : place_at p state ≡ Some part.place
+pub record IsPartAt {V M : Type 0} (partitions : ℕ) (state : State) (p : ℕ) (part : PartState V M) : Type 0 where
+  pub partition_is : part.course.partition ≡ p
+  pub partitions_are : part.course.partitions ≡ partitions
+  pub place_is : place_at p state ≡ Some part.course.place
 
 -- a part is of partition p, and one superstep past its place
-pub record IsNext {V M : Type 0} (partitions : ℕ) (state : State) (p : ℕ) (part : Holding V M) : Type 0 where
-  pub partition_is : part.partition ≡ p
-  pub partitions_are : part.partitions ≡ partitions
-  pub place_is : (r : ℕ) → place_at p state ≡ Some r → part.place ≡ r + 1
+pub record IsNext {V M : Type 0} (partitions : ℕ) (state : State) (p : ℕ) (part : PartState V M) : Type 0 where
+  pub partition_is : part.course.partition ≡ p
+  pub partitions_are : part.course.partitions ≡ partitions
+  pub place_is : (r : ℕ) → place_at p state ≡ Some r → part.course.place ≡ r + 1
 
 -- what is so of every run over partitions, right or not: its events led to its state, a part that is here is at its
 -- partition's place, none is away past the open superstep, and something was shown in each superstep up to it
-pub record IsLawful {V M : Type 0} (limits : Limits) (declared : Declared) (places : ℕ) (state : State) (history : List Event) (parts : List (Option (Holding V M))) (shown : List Visible) (tally : Tally) : Type 0 where
-  pub few : places ≤ 16
-  pub declared_are : has_places declared places ≡ true
+pub record IsLawful {V M : Type 0} (limits : Limits) (declared : Declared) (registered registry : Registered) (state : State) (history : List Event) (parts : List (Option (PartState V M))) (shown : List Visible) (tally : Tally) : Type 0 where
+  pub registry_is : registry ≡ registered
+  pub few : length registered ≤ 16
+  pub declared_are : has_places declared (length registered) ≡ true
   pub events : Reaches (first_state limits.partitions limits.workers) history state
   pub each : length parts ≡ limits.partitions
-  pub here : (p : ℕ) (part : Holding V M) → slice_index_or parts p None ≡ Some part → IsPartAt limits.partitions state p part
+  pub here : (p : ℕ) (part : PartState V M) → slice_index_or parts p None ≡ Some part → IsPartAt limits.partitions state p part
   pub stays : (p r : ℕ) → place_at p state ≡ Some r → state.current < r → IsSome (slice_index_or parts p None)
   pub within : state.current < limits.limit
-  pub shown_so_far : length shown ≡ state.current + 1
-  pub shown_places : All (λ v. length v.values ≡ places) shown
-  pub gathered_places : length tally.gathered ≡ places
+  pub shown_so_far : state.current < length shown
+  pub shown_places : All (λ v. length v.values ≡ length registered) shown
+  pub gathered_places : length tally.gathered ≡ length registered
 
 -- a partition at this place has made superstep s
 abbrev pub is_past : ℕ → Option ℕ → Bool
@@ -71,15 +78,15 @@ abbrev pub reached : State → ℕ
 reached state = cond state.ended (state.current + 1) state.current
 
 module _ {V M : Type 0} (job : Job V M) (rows : Rows) where
-  -- what the master shows in each superstep below s
-  abbrev pub shown_below : ℕ → List Visible
-  shown_below s = map (visible_at job rows) (range_with_len 0 s)
-
   -- what the run has counted as superstep s begins
   abbrev pub tally_at : ℕ → Tally
   tally_at s =
       let c : Configuration V M = configuration job rows s in
       record { gathered = c.gathered; sent = c.sent; dropped = c.dropped }
+
+  -- why the run ended, where it has
+  abbrev pub ending_in : State → Option Ending
+  ending_in state = cond state.ended (ending_after job rows state.current) None
 
 module _ {V M : Type 0} (job : Job V M) (kept : Option Rows) (rows : Rows) where
   -- the logs have what each partition sent in the supersteps that it has made, beside the kept run, if any, and nothing
@@ -89,16 +96,9 @@ module _ {V M : Type 0} (job : Job V M) (kept : Option Rows) (rows : Rows) where
     pub no_more : (s p q : ℕ) → (is_past s (slice_index_or places p None) && nat_lt q n) ≡ false → slot_at logs s p q ≡ None
 
   -- partition p holds its share of the run at its place, beside the kept run, if any
-  abbrev pub HoldsAt : ℕ → ℕ → Option ℕ → Holding V M → Type 0
+  abbrev pub HoldsAt : ℕ → ℕ → Option ℕ → PartState V M → Type 0
   HoldsAt n p None part = ⊥
-  HoldsAt n p (Some r) part = Holds job kept rows n p r part
-
--- where the kept run has superstep r, what was sent to partition p in the one before tells where it differs from what logs
--- of that run have
-abbrev pub TellBefore : {V M : Type 0} → Job V M → Option Rows → ℕ → ℕ → ℕ → Slots M → Type 0
-TellBefore job None n p r logs = Unit {0}
-TellBefore {V} {M} job (Some old) n p r logs = r < run_length job old → (old_logs : Slots M) → HasMessages job old n p r old_logs
-    → (s q : ℕ) → s + 1 ≡ r → q < n → TellsAt (slot_at old_logs s q p) (slot_at logs s q p)
+  HoldsAt n p (Some r) part = HoldsShare job kept rows n p r part
 
 module _ {P C A V M : Type 0} where
   -- the job of a run, by what its program, its combiner and its master mean
@@ -107,18 +107,21 @@ module _ {P C A V M : Type 0} where
       job_of (program core.program) (combining core.combiner) (master core.master) core.limits.missing core.limits.limit
 
   -- the part of a partition, where it isn't away
-  abbrev pub part_at : ℕ → Progress P C A V M → Option (Holding V M)
+  abbrev pub part_at : ℕ → Progress P C A V M → Option (PartState V M)
   part_at p core = slice_index_or core.parts p None
 
   -- what it has is the run's on its graph: each part that is here holds its share at its place, beside parts at other
   -- places and beside the kept run, if any; the logs hold what the partitions sent on their way there; what was shown and
-  -- counted is the run's
+  -- counted is the run's, and so is why it ended; what it has of the kept run is that run's
   pub record IsRight (job : Job V M) (kept : Option Rows) (core : Progress P C A V M) : Type 0 where
     pub within : core.state.current < run_length job core.graph
-    pub parts : (p : ℕ) (part : Holding V M) → part_at p core ≡ Some part → HoldsAt job kept core.graph core.limits.partitions p (place_at p core.state) part
+    pub parts : (p : ℕ) (part : PartState V M) → part_at p core ≡ Some part → HoldsAt job kept core.graph core.limits.partitions p (place_at p core.state) part
     pub logs : LogsHold job kept core.graph core.limits.partitions core.state.places core.logs
     pub shown : core.shown ≡ shown_below job core.graph (core.state.current + 1)
     pub tally : core.tally ≡ tally_at job core.graph (reached core.state)
+    pub ending : core.ending ≡ ending_in job core.graph core.state
+    pub at_end : core.state.ended ≡ true → core.state.current + 1 ≡ run_length job core.graph
+    pub beside : KeepsLogs job kept core.limits.partitions core.kept
 
   -- the part of a partition can be taken for a step
   abbrev pub is_ready : Progress P C A V M → ℕ → Bool
@@ -145,7 +148,7 @@ module _ {P C A V M : Type 0} where
   without_part p core = record core { parts = slice_set core.parts p None }
 
   -- a partition made a step, and its part is this one now
-  abbrev pub with_step : ℕ → Holding V M → Progress P C A V M → Progress P C A V M
+  abbrev pub with_step : ℕ → PartState V M → Progress P C A V M → Progress P C A V M
   with_step p part core = record core {
     state = after core.state (Step p);
     history = core.history ++ Step p ∷ [];
@@ -160,20 +163,25 @@ HasPut s p bundles before after =
 module _ {P C A V M : Type 0} where
   -- a step of partition p was taken in: the part, the event, and what was sent to each partition in the superstep that it
   -- was at
-  pub record TakesIn (p : ℕ) (part : Holding V M) (sent : List (Logged M)) (before after : Progress P C A V M) : Type 0 where
+  pub record TakesIn (p : ℕ) (part : PartState V M) (sent : List (Logged M)) (before after : Progress P C A V M) : Type 0 where
     pub core_is : after ≡ record (with_step p part before) { logs = after.logs }
     pub logs_are : (r : ℕ) → place_at p before.state ≡ Some r → HasPut r p (take before.limits.partitions sent) before.logs after.logs
 
+  -- a step of partition p was made: its part and what was sent are others, and the rest is as it was
+  pub record HasMadeStep (p : ℕ) (before after : Progress P C A V M) : Type 0 where
+    pub part : PartState V M
+    pub core_is : after ≡ record (with_step p part before) { logs = after.logs }
+
   -- a part and what it sent are those of the run after a step of partition p, beside the kept run, if any
-  pub record IsStepOf (job : Job V M) (kept : Option Rows) (core : Progress P C A V M) (p : ℕ) (part : Holding V M) (sent : List (Logged M)) : Type 0 where
-    pub holds : (r : ℕ) → place_at p core.state ≡ Some r → Holds job kept core.graph core.limits.partitions p (r + 1) part
+  pub record IsStepOf (job : Job V M) (kept : Option Rows) (core : Progress P C A V M) (p : ℕ) (part : PartState V M) (sent : List (Logged M)) : Type 0 where
+    pub holds : (r : ℕ) → place_at p core.state ≡ Some r → HoldsShare job kept core.graph core.limits.partitions p (r + 1) part
     pub to_each : length sent ≡ core.limits.partitions
     pub sends : (r q : ℕ) → place_at p core.state ≡ Some r → q < core.limits.partitions
         → IsSentTo job kept core.graph core.limits.partitions p q r (slice_get sent q)
 
   -- what a step of partition p from r is lent of the run, beside the kept run, if any, and the part that makes it
-  pub record IsStepLent (job : Job V M) (kept : Option Rows) (core : Progress P C A V M) (p r : ℕ) (part : Holding V M) : Type 0 where
-    pub holds : Holds job kept core.graph core.limits.partitions p r part
+  pub record IsStepLent (job : Job V M) (kept : Option Rows) (core : Progress P C A V M) (p r : ℕ) (part : PartState V M) : Type 0 where
+    pub holds : HoldsShare job kept core.graph core.limits.partitions p r part
     pub lent : IsLent job core.graph core.limits.partitions p r core.logs (visible_at job core.graph r)
-    pub told : TellBefore job kept core.limits.partitions p r core.logs
+    pub beside : IsLentBeside job kept core.limits.partitions p r core.logs (logs_in r core.kept) (visible_in r core.kept)
     pub open_or_before : r ≤ core.state.current

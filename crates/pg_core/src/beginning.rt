@@ -1,13 +1,13 @@
 //! What stands as a run over partitions opens.
-ghost use Rattle.std.specs.Prelude.{◌≡◌, ℕ, ◌<◌, ◌≤◌, length, map, [], None, slice_index_or, IfOk};
-ghost use Rattle.pg_core.specs.Beginning.{IsBegun};
+ghost use Rattle.std.specs.Prelude.{◌≡◌, length, map, [], None, IfOk};
+ghost use Rattle.pg_core.specs.Beginning.{HaveBegun, HaveBegunBeside};
 ghost use Rattle.pg_global.specs.Registry.{aggregating_of, first_refusal};
 ghost use Rattle.pg_model.specs.Superstep.{visible_in};
 
 use pg_global::{Aggregator, MasterCompute, MasterState, Registry, Visible};
-use pg_graph::{Graph, Memory, Missing, PartitionId, Superstep};
+use pg_graph::{Graph, Memory, Missing, PartitionId, Superstep, VertexId};
 use pg_model::Sequence;
-use pg_part::{Part, Partitioner};
+use pg_part::{Left, Part, Partitioner};
 use pg_program::Computation;
 use std::alloc::{AllocError, Global};
 
@@ -68,16 +68,51 @@ pub(crate) fn begun_parts<P: Computation>(
     graph: &Graph,
     partitioner: Partitioner,
     missing: Missing,
+    registry: &Registry,
     program: &P,
 ) -> Result<Vec<Option<Part<P::Value, P::Message>>>, Memory>
     ensures each { IfOk result (λ parts. length parts.items ≡ partitioner) }
-    ensures begun { IfOk result (λ parts. (p : ℕ) → p < partitioner
-        → IsBegun (P.program program.now) missing graph.now partitioner p (slice_index_or parts.items p None)) }
+    ensures begun { IfOk result (λ parts. HaveBegun (P.program program.now) missing registry.now
+        graph.now partitioner partitioner parts.items) }
 {
     let mut parts = Vec::new(alloc);
     for partition in 0..partitioner.partitions() {
         let rows = partitioner.rows(graph, PartitionId::new(partition));
-        parts.push(Some(Part::begin(alloc, rows, missing, program)?))?;
+        parts.push(Some(Part::begin(alloc, rows, missing, registry, program)?))?;
+    }
+    Ok(parts)
+}
+
+/// The same beside an old run, with what its partitions left, by partition, with ids outside of which the graph's rows
+/// are those of the old run's graph, and with those of them that are a vertex of just one of the two graphs. Costs k
+/// look-ups for k such ids and each partition, and a count a superstep of the old run.
+pub(crate) fn begun_parts_beside<P: Computation>(
+    alloc: Global,
+    graph: &Graph,
+    partitioner: Partitioner,
+    missing: Missing,
+    registry: &Registry,
+    lefts: Vec<Left<P::Value, P::Message>>,
+    touched: &[VertexId],
+    moved: &[VertexId],
+    program: &P,
+) -> Result<Vec<Option<Part<P::Value, P::Message>>>, Memory>
+    requires { length lefts.items ≡ partitioner }
+    ensures each { IfOk result (λ parts. length parts.items ≡ partitioner) }
+    ensures begun { IfOk result (λ parts. HaveBegunBeside (P.program program.now) missing
+        registry.now graph.now touched.now moved.now lefts.items partitioner partitioner parts.items) }
+{
+    // Tells the prover that there are at most 64.
+    partitioner.partitions();
+    let mut parts = Vec::new(alloc);
+    let mut partition = 0u32;
+    for left in lefts {
+        let rows = partitioner.rows(graph, PartitionId::new(partition));
+        let part = Part::begin_beside(
+            alloc, rows, missing, registry, left, touched, moved, program,
+        )?;
+        parts.push(Some(part))?;
+        partition += 1;
     }
     Ok(parts)
 }

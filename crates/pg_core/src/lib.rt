@@ -2,17 +2,22 @@
 #![tactic(auto)]
 
 mod beginning;
+mod closing;
+mod driving;
 mod event;
+mod finishing;
 mod limits;
 mod running;
 mod state;
+mod stepping;
 mod tally;
+mod together;
+mod traces;
+mod values;
 
 pub use event::{Closed, Event};
 pub use limits::Limits;
 pub use running::Core;
 pub use state::State;
 pub use tally::Tally;
-
-#[cfg(test)]
-mod tests;
+pub use traces::Traces;

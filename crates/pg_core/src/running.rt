@@ -1,19 +1,27 @@
 //! The core: a run over partitions between two events.
-ghost use Rattle.std.specs.Prelude.{◌≡◌, ◌<◌, ◌≤◌, ◌∷◌, ◌++◌, [], true, cond, length, Option, None, Some, IsSome, IfOk, OnOk, slice_get};
+ghost use Rattle.std.specs.Prelude.{◌≡◌, ℕ, ◌<◌, ◌≤◌, ◌∷◌, ◌++◌, [], true, cond, length, Option, None, Some, IsSome, IfOk, IfSome, OnOk, slice_get, slice_index_or};
 ghost use Rattle.pg_core.specs.Machine.{Reaches, RestoresFollowLosses, StepsTell, first_state, host_of, is_allowed};
 ghost use Rattle.pg_core.specs.Progress.{HasPut, IsNext, IsOpened, IsPartAt, IsRight, IsStepLent, IsStepOf, TakesIn};
 ghost use Rattle.pg_core.specs.Progress.{is_ready as ready_test, job_by, part_at, ready_of, without_part};
-ghost use Rattle.pg_global.specs.Master.{has_places, is_registered};
+ghost use Rattle.pg_core.specs.Beginning.{AreBegun, HasBegun};
+ghost use Rattle.pg_global.specs.Master.{has_places, is_registered, job_of};
 ghost use Rattle.pg_global.specs.Registry.{first_refusal};
+ghost use Rattle.pg_core.specs.Traces.{IsLeftBeside, IsLeftBy, KeepsLogs, logs_in, visible_in};
+ghost use Rattle.pg_course.specs.Course.{AreTouched};
+ghost use Rattle.std.specs.Option.{option_copied};
 ghost use Rattle.pg_graph.specs.Rows.{Rows};
 ghost use Rattle.pg_model.specs.Run.{visible_at};
 
-use crate::beginning::{begun_parts, copied, initial_values, registered, shown_in};
-use crate::{Event, Limits, State, Tally};
-use pg_global::{MasterCompute, MessageCombiner, Visible};
-use pg_graph::{Graph, Memory, PartitionId, Superstep, WorkerId};
+use crate::beginning::{
+    begun_parts, begun_parts_beside, copied, initial_values, registered, shown_in,
+};
+use crate::traces::KeptLogs;
+use crate::{Event, Limits, State, Tally, Traces};
+use pg_global::{MasterCompute, MessageCombiner, Registry, Visible};
+use pg_graph::{Graph, Memory, PartitionId, Superstep, VertexId, WorkerId};
 use pg_inbox::{Logged, Logs};
-use pg_part::{Part, Partitioner, Sent};
+use pg_model::Ending;
+use pg_part::{Part, Partitioner, Sent, moved};
 use pg_program::{Computation, Plain};
 use std::alloc::Global;
 use std::marker::Model;
@@ -22,23 +30,25 @@ use std::marker::Model;
 /// the master showed so far.
 #[derive(Drop)]
 pub struct Core<'a, P: Computation, C: MessageCombiner<P::Message>, M: MasterCompute> {
-    program: &'a P,
-    combiner: &'a C,
-    master: &'a M,
-    graph: &'a Graph,
-    limits: Limits,
-    run: u64,
-    state: State,
-    history: Vec<Event>,
-    parts: Vec<Option<Part<P::Value, P::Message>>>,
-    logs: Logs<P::Message>,
-    shown: Vec<Visible>,
-    tally: Tally,
+    pub(crate) program: &'a P,
+    pub(crate) combiner: &'a C,
+    pub(crate) master: &'a M,
+    pub(crate) graph: &'a Graph,
+    pub(crate) limits: Limits,
+    pub(crate) run: u64,
+    pub(crate) state: State,
+    pub(crate) history: Vec<Event>,
+    pub(crate) parts: Vec<Option<Part<P::Value, P::Message>>>,
+    pub(crate) logs: Logs<P::Message>,
+    pub(crate) shown: Vec<Visible>,
+    pub(crate) tally: Tally,
+    pub(crate) registry: Registry,
+    pub(crate) ending: Option<Ending>,
+    pub(crate) kept: Option<KeptLogs<P::Message>>,
 }
 
 impl<'a, P: Computation, C: MessageCombiner<P::Message>, M: MasterCompute> Model
     for Core<'a, P, C, M> {
-    ghost use Rattle.std.specs.Prelude.{length};
     ghost use Rattle.pg_core.specs.Progress.{IsLawful, Progress};
 
     ghost Value = { Progress P C M P.Value P.Message };
@@ -56,10 +66,12 @@ impl<'a, P: Computation, C: MessageCombiner<P::Message>, M: MasterCompute> Model
       logs = c.logs;
       shown = c.shown.items;
       tally = c.tally;
+      ending = c.ending;
+      kept = c.kept;
     } };
 
     ghost invariant = { λ c. IsLawful c.limits (P.program c.program.now).declared
-        (length (M.master c.master.now).registrations) c.state c.history.items c.parts.items
+        (M.master c.master.now).registrations c.registry c.state c.history.items c.parts.items
         c.shown.items c.tally };
 }
 
@@ -82,37 +94,73 @@ impl<'a, P: Computation, C: MessageCombiner<P::Message>, M: MasterCompute> Core<
         ensures right { IfOk result
             (λ core. IsRight (job_by P.program C.combining M.master core) None core) }
     {
-        let registry = registered(alloc, master)?;
-        // Tells the prover that there are at most 16.
-        registry.len();
-        let gathered = initial_values(alloc, &registry)?;
-        let seen = copied(alloc, &gathered)?;
-        let (vertices, edges) = (graph.vertices(), graph.edges());
-        let visible = shown_in(alloc, master, Superstep::new(0), vertices, edges, seen)?;
-        let mut shown = Vec::new(alloc);
-        shown.push(visible)?;
         let partitioner = partitioner_of(limits);
-        let parts = begun_parts(alloc, graph, partitioner, limits.missing(), program)?;
-        let state = State::first(alloc, limits.partitions(), limits.workers())?;
-        let tally = Tally {
-            gathered,
-            sent: 0,
-            dropped: 0,
-        };
-        Ok(Core {
-            program,
-            combiner,
-            master,
+        let registry = registered(alloc, master)?;
+        let parts = begun_parts(
+            alloc,
             graph,
-            limits,
-            run,
-            state,
-            history: Vec::new(alloc),
-            parts,
-            logs: Logs::new(alloc),
-            shown,
-            tally,
-        })
+            partitioner,
+            limits.missing(),
+            &registry,
+            program,
+        )?;
+        let core = open_with(
+            alloc, graph, program, combiner, master, limits, run, registry, parts, None,
+        )?;
+        Ok(core)
+    }
+
+    /// A core to which nothing has happened, beside an old run: with all that it left, and with ids outside of which
+    /// the graph's rows are those of its graph. Its partitions execute only what differs from the old run. Costs a
+    /// sort of k such ids, k look-ups for each partition, and one count a superstep of the old run.
+    pub fn open_beside(
+        alloc: Global,
+        graph: &'a Graph,
+        old: Traces<P::Value, P::Message>,
+        touched: &[VertexId],
+        program: &'a P,
+        combiner: &'a C,
+        master: &'a M,
+        limits: Limits,
+        run: u64,
+    ) -> Result<Core<'a, P, C, M>, Memory>
+        requires lawful { first_refusal [] (M.master master.now).registrations ≡ None }
+        requires registered { is_registered (P.program program.now) (M.master master.now) ≡ true }
+        requires left { let job = job_of (P.program program.now) (C.combining combiner.now)
+            (M.master master.now) limits.missing limits.limit in
+            IsLeftBeside job graph.now limits.partitions touched.now old }
+        ensures opened { IfOk result
+            (λ core. IsOpened core program.now combiner.now master.now graph.now limits run) }
+        ensures right { let job = job_of (P.program program.now) (C.combining combiner.now)
+            (M.master master.now) limits.missing limits.limit in
+            IfOk result (λ core. (kept : Rows) → IsLeftBy job kept limits.partitions old
+            → AreTouched touched.now kept graph.now
+            → IsRight (job_by P.program C.combining M.master core) (Some kept) core) }
+    {
+        let Traces {
+            lefts,
+            graph: before,
+            common,
+        } = old;
+        let partitioner = partitioner_of(limits);
+        let registry = registered(alloc, master)?;
+        let moved = moved(alloc, &before, graph, touched)?;
+        let parts = begun_parts_beside(
+            alloc,
+            graph,
+            partitioner,
+            limits.missing(),
+            &registry,
+            lefts,
+            touched,
+            moved.as_slice(),
+            program,
+        )?;
+        let kept = Some(common);
+        let core = open_with(
+            alloc, graph, program, combiner, master, limits, run, registry, parts, kept,
+        )?;
+        Ok(core)
     }
 
     /// Where the run stands.
@@ -149,11 +197,34 @@ impl<'a, P: Computation, C: MessageCombiner<P::Message>, M: MasterCompute> Core<
         ensures value { slice_get self.now.shown superstep ≡ Some result.now }
         ensures few { length result.now.values ≤ 16 }
         ensures declared { has_places (P.program self.now.program).declared (length result.now.values) ≡ true }
+        ensures places { length result.now.values ≡ length (M.master self.now.master).registrations }
         ensures right { let job = job_by P.program C.combining M.master self.now in
             (kept : Option Rows) → IsRight job kept self.now
             → result.now ≡ visible_at job self.now.graph superstep }
     {
         &self.shown[superstep.number() as usize]
+    }
+
+    /// What was sent in the kept run, for a step in a superstep that it has. `None` where it hasn't that superstep, or
+    /// no run was kept.
+    pub fn old_logs(&self, superstep: Superstep) -> Option<&Logs<P::Message>>
+        ensures { option_copied result ≡ logs_in superstep self.now.kept }
+    {
+        match &self.kept {
+            Some(kept) => kept.logs_in(superstep),
+            None => None,
+        }
+    }
+
+    /// What the master showed in a superstep of the kept run. `None` where it hasn't that superstep, or no run was kept.
+    pub fn old_visible(&self, superstep: Superstep) -> Option<&Visible>
+        ensures value { option_copied result ≡ visible_in superstep self.now.kept }
+        ensures few { IfSome (option_copied result) (λ v. length v.values ≤ 16) }
+    {
+        match &self.kept {
+            Some(kept) => kept.visible_in(superstep),
+            None => None,
+        }
     }
 
     /// The part of a partition that is neither taken nor lost.
@@ -206,12 +277,12 @@ impl<'a, P: Computation, C: MessageCombiner<P::Message>, M: MasterCompute> Core<
         ensures core { self.new ≡ without_part partition self.old }
         ensures part { part_at partition self.old ≡ Some result }
         ensures gone { part_at partition self.new ≡ None }
-        ensures reached { result.place ≤ self.old.state.current }
+        ensures reached { result.course.place ≤ self.old.state.current }
         ensures small { self.old.state.current < 10000 }
         ensures at { IsPartAt self.old.limits.partitions self.old.state partition result }
         ensures right { let job = job_by P.program C.combining M.master self.old in
             (kept : Option Rows) → IsRight job kept self.old
-            → IsRight job kept self.new × IsStepLent job kept self.old partition result.place result }
+            → IsRight job kept self.new × IsStepLent job kept self.old partition result.course.place result }
     {
         // Tells the prover the least and the most that they may be.
         self.limits.limit();
@@ -251,6 +322,13 @@ impl<'a, P: Computation, C: MessageCombiner<P::Message>, M: MasterCompute> Core<
         ensures { result.now ≡ self.now.graph }
     {
         self.graph
+    }
+
+    /// The master's aggregators.
+    pub fn registry(&self) -> &Registry
+        ensures { result.now ≡ (M.master self.now.master).registrations }
+    {
+        &self.registry
     }
 
     /// The program.
@@ -306,4 +384,65 @@ pub(crate) fn partitioner_of(limits: Limits) -> Partitioner
     ensures { result ≡ limits.partitions }
 {
     Partitioner::new(limits.partitions()).unwrap()
+}
+
+/// A core with these parts, as a run opens.
+fn open_with<'a, P: Computation, C: MessageCombiner<P::Message>, M: MasterCompute>(
+    alloc: Global,
+    graph: &'a Graph,
+    program: &'a P,
+    combiner: &'a C,
+    master: &'a M,
+    limits: Limits,
+    run: u64,
+    registry: Registry,
+    parts: Vec<Option<Part<P::Value, P::Message>>>,
+    kept: Option<KeptLogs<P::Message>>,
+) -> Result<Core<'a, P, C, M>, Memory>
+    requires registry_is { registry ≡ (M.master master.now).registrations }
+    requires registered { is_registered (P.program program.now) (M.master master.now) ≡ true }
+    requires each { length parts.items ≡ limits.partitions }
+    requires begun { let job = job_of (P.program program.now) (C.combining combiner.now)
+        (M.master master.now) limits.missing limits.limit in
+        AreBegun job graph.now limits.partitions parts.items }
+    ensures opened { IfOk result
+        (λ core. IsOpened core program.now combiner.now master.now graph.now limits run) }
+    ensures right { let job = job_of (P.program program.now) (C.combining combiner.now)
+        (M.master master.now) limits.missing limits.limit in
+        IfOk result (λ core. (old : Option Rows) → KeepsLogs job old limits.partitions kept
+        → ((p : ℕ) → p < limits.partitions
+        → HasBegun job old graph.now limits.partitions p (slice_index_or parts.items p None))
+        → IsRight job old core) }
+{
+    // Tells the prover that there are at most 16.
+    registry.len();
+    let gathered = initial_values(alloc, &registry)?;
+    let seen = copied(alloc, &gathered)?;
+    let (vertices, edges) = (graph.vertices(), graph.edges());
+    let visible = shown_in(alloc, master, Superstep::new(0), vertices, edges, seen)?;
+    let mut shown = Vec::new(alloc);
+    shown.push(visible)?;
+    let state = State::first(alloc, limits.partitions(), limits.workers())?;
+    let tally = Tally {
+        gathered,
+        sent: 0,
+        dropped: 0,
+    };
+    Ok(Core {
+        program,
+        combiner,
+        master,
+        graph,
+        limits,
+        run,
+        state,
+        history: Vec::new(alloc),
+        parts,
+        logs: Logs::new(alloc),
+        shown,
+        tally,
+        registry,
+        ending: None,
+        kept,
+    })
 }

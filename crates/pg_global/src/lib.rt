@@ -6,8 +6,6 @@ mod combiner;
 mod master;
 mod registry;
 mod seen;
-#[cfg(test)]
-mod tests;
 
 pub use aggregator::{Aggregator, AnyAggregator, gather};
 pub use combiner::{AnyCombiner, MessageCombiner};

@@ -1,5 +1,5 @@
 -- What a batch makes of a graph, row by row.
-use Rattle.std.proofs.Common.{◌≡◌, ℕ, ◌≤◌, ◌⊎◌, inl, inr, Bool, true, false, cond, List, length, nat_lt, Result, Ok, Err, sym, ap, ◌∙◌, subst, arith}
+use Rattle.std.proofs.Common.{◌≡◌, ◌≤◌, ◌⊎◌, inl, inr, Bool, true, false, cond, List, length, nat_lt, Result, Ok, Err, sym, ap, ◌∙◌, subst, arith}
 use Rattle.std.proofs.lemmas.Bool.Decides.{nat_tests}
 use Rattle.pg_graph.specs.Edit.{all_edited, batch_edited, batch_limit, memory_fault, too_long_fault, RefusesBatch}
 use Rattle.pg_graph.specs.RowEdit.{AreRowsMade, HasRoom, IsEarliestFault}

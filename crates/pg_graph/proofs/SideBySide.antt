@@ -1,7 +1,8 @@
 -- Parts of a list of edges, and the rows that have them.
-use Rattle.std.proofs.Common.{◌≡◌, ℕ, ◌+◌, ◌≤◌, List, [], ◌∷◌, ◌++◌, length, map, take, drop, refl, sym, ap, ◌∙◌, subst, arith}
+use Rattle.std.proofs.Common.{◌≡◌, ℕ, ◌+◌, ◌≤◌, List, [], ◌∷◌, ◌++◌, length, take, drop, Some, refl, sym, ap, ◌∙◌, subst, arith}
 use Rattle.std.proofs.lemmas.List.{take-append-le, drop-append-le, length-append, length-drop, map-append}
 use Rattle.std.proofs.Math.Seq.{drop-append_seam, take-length}
+use Rattle.pg_graph.specs.ChangedRows.{changes_of}
 use Rattle.pg_graph.specs.EdgeList.{EdgeList, IsRising}
 use Rattle.pg_graph.specs.Edges.{IsPart, part_of}
 use Rattle.pg_graph.specs.Packing.{AreParts, row_of, rows_of}
@@ -41,6 +42,13 @@ rows_stay (w ∷ ws) edges more parts =
     let others = rows_stay ws edges more parts.1 in
     λ i. (w.id, record { input = w.input; edges = part i }) ∷ others i
 
+changes_stay : (waiting : List Waiting) (edges more : EdgeList) → AreParts waiting edges → changes_of waiting (edges ++ more) ≡ changes_of waiting edges
+changes_stay [] edges more parts = refl
+changes_stay (w ∷ ws) edges more parts =
+    let part = part_stays w.first w.degree edges more parts.0.within in
+    let others = changes_stay ws edges more parts.1 in
+    λ i. (w.id, Some (record { input = w.input; edges = part i })) ∷ others i
+
 -- one more waits, whose edges come behind
 module _ (waiting : List Waiting) (edges more : EdgeList) (w : Waiting) (parts : AreParts waiting edges) (first : w.first ≡ length edges)
     (degree : w.degree ≡ length more) where
@@ -60,4 +68,11 @@ module _ (waiting : List Waiting) (edges more : EdgeList) (w : Waiting) (parts :
       map-append (row_of (edges ++ more)) waiting (w ∷ [])
       ∙ ap (λ rows. rows ++ row_of (edges ++ more) w ∷ []) (rows_stay waiting edges more parts)
       ∙ ap (λ l. rows_of waiting edges ++ (w.id, record { input = w.input; edges = l }) ∷ [])
+      (ap (λ n. part_of n w.degree (edges ++ more)) first ∙ ap (λ n. part_of (length edges) n (edges ++ more)) degree ∙ part_behind edges more)
+
+  pub changes_push : changes_of (waiting ++ w ∷ []) (edges ++ more) ≡ changes_of waiting edges ++ (w.id, Some (record { input = w.input; edges = more })) ∷ []
+  changes_push =
+      map-append (λ v. ((row_of (edges ++ more) v).0, Some (row_of (edges ++ more) v).1)) waiting (w ∷ [])
+      ∙ ap (λ rows. rows ++ ((row_of (edges ++ more) w).0, Some (row_of (edges ++ more) w).1) ∷ []) (changes_stay waiting edges more parts)
+      ∙ ap (λ l. changes_of waiting edges ++ (w.id, Some (record { input = w.input; edges = l })) ∷ [])
       (ap (λ n. part_of n w.degree (edges ++ more)) first ∙ ap (λ n. part_of (length edges) n (edges ++ more)) degree ∙ part_behind edges more)

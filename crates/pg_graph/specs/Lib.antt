@@ -1,3 +1,4 @@
+pub mod ChangedRows
 pub mod Changes
 pub mod Draft
 pub mod DraftRow

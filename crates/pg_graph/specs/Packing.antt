@@ -1,5 +1,5 @@
 -- Rows whose edges are gathered in one list.
-use Rattle.std.specs.Prelude.{ℕ, ◌++◌, List, map}
+use Rattle.std.specs.Prelude.{ℕ, List, map}
 use Rattle.std.specs.List.{AllByRecursion}
 use Rattle.pg_graph.specs.EdgeList.{EdgeList}
 use Rattle.pg_graph.specs.Edges.{IsPart, part_of}

@@ -93,9 +93,9 @@ impl Edges {
         }
     }
 
-    /// Whether the edges come first in a list. Those that have a list of their own do.
-    pub(crate) fn begin_a_list(&self) -> bool {
-        self.shared.is_some() && self.first == 0
+    /// Where the edges begin in their list, and where they end.
+    pub(crate) fn places(&self) -> (usize, usize) {
+        (self.first, self.first.saturating_add(self.degree))
     }
 
     /// The weight of the edge to `target`, found by binary search.

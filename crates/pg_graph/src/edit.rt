@@ -1,5 +1,5 @@
 //! Edits of a graph, and batches of them.
-ghost use Rattle.std.specs.Prelude.{◌≡◌, ◌≢◌, [], ◌∷◌, ◌++◌, ℕ, List, length, OnOk, OnErr};
+ghost use Rattle.std.specs.Prelude.{◌≡◌, ◌≢◌, [], ◌∷◌, ◌++◌, ℕ, List, length, IfOk, OnOk, OnErr};
 
 use crate::{Memory, VertexId};
 use std::alloc::Global;
@@ -148,6 +148,15 @@ impl Batch {
         Batch {
             edits: Vec::new(alloc),
         }
+    }
+
+    /// The batch of no edits, with room for so many.
+    pub fn with_capacity(alloc: Global, edits: usize) -> Result<Batch, Memory>
+        ensures { IfOk result (λ batch. batch ≡ []) }
+    {
+        Ok(Batch {
+            edits: Vec::with_capacity(alloc, edits)?,
+        })
     }
 
     /// Adds an edit at the end.

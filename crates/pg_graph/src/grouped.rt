@@ -10,10 +10,14 @@ ghost use Rattle.pg_graph.specs.Grouped.{AreCounted, AreGrouped, IsFirst, RiseBy
 ghost use Rattle.pg_graph.specs.RowEdit.{HasRoom, placed, source_of};
 ghost use Rattle.pg_graph.specs.Rows.{HasRisingIds, edge_count, vertex_count};
 
+mod changed_rows;
 mod vertex;
 
 use crate::draft::Changes;
+use crate::draft::row::DraftRow;
+use crate::packing::is_many;
 use crate::{Batch, Edit, EditFault, Graph, Memory, Row, VertexId};
+use changed_rows::ChangedRows;
 use std::alloc::{AllocError, Global};
 use vertex::vertex_after;
 
@@ -71,7 +75,7 @@ fn dealt_with(
     requires edits_rise { RiseBySource edits.now }
     ensures { IfOk result (λ made. MatchResult made (AreCounted graph.now edits.now) (IsFirst graph.now edits.now)) }
 {
-    let mut rows = Vec::new(alloc);
+    let mut rows = ChangedRows::new(alloc, is_many(vertices_of(edits), graph.vertices()));
     let mut finder = graph.finder();
     let mut edges = graph.edges();
     let mut fault = None;
@@ -82,8 +86,8 @@ fn dealt_with(
         let row = finder.get(id);
         match vertex_after(alloc, row, here)? {
             Ok(changed) => {
-                edges = edges_with(edges, row, changed.as_ref())?;
-                rows.push((id, changed))?;
+                edges = edges_with(edges, row, new_degree(&changed))?;
+                rows.push(alloc, id, changed)?;
             }
             Err(found) => fault = Some(earlier(fault, found)),
         }
@@ -91,8 +95,23 @@ fn dealt_with(
     }
     match fault {
         Some(fault) => Ok(Err(fault)),
-        None => Ok(Ok(Changes { rows, edges })),
+        None => {
+            let rows = rows.finish(alloc)?;
+            Ok(Ok(Changes { rows, edges }))
+        }
     }
+}
+
+/// How many vertices edits have that stand by rising vertex.
+fn vertices_of(edits: &[(u64, Edit)]) -> usize {
+    let mut vertices: usize = 0;
+    let mut last = None;
+    for (_, edit) in edits {
+        let id = Some(edit.source());
+        vertices = vertices.saturating_add(usize::from(last != id));
+        last = id;
+    }
+    vertices
 }
 
 /// How many edits at the beginning are of a vertex or one below it. Costs as much as there are.
@@ -126,22 +145,32 @@ fn earlier(fault: Option<EditFault>, found: EditFault) -> EditFault
     }
 }
 
-/// How many edges there are, once one row is another.
-fn edges_with(edges: u64, row: Option<&Row>, changed: Option<&Row>) -> Result<u64, Memory>
+/// How many edges there are, once one row is another of this degree.
+fn edges_with(edges: u64, row: Option<&Row>, degree: u64) -> Result<u64, Memory>
     requires { degree_of (option_copied row) ≤ edges }
-    ensures { IfOk result (λ n. n + degree_of (option_copied row.entry) ≡ edges + degree_of (option_copied changed.entry)) }
+    ensures { IfOk result (λ n. n + degree_of (option_copied row.entry) ≡ edges + degree) }
 {
-    (edges - degree(row))
-        .checked_add(degree(changed))
+    (edges - old_degree(row))
+        .checked_add(degree)
         .ok_or(AllocError)
 }
 
 /// How many edges a row has, if it is there.
-fn degree(row: Option<&Row>) -> u64
+fn old_degree(row: Option<&Row>) -> u64
     ensures { result ≡ degree_of (option_copied row.entry) }
 {
     match row {
         Some(row) => row.edges.as_slice().len() as u64,
+        None => 0,
+    }
+}
+
+/// How many edges a row has that was edited, if it is there.
+fn new_degree(row: &Option<DraftRow>) -> u64
+    ensures { result ≡ degree_of row.now }
+{
+    match row {
+        Some(row) => row.degree(),
         None => 0,
     }
 }

@@ -11,7 +11,15 @@ use std::mem;
 use std::sync::Arc;
 
 /// A row with more edges keeps its own list.
-const LARGE: usize = 256;
+pub(crate) const LARGE: usize = 256;
+
+/// Each changed row pays for a look at so many.
+const ROWS_TO_PAY: u64 = 64;
+
+/// Whether so many rows are changed that a walk over all of them is paid for.
+pub(crate) fn is_many(changed: usize, vertices: u64) -> bool {
+    (changed as u64).saturating_mul(ROWS_TO_PAY) >= vertices
+}
 
 /// The edges of rows that stand side by side come to lie side by side in one list, so that a walk over
 /// the rows goes through memory in order.
@@ -31,22 +39,28 @@ impl Pack for Row {
     }
 }
 
-/// Whether more than an eighth of these rows have a list of their own that isn't large.
+/// Whether the edges of more than half of these rows don't lie behind those of the row before,
+/// large ones and rows without edges aside. Two lists that meet at the same place are taken for one.
 fn are_loose(rows: &[(VertexId, Row)]) -> bool {
-    let mut alone: usize = 0;
+    let mut loose: usize = 0;
+    let mut end: usize = 0;
     for (_, row) in rows {
-        if row.edges.begin_a_list() && row.edges.as_slice().len() <= LARGE {
-            alone = alone.saturating_add(1);
+        let (first, after) = row.edges.places();
+        let degree = after.saturating_sub(first);
+        if degree > 0 && degree <= LARGE {
+            loose = loose.saturating_add(usize::from(first != end));
+            end = after;
         }
     }
-    alone > rows.len() / 8 + 1
+    loose > rows.len() / 2
 }
 
 /// How many edges these rows have, but for those of large ones.
 fn room_of(rows: &[(VertexId, Row)]) -> usize {
     let mut room: usize = 0;
     for (_, row) in rows {
-        let degree = row.edges.as_slice().len();
+        let (first, after) = row.edges.places();
+        let degree = after.saturating_sub(first);
         if degree <= LARGE {
             room = room.saturating_add(degree);
         }
@@ -57,10 +71,10 @@ fn room_of(rows: &[(VertexId, Row)]) -> usize {
 /// A row without its edges, which are a part of a list.
 #[derive(Drop)]
 pub(crate) struct Waiting {
-    id: VertexId,
-    input: i64,
-    first: usize,
-    degree: usize,
+    pub(crate) id: VertexId,
+    pub(crate) input: i64,
+    pub(crate) first: usize,
+    pub(crate) degree: usize,
 }
 
 /// Rows one after another. The last ones wait until the list of their edges is whole. A contract sees

@@ -8,8 +8,8 @@ pub mod Fields
 pub mod RecordReadings
 pub mod Graphs
 pub mod NamedFacts
-pub mod NamedBefore
 pub mod NamedEdgeFacts
 pub mod Limits
 pub mod BatchLaw
 pub mod BatchSteps
+pub mod Plain

@@ -1,7 +1,6 @@
 -- What was named so far shows the graph with it.
 use Rattle.std.proofs.Common.{◌≡◌, ℕ, ◌||◌, ◌&&◌, Bool, true, false, not, cond, List, inl, inr, refl, ap, sym, ◌∙◌}
 use Rattle.std.specs.BTreeMap.{is_at}
-use Rattle.std.specs.BTreeSet.{BTreeSet, contains}
 use Rattle.std.specs.Ordering.{nat_cmp}
 use Rattle.std.proofs.lemmas.Bool.{cases_Bool}
 use Rattle.pg_graph.specs.Rows.{Rows}
@@ -29,23 +28,30 @@ known_edge rows line s t there = elim (cases_Bool (is_at (nat_cmp line.source) s
   | inr apart ↦ rw apart refl
 ]
 
--- a vertex that is there
-pub Shows-there : (graph : Rows) (named : Named) (rows : Rows) (id : ℕ) → Shows graph named rows → has_vertex id rows ≡ true
+-- a vertex that the graph has
+pub Shows-there : (graph : Rows) (named : Named) (rows : Rows) (id : ℕ) → Shows graph named rows → has_vertex id graph ≡ true
     → (false ≡ not (has_vertex id rows)) × Shows graph named (with_vertex id rows)
-Shows-there graph named rows id shows has = (rw has refl, rw (with_vertex-there rows id has) shows)
+Shows-there graph named rows id shows there =
+    let has : has_vertex id rows ≡ true = shows.vertices id ∙ or-true _ _ there in
+    (rw has refl, rw (with_vertex-there rows id has) shows)
+
+and-same : (b : Bool) → (b && b) ≡ b
+and-same true = refl
+and-same false = refl
 
 -- a vertex that it lacks, which was put among the named ones
-pub Shows-vertex : (graph : Rows) (named : Named) (vertices : BTreeSet ℕ) (rows : Rows) (id : ℕ) (added : Bool) → Shows graph named rows
+pub Shows-vertex : (graph : Rows) (named : Named) (vertices : List NamedEdge) (rows : Rows) (id : ℕ) (added : Bool) → Shows graph named rows
     → has_vertex id graph ≡ false
-    → added ≡ not (contains nat_cmp named.vertices id)
-    → ((q : ℕ) → contains nat_cmp vertices q ≡ cond (is_at (nat_cmp id) q) true (contains nat_cmp named.vertices q))
+    → added ≡ not (named_in id id named.vertices)
+    → ((s t : ℕ) → named_in s t vertices ≡ cond (is_at (nat_cmp id) s && is_at (nat_cmp id) t) true (named_in s t named.vertices))
     → (added ≡ not (has_vertex id rows)) × Shows graph (record named { vertices = vertices }) (with_vertex id rows)
 Shows-vertex graph named vertices rows id added shows absent is put =
-    let has : has_vertex id rows ≡ contains nat_cmp named.vertices id = rw absent at (shows.vertices id) in (
+    let has : has_vertex id rows ≡ named_in id id named.vertices = rw absent at (shows.vertices id) in (
       is ∙ ap not (sym has),
       record {
         vertices = λ q. has_vertex-with_vertex rows id q
-            ∙ rw (shows.vertices q, put q) (cond-or (is_at (nat_cmp id) q) (has_vertex q graph) (contains nat_cmp named.vertices q));
+            ∙ rw (shows.vertices q, put q q, and-same (is_at (nat_cmp id) q))
+            (cond-or (is_at (nat_cmp id) q) (has_vertex q graph) (named_in q q named.vertices));
         edges = λ s t. has_edge-with_vertex rows id s t ∙ shows.edges s t;
       },
     )

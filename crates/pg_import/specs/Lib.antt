@@ -2,6 +2,7 @@ pub mod Batch
 pub mod Comma
 pub mod Import
 pub mod ImportKind
+pub mod Leading
 pub mod Named
 pub mod NamedEdges
 pub mod Number

@@ -1,10 +1,16 @@
 -- Lines and words of a text.
-use Rattle.std.specs.Prelude.{ℕ, ◌-◌, Bool, ◌||◌, ◌==◌, nat_eq, nat_lt, if◌then◌else◌, List, [], ◌∷◌, length, take, filter}
+use Rattle.std.specs.Prelude.{◌≡◌, true, ℕ, ◌-◌, Bool, ◌||◌, ◌==◌, nat_eq, nat_lt, if◌then◌else◌, List, [], ◌∷◌, length, take, filter}
 use Rattle.std.specs.List.{ends_with, onto_first, slice_split}
 
 -- a blank or a tab
 abbrev pub is_blank : ℕ → Bool
 is_blank b = (b == 32) || (b == 9)
+
+-- a text is a blank or a tab, and what comes after it
+pub record IsAfterBlank (text rest : List ℕ) : Type 0 where
+  pub byte : ℕ
+  pub whole : text ≡ byte ∷ rest
+  pub blank : is_blank byte ≡ true
 
 -- a text without the blanks and tabs that it begins with
 abbrev pub skip_blanks : List ℕ → List ℕ

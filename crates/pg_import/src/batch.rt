@@ -1,58 +1,39 @@
 //! The batch of edits that brings the edges of a list into a graph.
-ghost use Rattle.std.specs.Prelude.{◌≡◌, ◌∷◌, ◌++◌, [], ℕ, take, true, false, not, IfOk, OnOk};
+ghost use Rattle.std.specs.Prelude.{◌≡◌, ◌∷◌, ◌++◌, [], ℕ, true, false, not, IfOk, OnOk};
 ghost use Rattle.pg_graph.specs.Rows.{Rows};
 ghost use Rattle.pg_import.specs.Batch.{Makes, batch_of, edge_edit, has_edge, has_vertex, vertex_edits, with_line_edge, with_lines, with_vertex};
-ghost use Rattle.pg_import.specs.Named.{IsSaid, Shows};
+ghost use Rattle.pg_import.specs.Named.{Shows};
 ghost use Rattle.pg_import.specs.NamedEdges.{named_in};
 
 use crate::named_edges::NamedEdges;
-use crate::seen::{Seen, by_edge};
+use crate::order::Order;
+use crate::seen::Seen;
 use crate::{Line, Memory};
 use pg_graph::{Batch, Edit, Graph, VertexId};
 use std::alloc::Global;
-use std::collections::BTreeSet;
 
 /// The batch of a list of edges on a graph: for each line in order its source and then its target are
 /// added with input 0 where they aren't there yet, and then its edge is added, or set where it is
 /// there by then.
 ///
-/// Costs O(k log(n + k)) for k lines and a graph of n vertices and edges.
+/// Costs O(k log n) for k lines and a graph of n vertices and edges.
 pub fn into_batch(alloc: Global, lines: &[Line], graph: &Graph) -> Result<Batch, Memory>
     ensures value { IfOk result (λ batch. batch ≡ batch_of lines.now graph.now) }
     ensures makes { IfOk result (λ batch. Makes graph.now batch (with_lines lines.now graph.now)) }
 {
-    let edges = by_edge(alloc, lines)?;
-    let seen = Seen::of(alloc, lines, edges.as_slice(), graph)?;
-    let mut batch = Batch::new(alloc);
-    let mut named = Named::new(alloc, NamedEdges::of(alloc, edges.as_slice())?);
+    let order = Order::of(alloc, lines)?;
+    let seen = Seen::of(alloc, lines, &order, graph)?;
+    let mut batch = Batch::with_capacity(alloc, lines.len())?;
+    let mut named = Named::new(alloc, lines, &order)?;
     for (place, line) in lines.iter().enumerate() {
         let source = seen.source_at(place, line, graph);
         let target = seen.target_at(place, line, graph);
-        let source_there = is_there(source.vertex, lines, place, source.first, line.source);
-        let target_there = is_there(target.vertex, lines, place, target.first, line.target);
-        push_vertex(&mut batch, &mut named, line.source, source_there)?;
-        push_vertex(&mut batch, &mut named, line.target, target_there)?;
+        let ranks = (order.source_rank(place), order.target_rank(place));
+        push_vertex(&mut batch, &mut named, line.source, source.vertex, ranks.0)?;
+        push_vertex(&mut batch, &mut named, line.target, target.vertex, ranks.1)?;
         push_edge(&mut batch, &mut named, line, source.edge, source.rank)?;
     }
     Ok(batch)
-}
-
-// Whether a vertex is known to be there after the lines before a place: the graph has it, or the line at
-// `first` is one of them and names it.
-fn is_there(in_graph: bool, lines: &[Line], place: usize, first: usize, id: VertexId) -> bool
-    ensures { (graph : Rows) → in_graph ≡ has_vertex id graph
-        → IsSaid result id graph (with_lines (take place lines.now) graph) }
-{
-    if in_graph {
-        return true;
-    }
-    if first >= place {
-        return false;
-    }
-    match lines.get(first) {
-        Some(line) => line.source == id || line.target == id,
-        None => false,
-    }
 }
 
 // Names a vertex, and adds it by an edit where it wasn't there yet.
@@ -61,12 +42,13 @@ fn push_vertex(
     batch: &mut Batch,
     named: &mut Named,
     id: VertexId,
-    there: bool,
+    in_graph: bool,
+    rank: usize,
 ) -> Result<(), Memory>
-    ensures { OnOk result ((graph rows : Rows) → IsSaid there id graph rows → Shows graph named.old rows
+    ensures { OnOk result ((graph rows : Rows) → in_graph ≡ has_vertex id graph → Shows graph named.old rows
         → (batch.new ≡ batch.old ++ vertex_edits id rows) × Shows graph named.new (with_vertex id rows)) }
 {
-    if named.add_vertex(id, there)? {
+    if named.add_vertex(id, in_graph, rank)? {
         batch.push(Edit::AddVertex(id, 0))?;
     }
     Ok(())
@@ -92,34 +74,34 @@ fn push_edge(
     }
 }
 
-// What lines have named so far that a graph doesn't have.
+// What lines have named so far that a graph doesn't have. A vertex is named as the edge to itself.
 #[derive(Drop)]
 struct Named {
-    vertices: BTreeSet<VertexId>,
+    vertices: NamedEdges,
     edges: NamedEdges,
 }
 
 impl Named {
-    // Nothing yet, of these edges.
-    fn new(alloc: Global, edges: NamedEdges) -> Named
-        requires { (source target : ℕ) → named_in source target edges ≡ false }
-        ensures { (graph : Rows) → Shows graph result graph }
+    // Nothing yet, of lines in this order.
+    fn new(alloc: Global, lines: &[Line], order: &Order) -> Result<Named, Memory>
+        ensures { IfOk result (λ named. (graph : Rows) → Shows graph named graph) }
     {
-        Named {
-            vertices: BTreeSet::new(alloc),
-            edges,
-        }
+        let edges = order.edges(alloc, lines)?;
+        Ok(Named {
+            vertices: NamedEdges::of(alloc, order.vertices.as_slice())?,
+            edges: NamedEdges::of(alloc, edges.as_slice())?,
+        })
     }
 
-    // Names a vertex, and says whether it wasn't there yet.
-    fn add_vertex(&mut self, id: VertexId, there: bool) -> Result<bool, Memory>
-        ensures { IfOk result (λ added. (graph rows : Rows) → IsSaid there id graph rows → Shows graph self.old rows
+    // Names a vertex, and says whether it wasn't there yet. It is expected at this rank.
+    fn add_vertex(&mut self, id: VertexId, in_graph: bool, rank: usize) -> Result<bool, Memory>
+        ensures { IfOk result (λ added. (graph rows : Rows) → in_graph ≡ has_vertex id graph → Shows graph self.old rows
             → (added ≡ not (has_vertex id rows)) × Shows graph self.new (with_vertex id rows)) }
     {
-        if there {
+        if in_graph {
             return Ok(false);
         }
-        let added = self.vertices.insert(id)?;
+        let added = self.vertices.name(id, id, rank)?;
         Ok(added)
     }
 

@@ -7,6 +7,7 @@ mod line;
 mod list;
 mod named_edges;
 mod number;
+mod order;
 mod seen;
 mod text;
 
@@ -17,6 +18,3 @@ pub use list::read_list;
 pub use number::{read_id, read_weight};
 pub use std::alloc::AllocError as Memory;
 pub use text::{Words, bare_line};
-
-#[cfg(test)]
-mod tests;

@@ -1,12 +1,15 @@
 //! The list form: a line for each edge, with blanks and tabs between its fields.
-ghost use Rattle.std.specs.Prelude.{◌≡◌, ◌⊎◌, ◌∷◌, ◌++◌, List, Ok, Err, Result, map, OnOk, IfErr};
+ghost use Rattle.std.specs.Prelude.{◌≡◌, ◌⊎◌, ◌∷◌, ◌++◌, List, pos, Ok, Err, Some, Result, map, OnOk, IfErr, IfSome};
 ghost use Rattle.std.specs.Option.{option_copied, option_to_list};
 ghost use Rattle.pg_import.specs.Import.{Gives, at_line, edge_of, followed_by, list_of, no_memory, reading_of};
 ghost use Rattle.pg_import.specs.Text.{words_of};
 ghost use Rattle.pg_import.specs.declared.line.ImportFault.{ImportFault};
 ghost use Rattle.pg_import.specs.declared.line.Line.{Line};
 
+use crate::number::leading_number;
+use crate::text::after_blank;
 use crate::{ImportFault, ImportKind, Line, Words, bare_line, read_id, read_weight};
+use pg_graph::VertexId;
 use std::alloc::Global;
 
 /// The edges of a text in list form, in their order, or its first faulty line.
@@ -30,6 +33,9 @@ pub fn read_list(alloc: Global, text: &[u8]) -> Result<Vec<Line>, ImportFault>
 fn read_line(line: &[u8]) -> Result<Option<Line>, ImportKind>
     ensures { result ≡ reading_of (words_of line.now) }
 {
+    if let Some(edge) = plain_edge(line) {
+        return Ok(Some(edge));
+    }
     let mut words = Words::new(line);
     let Some(source) = words.next() else {
         return Ok(None);
@@ -46,6 +52,34 @@ fn read_line(line: &[u8]) -> Result<Option<Line>, ImportKind>
     }
     let edge = read_edge(source, target, weight)?;
     Ok(Some(edge))
+}
+
+// The edge of a line of plain numbers with single blanks between them. None of other lines, which may
+// have one all the same.
+fn plain_edge(line: &[u8]) -> Option<Line>
+    ensures { IfSome result (λ edge. reading_of (words_of line.now) ≡ Ok (Some edge)) }
+{
+    let (source, rest) = leading_number(line)?;
+    let (target, rest) = leading_number(after_blank(rest)?)?;
+    if rest.is_empty() {
+        return plain_line(source, target, 1);
+    }
+    let (weight, rest) = leading_number(after_blank(rest)?)?;
+    if !rest.is_empty() {
+        return None;
+    }
+    plain_line(source, target, weight)
+}
+
+// The edge of these numbers.
+fn plain_line(source: u64, target: u64, weight: u64) -> Option<Line>
+    ensures { IfSome result (λ line. line ≡ record { source = source; target = target; weight = pos weight }) }
+{
+    Some(Line {
+        source: VertexId::new(source)?,
+        target: VertexId::new(target)?,
+        weight: 0i64.checked_add_unsigned(weight)?,
+    })
 }
 
 /// The edge that two or three fields write.

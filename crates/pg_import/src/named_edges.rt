@@ -45,19 +45,16 @@ impl Model for NamedEdges {
 }
 
 impl NamedEdges {
-    /// The edges of these lines, which stand by rising source and target; none was named. Costs O(k)
-    /// for k lines. An edge out of order is left out.
-    pub(crate) fn of(
-        alloc: Global,
-        lines: &[(VertexId, VertexId, usize)],
-    ) -> Result<NamedEdges, Memory>
+    /// These edges, which stand by rising source and target, each once; none was named. Costs O(k) for
+    /// k edges. An edge out of order is left out.
+    pub(crate) fn of(alloc: Global, edges: &[(VertexId, VertexId)]) -> Result<NamedEdges, Memory>
         ensures { IfOk result (λ edges. (source target : ℕ) → named_in source target edges ≡ false) }
     {
-        let mut edges = Vec::with_capacity(alloc, lines.len())?;
+        let mut once = Vec::with_capacity(alloc, edges.len())?;
         let (mut from, mut to) = (0, 0);
-        for (source, target, _) in lines {
+        for (source, target) in edges {
             if is_past(from, to, source.number(), target.number()) {
-                edges.push(NamedEdge {
+                once.push(NamedEdge {
                     source: *source,
                     target: *target,
                     named: false,
@@ -66,7 +63,7 @@ impl NamedEdges {
                 to = target.number() + 1;
             }
         }
-        Ok(NamedEdges { edges })
+        Ok(NamedEdges { edges: once })
     }
 
     /// Names an edge, and says whether it wasn't named yet. Costs O(1) where the edge is at the place

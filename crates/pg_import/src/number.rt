@@ -1,8 +1,9 @@
 //! Ids and weights, read from words.
-ghost use Rattle.std.specs.Prelude.{◌≡◌, ℕ, None, Some, nat_lt, if◌then◌else◌, IsTrue};
+ghost use Rattle.std.specs.Prelude.{◌≡◌, ℕ, None, Some, nat_lt, if◌then◌else◌, IfSome, IsTrue};
 ghost use Rattle.std.specs.List.{list_all};
 ghost use Rattle.std.specs.Char.{is_ascii_digit};
 ghost use Rattle.pg_import.specs.Number.{id_of, is_numeral, number_up_to, read_on, weight_of};
+ghost use Rattle.pg_import.specs.Leading.{BeginsWithDigit, BeginsWithNumber};
 
 use crate::ImportKind;
 use pg_graph::VertexId;
@@ -10,6 +11,9 @@ use pg_graph::VertexId;
 const GREATEST_ID: u64 = (1 << 63) - 1;
 
 const GREATEST_WEIGHT: u64 = (1 << 63) - 1;
+
+// One more digit to a number below this makes none above 10^18.
+const SMALL: u64 = 100_000_000_000_000_000;
 
 // The least weight is this below zero.
 const LEAST_WEIGHT: u64 = 1 << 63;
@@ -74,4 +78,35 @@ fn read_digits(digits: &[u8], limit: u64) -> Option<u64>
         }
     }
     Some(number)
+}
+
+/// The number that a text begins with, and what comes after it. None where it begins with no digit, or
+/// where the digits may write 10^18 or more.
+pub(crate) fn leading_number(text: &[u8]) -> Option<(u64, &[u8])>
+    ensures { IfSome result (λ found. BeginsWithNumber text.now found.0 found.1.now) }
+{
+    let mut number: u64 = 0;
+    let mut rest = text;
+    while let Some((digit, after)) = leading_digit(rest) {
+        if number >= SMALL {
+            return None;
+        }
+        number = number * 10 + digit;
+        rest = after;
+    }
+    if rest.len() == text.len() {
+        return None;
+    }
+    Some((number, rest))
+}
+
+// What the digit writes that a text begins with, and what comes after it.
+fn leading_digit(text: &[u8]) -> Option<(u64, &[u8])>
+    ensures { IfSome result (λ found. BeginsWithDigit text.now found.0 found.1.now) }
+{
+    let (byte, rest) = text.split_first()?;
+    if !byte.is_ascii_digit() {
+        return None;
+    }
+    Some((u64::from(*byte - b'0'), rest))
 }

@@ -9,26 +9,25 @@ ghost use Rattle.pg_import.specs.Seen.{AreSeen, IsSource, IsTarget};
 ghost use Rattle.pg_import.specs.declared.seen.Source.{Source};
 ghost use Rattle.pg_import.specs.declared.seen.Target.{Target};
 
+use crate::order::Order;
 use crate::{Line, Memory};
 use pg_graph::{Finder, Graph, Row, VertexId};
 use std::alloc::Global;
 use std::marker::Model;
 
-/// Whether the graph has the source of a line, and the line's edge. `first` is an early line with that
-/// source, and `rank` says how many edges of the list come before the line's, as far as it was looked up.
+/// Whether the graph has the source of a line, and the line's edge. `rank` says how many edges of the
+/// list come before the line's, as far as it was looked up.
 #[derive(Clone, Copy)]
 pub(crate) struct Source {
     pub(crate) vertex: bool,
     pub(crate) edge: bool,
-    pub(crate) first: usize,
     pub(crate) rank: usize,
 }
 
-/// Whether the graph has the target of a line. `first` is an early line with that target.
+/// Whether the graph has the target of a line.
 #[derive(Clone, Copy)]
 pub(crate) struct Target {
     pub(crate) vertex: bool,
-    pub(crate) first: usize,
 }
 
 /// What the graph has of lines, as far as it was looked up. A place with none is looked up again by
@@ -41,19 +40,19 @@ pub(crate) struct Seen {
 }
 
 impl Seen {
-    /// All of it looked up, for lines whose edges are given by rising source and target. Costs
-    /// O(k log(n + k)) for k lines and a graph of n vertices and edges.
+    /// All of it looked up in the order of the lines' ends. Costs O(k log n) for k lines and a graph of
+    /// n vertices and edges.
     pub(crate) fn of(
         alloc: Global,
         lines: &[Line],
-        edges: &[(VertexId, VertexId, usize)],
+        order: &Order,
         graph: &Graph,
     ) -> Result<Seen, Memory>
         ensures sources { IfOk result (λ seen. AreSeen (IsSource graph.now) lines.now seen.sources.items) }
         ensures targets { IfOk result (λ seen. AreSeen (IsTarget graph.now) lines.now seen.targets.items) }
     {
-        let sources = sources_of(alloc, lines, edges, graph)?;
-        let targets = targets_of(alloc, lines, graph)?;
+        let sources = sources_of(alloc, lines, order.by_edge.as_slice(), graph)?;
+        let targets = targets_of(alloc, lines, order.by_target.as_slice(), graph)?;
         Ok(Seen { sources, targets })
     }
 
@@ -64,7 +63,7 @@ impl Seen {
     {
         match self.sources.get(place) {
             Some(Some(source)) => *source,
-            _ => source_of(line, graph.row(line.source), place, place),
+            _ => source_of(line, graph.row(line.source), place),
         }
     }
 
@@ -75,7 +74,7 @@ impl Seen {
     {
         match self.targets.get(place) {
             Some(Some(target)) => *target,
-            _ => target_of(graph.row(line.target), place),
+            _ => target_of(graph.row(line.target)),
         }
     }
 }
@@ -83,53 +82,55 @@ impl Seen {
 fn sources_of(
     alloc: Global,
     lines: &[Line],
-    edges: &[(VertexId, VertexId, usize)],
+    places: &[usize],
     graph: &Graph,
 ) -> Result<Vec<Option<Source>>, Memory>
     ensures { IfOk result (λ seen. AreSeen (IsSource graph.now) lines.now seen.items) }
 {
     let mut seen = none_of(alloc, lines)?;
-    let Some((source, target, first)) = edges.first() else {
+    let Some(first) = lines.first() else {
         return Ok(seen);
     };
-    let mut last = LastRow::of(graph, *source, *first);
-    let mut edge = LastEdge::of(*source, *target);
-    for (source, target, place) in edges {
+    let mut last = LastRow::of(graph, first.source);
+    let mut edge = LastEdge::new();
+    for place in places {
         if let Some(line) = lines.get(*place) {
-            let row = last.row_at(line.source, *place);
-            let rank = edge.rank_of(*source, *target);
-            seen[*place] = Some(source_of(line, row, last.place, rank));
+            let row = last.row_at(line.source);
+            let rank = edge.rank_of(line);
+            seen[*place] = Some(source_of(line, row, rank));
         }
     }
     Ok(seen)
 }
 
-fn targets_of(alloc: Global, lines: &[Line], graph: &Graph) -> Result<Vec<Option<Target>>, Memory>
+fn targets_of(
+    alloc: Global,
+    lines: &[Line],
+    places: &[usize],
+    graph: &Graph,
+) -> Result<Vec<Option<Target>>, Memory>
     ensures { IfOk result (λ seen. AreSeen (IsTarget graph.now) lines.now seen.items) }
 {
     let mut seen = none_of(alloc, lines)?;
-    let places = by_target(alloc, lines)?;
-    let Some((id, first)) = places.first() else {
+    let Some(first) = lines.first() else {
         return Ok(seen);
     };
-    let mut last = LastRow::of(graph, *id, *first);
-    for (_, place) in places.as_slice() {
+    let mut last = LastRow::of(graph, first.target);
+    for place in places {
         if let Some(line) = lines.get(*place) {
-            let row = last.row_at(line.target, *place);
-            seen[*place] = Some(target_of(row, last.place));
+            let row = last.row_at(line.target);
+            seen[*place] = Some(target_of(row));
         }
     }
     Ok(seen)
 }
 
-/// The row that was looked up last, and the earliest line that it was looked up for. A contract sees the
-/// graph.
+/// The row that was looked up last. A contract sees the graph.
 #[derive(Drop)]
 struct LastRow<'a> {
     finder: Finder<'a, Row>,
     id: VertexId,
     row: Option<&'a Row>,
-    place: usize,
 }
 
 impl<'a> Model for LastRow<'a> {
@@ -145,59 +146,51 @@ impl<'a> Model for LastRow<'a> {
 }
 
 impl<'a> LastRow<'a> {
-    /// The row at an id, for this line.
-    fn of(graph: &'a Graph, id: VertexId, place: usize) -> LastRow<'a>
+    /// The row at an id.
+    fn of(graph: &'a Graph, id: VertexId) -> LastRow<'a>
         ensures { result ≡ graph.now }
     {
         let mut finder = graph.finder();
         let row = finder.get(id);
-        LastRow {
-            finder,
-            id,
-            row,
-            place,
-        }
+        LastRow { finder, id, row }
     }
 
-    /// The row at an id, for this line. It is looked up where the last one was at another id.
-    fn row_at(&mut self, id: VertexId, place: usize) -> Option<&'a Row>
+    /// The row at an id. It is looked up where the last one was at another id.
+    fn row_at(&mut self, id: VertexId) -> Option<&'a Row>
         ensures row { option_copied result ≡ row_at id self.old }
         ensures same { self.new ≡ self.old }
     {
         if self.id != id {
             self.id = id;
             self.row = self.finder.get(id);
-            self.place = place;
         }
-        self.place = self.place.min(place);
         self.row
     }
 }
 
-/// The last edge on a walk by rising source and target, and how many others came before it.
+/// The last edge on a walk by rising source and target, if there was one, and how many others came
+/// before it.
 #[derive(Drop)]
 struct LastEdge {
-    source: VertexId,
-    target: VertexId,
+    ends: Option<(VertexId, VertexId)>,
     rank: usize,
 }
 
 impl LastEdge {
-    /// The first edge.
-    fn of(source: VertexId, target: VertexId) -> LastEdge {
+    /// No edge yet.
+    fn new() -> LastEdge {
         LastEdge {
-            source,
-            target,
+            ends: None,
             rank: 0,
         }
     }
 
-    /// How many others come before an edge, which is the last one or comes after it.
-    fn rank_of(&mut self, source: VertexId, target: VertexId) -> usize {
-        if self.source != source || self.target != target {
-            self.source = source;
-            self.target = target;
-            self.rank = self.rank.saturating_add(1);
+    /// How many others come before the edge of a line, which is the last one or comes after it.
+    fn rank_of(&mut self, line: &Line) -> usize {
+        let ends = Some((line.source, line.target));
+        if self.ends != ends {
+            self.rank = self.rank.saturating_add(usize::from(self.ends.is_some()));
+            self.ends = ends;
         }
         self.rank
     }
@@ -214,49 +207,24 @@ fn none_of<T: Drop>(alloc: Global, lines: &[Line]) -> Result<Vec<Option<T>>, Mem
     Ok(seen)
 }
 
-/// The edges of lines by rising source and target, each with the place of its line.
-pub(crate) fn by_edge(
-    alloc: Global,
-    lines: &[Line],
-) -> Result<Vec<(VertexId, VertexId, usize)>, Memory> {
-    let mut edges = Vec::with_capacity(alloc, lines.len())?;
-    for (place, line) in lines.iter().enumerate() {
-        edges.push((line.source, line.target, place))?;
-    }
-    edges.sort_unstable();
-    Ok(edges)
-}
-
-/// The targets of lines by rising id, each with the place of its line.
-fn by_target(alloc: Global, lines: &[Line]) -> Result<Vec<(VertexId, usize)>, Memory> {
-    let mut places = Vec::with_capacity(alloc, lines.len())?;
-    for (place, line) in lines.iter().enumerate() {
-        places.push((line.target, place))?;
-    }
-    places.sort_unstable_by_key(|at| at.0);
-    Ok(places)
-}
-
 /// What the row of a line's source says, if the graph has one.
-fn source_of(line: &Line, row: Option<&Row>, first: usize, rank: usize) -> Source
+fn source_of(line: &Line, row: Option<&Row>, rank: usize) -> Source
     ensures { (graph : Rows) → option_copied row.entry ≡ row_at line.now.source graph
         → IsSource graph line.now result }
 {
     Source {
         vertex: row.is_some(),
         edge: has_edge_to(row, line.target),
-        first,
         rank,
     }
 }
 
 /// What the row of a line's target says, if the graph has one.
-fn target_of(row: Option<&Row>, first: usize) -> Target
+fn target_of(row: Option<&Row>) -> Target
     ensures { result.vertex ≡ is_some (option_copied row.entry) }
 {
     Target {
         vertex: row.is_some(),
-        first,
     }
 }
 

@@ -1,7 +1,7 @@
 //! Lines and words of a text.
-ghost use Rattle.std.specs.Prelude.{◌≡◌, ◌≤◌, length};
+ghost use Rattle.std.specs.Prelude.{◌≡◌, ◌≤◌, length, IfSome};
 ghost use Rattle.std.specs.List.{position_or_len};
-ghost use Rattle.pg_import.specs.Text.{is_blank, line_of, skip_blanks};
+ghost use Rattle.pg_import.specs.Text.{IsAfterBlank, is_blank, line_of, skip_blanks};
 
 use std::marker::Model;
 
@@ -71,6 +71,16 @@ pub(crate) fn after_blanks(text: &[u8]) -> &[u8]
         rest = after;
     }
     rest
+}
+
+/// What comes after the blank or the tab that a text begins with, if it does.
+pub(crate) fn after_blank(text: &[u8]) -> Option<&[u8]>
+    ensures { IfSome result (λ rest. IsAfterBlank text.now rest.now) }
+{
+    match text {
+        [b' ' | b'\t', after @ ..] => Some(after),
+        _ => None,
+    }
 }
 
 // How many bytes come before the first blank or tab.

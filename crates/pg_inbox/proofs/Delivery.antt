@@ -1,7 +1,6 @@
 -- The bundles of lists of sends come to what the superstep delivers of all of them.
 use Rattle.std.proofs.Common.{◌≡◌, ℕ, ◌==◌, ◌≤◌, Bool, true, false, cond, List, [], ◌∷◌, ◌++◌, map, Option, None, Some, refl, sym, ap, ap₂, ◌∙◌, subst, ◌||◌, All, IsPermutation, filter, flat_map, fold, is_some, append_assoc, length, arith}
 use Rattle.std.specs.List.{AllByRecursion, list_any}
-use Rattle.std.specs.List.Sorted.{IsNonDecreasingBy}
 use Rattle.std.specs.Option.{option_to_list, option_map}
 use Rattle.std.proofs.lemmas.List.{append-nil, map-append}
 use Rattle.std.proofs.lemmas.List.Elements.{All-from_recursion, filter-append}
@@ -22,7 +21,7 @@ use Rattle.pg_inbox.specs.Bundles.{Parcels, bundle_of, contents_of, messages}
 use Rattle.pg_inbox.specs.Grouping.{AreGroups, any_of, items_to}
 use Rattle.pg_inbox.specs.Holding.{Holds, HoldsAt}
 use Rattle.pg_inbox.specs.Ordered.{in_order}
-use Rattle.pg_inbox.specs.Inboxes.{AreInboxes, Delivers, contents_to, inbox_at, letters_at, received_of}
+use Rattle.pg_inbox.specs.Inboxes.{AreInboxes, Delivers, contents_to, letters_at, received_of}
 use Rattle.pg_inbox.specs.Sends.{AreAllOf, RiseBySender, Sends, letters_to, sent_by, without_senders}
 use Rattle.pg_inbox.specs.declared.parcel.Contents.{Contents}
 use Rattle.pg_inbox.proofs.Bundling.{at_id, rises-values, value_at-bundle_of, value_at-values}

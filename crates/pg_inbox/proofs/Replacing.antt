@@ -1,5 +1,5 @@
 -- What a bundle becomes where messages are withdrawn and others are added, target by target.
-use Rattle.std.proofs.Common.{◌≡◌, ℕ, ◌==◌, ◌||◌, ◌&&◌, not, Bool, true, false, cond, List, [], ◌∷◌, ◌++◌, map, Option, None, Some, refl, sym, ap, ap₂, ◌∙◌, subst, filter, flat_map, true≢false}
+use Rattle.std.proofs.Common.{◌≡◌, ℕ, ◌==◌, ◌||◌, ◌&&◌, not, Bool, true, false, cond, List, [], ◌∷◌, ◌++◌, map, Option, Some, refl, sym, ap, ap₂, ◌∙◌, subst, filter, flat_map, true≢false}
 use Rattle.std.specs.List.{AllByRecursion}
 use Rattle.std.proofs.lemmas.List.Elements.{All-from_recursion, recursion_from_All}
 use Rattle.std.proofs.lemmas.List.Sorted.{All-permutation}
@@ -20,7 +20,7 @@ use Rattle.pg_inbox.specs.Inboxes.{letters_at}
 use Rattle.pg_inbox.specs.Mending.{additions, as_addition, as_withdrawal, changes_of, mended, mended_at, mends_of, senders_of}
 use Rattle.pg_inbox.specs.Ordered.{in_order}
 use Rattle.pg_inbox.specs.Patched.{AreReplaced, IsPatched, is_withdrawn, staying}
-use Rattle.pg_inbox.specs.Sends.{RiseBySender, Sends, letters_to}
+use Rattle.pg_inbox.specs.Sends.{Sends, letters_to}
 use Rattle.pg_inbox.specs.declared.parcel.Contents.{Contents}
 use Rattle.pg_inbox.specs.declared.patching.Mend.{Mend}
 use Rattle.pg_inbox.proofs.Bundling.{at_id, is_bundle_of, rises-bundle_of, value_at-bundle_of}

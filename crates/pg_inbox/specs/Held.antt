@@ -1,5 +1,5 @@
 -- What a parcel holds, as it lies in memory.
-use Rattle.std.specs.Prelude.{List, [], ◌∷◌, None, Some}
+use Rattle.std.specs.Prelude.{[], ◌∷◌, None, Some}
 use Rattle.std.specs.Arc.{arc_value}
 use Rattle.pg_inbox.specs.declared.parcel.Contents.{Contents}
 use Rattle.pg_inbox.specs.declared.parcel.Held.{Held}

@@ -1,6 +1,7 @@
 pub mod Alike
 pub mod Bundles
 pub mod Changed
+pub mod Counting
 pub mod Grouping
 pub mod Held
 pub mod Holding

@@ -4,6 +4,7 @@
 mod alike;
 mod bundles;
 mod changing;
+mod counting;
 mod grouped;
 mod logs;
 mod making;
@@ -22,6 +23,3 @@ pub use parcel::Contents;
 pub use patching::patch;
 pub use receivers::inboxes;
 pub use receiving::inbox;
-
-#[cfg(test)]
-mod tests;

@@ -58,6 +58,24 @@ impl<V: Share> Gathering<V> {
         Ok(())
     }
 
+    /// Makes room for so many entries more.
+    pub(crate) fn make_room(&mut self, entries: usize) -> Result<(), Memory>
+        ensures { OnOk result (self.new ≡ self.old) }
+    {
+        self.piece.reserve(entries)?;
+        Ok(())
+    }
+
+    /// Makes a chunk of the piece where it is large enough for one.
+    pub(crate) fn end_chunk(&mut self, alloc: Global) -> Result<(), Memory>
+        ensures { OnOk result (self.new ≡ self.old) }
+    {
+        if self.piece.len() < CHUNK {
+            return Ok(());
+        }
+        close(alloc, &mut self.made, &mut self.piece)
+    }
+
     /// Adds copies of these entries.
     pub(crate) fn extend(&mut self, alloc: Global, entries: &[(VertexId, V)]) -> Result<(), Memory>
         ensures { OnOk result (self.new ≡ self.old ++ entries.now) }

@@ -16,6 +16,3 @@ pub use pack::Pack;
 pub use shared::{Map, Share};
 pub use std::alloc::AllocError as Memory;
 pub use walk::{Ids, Iter};
-
-#[cfg(test)]
-mod tests;

@@ -39,7 +39,8 @@ impl<V: Share> Gathering<V> {
         self.extend(alloc, left)
     }
 
-    /// Adds a chunk with changes of it. One with none stays in its own memory.
+    /// Adds a chunk with changes of it, as a chunk where that is large enough. One with none stays in its
+    /// own memory.
     fn merge_chunk(
         &mut self,
         alloc: Global,
@@ -54,7 +55,10 @@ impl<V: Share> Gathering<V> {
         if changes.is_empty() {
             return self.add(alloc, chunk);
         }
-        self.merge(alloc, changes, chunk.entries.as_slice())
+        let entries = chunk.entries.as_slice();
+        self.make_room(entries.len().saturating_add(changes.len()))?;
+        self.merge(alloc, changes, entries)?;
+        self.end_chunk(alloc)
     }
 }
 

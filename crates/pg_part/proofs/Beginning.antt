@@ -1,260 +1,66 @@
--- A partition begins with its share of the states with which the run begins.
-use Rattle.std.proofs.Common.{◌≡◌, ℕ, ◌==◌, ◌&&◌, ◌||◌, Bool, true, false, cond, List, [], ◌∷◌, ◌++◌, map, length, Option, None, Some, option_map, refl, sym, ap, ap₂, ◌∙◌, arith, subst, filter}
-use Rattle.std.specs.BTreeMap.{is_at}
+-- The stats as a run begins.
+use Rattle.std.proofs.Common.{◌≡◌, ℕ, zero, suc, ◌+◌, ◌<◌, false, List, [], ◌∷◌, map, Some, option_map, refl, ap, ap₂, sym, ◌∙◌, arith, add-one}
+use Rattle.std.specs.List.{fold, range_with_len, slice_get}
 use Rattle.std.specs.List.Sorted.{IsStrictlySortedBy}
-use Rattle.std.specs.List.{AllByRecursion}
-use Rattle.std.specs.Map.{keys_of, values_of}
-use Rattle.std.specs.Option.{unwrap_or}
 use Rattle.std.specs.Ordering.{nat_cmp}
-use Rattle.std.specs.declared.cmp.Ordering.TheVariants.{Less}
-use Rattle.std.proofs.lemmas.Bool.{eqb-true}
+use Rattle.pg_course.specs.Course.{AreTouched, IsWhole}
+use Rattle.pg_course.specs.Starting.{first_states}
+use Rattle.pg_course.proofs.Beginning.{begun_holds}
+use Rattle.pg_global.specs.Registry.{Registered}
 use Rattle.pg_graph.specs.Rows.{HasRisingIds, Rows, row_at}
-use Rattle.pg_graph.specs.declared.graph.Row.{Row}
-use Rattle.pg_map.specs.Entries.{ChangesRise, value_at, with_changes}
-use Rattle.pg_map.proofs.Changing.{rises-changes, value_at-with_changes}
-use Rattle.pg_map.proofs.Rising.{same_entries}
-use Rattle.pg_graph.specs.declared.missing.Missing.{Missing}
-use Rattle.pg_model.specs.ByIds.{state_first}
-use Rattle.pg_model.specs.Job.{Job, Program}
-use Rattle.pg_model.specs.Run.{beginning, configuration, first, run_length}
-use Rattle.pg_model.specs.Share.{belongs, records_below, share}
-use Rattle.pg_model.specs.Superstep.{has_id}
-use Rattle.pg_model.proofs.LawsAffected.{StandsAlike-first}
-use Rattle.pg_model.proofs.LawsPresent.{at_key}
-use Rattle.pg_model.specs.declared.configuration.Standing.{Standing}
+use Rattle.pg_model.specs.ByIds.{state_at, state_first}
+use Rattle.pg_model.specs.Job.{Aggregating, Job}
+use Rattle.pg_model.specs.Run.{run_length}
+use Rattle.pg_model.specs.Share.{belongs, share}
+use Rattle.pg_model.specs.Superstep.{at_place, has_id}
 use Rattle.pg_model.specs.declared.configuration.VertexState.{VertexState}
-use Rattle.pg_part.specs.Candidates.{own}
-use Rattle.pg_part.specs.Part.{AreTouched, Holding, Holds, IsWhole}
-use Rattle.pg_part.specs.Starting.{first_change, first_changes}
-use Rattle.pg_part.proofs.Coverage.{records_held}
-use Rattle.pg_part.proofs.Stepping.{own_rise}
-use Rattle.pg_trace.specs.Beginning.{ChangesById, IsById, by_id, with_first}
+use Rattle.pg_model.proofs.LawsPresent.{state_at-first}
+use Rattle.pg_part.specs.Part.{stats_to}
+use Rattle.pg_part.specs.Reckoned.{IsRecensus, begun_with}
+use Rattle.pg_part.proofs.Shares.{census_is, found_first, states_in}
+use Rattle.pg_stats.specs.GlobalStats.{aggregators_of}
+use Rattle.pg_stats.specs.Stats.{census_of, gathered_afresh, stats_at}
+use Rattle.pg_stats.specs.declared.stats.Census.{Census}
+use Rattle.pg_stats.specs.declared.stats.PartitionStats.{PartitionStats}
 use Rattle.pg_trace.specs.OfRun.{HoldsRun}
-use Rattle.pg_trace.proofs.Beginning.{rise-by_id, values-by_id}
-use Rattle.pg_trace.specs.Trace.{StatesRise, Trace, begun, records_of}
+use Rattle.pg_trace.specs.Trace.{Trace}
 
-module _ {V M : Type 0} (program : Program V M) (n p : ℕ) where
-  states : Rows → List (VertexState V)
-  states rows = map (λ r. state_first program r.0 r.1) (own n p rows)
+-- nothing contributed comes to the initial values
+afresh_none : (place : ℕ) (aggregators : List Aggregating) → gathered_afresh place aggregators [] ≡ map (λ a. a.initial) aggregators
+afresh_none place [] = refl
+afresh_none place (a ∷ rest) = ap (λ l. a.initial ∷ l) (afresh_none (place + 1) rest)
 
-  states_in_share : (rows : Rows) → states rows ≡ map (λ x. x.state) (filter (λ x. belongs n p x.state.id) (map (beginning program) rows))
-  unfolding states
-  states_in_share [] = refl
-  states_in_share (r ∷ rows) = by (belongs n p r.0) (states_in_share rows)
-    where
-      rest : List (Standing V M)
-      rest = filter (λ x. belongs n p x.state.id) (map (beginning program) rows)
+module _ {V M : Type 0} (job : Job V M) (n p : ℕ) (registry : Registered) (same : job.aggregators ≡ aggregators_of registry) where
+  -- are those of the run
+  pub begun_stats : (rows : Rows) (census : Census) → census ≡ census_of (states_in job n p rows 0) → begun_with registry census ∷ [] ≡ stats_to job rows n p 0
+  unfolding stats_at
+  begun_stats rows census c =
+      let gathered : gathered_afresh 0 (aggregators_of registry) [] ≡ map (λ (a : Aggregating). a.initial) job.aggregators =
+      afresh_none 0 (aggregators_of registry) ∙ ap (map (λ (a : Aggregating). a.initial)) (sym same) in
+      λ i. record { census = c i; traffic = record { sent = 0; dropped = 0 }; gathered = gathered i } ∷ []
 
-      by : (b : Bool) → states rows ≡ map (λ x. x.state) rest
-          → map (λ r. state_first program r.0 r.1) (cond b (r ∷ own n p rows) (own n p rows)) ≡ map (λ x. x.state) (cond b (beginning program r ∷ rest) rest)
-      by true h = ap (λ l. state_first program r.0 r.1 ∷ l) h
-      by false h = h
+-- the states with which the rows begin are those of the run
+pub first_are : {V M : Type 0} (job : Job V M) (rows : Rows) (n p : ℕ) → HasRisingIds rows → first_states job.program rows n p ≡ states_in job n p rows 0
+unfolding share
+first_are job rows n p rise = (begun_holds job rows n p rise job.program refl).initial
 
-  ids_of_states : (rows : Rows) → map (λ x. x.id) (map (λ r. state_first program r.0 r.1) rows) ≡ keys_of rows
-  ids_of_states [] = refl
-  ids_of_states (r ∷ rows) = ap (λ l. r.0 ∷ l) (ids_of_states rows)
+module _ {V M : Type 0} (job : Job V M) (old rows : Rows) (n p : ℕ) (trace new_trace : Trace V M) (whole : HoldsRun job old n p (run_length job old) trace)
+    (holds : HoldsRun job rows n p 0 new_trace) (touched differing : List ℕ) (rise : IsStrictlySortedBy nat_cmp differing)
+    (are : (id : ℕ) → has_id differing id ≡ has_id touched id) (untouched : AreTouched touched old rows) where
+  -- the first stats of the old run
+  old_first : (stats : List PartitionStats) → stats ≡ stats_to job old n p (run_length job old) → slice_get stats 0 ≡ Some (stats_at job old n p 0)
+  old_first stats are = ap (λ (l : List PartitionStats). slice_get l 0) (are ∙ ap (λ (k : ℕ). map (stats_at job old n p) (range_with_len 0 k)) (add-one (run_length job old)))
 
-  pub states_rise : (rows : Rows) → HasRisingIds rows → StatesRise (map (λ r. state_first program r.0 r.1) (own n p rows))
-  states_rise rows rise = subst (IsStrictlySortedBy nat_cmp) (sym (ids_of_states (own n p rows))) (own_rise n p rows rise)
+  counted : (first : PartitionStats) → Some first ≡ Some (stats_at job old n p 0) → first.census ≡ census_of (states_in job n p old 0)
+  unfolding stats_at
+  counted first e = let same : first ≡ stats_at job old n p 0 = cc in ap (λ (x : PartitionStats). x.census) same
 
--- one row more
-pub own_more : {X Y : Type 0} (n p : ℕ) (f : ℕ × X → Y) (x : ℕ × X) (rest : List (ℕ × X)) → map f (own n p (x ∷ [])) ++ map f (own n p rest) ≡ map f (own n p (x ∷ rest))
-own_more n p f x rest = by (belongs n p x.0)
-  where
-    by : (b : Bool) → map f (cond b (x ∷ []) []) ++ map f (own n p rest) ≡ map f (cond b (x ∷ own n p rest) (own n p rest))
-    by true = refl
-    by false = refl
-
--- a trace that has begun with them holds the run so far
-pub begun_holds : {V M : Type 0} (job : Job V M) (rows : Rows) (n p : ℕ) → HasRisingIds rows → (program : Program V M) → job.program ≡ program
-    → HoldsRun job rows n p 0 (begun (map (λ r. state_first program r.0 r.1) (own n p rows)))
-unfolding states share records_below configuration first
-begun_holds job rows n p rise program is = record {
-  rise = rise;
-  initial = ap (λ q. map (λ r. state_first q r.0 r.1) (own n p rows)) (sym is) ∙ states_in_share job.program n p rows;
-  records = refl;
-}
-
--- ---- beside an old run
-
--- those that a test picks rise as they did
-picked_rise : (picks : ℕ → Bool) (ids : List ℕ) → IsStrictlySortedBy nat_cmp ids → IsStrictlySortedBy nat_cmp (filter picks ids)
-unfolding IsStrictlySortedBy
-picked_rise picks [] h = tt
-picked_rise picks (k ∷ ids) h = by (picks k) (picked_rise picks ids h.1) (above ids h.0)
-  where
-    above : (ids : List ℕ) → AllByRecursion (λ i. nat_cmp k i ≡ Less) ids → AllByRecursion (λ i. nat_cmp k i ≡ Less) (filter picks ids)
-    above [] a = tt
-    above (i ∷ ids) a = one (picks i) (above ids a.1)
-      where
-        one : (b : Bool) → AllByRecursion (λ i. nat_cmp k i ≡ Less) (filter picks ids) → AllByRecursion (λ i. nat_cmp k i ≡ Less) (cond b (i ∷ filter picks ids) (filter picks ids))
-        one true later = (a.0, later)
-        one false later = later
-
-    by : (b : Bool) → IsStrictlySortedBy nat_cmp (filter picks ids) → AllByRecursion (λ i. nat_cmp k i ≡ Less) (filter picks ids)
-        → IsStrictlySortedBy nat_cmp (cond b (k ∷ filter picks ids) (filter picks ids))
-    by true later up = (up, later)
-    by false later up = later
-
-module _ {V M : Type 0} (program : Program V M) (n p : ℕ) where
-  states_at : Rows → List (ℕ × VertexState V)
-  states_at rows = by_id (map (λ r. state_first program r.0 r.1) (own n p rows))
-
-  -- the state with which an id begins
-  begins : Rows → ℕ → Option (VertexState V)
-  begins rows id = cond (belongs n p id) (option_map (state_first program id) (row_at id rows)) None
-
-  state_at_first : (rows : Rows) (id : ℕ) → value_at id (states_at rows) ≡ begins rows id
-  unfolding states_at begins
-  state_at_first [] id = by (belongs n p id)
-    where
-      none : Option (VertexState V)
-      none = None
-
-      by : (b : Bool) → none ≡ cond b none none
-      by true = refl
-      by false = refl
-  state_at_first (r ∷ rows) id = by (belongs n p r.0) refl (r.0 == id) refl (state_at_first rows id)
-    where
-      found : is_at (nat_cmp id) r.0 ≡ (r.0 == id)
-      found = at_key id r.0
-
-      rest : List (ℕ × VertexState V)
-      rest = by_id (map (λ r. state_first program r.0 r.1) (own n p rows))
-
-      first : VertexState V
-      first = state_first program r.0 r.1
-
-      by : (b : Bool) → belongs n p r.0 ≡ b → (e : Bool) → (r.0 == id) ≡ e
-          → value_at id rest ≡ cond (belongs n p id) (option_map (state_first program id) (row_at id rows)) None
-          → value_at id (by_id (map (λ r. state_first program r.0 r.1) (cond b (r ∷ own n p rows) (own n p rows))))
-          ≡ cond (belongs n p id) (option_map (state_first program id) (cond (is_at (nat_cmp id) r.0) (Some r.1) (row_at id rows))) None
-      by true mine true e h =
-          let same = eqb-true r.0 id e in
-          ap (λ (t : Bool). cond t (Some first) (value_at id rest)) (found ∙ e)
-          ∙ (ap (λ k. Some (state_first program k r.1)) same
-          ∙ sym (ap₂ (λ (b t : Bool). cond b (option_map (state_first program id) (cond t (Some r.1) (row_at id rows))) None)
-          (ap (belongs n p) (sym same) ∙ mine) (found ∙ e)))
-      by true mine false e h =
-          ap (λ (t : Bool). cond t (Some first) (value_at id rest)) (found ∙ e)
-          ∙ (h ∙ sym (ap (λ (t : Bool). cond (belongs n p id) (option_map (state_first program id) (cond t (Some r.1) (row_at id rows))) None) (found ∙ e)))
-      by false mine true e h =
-          let apart : belongs n p id ≡ false = ap (belongs n p) (sym (eqb-true r.0 id e)) ∙ mine in
-          h ∙ (ap (λ (b : Bool). cond b (option_map (state_first program id) (row_at id rows)) None) apart
-          ∙ sym (ap (λ (b : Bool). cond b (option_map (state_first program id) (cond (is_at (nat_cmp id) r.0) (Some r.1) (row_at id rows))) None) apart))
-      by false mine false e h =
-          h ∙ sym (ap (λ (t : Bool). cond (belongs n p id) (option_map (state_first program id) (cond t (Some r.1) (row_at id rows))) None) (found ∙ e))
-
-  change_at : (rows : Rows) (ids : List ℕ) (id : ℕ)
-      → value_at id (first_changes program rows n p ids) ≡ cond (has_id ids id && belongs n p id) (Some (option_map (state_first program id) (row_at id rows))) None
-  change_at rows [] id = refl
-  change_at rows (k ∷ ids) id = by (belongs n p k) refl (k == id) refl (change_at rows ids id)
-    where
-      rest : List (ℕ × Option (VertexState V))
-      rest = first_changes program rows n p ids
-
-      found : is_at (nat_cmp id) k ≡ (k == id)
-      found = at_key id k
-
-      now : ℕ → Option (Option (VertexState V))
-      now k = Some (option_map (state_first program k) (row_at k rows))
-
-      by : (b : Bool) → belongs n p k ≡ b → (e : Bool) → (k == id) ≡ e → value_at id rest ≡ cond (has_id ids id && belongs n p id) (now id) None
-          → value_at id (map (first_change program rows) (cond b (k ∷ filter (belongs n p) ids) (filter (belongs n p) ids)))
-          ≡ cond ((e || has_id ids id) && belongs n p id) (now id) None
-      by true mine true e h =
-          let same = eqb-true k id e in
-          ap (λ (t : Bool). cond t (now k) (value_at id rest)) (found ∙ e)
-          ∙ (ap now same ∙ sym (ap (λ (b : Bool). cond b (now id) None) (ap (belongs n p) (sym same) ∙ mine)))
-      by true mine false e h = ap (λ (t : Bool). cond t (now k) (value_at id rest)) (found ∙ e) ∙ h
-      by false mine true e h =
-          let apart : belongs n p id ≡ false = ap (belongs n p) (sym (eqb-true k id e)) ∙ mine in
-          h ∙ (ap (λ (b : Bool). cond (has_id ids id && b) (now id) None) apart ∙ (none (has_id ids id) ∙ sym (ap (λ (b : Bool). cond b (now id) None) apart)))
-        where
-          none : (b : Bool) → cond (b && false) (now id) None ≡ None
-          none true = refl
-          none false = refl
-      by false mine false e h = h
-
-  change_keys : (rows : Rows) (ids : List ℕ) → keys_of (first_changes program rows n p ids) ≡ filter (belongs n p) ids
-  change_keys rows ids = each (filter (belongs n p) ids)
-    where
-      each : (ids : List ℕ) → keys_of (map (first_change program rows) ids) ≡ ids
-      each [] = refl
-      each (k ∷ ids) = ap (λ l. k ∷ l) (each ids)
-
-  pub changes_rise : (rows : Rows) (ids : List ℕ) → IsStrictlySortedBy nat_cmp ids → ChangesRise (first_changes program rows n p ids)
-  changes_rise rows ids rise = subst (IsStrictlySortedBy nat_cmp) (sym (change_keys rows ids)) (picked_rise (belongs n p) ids rise)
-
-  pub changes_by_id : (rows : Rows) (ids : List ℕ) → ChangesById (first_changes program rows n p ids)
-  changes_by_id rows ids = each (filter (belongs n p) ids)
-    where
-      one : (k : ℕ) (o : Option Row) → IsById k (option_map (state_first program k) o)
-      one k None = tt
-      one k (Some r) = refl
-
-      each : (ids : List ℕ) → ChangesById (map (first_change program rows) ids)
-      each [] = tt
-      each (k ∷ ids) = (one k (row_at k rows), each ids)
-
-  -- what the old run began with, changed at the touched ids, is what the new one begins with
-  first_again : (kept rows : Rows) → HasRisingIds kept → HasRisingIds rows → (ids : List ℕ) → IsStrictlySortedBy nat_cmp ids → AreTouched ids kept rows
-      → with_first (first_changes program rows n p ids) (map (λ r. state_first program r.0 r.1) (own n p kept)) ≡ map (λ r. state_first program r.0 r.1) (own n p rows)
-  unfolding states_at begins
-  first_again kept rows rise rise' ids ordered same =
-      ap values_of (same_entries (with_changes changes (states_at kept)) (states_at rows) (rises-changes changes (states_at kept) (rise-by_id _ (states_rise program n p kept rise)))
-      (rise-by_id _ (states_rise program n p rows rise')) at)
-      ∙ values-by_id (map (λ r. state_first program r.0 r.1) (own n p rows))
-    where
-      changes : List (ℕ × Option (VertexState V))
-      changes = first_changes program rows n p ids
-
-      at : (q : ℕ) → value_at q (with_changes changes (states_at kept)) ≡ value_at q (states_at rows)
-      at q =
-          value_at-with_changes changes (states_at kept) q (changes_rise rows ids ordered) (rise-by_id _ (states_rise program n p kept rise))
-          ∙ (ap₂ unwrap_or (change_at rows ids q) (state_at_first kept q)
-          ∙ (by (has_id ids q) refl (belongs n p q) ∙ sym (state_at_first rows q)))
-        where
-          now : Option (VertexState V)
-          now = option_map (state_first program q) (row_at q rows)
-
-          by : (b : Bool) → has_id ids q ≡ b → (t : Bool)
-              → unwrap_or (cond (b && t) (Some now) None) (cond t (option_map (state_first program q) (row_at q kept)) None) ≡ cond t now None
-          by true e true = refl
-          by true e false = refl
-          by false e true = ap (option_map (state_first program q)) (same q e)
-          by false e false = refl
-
--- one with the trace of an old run as well holds it beside that, where the graphs have the same rows at all ids but these
-pub holds_beside : {V M : Type 0} (job : Job V M) (kept rows : Rows) (n p : ℕ) → HasRisingIds rows → (program : Program V M) → job.program ≡ program
-    → (missing : Missing) → missing ≡ job.missing → (old : Trace V M) → IsWhole job kept n p old → (touched : List ℕ) → IsStrictlySortedBy nat_cmp touched
-    → AreTouched touched kept rows → (part : Holding V M)
-    → part.partition ≡ p → part.partitions ≡ n → part.missing ≡ missing → part.place ≡ 0
-    → part.trace ≡ record old { initial = with_first (first_changes program rows n p touched) old.initial } → part.kept ≡ Some old → part.differing ≡ touched
-    → Holds job (Some kept) rows n p 0 part
-holds_beside job kept rows n p rise program is missing missing_is old whole touched ordered same part at_partition of_all at_missing here trace_is is_kept touched_are = record {
-  partition_is = at_partition;
-  partitions_are = of_all;
-  missing_is = at_missing ∙ missing_is;
-  place_is = here;
-  run = subst (HoldsRun job rows n p 0) (sym trace_is) (record { rise = rise; initial = begun_as ∙ fresh.initial; records = fresh.records });
-  supersteps = let long = ap (λ t. length t.records) trace_is in let all = whole.supersteps in omega (arith, long, all);
-  beside = record {
-    trace = old;
-    is = is_kept;
-    whole = whole.run;
-    later = λ s low high. ap (records_of s) trace_is ∙ records_held job kept n p old s (run_length job kept) whole.run high;
-    others = λ id mine other high. (StandsAlike-first job kept rows id (same id (sym (ap (λ l. has_id l id) touched_are) ∙ other))).state;
-  };
-}
-  where
-    fresh : HoldsRun job rows n p 0 (begun (map (λ r. state_first program r.0 r.1) (own n p rows)))
-    fresh = begun_holds job rows n p rise program is
-
-    before : HoldsRun job kept n p 0 (begun (map (λ r. state_first program r.0 r.1) (own n p kept)))
-    before = begun_holds job kept n p whole.run.rise program is
-
-    begun_as : with_first (first_changes program rows n p touched) old.initial ≡ map (λ r. state_first program r.0 r.1) (own n p rows)
-    begun_as =
-        ap (with_first (first_changes program rows n p touched)) (whole.run.initial ∙ sym before.initial)
-        ∙ first_again program n p kept rows whole.run.rise rise touched ordered same
+  -- a census that was recounted is that of the run
+  pub recensus_is : (stats : List PartitionStats) → stats ≡ stats_to job old n p (run_length job old) → (first : PartitionStats) → slice_get stats 0 ≡ Some first
+      → (census : Census) → IsRecensus trace 0 new_trace 0 differing first.census census → census ≡ census_of (states_in job n p rows 0)
+  recensus_is stats are_old first at census h =
+      census_is job n p old rows whole.rise holds.rise trace new_trace 0 0 differing rise
+      (found_first job n p old (run_length job old) trace whole differing) (found_first job n p rows 0 new_trace holds differing)
+      (λ id belongs other. state_at-first job old id
+      ∙ (ap (option_map (state_first job.program id)) (untouched id (sym (are id) ∙ other)) ∙ sym (state_at-first job rows id)))
+      first.census census (counted first (sym at ∙ old_first stats are_old)) h

@@ -1,113 +1,124 @@
--- A trace that holds a run up to a superstep holds it one further with that superstep's records.
-use Rattle.std.proofs.Common.{◌≡◌, ℕ, ◌+◌, ◌<◌, ◌≤◌, ◌==◌, Bool, true, false, cond, List, [], ◌∷◌, ◌++◌, length, slice_set, Option, option_map, refl, sym, ap, ap₂, ◌∙◌, arith, le_refl, subst, suc}
-use Rattle.std.specs.List.{AllByRecursion}
-use Rattle.std.specs.List.Sorted.{IsStrictlySortedBy}
-use Rattle.std.specs.Map.{keys_of}
-use Rattle.std.specs.Ordering.{nat_cmp}
-use Rattle.std.specs.declared.cmp.Ordering.TheVariants.{Less}
-use Rattle.std.proofs.lemmas.Bool.{eq-eqb}
-use Rattle.std.proofs.lemmas.List.{get_or-set_same, get_or_push, length-append, length-set, take-append-le, take-set-le, take_more}
+-- What a partition has come to after a step.
+use Rattle.std.proofs.Common.{◌≡◌, ℕ, zero, suc, ◌+◌, ◌<◌, ◌≤◌, Bool, true, false, List, [], ◌∷◌, ◌++◌, map, length, Option, None, Some, Ok, Result, IfOk, refl, ap, ap₂, sym, ◌∙◌, subst, arith}
+use Rattle.std.specs.List.{range_with_len, slice_get}
+use Rattle.std.proofs.lemmas.List.FromFn.{map-range_with_len_more}
+use Rattle.pg_course.specs.Course.{AreAllChanged, AreTheOnlyBeside, Holding, Holds, IsSentTo}
+use Rattle.pg_course.specs.Lent.{IsLentBeside}
+use Rattle.pg_global.specs.Registry.{Registered}
 use Rattle.pg_graph.specs.Rows.{Rows}
-use Rattle.pg_graph.specs.declared.missing.Missing.{Missing}
-use Rattle.pg_inbox.specs.Bundles.{Parcels}
-use Rattle.pg_map.specs.Entries.{ChangesRise, with_changes, HasRisingIds as Rises}
-use Rattle.pg_model.specs.Job.{Combining, Job, Program}
-use Rattle.pg_model.specs.Share.{belongs, records_below, records_in}
-use Rattle.pg_model.specs.declared.record.Record.{Record}
-use Rattle.pg_model.specs.declared.view.View.{View}
-use Rattle.pg_part.specs.Candidates.{IsPlayed, own}
-use Rattle.pg_part.specs.Found.{is_taken_over, reads}
-use Rattle.pg_part.specs.Lists.{reaching}
-use Rattle.pg_part.specs.declared.execution.Played.{Played}
-use Rattle.pg_part.proofs.Changing.{entries-rise}
-use Rattle.pg_trace.specs.OfRun.{HoldsRun}
-use Rattle.pg_trace.specs.Trace.{Trace, records_of, with_replaced, with_superstep}
+use Rattle.pg_inbox.specs.Logged.{Slots}
+use Rattle.pg_inbox.specs.declared.logs.Logged.{Logged}
+use Rattle.pg_model.specs.Job.{Job}
+use Rattle.pg_model.specs.Run.{run_length}
+use Rattle.pg_model.specs.declared.view.Visible.{Visible}
+use Rattle.pg_part.specs.Part.{HasOldStats, HasStats, HoldsShare, PartState, stats_to}
+use Rattle.pg_part.specs.Reckoned.{IsNextStats, IsReckoned, IsReckonedBeside}
+use Rattle.pg_part.proofs.Reckoned.{after_is, beside_is}
+use Rattle.pg_recount.specs.Traffic.{AreMoved}
+use Rattle.pg_stats.specs.GlobalStats.{aggregators_of}
+use Rattle.pg_stats.specs.Stats.{stats_at}
+use Rattle.pg_stats.specs.declared.stats.PartitionStats.{PartitionStats}
+use Rattle.pg_trace.specs.Trace.{Trace}
 
-module _ {V M : Type 0} (s : ℕ) where
-  nothing : List (List (ℕ × Record V M))
-  nothing = [] ∷ []
+-- what holds of a result that is Ok holds of what it has
+pub ok_of : {X E : Type 0} (Q : X → Type 0) (r : Result X E) (x : X) → r ≡ Ok x → IfOk r Q → Q x
+ok_of Q r x e h = subst (λ s. IfOk s Q) e h
 
-  pub length-reaching : (trace : Trace V M) → s ≤ length trace.records → s < length (reaching s trace).records
-  unfolding nothing
-  length-reaching trace within = by (length trace.records == s) refl
-    where
-      by : (b : Bool) → (length trace.records == s) ≡ b → s < length (cond b (with_superstep [] trace) trace).records
-      by true e = let more = length-append trace.records nothing in omega (arith, more, within)
-      by false e =
-          let apart : length trace.records ≡ s → ⊥ = λ same. absurd (true_false (sym (eq-eqb (length trace.records) s same) ∙ e)) in
-          omega (arith, within, apart)
-        where
-          true_false : true ≡ false → ⊥
-          true_false h = cc
+-- a list that a function makes, at one of its places
+slice_get-range : {X : Type 0} (made : ℕ → X) (a n k : ℕ) → k < n → slice_get (map made (range_with_len a n)) k ≡ Some (made (a + k))
+slice_get-range made a zero k within = absurd (omega (arith, within))
+slice_get-range made a (suc n) zero within = ap (λ (i : ℕ). Some (made i)) (let e : a ≡ a + 0 = omega arith in e)
+slice_get-range made a (suc n) (suc k) within =
+    slice_get-range made (a + 1) n k (omega (arith, within)) ∙ ap (λ (i : ℕ). Some (made i)) (let e : a + 1 + k ≡ a + suc k = omega arith in e)
 
-  -- the superstep that comes next has no records yet
-  pub reaching_next : (trace : Trace V M) → length trace.records ≡ s → (records_of s (reaching s trace) ≡ []) × (length (reaching s trace).records ≡ s + 1)
-  unfolding nothing
-  reaching_next trace long = by (length trace.records == s) (eq-eqb (length trace.records) s long)
-    where
-      by : (b : Bool) → b ≡ true → (records_of s (cond b (with_superstep [] trace) trace) ≡ []) × (length (cond b (with_superstep [] trace) trace).records ≡ s + 1)
-      by true e = (get_or_push trace.records [] [] s long, (let more = length-append trace.records nothing in omega (arith, more, long)))
-      by false e = absurd (false_true e)
-        where
-          false_true : false ≡ true → ⊥
-          false_true h = cc
+module _ {V M : Type 0} (job : Job V M) where
+  -- stats up to a superstep have those of each as it begins
+  pub stats_of : (rows : Rows) (n p m s : ℕ) (stats : List PartitionStats) → stats ≡ stats_to job rows n p m → s ≤ m → slice_get stats s ≡ Some (stats_at job rows n p s)
+  stats_of rows n p m s stats are within =
+      ap (λ (l : List PartitionStats). slice_get l s) are
+      ∙ (slice_get-range (stats_at job rows n p) 0 (m + 1) s (omega (arith, within))
+      ∙ ap (λ (k : ℕ). Some (stats_at job rows n p k)) (let e : 0 + s ≡ s = omega arith in e))
 
-module _ {V M : Type 0} (job : Job V M) (rows : Rows) (n p s : ℕ) where
-  -- with one superstep more it still holds the run so far
-  reaching_holds : (trace : Trace V M) → HoldsRun job rows n p s trace → s ≤ length trace.records → HoldsRun job rows n p s (reaching s trace)
-  reaching_holds trace holds within = by (length trace.records == s)
-    where
-      by : (b : Bool) → HoldsRun job rows n p s (cond b (with_superstep [] trace) trace)
-      by true = record { rise = holds.rise; initial = holds.initial; records = take-append-le s trace.records ([] ∷ []) within ∙ holds.records }
-      by false = holds
+  -- with those of one superstep more
+  one_more : (rows : Rows) (n p r : ℕ) (stats : List PartitionStats) (next : PartitionStats) → stats ≡ stats_to job rows n p r → next ≡ stats_at job rows n p (r + 1)
+      → stats ++ next ∷ [] ≡ stats_to job rows n p (r + 1)
+  one_more rows n p r stats next are is =
+      ap₂ (λ (l : List PartitionStats) (x : PartitionStats). l ++ x ∷ []) are is
+      ∙ sym (map-range_with_len_more (stats_at job rows n p) 0 (r + 1) (r + 1) (let e : 0 + (r + 1) ≡ r + 1 = omega arith in e))
 
-  -- and with the records of that superstep it holds the run one further
-  replaced_holds : (trace : Trace V M) (changes : List (ℕ × Option (Record V M))) → HoldsRun job rows n p s trace → s < length trace.records
-      → with_changes changes (records_of s trace) ≡ records_in job rows n p s → HoldsRun job rows n p (s + 1) (with_replaced s changes trace)
-  unfolding records_below
-  replaced_holds trace changes holds within are = record {
-    rise = holds.rise;
-    initial = holds.initial;
-    records =
-        let now = slice_set trace.records s (with_changes changes (records_of s trace)) in
-        take_more now s [] (let long = length-set trace.records s (with_changes changes (records_of s trace)) in omega (arith, within, long))
-        ∙ ap₂ (λ l x. l ++ x ∷ [])
-        (take-set-le s trace.records s (with_changes changes (records_of s trace)) (le_refl s) ∙ holds.records)
-        (get_or-set_same trace.records s (with_changes changes (records_of s trace)) [] within ∙ are)
-        ∙ ap (records_below job rows n p) (let e : suc s ≡ s + 1 = omega arith in e);
+  -- what it has of an old run stays
+  old_stays : (kept : Option Rows) (rows : Rows) (n p : ℕ) (before part : PartState V M) → part.moved ≡ before.moved → part.old_stats ≡ before.old_stats
+      → HasOldStats job kept rows n p before → HasOldStats job kept rows n p part
+  old_stays None rows n p before part moved old h = h
+  old_stays (Some kept) rows n p before part moved old h = (old ∙ h.0, subst (λ ids. AreMoved ids kept rows) (sym moved) h.1)
+
+  module _ (rows : Rows) (n p r : ℕ) (some : 0 < n) (registry : Registered) (same : job.aggregators ≡ aggregators_of registry) (before : PartState V M)
+      (course : Holding V M) (sent : List (Logged M)) (to_each : length sent ≡ n) (logs : Slots M) (next : PartitionStats) where
+    -- a step beside an old run that has the superstep
+    beside : (old : Rows) → HasStats job (Some old) rows n p r before → Holds job (Some old) rows n p (r + 1) course
+        → AreTheOnlyBeside job old rows n p r course.changed → ((q : ℕ) → q < n → IsSentTo job (Some old) rows n p q r (slice_get sent q))
+        → (old_logs : Option (Slots M)) (old_visible : Option Visible) → IsLentBeside job (Some old) n p r logs old_logs old_visible → course.beside_old ≡ true
+        → IsNextStats registry before.graph before.moved before.stats before.old_stats old_logs course r sent next → next ≡ stats_at job rows n p (r + 1)
+    beside old has holds only sends None old_visible lent is_beside is = absurd (omega (arith, lent, only.there))
+    beside old has holds only sends (Some old_logs) None lent is_beside is = absurd (omega (arith, lent, only.there))
+    beside old has holds only sends (Some old_logs) (Some old_visible) lent is_beside is =
+        let earlier : PartitionStats = stats_at job old n p (r + 1) in
+        let at : slice_get before.old_stats (r + 1) ≡ Some earlier =
+        stats_of old n p (run_length job old) (r + 1) before.old_stats has.beside.0 (omega (arith, only.there)) in
+        let reckoned : IsReckonedBeside registry before.graph before.moved holds.beside.trace old_logs course r sent earlier next =
+        is.beside is_beside holds.beside.trace old_logs earlier holds.beside.is refl at in
+        beside_is job rows n p some registry same r course holds.missing_is holds.run (Some old) sent to_each sends
+        old before.moved has.beside.1 refl holds.partition_is holds.beside.trace holds.beside.whole old_logs lent.0.sent
+        only earlier next refl
+        (subst (λ (g : Rows). IsReckonedBeside registry g before.moved holds.beside.trace old_logs course r sent earlier next) has.graph_is reckoned)
+
+    -- any other step
+    alone : (kept : Option Rows) → HasStats job kept rows n p r before → Holds job kept rows n p (r + 1) course
+        → AreAllChanged job kept rows n p r false course.changed → ((q : ℕ) → q < n → IsSentTo job kept rows n p q r (slice_get sent q))
+        → (old_logs : Option (Slots M)) → course.beside_old ≡ false
+        → IsNextStats registry before.graph before.moved before.stats before.old_stats old_logs course r sent next → next ≡ stats_at job rows n p (r + 1)
+    alone kept has holds only sends old_logs is_alone is =
+        let earlier : PartitionStats = stats_at job rows n p r in
+        let reckoned : IsReckoned registry before.graph course r sent earlier next =
+        is.alone is_alone earlier (stats_of rows n p r r before.stats has.stats_are (let e : r ≤ r = omega arith in e)) in
+        after_is job rows n p some registry same r course holds.missing_is holds.run kept sent to_each sends only earlier next refl
+        (subst (λ (g : Rows). IsReckoned registry g course r sent earlier next) has.graph_is reckoned)
+
+    pub next_is : (kept : Option Rows) → HasStats job kept rows n p r before → Holds job kept rows n p (r + 1) course
+        → AreAllChanged job kept rows n p r course.beside_old course.changed → ((q : ℕ) → q < n → IsSentTo job kept rows n p q r (slice_get sent q))
+        → (old_logs : Option (Slots M)) (old_visible : Option Visible) → IsLentBeside job kept n p r logs old_logs old_visible
+        → IsNextStats registry before.graph before.moved before.stats before.old_stats old_logs course r sent next → next ≡ stats_at job rows n p (r + 1)
+    next_is kept has holds changed sends old_logs old_visible lent is = by course.beside_old refl
+      where
+        beside_kept : (kept : Option Rows) → HasStats job kept rows n p r before → Holds job kept rows n p (r + 1) course
+            → AreAllChanged job kept rows n p r true course.changed → ((q : ℕ) → q < n → IsSentTo job kept rows n p q r (slice_get sent q))
+            → IsLentBeside job kept n p r logs old_logs old_visible → course.beside_old ≡ true → next ≡ stats_at job rows n p (r + 1)
+        beside_kept None has holds changed sends lent is_beside = absurd changed
+        beside_kept (Some old) has holds changed sends lent is_beside = beside old has holds changed sends old_logs old_visible lent is_beside is
+
+        by : (t : Bool) → course.beside_old ≡ t → next ≡ stats_at job rows n p (r + 1)
+        by false e = alone kept has holds (subst (λ (b : Bool). AreAllChanged job kept rows n p r b course.changed) e changed) sends old_logs e is
+        by true e = beside_kept kept has holds (subst (λ (b : Bool). AreAllChanged job kept rows n p r b course.changed) e changed) sends lent e
+
+  -- the same by other names of what is looked at
+  pub next_stats_at : (registry : Registered) (graph rows : Rows) (ids moved : List ℕ) (now stats then old_stats : List PartitionStats) (logs : Option (Slots M))
+      (seen course : Holding V M) (k s : ℕ) (sent bundles : List (Logged M)) (after : PartitionStats) → graph ≡ rows → ids ≡ moved → now ≡ stats → then ≡ old_stats → seen ≡ course
+      → k ≡ s → sent ≡ bundles → IsNextStats registry graph ids now then logs seen k sent after → IsNextStats registry rows moved stats old_stats logs course s bundles after
+  next_stats_at registry graph rows ids moved now stats then old_stats logs seen course k s sent bundles after g m n o c p b h =
+      subst (λ (x : List (Logged M)). IsNextStats registry rows moved stats old_stats logs course s x after) b
+      (subst (λ (x : ℕ). IsNextStats registry rows moved stats old_stats logs course x sent after) p
+      (subst (λ (x : Holding V M). IsNextStats registry rows moved stats old_stats logs x k sent after) c
+      (subst (λ (x : List PartitionStats). IsNextStats registry rows moved stats x logs seen k sent after) o
+      (subst (λ (x : List PartitionStats). IsNextStats registry rows moved x then logs seen k sent after) n
+      (subst (λ (x : List ℕ). IsNextStats registry rows x now then logs seen k sent after) m
+      (subst (λ (x : Rows). IsNextStats registry x ids now then logs seen k sent after) g h))))))
+
+  -- a part with them holds its stats one superstep further
+  pub has_next : (kept : Option Rows) (rows : Rows) (n p r : ℕ) (before part : PartState V M) → HasStats job kept rows n p r before
+      → part.graph ≡ before.graph → part.moved ≡ before.moved → part.old_stats ≡ before.old_stats
+      → (next : PartitionStats) → part.stats ≡ before.stats ++ next ∷ [] → next ≡ stats_at job rows n p (r + 1) → HasStats job kept rows n p (r + 1) part
+  has_next kept rows n p r before part has graph moved old next stats is = record {
+    graph_is = graph ∙ has.graph_is;
+    stats_are = stats ∙ one_more rows n p r before.stats next has.stats_are is;
+    beside = old_stays kept rows n p before part moved old has.beside;
   }
-
-  pub stepped_holds : (trace : Trace V M) (changes : List (ℕ × Option (Record V M))) → HoldsRun job rows n p s trace → s ≤ length trace.records
-      → with_changes changes (records_of s (reaching s trace)) ≡ records_in job rows n p s
-      → HoldsRun job rows n p (s + 1) (with_replaced s changes (reaching s trace))
-  stepped_holds trace changes holds within are =
-      replaced_holds (reaching s trace) changes (reaching_holds trace holds within) (length-reaching s trace within) are
-
--- ---- those of a partition, by rising id
-
-module _ {X : Type 0} (n p : ℕ) where
-  own_above : (k : ℕ) (xs : List (ℕ × X)) → AllByRecursion (λ i. nat_cmp k i ≡ Less) (keys_of xs) → AllByRecursion (λ i. nat_cmp k i ≡ Less) (keys_of (own n p xs))
-  own_above k [] h = tt
-  own_above k (x ∷ xs) h = by (belongs n p x.0) (own_above k xs h.1)
-    where
-      by : (b : Bool) → AllByRecursion (λ i. nat_cmp k i ≡ Less) (keys_of (own n p xs)) → AllByRecursion (λ i. nat_cmp k i ≡ Less) (keys_of (cond b (x ∷ own n p xs) (own n p xs)))
-      by true rest = (h.0, rest)
-      by false rest = rest
-
-  pub own_rise : (xs : List (ℕ × X)) → Rises xs → Rises (own n p xs)
-  unfolding IsStrictlySortedBy
-  own_rise [] h = tt
-  own_rise (x ∷ xs) h = by (belongs n p x.0) (own_rise xs h.1) (own_above x.0 xs h.0)
-    where
-      by : (b : Bool) → Rises (own n p xs) → AllByRecursion (λ i. nat_cmp x.0 i ≡ Less) (keys_of (own n p xs)) → Rises (cond b (x ∷ own n p xs) (own n p xs))
-      by true rest above = (above, rest)
-      by false rest above = rest
-
--- what is played changes records by rising id
-pub played_rise : {V M : Type 0} (value_eq : V → V → Bool) (message_eq : M → M → Bool) (program : Program V M) (missing : Missing) (combining : Option (Combining M)) (view : View)
-    (n p s : ℕ) (trace : Trace V M) (bundles : List (Parcels M)) (beside : Option (Trace V M × List (Parcels M))) (ids : List ℕ) (all seen : Bool) (before : ℕ) (played : Played V M)
-    → IsPlayed value_eq message_eq program missing combining view n p s trace bundles beside ids all seen before played → ChangesRise played.changes.items
-played_rise value_eq message_eq program missing combining view n p s trace bundles beside ids all seen before played is =
-    subst ChangesRise (sym is.changes_are)
-    (entries-rise (λ c. c.id) (is_taken_over value_eq message_eq seen) (λ c. option_map program.step (reads view c.new)) is.candidates
-    (subst (IsStrictlySortedBy nat_cmp) (sym is.ids_are) (own_rise n p is.callees is.are.rise)))

@@ -1,9 +1,3 @@
-pub mod Candidates
-pub mod Differing
-pub mod Found
-pub mod Lent
-pub mod Lists
+pub mod Moved
 pub mod Part
-pub mod Sending
-pub mod Starting
-pub mod Warm
+pub mod Reckoned

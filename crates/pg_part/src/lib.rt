@@ -1,24 +1,11 @@
-//! One partition of a run: what it holds as a superstep begins, and what a step makes of it.
+//! One partition of a run: how far it has come, and what it came to in each superstep so far.
 #![tactic(auto)]
 
-mod begin;
-mod candidates;
-mod changed;
-mod differing;
-mod execution;
-mod found;
+mod graphs;
 mod part;
-mod partitioner;
-mod reading;
-mod sending;
-mod sent;
-mod warm;
+mod reckoning;
 
-pub use part::{Lost, Part};
-pub(crate) use partitioner::Share;
-pub use partitioner::{Partitioner, Rows};
+pub use graphs::moved;
+pub use part::{Left, Part};
+pub use pg_course::{Lost, Partitioner, Rows, Sent};
 pub use pg_graph::Memory;
-pub use sent::Sent;
-
-#[cfg(test)]
-mod tests;

@@ -1,102 +1,117 @@
-//! One partition of a run, and its steps.
-ghost use Rattle.std.specs.Prelude.{◌≡◌, ℕ, ◌+◌, ◌<◌, ◌≤◌, ◌^◌, true, length, Option, None, Some, IfOk, IfSome};
-ghost use Rattle.std.specs.List.Sorted.{IsStrictlySortedBy};
+//! One partition of a run with what it has come to, and its steps.
+ghost use Rattle.std.specs.Prelude.{◌≡◌, ℕ, ◌+◌, ◌<◌, ◌≤◌, ◌^◌, ◌++◌, ◌∷◌, [], true, length, Option, None, Some, Ok, IfErr, IfOk, IfSome};
 ghost use Rattle.std.specs.Option.{option_copied};
-ghost use Rattle.std.specs.Ordering.{nat_cmp};
+ghost use Rattle.std.specs.List.{slice_get};
+ghost use Rattle.pg_course.specs.Course.{AreTouched, HasBegun, IsFurther};
+ghost use Rattle.pg_course.specs.Lent.{IsLent, IsLentBeside};
 ghost use Rattle.pg_global.specs.Master.{has_places};
 ghost use Rattle.pg_graph.specs.Rows.{Rows as GraphRows};
-ghost use Rattle.pg_inbox.specs.Logged.{Slots};
-ghost use Rattle.pg_map.specs.Entries.{ChangesRise};
 ghost use Rattle.pg_model.specs.Job.{Job};
-ghost use Rattle.pg_model.specs.Run.{run_length, view_at};
-ghost use Rattle.pg_part.specs.Lent.{HasMessages, IsBesideOld, IsLent, IsLentBeside, bundles_before};
-ghost use Rattle.pg_part.specs.Part.{AreTouched, HasStepped, Holds, IsFurther, IsWhole, kept_length};
-ghost use Rattle.pg_program.specs.Context.{ShowsDeclared};
-ghost use Rattle.pg_part.specs.Lists.{reaching};
-ghost use Rattle.pg_trace.specs.Trace.{with_replaced};
+ghost use Rattle.pg_model.specs.Run.{run_length};
+ghost use Rattle.pg_part.specs.Part.{HasMadeStep, HoldsShare, IsLeft};
+ghost use Rattle.pg_recount.specs.Traffic.{AreMoved};
+ghost use Rattle.pg_stats.specs.GlobalStats.{aggregators_of};
 
-use crate::begin::{first_changes, first_states};
-use crate::candidates::{awake_ids, play_alone};
-use crate::changed::rising;
-use crate::execution::{Played, Stage};
-use crate::reading::bundles_before;
-use crate::sent::fresh_bundles;
-use crate::warm::{concluded, replayed};
-use crate::{Partitioner, Rows, Sent, Share};
-use pg_global::{MessageCombiner, Visible, view_of};
-use pg_graph::{Memory, Missing, PartitionId, Superstep, VertexId};
-use pg_inbox::{Bundle, Logs};
-use pg_model::{Record, View};
-use pg_program::{Computation, EdgeRoom, Meter, Plain};
+use crate::reckoning::{first_stats, first_stats_beside, next_stats};
+use pg_course::{Course, Lost, Rows, Sent};
+use pg_global::{MessageCombiner, Registry, Visible};
+use pg_graph::{Graph, Memory, Missing, PartitionId, Superstep, VertexId};
+use pg_inbox::Logs;
+use pg_program::{Computation, Meter, Plain};
+use pg_recount::census;
+use pg_stats::PartitionStats;
 use pg_trace::Trace;
 use std::alloc::Global;
 use std::marker::Model;
 
-/// One partition of a run as a superstep begins: the states with which it began, and the records of
-/// the supersteps before. A warm one also has the trace of an old run, and steps beside that: its own trace
-/// goes on as that one does.
+/// One partition of a run as a superstep begins: its records so far, and what it has come to as each superstep began.
+/// A warm one also has both of an old run, and steps beside that.
 #[derive(Drop)]
 pub struct Part<V, M> {
-    pub(crate) partition: PartitionId,
-    pub(crate) partitions: Partitioner,
-    pub(crate) missing: Missing,
-    pub(crate) place: Superstep,
-    pub(crate) trace: Trace<V, M>,
-    pub(crate) kept: Option<Trace<V, M>>,
-    pub(crate) differing: Vec<VertexId>,
+    course: Course<V, M>,
+    graph: Graph,
+    moved: Vec<VertexId>,
+    stats: Vec<PartitionStats>,
+    old_stats: Vec<PartitionStats>,
 }
 
 impl<V, M> Model for Part<V, M> {
-    ghost use Rattle.std.specs.Prelude.{◌≤◌, length};
-    ghost use Rattle.pg_part.specs.Part.{Holding};
+    ghost use Rattle.std.specs.Prelude.{◌≡◌, ◌+◌, length};
+    ghost use Rattle.pg_part.specs.Part.{PartState};
 
-    ghost Value = { Holding V M };
+    ghost Value = { PartState V M };
 
     ghost view = { λ p. record {
-      partition = p.partition;
-      partitions = p.partitions;
-      missing = p.missing;
-      place = p.place;
-      trace = p.trace;
-      kept = p.kept;
-      differing = p.differing.items;
+      course = p.course;
+      graph = p.graph;
+      moved = p.moved.items;
+      stats = p.stats.items;
+      old_stats = p.old_stats.items;
     } };
 
-    ghost invariant = { λ p. p.place ≤ length p.trace.records };
+    ghost invariant = { λ p. length p.stats.items ≡ p.course.place + 1 };
 }
 
-/// A step was given up, and its part with it, since memory was refused.
-#[derive(Clone, Copy, Debug, PartialEq, Eq)]
-pub struct Lost;
-
-/// What a step makes of a part.
+/// What a partition leaves of a whole run, for one beside it: its trace, and what it came to as each superstep began
+/// and as the run ended.
 #[derive(Drop)]
-pub(crate) struct Stepped<V, M: Plain> {
-    pub part: Part<V, M>,
-    pub sent: Sent<M>,
-    pub meter: Meter,
+pub struct Left<V, M> {
+    trace: Trace<V, M>,
+    stats: Vec<PartitionStats>,
+}
+
+impl<V, M> Model for Left<V, M> {
+    ghost use Rattle.std.specs.Prelude.{◌<◌, length};
+    ghost use Rattle.pg_part.specs.Part.{LeftOf};
+
+    ghost Value = { LeftOf V M };
+
+    ghost view = { λ l. record { trace = l.trace; stats = l.stats.items } };
+
+    ghost invariant = { λ l. 0 < length l.stats.items };
 }
 
 impl<V: Plain, M: Plain> Part<V, M> {
     /// The number of the partition.
     pub fn partition(&self) -> PartitionId
-        ensures { result ≡ self.now.partition }
+        ensures { result ≡ self.now.course.partition }
     {
-        self.partition
+        self.course.partition()
     }
 
     /// The superstep at which it stands.
     pub fn place(&self) -> Superstep
-        ensures { result ≡ self.now.place }
+        ensures { result ≡ self.now.course.place }
     {
-        self.place
+        self.course.place()
     }
 
     /// Its trace: the states with which it began, and its records so far.
     pub fn trace(&self) -> &Trace<V, M>
-        ensures { result.now ≡ self.now.trace }
+        ensures { result.now ≡ self.now.course.trace }
     {
-        &self.trace
+        self.course.trace()
+    }
+
+    /// What it has come to as its superstep begins.
+    pub fn stats(&self) -> &PartitionStats
+        ensures value { slice_get self.now.stats self.now.course.place ≡ Some result.now }
+    {
+        &self.stats[self.course.place().number() as usize]
+    }
+
+    /// By place, what its vertices contributed in the superstep before comes to, from the initial value on.
+    pub fn gathered(&self) -> &[i64]
+        ensures { IfSome (slice_get self.now.stats self.now.course.place) (λ stats. result.now ≡ stats.gathered) }
+    {
+        self.stats().gathered.as_slice()
+    }
+
+    /// How many out-edges its vertices have as its superstep begins.
+    pub fn num_edges(&self) -> u64
+        ensures { IfSome (slice_get self.now.stats self.now.course.place) (λ stats. result ≡ stats.census.edges) }
+    {
+        self.stats().census.edges
     }
 
     /// A partition as a run begins. Costs one walk over the graph's rows.
@@ -104,84 +119,82 @@ impl<V: Plain, M: Plain> Part<V, M> {
         alloc: Global,
         rows: Rows<'_>,
         missing: Missing,
+        registry: &Registry,
         program: &P,
     ) -> Result<Part<V, M>, Memory>
-        ensures { IfOk result (λ part. (job : Job V M)
+        ensures begins { IfOk result (λ part. HasBegun rows.entry missing part.course) }
+        ensures holds { IfOk result (λ part. (job : Job V M)
             → job.program ≡ P.program program.now → job.missing ≡ missing
-            → Holds job None rows.entry.graph rows.entry.partitions rows.entry.partition 0 part) }
+            → job.aggregators ≡ aggregators_of registry.now
+            → HoldsShare job None rows.entry.graph rows.entry.partitions rows.entry.partition 0 part) }
     {
-        let Rows {
-            graph,
-            partition,
-            partitions,
-        } = rows;
-        let share = Share {
-            partition,
-            partitions,
-        };
-        let states = first_states(alloc, graph, &share, program)?;
-        let trace = Trace::new(alloc, states)?;
+        let graph = rows.graph().copy(alloc)?;
+        let states = rows.first_states(alloc, program)?;
+        let census = census(states.as_slice())?;
+        let mut stats = Vec::new(alloc);
+        stats.push(first_stats(alloc, registry, census)?)?;
+        let course = Course::begin(alloc, rows, missing, states)?;
         Ok(Part {
-            partition,
-            partitions,
-            missing,
-            place: Superstep::new(0),
-            trace,
-            kept: None,
-            differing: Vec::new(alloc),
+            course,
+            graph,
+            moved: Vec::new(alloc),
+            stats,
+            old_stats: Vec::new(alloc),
         })
     }
 
-    /// A partition as a run begins beside an old one: with its trace of that, and with ids outside of which the
-    /// graph's rows are those of the old run's graph. Costs k look-ups for k such ids, a sort of them, a copy of the
-    /// chunks of the trace's first states that they lie in, and one count a superstep of the old run.
+    /// A partition as a run begins beside an old one: with what it left of that, with ids outside of which the graph's
+    /// rows are those of the old run's graph, and with those of them that are a vertex of just one of the two graphs.
+    /// Costs k look-ups for k such ids, a sort of them, a copy of the chunks of the trace's first states that they lie
+    /// in, and one count a superstep of the old run.
     pub fn begin_beside<P: Computation<Value = V, Message = M>>(
         alloc: Global,
         rows: Rows<'_>,
         missing: Missing,
-        old: Trace<V, M>,
+        registry: &Registry,
+        old: Left<V, M>,
         touched: &[VertexId],
+        moved: &[VertexId],
         program: &P,
     ) -> Result<Part<V, M>, Memory>
-        ensures { IfOk result (λ part. (job : Job V M) (kept : GraphRows)
+        ensures begins { IfOk result (λ part. HasBegun rows.entry missing part.course) }
+        ensures holds { IfOk result (λ part. (job : Job V M) (kept : GraphRows)
             → job.program ≡ P.program program.now → job.missing ≡ missing
-            → IsWhole job kept rows.entry.partitions rows.entry.partition old
+            → job.aggregators ≡ aggregators_of registry.now
+            → IsLeft job kept rows.entry.partitions rows.entry.partition old
             → AreTouched touched.now kept rows.entry.graph
-            → Holds job (Some kept) rows.entry.graph rows.entry.partitions rows.entry.partition 0 part) }
+            → AreMoved moved.now kept rows.entry.graph
+            → HoldsShare job (Some kept) rows.entry.graph rows.entry.partitions rows.entry.partition 0 part) }
     {
-        let Rows {
-            graph,
-            partition,
-            partitions,
-        } = rows;
-        let share = Share {
-            partition,
-            partitions,
-        };
-        let differing = rising(copied(alloc, touched)?);
-        let changes = first_changes(alloc, graph, &share, differing.as_slice(), program)?;
-        let trace = old.restarted(alloc, changes)?;
-        Ok(Part {
-            partition,
-            partitions,
-            missing,
-            place: Superstep::new(0),
+        let graph = rows.graph().copy(alloc)?;
+        let Left {
             trace,
-            kept: Some(old),
-            differing,
+            stats: old_stats,
+        } = old;
+        let course = Course::begin_beside(alloc, rows, missing, trace, touched, program)?;
+        let first = first_stats_beside(alloc, registry, &course, old_stats.as_slice())?;
+        let mut stats = Vec::new(alloc);
+        stats.push(first)?;
+        Ok(Part {
+            course,
+            graph,
+            moved: Vec::from_slice(alloc, moved)?,
+            stats,
+            old_stats,
         })
     }
 
     /// One superstep. It reads what the logs have from each partition to this one of the superstep before, and what
     /// is visible; and where the part is warm and the old run has the superstep, the logs and the visible values of
-    /// that run, which are to be given then and else not. A part whose step answers `Lost` is gone.
+    /// that run, which are to be given then and else not. A part whose step answers `Lost` is gone, and nothing was
+    /// counted.
     ///
     /// A cold part executes each active vertex once; so does a warm one past the end of the old run. Else those are
     /// executed that don't read what they read there. Each execution is counted.
     ///
     /// Costs what it executes, the messages that it receives and sends, and a walk over the records of the superstep
     /// before; beside an old run that saw the same only the vertices whose states or messages may differ, and what
-    /// these send.
+    /// these send, and a walk over the superstep's records where they contribute something else.
     pub fn step<P: Computation<Value = V, Message = M>, C: MessageCombiner<M>>(
         self,
         alloc: Global,
@@ -189,6 +202,7 @@ impl<V: Plain, M: Plain> Part<V, M> {
         visible: &Visible,
         old_logs: Option<&Logs<M>>,
         old_visible: Option<&Visible>,
+        registry: &Registry,
         program: &P,
         combiner: &C,
         meter: &mut Meter,
@@ -196,15 +210,28 @@ impl<V: Plain, M: Plain> Part<V, M> {
         requires few { length visible.now.values ≤ 16 }
         requires few_old { IfSome (option_copied old_visible) (λ v. length v.values ≤ 16) }
         requires declared { has_places (P.program program.now).declared (length visible.now.values) ≡ true }
-        requires counts { self.place + 1 < 2 ^ 32 }
-        ensures further { IfOk result (λ stepped. IsFurther self stepped.0) }
+        requires counts { self.course.place + 1 < 2 ^ 32 }
+        ensures further { IfOk result (λ stepped. IsFurther self.course stepped.0.course) }
+        ensures uncounted { IfErr result (λ lost. meter.new ≡ meter.old) }
         ensures stepped { IfOk result (λ stepped. (job : Job V M) (kept : Option GraphRows) (rows : GraphRows) (n p r : ℕ)
             → job.program ≡ P.program program.now → job.combining ≡ C.combining combiner.now
-            → Holds job kept rows n p r self → IsLent job rows n p r logs.now visible.now
+            → job.aggregators ≡ aggregators_of registry.now
+            → HoldsShare job kept rows n p r self → IsLent job rows n p r logs.now visible.now
             → IsLentBeside job kept n p r logs.now (option_copied old_logs.entry) (option_copied old_visible.entry)
-            → HasStepped job V.PartialEq.eq M.PartialEq.eq kept rows n p r stepped.0 stepped.1 meter.old meter.new) }
+            → HasMadeStep job V.PartialEq.eq M.PartialEq.eq kept rows n p r stepped.0 stepped.1 meter.old meter.new) }
     {
-        match self.lent_step(
+        let Part {
+            course,
+            graph,
+            moved,
+            stats,
+            old_stats,
+        } = self;
+        let superstep = course.place();
+        // Tells the prover that there are at most 64.
+        course.partitions().partitions();
+        let mut counted = meter.copy();
+        let (course, sent) = course.step(
             alloc,
             logs,
             visible,
@@ -212,238 +239,61 @@ impl<V: Plain, M: Plain> Part<V, M> {
             old_visible,
             program,
             combiner,
-            meter.copy(),
-        ) {
-            Ok(stepped) => {
-                let Stepped {
-                    part,
-                    sent,
-                    meter: counted,
-                } = stepped;
-                *meter = counted;
-                Ok((part, sent))
-            }
-            Err(_) => Err(Lost),
-        }
-    }
-}
-
-impl<V: Plain, M: Plain> Part<V, M> {
-    /// A step with what it is lent.
-    fn lent_step<P: Computation<Value = V, Message = M>, C: MessageCombiner<M>>(
-        self,
-        alloc: Global,
-        logs: &Logs<M>,
-        visible: &Visible,
-        old_logs: Option<&Logs<M>>,
-        old_visible: Option<&Visible>,
-        program: &P,
-        combiner: &C,
-        meter: Meter,
-    ) -> Result<Stepped<V, M>, Memory>
-        requires few { length visible.now.values ≤ 16 }
-        requires few_old { IfSome (option_copied old_visible) (λ v. length v.values ≤ 16) }
-        requires declared { has_places (P.program program.now).declared (length visible.now.values) ≡ true }
-        requires counts { self.place + 1 < 2 ^ 32 }
-        ensures further { IfOk result (λ stepped. IsFurther self stepped.part) }
-        ensures stepped { IfOk result (λ stepped. (job : Job V M) (kept : Option GraphRows) (rows : GraphRows) (n p r : ℕ)
-            → job.program ≡ P.program program.now → job.combining ≡ C.combining combiner.now
-            → Holds job kept rows n p r self → IsLent job rows n p r logs.now visible.now
-            → IsLentBeside job kept n p r logs.now (option_copied old_logs.entry) (option_copied old_visible.entry)
-            → HasStepped job V.PartialEq.eq M.PartialEq.eq kept rows n p r stepped.part stepped.sent meter stepped.meter) }
-    {
-        // Tells the prover that the count fits.
-        meter.count();
-        let view = view_of(alloc, program.declared(), self.place, visible)?;
-        let bundles = bundles_before(alloc, logs, self.partitions, self.partition, self.place)?;
-        let stage = Stage {
-            view,
-            room: EdgeRoom::new(alloc),
-            meter,
-        };
-        match old_logs {
-            Some(old_logs) => match old_visible {
-                Some(old_visible) => {
-                    let old_view = view_of(alloc, program.declared(), self.place, old_visible)?;
-                    let stepped = self.beside(
-                        alloc, bundles, logs, old_logs, old_view, program, combiner, stage,
-                    )?;
-                    Ok(stepped)
-                }
-                None => {
-                    let stepped = self.alone(alloc, bundles, program, combiner, stage)?;
-                    Ok(stepped)
-                }
-            },
-            None => {
-                let stepped = self.alone(alloc, bundles, program, combiner, stage)?;
-                Ok(stepped)
-            }
-        }
-    }
-
-    /// A step beside an old run that has the superstep.
-    fn beside<P: Computation<Value = V, Message = M>, C: MessageCombiner<M>>(
-        self,
-        alloc: Global,
-        bundles: Vec<Bundle<M>>,
-        logs: &Logs<M>,
-        old_logs: &Logs<M>,
-        old_view: View,
-        program: &P,
-        combiner: &C,
-        stage: Stage,
-    ) -> Result<Stepped<V, M>, Memory>
-        requires shown { ShowsDeclared (P.program program.now).declared stage.view }
-        requires fits { stage.meter < 2 ^ 64 }
-        requires counts { self.place + 1 < 2 ^ 32 }
-        ensures further { IfOk result (λ stepped. IsFurther self stepped.part) }
-        ensures stepped { IfOk result
-            (λ stepped. (job : Job V M) (kept : Option GraphRows) (rows : GraphRows) (n p s : ℕ)
-            → job.program ≡ P.program program.now → job.combining ≡ C.combining combiner.now
-            → Holds job kept rows n p s self → s < run_length job rows
-            → HasMessages job rows n p s logs.now → bundles.items ≡ bundles_before logs.now n p s
-            → stage.view ≡ view_at job rows s
-            → IsBesideOld job kept n p s logs.now old_logs.now old_view
-            → HasStepped job V.PartialEq.eq M.PartialEq.eq kept rows n p s stepped.part stepped.sent stage.meter stepped.meter) }
-    {
-        let mut part = self;
-        // Tells the prover that there is a partition.
-        part.partitions.partitions();
-        match part.kept.take() {
-            Some(old) => {
-                let played = replayed(
-                    alloc,
-                    &part,
-                    &old,
-                    logs,
-                    old_logs,
-                    bundles.as_slice(),
-                    &old_view,
-                    program,
-                    combiner,
-                    stage,
-                )?;
-                let stepped = concluded(alloc, part, old, played, old_logs, combiner)?;
-                Ok(stepped)
-            }
-            None => {
-                let stepped = part.alone(alloc, bundles, program, combiner, stage)?;
-                Ok(stepped)
-            }
-        }
-    }
-
-    /// A step beside nothing, or past the end of the old run: each active vertex is executed.
-    fn alone<P: Computation<Value = V, Message = M>, C: MessageCombiner<M>>(
-        self,
-        alloc: Global,
-        bundles: Vec<Bundle<M>>,
-        program: &P,
-        combiner: &C,
-        stage: Stage,
-    ) -> Result<Stepped<V, M>, Memory>
-        requires shown { ShowsDeclared (P.program program.now).declared stage.view }
-        requires fits { stage.meter < 2 ^ 64 }
-        requires counts { self.place + 1 < 2 ^ 32 }
-        ensures further { IfOk result (λ stepped. IsFurther self stepped.part) }
-        ensures stepped { IfOk result
-            (λ stepped. (job : Job V M) (kept : Option GraphRows) (rows : GraphRows) (n p s : ℕ) (logs : Slots M)
-            → job.program ≡ P.program program.now → job.combining ≡ C.combining combiner.now
-            → Holds job kept rows n p s self → kept_length job kept ≤ s → s < run_length job rows
-            → HasMessages job rows n p s logs → bundles.items ≡ bundles_before logs n p s
-            → stage.view ≡ view_at job rows s
-            → HasStepped job V.PartialEq.eq M.PartialEq.eq kept rows n p s stepped.part stepped.sent stage.meter stepped.meter) }
-    {
-        let Part {
-            partition,
-            partitions,
-            missing,
-            place,
-            trace,
-            kept,
-            differing: _,
-        } = self;
-        // Tells the prover that there is a partition.
-        partitions.partitions();
-        let ids = awake_ids(alloc, &trace, place)?;
-        let played = play_alone(
-            alloc,
-            program,
-            combiner,
-            missing,
-            Share {
-                partition,
-                partitions,
-            },
-            place,
-            &trace,
-            bundles.as_slice(),
-            ids.as_slice(),
-            stage,
+            &mut counted,
         )?;
-        let Played { changes, stage } = played;
-        let Stage { meter, .. } = stage;
-        let bundles = fresh_bundles(alloc, partitions, changes.as_slice(), combiner)?;
-        let trace = with_records(alloc, trace, place, changes)?;
+        let next = or_lost(next_stats(
+            alloc,
+            registry,
+            &graph,
+            moved.as_slice(),
+            stats.as_slice(),
+            old_stats.as_slice(),
+            old_logs,
+            &course,
+            superstep,
+            sent.bundles(),
+        ))?;
+        let stats = or_lost(pushed(stats, next))?;
+        *meter = counted;
         let part = Part {
-            partition,
-            partitions,
-            missing,
-            place: Superstep::new(place.number() + 1),
-            trace,
-            kept,
-            differing: Vec::new(alloc),
+            course,
+            graph,
+            moved,
+            stats,
+            old_stats,
         };
-        Ok(Stepped {
-            part,
-            sent: Sent::of(bundles),
-            meter,
-        })
+        Ok((part, sent))
+    }
+
+    /// What it leaves of a run of so many supersteps, at the end of which it stands. Costs what is cut where the old run
+    /// was longer.
+    pub fn leave(self, alloc: Global, supersteps: Superstep) -> Result<Left<V, M>, Memory>
+        ensures { IfOk result (λ left. (job : Job V M) (kept : Option GraphRows) (rows : GraphRows) (n p : ℕ)
+            → supersteps ≡ run_length job rows → HoldsShare job kept rows n p supersteps self
+            → IsLeft job rows n p left) }
+    {
+        let Part { course, stats, .. } = self;
+        let mut trace = course.into_trace();
+        trace.cut(alloc, supersteps)?;
+        Ok(Left { trace, stats })
     }
 }
 
-/// A copy of these ids.
-fn copied(alloc: Global, ids: &[VertexId]) -> Result<Vec<VertexId>, Memory>
-    ensures { IfOk result (λ copy. copy.items ≡ ids.now) }
+/// These stats with one more.
+fn pushed(stats: Vec<PartitionStats>, next: PartitionStats) -> Result<Vec<PartitionStats>, Memory>
+    ensures { IfOk result (λ after. after.items ≡ stats.items ++ next ∷ []) }
 {
-    let mut copy = Vec::with_capacity(alloc, ids.len())?;
-    for id in ids {
-        copy.push(*id)?;
-    }
-    Ok(copy)
+    let mut stats = stats;
+    stats.push(next)?;
+    Ok(stats)
 }
 
-/// A trace with these changes of the records of a superstep, which it has or which comes next.
-pub(crate) fn with_records<V: Plain, M: Plain>(
-    alloc: Global,
-    trace: Trace<V, M>,
-    superstep: Superstep,
-    changes: Vec<(VertexId, Option<Record<V, M>>)>,
-) -> Result<Trace<V, M>, Memory>
-    requires rise { ChangesRise changes.items }
-    requires within { superstep ≤ length trace.records }
-    ensures { IfOk result
-        (λ after. after ≡ with_replaced superstep changes.items (reaching superstep trace)) }
+/// What was found. Where memory was refused, a step is lost.
+fn or_lost<T>(found: Result<T, Memory>) -> Result<T, Lost>
+    ensures { IfOk result (λ value. found ≡ Ok value) }
 {
-    let mut trace = reaching(alloc, trace, superstep)?;
-    trace.replace(alloc, superstep, changes)?;
-    Ok(trace)
-}
-
-/// A trace with one superstep more, of no records, where this one comes next.
-fn reaching<V: Plain, M: Plain>(
-    alloc: Global,
-    trace: Trace<V, M>,
-    superstep: Superstep,
-) -> Result<Trace<V, M>, Memory>
-    requires { superstep ≤ length trace.records }
-    ensures value { IfOk result (λ after. after ≡ reaching superstep trace) }
-    ensures within { IfOk result (λ after. superstep < length after.records) }
-{
-    let mut trace = trace;
-    if trace.supersteps() == superstep.number() as usize {
-        trace.push_superstep(alloc, Vec::new(alloc))?;
+    match found {
+        Ok(value) => Ok(value),
+        Err(_) => Err(Lost),
     }
-    Ok(trace)
 }

@@ -9,8 +9,6 @@ mod plain;
 mod search;
 mod shed;
 mod tally;
-#[cfg(test)]
-mod tests;
 mod vertex;
 
 pub use computation::Computation;

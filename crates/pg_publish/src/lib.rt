@@ -12,8 +12,3 @@ mod shown;
 pub use answers::Answers;
 pub use laws::{looks_never_go_back, readers_see_beginnings};
 pub use look::{AnswerReader, Look, Publisher, Told};
-
-#[cfg(test)]
-mod tests;
-#[cfg(test)]
-mod thread_tests;

@@ -1,4 +1,5 @@
-//! Runs of the program and of its parts, by calls: what no contract says, and what crosses crates.
+//! Runs of the program and of its parts, by calls: what no contract says, and what crosses crates. Sessions that are only
+//! lines and their answers stand as files beside `pregeld_examples`.
 #![tactic(auto)]
 
 #[cfg(test)]
@@ -15,3 +16,5 @@ mod runs;
 mod sessions;
 #[cfg(test)]
 mod streams;
+#[cfg(test)]
+mod turns;

@@ -47,127 +47,6 @@ pub(crate) fn prints(rt: &impl Abort, alloc: Global, input: &[u8], output: &str)
     answers(rt, alloc, &session);
 }
 
-#[test]
-fn two_hops(rt: HostRuntime) {
-    let wanted =
-        "edition 1\nrefreshed edition 1 supersteps 3 ending finished calls 5 losses 0\nvalue 1 0\nvalue 2 5\nvalue 3 6\nend 3\n";
-    prints(&rt, rt.alloc(), TWO_HOPS, wanted);
-}
-
-#[test]
-fn no_import(rt: HostRuntime) {
-    let wanted = "refreshed edition 0 supersteps 1 ending finished calls 0 losses 0\nend 0\n";
-    prints(&rt, rt.alloc(), b"refresh\ndump\n", wanted);
-}
-
-#[test]
-fn nothing_published(rt: HostRuntime) {
-    prints(&rt, rt.alloc(), b"dump", "unpublished\n");
-}
-
-#[test]
-fn limit_first(rt: HostRuntime) {
-    let first = Session {
-        words: &["pregeld", "--program", "sssp", "--limit", "1"],
-        input: TWO_HOPS,
-        status: 0,
-        output: "edition 1\nrefreshed edition 1 supersteps 1 ending limit calls 3 losses 0\nvalue 1 0\nvalue 2 9223372036854775807\nvalue 3 9223372036854775807\nend 3\n",
-        errors: "",
-    };
-    answers(&rt, rt.alloc(), &first);
-    let third = Session {
-        words: &["pregeld", "--program", "sssp", "--limit", "3"],
-        input: b"import list 2\n1 2 5\n2 3\nrefresh\n",
-        status: 0,
-        output: "edition 1\nrefreshed edition 1 supersteps 3 ending finished calls 5 losses 0\n",
-        errors: "",
-    };
-    answers(&rt, rt.alloc(), &third);
-}
-
-#[test]
-fn sums_stop_at_both_ends(rt: HostRuntime) {
-    let falling = Session {
-        words: &["pregeld", "--program", "sssp", "--limit", "4"],
-        input: b"import list 1\n1 1 -1\nrefresh\ndump\n",
-        status: 0,
-        output: "edition 1\nrefreshed edition 1 supersteps 4 ending limit calls 4 losses 0\nvalue 1 -3\nend 1\n",
-        errors: "",
-    };
-    answers(&rt, rt.alloc(), &falling);
-    let wanted =
-        "edition 1\nrefreshed edition 1 supersteps 2 ending finished calls 4 losses 0\nvalue 1 0\nvalue 2 9223372036854775807\nvalue 3 9223372036854775807\nend 3\n";
-    let rising = b"import list 2\n1 2 9223372036854775807\n2 3\nrefresh\ndump\n";
-    prints(&rt, rt.alloc(), rising, wanted);
-}
-
-#[test]
-fn sources(rt: HostRuntime) {
-    let session = Session {
-        words: &["pregeld", "--source", "2", "--program", "sssp"],
-        input: TWO_HOPS,
-        status: 0,
-        output: "edition 1\nrefreshed edition 1 supersteps 2 ending finished calls 4 losses 0\nvalue 1 9223372036854775807\nvalue 2 0\nvalue 3 1\nend 3\n",
-        errors: "",
-    };
-    answers(&rt, rt.alloc(), &session);
-}
-
-#[test]
-fn imports(rt: HostRuntime) {
-    let alloc = rt.alloc();
-    prints(
-        &rt,
-        alloc,
-        b"import list 2\n1 2\n1 x\n",
-        "import refused 2 line 2\n",
-    );
-    prints(
-        &rt,
-        alloc,
-        b"import csv 2\n1;2\n3,4\n",
-        "import refused 4 line 1\n",
-    );
-    prints(
-        &rt,
-        alloc,
-        b"import csv 3\nsource,target,weight\n1,2,5\n\"2\", 3\nrefresh\ndump",
-        "edition 1\nrefreshed edition 1 supersteps 3 ending finished calls 5 losses 0\nvalue 1 0\nvalue 2 5\nvalue 3 6\nend 3\n",
-    );
-    prints(&rt, alloc, b"import list 0\n", "edition 1\n");
-    prints(&rt, alloc, b"import list 1\n1 2", "edition 1\n");
-    prints(
-        &rt,
-        alloc,
-        b"import list 5\n# edges\n1\t2\r\n1 2 7\n\n3 1 -4\nrefresh\ndump\n",
-        "edition 1\nrefreshed edition 1 supersteps 2 ending finished calls 4 losses 0\nvalue 1 0\nvalue 2 7\nvalue 3 9223372036854775807\nend 3\n",
-    );
-}
-
-#[test]
-fn import_limits(rt: HostRuntime) {
-    let alloc = rt.alloc();
-    prints(
-        &rt,
-        alloc,
-        b"import list 1\n1 9223372036854775808\n",
-        "import refused 3 line 1\n",
-    );
-    prints(
-        &rt,
-        alloc,
-        b"import list 1\n1 2 -9223372036854775808\n",
-        "edition 1\n",
-    );
-    prints(
-        &rt,
-        alloc,
-        b"import list 1\n1 2 \xff\n",
-        "import refused 2 line 1\n",
-    );
-    prints(&rt, alloc, b"import list 1\n# \xff\n", "edition 1\n");
-}
-
 // A list of so many edges, none of which shares a vertex with another.
 fn edges_apart(alloc: Global, count: u64) -> Result<Vec<u8>, Fail> {
     let mut text = Vec::new(alloc);
@@ -206,23 +85,6 @@ fn a_number_of_a_megabyte(rt: HostRuntime) -> Result<(), Fail> {
         "import refused 3 line 1\nunpublished\n",
     );
     Ok(())
-}
-
-#[test]
-fn faults_of_lines(rt: HostRuntime) {
-    let alloc = rt.alloc();
-    prints(
-        &rt,
-        alloc,
-        b"fly\nimport list\nimport list 100001\nimport tree 1\n\n# \xff\ndump now\ndump \xff\nimport list 3\n1 2\n2 3\n",
-        "error 1 line 1\nerror 2 line 2\nerror 3 line 3\nerror 3 line 4\nerror 2 line 7\nerror 1 line 8\nerror 4 line 9\n",
-    );
-    prints(
-        &rt,
-        alloc,
-        b" import\tlist 1 \n1 2\n dump\t\r\nhop\n",
-        "edition 1\nunpublished\nerror 1 line 4\n",
-    );
 }
 
 // The words are at fault, and nothing is read or written but the message.
@@ -265,22 +127,29 @@ fn arguments(rt: HostRuntime) {
     );
 }
 
-#[test]
-fn help(rt: HostRuntime) {
-    let alloc = rt.alloc();
+// The text of help, with the name under which the program was started.
+fn help_of(rt: &impl Abort, alloc: Global, name: &str) -> Vec<u8> {
     let mut reader: &[u8] = TWO_HOPS;
     let mut writer = Vec::new(alloc);
     let mut errors = Vec::new(alloc);
-    let status = start(
-        alloc,
-        &["pregeld", "--help"],
-        &mut reader,
-        &mut writer,
-        &mut errors,
+    let words = [name, "--help"];
+    let status = start(alloc, &words, &mut reader, &mut writer, &mut errors);
+    assert_eq!(rt; status, 0);
+    assert_eq!(rt; reader, TWO_HOPS);
+    assert!(rt; errors.is_empty());
+    writer
+}
+
+// Help names the program, whatever its file is called.
+#[test]
+fn help(rt: HostRuntime) {
+    let own = help_of(&rt, rt.alloc(), "pregeld");
+    let other = help_of(&rt, rt.alloc(), "/tmp/another_name");
+    assert!(&rt;
+        own.windows(14)
+            .any(|part| part == b"Usage: pregeld".as_slice())
     );
-    assert_eq!(&rt; status, 0);
-    assert!(&rt; !writer.is_empty());
-    assert!(&rt; errors.is_empty());
+    assert_eq!(&rt; own.as_slice(), other.as_slice());
 }
 
 fn id(number: u64) -> Result<VertexId, Fail> {

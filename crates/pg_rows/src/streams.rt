@@ -8,12 +8,13 @@ use std::io::{BufReader, Read, Write};
 use std::process::Abort;
 use std::test::Fail;
 
-// A command of each kind, a comment, faults and a block of each form.
+// A comment, a block of each form, refreshes, a fault of a line, an edit with its commit, each of the
+// questions, and the check.
 const INPUT: &[u8] =
-    b"dump\n# a list\nimport list 2\n1 2 5\n2 3\nrefresh\nimport csv 1\n3,1\nfly\nrefresh\ndump\nedge 1 3 2\nget 3\ncommit\nreport\ncheck\n";
+    b"dump\n# a list\nimport list 2\n1 2 5\n2 3\nrefresh\nimport csv 1\n3,1\nfly\nrefresh\ndump\nedge 1 3 2\nget 3\nagg reached\ncommit\nreport\ncheck\n";
 
 const OUTPUT: &[u8] =
-    b"unpublished\nedition 1\nrefreshed edition 1 supersteps 3 ending finished calls 5 losses 0\nedition 2\nerror 1 line 9\nrefreshed edition 2 supersteps 4 ending finished calls 6 losses 0\nvalue 1 0\nvalue 2 5\nvalue 3 6\nend 3\nvalue 3 6\nedition 3\n{\"calls\":6,\"dropped\":0,\"edition\":2,\"ending\":\"finished\",\"losses\":0,\"sent\":3,\"supersteps\":4}\ncheck stale\n";
+    b"unpublished\nedition 1\nrefreshed edition 1 supersteps 3 ending finished calls 5 losses 0\nedition 2\nerror 1 line 9\nrefreshed edition 2 supersteps 4 ending finished calls 6 losses 0\nvalue 1 0\nvalue 2 5\nvalue 3 6\nend 3\nvalue 3 6\naggregate reached 3\nedition 3\n{\"calls\":6,\"dropped\":0,\"edition\":2,\"ending\":\"finished\",\"losses\":0,\"sent\":3,\"supersteps\":4}\ncheck stale\n";
 
 // Gives its text a byte a call, and fails at the nth call.
 #[derive(Drop)]
@@ -61,22 +62,39 @@ impl Write for NthWriter {
     }
 }
 
-// How many lines of `whole` there are in a text that it begins with, or none where it doesn't.
-fn lines_of_front(whole: &[u8], text: &[u8]) -> Option<usize> {
-    if !whole.starts_with(text) {
-        return None;
-    }
-    Some(text.iter().filter(|byte| **byte == b'\n').count())
+// How many lines of the output answer so many lines of the input.
+const ANSWERED: [usize; 18] = [0, 1, 1, 1, 1, 2, 3, 3, 4, 5, 6, 10, 10, 11, 12, 13, 14, 15];
+
+// How many lines end in a text.
+fn lines_of(text: &[u8]) -> usize {
+    text.iter().filter(|byte| **byte == b'\n').count()
 }
 
-// The edition that a session has come to with so many lines of the output.
-fn edition_after(lines: usize) -> u64 {
-    match lines {
-        0 | 1 => 0,
-        2 | 3 => 1,
-        4..=11 => 2,
-        _ => 3,
+// What a session has come to: the edition of the graph, and that of what is published.
+#[derive(Clone, Copy, Debug, PartialEq, Eq)]
+struct Reached {
+    graph: u64,
+    published: Option<u64>,
+}
+
+fn reached_by(service: &Service) -> Reached {
+    Reached {
+        graph: service.edition().number(),
+        published: service.answers().map(|answers| answers.edition().number()),
     }
+}
+
+// What a session has come to with so many lines of the output.
+fn reached_after(lines: usize) -> Reached {
+    let (graph, published) = match lines {
+        0 | 1 => (0, None),
+        2 => (1, None),
+        3 => (1, Some(1)),
+        4 | 5 => (2, Some(1)),
+        6..=12 => (2, Some(2)),
+        _ => (3, Some(2)),
+    };
+    Reached { graph, published }
 }
 
 fn service(alloc: Global) -> Result<Service, Fail> {
@@ -84,7 +102,8 @@ fn service(alloc: Global) -> Result<Service, Fail> {
     Ok(Service::new(alloc, shortest_paths(source)))
 }
 
-// A session whose nth read fails has answered the commands that were read until then, and no other.
+// A session whose nth read fails has answered just the commands whose lines were read until then, each
+// of them whole.
 fn read_fails_at(rt: &impl Abort, alloc: Global, calls: usize) -> Result<bool, Fail> {
     let mut service = service(alloc)?;
     let broken = NthReader {
@@ -94,14 +113,17 @@ fn read_fails_at(rt: &impl Abort, alloc: Global, calls: usize) -> Result<bool, F
     let mut reader = BufReader::with_capacity(alloc, 16, broken)?;
     let mut writer = Vec::new(alloc);
     let served = serve(alloc, &mut reader, &mut writer, &mut service);
-    let lines = lines_of_front(OUTPUT, writer.as_slice()).ok_or("another output")?;
-    assert_eq!(rt; service.edition().number(), edition_after(lines));
+    let read = INPUT.get(..calls).unwrap_or(INPUT);
+    let lines = ANSWERED[lines_of(read).min(17)];
+    assert!(rt; OUTPUT.starts_with(writer.as_slice()));
+    assert_eq!(rt; lines_of(writer.as_slice()), lines);
+    assert!(rt; writer.is_empty() || writer.last() == Some(&b'\n'));
+    assert_eq!(rt; reached_by(&service), reached_after(lines));
     if served == Ok(()) {
         assert_eq!(rt; writer.as_slice(), OUTPUT);
         return Ok(true);
     }
     assert_eq!(rt; served, Err(ServeFault::Read));
-    assert!(rt; writer.is_empty() || writer.last() == Some(&b'\n'));
     Ok(false)
 }
 
@@ -118,7 +140,8 @@ fn each_read_fails_in_turn(rt: HostRuntime) -> Result<(), Fail> {
     Ok(())
 }
 
-// A session whose nth write fails has carried out the command whose answer couldn't be written, and none after it.
+// A session whose nth write fails has carried out the command whose answer couldn't be written, as far as
+// the editions of the graph and of what is published tell, and none after it that changes them.
 fn write_fails_at(rt: &impl Abort, alloc: Global, calls: usize) -> Result<bool, Fail> {
     let mut service = service(alloc)?;
     let mut reader = INPUT;
@@ -127,19 +150,19 @@ fn write_fails_at(rt: &impl Abort, alloc: Global, calls: usize) -> Result<bool, 
         calls_left: calls,
     };
     let served = serve(alloc, &mut reader, &mut writer, &mut service);
-    let lines = lines_of_front(OUTPUT, writer.written.as_slice()).ok_or("another output")?;
+    let written = writer.written.as_slice();
+    assert!(rt; OUTPUT.starts_with(written));
     if served == Ok(()) {
-        assert_eq!(rt; writer.written.as_slice(), OUTPUT);
+        assert_eq!(rt; written, OUTPUT);
         return Ok(true);
     }
     assert_eq!(rt; served, Err(ServeFault::Write));
-    assert_eq!(rt;
-        service.edition().number(),
-        edition_after(lines.saturating_add(1))
-    );
+    let lines = lines_of(written).saturating_add(1);
+    assert_eq!(rt; reached_by(&service), reached_after(lines));
     Ok(false)
 }
 
+// Each of the twelve answers is at least one write.
 #[test]
 fn each_write_fails_in_turn(rt: HostRuntime) -> Result<(), Fail> {
     let alloc = rt.alloc();
@@ -150,6 +173,6 @@ fn each_write_fails_in_turn(rt: HostRuntime) -> Result<(), Fail> {
         }
         failed = failed.saturating_add(1);
     }
-    assert!(&rt; 9 < failed && failed < 1000);
+    assert!(&rt; 12 <= failed && failed < 1000);
     Ok(())
 }

@@ -14,8 +14,6 @@ mod inbox;
 mod roster;
 mod runner;
 mod superstep;
-#[cfg(test)]
-mod tests;
 mod totals;
 mod worklist;
 

@@ -115,7 +115,7 @@ other n p id mine k h = by (k == id) refl
 
 module _ {V M : Type 0} (n p id : ℕ) (mine : belongs n p id ≡ true) where
   -- the state of one of its ids is found among its states
-  found_in_share : (xs : List (Standing V M)) → state_of id (map (λ x. x.state) (filter (λ x. belongs n p x.state.id) xs))
+  pub found_in_share : (xs : List (Standing V M)) → state_of id (map (λ x. x.state) (filter (λ x. belongs n p x.state.id) xs))
       ≡ option_map (λ x. x.state) (standing_at id xs)
   found_in_share [] = refl
   found_in_share (x ∷ xs) = by (belongs n p x.state.id) refl (found_in_share xs)

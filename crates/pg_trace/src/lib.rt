@@ -12,6 +12,3 @@ pub use pg_graph::Memory;
 pub use pg_model::Record;
 pub use state::StateRef;
 pub use trace::Trace;
-
-#[cfg(test)]
-mod tests;

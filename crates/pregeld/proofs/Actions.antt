@@ -1,14 +1,17 @@
 -- What actions are answered, beside what a session may be answered.
-use Rattle.std.proofs.Common.{◌≡◌, ℕ, ◌+◌, true, false, nat_lt, List, [], ◌∷◌, ◌++◌, length, take, drop, Option, None, Some, Ok, refl, sym, ap, subst, ◌∙◌, inl, inr, arith}
+use Rattle.std.proofs.Common.{◌≡◌, ℕ, ◌+◌, true, false, nat_lt, List, [], ◌∷◌, ◌++◌, length, take, drop, Option, None, Some, Ok, refl, sym, ap, subst}
+use Rattle.std.proofs.Common.{◌∙◌, inl, inr, arith}
 use Rattle.std.specs.List.{concat, last_or}
 use Rattle.std.proofs.lemmas.Bool.Decides.{nat_tests}
 use Rattle.std.proofs.lemmas.Grind.{common_steps}
 use Rattle.pg_graph.specs.declared.edit.Edit.{Edit}
 use Rattle.pg_ready.specs.Ready.{ready_job}
 use Rattle.pregeld.specs.Notes.{Held, Noted, stored}
-use Rattle.pregeld.specs.Reading.{AreNotes, Checks, Edits, Imports, ImportsLines, Keeps, Refreshes, RepliesTo, SkipsLines, TakesLines}
-use Rattle.pregeld.specs.Service.{ServiceState, next_graph, publication_of, report_of}
-use Rattle.pregeld.specs.Session.{Imported, Place, State, after, action_answer, answer_to, answered, edges_of, edited, emptied, import_answer, imported, past, refresh_answer}
+use Rattle.pregeld.specs.Reading.{SkipsLines, TakesLines}
+use Rattle.pregeld.specs.Keeping.{AreNotes, Checks, Edits, Imports, ImportsLines, Keeps, Refreshes, RepliesTo}
+use Rattle.pg_service.specs.Service.{ServiceState, next_graph, publication_of, report_of}
+use Rattle.pregeld.specs.Session.{Imported, Place, State, after, action_answer, answer_to, answered, edges_of, edited, emptied, import_answer}
+use Rattle.pregeld.specs.Session.{imported, past, refresh_answer}
 use Rattle.pregeld.specs.declared.block.Block.{Block}
 use Rattle.pregeld.specs.declared.block.Block.TheVariants.{Whole, CutShort, NoMemory}
 use Rattle.pregeld.specs.declared.command.Action.TheVariants.{Commit, Import, Refresh, Recompute}
@@ -25,18 +28,21 @@ last-append : {A : Type 0} (o : Option A) (xs : List A) (x : A) → last_or o (x
 last-append o [] x = refl
 last-append o (y ∷ xs) x = last-append (Some y) xs x
 
-refreshes_at : (s : ServiceState) (notes : Noted) (here : Place) (reply : Reply) (new : Held) (left : Option (List (List ℕ))) → AreNotes notes here.state → left ≡ Some here.lines
-    → Refreshes (record { service = after s here.state; notes = notes }) reply new → RepliesTo (Ok (Act Refresh)) here (after s here.state) reply here.number new left
+refreshes_at : (s : ServiceState) (notes : Noted) (here : Place) (reply : Reply) (new : Held) (left : Option (List (List ℕ)))
+    → AreNotes notes here.state → left ≡ Some here.lines
+    → Refreshes (record { service = after s here.state; notes = notes }) reply new → RepliesTo (Ok (Act Refresh)) here (after s here.state) reply
+    here.number new left
 unfolding answer_to action_answer
 refreshes_at s notes here reply new left are left_is (inl done) =
     let own = ready_job s.job in
-    let next : Place = (refresh_answer own here).next in
+    let next : Place = (refresh_answer s.job here).next in
     let same : report_of own None here.state.edition here.state.graph ≡ report_of own here.state.kept here.state.edition here.state.graph =
     ap (λ k. report_of own k here.state.edition here.state.graph) (sym are.no_run) in
     record {
       next = next;
       answers = inl (ap (λ r. answered r next) (done.0 ∙ ap Refreshed same));
-      service_is = done.1 ∙ ap (λ p. record (after s here.state) { published = p }) (sym (last-append None here.state.publications (publication_of own here.state.edition here.state.graph)));
+      service_is = done.1 ∙ ap (λ p. record (after s here.state) { published = p })
+          (sym (last-append None here.state.publications (publication_of own here.state.edition here.state.graph)));
       notes_are = record {
         pending_is = ap (λ (n : Noted). n.pending) done.2 ∙ are.pending_is;
         report_is = ap (λ (n : Noted). n.report) done.2 ∙ ap Some same;
@@ -58,16 +64,20 @@ refreshes_at s notes here reply new left are left_is (inr refused) = record {
   left_is = left_is;
 }
 
-pub refresh_replies : (here : Place) (old : ServiceState) (notes : Noted) (reply : Reply) (new : Held) (left : Option (List (List ℕ))) → Keeps (record { service = old; notes = notes }) here.state → left ≡ Some here.lines
+pub refresh_replies : (here : Place) (old : ServiceState) (notes : Noted) (reply : Reply) (new : Held) (left : Option (List (List ℕ)))
+    → Keeps (record { service = old; notes = notes }) here.state → left ≡ Some here.lines
     → Refreshes (record { service = old; notes = notes }) reply new → RepliesTo (Ok (Act Refresh)) here old reply here.number new left
 refresh_replies here old notes reply new left keeps left_is =
-    subst (λ o. Refreshes (record { service = o; notes = notes }) reply new → RepliesTo (Ok (Act Refresh)) here o reply here.number new left) (sym keeps.service_is)
+    subst (λ o. Refreshes (record { service = o; notes = notes }) reply new → RepliesTo (Ok (Act Refresh)) here o reply here.number new left)
+    (sym keeps.service_is)
     (refreshes_at old notes here reply new left keeps.notes_are left_is)
 
 -- ---- checks
 
-checks_at : (s : ServiceState) (notes : Noted) (here : Place) (reply : Reply) (left : Option (List (List ℕ))) → AreNotes notes here.state → left ≡ Some here.lines
-    → Checks (after s here.state) reply → RepliesTo (Ok (Act Recompute)) here (after s here.state) reply here.number (record { service = after s here.state; notes = notes }) left
+checks_at : (s : ServiceState) (notes : Noted) (here : Place) (reply : Reply) (left : Option (List (List ℕ))) → AreNotes notes here.state → left
+    ≡ Some here.lines
+    → Checks (after s here.state) reply → RepliesTo (Ok (Act Recompute)) here (after s here.state) reply here.number
+    (record { service = after s here.state; notes = notes }) left
 unfolding answer_to action_answer
 checks_at s notes here reply left are left_is checked = record {
   next = here;
@@ -81,7 +91,8 @@ checks_at s notes here reply left are left_is checked = record {
 pub check_replies : (here : Place) (held : Held) (reply : Reply) (left : Option (List (List ℕ))) → Keeps held here.state → left ≡ Some here.lines
     → Checks held.service reply → RepliesTo (Ok (Act Recompute)) here held.service reply here.number held left
 check_replies here held reply left keeps left_is =
-    subst (λ o. Checks o reply → RepliesTo (Ok (Act Recompute)) here o reply here.number (record { service = o; notes = held.notes }) left) (sym keeps.service_is)
+    subst (λ o. Checks o reply → RepliesTo (Ok (Act Recompute)) here o reply here.number (record { service = o; notes = held.notes }) left)
+    (sym keeps.service_is)
     (checks_at held.service held.notes here reply left keeps.notes_are left_is)
 
 -- ---- commits
@@ -94,7 +105,8 @@ none_noted notes now state are now_is = record {
   no_run = are.no_run;
 }
 
-commits_at : (s : ServiceState) (notes now : Noted) (here : Place) (reply : Reply) (new : ServiceState) (left : Option (List (List ℕ))) → AreNotes notes here.state → left ≡ Some here.lines
+commits_at : (s : ServiceState) (notes now : Noted) (here : Place) (reply : Reply) (new : ServiceState) (left : Option (List (List ℕ)))
+    → AreNotes notes here.state → left ≡ Some here.lines
     → now ≡ record notes { pending = [] } → Edits notes.pending (after s here.state) reply new
     → RepliesTo (Ok (Act Commit)) here (after s here.state) reply here.number (record { service = new; notes = now }) left
 unfolding answer_to action_answer
@@ -125,17 +137,20 @@ commits_at s notes now here reply new left are left_is now_is (inr refused) =
       left_is = left_is;
     }
 
-pub commit_replies : (here : Place) (old : ServiceState) (notes now : Noted) (reply : Reply) (new : ServiceState) (left : Option (List (List ℕ))) → Keeps (record { service = old; notes = notes }) here.state
+pub commit_replies : (here : Place) (old : ServiceState) (notes now : Noted) (reply : Reply) (new : ServiceState) (left : Option (List (List ℕ)))
+    → Keeps (record { service = old; notes = notes }) here.state
     → left ≡ Some here.lines → now ≡ record notes { pending = [] } → Edits notes.pending old reply new
     → RepliesTo (Ok (Act Commit)) here old reply here.number (record { service = new; notes = now }) left
 commit_replies here old notes now reply new left keeps left_is now_is =
-    subst (λ o. Edits notes.pending o reply new → RepliesTo (Ok (Act Commit)) here o reply here.number (record { service = new; notes = now }) left) (sym keeps.service_is)
+    subst (λ o. Edits notes.pending o reply new → RepliesTo (Ok (Act Commit)) here o reply here.number (record { service = new; notes = now }) left)
+    (sym keeps.service_is)
     (commits_at old notes now here reply new left keeps.notes_are left_is now_is)
 
 -- ---- imports
 
 -- beside pending edits, an import is a fault
-beside_edits : (edits : List Edit) (form : Form) (n : ℕ) (here : Place) → (edits ≡ [] → ⊥) → import_answer edits form n here ≡ answered (Fault fault.EditsPending here.number) (past n here)
+beside_edits : (edits : List Edit) (form : Form) (n : ℕ) (here : Place) → (edits ≡ [] → ⊥) → import_answer edits form n here
+    ≡ answered (Fault fault.EditsPending here.number) (past n here)
 beside_edits [] form n here some = absurd (some refl)
 beside_edits (edit ∷ edits) form n here some = refl
 
@@ -145,8 +160,10 @@ lines_aside Whole n lines left skipped = absurd skipped
 lines_aside NoMemory n lines left skipped = skipped.1
 lines_aside CutShort n lines left skipped = let none : drop n lines ≡ [] = grind (arith, common_steps, skipped.0) in skipped.1 ∙ ap Some (sym none)
 
-pub aside_replies : (form : Form) (n : ℕ) (block : Block) (here : Place) (held : Held) (left : Option (List (List ℕ))) → Keeps held here.state → (held.notes.pending ≡ [] → ⊥)
-    → SkipsLines n block here.lines left → RepliesTo (Ok (Act (Import form n))) here held.service (Fault fault.EditsPending here.number) (here.number + n) held left
+pub aside_replies : (form : Form) (n : ℕ) (block : Block) (here : Place) (held : Held) (left : Option (List (List ℕ))) → Keeps held here.state
+    → (held.notes.pending ≡ [] → ⊥)
+    → SkipsLines n block here.lines left → RepliesTo (Ok (Act (Import form n))) here held.service (Fault fault.EditsPending here.number)
+    (here.number + n) held left
 unfolding answer_to action_answer
 aside_replies form n block here held left keeps some skipped = record {
   next = past n here;
@@ -158,7 +175,8 @@ aside_replies form n block here held left keeps some skipped = record {
 }
 
 -- the lines of an import were read, and its block was answered
-pub lines_imported : (form : Form) (n : ℕ) (lines : List (List ℕ)) (block : List ℕ) (old : ServiceState) (reply : Reply) (new : ServiceState) (left : Option (List (List ℕ)))
+pub lines_imported : (form : Form) (n : ℕ) (lines : List (List ℕ)) (block : List ℕ) (old : ServiceState) (reply : Reply) (new : ServiceState)
+    (left : Option (List (List ℕ)))
     → TakesLines n Whole lines [] block left → Imports (edges_of form block) old reply new → ImportsLines form n lines old (Some reply) new left
 lines_imported form n lines block old reply new left taken imports =
     (taken.0, subst (λ t. Imports (edges_of form t) old reply new) taken.1 imports, taken.2)
@@ -168,7 +186,8 @@ alone_at : (held : Held) (state : State) → Keeps held state → held.notes.pen
 alone_at held state keeps none = none_pending state.pending (sym keeps.notes_are.pending_is ∙ none)
 
 -- an import that is cut short applies nothing
-pub cut_short_replies : (form : Form) (n : ℕ) (here : Place) (held : Held) (new : ServiceState) (left : Option (List (List ℕ))) → Keeps held here.state → held.notes.pending ≡ []
+pub cut_short_replies : (form : Form) (n : ℕ) (here : Place) (held : Held) (new : ServiceState) (left : Option (List (List ℕ)))
+    → Keeps held here.state → held.notes.pending ≡ []
     → ImportsLines form n here.lines held.service None new left
     → RepliesTo (Ok (Act (Import form n))) here held.service (Fault fault.CutShort here.number) here.number (record { service = new; notes = held.notes }) left
 unfolding answer_to action_answer
@@ -183,7 +202,8 @@ cut_short_replies form n here held new left keeps none taken =
       left_is = taken.2;
     }
 
-imports_at : (form : Form) (n : ℕ) (s : ServiceState) (notes : Noted) (here : Place) (reply : Reply) (new : ServiceState) (left : Option (List (List ℕ))) → AreNotes notes here.state → here.state.pending ≡ []
+imports_at : (form : Form) (n : ℕ) (s : ServiceState) (notes : Noted) (here : Place) (reply : Reply) (new : ServiceState)
+    (left : Option (List (List ℕ))) → AreNotes notes here.state → here.state.pending ≡ []
     → ImportsLines form n here.lines (after s here.state) (Some reply) new left
     → RepliesTo (Ok (Act (Import form n))) here (after s here.state) reply (here.number + n) (record { service = new; notes = notes }) left
 unfolding answer_to action_answer
@@ -208,9 +228,11 @@ imports_at form n s notes here reply new left are none (there, inr refused, left
   left_is = left_is;
 }
 
-pub import_replies : (form : Form) (n : ℕ) (here : Place) (old : ServiceState) (notes : Noted) (reply : Reply) (new : ServiceState) (left : Option (List (List ℕ)))
+pub import_replies : (form : Form) (n : ℕ) (here : Place) (old : ServiceState) (notes : Noted) (reply : Reply) (new : ServiceState)
+    (left : Option (List (List ℕ)))
     → Keeps (record { service = old; notes = notes }) here.state → notes.pending ≡ [] → ImportsLines form n here.lines old (Some reply) new left
     → RepliesTo (Ok (Act (Import form n))) here old reply (here.number + n) (record { service = new; notes = notes }) left
 import_replies form n here old notes reply new left keeps none =
-    subst (λ o. ImportsLines form n here.lines o (Some reply) new left → RepliesTo (Ok (Act (Import form n))) here o reply (here.number + n) (record { service = new; notes = notes }) left) (sym keeps.service_is)
+    subst (λ o. ImportsLines form n here.lines o (Some reply) new left → RepliesTo (Ok (Act (Import form n))) here o reply (here.number + n)
+    (record { service = new; notes = notes }) left) (sym keeps.service_is)
     (imports_at form n old notes here reply new left keeps.notes_are (alone_at (record { service = old; notes = notes }) here.state keeps none))

@@ -1,5 +1,6 @@
 -- Lines of a text that are taken or set aside, one after another.
-use Rattle.std.proofs.Common.{◌≡◌, ◌≢◌, ℕ, ◌+◌, ◌-◌, ◌<◌, ◌≤◌, List, [], ◌∷◌, ◌++◌, length, take, drop, Option, None, Some, IfSome, slice_get, refl, ap, sym, subst, ◌∙◌, append-nil, append_assoc, true, false, arith}
+use Rattle.std.proofs.Common.{◌≡◌, ◌≢◌, ℕ, ◌+◌, ◌-◌, ◌<◌, ◌≤◌, List, [], ◌∷◌, ◌++◌, length, take, drop, Option, None, Some, IfSome, slice_get, refl}
+use Rattle.std.proofs.Common.{ap, sym, subst, ◌∙◌, append-nil, append_assoc, true, false, arith}
 use Rattle.std.specs.Io.{StopsAt}
 use Rattle.std.specs.Io.BufRead.{DropsThrough, drop_through, take_through}
 use Rattle.std.specs.List.{concat}
@@ -27,7 +28,8 @@ next_of_read None left lines none line n none_is there read gone size some = abs
 next_of_read (Some text) left lines none line n none_is there onto gone size some =
     let read : line ≡ take_through 10 text = onto ∙ ap (λ t. t ++ take_through 10 text) none_is in
     let longer : 0 < length (take_through 10 text) = subst (λ l. 0 < length l) read (omega (arith, size, some)) in
-    let first : raw_lines text ≡ line ∷ raw_lines (drop_through 10 text) = raw_lines-through text (take_through_nonempty 10 text longer) ∙ ap (λ l. l ∷ raw_lines (drop_through 10 text)) (sym read) in
+    let first : raw_lines text ≡ line ∷ raw_lines (drop_through 10 text) = raw_lines-through text (take_through_nonempty 10 text longer)
+    ∙ ap (λ l. l ∷ raw_lines (drop_through 10 text)) (sym read) in
     (raw_lines (drop_through 10 text), sym (same_lines text lines there) ∙ first, ap lines_left gone)
 
 -- the same, onto a text
@@ -38,7 +40,8 @@ take_of_read None left lines old new n there read gone size some = absurd cc
 take_of_read (Some text) left lines old new n there read gone size some =
     let front : List ℕ = take_through 10 text in
     let longer : 0 < length front = by_size in
-    let first : lines ≡ front ∷ raw_lines (drop_through 10 text) = sym (same_lines text lines there) ∙ raw_lines-through text (take_through_nonempty 10 text longer) in
+    let first : lines ≡ front ∷ raw_lines (drop_through 10 text) = sym (same_lines text lines there)
+    ∙ raw_lines-through text (take_through_nonempty 10 text longer) in
     rw first (omega arith, read ∙ ap (λ t. old ++ t) (sym (append-nil front)), ap lines_left gone)
   where
     sizes : length old + n ≡ length old + length (take_through 10 text)
@@ -59,7 +62,8 @@ take_later n m lines = take-add n m lines
 drop_later : (n m : ℕ) (lines : List (List ℕ)) → drop m (drop n lines) ≡ drop (n + m) lines
 drop_later n m lines = drop-drop m n lines
 
-pub one_more_taken : (n : ℕ) (lines : List (List ℕ)) (old mid new : List ℕ) (left : Option (List (List ℕ))) → n ≤ length lines → mid ≡ old ++ concat (take n lines)
+pub one_more_taken : (n : ℕ) (lines : List (List ℕ)) (old mid new : List ℕ) (left : Option (List (List ℕ))) → n ≤ length lines → mid
+    ≡ old ++ concat (take n lines)
     → TakesLines 1 Whole (drop n lines) mid new left → TakesLines (n + 1) Whole lines old new left
 one_more_taken n lines old mid new left within mid_is taken =
     let more : n + 1 ≤ length lines = grind (arith, common_steps, taken.0) in
@@ -74,7 +78,8 @@ pub fewer_lines : (n count : ℕ) (lines : List (List ℕ)) (left : Option (List
 fewer_lines n count lines left more short at_end = (grind (arith, common_steps), at_end)
 
 -- a line without memory, and the lines after it set aside
-pub rest_skipped : (block : Block) (n count : ℕ) (lines : List (List ℕ)) (old new : List ℕ) (left : Option (List (List ℕ))) → n < count → 1 ≤ length (drop n lines)
+pub rest_skipped : (block : Block) (n count : ℕ) (lines : List (List ℕ)) (old new : List ℕ) (left : Option (List (List ℕ))) → n < count
+    → 1 ≤ length (drop n lines)
     → SkipsLines (count - n - 1) block (drop 1 (drop n lines)) left → TakesLines count block lines old new left
 rest_skipped Whole n count lines old new left more there skipped = absurd skipped
 rest_skipped NoMemory n count lines old new left more there skipped =
@@ -91,7 +96,8 @@ rest_skipped CutShort n count lines old new left more there skipped =
 
 -- ---- lines that are set aside
 
-pub skips_one : (text : List ℕ) (left : Option (List ℕ)) → SkipsLine true text left → (1 ≤ length (raw_lines text)) × (lines_left left ≡ Some (drop 1 (raw_lines text)))
+pub skips_one : (text : List ℕ) (left : Option (List ℕ)) → SkipsLine true text left → (1 ≤ length (raw_lines text))
+    × (lines_left left ≡ Some (drop 1 (raw_lines text)))
 skips_one text left skipped = rw (raw_lines-through text skipped.0) (omega arith, ap lines_left skipped.1)
 
 -- a front that ends a line was the line
@@ -102,14 +108,16 @@ aside_at_feed (b ∷ front) rest old new left last stops left_is =
     rw (raw_lines-through ((b ∷ front) ++ rest) (omega arith)) (omega arith, ap lines_left (left_is ∙ ap Some (sym (past_feed (b ∷ front) rest stops last))))
 
 -- the front of a line was read, and the rest of the line was set aside
-pub aside_with_rest : (front rest old new : List ℕ) (left : Option (List ℕ)) → slice_get front (length front - 1) ≢ Some 10 → StopsAt front 10 → SkipsLine true rest left
+pub aside_with_rest : (front rest old new : List ℕ) (left : Option (List ℕ)) → slice_get front (length front - 1) ≢ Some 10 → StopsAt front 10
+    → SkipsLine true rest left
     → TakesLines 1 NoMemory (raw_lines (front ++ rest)) old new (lines_left left)
 aside_with_rest front rest old new left other stops skipped =
     let some : 0 < length (front ++ rest) = grind (arith, common_steps, skipped.0) in
     rw (raw_lines-through (front ++ rest) some) (omega arith, ap lines_left (skipped.1 ∙ ap Some (sym (past_no_feed front rest stops other))))
 
 -- the last line was read, which has no line feed
-pub aside_at_end : (front rest old new : List ℕ) (left : Option (List ℕ)) → 0 < length front → slice_get front (length front - 1) ≢ Some 10 → StopsAt front 10 → SkipsLine false rest left
+pub aside_at_end : (front rest old new : List ℕ) (left : Option (List ℕ)) → 0 < length front → slice_get front (length front - 1) ≢ Some 10
+    → StopsAt front 10 → SkipsLine false rest left
     → TakesLines 1 NoMemory (raw_lines (front ++ rest)) old new (lines_left left)
 aside_at_end [] rest old new left some other stops skipped = absurd (omega (arith, some))
 aside_at_end (b ∷ front) rest old new left some other stops skipped =
@@ -117,12 +125,14 @@ aside_at_end (b ∷ front) rest old new left some other stops skipped =
     rw (raw_lines-through ((b ∷ front) ++ rest) (omega arith)) (omega arith, ap lines_left (skipped.1 ∙ ap Some (sym none)))
 
 -- no line is left
-pub none_aside : (front rest old new : List ℕ) (left : Option (List ℕ)) → front ≡ [] → SkipsLine false rest left → TakesLines 1 CutShort (raw_lines (front ++ rest)) old new (lines_left left)
+pub none_aside : (front rest old new : List ℕ) (left : Option (List ℕ)) → front ≡ [] → SkipsLine false rest left
+    → TakesLines 1 CutShort (raw_lines (front ++ rest)) old new (lines_left left)
 none_aside front rest old new left none skipped = rw (none, skipped.0) (omega arith, ap lines_left skipped.1)
 
 -- ---- the lines of a reader, one after another
 
-known_lines : (known : Option (List ℕ)) (lines : List (List ℕ)) → lines_left known ≡ Some lines → (text : List ℕ) × (known ≡ Some text) × (raw_lines text ≡ lines)
+known_lines : (known : Option (List ℕ)) (lines : List (List ℕ)) → lines_left known ≡ Some lines → (text : List ℕ) × (known ≡ Some text)
+    × (raw_lines text ≡ lines)
 known_lines None lines there = absurd cc
 known_lines (Some text) lines there = (text, refl, same_lines text lines there)
 
@@ -131,7 +141,8 @@ pub one_more_skipped : (n : ℕ) (lines : List (List ℕ)) (known left : Option 
     → ((text : List ℕ) → known ≡ Some text → SkipsLine true text left) → (n + 1 ≤ length lines) × (lines_left left ≡ Some (drop (n + 1) lines))
 one_more_skipped n lines known left within there skips =
     let at = known_lines known (drop n lines) there in
-    let skipped : (1 ≤ length (drop n lines)) × (lines_left left ≡ Some (drop 1 (drop n lines))) = subst (λ ls. (1 ≤ length ls) × (lines_left left ≡ Some (drop 1 ls))) at.2 (skips_one at.0 left (skips at.0 at.1)) in
+    let skipped : (1 ≤ length (drop n lines)) × (lines_left left ≡ Some (drop 1 (drop n lines))) = subst (λ ls. (1 ≤ length ls)
+    × (lines_left left ≡ Some (drop 1 ls))) at.2 (skips_one at.0 left (skips at.0 at.1)) in
     (grind (arith, common_steps, skipped.0), skipped.1 ∙ ap Some (drop_later n 1 lines))
 
 pub cut_while_skipping : (n count : ℕ) (lines : List (List ℕ)) (known left : Option (List ℕ)) → n < count → lines_left known ≡ Some (drop n lines)

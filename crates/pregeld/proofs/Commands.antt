@@ -1,22 +1,26 @@
 -- What lines are answered, beside what a session may be answered.
-use Rattle.std.proofs.Common.{◌≡◌, ◌≢◌, ℕ, ℤ, List, [], ◌∷◌, ◌++◌, length, flat_map, Option, None, Some, option_to_list, Result, Ok, Err, refl, sym, ap, ap₂, subst, ◌∙◌, inl, inr}
+use Rattle.std.proofs.Common.{◌≡◌, ◌≢◌, ℕ, ℤ, List, [], ◌∷◌, ◌++◌, length, flat_map, Option, None, Some, option_to_list, Result, Ok, Err, refl, sym}
+use Rattle.std.proofs.Common.{ap, ap₂, subst, ◌∙◌, inl, inr, codes}
 use Rattle.std.specs.Io.KnownBytes.{Appends}
+use Rattle.std.specs.Fmt.{signed_decimal}
 use Rattle.std.specs.List.{last_or}
 use Rattle.pg_graph.specs.declared.edit.Edit.{Edit as OneEdit}
+use Rattle.pg_ready.specs.declared.ready.ReadyJob.{ReadyJob}
+use Rattle.pg_service.specs.Answers.{aggregate_of}
 use Rattle.pregeld.specs.Command.{command_of}
 use Rattle.pregeld.specs.Notes.{Held, Noted, stored}
-use Rattle.pg_ready.specs.Ready.{ready_job}
-use Rattle.pregeld.specs.Reading.{AnswersLine, AreNotes, FailsLine, FailsToTell, Keeps, RepliesTo}
-use Rattle.pregeld.specs.Reply.{json_text, line_of_reply, line_of_value, text_of}
-use Rattle.pregeld.specs.Service.{ServiceState}
+use Rattle.pregeld.specs.Keeping.{AnswersLine, AreNotes, FailsLine, FailsToTell, Keeps, RepliesTo}
+use Rattle.pregeld.specs.Reply.{line_of_aggregate, line_of_reply, line_of_value, text_of}
+use Rattle.pg_service.specs.Printed.{json_text}
+use Rattle.pg_service.specs.Service.{ServiceState, registered_by}
 use Rattle.pregeld.specs.Session.{Answer, Answers, Place, State, after, answer_to, answered, get_reply, noted, opened, query_text}
 use Rattle.pregeld.specs.declared.command.Command.{Command}
 use Rattle.pregeld.specs.declared.command.Command.TheVariants.{Nothing, Edit, Ask}
 use Rattle.pregeld.specs.declared.command.LineFault.{LineFault}
 use Rattle.pg_model.specs.Publications.{Publication}
-use Rattle.pregeld.specs.declared.answers.Report.{Report}
+use Rattle.pg_service.specs.declared.answers.Report.{Report}
 use Rattle.pregeld.specs.declared.command.Query.{Query}
-use Rattle.pregeld.specs.declared.command.Query.TheVariants.{Dump, Get, Reported}
+use Rattle.pregeld.specs.declared.command.Query.TheVariants.{Aggregate, Dump, Get, Reported}
 use Rattle.pregeld.specs.declared.reply.Reply.{Reply}
 use Rattle.pregeld.specs.declared.reply.Reply.TheVariants.{End, Fault, Unpublished}
 use Rattle.pregeld.specs.declared.session.ServeFault.{ServeFault}
@@ -43,20 +47,30 @@ one_some x none = absurd cc
 line_some : (reply : Reply) → line_of_reply reply ≢ []
 line_some reply = some_later (text_of reply) (10 ∷ []) (one_some 10)
 
-query_some : (query : Query) (published : Option (Publication ℤ)) (report : Option Report) → query_text query published report ≢ []
-query_some Dump None report = line_some Unpublished
-query_some Dump (Some p) report = some_later (flat_map line_of_value p.answer.values) (line_of_reply (End (length p.answer.values))) (line_some (End (length p.answer.values)))
-query_some (Get id) published report = line_some (get_reply id published)
-query_some Reported published None = line_some Unpublished
-query_some Reported published (Some report) = some_later (json_text report) (10 ∷ []) (one_some 10)
+aggregate_some : (name : List ℕ) (value : Option ℤ) → line_of_aggregate name value ≢ []
+aggregate_some name None = some_later (codes "none " ++ name) (10 ∷ []) (one_some 10)
+aggregate_some name (Some value) =
+    some_later (codes "aggregate " ++ name ++ codes " " ++ signed_decimal value) (10 ∷ []) (one_some 10)
+
+query_some : (own : ReadyJob) (query : Query) (published : Option (Publication ℤ)) (report : Option Report) → query_text own query published report ≢ []
+query_some own Dump None report = line_some Unpublished
+query_some own Dump (Some p) report = some_later (flat_map line_of_value p.answer.values) (line_of_reply (End (length p.answer.values)))
+    (line_some (End (length p.answer.values)))
+query_some own (Get id) published report = line_some (get_reply id published)
+query_some own (Aggregate name) None report = line_some Unpublished
+query_some own (Aggregate name) (Some p) report = aggregate_some name (aggregate_of name (registered_by own) p.answer.aggregates)
+query_some own Reported published None = line_some Unpublished
+query_some own Reported published (Some report) = some_later (json_text report) (10 ∷ []) (one_some 10)
 
 -- ---- one line that answers a command
 
-pub line_answered : (line : List ℕ) (command : Result Command LineFault) (here : Place) (old : ServiceState) (new : Held) (reply : Reply) (number : ℕ) (left : Option (List (List ℕ))) (before now : Option (List ℕ))
-    → command_of line ≡ command → RepliesTo command here old reply number new left → Appends before now (line_of_reply reply) → AnswersLine line here old new number left before now
+pub line_answered : (line : List ℕ) (command : Result Command LineFault) (here : Place) (old : ServiceState) (new : Held) (reply : Reply) (number : ℕ)
+    (left : Option (List (List ℕ))) (before now : Option (List ℕ))
+    → command_of line ≡ command → RepliesTo command here old reply number new left → Appends before now (line_of_reply reply)
+    → AnswersLine line here old new number left before now
 line_answered line command here old new reply number left before now asks r wrote = record {
   answer = answered reply r.next;
-  answers = subst (λ c. Answers (ready_job old.job) c here (answered reply r.next)) (sym asks) r.answers;
+  answers = subst (λ c. Answers old.job c here (answered reply r.next)) (sym asks) r.answers;
   service_is = r.service_is;
   notes_are = r.notes_are;
   number_is = r.number_is;
@@ -65,10 +79,11 @@ line_answered line command here old new reply number left before now asks r wrot
 }
 
 -- the line can't be written
-pub line_unwritten : (fault : ServeFault) (line : List ℕ) (command : Result Command LineFault) (here : Place) (old : ServiceState) (new : Held) (reply : Reply) (number : ℕ) (left : Option (List (List ℕ))) (before now : Option (List ℕ))
+pub line_unwritten : (fault : ServeFault) (line : List ℕ) (command : Result Command LineFault) (here : Place) (old : ServiceState) (new : Held)
+    (reply : Reply) (number : ℕ) (left : Option (List (List ℕ))) (before now : Option (List ℕ))
     → command_of line ≡ command → RepliesTo command here old reply number new left → fault ≡ Write → FailsLine fault line here old new.service before now
 line_unwritten fault line command here old new reply number left before now asks r failed =
-    inr (failed, answered reply r.next, subst (λ c. Answers (ready_job old.job) c here (answered reply r.next)) (sym asks) r.answers, r.service_is, line_some reply)
+    inr (failed, answered reply r.next, subst (λ c. Answers old.job c here (answered reply r.next)) (sym asks) r.answers, r.service_is, line_some reply)
 
 -- a line with a fault changes nothing
 pub fault_replies : (fault : LineFault) (here : Place) (held : Held) (left : Option (List (List ℕ))) → Keeps held here.state → left ≡ Some here.lines
@@ -80,12 +95,13 @@ fault_replies fault here held left keeps left_is =
 -- ---- lines with another answer
 
 -- a command with this answer was carried out, and the answer is written
-pub rest_answered : (line : List ℕ) (command : Result Command LineFault) (here : Place) (old : ServiceState) (new : Held) (answer : Answer) (left : Option (List (List ℕ))) (before now : Option (List ℕ))
-    → command_of line ≡ command → answer_to (ready_job old.job) command here ≡ answer → new.service ≡ after old answer.next.state → AreNotes new.notes answer.next.state
+pub rest_answered : (line : List ℕ) (command : Result Command LineFault) (here : Place) (old : ServiceState) (new : Held) (answer : Answer)
+    (left : Option (List (List ℕ))) (before now : Option (List ℕ))
+    → command_of line ≡ command → answer_to old.job command here ≡ answer → new.service ≡ after old answer.next.state → AreNotes new.notes answer.next.state
     → left ≡ Some answer.next.lines → Appends before now answer.text → AnswersLine line here old new answer.next.number left before now
 rest_answered line command here old new answer left before now asks is service_is notes_are left_is wrote = record {
   answer = answer;
-  answers = inl (sym (ap (λ c. answer_to (ready_job old.job) c here) asks ∙ is));
+  answers = inl (sym (ap (λ c. answer_to old.job c here) asks ∙ is));
   service_is = service_is;
   notes_are = notes_are;
   number_is = refl;
@@ -94,26 +110,31 @@ rest_answered line command here old new answer left before now asks is service_i
 }
 
 -- a line that asks for nothing
-pub nothing_answered : (line : List ℕ) (here : Place) (held : Held) (left : Option (List (List ℕ))) (before now : Option (List ℕ)) → command_of line ≡ Ok Nothing → Keeps held here.state → left ≡ Some here.lines
+pub nothing_answered : (line : List ℕ) (here : Place) (held : Held) (left : Option (List (List ℕ))) (before now : Option (List ℕ)) → command_of line
+    ≡ Ok Nothing → Keeps held here.state → left ≡ Some here.lines
     → Appends before now [] → AnswersLine line here held.service held here.number left before now
 unfolding answer_to
 nothing_answered line here held left before now asks keeps left_is wrote =
-    rest_answered line (Ok Nothing) here held.service held (record { text = []; next = here }) left before now asks refl keeps.service_is keeps.notes_are left_is wrote
+    rest_answered line (Ok Nothing) here held.service held (record { text = []; next = here }) left before now asks refl keeps.service_is
+    keeps.notes_are left_is wrote
 
 -- an edit that is noted
-edit_noted : (edit : OneEdit) (notes now : Noted) (state : State) → AreNotes notes state → now ≡ record notes { pending = stored (notes.pending ++ edit ∷ []) } → AreNotes now (noted edit state)
+edit_noted : (edit : OneEdit) (notes now : Noted) (state : State) → AreNotes notes state → now
+    ≡ record notes { pending = stored (notes.pending ++ edit ∷ []) } → AreNotes now (noted edit state)
 edit_noted edit notes now state are now_is = record {
   pending_is = ap (λ n. n.pending) now_is ∙ (ap (λ es. stored (es ++ edit ∷ [])) are.pending_is ∙ stored_later state.pending edit);
   report_is = ap (λ n. n.report) now_is ∙ are.report_is;
   no_run = are.no_run;
 }
 
-pub edit_answered : (line : List ℕ) (edit : OneEdit) (here : Place) (held : Held) (notes : Noted) (left : Option (List (List ℕ))) (before now : Option (List ℕ)) → command_of line ≡ Ok (Edit edit)
+pub edit_answered : (line : List ℕ) (edit : OneEdit) (here : Place) (held : Held) (notes : Noted) (left : Option (List (List ℕ)))
+    (before now : Option (List ℕ)) → command_of line ≡ Ok (Edit edit)
     → Keeps held here.state → notes ≡ record held.notes { pending = stored (held.notes.pending ++ edit ∷ []) } → left ≡ Some here.lines
     → Appends before now [] → AnswersLine line here held.service (record { service = held.service; notes = notes }) here.number left before now
 unfolding answer_to
 edit_answered line edit here held notes left before now asks keeps notes_is left_is wrote =
-    rest_answered line (Ok (Edit edit)) here held.service (record { service = held.service; notes = notes }) (record { text = []; next = record here { state = noted edit here.state } }) left before now asks refl
+    rest_answered line (Ok (Edit edit)) here held.service (record { service = held.service; notes = notes })
+    (record { text = []; next = record here { state = noted edit here.state } }) left before now asks refl
     keeps.service_is (edit_noted edit held.notes notes here.state keeps.notes_are notes_is) left_is wrote
 
 -- what was published last, by the service and by the session
@@ -121,21 +142,34 @@ published_is : (service : ServiceState) (state : State) → service ≡ after se
 published_is service state is = ap (λ s. s.published) is
 
 -- what is told
-query_is : (query : Query) (here : Place) (held : Held) → Keeps held here.state → query_text query (last_or None here.state.publications) here.state.report ≡ query_text query held.service.published held.notes.report
-query_is query here held keeps = ap₂ (query_text query) (sym (published_is held.service here.state keeps.service_is)) (sym keeps.notes_are.report_is)
+query_is : (own : ReadyJob) (query : Query) (here : Place) (held : Held) → Keeps held here.state
+    → query_text own query (last_or None here.state.publications) here.state.report ≡ query_text own query held.service.published held.notes.report
+query_is own query here held keeps = ap₂ (query_text own query) (sym (published_is held.service here.state keeps.service_is)) (sym keeps.notes_are.report_is)
 
-pub query_answered : (line : List ℕ) (query : Query) (here : Place) (held : Held) (left : Option (List (List ℕ))) (before now : Option (List ℕ)) → command_of line ≡ Ok (Ask query)
+pub query_answered : (line : List ℕ) (query : Query) (here : Place) (held : Held) (left : Option (List (List ℕ))) (before now : Option (List ℕ))
+    → command_of line ≡ Ok (Ask query)
     → Keeps held here.state → left ≡ Some here.lines
-    → Appends before now (query_text query held.service.published held.notes.report) → AnswersLine line here held.service held here.number left before now
+    → Appends before now (query_text held.service.job query held.service.published held.notes.report) → AnswersLine line here held.service held
+    here.number left before now
 unfolding answer_to
 query_answered line query here held left before now asks keeps left_is wrote =
-    rest_answered line (Ok (Ask query)) here held.service held (record { text = query_text query held.service.published held.notes.report; next = here }) left before now asks
-    (ap (λ t. record { text = t; next = here }) (query_is query here held keeps)) keeps.service_is keeps.notes_are left_is wrote
+    rest_answered line (Ok (Ask query)) here held.service held
+    (record { text = query_text held.service.job query held.service.published held.notes.report; next = here }) left before now asks
+    (ap (λ t. record { text = t; next = here }) (query_is held.service.job query here held keeps)) keeps.service_is keeps.notes_are left_is wrote
 
 -- what was to be told can't be
-pub query_untold : (fault : ServeFault) (line : List ℕ) (query : Query) (here : Place) (held : Held) (before now : Option (List ℕ)) → command_of line ≡ Ok (Ask query) → Keeps held here.state
+pub query_untold : (fault : ServeFault) (line : List ℕ) (query : Query) (here : Place) (held : Held) (before now : Option (List ℕ)) → command_of line
+    ≡ Ok (Ask query) → Keeps held here.state
     → FailsToTell fault before now → FailsLine fault line here held.service held.service before now
 unfolding answer_to
 query_untold fault line query here held before now asks keeps (inl failed) =
-    inr (failed, record { text = query_text query (last_or None here.state.publications) here.state.report; next = here }, inl (ap (λ c. answer_to (ready_job held.service.job) c here) (sym asks)), keeps.service_is, query_some query (last_or None here.state.publications) here.state.report)
+    inr (
+      failed,
+      record { text = query_text held.service.job query (last_or None here.state.publications) here.state.report; next = here },
+      inl
+          (ap (λ c. answer_to held.service.job c here) (sym asks)),
+      keeps.service_is,
+      query_some held.service.job query
+          (last_or None here.state.publications) here.state.report,
+    )
 query_untold fault line query here held before now asks keeps (inr other) = inl (other.0, refl, other.1)

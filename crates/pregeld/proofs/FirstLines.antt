@@ -1,5 +1,6 @@
 -- The first line of a text, and what is left after it.
-use Rattle.std.proofs.Common.{◌≡◌, ◌≢◌, ℕ, ◌-◌, ◌==◌, true, false, List, [], ◌∷◌, ◌++◌, length, take, Some, refl, ap, sym, ◌∙◌, arith, All, subst, suc, slice_get}
+use Rattle.std.proofs.Common.{◌≡◌, ◌≢◌, ℕ, ◌-◌, ◌==◌, true, false, List, [], ◌∷◌, ◌++◌, length, take, Some, refl, ap, sym, ◌∙◌, arith, All, subst}
+use Rattle.std.proofs.Common.{suc, slice_get}
 use Rattle.std.specs.Io.{StopsAt}
 use Rattle.std.specs.Io.BufRead.{drop_through}
 use Rattle.std.proofs.lemmas.Bool.Decides.{nat_tests}
@@ -17,8 +18,11 @@ stops_later : (b c : ℕ) (front : List ℕ) → StopsAt (b ∷ c ∷ front) 10 
 stops_later b c front stops =
     let P : ℕ → Type 0 = λ x. x ≢ 10 in
     let size : length (b ∷ c ∷ front) - 1 ≡ suc (length front) = omega arith in
-    let all : All P (b ∷ take (length front) (c ∷ front)) = subst (λ n. All P (take n (b ∷ c ∷ front))) size stops in
-    (All-head P b (take (length front) (c ∷ front)) all, subst (λ n. All P (take n (c ∷ front))) (sym (one_less c front)) (All-tail P b (take (length front) (c ∷ front)) all))
+    let all : All P (b ∷ take (length front) (c ∷ front)) = subst (λ n. All P (take n (b ∷ c ∷ front))) size stops in (
+      All-head P b (take (length front) (c ∷ front)) all,
+      subst (λ n. All P (take n (c ∷ front))) (sym (one_less c front))
+          (All-tail P b (take (length front) (c ∷ front)) all),
+    )
 
 -- what ends a text ends what comes after its first byte
 last_later : (b c : ℕ) (front : List ℕ) → slice_get (b ∷ c ∷ front) (length (b ∷ c ∷ front) - 1) ≡ slice_get (c ∷ front) (length (c ∷ front) - 1)
@@ -33,7 +37,8 @@ past_feed (b ∷ c ∷ front) rest stops last =
     rw (not_feed b later.0) (past_feed (c ∷ front) rest later.1 (sym (last_later b c front) ∙ last))
 
 -- past a front that has none
-pub past_no_feed : (front rest : List ℕ) → StopsAt front 10 → slice_get front (length front - 1) ≢ Some 10 → drop_through 10 (front ++ rest) ≡ drop_through 10 rest
+pub past_no_feed : (front rest : List ℕ) → StopsAt front 10 → slice_get front (length front - 1) ≢ Some 10 → drop_through 10 (front ++ rest)
+    ≡ drop_through 10 rest
 past_no_feed [] rest stops other = refl
 past_no_feed (b ∷ []) rest stops other = rw (not_feed b (λ e. other (ap Some e))) refl
 past_no_feed (b ∷ c ∷ front) rest stops other =

@@ -8,7 +8,7 @@ use Rattle.pg_graph.specs.Edit.{batch_edited, batch_limit}
 use Rattle.pg_graph.specs.Rows.{Rows}
 use Rattle.pg_graph.specs.declared.edit.Edit.{Edit}
 use Rattle.pregeld.specs.Notes.{stored, stored_limit}
-use Rattle.pregeld.specs.Service.{IsTried, next_graph}
+use Rattle.pg_service.specs.Service.{IsTried, next_graph}
 
 -- ---- what is stored of edits
 
@@ -73,7 +73,8 @@ fits_or_not (suc n) (suc m) = later (fits_or_not n m)
 
 -- ---- what batches make of them
 
-too_long : (edition : ℕ) (graph : Rows) (xs ys : List Edit) → batch_limit < length xs → batch_limit < length ys → next_graph edition graph xs ≡ next_graph edition graph ys
+too_long : (edition : ℕ) (graph : Rows) (xs ys : List Edit) → batch_limit < length xs → batch_limit < length ys → next_graph edition graph xs
+    ≡ next_graph edition graph ys
 unfolding next_graph batch_edited
 too_long edition graph xs ys x y =
     let lx : nat_lt batch_limit (length xs) ≡ true = grind (arith, nat_tests) in

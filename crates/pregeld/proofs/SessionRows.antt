@@ -12,14 +12,14 @@ use Rattle.pg_model.specs.Run.{answer, configuration, first, length_from}
 use Rattle.pg_model.specs.Superstep.{gathered_from, next, outcome, view_of, visible_in}
 use Rattle.std.specs.Fmt.{digits}
 use Rattle.pregeld.specs.Arguments.{job_in}
-use Rattle.pregeld.specs.Command.{alone, command_in, command_of, edit_named, get_of, import_of, named}
+use Rattle.pregeld.specs.Command.{agg_of, alone, command_in, command_of, edit_named, get_of, import_of, named}
 use Rattle.pregeld.specs.Edits.{edge_of as edge_asked, input_of, vertex_of}
 use Rattle.pg_global.specs.declared.combiner.AnyCombiner.TheVariants.{NoCombiner}
 use Rattle.pg_graph.specs.declared.missing.Missing.TheVariants.{Drop, Create}
 use Rattle.pg_ready.specs.declared.ready.ReadyJob.{ReadyJob}
-use Rattle.pg_ready.specs.Ready.{ready_job}
-use Rattle.pregeld.specs.Reply.{json_text, report_text, text_of}
-use Rattle.pregeld.specs.Service.{next_graph}
+use Rattle.pregeld.specs.Reply.{text_of}
+use Rattle.pg_service.specs.Printed.{json_text, report_text}
+use Rattle.pg_service.specs.Service.{next_graph}
 use Rattle.pregeld.specs.Session.{State, action_answer, answer_to}
 use Rattle.pregeld.specs.declared.names.ProgramName.{ProgramName}
 use Rattle.pregeld.specs.declared.names.ProgramName.TheVariants.{Sssp, Peel}
@@ -30,7 +30,7 @@ abbrev answers : ℕ → ReadyJob → ℕ → State → List (List ℕ) → List
 answers zero job number state lines = []
 answers (suc turns) job number state [] = []
 answers (suc turns) job number state (line ∷ lines) =
-    let a = answer_to (ready_job job) (command_of line) (record { number = number + 1; state = state; lines = lines }) in
+    let a = answer_to job (command_of line) (record { number = number + 1; state = state; lines = lines }) in
     a.text ++ answers turns job a.next.number a.next.state a.next.lines
 
 abbrev empty : State
@@ -42,7 +42,7 @@ session job input = answers (length (raw_lines input)) job 0 empty (raw_lines in
 
 -- what a row unfolds: how lines are read, what an import makes of the graph, the run, and what is printed
 unfoldable reading : ⊤
-unfolding answer_to action_answer command_in named edit_named vertex_of input_of edge_asked alone get_of import_of edge_of edges_from list_of reading_of id_of number_up_to weight_of
+unfolding answer_to action_answer command_in named edit_named vertex_of input_of edge_asked alone agg_of get_of import_of edge_of edges_from list_of reading_of id_of number_up_to weight_of
 reading = tt
 
 unfoldable batching : ⊤
@@ -91,7 +91,7 @@ unfolding reading batching running printing sssp_step
 refused_batch = refl
 
 -- what was published is told, and compared with a run from scratch
-asked : session (job_in (defaults Sssp)) (codes "report\nimport list 2\n1 2 5\n2 3\nrefresh\nget 3\nget 9\nreport\ncheck\nedge 1 3 2\ncommit\ncheck\n")
-    ≡ codes "unpublished\nedition 1\nrefreshed edition 1 supersteps 3 ending finished calls 5 losses 0\nvalue 3 6\nnone 9\n{\"calls\":5,\"dropped\":0,\"edition\":1,\"ending\":\"finished\",\"losses\":0,\"sent\":2,\"supersteps\":3}\ncheck same calls 5\nedition 2\ncheck stale\n"
+asked : session (job_in (defaults Sssp)) (codes "report\nagg reached\nimport list 2\n1 2 5\n2 3\nrefresh\nget 3\nget 9\nagg reached\nagg change\nreport\ncheck\nedge 1 3 2\ncommit\ncheck\n")
+    ≡ codes "unpublished\nunpublished\nedition 1\nrefreshed edition 1 supersteps 3 ending finished calls 5 losses 0\nvalue 3 6\nnone 9\naggregate reached 3\nnone change\n{\"calls\":5,\"dropped\":0,\"edition\":1,\"ending\":\"finished\",\"losses\":0,\"sent\":2,\"supersteps\":3}\ncheck same calls 5\nedition 2\ncheck stale\n"
 unfolding reading batching running printing sssp_step
 asked = refl

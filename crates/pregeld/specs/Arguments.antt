@@ -1,22 +1,26 @@
 -- The words of the program's command line, and what they ask for.
-use Rattle.std.specs.Prelude.{◌≡◌, ◌≢◌, ◌⊎◌, ⊤, ℕ, ◌≤◌, true, List, [], ◌∷◌, map, Option, None, Some, codes, pos}
+use Rattle.std.specs.Prelude.{◌≡◌, ◌≢◌, ◌⊎◌, ⊤, ℕ, ◌≤◌, true, List, [], ◌∷◌, map, Option, None}
+use Rattle.std.specs.Prelude.{Some, codes, pos}
 use Rattle.std.specs.List.{fold}
 use Rattle.std.specs.Str.Parse.{IsNumeral, digits_value, without_leading_plus}
-use Rattle.clap.specs.Words.{App, IsAmong, Rule, Text, fault_of, matches_of, new_app, new_rule, one_of, with_rule}
+use Rattle.clap.specs.Words.{App, IsAmong, Rule, Text, fault_of, matches_of, new_app, new_rule}
+use Rattle.clap.specs.Words.{one_of, with_rule}
 use Rattle.clap.specs.declared.builder.action.ArgAction.TheVariants.{Set}
 use Rattle.clap.specs.declared.builder.value_parser.ValueParser.{ValueParser}
 use Rattle.clap.specs.declared.builder.value_parser.ValueParser.TheVariants.{Names, Unsigned}
 use Rattle.clap.specs.declared.error.kind.ErrorKind.{ErrorKind}
 use Rattle.clap.specs.declared.error.kind.ErrorKind.TheVariants.{DisplayHelp}
 use Rattle.pg_global.specs.declared.combiner.AnyCombiner.{AnyCombiner}
-use Rattle.pg_global.specs.declared.combiner.AnyCombiner.TheVariants.{NoCombiner, Min, Max as MaxCombiner, Sum}
+use Rattle.pg_global.specs.declared.combiner.AnyCombiner.TheVariants.{NoCombiner, Min}
+use Rattle.pg_global.specs.declared.combiner.AnyCombiner.TheVariants.{Max as MaxCombiner, Sum}
 use Rattle.pg_graph.specs.declared.missing.Missing.{Missing}
 use Rattle.pg_graph.specs.declared.missing.Missing.TheVariants.{Drop, Create}
 use Rattle.pg_ready.specs.declared.ready.ReadyJob.{ReadyJob}
 use Rattle.pg_ready.specs.declared.ready.ReadyProgram.{ReadyProgram}
 use Rattle.pg_ready.specs.declared.ready.ReadyProgram.TheVariants as ready
 use Rattle.pregeld.specs.declared.names.ProgramName.{ProgramName}
-use Rattle.pregeld.specs.declared.names.ProgramName.TheVariants.{Sssp, Cc, MaxValue, Indegree, Pagerank, Peel}
+use Rattle.pregeld.specs.declared.names.ProgramName.TheVariants.{Sssp, Cc, MaxValue, Indegree}
+use Rattle.pregeld.specs.declared.names.ProgramName.TheVariants.{Pagerank, Peel}
 use Rattle.pregeld.specs.declared.options.NoOptions.{NoOptions}
 use Rattle.pregeld.specs.declared.options.NoOptions.TheVariants.{Help, Memory, Arguments}
 use Rattle.pregeld.specs.declared.options.Options.{Options}
@@ -74,11 +78,13 @@ pub record AreOptionWords (words : OptionWords) : Type 0 where
 
 -- an option with one value
 abbrev pub value_rule : Text → ValueParser → Rule
-value_rule name parser = record (new_rule name) { long = Some name; action = Some Set; parser = Some parser }
+value_rule name parser =
+    record (new_rule name) { long = Some name; action = Some Set; parser = Some parser }
 
 -- an option with a number in a range, and its default
 abbrev pub number_rule : Text → ℕ → ℕ → Text → Rule
-number_rule name least greatest default = record (value_rule name (Unsigned least greatest)) { defaults = default ∷ [] }
+number_rule name least greatest default =
+    record (value_rule name (Unsigned least greatest)) { defaults = default ∷ [] }
 
 -- an option with one of some words, and its default
 abbrev pub word_rule : Text → WordList → Text → Rule
@@ -124,7 +130,9 @@ program words = fold with_rule (new_app (codes "pregeld")) (rules words)
 -- a text, where there is one, writes a number
 abbrev pub Writes : Option Text → ℕ → Type 0
 Writes None number = ⊥
-Writes (Some text) number = IsNumeral 10 (without_leading_plus text) × (number ≡ digits_value 10 (without_leading_plus text))
+Writes (Some text) number =
+    IsNumeral 10 (without_leading_plus text)
+    × (number ≡ digits_value 10 (without_leading_plus text))
 
 -- a text writes a number in a range
 pub record WritesIn (text : Option Text) (least greatest number : ℕ) : Type 0 where

@@ -1,7 +1,8 @@
 -- The edits that words ask for.
 use Rattle.std.specs.Prelude.{ℕ, ℤ, pos, List, [], ◌∷◌, Result, Ok, Err}
 use Rattle.pg_graph.specs.declared.edit.Edit.{Edit}
-use Rattle.pg_graph.specs.declared.edit.Edit.TheVariants.{AddVertex, RemoveVertex, SetInput, AddEdge, SetEdge, RemoveEdge}
+use Rattle.pg_graph.specs.declared.edit.Edit.TheVariants.{AddVertex, RemoveVertex, SetInput}
+use Rattle.pg_graph.specs.declared.edit.Edit.TheVariants.{AddEdge, SetEdge, RemoveEdge}
 use Rattle.pg_import.specs.Number.{id_of, weight_of}
 use Rattle.pg_import.specs.declared.line.ImportKind.{ImportKind}
 use Rattle.pregeld.specs.declared.command.LineFault.{LineFault}
@@ -13,7 +14,8 @@ in_place (Ok number) = Ok number
 in_place (Err kind) = Err BadWord
 
 -- what comes of a number, where there is no fault
-abbrev pub given : {N T : Type 0} → Result N LineFault → (N → Result T LineFault) → Result T LineFault
+abbrev pub given : {N T : Type 0}
+    → Result N LineFault → (N → Result T LineFault) → Result T LineFault
 given (Ok number) next = next number
 given (Err fault) next = Err fault
 
@@ -22,15 +24,19 @@ abbrev pub by_id : (ℕ → Edit) → List ℕ → Result Edit LineFault
 by_id edit id = given (in_place (id_of id)) (λ v. Ok (edit v))
 
 abbrev pub by_input : (ℕ → ℤ → Edit) → List ℕ → List ℕ → Result Edit LineFault
-by_input edit id input = given (in_place (id_of id)) (λ v. given (in_place (weight_of input)) (λ n. Ok (edit v n)))
+by_input edit id input =
+    given (in_place (id_of id)) (λ v. given (in_place (weight_of input)) (λ n. Ok (edit v n)))
 
 -- the two ends of an edge, and both with a weight
 abbrev pub by_ends : (ℕ → ℕ → Edit) → List ℕ → List ℕ → Result Edit LineFault
-by_ends edit source target = given (in_place (id_of source)) (λ s. given (in_place (id_of target)) (λ t. Ok (edit s t)))
+by_ends edit source target =
+    given (in_place (id_of source)) (λ s. given (in_place (id_of target)) (λ t. Ok (edit s t)))
 
 abbrev pub by_weight : (ℕ → ℕ → ℤ → Edit) → List ℕ → List ℕ → List ℕ → Result Edit LineFault
 by_weight edit source target weight =
-    given (in_place (id_of source)) (λ s. given (in_place (id_of target)) (λ t. given (in_place (weight_of weight)) (λ w. Ok (edit s t w))))
+    given (in_place (id_of source)) (λ s.
+    given (in_place (id_of target)) (λ t.
+    given (in_place (weight_of weight)) (λ w. Ok (edit s t w))))
 
 -- the words after `vertex`: an id and perhaps an input, by default 0
 unfoldable pub vertex_of : List (List ℕ) → Result Edit LineFault

@@ -1,11 +1,9 @@
-pub mod Answers
 pub mod Arguments
 pub mod Command
 pub mod Edits
+pub mod ExitStatus
+pub mod Keeping
 pub mod Notes
-pub mod Program
 pub mod Reading
 pub mod Reply
-pub mod ReportJson
-pub mod Service
 pub mod Session

@@ -1,37 +1,25 @@
--- What a session's reader has left, and what its service keeps.
-use Rattle.std.specs.Prelude.{◌≡◌, ◌≢◌, ◌⊎◌, ℕ, Bool, true, false, ◌<◌, ◌≤◌, List, [], ◌∷◌, ◌++◌, length, take, drop, Option, None, Some, option_map, Result}
+-- What a session's reader has left.
+use Rattle.std.specs.Prelude.{◌≡◌, ℕ, Bool, true, false, ◌<◌, ◌≤◌, List, [], ◌∷◌, ◌++◌}
+use Rattle.std.specs.Prelude.{length, take, drop, Option, None, Some, option_map}
 use Rattle.std.specs.List.{concat}
 use Rattle.std.specs.Io.BufRead.{drop_through}
-use Rattle.std.specs.Io.KnownBytes.{Appends}
-use Rattle.pg_graph.specs.Edit.{memory_fault}
-use Rattle.pg_graph.specs.declared.edit.Edit.{Edit}
-use Rattle.pg_import.specs.Import.{no_memory}
 use Rattle.pg_import.specs.Text.{raw_lines}
-use Rattle.pg_import.specs.declared.line.ImportFault.{ImportFault}
-use Rattle.pg_import.specs.declared.line.Line.{Line}
-use Rattle.pg_scratch.specs.declared.runner.RunFault.TheVariants.{Memory}
-use Rattle.pregeld.specs.Command.{command_of}
-use Rattle.pg_ready.specs.Ready.{ready_job}
-use Rattle.pregeld.specs.Notes.{Held, Noted, stored}
-use Rattle.pregeld.specs.Service.{IsTried, ServiceState, check_of, next_graph, publication_of, report_of}
-use Rattle.pregeld.specs.Session.{Answer, Answers, IsTriedOf, Place, State, after, answered, edges_of, edited, imported}
 use Rattle.pregeld.specs.declared.block.Block.{Block}
 use Rattle.pregeld.specs.declared.block.Block.TheVariants.{Whole, CutShort, NoMemory}
-use Rattle.pregeld.specs.declared.command.Command.{Command}
-use Rattle.pregeld.specs.declared.command.Form.{Form}
-use Rattle.pregeld.specs.declared.command.LineFault.{LineFault}
-use Rattle.pregeld.specs.declared.reply.Reply.{Reply}
-use Rattle.pregeld.specs.declared.reply.Reply.TheVariants.{ImportRefused, BatchRefused, Refreshed, RunRefused, Checked}
-use Rattle.pregeld.specs.declared.session.ServeFault.{ServeFault}
-use Rattle.pregeld.specs.declared.session.ServeFault.TheVariants.{Write}
 
 -- the lines of the bytes that are left, where those are known
 abbrev pub lines_left : Option (List ℕ) → Option (List (List ℕ))
 lines_left known = option_map raw_lines known
 
+-- where the lines of a reader are known, this holds of them
+abbrev pub IfLines : Option (List ℕ) → (List (List ℕ) → Type 0) → Type 0
+IfLines known P = (lines : List (List ℕ)) → lines_left known ≡ Some lines → P lines
+
 -- so many lines were taken: onto a text, or set aside for want of memory, or there were fewer
-abbrev pub TakesLines : ℕ → Block → List (List ℕ) → List ℕ → List ℕ → Option (List (List ℕ)) → Type 0
-TakesLines n Whole lines old new left = (n ≤ length lines) × (new ≡ old ++ concat (take n lines)) × (left ≡ Some (drop n lines))
+abbrev pub TakesLines :
+    ℕ → Block → List (List ℕ) → List ℕ → List ℕ → Option (List (List ℕ)) → Type 0
+TakesLines n Whole lines old new left =
+    (n ≤ length lines) × (new ≡ old ++ concat (take n lines)) × (left ≡ Some (drop n lines))
 TakesLines n NoMemory lines old new left = (n ≤ length lines) × (left ≡ Some (drop n lines))
 TakesLines n CutShort lines old new left = (length lines < n) × (left ≡ Some [])
 
@@ -49,86 +37,5 @@ SkipsLine false text left = (text ≡ []) × (left ≡ Some [])
 -- the next line of a reader, or none where it has no line left
 abbrev pub NextLine : Option (List ℕ) → List (List ℕ) → Option (List (List ℕ)) → Type 0
 NextLine None lines left = lines ≡ []
-NextLine (Some line) lines left = (rest : List (List ℕ)) × (lines ≡ line ∷ rest) × (left ≡ Some rest)
-
--- ---- what a service is answered with
-
--- a batch may be answered so, or for want of memory where it is tried
-abbrev pub Edits : List Edit → ServiceState → Reply → ServiceState → Type 0
-Edits batch old reply new =
-    let now = edited (next_graph old.edition old.graph batch) old.edition old.graph in
-    ((reply ≡ now.reply) × (new ≡ record old { edition = now.edition; graph = now.graph }))
-    ⊎ ((new ≡ old) × (reply ≡ BatchRefused memory_fault) × IsTried old.edition batch)
-
--- an import may be answered so, or for want of memory
-abbrev pub Imports : Result (List Line) ImportFault → ServiceState → Reply → ServiceState → Type 0
-Imports edges old reply new =
-    let now = imported edges old.edition old.graph in
-    ((reply ≡ now.reply) × (new ≡ record old { edition = now.edition; graph = now.graph }))
-    ⊎ ((new ≡ old) × ((reply ≡ ImportRefused no_memory) ⊎ ((reply ≡ BatchRefused memory_fault) × IsTriedOf old.edition old.graph edges)))
-
--- the lines of an import were fewer, or were read and answered so
-abbrev pub ImportsLines : Form → ℕ → List (List ℕ) → ServiceState → Option Reply → ServiceState → Option (List (List ℕ)) → Type 0
-ImportsLines form n lines old None new left = (length lines < n) × (new ≡ old) × (left ≡ Some [])
-ImportsLines form n lines old (Some reply) new left =
-    (n ≤ length lines) × Imports (edges_of form (concat (take n lines))) old reply new × (left ≡ Some (drop n lines))
-
--- a refresh may be answered so and reported, or for want of memory
-abbrev pub Refreshes : Held → Reply → Held → Type 0
-Refreshes old reply new =
-    let service = old.service in
-    let own = ready_job service.job in
-    let report = report_of own None service.edition service.graph in
-    ((reply ≡ Refreshed report)
-    × (new.service ≡ record service { published = Some (publication_of own service.edition service.graph) })
-    × (new.notes ≡ record old.notes { report = Some report }))
-    ⊎ ((reply ≡ RunRefused Memory) × (new ≡ old))
-
--- a check may be answered so, or for want of memory
-abbrev pub Checks : ServiceState → Reply → Type 0
-Checks old reply =
-    (reply ≡ Checked (check_of (ready_job old.job) old.edition old.graph old.published)) ⊎ (reply ≡ RunRefused Memory)
-
--- ---- a service beside a session
-
--- what is noted of a session: its pending edits, and its last report; no run is kept for it to reuse
-pub record AreNotes (notes : Noted) (state : State) : Type 0 where
-  pub pending_is : notes.pending ≡ stored state.pending
-  pub report_is : notes.report ≡ state.report
-  pub no_run : state.kept ≡ None
-
--- a service and its notes keep what a session has come to
-pub record Keeps (held : Held) (state : State) : Type 0 where
-  pub service_is : held.service ≡ after held.service state
-  pub notes_are : AreNotes held.notes state
-
--- a command was answered with this line, and the session goes on past the line of this number
-pub record RepliesTo (command : Result Command LineFault) (here : Place) (old : ServiceState) (reply : Reply) (number : ℕ) (new : Held)
-    (left : Option (List (List ℕ))) : Type 0 where
-  pub next : Place
-  pub answers : Answers (ready_job old.job) command here (answered reply next)
-  pub service_is : new.service ≡ after old next.state
-  pub notes_are : AreNotes new.notes next.state
-  pub number_is : next.number ≡ number
-  pub left_is : left ≡ Some next.lines
-
--- a line was answered so, and the session goes on there
-pub record AnswersLine (line : List ℕ) (here : Place) (old : ServiceState) (new : Held) (number : ℕ) (left : Option (List (List ℕ)))
-    (before now : Option (List ℕ)) : Type 0 where
-  pub answer : Answer
-  pub answers : Answers (ready_job old.job) (command_of line) here answer
-  pub service_is : new.service ≡ after old answer.next.state
-  pub notes_are : AreNotes new.notes answer.next.state
-  pub number_is : answer.next.number ≡ number
-  pub left_is : left ≡ Some answer.next.lines
-  pub wrote : Appends before now answer.text
-
--- what was to be told couldn't be written, or there was no memory for it
-abbrev pub FailsToTell : ServeFault → Option (List ℕ) → Option (List ℕ) → Type 0
-FailsToTell fault before now = (fault ≡ Write) ⊎ ((fault ≢ Write) × (now ≡ before))
-
--- a line couldn't be carried out, or its answer couldn't be written
-abbrev pub FailsLine : ServeFault → List ℕ → Place → ServiceState → ServiceState → Option (List ℕ) → Option (List ℕ) → Type 0
-FailsLine fault line here old new before now =
-    ((fault ≢ Write) × (new ≡ old) × (now ≡ before))
-    ⊎ ((fault ≡ Write) × (answer : Answer) × Answers (ready_job old.job) (command_of line) here answer × (new ≡ after old answer.next.state) × (answer.text ≢ []))
+NextLine (Some line) lines left =
+    (rest : List (List ℕ)) × (lines ≡ line ∷ rest) × (left ≡ Some rest)

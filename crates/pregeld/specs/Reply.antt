@@ -1,25 +1,19 @@
 -- The texts of answers.
-use Rattle.std.specs.Prelude.{ℕ, ℤ, List, [], ◌∷◌, ◌++◌, length, flat_map, decimal, codes}
+use Rattle.std.specs.Prelude.{ℕ, ℤ, List, [], ◌∷◌, ◌++◌, length, flat_map, Option, None, Some}
+use Rattle.std.specs.Prelude.{decimal, codes}
 use Rattle.std.specs.Fmt.{signed_decimal}
 use Rattle.pg_graph.specs.EditKind as edit
 use Rattle.pg_import.specs.ImportKind as import
-use Rattle.pg_model.specs.declared.run.Ending.{Ending}
-use Rattle.pg_model.specs.declared.run.Ending.TheVariants.{MasterHalted, Finished, LimitReached}
 use Rattle.pg_scratch.specs.declared.runner.RunFault.{RunFault}
 use Rattle.pg_scratch.specs.declared.runner.RunFault.TheVariants as run
 use Rattle.pregeld.specs.declared.command.LineFault.{LineFault}
-use Rattle.pregeld.specs.declared.command.LineFault.TheVariants.{NoCommand, WordCount, BadWord, CutShort, EditsPending}
+use Rattle.pregeld.specs.declared.command.LineFault.TheVariants.{NoCommand, WordCount, BadWord}
+use Rattle.pregeld.specs.declared.command.LineFault.TheVariants.{CutShort, EditsPending}
 use Rattle.pregeld.specs.declared.reply.Reply.{Reply}
-use Rattle.pregeld.specs.declared.reply.Reply.TheVariants.{Edition, ImportRefused, BatchRefused, Refreshed, RunRefused, Checked, Unpublished, Value, NoValue, End, Fault}
-use Rattle.pregeld.specs.declared.answers.Check.{Check}
-use Rattle.pregeld.specs.declared.answers.Check.TheVariants.{Stale, Same, Different}
-use Rattle.pregeld.specs.declared.answers.Report.{Report}
-
--- the word for an ending
-abbrev pub ending_name : Ending → List ℕ
-ending_name MasterHalted = codes "halted"
-ending_name Finished = codes "finished"
-ending_name LimitReached = codes "limit"
+use Rattle.pregeld.specs.declared.reply.Reply.TheVariants.{Edition, ImportRefused, BatchRefused}
+use Rattle.pregeld.specs.declared.reply.Reply.TheVariants.{Refreshed, RunRefused, Checked}
+use Rattle.pregeld.specs.declared.reply.Reply.TheVariants.{Unpublished, Value, NoValue, End, Fault}
+use Rattle.pg_service.specs.Printed.{check_text, report_text}
 
 -- the number of a refused run
 abbrev pub refusal_number : RunFault → ℕ
@@ -35,37 +29,15 @@ fault_number BadWord = 3
 fault_number CutShort = 4
 fault_number EditsPending = 5
 
--- the answer to a refresh
-unfoldable pub report_text : Report → List ℕ
-report_text report =
-    codes "refreshed edition " ++ (decimal report.edition
-    ++ (codes " supersteps " ++ (decimal report.supersteps
-    ++ (codes " ending " ++ (ending_name report.ending
-    ++ (codes " calls " ++ (decimal report.calls
-    ++ codes " losses 0")))))))
-
--- the report of a refresh, as JSON
-unfoldable pub json_text : Report → List ℕ
-json_text report =
-    codes "{\"calls\":" ++ (decimal report.calls
-    ++ (codes ",\"dropped\":" ++ (decimal report.dropped
-    ++ (codes ",\"edition\":" ++ (decimal report.edition
-    ++ (codes ",\"ending\":\"" ++ (ending_name report.ending
-    ++ (codes "\",\"losses\":0,\"sent\":" ++ (decimal report.sent
-    ++ (codes ",\"supersteps\":" ++ (decimal report.supersteps
-    ++ codes "}")))))))))))
-
--- what a check has found
-abbrev pub check_text : Check → List ℕ
-check_text Stale = codes "check stale"
-check_text (Same calls) = codes "check same calls " ++ decimal calls
-check_text (Different calls) = codes "check different calls " ++ decimal calls
-
 -- an answer, without its line feed
 unfoldable pub text_of : Reply → List ℕ
 text_of (Edition edition) = codes "edition " ++ decimal edition
-text_of (ImportRefused fault) = codes "import refused " ++ decimal (import.number_of fault.kind) ++ codes " line " ++ decimal fault.line
-text_of (BatchRefused fault) = codes "refused " ++ decimal (edit.number_of fault.kind) ++ codes " position " ++ decimal fault.position
+text_of (ImportRefused fault) =
+    codes "import refused " ++ decimal (import.number_of fault.kind)
+    ++ codes " line " ++ decimal fault.line
+text_of (BatchRefused fault) =
+    codes "refused " ++ decimal (edit.number_of fault.kind)
+    ++ codes " position " ++ decimal fault.position
 text_of (Refreshed report) = report_text report
 text_of (RunRefused fault) = codes "refused " ++ decimal (refusal_number fault)
 text_of (Checked check) = check_text check
@@ -73,7 +45,8 @@ text_of Unpublished = codes "unpublished"
 text_of (Value id value) = codes "value " ++ decimal id ++ codes " " ++ signed_decimal value
 text_of (NoValue id) = codes "none " ++ decimal id
 text_of (End count) = codes "end " ++ decimal count
-text_of (Fault fault line) = codes "error " ++ decimal (fault_number fault) ++ codes " line " ++ decimal line
+text_of (Fault fault line) =
+    codes "error " ++ decimal (fault_number fault) ++ codes " line " ++ decimal line
 
 -- an answer as a line
 abbrev pub line_of_reply : Reply → List ℕ
@@ -82,6 +55,12 @@ line_of_reply reply = text_of reply ++ 10 ∷ []
 -- the line of a vertex and its value
 abbrev pub line_of_value : ℕ × ℤ → List ℕ
 line_of_value v = codes "value " ++ decimal v.0 ++ codes " " ++ signed_decimal v.1 ++ 10 ∷ []
+
+-- the line of an aggregate by its name, or that there is none of this name
+abbrev pub line_of_aggregate : List ℕ → Option ℤ → List ℕ
+line_of_aggregate name None = codes "none " ++ name ++ 10 ∷ []
+line_of_aggregate name (Some value) =
+    codes "aggregate " ++ name ++ codes " " ++ signed_decimal value ++ 10 ∷ []
 
 -- all values by rising id, and how many there are
 abbrev pub values_text : List (ℕ × ℤ) → List ℕ

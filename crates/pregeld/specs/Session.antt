@@ -1,5 +1,7 @@
 -- A session: what is answered to lines, one command after another.
-use Rattle.std.specs.Prelude.{◌≡◌, ◌≢◌, ◌⊎◌, ℕ, ℤ, ◌+◌, ◌≤◌, nat_lt, if◌then◌else◌, List, [], ◌∷◌, ◌++◌, length, take, drop, Option, None, Some, option_to_list, Result, Ok, Err}
+use Rattle.std.specs.Prelude.{◌≡◌, ◌≢◌, ◌⊎◌, ℕ, ℤ, ◌+◌, ◌≤◌, nat_lt, if◌then◌else◌, List, [], ◌∷◌}
+use Rattle.std.specs.Prelude.{◌++◌, length, take, drop, Option, None, Some, option_to_list, Result}
+use Rattle.std.specs.Prelude.{Ok, Err}
 use Rattle.std.specs.Io.KnownBytes.{Appends}
 use Rattle.std.specs.List.{concat, last_or}
 use Rattle.pg_graph.specs.Edit.{memory_fault}
@@ -11,28 +13,33 @@ use Rattle.pg_import.specs.Comma.{csv_of}
 use Rattle.pg_import.specs.Import.{list_of, no_memory}
 use Rattle.pg_import.specs.declared.line.ImportFault.{ImportFault}
 use Rattle.pg_import.specs.declared.line.Line.{Line}
-use Rattle.pg_model.specs.Job.{Job}
+use Rattle.pg_global.specs.Registry.{Registered}
 use Rattle.pg_model.specs.Publications.{Publication, Publications}
 use Rattle.pg_scratch.specs.declared.runner.RunFault.TheVariants.{Memory}
 use Rattle.pg_import.specs.Text.{raw_lines}
-use Rattle.pregeld.specs.Answers.{value_of}
+use Rattle.pg_service.specs.Answers.{aggregate_of, value_of}
 use Rattle.pregeld.specs.Command.{command_of}
 use Rattle.pg_ready.specs.Ready.{ready_job}
-use Rattle.pregeld.specs.Reply.{json_text, line_of_reply, values_text}
-use Rattle.pregeld.specs.Service.{IsTried, ServiceState, check_of, next_graph, publication_of, report_of}
+use Rattle.pg_ready.specs.declared.ready.ReadyJob.{ReadyJob}
+use Rattle.pregeld.specs.Reply.{line_of_aggregate, line_of_reply, values_text}
+use Rattle.pg_service.specs.Printed.{json_text}
+use Rattle.pg_service.specs.Service.{IsTried, ServiceState, check_of, next_graph, publication_of}
+use Rattle.pg_service.specs.Service.{registered_by, report_of}
 use Rattle.pregeld.specs.declared.command.Command.{Command}
 use Rattle.pregeld.specs.declared.command.Command.TheVariants.{Nothing, Edit, Act, Ask}
 use Rattle.pregeld.specs.declared.command.Action.{Action}
 use Rattle.pregeld.specs.declared.command.Action.TheVariants.{Commit, Import, Refresh, Recompute}
 use Rattle.pregeld.specs.declared.command.Query.{Query}
-use Rattle.pregeld.specs.declared.command.Query.TheVariants.{Dump, Get, Reported}
+use Rattle.pregeld.specs.declared.command.Query.TheVariants.{Aggregate, Dump, Get, Reported}
 use Rattle.pregeld.specs.declared.command.Form.{Form}
 use Rattle.pregeld.specs.declared.command.Form.TheVariants.{List as ListForm, Csv}
 use Rattle.pregeld.specs.declared.command.LineFault.{LineFault}
 use Rattle.pregeld.specs.declared.command.LineFault.TheVariants.{CutShort, EditsPending}
 use Rattle.pregeld.specs.declared.reply.Reply.{Reply}
-use Rattle.pregeld.specs.declared.reply.Reply.TheVariants.{Edition, ImportRefused, BatchRefused, Refreshed, RunRefused, Checked, Unpublished, Value, NoValue, Fault}
-use Rattle.pregeld.specs.declared.answers.Report.{Report}
+use Rattle.pregeld.specs.declared.reply.Reply.TheVariants.{Edition, ImportRefused, BatchRefused}
+use Rattle.pregeld.specs.declared.reply.Reply.TheVariants.{Refreshed, RunRefused, Checked}
+use Rattle.pregeld.specs.declared.reply.Reply.TheVariants.{Unpublished, Value, NoValue, Fault}
+use Rattle.pg_service.specs.declared.answers.Report.{Report}
 use Rattle.pregeld.specs.declared.session.ServeFault.{ServeFault}
 use Rattle.pregeld.specs.declared.session.ServeFault.TheVariants.{Write}
 
@@ -45,11 +52,15 @@ pub record State : Type 0 where
   pub report : Option Report  -- of the last refresh of this session that was answered
   pub kept : Option Rows  -- the graph of the run that the next refresh may reuse
 
--- where a session stands: how many lines were read, what it keeps, and the lines that are left, each with its line feed
+-- where a session stands: how many lines were read, what it keeps, and the lines that are left,
+-- each with its line feed
 pub record Place : Type 0 where
   pub number : ℕ
   pub state : State
   pub lines : List (List ℕ)
+
+abbrev pub place_at : ℕ → State → List (List ℕ) → Place
+place_at number state lines = record { number = number; state = state; lines = lines }
 
 -- what is answered to a command, and where the session goes on
 pub record Answer : Type 0 where
@@ -79,37 +90,51 @@ pub record Imported : Type 0 where
 
 -- the next edition, or the fault of the batch
 abbrev pub edited : Result Rows EditFault → ℕ → Rows → Imported
-edited (Err fault) edition graph = record { reply = BatchRefused fault; edition = edition; graph = graph }
-edited (Ok made) edition graph = record { reply = Edition (edition + 1); edition = edition + 1; graph = made }
+edited (Err fault) edition graph =
+    record { reply = BatchRefused fault; edition = edition; graph = graph }
+edited (Ok made) edition graph =
+    record { reply = Edition (edition + 1); edition = edition + 1; graph = made }
 
 -- edges become a batch, or the block has a fault
 abbrev pub imported : Result (List Line) ImportFault → ℕ → Rows → Imported
-imported (Err fault) edition graph = record { reply = ImportRefused fault; edition = edition; graph = graph }
-imported (Ok edges) edition graph = edited (next_graph edition graph (batch_of edges graph)) edition graph
+imported (Err fault) edition graph =
+    record { reply = ImportRefused fault; edition = edition; graph = graph }
+imported (Ok edges) edition graph =
+    edited (next_graph edition graph (batch_of edges graph)) edition graph
 
 -- the batch of these edges is tried
 abbrev pub IsTriedOf : ℕ → Rows → Result (List Line) ImportFault → Type 0
 IsTriedOf edition graph (Ok edges) = IsTried edition (batch_of edges graph)
 IsTriedOf edition graph (Err fault) = ⊥
 
--- an import takes so many lines, or is cut short by the end of the input, and then nothing is applied
+-- an import takes so many lines, or is cut short by the end of the input, and then nothing is
+-- applied
 abbrev pub block_answer : Form → ℕ → Place → Answer
 block_answer form n place =
-    if nat_lt (length place.lines) n then answered (Fault CutShort place.number) (record place { lines = [] })
+    if nat_lt (length place.lines) n
+    then answered (Fault CutShort place.number) (record place { lines = [] })
     else
-    let now = imported (edges_of form (concat (take n place.lines))) place.state.edition place.state.graph in
-    answered now.reply (record (past n place) { state = record place.state { edition = now.edition; graph = now.graph } })
+    let edges = edges_of form (concat (take n place.lines)) in
+    let now = imported edges place.state.edition place.state.graph in
+    answered now.reply (record (past n place) {
+      state = record place.state { edition = now.edition; graph = now.graph };
+    })
 
 -- an import while edits are pending is a fault, and its block is set aside
 abbrev pub import_answer : List OneEdit → Form → ℕ → Place → Answer
 import_answer [] form n place = block_answer form n place
-import_answer (edit ∷ edits) form n place = answered (Fault EditsPending place.number) (past n place)
+import_answer (edit ∷ edits) form n place =
+    answered (Fault EditsPending place.number) (past n place)
 
--- memory may be wanted for an import before its batch is applied, and while it is, where it is tried
+-- memory may be wanted for an import before its batch is applied, and while it is, where it is
+-- tried
 abbrev pub ImportWantsMemory : Form → ℕ → Place → Reply → Type 0
 ImportWantsMemory form n place reply =
+    let edges = edges_of form (concat (take n place.lines)) in
     (place.state.pending ≡ []) × (n ≤ length place.lines)
-    × ((reply ≡ ImportRefused no_memory) ⊎ ((reply ≡ BatchRefused memory_fault) × IsTriedOf place.state.edition place.state.graph (edges_of form (concat (take n place.lines)))))
+    × ((reply ≡ ImportRefused no_memory)
+    ⊎ ((reply ≡ BatchRefused memory_fault)
+    × IsTriedOf place.state.edition place.state.graph edges))
 
 -- ---- edits
 
@@ -124,8 +149,12 @@ emptied state = record state { pending = [] }
 -- the pending edits make the next edition, or are refused; in both cases none is pending afterwards
 abbrev pub commit_answer : Place → Answer
 commit_answer place =
-    let now = edited (next_graph place.state.edition place.state.graph place.state.pending) place.state.edition place.state.graph in
-    answered now.reply (record place { state = record (emptied place.state) { edition = now.edition; graph = now.graph } })
+    let state = place.state in
+    let made = next_graph state.edition state.graph state.pending in
+    let now = edited made state.edition state.graph in
+    answered now.reply (record place {
+      state = record (emptied state) { edition = now.edition; graph = now.graph };
+    })
 
 -- ---- all commands
 
@@ -143,26 +172,35 @@ abbrev pub get_reply : ℕ → Option (Publication ℤ) → Reply
 get_reply id None = Unpublished
 get_reply id (Some publication) = value_reply id (value_of id publication.answer.values)
 
+-- the aggregate that was published last under a name, of those that are registered
+abbrev pub aggregate_text : List ℕ → Registered → Option (Publication ℤ) → List ℕ
+aggregate_text name registered None = line_of_reply Unpublished
+aggregate_text name registered (Some publication) =
+    line_of_aggregate name (aggregate_of name registered publication.answer.aggregates)
+
 -- the report of the last refresh of this session that was answered
 abbrev pub report_line : Option Report → List ℕ
 report_line None = line_of_reply Unpublished
 report_line (Some report) = json_text report ++ 10 ∷ []
 
--- what is told, of what was published last and of the last report
-abbrev pub query_text : Query → Option (Publication ℤ) → Option Report → List ℕ
-query_text Dump published report = dump_text published
-query_text (Get id) published report = line_of_reply (get_reply id published)
-query_text Reported published report = report_line report
+-- what is told by a job, of what was published last and of the last report
+abbrev pub query_text : ReadyJob → Query → Option (Publication ℤ) → Option Report → List ℕ
+query_text own Dump published report = dump_text published
+query_text own (Get id) published report = line_of_reply (get_reply id published)
+query_text own (Aggregate name) published report =
+    aggregate_text name (registered_by own) published
+query_text own Reported published report = report_line report
 
-module _ (own : Job ℤ ℤ) where
+module _ (own : ReadyJob) where
   -- the run on the graph as it stands is published and reported
   abbrev pub refresh_answer : Place → Answer
   refresh_answer place =
       let state = place.state in
-      let report = report_of own state.kept state.edition state.graph in
+      let report = report_of (ready_job own) state.kept state.edition state.graph in
+      let publication = publication_of (ready_job own) state.edition state.graph in
       answered (Refreshed report) (record place {
         state = record state {
-          publications = state.publications ++ publication_of own state.edition state.graph ∷ [];
+          publications = state.publications ++ publication ∷ [];
           report = Some report;
         };
       })
@@ -173,24 +211,36 @@ module _ (own : Job ℤ ℤ) where
   action_answer (Import form n) place = import_answer place.state.pending form n place
   action_answer Refresh place = refresh_answer place
   action_answer Recompute place =
-      answered (Checked (check_of own place.state.edition place.state.graph (last_or None place.state.publications))) place
+      let state = place.state in
+      let published = last_or None state.publications in
+      answered (Checked (check_of (ready_job own) state.edition state.graph published)) place
 
   -- the answer to a command, which stands in the last line that was read
   unfoldable pub answer_to : Result Command LineFault → Place → Answer
   answer_to (Err fault) place = answered (Fault fault place.number) place
   answer_to (Ok Nothing) place = record { text = []; next = place }
-  answer_to (Ok (Edit edit)) place = record { text = []; next = record place { state = noted edit place.state } }
+  answer_to (Ok (Edit edit)) place =
+      record { text = []; next = record place { state = noted edit place.state } }
   answer_to (Ok (Act action)) place = action_answer action place
-  answer_to (Ok (Ask query)) place = record { text = query_text query (last_or None place.state.publications) place.state.report; next = place }
+  answer_to (Ok (Ask query)) place =
+      record {
+        text = query_text own query (last_or None place.state.publications) place.state.report;
+        next = place;
+      }
 
-  -- an action for which there is no memory: graph, edition and publications stay, no run is kept after a
-  -- refresh, and no edit is pending after a commit
+  -- an action for which there is no memory: graph, edition and publications stay, no run is kept
+  -- after a refresh, and no edit is pending after a commit
   abbrev pub WantsMemory : Action → Place → Answer → Type 0
   WantsMemory Commit place answer =
-      IsTried place.state.edition place.state.pending × (answer ≡ answered (BatchRefused memory_fault) (record place { state = emptied place.state }))
+      IsTried place.state.edition place.state.pending
+      × (answer
+      ≡ answered (BatchRefused memory_fault) (record place { state = emptied place.state }))
   WantsMemory (Import form n) place answer =
-      (reply : Reply) × ImportWantsMemory form n place reply × (answer ≡ answered reply (past n place))
-  WantsMemory Refresh place answer = answer ≡ answered (RunRefused Memory) (record place { state = record place.state { kept = None } })
+      (reply : Reply) × ImportWantsMemory form n place reply
+      × (answer ≡ answered reply (past n place))
+  WantsMemory Refresh place answer =
+      answer
+      ≡ answered (RunRefused Memory) (record place { state = record place.state { kept = None } })
   WantsMemory Recompute place answer = answer ≡ answered (RunRefused Memory) place
 
   -- the answers for want of memory
@@ -203,15 +253,17 @@ module _ (own : Job ℤ ℤ) where
 
   -- an answer that a command may get
   abbrev pub Answers : Result Command LineFault → Place → Answer → Type 0
-  Answers command place answer = (answer ≡ answer_to command place) ⊎ ForWantOfMemory command place answer
+  Answers command place answer =
+      (answer ≡ answer_to command place) ⊎ ForWantOfMemory command place answer
 
   -- a session answers this text on its way from one place to another
   pub data Runs : Place → List ℕ → Place → Type 0 where
     stop : (place : Place) → Runs place [] place
-    go : (number : ℕ) (state : State) (line : List ℕ) (lines : List (List ℕ)) (answer : Answer) (text : List ℕ) (end : Place)
-        → Answers (command_of line) (record { number = number + 1; state = state; lines = lines }) answer
+    go : (number : ℕ) (state : State) (line : List ℕ) (lines : List (List ℕ))
+        (answer : Answer) (text : List ℕ) (end : Place)
+        → Answers (command_of line) (place_at (number + 1) state lines) answer
         → Runs answer.next text end
-        → Runs (record { number = number; state = state; lines = line ∷ lines }) (answer.text ++ text) end
+        → Runs (place_at number state (line ∷ lines)) (answer.text ++ text) end
 
   -- a session's text ends in an answer that isn't empty: the one to the last line that was read
   pub record EndsInAnswer (first : Place) (text : List ℕ) (end : Place) : Type 0 where
@@ -221,8 +273,8 @@ module _ (own : Job ℤ ℤ) where
     pub line : List ℕ
     pub lines : List (List ℕ)
     pub answer : Answer
-    pub runs : Runs first front (record { number = number; state = state; lines = line ∷ lines })
-    pub answers : Answers (command_of line) (record { number = number + 1; state = state; lines = lines }) answer
+    pub runs : Runs first front (place_at number state (line ∷ lines))
+    pub answers : Answers (command_of line) (place_at (number + 1) state lines) answer
     pub some : answer.text ≢ []
     pub text_is : text ≡ front ++ answer.text
     pub end_is : end ≡ answer.next
@@ -242,26 +294,37 @@ opened service = record {
 
 -- a service keeps what a session has come to
 abbrev pub after : ServiceState → State → ServiceState
-after service state = record service { graph = state.graph; edition = state.edition; published = last_or None state.publications }
+after service state = record service {
+  graph = state.graph;
+  edition = state.edition;
+  published = last_or None state.publications;
+}
+
+-- where a session of a service on an input begins
+abbrev pub first_place : ServiceState → List ℕ → Place
+first_place service input = place_at 0 (opened service) (raw_lines input)
 
 -- a session of a service on an input has come to a place, with this text
-pub record Comes (input : List ℕ) (old new : ServiceState) (text : List ℕ) (place : Place) : Type 0 where
-  pub runs : Runs (ready_job old.job) (record { number = 0; state = opened old; lines = raw_lines input }) text place
+pub record Comes (input : List ℕ) (old new : ServiceState) (text : List ℕ)
+    (place : Place) : Type 0 where
+  pub runs : Runs old.job (first_place old input) text place
   pub service_is : new ≡ after old place.state
 
 -- the whole input was answered, and that is what was written
-pub record Serves (input : List ℕ) (old new : ServiceState) (before now : Option (List ℕ)) : Type 0 where
+pub record Serves (input : List ℕ) (old new : ServiceState)
+    (before now : Option (List ℕ)) : Type 0 where
   pub text : List ℕ
   pub place : Place
   pub comes : Comes input old new text place
   pub ends : place.lines ≡ []
   pub wrote : Appends before now text
 
--- a fault broke a session off: all was written that was answered until then; where writing failed, it was the last
--- answer that couldn't be written
-pub record BreaksOff (fault : ServeFault) (input : List ℕ) (old new : ServiceState) (before now : Option (List ℕ)) : Type 0 where
+-- a fault broke a session off: all was written that was answered until then; where writing failed,
+-- it was the last answer that couldn't be written
+pub record BreaksOff (fault : ServeFault) (input : List ℕ) (old new : ServiceState)
+    (before now : Option (List ℕ)) : Type 0 where
   pub text : List ℕ
   pub place : Place
   pub comes : Comes input old new text place
   pub wrote : fault ≢ Write → Appends before now text
-  pub unwritten : fault ≡ Write → EndsInAnswer (ready_job old.job) (record { number = 0; state = opened old; lines = raw_lines input }) text place
+  pub unwritten : fault ≡ Write → EndsInAnswer old.job (first_place old input) text place

@@ -1,8 +1,11 @@
 //! What the command line takes.
 ghost use Rattle.std.specs.Prelude.{◌≡◌, false, codes, IfOk};
 ghost use Rattle.clap.specs.Words.{app_of, rule_of};
-ghost use Rattle.pregeld.specs.Arguments.{AreOptionWords, AreWords, OptionWords, WordList, number_rule, program, program_rule, word_rule};
-ghost use Rattle.pregeld.specs.Arguments.{combiner_word, combiner_words, missing_word, missing_words, program_words};
+ghost use Rattle.pregeld.specs.Arguments.{AreOptionWords, AreWords, OptionWords, WordList};
+ghost use Rattle.pregeld.specs.Arguments.{combiner_word, combiner_words};
+ghost use Rattle.pregeld.specs.Arguments.{missing_word, missing_words};
+ghost use Rattle.pregeld.specs.Arguments.{number_rule, program, program_rule, program_words};
+ghost use Rattle.pregeld.specs.Arguments.{word_rule};
 ghost use Rattle.pg_global.specs.declared.combiner.AnyCombiner.TheVariants.{NoCombiner};
 ghost use Rattle.pg_graph.specs.declared.missing.Missing.TheVariants.{Drop};
 
@@ -10,6 +13,9 @@ use crate::names::{COMBINERS, POLICIES, PROGRAMS};
 use clap::builder::ValueParser;
 use clap::{Arg, ArgAction, Command};
 use std::alloc::{AllocError, Global};
+
+/// The name of the program, whatever its file is called.
+const NAME: &str = "pregeld";
 
 /// The greatest id.
 pub(crate) const SOURCE_LIMIT: u64 = 9_223_372_036_854_775_807;
@@ -28,9 +34,11 @@ pub(crate) const SUPERSTEP_LIMIT: u64 = 10_000;
 
 /// What the command line takes.
 pub(crate) fn command<'a>(alloc: Global) -> Result<Command<'a>, AllocError>
-    ensures { IfOk result (λ c. (words : OptionWords) × AreOptionWords words × (app_of c ≡ program words)) }
+    ensures { IfOk result (λ c. (words : OptionWords)
+        × AreOptionWords words × (app_of c ≡ program words)) }
 {
-    Command::new(alloc, "pregeld")
+    Command::new(alloc, NAME)
+        .bin_name(NAME)?
         .arg(program_option(alloc))?
         .arg(number_option(
             alloc,
@@ -98,7 +106,8 @@ fn number_option<'a>(
 
 /// The option that names the vertex program.
 fn program_option<'a>(alloc: Global) -> Arg<'a>
-    ensures rule { (words : WordList) × AreWords words program_words × (rule_of result ≡ program_rule words) }
+    ensures rule { (words : WordList) × AreWords words program_words
+        × (rule_of result ≡ program_rule words) }
     ensures local { result.global ≡ false }
 {
     Arg::new(alloc, "program")

@@ -1,8 +1,10 @@
 //! Lines of the input.
-ghost use Rattle.std.specs.Prelude.{◌≡◌, ◌≢◌, ◌++◌, ◌-◌, List, ℕ, Some, length, slice_get, option_map, IfOk, IfErr, MatchBool};
+ghost use Rattle.std.specs.Prelude.{◌≡◌, ◌≢◌, ◌++◌, ◌-◌, List, ℕ, Some, length, slice_get};
+ghost use Rattle.std.specs.Prelude.{option_map, IfOk, IfErr, MatchBool};
 ghost use Rattle.std.specs.Io.{StopsAt};
 ghost use Rattle.pg_import.specs.Text.{raw_lines};
-ghost use Rattle.pregeld.specs.Reading.{NextLine, SkipsLine, SkipsLines, TakesLines, lines_left};
+ghost use Rattle.pregeld.specs.Reading.{IfLines, NextLine, SkipsLine, SkipsLines};
+ghost use Rattle.pregeld.specs.Reading.{TakesLines, lines_left};
 
 use crate::ServeFault;
 use std::alloc::Global;
@@ -28,8 +30,9 @@ pub(crate) fn next_line<R: BufRead>(
     alloc: Global,
     reader: &mut R,
 ) -> Result<Option<Vec<u8>>, ServeFault>
-    ensures ok { IfOk result (λ line. (lines : List (List ℕ)) → lines_left (R.remaining reader.old) ≡ Some lines
-        → NextLine (option_map (λ bytes. bytes.items) line) lines (lines_left (R.remaining reader.new))) }
+    ensures ok { IfOk result (λ line. IfLines (R.remaining reader.old) (λ lines.
+        NextLine (option_map (λ bytes. bytes.items) line) lines
+        (lines_left (R.remaining reader.new)))) }
     ensures err { IfErr result (λ fault. fault ≢ ServeFault.Write) }
 {
     let mut line = Vec::new(alloc);
@@ -50,8 +53,9 @@ pub(crate) fn take_block<R: BufRead>(
     reader: &mut R,
     text: &mut Vec<u8>,
 ) -> Result<Block, ServeFault>
-    ensures ok { IfOk result (λ block. (lines : List (List ℕ)) → lines_left (R.remaining reader.old) ≡ Some lines
-        → TakesLines count block lines text.old.items text.new.items (lines_left (R.remaining reader.new))) }
+    ensures ok { IfOk result (λ block. IfLines (R.remaining reader.old) (λ lines.
+        TakesLines count block lines text.old.items text.new.items
+        (lines_left (R.remaining reader.new)))) }
     ensures err { IfErr result (λ fault. fault ≢ ServeFault.Write) }
 {
     for taken in 0..count {
@@ -66,8 +70,9 @@ pub(crate) fn take_block<R: BufRead>(
 
 /// Reads one line onto a text. Where there is no memory for it, its rest is set aside.
 fn take_line<R: BufRead>(reader: &mut R, text: &mut Vec<u8>) -> Result<Block, ServeFault>
-    ensures ok { IfOk result (λ block. (lines : List (List ℕ)) → lines_left (R.remaining reader.old) ≡ Some lines
-        → TakesLines 1 block lines text.old.items text.new.items (lines_left (R.remaining reader.new))) }
+    ensures ok { IfOk result (λ block. IfLines (R.remaining reader.old) (λ lines.
+        TakesLines 1 block lines text.old.items text.new.items
+        (lines_left (R.remaining reader.new)))) }
     ensures err { IfErr result (λ fault. fault ≢ ServeFault.Write) }
 {
     let before = text.len();
@@ -83,8 +88,10 @@ fn take_line<R: BufRead>(reader: &mut R, text: &mut Vec<u8>) -> Result<Block, Se
 
 /// Sets aside the rest of a line of which `front` has been read.
 fn set_aside<R: BufRead>(reader: &mut R, front: &[u8]) -> Result<Block, ServeFault>
-    ensures ok { IfOk result (λ block. (rest old new : List ℕ) → R.remaining reader.old ≡ Some rest → StopsAt front.now 10
-        → TakesLines 1 block (raw_lines (front.now ++ rest)) old new (lines_left (R.remaining reader.new))) }
+    ensures ok { IfOk result (λ block. (rest old new : List ℕ)
+        → R.remaining reader.old ≡ Some rest → StopsAt front.now 10
+        → TakesLines 1 block (raw_lines (front.now ++ rest)) old new
+        (lines_left (R.remaining reader.new))) }
     ensures err { IfErr result (λ fault. fault ≢ ServeFault.Write) }
 {
     if ends_line(front) {
@@ -101,7 +108,8 @@ fn set_aside<R: BufRead>(reader: &mut R, front: &[u8]) -> Result<Block, ServeFau
 
 /// Whether a text ends in a line feed.
 fn ends_line(text: &[u8]) -> bool
-    ensures { MatchBool result (slice_get text.now (length text.now - 1) ≡ Some 10) (slice_get text.now (length text.now - 1) ≢ Some 10) }
+    ensures { let last = slice_get text.now (length text.now - 1) in
+        MatchBool result (last ≡ Some 10) (last ≢ Some 10) }
 {
     match text.last() {
         Some(last) => *last == b'\n',
@@ -111,8 +119,8 @@ fn ends_line(text: &[u8]) -> bool
 
 /// Sets so many lines aside.
 pub(crate) fn skip_lines<R: BufRead>(count: u32, reader: &mut R) -> Result<Block, ServeFault>
-    ensures ok { IfOk result (λ block. (lines : List (List ℕ)) → lines_left (R.remaining reader.old) ≡ Some lines
-        → SkipsLines count block lines (lines_left (R.remaining reader.new))) }
+    ensures ok { IfOk result (λ block. IfLines (R.remaining reader.old) (λ lines.
+        SkipsLines count block lines (lines_left (R.remaining reader.new)))) }
     ensures err { IfErr result (λ fault. fault ≢ ServeFault.Write) }
 {
     for _skipped in 0..count {

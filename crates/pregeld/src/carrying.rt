@@ -1,8 +1,12 @@
 //! Commands that are answered by one line, carried out.
-ghost use Rattle.std.specs.Prelude.{◌≡◌, ◌≢◌, [], List, ℕ, Some, Ok, IfOk, IfErr};
+ghost use Rattle.std.specs.Prelude.{◌≡◌, ◌≢◌, [], Ok, IfOk, IfErr};
 ghost use Rattle.pg_import.specs.Import.{Gives};
-ghost use Rattle.pregeld.specs.Reading.{Checks, Edits, Imports, ImportsLines, Keeps, Refreshes, RepliesTo, lines_left};
-ghost use Rattle.pregeld.specs.Session.{State, edges_of};
+ghost use Rattle.pregeld.specs.Notes.{with_notes};
+ghost use Rattle.pregeld.specs.Reading.{IfLines};
+ghost use Rattle.pregeld.specs.Keeping.{Checks, Edits, Imports, ImportsLines, Keeps};
+ghost use Rattle.pregeld.specs.Reading.{lines_left};
+ghost use Rattle.pregeld.specs.Keeping.{Refreshes, RepliesTo};
+ghost use Rattle.pregeld.specs.Session.{State, edges_of, place_at};
 
 use crate::block::{Block, skip_lines, take_block};
 use crate::command::{Action, Command, Form, LineFault};
@@ -28,10 +32,10 @@ pub(crate) fn carry_out<R: BufRead>(
     service: &mut Service,
     notes: &mut Notes,
 ) -> Result<(Reply, u64), ServeFault>
-    ensures ok { IfOk result (λ r. (state : State) (lines : List (List ℕ)) → Keeps (record { service = service.old; notes = notes.old }) state
-        → lines_left (R.remaining reader.old) ≡ Some lines
-        → RepliesTo (Ok (Command.Act action)) (record { number = number; state = state; lines = lines }) service.old r.0 r.1
-        (record { service = service.new; notes = notes.new }) (lines_left (R.remaining reader.new))) }
+    ensures ok { IfOk result (λ r. (state : State) → Keeps (with_notes service.old notes.old) state
+        → IfLines (R.remaining reader.old) (λ lines.
+        RepliesTo (Ok (Command.Act action)) (place_at number state lines) service.old r.0 r.1
+        (with_notes service.new notes.new) (lines_left (R.remaining reader.new)))) }
     ensures err { IfErr result (λ fault. (fault ≢ ServeFault.Write) × (service.new ≡ service.old)) }
 {
     match action {
@@ -66,7 +70,8 @@ fn apply(alloc: Global, batch: &Batch, service: &mut Service) -> Reply
 
 /// Runs the program, publishes the answer and keeps the report.
 fn refresh(alloc: Global, service: &mut Service, notes: &mut Notes) -> Reply
-    ensures { Refreshes (record { service = service.old; notes = notes.old }) result (record { service = service.new; notes = notes.new }) }
+    ensures { Refreshes (with_notes service.old notes.old) result
+        (with_notes service.new notes.new) }
 {
     match service.refresh(alloc) {
         Ok(report) => {
@@ -98,10 +103,11 @@ fn import<R: BufRead>(
     service: &mut Service,
     notes: &Notes,
 ) -> Result<(Reply, u64), ServeFault>
-    ensures ok { IfOk result (λ r. (state : State) (rest : List (List ℕ)) → Keeps (record { service = service.old; notes = notes.now }) state
-        → lines_left (R.remaining reader.old) ≡ Some rest
-        → RepliesTo (Ok (Command.Act (Action.Import form lines))) (record { number = number; state = state; lines = rest }) service.old r.0 r.1
-        (record { service = service.new; notes = notes.now }) (lines_left (R.remaining reader.new))) }
+    ensures ok { IfOk result (λ r. (state : State) → Keeps (with_notes service.old notes.now) state
+        → IfLines (R.remaining reader.old) (λ rest.
+        RepliesTo (Ok (Command.Act (Action.Import form lines))) (place_at number state rest)
+        service.old r.0 r.1
+        (with_notes service.new notes.now) (lines_left (R.remaining reader.new)))) }
     ensures err { IfErr result (λ fault. (fault ≢ ServeFault.Write) × (service.new ≡ service.old)) }
 {
     let Some(reached) = number.checked_add(u64::from(lines)) else {
@@ -117,7 +123,8 @@ fn import<R: BufRead>(
     }
 }
 
-/// Reads the lines of an edge list and applies it as one batch, or finds the input at its end before.
+/// Reads the lines of an edge list and applies it as one batch, or finds the input at its end
+/// before.
 fn import_lines<R: BufRead>(
     alloc: Global,
     form: Form,
@@ -125,8 +132,9 @@ fn import_lines<R: BufRead>(
     reader: &mut R,
     service: &mut Service,
 ) -> Result<Option<Reply>, ServeFault>
-    ensures ok { IfOk result (λ reply. (rest : List (List ℕ)) → lines_left (R.remaining reader.old) ≡ Some rest
-        → ImportsLines form lines rest service.old reply service.new (lines_left (R.remaining reader.new))) }
+    ensures ok { IfOk result (λ reply. IfLines (R.remaining reader.old) (λ rest.
+        ImportsLines form lines rest service.old reply service.new
+        (lines_left (R.remaining reader.new)))) }
     ensures err { IfErr result (λ fault. (fault ≢ ServeFault.Write) × (service.new ≡ service.old)) }
 {
     let mut block = Vec::new(alloc);

@@ -1,13 +1,16 @@
 //! What a line asks for.
-ghost use Rattle.std.specs.Prelude.{◌≡◌};
+ghost use Rattle.std.specs.Prelude.{◌≡◌, All, IsAscii};
 ghost use Rattle.std.specs.Char.{is_ascii};
 ghost use Rattle.std.specs.List.{list_all};
-ghost use Rattle.pregeld.specs.Command.{alone, command_of, edit_named, form_of, get_of, import_of, named};
+ghost use Rattle.pregeld.specs.Command.{agg_of, alone, command_of, edit_named, form_of, get_of};
+ghost use Rattle.pregeld.specs.Command.{import_of, named};
 ghost use Rattle.pregeld.specs.Reply.{fault_number};
 
 use crate::edits::{edge_of, id_in, input_of, reweigh_of, unedge_of, unvertex_of, vertex_of};
 use pg_graph::{Edit, VertexId};
 use pg_import::{Words, bare_line, read_id};
+use std::marker::Model;
+use std::str;
 
 /// The most lines of an import.
 const LINE_LIMIT: u64 = 100_000;
@@ -51,9 +54,32 @@ pub(crate) enum Form {
     Csv,
 }
 
+/// A name that a line has. A contract sees its bytes.
+#[derive(Drop)]
+pub(crate) struct Name<'a> {
+    text: &'a str,
+}
+
+impl<'a> Model for Name<'a> {
+    ghost use Rattle.std.specs.Prelude.{List, ℕ};
+
+    ghost Value = { List ℕ };
+
+    ghost view = { λ name. name.text.now };
+}
+
+impl<'a> Name<'a> {
+    /// The text of the name.
+    pub(crate) fn text(&self) -> &'a str
+        ensures { result.now ≡ self.now }
+    {
+        self.text
+    }
+}
+
 /// What a line asks for.
-#[derive(Clone, Copy, Debug, PartialEq, Eq)]
-pub(crate) enum Command {
+#[derive(Drop)]
+pub(crate) enum Command<'a> {
     /// Nothing: the line is empty or a comment.
     Nothing,
     /// To add an edit to those that are pending.
@@ -61,7 +87,7 @@ pub(crate) enum Command {
     /// To do something that is answered by one line.
     Act(Action),
     /// To tell something.
-    Ask(Query),
+    Ask(Query<'a>),
 }
 
 /// What a line asks to be done.
@@ -78,19 +104,21 @@ pub(crate) enum Action {
 }
 
 /// What a line asks to be told.
-#[derive(Clone, Copy, Debug, PartialEq, Eq)]
-pub(crate) enum Query {
+#[derive(Drop)]
+pub(crate) enum Query<'a> {
     /// All published values.
     Dump,
     /// The published value of a vertex.
     Get(VertexId),
+    /// The published aggregate of this name.
+    Aggregate(Name<'a>),
     /// The last report.
     Reported,
 }
 
 /// The command of a line, which may end in its line feed.
 #[tactic(auto, unfolding(crate::specs::Command::command_in))]
-pub(crate) fn command_of(raw: &[u8]) -> Result<Command, LineFault>
+pub(crate) fn command_of(raw: &[u8]) -> Result<Command<'_>, LineFault>
     ensures { result ≡ command_of raw.now }
 {
     let line = bare_line(raw);
@@ -115,7 +143,8 @@ fn is_ascii(line: &[u8]) -> bool
 
 /// The command that a first word names, with the words after it.
 #[tactic(auto, unfolding(crate::specs::Command::named))]
-fn named(first: &[u8], words: Words<'_>) -> Result<Command, LineFault>
+fn named<'a>(first: &[u8], words: Words<'a>) -> Result<Command<'a>, LineFault>
+    requires { All IsAscii words }
     ensures { result ≡ named first.now words.entry }
 {
     if first == b"import".as_slice() {
@@ -138,6 +167,9 @@ fn named(first: &[u8], words: Words<'_>) -> Result<Command, LineFault>
     }
     if first == b"get".as_slice() {
         return get_of(words);
+    }
+    if first == b"agg".as_slice() {
+        return agg_of(words);
     }
     let edit = edit_named(first, words)?;
     Ok(Command::Edit(edit))
@@ -171,7 +203,7 @@ fn edit_named(first: &[u8], words: Words<'_>) -> Result<Edit, LineFault>
 
 /// `get ID`.
 #[tactic(auto, unfolding(crate::specs::Command::get_of))]
-fn get_of(mut words: Words<'_>) -> Result<Command, LineFault>
+fn get_of<'a>(mut words: Words<'a>) -> Result<Command<'a>, LineFault>
     ensures { result ≡ get_of words.entry }
 {
     let Some(id) = words.next() else {
@@ -183,10 +215,28 @@ fn get_of(mut words: Words<'_>) -> Result<Command, LineFault>
     Ok(Command::Ask(Query::Get(id_in(id)?)))
 }
 
+/// `agg NAME`.
+#[tactic(auto, unfolding(crate::specs::Command::agg_of))]
+fn agg_of<'a>(mut words: Words<'a>) -> Result<Command<'a>, LineFault>
+    requires { All IsAscii words }
+    ensures { result ≡ agg_of words.entry }
+{
+    let Some(name) = words.next() else {
+        return Err(LineFault::WordCount);
+    };
+    if words.next().is_some() {
+        return Err(LineFault::WordCount);
+    }
+    let Ok(text) = str::from_utf8(name) else {
+        return Err(LineFault::NoCommand);
+    };
+    Ok(Command::Ask(Query::Aggregate(Name { text })))
+}
+
 /// A command with no words after it.
 #[tactic(auto, unfolding(crate::specs::Command::alone))]
-fn alone(command: Command, mut words: Words<'_>) -> Result<Command, LineFault>
-    ensures { result ≡ alone command words.entry }
+fn alone<'a>(command: Command<'a>, mut words: Words<'a>) -> Result<Command<'a>, LineFault>
+    ensures { result ≡ alone command.entry words.entry }
 {
     match words.next() {
         None => Ok(command),
@@ -196,7 +246,7 @@ fn alone(command: Command, mut words: Words<'_>) -> Result<Command, LineFault>
 
 /// An import, of a form and a number of lines.
 #[tactic(auto, unfolding(crate::specs::Command::import_of))]
-fn import_of(mut words: Words<'_>) -> Result<Command, LineFault>
+fn import_of<'a>(mut words: Words<'a>) -> Result<Command<'a>, LineFault>
     ensures { result ≡ import_of words.entry }
 {
     let Some(form) = words.next() else {

@@ -1,7 +1,8 @@
 //! Edits, read from the words of a line.
 ghost use Rattle.std.specs.Prelude.{◌≡◌};
 ghost use Rattle.pg_import.specs.Number.{id_of, weight_of};
-ghost use Rattle.pregeld.specs.Edits.{edge_of, in_place, input_of, reweigh_of, unedge_of, unvertex_of, vertex_of};
+ghost use Rattle.pregeld.specs.Edits.{edge_of, in_place, input_of, reweigh_of, unedge_of};
+ghost use Rattle.pregeld.specs.Edits.{unvertex_of, vertex_of};
 
 use crate::command::LineFault;
 use pg_graph::{Edit, VertexId};

@@ -1,7 +1,6 @@
 //! The service: a graph, a ready program that runs on it, and the commands that reach both.
 #![tactic(auto)]
 
-mod answers;
 mod arguments;
 mod block;
 mod carrying;
@@ -12,12 +11,9 @@ mod notes;
 mod options;
 mod program;
 mod reply;
-mod report_json;
-mod service;
 mod session;
 mod writing;
 
-pub use answers::{Answers, Check, Report, same};
+pub use pg_service::{Answers, Check, Report, Service, same};
 pub use program::start;
-pub use service::Service;
 pub use session::{ServeFault, serve};

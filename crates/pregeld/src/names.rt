@@ -70,7 +70,8 @@ impl FromStr for Combining {
 
     type Err = NoName;
 
-    ghost from_str_gives = { λ text result. MatchResult result (λ c. text ≡ combiner_word c.combiner)
+    ghost from_str_gives = { λ text result. MatchResult result
+        (λ c. text ≡ combiner_word c.combiner)
         (λ _. (combiner : AnyCombiner) → text ≡ combiner_word combiner → ⊥) };
 
     fn from_str(text: &str) -> Result<Combining, NoName> {
@@ -92,7 +93,8 @@ impl FromStr for Policy {
 
     type Err = NoName;
 
-    ghost from_str_gives = { λ text result. MatchResult result (λ policy. text ≡ missing_word policy.missing)
+    ghost from_str_gives = { λ text result. MatchResult result
+        (λ policy. text ≡ missing_word policy.missing)
         (λ _. (missing : Missing) → text ≡ missing_word missing → ⊥) };
 
     fn from_str(text: &str) -> Result<Policy, NoName> {

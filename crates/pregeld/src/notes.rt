@@ -1,5 +1,6 @@
 //! What a session has beside its service.
-ghost use Rattle.std.specs.Prelude.{◌≡◌, ◌≢◌, ◌≤◌, [], ◌∷◌, ◌++◌, None, Some, length, MatchBool, OnOk, OnErr};
+ghost use Rattle.std.specs.Prelude.{◌≡◌, ◌≢◌, ◌≤◌, [], ◌∷◌, ◌++◌, None, Some, length};
+ghost use Rattle.std.specs.Prelude.{MatchBool, OnOk, OnErr};
 ghost use Rattle.pregeld.specs.Notes.{stored, stored_limit};
 
 use crate::Report;
@@ -10,7 +11,8 @@ use std::marker::Model;
 /// So many pending edits are stored, which are too many for a batch.
 const STORED_LIMIT: usize = 100_001;
 
-/// The edits that wait to be made as one batch, and the report of the last refresh that was answered.
+/// The edits that wait to be made as one batch, and the report of the last refresh that was
+/// answered.
 #[derive(Drop)]
 pub(crate) struct Notes {
     pending: Batch,
@@ -60,9 +62,11 @@ impl Notes {
         !self.pending.as_slice().is_empty()
     }
 
-    /// One more edit is pending. It is stored where a batch may have it, or would be too long with it.
+    /// One more edit is pending. It is stored where a batch may have it, or would be too long with
+    /// it.
     pub(crate) fn note(&mut self, edit: Edit) -> Result<(), Memory>
-        ensures ok { OnOk result (self.new ≡ record self.old { pending = stored (self.old.pending ++ edit ∷ []) }) }
+        ensures ok { OnOk result (self.new
+            ≡ record self.old { pending = stored (self.old.pending ++ edit ∷ []) }) }
         ensures err { OnErr result (self.new ≡ self.old) }
     {
         if self.pending.as_slice().len() < STORED_LIMIT {

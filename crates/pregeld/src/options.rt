@@ -63,7 +63,8 @@ pub(crate) fn options_of<'a, S: AsStr>(alloc: Global, words: &'a [S]) -> Result<
 /// The options, from what was parsed.
 fn read_from(matches: &ArgMatches<'_>) -> Option<Options>
     ensures some { IfSome result (λ options. Say (one_text (found_of matches.now)) options) }
-    ensures none { IfNone result ((options : Options) → Say (one_text (found_of matches.now)) options → ⊥) }
+    ensures none { IfNone result ((options : Options)
+        → Say (one_text (found_of matches.now)) options → ⊥) }
 {
     let program = matches.get_one::<ProgramName>("program")?;
     let source = number_in(matches, "source", 0, SOURCE_LIMIT)?;
@@ -88,8 +89,10 @@ fn read_from(matches: &ArgMatches<'_>) -> Option<Options>
 /// The number that an option has, where it is in a range.
 fn number_in(matches: &ArgMatches<'_>, name: &str, least: u64, greatest: u64) -> Option<u64>
     ensures range { IfSome result (λ number. (least ≤ number) × (number ≤ greatest)) }
-    ensures some { IfSome result (WritesIn (one_text (found_of matches.now) name.now) least greatest) }
-    ensures none { IfNone result ((number : ℕ) → WritesIn (one_text (found_of matches.now) name.now) least greatest number → ⊥) }
+    ensures some { IfSome result
+        (WritesIn (one_text (found_of matches.now) name.now) least greatest) }
+    ensures none { IfNone result ((number : ℕ)
+        → WritesIn (one_text (found_of matches.now) name.now) least greatest number → ⊥) }
 {
     let number = matches.get_one::<u64>(name)?;
     if number < least || number > greatest {

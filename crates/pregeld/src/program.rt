@@ -1,17 +1,18 @@
 //! The program.
-ghost use Rattle.std.specs.Prelude.{◌≡◌, ◌≤◌, map};
-ghost use Rattle.pregeld.specs.Arguments.{AreAtFault};
-ghost use Rattle.pregeld.specs.Program.{EndsBroken, EndsWell};
+ghost use Rattle.std.specs.Prelude.{◌≡◌, ◌≤◌, map, OnOk};
+ghost use Rattle.pregeld.specs.ExitStatus.{AddsText, EndsBroken, EndsWell, IsRefused};
 
 use crate::options::{NoOptions, job_of, options_of};
 use crate::{ServeFault, Service, serve};
+use clap::Error;
 use std::alloc::Global;
 use std::convert::AsStr;
 use std::io::{BufRead, Write};
 
-/// Runs the program on its words, the program's name first, and gives its exit status: 0 at the end of
-/// the input or after help; 1 where memory, the input or the output failed; 2 where the words are at
-/// fault, and then nothing was read or written. With 1 and 2 `errors` is told why, if it can be written.
+/// Runs the program on its words, the program's name first, and gives its exit status: 0 at the
+/// end of the input or after help; 1 where memory, the input or the output failed; 2 where the
+/// words are at fault, and then nothing was read or written. With 1 and 2 `errors` is told why, if
+/// it can be written.
 pub fn start<S: AsStr, R: BufRead, W: Write, E: Write>(
     alloc: Global,
     words: &[S],
@@ -20,17 +21,19 @@ pub fn start<S: AsStr, R: BufRead, W: Write, E: Write>(
     errors: &mut E,
 ) -> u8
     ensures status { result ≤ 2 }
-    ensures fault { result ≡ 2 → AreAtFault (map S.text words.now) }
-    ensures untouched { result ≡ 2 → (reader.new ≡ reader.old) × (writer.new ≡ writer.old) }
-    ensures done { result ≡ 0 → EndsWell (map S.text words.now) (R.remaining reader.old) (R.remaining reader.new) (W.contents writer.old) (W.contents writer.new) }
-    ensures broken { result ≡ 1 → EndsBroken (map S.text words.now) (R.remaining reader.old) (R.remaining reader.new) (W.contents writer.old) (W.contents writer.new) }
+    ensures done { result ≡ 0 → EndsWell R.remaining W.contents
+        (map S.text words.now) reader.old reader.new writer.old writer.new }
+    ensures broken { result ≡ 1 → EndsBroken R.remaining W.contents
+        (map S.text words.now) reader.old reader.new writer.old writer.new }
+    ensures refused { result ≡ 2 → IsRefused R.remaining W.contents
+        (map S.text words.now) reader.old reader.new writer.old writer.new }
 {
     let options = match options_of(alloc, words) {
         Ok(options) => options,
         Err(NoOptions::Help(text)) => {
-            return match write!(writer, "{text}") {
-                Ok(_) => 0,
-                Err(_) => fail(errors, "output", 1),
+            return match show(alloc, writer, &text) {
+                Ok(()) => 0,
+                Err(fault) => fail(errors, name_of(fault), 1),
             };
         }
         Err(NoOptions::Memory) => return fail(errors, "memory", 1),
@@ -43,6 +46,19 @@ pub fn start<S: AsStr, R: BufRead, W: Write, E: Write>(
     }
 }
 
+/// Writes a text of help.
+fn show<W: Write>(alloc: Global, writer: &mut W, help: &Error) -> Result<(), ServeFault>
+    ensures { OnOk result (AddsText (W.contents writer.old) (W.contents writer.new)) }
+{
+    let Ok(text) = help.to_string(alloc) else {
+        return Err(ServeFault::Memory);
+    };
+    match writer.write_all(text.as_bytes()) {
+        Ok(()) => Ok(()),
+        Err(_) => Err(ServeFault::Write),
+    }
+}
+
 /// What failed.
 fn name_of(fault: ServeFault) -> &'static str {
     match fault {
@@ -52,7 +68,8 @@ fn name_of(fault: ServeFault) -> &'static str {
     }
 }
 
-/// Says what failed, and gives the exit status for it. A message that can't be written changes nothing.
+/// Says what failed, and gives the exit status for it. A message that can't be written changes
+/// nothing.
 fn fail<E: Write>(errors: &mut E, what: &str, status: u8) -> u8
     ensures { result ≡ status }
 {

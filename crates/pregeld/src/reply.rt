@@ -6,7 +6,6 @@ use crate::command::LineFault;
 use crate::{Check, Report};
 use pg_graph::{EditFault, Edition, VertexId};
 use pg_import::ImportFault;
-use pg_model::Ending;
 use pg_scratch::RunFault;
 use std::fmt;
 
@@ -63,57 +62,6 @@ impl fmt::Display for Reply {
             Reply::NoValue(id) => write!(f, "none {id}"),
             Reply::End(count) => write!(f, "end {count}"),
             Reply::Fault(fault, line) => write!(f, "error {} line {line}", fault.number()),
-        }
-    }
-}
-
-impl fmt::Display for Check {
-    ghost use Rattle.std.specs.Prelude.{Some};
-    ghost use Rattle.pregeld.specs.Reply.{check_text};
-
-    ghost output = { λ check. Some (check_text check) };
-
-    fn fmt<W: fmt::Write>(&self, f: &mut fmt::Formatter<W>) -> fmt::Result {
-        match *self {
-            Check::Stale => write!(f, "check stale"),
-            Check::Same(calls) => write!(f, "check same calls {calls}"),
-            Check::Different(calls) => write!(f, "check different calls {calls}"),
-        }
-    }
-}
-
-impl fmt::Display for Report {
-    ghost use Rattle.std.specs.Prelude.{Some};
-    ghost use Rattle.pregeld.specs.Reply.{report_text};
-
-    ghost output = { λ report. Some (report_text report) };
-
-    #[tactic(auto, unfolding(crate::specs::Reply::report_text))]
-    fn fmt<W: fmt::Write>(&self, f: &mut fmt::Formatter<W>) -> fmt::Result {
-        let (edition, supersteps, calls) = (self.edition.number(), self.supersteps, self.calls);
-        let ending = EndingName(self.ending);
-        write!(
-            f,
-            "refreshed edition {edition} supersteps {supersteps} ending {ending} calls {calls} losses 0"
-        )
-    }
-}
-
-/// The word for an ending.
-#[derive(Clone, Copy)]
-struct EndingName(Ending);
-
-impl fmt::Display for EndingName {
-    ghost use Rattle.std.specs.Prelude.{Some};
-    ghost use Rattle.pregeld.specs.Reply.{ending_name};
-
-    ghost output = { λ name. Some (ending_name name.0) };
-
-    fn fmt<W: fmt::Write>(&self, f: &mut fmt::Formatter<W>) -> fmt::Result {
-        match self.0 {
-            Ending::MasterHalted => write!(f, "halted"),
-            Ending::Finished => write!(f, "finished"),
-            Ending::LimitReached => write!(f, "limit"),
         }
     }
 }

@@ -1,7 +1,9 @@
 //! A session: commands from a reader, and their answers to a writer.
-ghost use Rattle.std.specs.Prelude.{◌≡◌, ◌≢◌, List, ℕ, Some, IfOk, IfErr, IfSome, OnOk};
-ghost use Rattle.pregeld.specs.Reading.{AnswersLine, FailsLine, Keeps, lines_left};
-ghost use Rattle.pregeld.specs.Session.{BreaksOff, Serves, State};
+ghost use Rattle.std.specs.Prelude.{◌≢◌, IfOk, IfErr, IfSome, OnOk};
+ghost use Rattle.pregeld.specs.Notes.{with_notes};
+ghost use Rattle.pregeld.specs.Reading.{IfLines, lines_left};
+ghost use Rattle.pregeld.specs.Keeping.{AnswersLine, FailsLine, Keeps};
+ghost use Rattle.pregeld.specs.Session.{BreaksOff, Serves, State, place_at};
 
 use crate::Service;
 use crate::block::next_line;
@@ -40,14 +42,14 @@ impl ServeFault {
     }
 }
 
-/// Answers the commands that `reader` has, one line each, until its end. Each answer is written before
-/// the next line is read.
+/// Answers the commands that `reader` has, one line each, until its end. Each answer is written
+/// before the next line is read.
 ///
 /// # Errors
 ///
-/// Want of memory while a line is read; a reader that fails, or has 2^64 lines; a writer that fails. The
-/// service stands as after the last command that was carried out: a command whose answer couldn't be
-/// written was carried out, an import whose lines couldn't be read to their end wasn't.
+/// Want of memory while a line is read; a reader that fails, or has 2^64 lines; a writer that
+/// fails. The service stands as after the last command that was carried out: a command whose answer
+/// couldn't be written was carried out, an import whose lines couldn't be read to their end wasn't.
 ///
 /// # Cost
 ///
@@ -61,7 +63,8 @@ pub fn serve<R: BufRead, W: Write>(
     ensures ok { OnOk result (IfSome (R.remaining reader.old) (λ input.
         Serves input service.old service.new (W.contents writer.old) (W.contents writer.new))) }
     ensures err { IfErr result (λ fault. IfSome (R.remaining reader.old) (λ input.
-        BreaksOff fault input service.old service.new (W.contents writer.old) (W.contents writer.new))) }
+        BreaksOff fault input service.old service.new
+        (W.contents writer.old) (W.contents writer.new))) }
 {
     let mut number = 0_u64;
     let mut notes = Notes::new(alloc);
@@ -98,12 +101,17 @@ fn answer_line<R: BufRead, W: Write>(
     service: &mut Service,
     notes: &mut Notes,
 ) -> Result<u64, ServeFault>
-    ensures ok { IfOk result (λ reached. (state : State) (lines : List (List ℕ)) → Keeps (record { service = service.old; notes = notes.old }) state → lines_left (R.remaining reader.old) ≡ Some lines
-        → AnswersLine line.now (record { number = number; state = state; lines = lines }) service.old (record { service = service.new; notes = notes.new }) reached
-        (lines_left (R.remaining reader.new)) (W.contents writer.old) (W.contents writer.new)) }
-    ensures err { IfErr result (λ fault. (state : State) (lines : List (List ℕ)) → Keeps (record { service = service.old; notes = notes.old }) state → lines_left (R.remaining reader.old) ≡ Some lines
-        → FailsLine fault line.now (record { number = number; state = state; lines = lines }) service.old service.new
-        (W.contents writer.old) (W.contents writer.new)) }
+    ensures ok { IfOk result (λ reached. (state : State)
+        → Keeps (with_notes service.old notes.old) state
+        → IfLines (R.remaining reader.old) (λ lines.
+        AnswersLine line.now (place_at number state lines) service.old
+        (with_notes service.new notes.new) reached (lines_left (R.remaining reader.new))
+        (W.contents writer.old) (W.contents writer.new))) }
+    ensures err { IfErr result (λ fault. (state : State)
+        → Keeps (with_notes service.old notes.old) state
+        → IfLines (R.remaining reader.old) (λ lines.
+        FailsLine fault line.now (place_at number state lines) service.old service.new
+        (W.contents writer.old) (W.contents writer.new))) }
 {
     match command_of(line) {
         Ok(Command::Nothing) => Ok(number),

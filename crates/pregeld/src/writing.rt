@@ -1,9 +1,11 @@
 //! Answers, written.
 ghost use Rattle.std.specs.Prelude.{◌≡◌, flat_map, IfErr, OnOk};
-ghost use Rattle.std.specs.Io.KnownBytes.{Appends};
+ghost use Rattle.std.specs.Io.KnownBytes.{Appends, Keeps};
 ghost use Rattle.pregeld.specs.Reply.{line_of_reply, line_of_value};
-ghost use Rattle.pregeld.specs.Reading.{FailsToTell};
-ghost use Rattle.pregeld.specs.Session.{dump_text, get_reply, query_text, report_line};
+ghost use Rattle.pregeld.specs.Keeping.{FailsToTell};
+ghost use Rattle.pg_service.specs.Service.{registered_by};
+ghost use Rattle.pregeld.specs.Session.{aggregate_text, dump_text, get_reply, query_text};
+ghost use Rattle.pregeld.specs.Session.{report_line};
 
 use crate::command::Query;
 use crate::notes::Notes;
@@ -15,16 +17,25 @@ use std::io::Write;
 
 /// Writes an answer, and hands it on.
 pub(crate) fn say<W: Write>(writer: &mut W, reply: Reply) -> Result<(), ServeFault>
-    ensures ok { OnOk result (Appends (W.contents writer.old) (W.contents writer.new) (line_of_reply reply)) }
+    ensures ok { OnOk result
+        (Appends (W.contents writer.old) (W.contents writer.new) (line_of_reply reply)) }
     ensures err { IfErr result (λ fault. fault ≡ ServeFault.Write) }
 {
     let Ok(()) = writeln!(writer, "{reply}") else {
         return Err(ServeFault::Write);
     };
-    let Ok(()) = writer.flush() else {
-        return Err(ServeFault::Write);
-    };
-    Ok(())
+    hand_on(writer)
+}
+
+/// Hands on what was written.
+fn hand_on<W: Write>(writer: &mut W) -> Result<(), ServeFault>
+    ensures ok { OnOk result (Keeps (W.contents writer.old) (W.contents writer.new)) }
+    ensures err { IfErr result (λ fault. fault ≡ ServeFault.Write) }
+{
+    match writer.flush() {
+        Ok(()) => Ok(()),
+        Err(_) => Err(ServeFault::Write),
+    }
 }
 
 /// Tells what is asked for.
@@ -35,12 +46,14 @@ pub(crate) fn say<W: Write>(writer: &mut W, reply: Reply) -> Result<(), ServeFau
 pub(crate) fn tell<W: Write>(
     alloc: Global,
     writer: &mut W,
-    query: Query,
+    query: Query<'_>,
     service: &Service,
     notes: &Notes,
 ) -> Result<(), ServeFault>
-    ensures ok { OnOk result (Appends (W.contents writer.old) (W.contents writer.new) (query_text query service.now.published notes.now.report)) }
-    ensures err { IfErr result (λ fault. FailsToTell fault (W.contents writer.old) (W.contents writer.new)) }
+    ensures ok { OnOk result (Appends (W.contents writer.old) (W.contents writer.new)
+        (query_text service.now.job query.entry service.now.published notes.now.report)) }
+    ensures err { IfErr result (λ fault.
+        FailsToTell fault (W.contents writer.old) (W.contents writer.new)) }
 {
     match query {
         Query::Dump => match dump(writer, service) {
@@ -48,6 +61,10 @@ pub(crate) fn tell<W: Write>(
             Err(fault) => Err(fault),
         },
         Query::Get(id) => match say(writer, get(id, service)) {
+            Ok(()) => Ok(()),
+            Err(fault) => Err(fault),
+        },
+        Query::Aggregate(name) => match aggregate(writer, name.text(), service) {
             Ok(()) => Ok(()),
             Err(fault) => Err(fault),
         },
@@ -68,6 +85,25 @@ fn get(id: VertexId, service: &Service) -> Reply
     }
 }
 
+/// Prints the published aggregate of this name.
+fn aggregate<W: Write>(writer: &mut W, name: &str, service: &Service) -> Result<(), ServeFault>
+    ensures ok { OnOk result (Appends (W.contents writer.old) (W.contents writer.new)
+        (aggregate_text name.now (registered_by service.now.job) service.now.published)) }
+    ensures err { IfErr result (λ fault. fault ≡ ServeFault.Write) }
+{
+    let Some(answers) = service.answers() else {
+        return say(writer, Reply::Unpublished);
+    };
+    let written = match answers.aggregate(name) {
+        Some(value) => writeln!(writer, "aggregate {name} {value}"),
+        None => writeln!(writer, "none {name}"),
+    };
+    match written {
+        Ok(()) => hand_on(writer),
+        Err(_) => Err(ServeFault::Write),
+    }
+}
+
 /// Prints the last report.
 fn report<W: Write>(
     alloc: Global,
@@ -75,8 +111,10 @@ fn report<W: Write>(
     service: &Service,
     notes: &Notes,
 ) -> Result<(), ServeFault>
-    ensures ok { OnOk result (Appends (W.contents writer.old) (W.contents writer.new) (report_line notes.now.report)) }
-    ensures err { IfErr result (λ fault. FailsToTell fault (W.contents writer.old) (W.contents writer.new)) }
+    ensures ok { OnOk result
+        (Appends (W.contents writer.old) (W.contents writer.new) (report_line notes.now.report)) }
+    ensures err { IfErr result (λ fault.
+        FailsToTell fault (W.contents writer.old) (W.contents writer.new)) }
 {
     let Some(report) = notes.report() else {
         return match say(writer, Reply::Unpublished) {
@@ -90,15 +128,16 @@ fn report<W: Write>(
     let Ok(()) = writeln!(writer, "{text}") else {
         return Err(ServeFault::Write);
     };
-    let Ok(()) = writer.flush() else {
-        return Err(ServeFault::Write);
-    };
-    Ok(())
+    match hand_on(writer) {
+        Ok(()) => Ok(()),
+        Err(fault) => Err(fault),
+    }
 }
 
 /// Prints the published values by rising id, and their number.
 fn dump<W: Write>(writer: &mut W, service: &Service) -> Result<(), ServeFault>
-    ensures ok { OnOk result (Appends (W.contents writer.old) (W.contents writer.new) (dump_text service.now.published)) }
+    ensures ok { OnOk result (Appends (W.contents writer.old) (W.contents writer.new)
+        (dump_text service.now.published)) }
     ensures err { IfErr result (λ fault. fault ≡ ServeFault.Write) }
 {
     let Some(answers) = service.answers() else {
@@ -111,7 +150,8 @@ fn dump<W: Write>(writer: &mut W, service: &Service) -> Result<(), ServeFault>
 
 /// Writes a line for each vertex and its value.
 fn say_values<W: Write>(writer: &mut W, values: &[(VertexId, i64)]) -> Result<(), ServeFault>
-    ensures ok { OnOk result (Appends (W.contents writer.old) (W.contents writer.new) (flat_map line_of_value values.now)) }
+    ensures ok { OnOk result (Appends (W.contents writer.old) (W.contents writer.new)
+        (flat_map line_of_value values.now)) }
     ensures err { IfErr result (λ fault. fault ≡ ServeFault.Write) }
 {
     for (id, value) in values {
@@ -122,7 +162,8 @@ fn say_values<W: Write>(writer: &mut W, values: &[(VertexId, i64)]) -> Result<()
 
 /// Writes the line of a vertex and its value.
 fn say_value<W: Write>(writer: &mut W, id: &VertexId, value: &i64) -> Result<(), ServeFault>
-    ensures ok { OnOk result (Appends (W.contents writer.old) (W.contents writer.new) (line_of_value (id.now, value.now))) }
+    ensures ok { OnOk result (Appends (W.contents writer.old) (W.contents writer.new)
+        (line_of_value (id.now, value.now))) }
     ensures err { IfErr result (λ fault. fault ≡ ServeFault.Write) }
 {
     let Ok(()) = writeln!(writer, "value {id} {value}") else {

@@ -1,9 +1,10 @@
 //! A row that is being edited.
-ghost use Rattle.std.specs.Prelude.{◌≡◌, ◌+◌, [], length, is_some, IfOk, if◌then◌else◌};
+ghost use Rattle.std.specs.Prelude.{◌≡◌, ◌+◌, [], length, is_some, IfOk, IfSome, if◌then◌else◌};
 ghost use Rattle.pg_graph.specs.EdgeList.{IsRising, weight_at, with_edge, without_edge};
 
 use super::listed::ListedEdges;
 use crate::entries::put;
+use crate::packing::LARGE;
 use crate::{Edges, Memory, Row, VertexId};
 use std::alloc::Global;
 use std::collections::BTreeMap;
@@ -145,6 +146,29 @@ impl DraftRow {
             DraftEdges::Listed(listed) => listed.as_slice().len() as u64,
             DraftEdges::Mapped(map) => map.len() as u64,
         }
+    }
+
+    /// The input.
+    pub(crate) fn input(&self) -> i64
+        ensures { result ≡ self.now.input }
+    {
+        self.input
+    }
+
+    /// The edges, by rising target, where they are a list, and not a large one.
+    pub(crate) fn small_list(&self) -> Option<&[(VertexId, i64)]>
+        ensures value { IfSome result (λ edges. edges.now ≡ self.now.edges) }
+        ensures rising { IfSome result (λ edges. IsRising edges.now) }
+    {
+        let edges = match &self.edges {
+            DraftEdges::Kept(edges) => edges.as_slice(),
+            DraftEdges::Listed(listed) => listed.as_slice(),
+            DraftEdges::Mapped(_) => return None,
+        };
+        if edges.len() > LARGE {
+            return None;
+        }
+        Some(edges)
     }
 
     /// Whether there is an edge to `target`.

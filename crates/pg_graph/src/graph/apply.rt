@@ -9,11 +9,9 @@ ghost use Rattle.pg_map.specs.Entries.{with_changes};
 use super::Graph;
 use crate::draft::{BATCH_LIMIT, Changes, Draft, EDGE_LIMIT, VERTEX_LIMIT};
 use crate::grouped::changes_by_vertex;
+use crate::packing::is_many;
 use crate::{Batch, EditFault, EditKind, Memory};
 use std::alloc::Global;
-
-/// Each changed row pays for a look at so many.
-const ROWS_TO_PAY: u64 = 64;
 
 impl Graph {
     /// Makes all edits of a batch, in their order, or none. The first edit that has no result
@@ -61,18 +59,14 @@ impl Graph {
         ensures ok { OnOk result (self.new ≡ with_changes changes.now.rows.items self.old) }
         ensures err { OnErr result (self.new ≡ self.old) }
     {
+        let many = is_many(changes.rows.len(), self.vertices());
         self.rows.change(alloc, changes.rows.as_slice())?;
         self.total_edges = changes.edges;
-        if is_many(changes.rows.len() as u64, self.vertices()) {
+        if many {
             self.rows.pack(alloc);
         }
         Ok(())
     }
-}
-
-/// Whether so many rows are changed that a walk over all of them is paid for.
-fn is_many(changed: u64, vertices: u64) -> bool {
-    changed.saturating_mul(ROWS_TO_PAY) >= vertices
 }
 
 /// What a batch changes, or the first of its edits that has no result, found edit by edit.

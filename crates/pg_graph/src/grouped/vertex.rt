@@ -12,7 +12,7 @@ pub(super) fn vertex_after(
     alloc: Global,
     row: Option<&Row>,
     edits: &[(u64, Edit)],
-) -> Result<Result<Option<Row>, EditFault>, Memory>
+) -> Result<Result<Option<DraftRow>, EditFault>, Memory>
     ensures { IfOk result (λ made. made ≡ vertex_after (option_copied row.entry) edits.now) }
 {
     let mut draft = match row {
@@ -28,10 +28,7 @@ pub(super) fn vertex_after(
             }
         };
     }
-    match draft {
-        Some(row) => Ok(Ok(Some(row.into_row(alloc)?))),
-        None => Ok(Ok(None)),
-    }
+    Ok(Ok(draft))
 }
 
 /// What one edit makes of a row, or of none.

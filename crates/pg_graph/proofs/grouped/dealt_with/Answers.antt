@@ -1,24 +1,25 @@
 use Rattle.std.proofs.Common.{◌≡◌, ◌+◌, [], ◌∷◌, ◌++◌, Some, leb, true, false, ap, sym, ◌∙◌, subst, arith}
+use Rattle.std.proofs.lemmas.List.{nil_from_length}
 use Rattle.std.specs.List.Sorted.{IsPartitionPoint}
 use Rattle.pg_map.specs.Entries.{with_changes}
 use Rattle.pg_graph.specs.Changes.{degree_of}
 use Rattle.pg_graph.specs.RowEdit.{source_of, vertex_after}
-use Rattle.pg_graph.specs.Grouped.{AreDealt}
+use Rattle.pg_graph.specs.Grouped.{AreDealt, AreMade}
 use Rattle.pg_graph.specs.Rows.{edge_count, row_at}
-use Rattle.pg_graph.proofs.Dealing.{IsTurn, fewer_left, no_changes, none_dealt, row_found, fault_found, not_changed, next_counted, degree_fits}
+use Rattle.pg_graph.proofs.Dealing.{all_made, IsTurn, fewer_left, no_changes, none_dealt, row_found, fault_found, not_changed, next_counted, degree_fits}
 use Rattle.pg_graph.proofs.grouped.dealt_with.Goals as goal
 
 pub loop-first-init : goal.loop-first-init
 loop-first-init c = record {
   found = c.finder-finder.ensures;
-  dealt = none_dealt c.args.graph.now c.args.edits.now _ c.new-rows.ensures.items (no_changes _ c.new-rows.ensures.items) c.requires.edits_rise;
-  counted = c.edges-edges.ensures.value ∙ ap (λ l. edge_count (with_changes l c.args.graph.now)) (sym c.new-rows.ensures.items);
+  dealt = none_dealt c.args.graph.now c.args.edits.now _ c.new-rows.ensures (no_changes _ c.new-rows.ensures) c.requires.edits_rise;
+  counted = c.edges-edges.ensures.value ∙ ap (λ l. edge_count (with_changes l c.args.graph.now)) (sym c.new-rows.ensures);
 }
 
 pub edges_with-requires : goal.edges_with-requires
 edges_with-requires c =
     let rows = c.args.graph.now in
-    let changes = c.loop-first.rows.items in
+    let changes = c.loop-first.rows in
     let id = c.source-id.ensures in
     let left = c.loop-first.left.now in
     let here = c.split_at.result.0.now in
@@ -39,7 +40,7 @@ edges_with-requires c =
 pub loop-first-preserved-in_ok-push-in-Ok : goal.loop-first-preserved-in_ok-push-in-Ok
 loop-first-preserved-in_ok-push-in-Ok c =
     let rows = c.args.graph.now in
-    let changes = c.loop-first.rows.items in
+    let changes = c.loop-first.rows in
     let id = c.source-id.ensures in
     let left = c.loop-first.left.now in
     let here = c.split_at.result.0.now in
@@ -54,12 +55,12 @@ loop-first-preserved-in_ok-push-in-Ok c =
     } in
     let was = c.get-row.ensures.value ∙ ap (row_at c.source-id.result) c.loop-first.invariant.found ∙ ap (λ k. row_at k rows) id in
     let made = sym c.in-Ok.is ∙ c.in_ok-changed.ensures ∙ ap (λ r. vertex_after r here) was in
-    let grown = c.in_ok-push-in-Ok.ensures.items ∙ ap (λ k. changes ++ (k, c.in-Ok.changed) ∷ []) id in
+    let grown = c.in_ok-push-in-Ok.ensures ∙ ap (λ k. changes ++ (k, c.in-Ok.changed) ∷ []) id in
     let none = not_changed rows c.args.edits.now left here _ _ c.in-Some.first.now c.count_of.result changes c.loop-first.fault turn
     c.loop-first.invariant.dealt in
     let edges : c.in_ok-edges-in-Ok.edges + degree_of (row_at (source_of c.in-Some.first.now.1) rows) ≡ edge_count
     (with_changes changes rows) + degree_of c.in-Ok.changed =
-    omega (arith, c.in_ok-edges-in-Ok.ensures, ap degree_of was, ap degree_of c.as_ref.ensures.value, c.loop-first.invariant.counted) in
+    omega (arith, c.in_ok-edges-in-Ok.ensures, ap degree_of was, c.new_degree.ensures, c.loop-first.invariant.counted) in
     record {
       found = c.get-row.ensures.same ∙ c.loop-first.invariant.found;
       dealt = row_found rows c.args.edits.now left here _ _ c.in-Some.first.now c.count_of.result changes c.loop-first.fault turn
@@ -72,7 +73,7 @@ loop-first-preserved-in_ok-push-in-Ok c =
 pub loop-first-preserved : goal.loop-first-preserved
 loop-first-preserved c =
     let rows = c.args.graph.now in
-    let changes = c.loop-first.rows.items in
+    let changes = c.loop-first.rows in
     let id = c.source-id.ensures in
     let left = c.loop-first.left.now in
     let here = c.split_at.result.0.now in
@@ -107,3 +108,14 @@ loop-first-smaller-in_ok-push-in-Ok c =
       parts = subst (λ k. IsPartitionPoint (λ e. leb (source_of e.1) k ≡ true)
           (λ e. leb (source_of e.1) k ≡ false) left c.count_of.result) id c.count_of.ensures.parts;
     })
+
+pub returns-in_ok-rows-in-None : goal.returns-in_ok-rows-in-None
+returns-in_ok-rows-in-None c =
+    let rows = c.args.graph.now in
+    let none = nil_from_length c.loop-first.left.now c.in_default.ensures.cases in
+    let dealt = subst (AreDealt rows c.args.edits.now c.loop-first.left.now c.loop-first.rows) c.in-None.is c.loop-first.invariant.dealt in
+    let made = all_made rows c.args.edits.now c.loop-first.left.now c.loop-first.rows none dealt in
+    record {
+      made = subst (AreMade rows c.args.edits.now) (sym c.in_ok-rows-in-None.ensures) made;
+      edges_counted = c.loop-first.invariant.counted ∙ ap (λ l. edge_count (with_changes l rows)) (sym c.in_ok-rows-in-None.ensures);
+    }

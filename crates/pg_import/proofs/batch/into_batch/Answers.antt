@@ -1,10 +1,17 @@
-use Rattle.std.proofs.Common.{take, arith}
+use Rattle.std.proofs.Common.{Some, take, ap, sym, ◌∙◌, arith}
+use Rattle.std.proofs.lemmas.Option.{slice_get-get_or}
 use Rattle.pg_import.proofs.BatchLaw.{Makes-batch_of}
 use Rattle.pg_import.proofs.BatchSteps.{batch_of-end, batch_of-more, with_lines-more}
 use Rattle.pg_import.proofs.Graphs.{has_vertex-with_ends}
-use Rattle.pg_import.proofs.NamedBefore.{IsSaid-more}
 use Rattle.pg_import.specs.Batch.{batch_of, with_ends, with_lines, with_vertex}
 use Rattle.pg_import.proofs.batch.into_batch.Goals as goal
+
+pub target_at-target-requires : goal.target_at-target-requires
+target_at-target-requires c =
+    let lines = c.args.lines.now in
+    let line = c.index-lines-place.result in
+    let at = slice_get-get_or lines c.loop-place.place line (omega arith) ∙ ap (λ l. Some l) (sym c.index-lines-place.is) in
+    λ x there. c.in_ok-seen.ensures.targets c.loop-place.place line x at there
 
 pub loop-place-preserved : goal.loop-place-preserved
 loop-place-preserved c =
@@ -14,9 +21,8 @@ loop-place-preserved c =
     let before = with_lines (take i lines) c.args.graph.now in
     let graph = c.args.graph.now in
     let seen = c.source_at-source.ensures in
-    let target_said = IsSaid-more _ _ line.source graph before (c.is_there-target_there.ensures graph c.target_at-target.ensures) in
-    let source = c.in_ok-push_vertex.ensures graph before (c.is_there-source_there.ensures graph seen.0) c.loop-place.invariant.shows in
-    let target = c.in_ok-push_vertex-2.ensures graph (with_vertex line.source before) target_said source.1 in
+    let source = c.in_ok-push_vertex.ensures graph before seen.0 c.loop-place.invariant.shows in
+    let target = c.in_ok-push_vertex-2.ensures graph (with_vertex line.source before) c.target_at-target.ensures source.1 in
     let edge = c.in_ok-push_edge.ensures graph (with_ends line before) seen.1 target.1 (has_vertex-with_ends line before) in
     let after = with_lines-more lines line i graph (omega arith) c.index-lines-place.is in
     record {

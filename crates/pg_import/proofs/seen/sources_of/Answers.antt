@@ -1,4 +1,4 @@
-use Rattle.std.proofs.Common.{◌≡◌, ◌<◌, length, Some, arith, refl, sym, ap, ◌∙◌}
+use Rattle.std.proofs.Common.{◌≡◌, ◌<◌, get_or, length, Some, arith, refl, sym, ap, ◌∙◌}
 use borrow.Author.Tests.{ltb-true}
 use Rattle.std.specs.List.{slice_get}
 use Rattle.std.specs.Option.{option_copied}
@@ -10,24 +10,24 @@ use Rattle.pg_import.proofs.SeenFacts.{seen_more}
 use Rattle.pg_import.proofs.seen.sources_of.Goals as goal
 use Rattle.pg_import.proofs.seen.sources_of.Goals.{in-Some-get, in_default-get}
 
-pub loop-source-preserved : goal.loop-source-preserved
-loop-source-preserved c = elim c.match-get.branch [
+pub loop-place-preserved : goal.loop-place-preserved
+loop-place-preserved c = elim c.match-get.branch [
   | in-Some-get w ↦
       let lines = c.args.lines.now in
-      let place = c.loop-source-item.result.2 in
+      let place = get_or c.args.places.now c.loop-place.place-index 0 in
       let line = w.in-Some-get.line.now in
       let looked = w.in-Some-get.ensures.lookup in
       let inside : place < length lines = ltb-true place (length lines) (sym looked.0) in
       let at : slice_get lines place ≡ Some line = slice_get_read lines (length lines) place line refl inside looked.1 in
-      let within : place < length c.loop-source.seen.items = omega (arith, inside, c.loop-source.invariant.long) in
+      let within : place < length c.loop-place.seen.items = omega (arith, inside, c.loop-place.invariant.long) in
       let source = w.source_of.result in
       let row : option_copied w.row_at-row.result ≡ row_at line.source c.args.graph.now =
-      w.row_at-row.ensures.row ∙ ap (row_at line.source) c.loop-source.invariant.found in
+      w.row_at-row.ensures.row ∙ ap (row_at line.source) c.loop-place.invariant.found in
       rw (w.seen-is, w.last-is) (record {
-        seen = seen_more (IsSource c.args.graph.now) lines c.loop-source.seen.items place within c.loop-source.invariant.seen line source at
+        seen = seen_more (IsSource c.args.graph.now) lines c.loop-place.seen.items place within c.loop-place.invariant.seen line source at
             (w.source_of.ensures c.args.graph.now row);
-        found = w.row_at-row.ensures.same ∙ c.loop-source.invariant.found;
-        long = length-set c.loop-source.seen.items place (Some source) ∙ c.loop-source.invariant.long;
+        found = w.row_at-row.ensures.same ∙ c.loop-place.invariant.found;
+        long = length-set c.loop-place.seen.items place (Some source) ∙ c.loop-place.invariant.long;
       })
-  | in_default-get w ↦ rw (w.seen-is, w.last-is) (record { seen = c.loop-source.invariant.seen; found = c.loop-source.invariant.found; long = c.loop-source.invariant.long })
+  | in_default-get w ↦ rw (w.seen-is, w.last-is) (record { seen = c.loop-place.invariant.seen; found = c.loop-place.invariant.found; long = c.loop-place.invariant.long })
 ]

@@ -1,4 +1,4 @@
-use Rattle.std.proofs.Common.{◌≡◌, ◌<◌, length, Some, arith, refl, sym, ap, ◌∙◌, is_some}
+use Rattle.std.proofs.Common.{◌≡◌, ◌<◌, get_or, length, Some, arith, refl, sym, ap, ◌∙◌, is_some}
 use borrow.Author.Tests.{ltb-true}
 use Rattle.std.specs.List.{slice_get}
 use Rattle.std.specs.Option.{option_copied}
@@ -14,7 +14,7 @@ pub loop-place-preserved : goal.loop-place-preserved
 loop-place-preserved c = elim c.match-get.branch [
   | in-Some-get w ↦
       let lines = c.args.lines.now in
-      let place = c.loop-place-item.result.1 in
+      let place = get_or c.args.places.now c.loop-place.place-index 0 in
       let line = w.in-Some-get.line.now in
       let looked = w.in-Some-get.ensures.lookup in
       let inside : place < length lines = ltb-true place (length lines) (sym looked.0) in

@@ -1,4 +1,4 @@
-use Rattle.std.proofs.Common.{of_calls, rules, sym, ap, ap₂, ◌∙◌, ◌++◌, filter, not}
+use Rattle.std.proofs.Common.{of_calls, rules, ap, ◌∙◌, ◌++◌, filter, not}
 use Rattle.std.proofs.lemmas.Fn.{always_returns_same}
 use Rattle.std.proofs.lemmas.List.Sorted.{IsNonDecreasingBy-from_sort}
 use Rattle.pg_inbox.specs.Inboxes.{letters_at}

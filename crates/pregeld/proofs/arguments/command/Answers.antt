@@ -1,6 +1,7 @@
-use Rattle.std.proofs.Common.{◌≡◌, ◌∙◌, ap₂, codes, ℕ, take}
+use Rattle.std.proofs.Common.{◌≡◌, ◌∙◌, ap, ap₂, codes, ℕ, take}
 use Rattle.std.proofs.lemmas.Result.{IfOk-weaker}
 use Rattle.std.specs.List.{fold}
+use Rattle.clap.specs.Simple.{app_of_fields}
 use Rattle.clap.specs.Words.{App, app_of, new_app, with_rule}
 use Rattle.pregeld.specs.Arguments.{AreOptionWords, OptionWords, program, rules}
 use Rattle.pregeld.proofs.arguments.command.Goals as goal
@@ -14,8 +15,9 @@ unfolding program
 returns c =
     let words : OptionWords =
     record { programs = c.program_option.ensures.rule.0; combiners = c.combiner_option.ensures.rule.0; policies = c.missing_option.ensures.rule.0 } in
+    let none : app_of c.in_ok-bin_name.field-0 ≡ with_first 0 words = ap app_of_fields c.in_ok-bin_name.ensures.0 ∙ c.new.ensures.app in
     let one : app_of c.in_ok-arg.field-0 ≡ with_first 1 words =
-    c.in_ok-arg.ensures.shape c.program_option.ensures.local ∙ ap₂ with_rule c.new.ensures.app c.program_option.ensures.rule.2 in
+    c.in_ok-arg.ensures.shape c.program_option.ensures.local ∙ ap₂ with_rule none c.program_option.ensures.rule.2 in
     let two : app_of c.in_ok-arg-2.field-0 ≡ with_first 2 words =
     c.in_ok-arg-2.ensures.shape c.number_option.ensures.local ∙ ap₂ with_rule one c.number_option.ensures.rule in
     let three : app_of c.in_ok-arg-3.field-0 ≡ with_first 3 words =

@@ -6,4 +6,5 @@ use Rattle.pregeld.proofs.block.skip_lines.Given as goal
 -- as many lines as were counted were set aside
 abbrev pub invariant-loop-skipped : goal.invariant-loop-skipped
 invariant-loop-skipped g l =
-    (lines : List (List ℕ)) → lines_left (g.R.Read.remaining l.fn.reader) ≡ Some lines → SkipsLines l._skipped NoMemory lines (lines_left (g.R.Read.remaining l.reader))
+    (lines : List (List ℕ)) → lines_left (g.R.Read.remaining l.fn.reader) ≡ Some lines → SkipsLines l._skipped NoMemory lines
+    (lines_left (g.R.Read.remaining l.reader))

@@ -6,4 +6,5 @@ use Rattle.pregeld.proofs.block.take_block.Given as goal
 -- as many lines as were counted have come onto the text
 abbrev pub invariant-loop-taken : goal.invariant-loop-taken
 invariant-loop-taken g l =
-    (lines : List (List ℕ)) → lines_left (g.R.Read.remaining l.fn.reader) ≡ Some lines → TakesLines l.taken Whole lines l.fn.text.items l.text.items (lines_left (g.R.Read.remaining l.reader))
+    (lines : List (List ℕ)) → lines_left (g.R.Read.remaining l.fn.reader) ≡ Some lines → TakesLines l.taken Whole lines l.fn.text.items l.text.items
+    (lines_left (g.R.Read.remaining l.reader))

@@ -5,4 +5,5 @@ use Rattle.pregeld.proofs.block.take_line.Goals as goal
 pub returns-in-Ok-clause-ok : goal.returns-in-Ok-clause-ok
 returns-in-Ok-clause-ok g c lines there =
     let read = c.in-Ok.ensures in
-    take_of_read (g.R.Read.remaining c.args.reader.now) (g.R.Read.remaining c.read_until.new.self) lines c.args.text.now.items c.read_until.new.buf.items c.in-Ok.field-0 there read.bytes read.rest (search rules) c.in-Ok.field-0-test.1
+    take_of_read (g.R.Read.remaining c.args.reader.now) (g.R.Read.remaining c.read_until.new.self) lines c.args.text.now.items
+    c.read_until.new.buf.items c.in-Ok.field-0 there read.bytes read.rest (search rules) c.in-Ok.field-0-test.1

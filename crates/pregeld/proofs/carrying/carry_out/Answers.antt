@@ -1,13 +1,14 @@
 use Rattle.std.proofs.Common.{Ok, subst, sym}
 use Rattle.pregeld.specs.Notes.{Held}
-use Rattle.pregeld.specs.Reading.{RepliesTo, lines_left}
+use Rattle.pregeld.specs.Reading.{lines_left}
+use Rattle.pregeld.specs.Keeping.{RepliesTo}
 use Rattle.pregeld.specs.Session.{Place}
 use Rattle.pregeld.specs.declared.command.Command.TheVariants.{Act}
 use Rattle.pregeld.proofs.Actions.{check_replies, commit_replies, refresh_replies}
 use Rattle.pregeld.proofs.carrying.carry_out.Goals as goal
 
 pub returns-in-Commit-clause-ok : goal.returns-in-Commit-clause-ok
-returns-in-Commit-clause-ok g c state lines keeps there =
+returns-in-Commit-clause-ok g c state keeps lines there =
     let here : Place = record { number = c.args.number; state = state; lines = lines } in
     let held : Held = record { service = c.commit.new.service; notes = c.commit.new.notes } in
     let left = lines_left (g.R.Read.remaining c.args.reader.now) in
@@ -16,7 +17,7 @@ returns-in-Commit-clause-ok g c state lines keeps there =
     c.commit.ensures.emptied c.commit.ensures.edits)
 
 pub returns-in-Refresh-clause-ok : goal.returns-in-Refresh-clause-ok
-returns-in-Refresh-clause-ok g c state lines keeps there =
+returns-in-Refresh-clause-ok g c state keeps lines there =
     let here : Place = record { number = c.args.number; state = state; lines = lines } in
     let held : Held = record { service = c.refresh.new.service; notes = c.refresh.new.notes } in
     let left = lines_left (g.R.Read.remaining c.args.reader.now) in
@@ -24,7 +25,7 @@ returns-in-Refresh-clause-ok g c state lines keeps there =
     (refresh_replies here c.args.service.now c.args.notes.now c.refresh.result held left keeps there c.refresh.ensures)
 
 pub returns-in-Recompute-clause-ok : goal.returns-in-Recompute-clause-ok
-returns-in-Recompute-clause-ok g c state lines keeps there =
+returns-in-Recompute-clause-ok g c state keeps lines there =
     let here : Place = record { number = c.args.number; state = state; lines = lines } in
     let held : Held = record { service = c.args.service.now; notes = c.args.notes.now } in
     let left = lines_left (g.R.Read.remaining c.args.reader.now) in

@@ -1,15 +1,17 @@
-use Rattle.std.proofs.Common.{map}
-use Rattle.pregeld.proofs.ServedWords.{ends_broken, ends_well}
+use Rattle.std.proofs.Common.{inr, map}
+use Rattle.pregeld.proofs.ServedWords.{words_broken_off, words_served}
 use Rattle.pregeld.proofs.program.start.Goals as goal
 
 pub returns-in-Ok-serve-clause-done : goal.returns-in-Ok-serve-clause-done
 returns-in-Ok-serve-clause-done g c =
-    λ _. ends_well (map g.S.AsStr.text c.args.words.now) (g.R.Read.remaining c.args.reader.now) (g.R.Read.remaining c.serve.new.reader)
+    λ _. inr (words_served (map g.S.AsStr.text c.args.words.now) (g.R.Read.remaining c.args.reader.now)
     (g.W.Write.contents c.args.writer.now) (g.W.Write.contents c.serve.new.writer)
-    c.in-Ok.options c.job_of.result c.new-service.result c.serve.new.service c.in-Ok.ensures.ok c.job_of.ensures c.new-service.ensures c.in-Ok-serve.ensures.ok
+    c.in-Ok.options c.job_of.result c.new-service.result c.serve.new.service
+    c.in-Ok.ensures.ok c.job_of.ensures c.new-service.ensures c.in-Ok-serve.ensures.ok)
 
 pub returns-clause-broken : goal.returns-clause-broken
 returns-clause-broken g c =
-    λ _. ends_broken c.in-Err-serve.fault (map g.S.AsStr.text c.args.words.now) (g.R.Read.remaining c.args.reader.now) (g.R.Read.remaining c.serve.new.reader)
+    λ _. inr (words_broken_off c.in-Err-serve.fault (map g.S.AsStr.text c.args.words.now) (g.R.Read.remaining c.args.reader.now)
     (g.W.Write.contents c.args.writer.now) (g.W.Write.contents c.serve.new.writer)
-    c.in-Ok.options c.job_of.result c.new-service.result c.serve.new.service c.in-Ok.ensures.ok c.job_of.ensures c.new-service.ensures c.in-Err-serve.ensures.err
+    c.in-Ok.options c.job_of.result c.new-service.result c.serve.new.service
+    c.in-Ok.ensures.ok c.job_of.ensures c.new-service.ensures c.in-Err-serve.ensures.err)

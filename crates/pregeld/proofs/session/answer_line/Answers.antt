@@ -10,7 +10,7 @@ use Rattle.pregeld.proofs.Written.{nothing_written}
 use Rattle.pregeld.proofs.session.answer_line.Goals as goal
 
 pub returns-in-Ok-Nothing-clause-ok : goal.returns-in-Ok-Nothing-clause-ok
-returns-in-Ok-Nothing-clause-ok g c state lines keeps there =
+returns-in-Ok-Nothing-clause-ok g c state keeps lines there =
     let here : Place = record { number = c.args.number; state = state; lines = lines } in
     let held : Held = record { service = c.args.service.now; notes = c.args.notes.now } in
     let asks : command_of c.args.line.now ≡ Ok Nothing = sym c.command_of.ensures ∙ (c.in-Ok-Nothing.is ∙ ap Ok c.in-Ok-Nothing.field-0-is) in
@@ -20,17 +20,18 @@ returns-in-Ok-Nothing-clause-ok g c state lines keeps there =
 -- edits
 
 pub returns-in-Ok-clause-ok : goal.returns-in-Ok-clause-ok
-returns-in-Ok-clause-ok g c state lines keeps there =
+returns-in-Ok-clause-ok g c state keeps lines there =
     let here : Place = record { number = c.args.number; state = state; lines = lines } in
     let held : Held = record { service = c.args.service.now; notes = c.args.notes.now } in
     let asks : command_of c.args.line.now ≡ Ok (Edit c.in-Ok-Edit.edit) = sym c.command_of.ensures ∙ (c.in-Ok-Edit.is ∙ ap Ok c.in-Ok-Edit.field-0-is) in
     let written = g.W.Write.contents c.args.writer.now in
-    edit_answered c.args.line.now c.in-Ok-Edit.edit here held c.note.new.self (lines_left (g.R.Read.remaining c.args.reader.now)) written written asks keeps c.in-Ok.ensures.ok there (nothing_written written)
+    edit_answered c.args.line.now c.in-Ok-Edit.edit here held c.note.new.self (lines_left (g.R.Read.remaining c.args.reader.now)) written written asks
+    keeps c.in-Ok.ensures.ok there (nothing_written written)
 
 -- what is told
 
 pub returns-in-Ok-tell-clause-ok : goal.returns-in-Ok-tell-clause-ok
-returns-in-Ok-tell-clause-ok g c state lines keeps there =
+returns-in-Ok-tell-clause-ok g c state keeps lines there =
     let here : Place = record { number = c.args.number; state = state; lines = lines } in
     let held : Held = record { service = c.args.service.now; notes = c.args.notes.now } in
     let asks : command_of c.args.line.now ≡ Ok (Ask c.in-Ok-Ask.query) = sym c.command_of.ensures ∙ (c.in-Ok-Ask.is ∙ ap Ok c.in-Ok-Ask.field-0-is) in
@@ -38,7 +39,7 @@ returns-in-Ok-tell-clause-ok g c state lines keeps there =
     (g.W.Write.contents c.args.writer.now) (g.W.Write.contents c.tell.new.writer) asks keeps there c.in-Ok-tell.ensures.ok
 
 pub returns-in-Err-tell-clause-err : goal.returns-in-Err-tell-clause-err
-returns-in-Err-tell-clause-err g c state lines keeps there =
+returns-in-Err-tell-clause-err g c state keeps lines there =
     let here : Place = record { number = c.args.number; state = state; lines = lines } in
     let held : Held = record { service = c.args.service.now; notes = c.args.notes.now } in
     let asks : command_of c.args.line.now ≡ Ok (Ask c.in-Ok-Ask.query) = sym c.command_of.ensures ∙ (c.in-Ok-Ask.is ∙ ap Ok c.in-Ok-Ask.field-0-is) in
@@ -48,27 +49,30 @@ returns-in-Err-tell-clause-err g c state lines keeps there =
 -- actions
 
 pub returns-in-Ok-say-clause-ok : goal.returns-in-Ok-say-clause-ok
-returns-in-Ok-say-clause-ok g c state lines keeps there =
+returns-in-Ok-say-clause-ok g c state keeps lines there =
     let here : Place = record { number = c.args.number; state = state; lines = lines } in
     let command = Ok (Act c.in-Ok-Act.action) in
     let asks : command_of c.args.line.now ≡ command = sym c.command_of.ensures ∙ (c.in-Ok-Act.is ∙ ap Ok c.in-Ok-Act.field-0-is) in
     let pair = c.in_ok-reply-in-Ok-Act in
-    line_answered c.args.line.now command here c.args.service.now (record { service = c.carry_out.new.service; notes = c.carry_out.new.notes }) pair.reply pair.reached (lines_left (g.R.Read.remaining c.carry_out.new.reader))
-    (g.W.Write.contents c.args.writer.now) (g.W.Write.contents c.say.new.writer) asks (pair.ensures.ok state lines keeps there) c.in-Ok-say.ensures.ok
+    line_answered c.args.line.now command here c.args.service.now (record { service = c.carry_out.new.service; notes = c.carry_out.new.notes })
+    pair.reply pair.reached (lines_left (g.R.Read.remaining c.carry_out.new.reader))
+    (g.W.Write.contents c.args.writer.now) (g.W.Write.contents c.say.new.writer) asks (pair.ensures.ok state keeps lines there) c.in-Ok-say.ensures.ok
 
 pub returns-in-Err-say-clause-err : goal.returns-in-Err-say-clause-err
-returns-in-Err-say-clause-err g c state lines keeps there =
+returns-in-Err-say-clause-err g c state keeps lines there =
     let here : Place = record { number = c.args.number; state = state; lines = lines } in
     let command = Ok (Act c.in-Ok-Act.action) in
     let asks : command_of c.args.line.now ≡ command = sym c.command_of.ensures ∙ (c.in-Ok-Act.is ∙ ap Ok c.in-Ok-Act.field-0-is) in
     let pair = c.in_ok-reply-in-Ok-Act in
-    line_unwritten c.in-Err-say.fault c.args.line.now command here c.args.service.now (record { service = c.carry_out.new.service; notes = c.carry_out.new.notes }) pair.reply pair.reached (lines_left (g.R.Read.remaining c.carry_out.new.reader))
-    (g.W.Write.contents c.args.writer.now) (g.W.Write.contents c.say.new.writer) asks (pair.ensures.ok state lines keeps there) c.in-Err-say.ensures.err
+    line_unwritten c.in-Err-say.fault c.args.line.now command here c.args.service.now
+    (record { service = c.carry_out.new.service; notes = c.carry_out.new.notes }) pair.reply pair.reached
+    (lines_left (g.R.Read.remaining c.carry_out.new.reader))
+    (g.W.Write.contents c.args.writer.now) (g.W.Write.contents c.say.new.writer) asks (pair.ensures.ok state keeps lines there) c.in-Err-say.ensures.err
 
 -- faults
 
 pub returns-in-Ok-say-2-clause-ok : goal.returns-in-Ok-say-2-clause-ok
-returns-in-Ok-say-2-clause-ok g c state lines keeps there =
+returns-in-Ok-say-2-clause-ok g c state keeps lines there =
     let here : Place = record { number = c.args.number; state = state; lines = lines } in
     let held : Held = record { service = c.args.service.now; notes = c.args.notes.now } in
     let left = lines_left (g.R.Read.remaining c.args.reader.now) in
@@ -78,11 +82,12 @@ returns-in-Ok-say-2-clause-ok g c state lines keeps there =
     (fault_replies c.in-Err.fault here held left keeps there) c.in-Ok-say-2.ensures.ok
 
 pub returns-in-Err-say-2-clause-err : goal.returns-in-Err-say-2-clause-err
-returns-in-Err-say-2-clause-err g c state lines keeps there =
+returns-in-Err-say-2-clause-err g c state keeps lines there =
     let here : Place = record { number = c.args.number; state = state; lines = lines } in
     let held : Held = record { service = c.args.service.now; notes = c.args.notes.now } in
     let left = lines_left (g.R.Read.remaining c.args.reader.now) in
     let asks : command_of c.args.line.now ≡ Err c.in-Err.fault = sym c.command_of.ensures ∙ c.in-Err.is in
-    line_unwritten c.in-Err-say-2.fault c.args.line.now (Err c.in-Err.fault) here c.args.service.now held (Fault c.in-Err.fault c.args.number) c.args.number left
+    line_unwritten c.in-Err-say-2.fault c.args.line.now (Err c.in-Err.fault) here c.args.service.now held (Fault c.in-Err.fault c.args.number)
+    c.args.number left
     (g.W.Write.contents c.args.writer.now) (g.W.Write.contents c.say-in-Err.new.writer) asks
     (fault_replies c.in-Err.fault here held left keeps there) c.in-Err-say-2.ensures.err

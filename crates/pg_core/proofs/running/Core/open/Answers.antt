@@ -1,53 +1,16 @@
-use Rattle.std.proofs.Common.{ℕ, ◌<◌, ◌≤◌, [], ◌∷◌, ◌++◌, length, map, get_or, None, refl, ap, sym, ◌∙◌, subst, subst₂}
-use Rattle.std.proofs.lemmas.List.{length-map}
-use Rattle.std.proofs.lemmas.Simd.{map-map}
-use Rattle.pg_core.specs.Beginning.{IsBegun}
-use Rattle.pg_core.specs.Machine.{first_state}
-use Rattle.pg_core.specs.Progress.{IsLawful}
-use Rattle.pg_core.proofs.Opened.{IsLawful-opened, IsRight-opened, begun_are_here, tally_first, visible_first}
+use Rattle.std.proofs.Common.{None, refl, subst}
+use Rattle.pg_core.specs.Progress.{IsRight}
+use Rattle.pg_core.proofs.Opened.{have_begun, job_as_opened}
 use Rattle.pg_core.proofs.running.Core.open.Goals as goal
-use Rattle.pg_global.specs.Master.{job_of}
-use Rattle.pg_global.specs.Registry.{aggregating_of}
-use Rattle.pg_model.specs.Superstep.{visible_in}
 
-pub invariant_of-result : goal.invariant_of-result
-invariant_of-result g c =
+pub open_with-requires-clause-begun : goal.open_with-requires-clause-begun
+open_with-requires-clause-begun g c =
     let program = g.P.Computation.program c.args.program.now in
     let combining = g.C.MessageCombiner.combining c.args.combiner.now in
     let master = g.M.MasterCompute.master c.args.master.now in
-    let limits = c.args.limits in
-    let parts = c.in_ok-parts.parts.items in
-    let many = c.partitioner_of-partitioner.ensures in
-    let begun = subst₂ (λ n missing. (p : ℕ) → p < n → IsBegun program missing c.args.graph.now n p (get_or parts p None)) many c.missing.ensures c.in_ok-parts.ensures.begun in
-    let gathered = ap length c.in_ok-gathered.ensures ∙ (length-map _ _ ∙ ap length c.in_ok-registry.ensures) in
-    subst (λ events. IsLawful limits program.declared (length master.registrations) c.in_ok-state.state events parts c.push.new.self.items (record { gathered = c.in_ok-gathered.gathered; sent = 0; dropped = 0 })) (sym c.new-2.ensures.items)
-    (IsLawful-opened program master combining limits c.args.graph.now parts (c.in_ok-parts.ensures.each ∙ many) begun c.in_ok-state.state c.push.new.self.items c.in_ok-visible.visible (record { gathered = c.in_ok-gathered.gathered; sent = 0; dropped = 0 }) c.partitions.ensures.are
-    (subst (λ (n : ℕ). n ≤ 16) (c.len.ensures.value ∙ ap length c.in_ok-registry.ensures) c.len.ensures.limit)
-    c.requires.registered
-    (c.in_ok-state.ensures ∙ (λ i. first_state (c.partitions.ensures.value i) (c.workers.ensures.value i)))
-    (c.in_ok-push.ensures.items ∙ ap (λ l. l ++ c.in_ok-visible.visible ∷ []) c.new-shown.ensures.items)
-    (c.in_ok-visible.ensures.places ∙ (ap length c.in_ok-seen.ensures ∙ gathered))
-    gathered)
-
-pub returns-clause-opened : goal.returns-clause-opened
-returns-clause-opened g c =
-    let program = g.P.Computation.program c.args.program.now in
-    let combining = g.C.MessageCombiner.combining c.args.combiner.now in
-    let master = g.M.MasterCompute.master c.args.master.now in
-    let limits = c.args.limits in
-    let parts = c.in_ok-parts.parts.items in
-    let many = c.partitioner_of-partitioner.ensures in
-    let begun = subst₂ (λ n missing. (p : ℕ) → p < n → IsBegun program missing c.args.graph.now n p (get_or parts p None)) many c.missing.ensures c.in_ok-parts.ensures.begun in
-    record {
-      program_is = refl;
-      combiner_is = refl;
-      master_is = refl;
-      graph_is = refl;
-      limits_are = refl;
-      run_is = refl;
-      state_is = c.in_ok-state.ensures ∙ (λ i. first_state (c.partitions.ensures.value i) (c.workers.ensures.value i));
-      history_is = c.new-2.ensures.items;
-      parts_are = begun_are_here program master combining limits c.args.graph.now parts (c.in_ok-parts.ensures.each ∙ many) begun;
+    λ κs lives. record {
+      beside = None;
+      begun = have_begun program combining master c.args.limits c.args.graph.now c.partitioner_of-partitioner.result c.missing.result c.in_ok-registry.registry c.partitioner_of-partitioner.ensures c.missing.ensures c.in_ok-registry.ensures c.in_ok-parts.parts.items c.in_ok-parts.ensures.begun;
     }
 
 pub returns-clause-right : goal.returns-clause-right
@@ -55,18 +18,7 @@ returns-clause-right g c =
     let program = g.P.Computation.program c.args.program.now in
     let combining = g.C.MessageCombiner.combining c.args.combiner.now in
     let master = g.M.MasterCompute.master c.args.master.now in
-    let limits = c.args.limits in
-    let rows = c.args.graph.now in
-    let job = job_of program combining master limits.missing limits.limit in
-    let parts = c.in_ok-parts.parts.items in
-    let many = c.partitioner_of-partitioner.ensures in
-    let begun = subst₂ (λ n missing. (p : ℕ) → p < n → IsBegun program missing rows n p (get_or parts p None)) many c.missing.ensures c.in_ok-parts.ensures.begun in
-    let gathered = c.in_ok-gathered.ensures ∙ (ap (map (λ e. (aggregating_of e.1).initial)) c.in_ok-registry.ensures ∙ sym (map-map (λ a. a.initial) (λ e. aggregating_of e.1) master.registrations)) in
-    let shows = c.in_ok-visible.ensures.value
-    ∙ (ap (λ (s : ℕ). visible_in job.deciding (record { vertices = c.vertices-vertices.result; edges = c.edges-edges.result }) s c.in_ok-seen.seen) c.new.ensures
-    ∙ visible_first job rows c.vertices-vertices.result c.edges-edges.result c.in_ok-seen.seen c.vertices-vertices.ensures.value c.edges-edges.ensures.value c.edges-edges.ensures.limit (c.in_ok-seen.ensures ∙ gathered)) in
-    IsRight-opened program master combining limits rows parts (c.in_ok-parts.ensures.each ∙ many) begun _ c.partitions.ensures.are refl refl refl
-    (c.in_ok-state.ensures ∙ (λ i. first_state (c.partitions.ensures.value i) (c.workers.ensures.value i)))
-    c.new-3.ensures
-    (c.in_ok-push.ensures.items ∙ (ap (λ l. l ++ c.in_ok-visible.visible ∷ []) c.new-shown.ensures.items ∙ ap (λ v. v ∷ []) shows))
-    (tally_first job rows (record { gathered = c.in_ok-gathered.gathered; sent = 0; dropped = 0 }) (λ i. record { gathered = gathered i; sent = 0; dropped = 0 }))
+    let core = c.in_ok-core.core in
+    let begun = have_begun program combining master c.args.limits c.args.graph.now c.partitioner_of-partitioner.result c.missing.result c.in_ok-registry.registry c.partitioner_of-partitioner.ensures c.missing.ensures c.in_ok-registry.ensures c.in_ok-parts.parts.items c.in_ok-parts.ensures.begun in
+    subst (λ job. IsRight job None core) (job_as_opened g.P.Computation.program g.C.MessageCombiner.combining g.M.MasterCompute.master core c.args.program.now c.args.combiner.now c.args.master.now c.args.graph.now c.args.limits c.args.run c.in_ok-core.ensures.opened)
+    (c.in_ok-core.ensures.right None refl begun)

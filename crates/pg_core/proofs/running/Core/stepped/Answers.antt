@@ -11,10 +11,10 @@ index_mut-requires g c =
     let inside = c.self.inside in
     let p = c.args.partition in
     let declared = (g.P.Computation.program inside.program.now).declared in
-    let registered = length (g.M.MasterCompute.master inside.master.now).registrations in
+    let registered = (g.M.MasterCompute.master inside.master.now).registrations in
     let allowed = subst (λ core. is_allowed core.state (Step p) ≡ true) (sym c.self.view_is) c.requires.allowed in
     let steps = StepsFrom-from_allowed inside.state p allowed in
-    let within = part_within inside.limits declared registered inside.state inside.history.items inside.parts.items inside.shown.items inside.tally c.self.invariant p allowed p steps.from steps.at in
+    let within = part_within inside.limits declared registered inside.registry inside.state inside.history.items inside.parts.items inside.shown.items inside.tally c.self.invariant p allowed p steps.from steps.at in
     omega (arith, c.number-2.ensures, within, inside.parts.ok)
 
 pub invariant_of-self-2 : goal.invariant_of-self-2
@@ -23,13 +23,13 @@ invariant_of-self-2 g c =
     let p = c.args.partition in
     let part = c.args.part in
     let declared = (g.P.Computation.program inside.program.now).declared in
-    let registered = length (g.M.MasterCompute.master inside.master.now).registrations in
+    let registered = (g.M.MasterCompute.master inside.master.now).registrations in
     let allowed = subst (λ core. is_allowed core.state (Step p) ≡ true) (sym c.self.view_is) c.requires.allowed in
     let next = subst (λ core. IsNext core.limits.partitions core.state p part) (sym c.self.view_is) c.requires.next in
-    subst (λ state. IsLawful inside.limits declared registered state c.push.new.self.items (set inside.parts.items c.number-2.result (Some part)) inside.shown.items inside.tally) (sym c.step.ensures)
-    (subst (λ events. IsLawful inside.limits declared registered (after inside.state (Step p)) events (set inside.parts.items c.number-2.result (Some part)) inside.shown.items inside.tally) (sym c.in_ok-push.ensures.items)
-    (subst (λ (p' : ℕ). IsLawful inside.limits declared registered (after inside.state (Step p)) (inside.history.items ++ Step p ∷ []) (set inside.parts.items p' (Some part)) inside.shown.items inside.tally) (sym c.number-2.ensures)
-    (IsLawful-step inside.limits declared registered inside.state inside.history.items inside.parts.items inside.shown.items inside.tally c.self.invariant p allowed part next)))
+    subst (λ state. IsLawful inside.limits declared registered inside.registry state c.push.new.self.items (set inside.parts.items c.number-2.result (Some part)) inside.shown.items inside.tally) (sym c.step.ensures)
+    (subst (λ events. IsLawful inside.limits declared registered inside.registry (after inside.state (Step p)) events (set inside.parts.items c.number-2.result (Some part)) inside.shown.items inside.tally) (sym c.in_ok-push.ensures.items)
+    (subst (λ (p' : ℕ). IsLawful inside.limits declared registered inside.registry (after inside.state (Step p)) (inside.history.items ++ Step p ∷ []) (set inside.parts.items p' (Some part)) inside.shown.items inside.tally) (sym c.number-2.ensures)
+    (IsLawful-step inside.limits declared registered inside.registry inside.state inside.history.items inside.parts.items inside.shown.items inside.tally c.self.invariant p allowed part next)))
 
 pub returns-clause-core : goal.returns-clause-core
 returns-clause-core g c =
@@ -51,6 +51,8 @@ returns-clause-core g c =
         logs = logs;
         shown = inside.shown.items;
         tally = inside.tally;
+        ending = inside.ending;
+        kept = inside.kept;
       }) ∙ ap (λ core. record (with_step p part core) { logs = logs }) c.self.view_is;
       logs_are = λ r at.
           let place : c.new-place.result ≡ r = omega (arith, c.new-place.ensures, c.number.ensures, c.place-next.ensures, c.requires.next.place_is r at) in

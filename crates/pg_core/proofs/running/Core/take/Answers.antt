@@ -14,12 +14,12 @@ invariant_of-self g c =
     let inside = c.self.inside in
     let p = c.args.partition in
     let declared = (g.P.Computation.program inside.program.now).declared in
-    let registered = length (g.M.MasterCompute.master inside.master.now).registrations in
+    let registered = (g.M.MasterCompute.master inside.master.now).registrations in
     let ready = subst (λ core. is_ready core p ≡ true) (sym c.self.view_is) c.requires in
     let allowed = (and_parts (is_allowed inside.state (Step p)) _ ready).0 in
-    subst (λ parts. IsLawful inside.limits declared registered inside.state inside.history.items parts inside.shown.items inside.tally)
+    subst (λ parts. IsLawful inside.limits declared registered inside.registry inside.state inside.history.items parts inside.shown.items inside.tally)
     (λ i. set inside.parts.items (sym c.number.ensures i) (sym c.take.ensures.after i))
-    (IsLawful-take inside.limits declared registered inside.state inside.history.items inside.parts.items inside.shown.items inside.tally c.self.invariant p allowed)
+    (IsLawful-take inside.limits declared registered inside.registry inside.state inside.history.items inside.parts.items inside.shown.items inside.tally c.self.invariant p allowed)
 
 pub returns-clause-at : goal.returns-clause-at
 returns-clause-at g c =
@@ -56,6 +56,8 @@ returns-clause-right g c kept right =
       logs = inside.logs;
       shown = inside.shown.items;
       tally = inside.tally;
+      ending = inside.ending;
+      kept = inside.kept;
     }) ∙ ap (without_part p) c.self.view_is in
     (subst (IsRight job kept) (sym new) (IsRight-take job kept core p right was.0 (some_inside core.parts p was.1)), IsStepLent-taken job kept core p right was.0 many c.unwrap.result there)
 
@@ -73,7 +75,7 @@ returns-clause-reached g c =
     let p = c.args.partition in
     let at = returns-clause-at g c in
     let steps = StepsFrom-from_allowed core.state p (and_parts (is_allowed core.state (Step p)) _ c.requires).0 in
-    let same = one_of steps.from c.unwrap.result.place (sym steps.at ∙ at.place_is) in
+    let same = one_of steps.from c.unwrap.result.course.place (sym steps.at ∙ at.place_is) in
     omega (arith, steps.open_or_before, same)
 
 pub returns-clause-small : goal.returns-clause-small

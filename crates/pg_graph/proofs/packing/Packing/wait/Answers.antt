@@ -1,6 +1,5 @@
-use Rattle.std.proofs.Common.{rules, ◌≡◌, [], ◌∷◌, ◌++◌, sym, ap, ◌∙◌, append_assoc, arith}
-use Rattle.std.proofs.lemmas.Grind.{common_steps}
-use Rattle.pg_graph.specs.Packing.{AreParts, rows_of}
+use Rattle.std.proofs.Common.{rules, [], ◌∷◌, ◌++◌, sym, ap, ◌∙◌, append_assoc}
+use Rattle.pg_graph.specs.Packing.{rows_of}
 use Rattle.pg_graph.proofs.SideBySide.{parts_stay, parts_push, rows_push}
 use Rattle.pg_graph.proofs.packing.Packing.wait.Goals as goal
 

@@ -9,13 +9,13 @@ loop-source-preserved c = elim c.if-is_past.branch [
   | then-is_past+in_ok-push w ↦
       let item = c.loop-source-item.result in
       let edge : NamedEdge = record { source = item.0; target = item.1; named = false } in
-      let edges = c.loop-source.edges.items in
+      let edges = c.loop-source.once.items in
       let had = c.loop-source.invariant in
       let past = rw (c.number.ensures.value, c.number-in-loop-source.ensures.value) at (c.is_past.ensures w.if-is_past.true) in
-      rw (w.edges-is, w.from-is, w.to-is, w.number-from.ensures.value, w.number-to.ensures.value, w.in_ok-push.ensures.items) (record {
+      rw (w.once-is, w.from-is, w.to-is, w.number-from.ensures.value, w.number-to.ensures.value, w.in_ok-push.ensures.items) (record {
         distinct = AreDistinct-push edges edge had.distinct (IsApart-before edges c.loop-source.from c.loop-source.to edge.source edge.target had.before past);
         before = AreBefore-push edges c.loop-source.from c.loop-source.to edge had.before past;
         none = λ s t. named_in-push edge refl edges s t (had.none s t);
       })
-  | else-is_past w ↦ rw (w.edges-is, w.from-is, w.to-is) c.loop-source.invariant
+  | else-is_past w ↦ rw (w.once-is, w.from-is, w.to-is) c.loop-source.invariant
 ]

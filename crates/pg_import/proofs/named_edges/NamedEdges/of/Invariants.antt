@@ -4,7 +4,7 @@ use Rattle.pg_import.proofs.named_edges.NamedEdges.of.Given as goal
 
 abbrev pub invariant-loop-source : goal.invariant-loop-source
 invariant-loop-source l = record {
-  distinct : AreDistinct l.edges.items;
-  before : AreBefore l.from l.to l.edges.items;
-  none : (s t : ℕ) → named_in s t l.edges.items ≡ false;
+  distinct : AreDistinct l.once.items;
+  before : AreBefore l.from l.to l.once.items;
+  none : (s t : ℕ) → named_in s t l.once.items ≡ false;
 }

@@ -1,45 +1,37 @@
-use Rattle.std.proofs.Common.{Some, ap, sym, ◌∙◌, subst, refl}
-use Rattle.pg_map.specs.Entries.{ChangesRise}
-use Rattle.pg_model.specs.Superstep.{has_id}
-use Rattle.pg_part.specs.Part.{AreTouched, Holding, Holds, IsWhole}
-use Rattle.pg_part.specs.Starting.{first_changes}
-use Rattle.pg_part.proofs.Beginning.{changes_by_id, changes_rise, holds_beside}
-use Rattle.pg_trace.specs.Beginning.{ChangesById, with_first}
+use Rattle.std.proofs.Common.{◌≡◌, ap, sym, ◌∙◌, ◌∷◌, ◌++◌, [], subst, refl, arith, ◌≤◌, Some}
+use Rattle.std.specs.List.{slice_get}
+use Rattle.pg_course.specs.Course.{Holds, IsWhole}
+use Rattle.pg_model.specs.Run.{run_length}
+use Rattle.pg_part.proofs.Beginning.{begun_stats, recensus_is}
+use Rattle.pg_part.proofs.Stepping.{stats_of}
+use Rattle.pg_recount.specs.Traffic.{AreMoved}
+use Rattle.pg_stats.specs.Stats.{stats_at}
 use Rattle.pg_part.proofs.part.Part.begin_beside.Goals as goal
 
-pub restarted-requires-clause-rise : goal.restarted-requires-clause-rise
-restarted-requires-clause-rise g c =
-    let program = g.P.Computation.program c.args.program.now in
-    let share = first_changes program c.rows.inside.graph.now c.rows.inside.partitions c.rows.inside.partition in
-    subst ChangesRise (sym (c.in_ok-changes.ensures.changes ∙ ap share c.as_slice.ensures.value))
-    (changes_rise program c.rows.inside.partitions c.rows.inside.partition c.rows.inside.graph.now c.rising-differing.result.items c.rising-differing.ensures.rise)
-
-pub restarted-requires-clause-by_id : goal.restarted-requires-clause-by_id
-restarted-requires-clause-by_id g c =
-    subst ChangesById (sym c.in_ok-changes.ensures.changes)
-    (changes_by_id (g.P.Computation.program c.args.program.now) c.rows.inside.partitions c.rows.inside.partition c.rows.inside.graph.now c.as_slice.result.now)
-
-pub returns : goal.returns
-returns g c job kept program missing whole touched =
-    let n = c.rows.inside.partitions in
-    let p = c.rows.inside.partition in
-    let graph = c.rows.inside.graph.now in
-    let ids = c.rising-differing.result.items in
-    let program' = g.P.Computation.program c.args.program.now in
-    let part : Holding g.row.V.Denot g.row.M.Denot = record {
-      partition = p;
-      partitions = n;
-      missing = c.args.missing;
-      place = c.new.result;
-      trace = c.in_ok-trace.trace;
-      kept = Some c.args.old;
-      differing = ids;
-    } in
-    let old : IsWhole job kept n p c.args.old = subst (λ r. IsWhole job kept r.partitions r.partition c.args.old) (sym c.rows.view_is) whole in
-    let same : AreTouched c.args.touched.now kept graph = subst (λ r. AreTouched c.args.touched.now kept r.graph) (sym c.rows.view_is) touched in
-    subst (λ r. Holds job (Some kept) r.graph r.partitions r.partition 0 part) c.rows.view_is
-    (holds_beside job kept graph n p c.in_ok-changes.ensures.rising program' program c.args.missing (sym missing) c.args.old old ids c.rising-differing.ensures.rise
-    (λ id other. same id (sym (ap (λ l. has_id l id) c.in_ok-copied.ensures) ∙ (sym (c.rising-differing.ensures.same id) ∙ other)))
-    part refl refl refl c.new.ensures
-    (c.in_ok-trace.ensures ∙ ap (λ l. record c.args.old { initial = with_first l c.args.old.initial })
-    (c.in_ok-changes.ensures.changes ∙ ap (first_changes program' graph n p) c.as_slice.ensures.value)) refl refl)
+pub returns-clause-holds : goal.returns-clause-holds
+returns-clause-holds g c job kept program missing same left touched moved =
+    let graph = c.args.rows.graph in
+    let n = c.args.rows.partitions in
+    let p = c.args.rows.partition in
+    let registry = c.args.registry.now in
+    let course = c.in_ok-course.course in
+    let old = c.old.inside in
+    let begins = c.in_ok-course.ensures in
+    let whole = subst (λ l. IsWhole job kept n p l.trace) (sym c.old.view_is) left.whole in
+    let holds = begins.holds job kept program missing whole touched in
+    let stats_are = ap (λ l. l.stats) c.old.view_is ∙ left.stats_are in
+    let earlier = stats_at job kept n p 0 in
+    let at = stats_of job kept n p (run_length job kept) 0 old.stats.items stats_are (let least : 0 ≤ run_length job kept = omega arith in least) in
+    let first = c.in_ok-first.first in
+    let begun = c.in_ok-first.ensures old.trace earlier begins.kept (ap (λ l. slice_get l 0) c.as_slice.ensures.value ∙ at) in
+    let counted = recensus_is job kept graph n p old.trace course.trace whole.run holds.run c.args.touched.now course.differing begins.rise begins.differing touched
+    old.stats.items stats_are earlier at first.census begun.census in
+    let pushed = c.in_ok-push.ensures.items ∙ (ap (λ l. l ++ first ∷ []) c.new-stats.ensures.items ∙ ap (λ x. x ∷ []) begun.rest) in
+    record {
+      course = subst (λ x. Holds job (Some kept) graph n p 0 x) (sym c.course.view_is) holds;
+      stats = record {
+        graph_is = c.graph-2.view_is ∙ (c.in_ok-graph.ensures ∙ c.graph.ensures);
+        stats_are = pushed ∙ begun_stats job n p registry same graph first.census counted;
+        beside = (stats_are, subst (λ ids. AreMoved ids kept graph) (sym c.in_ok-from_slice.ensures.items) moved);
+      };
+    }

@@ -1,0 +1,123 @@
+-- What a run over partitions gives once it has ended.
+use Rattle.std.proofs.Common.{◌≡◌, ℕ, ◌+◌, ◌-◌, ◌<◌, ◌≤◌, true, cond, List, [], ◌∷◌, ◌++◌, length, get_or, Option, None, Some, is_some, refl, ap, sym, ◌∙◌, subst, arith, inl, inr, eq-or-lt_of_le}
+use Rattle.std.specs.List.{slice_get}
+use Rattle.std.specs.Option.{IsSome, unwrap_or}
+use Rattle.std.proofs.lemmas.Bool.{lt-ltb, true≢false}
+use Rattle.pg_core.specs.Machine.{place_at}
+use Rattle.pg_core.specs.Progress.{HoldsAt, IsRight, Progress, is_past, part_at, tally_at}
+use Rattle.pg_core.specs.Traces.{HasEnded, HasLeft, HaveLeft, IsLeftBy, shown_below}
+use Rattle.pg_core.specs.Values.{HasShare, HaveShares}
+use Rattle.pg_core.specs.declared.tally.Tally.{Tally}
+use Rattle.pg_graph.specs.Rows.{Rows}
+use Rattle.pg_inbox.specs.Logged.{Slots, slot_at}
+use Rattle.pg_inbox.specs.declared.logs.Logged.{Logged}
+use Rattle.pg_model.specs.Job.{Job}
+use Rattle.pg_model.specs.Run.{answer, configuration, ending_after, run_length, values_of}
+use Rattle.pg_model.specs.declared.run.Ending.{Ending}
+use Rattle.pg_model.specs.declared.run.Ending.TheVariants.{LimitReached}
+use Rattle.pg_model.specs.declared.view.Visible.{Visible}
+use Rattle.pg_course.specs.Lent.{bundle_in, bundle_sent}
+use Rattle.pg_course.specs.Course.{IsSentTo}
+use Rattle.pg_part.specs.Part.{HoldsShare, IsLeft, LeftOf, PartState}
+use Rattle.pg_core.proofs.Putting.{slice_get_before, slice_get_pushed}
+
+-- ---- the answer
+
+module _ {V M : Type 0} (job : Job V M) (rows : Rows) (s : ℕ) (last : s + 1 ≡ run_length job rows) where
+  pub answer_is : (values : List (ℕ × V)) (tally : Tally) (ending : Ending) (supersteps : ℕ) → values ≡ values_of job rows (configuration job rows (s + 1)) → tally ≡ tally_at job rows (s + 1)
+      → ending ≡ unwrap_or (ending_after job rows s) LimitReached → supersteps ≡ s + 1
+      → record { values = values; aggregates = tally.gathered; ending = ending; supersteps = supersteps; sent = tally.sent; dropped = tally.dropped } ≡ answer job rows
+  unfolding answer
+  answer_is values tally ending supersteps are counts ends many =
+      let before : s ≡ run_length job rows - 1 = omega (arith, last) in
+      let counted : tally ≡ tally_at job rows (run_length job rows) = counts ∙ ap (tally_at job rows) last in
+      λ i. record {
+        values = (are ∙ ap (λ (k : ℕ). values_of job rows (configuration job rows k)) last) i;
+        aggregates = (counted i).gathered;
+        ending = (ends ∙ ap (λ (k : ℕ). unwrap_or (ending_after job rows k) LimitReached) before) i;
+        supersteps = (many ∙ last) i;
+        sent = (counted i).sent;
+        dropped = (counted i).dropped;
+      }
+
+-- ---- what the parts leave
+
+-- the element between those before it and those after it
+pub get_or_at : {X : Type 0} (xs ys : List X) (x d : X) → get_or (xs ++ x ∷ ys) (length xs) d ≡ x
+get_or_at [] ys x d = refl
+get_or_at (y ∷ xs) ys x d = get_or_at xs ys x d
+
+module _ {V M : Type 0} (s : ℕ) (parts : List (Option (PartState V M))) where
+  -- one part more has left this
+  pub left_more : (before after : List (LeftOf V M)) (left : LeftOf V M) (part : PartState V M) (k : ℕ) → length before ≡ k → get_or parts k None ≡ Some part → HaveLeft s parts k before → after ≡ before ++ left ∷ []
+      → ((job : Job V M) (kept : Option Rows) (rows : Rows) (n p : ℕ) → s ≡ run_length job rows → HoldsShare job kept rows n p s part → IsLeft job rows n p left) → HaveLeft s parts (k + 1) after
+  left_more before after left part k many at so_far pushed leaves job kept rows n ends held p within =
+      subst (λ (l : List (LeftOf V M)). HasLeft job rows n p (slice_get l p)) (sym pushed)
+      (elim (eq-or-lt_of_le (let le : p ≤ k = omega (arith, within) in le)) [
+        | inl same ↦ subst (λ (q : ℕ). HasLeft job rows n q (slice_get (before ++ left ∷ []) q)) (sym same)
+            (subst (HasLeft job rows n k) (sym (ap (slice_get (before ++ left ∷ [])) (sym many) ∙ slice_get_pushed before left))
+            (leaves job kept rows n k ends (subst (λ (r : ℕ). HoldsShare job kept rows n k r part) (sym ends) (subst (HasEnded job kept rows n k) at (held k (omega arith))))))
+        | inr less ↦ subst (HasLeft job rows n p) (sym (slice_get_before before left p (omega (arith, less, many))))
+            (so_far job kept rows n ends (λ q inside. held q (omega (arith, inside))) p less)
+      ])
+
+-- ---- a core that has ended
+
+bundle_in-sent : {V M : Type 0} (job : Job V M) (kept : Option Rows) (rows : Rows) (n p q s : ℕ) (slot : Option (Logged M)) → IsSentTo job kept rows n p q s slot → bundle_in slot ≡ Some (bundle_sent job rows n p q s)
+bundle_in-sent job kept rows n p q s None h = absurd h
+bundle_in-sent job kept rows n p q s (Some logged) h = ap Some h.0
+
+module _ {P C A V M : Type 0} (job : Job V M) (kept : Option Rows) (core : Progress P C A V M) (right : IsRight job kept core) (ended : core.state.ended ≡ true) (places : (p : ℕ) → p < core.limits.partitions → place_at p core.state ≡ Some (core.state.current + 1)) (here : (p : ℕ) → p < core.limits.partitions → IsSome (part_at p core)) (each : length core.parts ≡ core.limits.partitions) (some : 0 < core.limits.partitions) where
+  abbrev end : ℕ
+  end = core.state.current + 1
+
+  last : end ≡ run_length job core.graph
+  last = right.at_end ended
+
+  abbrev HoldsLast : ℕ → Option (PartState V M) → Type 0
+  HoldsLast p None = ⊥
+  HoldsLast p (Some part) = HoldsShare job kept core.graph core.limits.partitions p end part
+
+  held : (p : ℕ) → p < core.limits.partitions → HoldsLast p (part_at p core)
+  held p within = by (part_at p core) refl (here p within)
+    where
+      by : (part : Option (PartState V M)) → part_at p core ≡ part → is_some part ≡ true → HoldsLast p part
+      by None at is = absurd (true≢false (sym is))
+      by (Some part) at is = subst (λ place. HoldsAt job kept core.graph core.limits.partitions p place part) (places p within) (right.parts p part at)
+
+  pub have_shares : HaveShares job core.graph core.limits.partitions end core.parts
+  have_shares = record { shares = λ p within. by p (part_at p core) (held p within); some = some }
+    where
+      by : (p : ℕ) (part : Option (PartState V M)) → HoldsLast p part → HasShare job core.graph core.limits.partitions p end part
+      by p None h = absurd h
+      by p (Some part) h = h.course.run
+
+  pub tally_last : core.tally ≡ tally_at job core.graph end
+  tally_last = right.tally ∙ ap (λ b. tally_at job core.graph (cond b end core.state.current)) ended
+
+  pub ending_last : core.ending ≡ ending_after job core.graph core.state.current
+  ending_last = right.ending ∙ ap (λ b. cond b (ending_after job core.graph core.state.current) None) ended
+
+  -- all parts have come to the end
+  have_ended : (p : ℕ) → p < core.limits.partitions → HasEnded job kept core.graph core.limits.partitions p (part_at p core)
+  have_ended p within = by (part_at p core) (held p within)
+    where
+      by : (part : Option (PartState V M)) → HoldsLast p part → HasEnded job kept core.graph core.limits.partitions p part
+      by None h = absurd h
+      by (Some part) h = subst (λ (r : ℕ). HoldsShare job kept core.graph core.limits.partitions p r part) last h
+
+  -- so what they left is what the run leaves
+  pub left_as : (lefts : List (LeftOf V M)) (graph : Rows) (logs : Slots M) (shown : List Visible) → length lefts ≡ core.limits.partitions → HaveLeft end core.parts core.limits.partitions lefts
+      → graph ≡ core.graph → logs ≡ core.logs → shown ≡ core.shown → IsLeftBy job core.graph core.limits.partitions (record { lefts = lefts; graph = graph; common = record { logs = logs; shown = shown } })
+  left_as lefts graph logs shown many left graph_is same shows = record {
+    each = many;
+    whole = left job kept core.graph core.limits.partitions last have_ended;
+    graph_is = graph_is;
+    common = record {
+      sent = λ s p q before mine theirs.
+          let sent_is = bundle_in-sent job kept core.graph core.limits.partitions p q s (slot_at core.logs s p q)
+          (right.logs.sent s p q (ap (is_past s) (places p mine) ∙ lt-ltb s end (omega (arith, before, last))) theirs) in
+          subst (λ (l : Slots M). bundle_in (slot_at l s p q) ≡ Some (bundle_sent job core.graph core.limits.partitions p q s)) (sym same) sent_is;
+      shown = shows ∙ (right.shown ∙ ap (shown_below job core.graph) last);
+    };
+  }

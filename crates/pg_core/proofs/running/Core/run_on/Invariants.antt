@@ -1,0 +1,12 @@
+use Rattle.std.proofs.Common.{◌≡◌}
+use Rattle.pg_core.specs.Driving.{ArePast}
+use Rattle.pg_core.proofs.Onward.{Goes}
+use Rattle.pg_core.proofs.running.Core.run_on.Given as goal
+
+-- all partitions have come to the open superstep
+abbrev pub invariant-loop-number : goal.invariant-loop-number
+invariant-loop-number g l = record {
+  there : ArePast l.number 0 l.self;
+  stays : l.self.state.current ≡ l.number;
+  goes : Goes g.P.Computation.program g.C.MessageCombiner.combining g.M.MasterCompute.master g.P.Value.PartialEq.eq g.P.Message.PartialEq.eq l.fn.self l.self l.fn.meter l.meter;
+}

@@ -1,0 +1,55 @@
+-- What closing a superstep makes of a run over partitions, and what the run gives once it has ended.
+use Rattle.std.specs.Prelude.{◌≡◌, ◌+◌, ◌↔◌, [], ◌∷◌, ◌++◌, Option, Some}
+use Rattle.pg_core.specs.Machine.{after}
+use Rattle.pg_core.specs.Progress.{IsRight, Progress}
+use Rattle.pg_core.specs.Traces.{IsLeftBy, Traces}
+use Rattle.pg_core.specs.declared.event.Closed.{Closed}
+use Rattle.pg_core.specs.declared.event.Closed.TheVariants.{Next, Ended}
+use Rattle.pg_core.specs.declared.event.Event.TheVariants.{Close}
+use Rattle.pg_core.specs.declared.tally.Tally.{Tally}
+use Rattle.pg_graph.specs.Rows.{Rows}
+use Rattle.pg_model.specs.Job.{Job}
+use Rattle.pg_model.specs.Run.{answer, run_length}
+use Rattle.pg_model.specs.declared.run.Ending.{Ending}
+use Rattle.pg_model.specs.declared.run.Run.{Run}
+use Rattle.pg_model.specs.declared.view.Visible.{Visible}
+
+module _ {P C A V M : Type 0} where
+  -- the run has ended with its open superstep, and has counted this
+  abbrev pub with_end : Ending → Tally → Progress P C A V M → Progress P C A V M
+  with_end ending tally core = record core {
+    state = after core.state (Close Ended);
+    history = core.history ++ Close Ended ∷ [];
+    tally = tally;
+    ending = Some ending;
+  }
+
+  -- the next superstep is open, and this is shown in it
+  abbrev pub with_next : Visible → Tally → Progress P C A V M → Progress P C A V M
+  with_next visible tally core = record core {
+    state = after core.state (Close Next);
+    history = core.history ++ Close Next ∷ [];
+    shown = core.shown ++ visible ∷ [];
+    tally = tally;
+  }
+
+  -- the open superstep was closed with this answer: the state, what has happened, what was shown and counted, and why the
+  -- run ended may be others, and the rest is as it was
+  pub record HasClosed (closed : Closed) (before new : Progress P C A V M) : Type 0 where
+    pub core_is : new ≡ record before {
+      state = after before.state (Close closed);
+      history = before.history ++ Close closed ∷ [];
+      shown = new.shown;
+      tally = new.tally;
+      ending = new.ending;
+    }
+
+  -- it is right still, and has ended where the run has no further superstep, and only there
+  pub record ClosesRight (job : Job V M) (kept : Option Rows) (closed : Closed) (before new : Progress P C A V M) : Type 0 where
+    pub right : IsRight job kept new
+    pub ends : (closed ≡ Ended) ↔ (before.state.current + 1 ≡ run_length job before.graph)
+
+  -- a core that has ended gives the answer of the run, and all that the run leaves
+  pub record IsFinished (job : Job V M) (core : Progress P C A V M) (run : Run V) (left : Traces V M) : Type 0 where
+    pub answers : run ≡ answer job core.graph
+    pub leaves : IsLeftBy job core.graph core.limits.partitions left

@@ -1,0 +1,77 @@
+-- What a whole run over partitions leaves, for a run beside it.
+use Rattle.std.specs.Prelude.{◌≡◌, ℕ, ◌<◌, nat_lt, cond, List, map, length, slice_index_or, Option, None, Some}
+use Rattle.std.specs.List.{range_with_len, slice_get}
+use Rattle.pg_graph.specs.Rows.{Rows}
+use Rattle.pg_inbox.specs.Logged.{Slots, slot_at}
+use Rattle.pg_model.specs.Job.{Job}
+use Rattle.pg_model.specs.Run.{run_length, visible_at}
+use Rattle.pg_model.specs.declared.view.Visible.{Visible}
+use Rattle.pg_course.specs.Lent.{bundle_in, bundle_sent}
+use Rattle.pg_course.specs.Course.{AreTouched}
+use Rattle.pg_part.specs.Part.{HoldsShare, IsLeft, LeftOf, PartState}
+
+-- what the partitions sent, and what the master showed in each superstep
+pub record KeptLogs (M : Type 0) : Type 0 where
+  pub logs : Slots M
+  pub shown : List Visible
+
+-- what the partitions left, by partition, the graph, and what all partitions have in common
+pub record Traces (V M : Type 0) : Type 0 where
+  pub lefts : List (LeftOf V M)
+  pub graph : Rows
+  pub common : KeptLogs M
+
+-- what a step in superstep s is lent of a kept run: its logs and what was visible, where that run has the superstep
+abbrev pub logs_in : {M : Type 0} → ℕ → Option (KeptLogs M) → Option (Slots M)
+logs_in s None = None
+logs_in s (Some kept) = cond (nat_lt s (length kept.shown)) (Some kept.logs) None
+
+abbrev pub visible_in : {M : Type 0} → ℕ → Option (KeptLogs M) → Option Visible
+visible_in s None = None
+visible_in s (Some kept) = slice_get kept.shown s
+
+module _ {V M : Type 0} (job : Job V M) where
+  -- what the master shows in each superstep below s
+  abbrev pub shown_below : Rows → ℕ → List Visible
+  shown_below rows s = map (visible_at job rows) (range_with_len 0 s)
+
+  -- logs have what each of n partitions sent in each superstep of the run, and all that was shown in it
+  pub record AreLogsOf (rows : Rows) (n : ℕ) (kept : KeptLogs M) : Type 0 where
+    pub sent : (s p q : ℕ) → s < run_length job rows → p < n → q < n → bundle_in (slot_at kept.logs s p q) ≡ Some (bundle_sent job rows n p q s)
+    pub shown : kept.shown ≡ shown_below rows (run_length job rows)
+
+  -- those of the kept run, where there is one
+  abbrev pub KeepsLogs : Option Rows → ℕ → Option (KeptLogs M) → Type 0
+  KeepsLogs None n kept = kept ≡ None
+  KeepsLogs (Some rows) n None = ⊥
+  KeepsLogs (Some rows) n (Some kept) = AreLogsOf rows n kept
+
+  -- this is what partition p of n leaves
+  abbrev pub HasLeft : Rows → ℕ → ℕ → Option (LeftOf V M) → Type 0
+  HasLeft rows n p None = ⊥
+  HasLeft rows n p (Some left) = IsLeft job rows n p left
+
+  -- its part is here, and has come to the end of the run
+  abbrev pub HasEnded : Option Rows → Rows → ℕ → ℕ → Option (PartState V M) → Type 0
+  HasEnded kept rows n p None = ⊥
+  HasEnded kept rows n p (Some part) = HoldsShare job kept rows n p (run_length job rows) part
+
+  -- this is what the run on these rows leaves, over n partitions
+  pub record IsLeftBy (rows : Rows) (n : ℕ) (left : Traces V M) : Type 0 where
+    pub each : length left.lefts ≡ n
+    pub whole : (p : ℕ) → p < n → HasLeft rows n p (slice_get left.lefts p)
+    pub graph_is : left.graph ≡ rows
+    pub common : AreLogsOf rows n left.common
+
+  -- this is what some run leaves, on whose graph all rows were those of this one but for the touched ids
+  pub record IsLeftBeside (rows : Rows) (n : ℕ) (touched : List ℕ) (left : Traces V M) : Type 0 where
+    pub kept : Rows
+    pub left_by : IsLeftBy kept n left
+    pub untouched : AreTouched touched kept rows
+
+-- parts that have ended a run of s supersteps left this, by partition, as far as m partitions
+abbrev pub HaveLeft : {V M : Type 0} → ℕ → List (Option (PartState V M)) → ℕ → List (LeftOf V M) → Type 0
+HaveLeft {V} {M} s parts m lefts =
+    (job : Job V M) (kept : Option Rows) (rows : Rows) (n : ℕ) → s ≡ run_length job rows
+    → ((p : ℕ) → p < m → HasEnded job kept rows n p (slice_index_or parts p None))
+    → (p : ℕ) → p < m → HasLeft job rows n p (slice_get lefts p)

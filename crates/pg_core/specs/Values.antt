@@ -1,0 +1,44 @@
+-- The values of a run's vertices, as its partitions have them.
+use Rattle.std.specs.Prelude.{ℕ, ◌<◌, ◌%◌, List, [], ◌∷◌, ◌++◌, map, slice_index_or, Option, None, Some}
+use Rattle.std.specs.List.{flat_map, range_with_len}
+use Rattle.std.specs.Map.{keys_of}
+use Rattle.std.specs.Option.{option_and_then}
+use Rattle.pg_graph.specs.Rows.{Rows}
+use Rattle.pg_graph.specs.declared.missing.Missing.{Missing}
+use Rattle.pg_graph.specs.declared.missing.Missing.TheVariants.{Drop, Create}
+use Rattle.pg_model.specs.Job.{Job}
+use Rattle.pg_model.specs.declared.configuration.VertexState.{VertexState}
+use Rattle.pg_part.specs.Part.{PartState}
+use Rattle.pg_trace.specs.OfRun.{HoldsRun}
+use Rattle.pg_trace.specs.Trace.{Trace, records_of, state_at}
+
+-- an id with its value, where it has a state
+abbrev pub valued : {V : Type 0} → ℕ → Option (VertexState V) → List (ℕ × V)
+valued id None = []
+valued id (Some x) = (id, x.value) ∷ []
+
+module _ {V M : Type 0} where
+  -- ids among which are all that have a state as superstep s begins: those with which the partition began and, where
+  -- messages make vertices, those that ran before
+  abbrev pub ids_before : Missing → ℕ → Trace V M → List ℕ
+  ids_before Drop s trace = map (λ x. x.id) trace.initial
+  ids_before Create s trace = map (λ x. x.id) trace.initial ++ flat_map (λ t. keys_of (records_of t trace)) (range_with_len 0 s)
+
+  -- those of a partition that is here
+  abbrev pub ids_of_part : Missing → ℕ → Option (PartState V M) → List ℕ
+  ids_of_part missing s None = []
+  ids_of_part missing s (Some part) = ids_before missing s part.course.trace
+
+  -- the state of an id as its partition, of n, has it
+  abbrev pub state_in : ℕ → ℕ → List (Option (PartState V M)) → ℕ → Option (VertexState V)
+  state_in n s parts id = option_and_then (λ part. state_at id s part.course.trace) (slice_index_or parts (id % n) None)
+
+  -- a part that is here has the trace of partition p of n up to superstep s
+  abbrev pub HasShare : Job V M → Rows → ℕ → ℕ → ℕ → Option (PartState V M) → Type 0
+  HasShare job rows n p s None = ⊥
+  HasShare job rows n p s (Some part) = HoldsRun job rows n p s part.course.trace
+
+  -- all n of them do
+  pub record HaveShares (job : Job V M) (rows : Rows) (n s : ℕ) (parts : List (Option (PartState V M))) : Type 0 where
+    pub shares : (p : ℕ) → p < n → HasShare job rows n p s (slice_index_or parts p None)
+    pub some : 0 < n

@@ -1,0 +1,163 @@
+//! Closing the open superstep of a run over partitions.
+ghost use Rattle.std.specs.Prelude.{◌≡◌, ◌+◌, ◌<◌, ◌==◌, true, cond, length, None, Option, Some, IfOk, OnOk};
+ghost use Rattle.pg_core.specs.Closing.{ClosesRight, HasClosed, with_end, with_next};
+ghost use Rattle.pg_core.specs.Machine.{is_allowed};
+ghost use Rattle.pg_core.specs.Progress.{IsRight, job_by};
+ghost use Rattle.pg_graph.specs.Rows.{Rows};
+ghost use Rattle.pg_model.specs.Run.{configuration};
+ghost use Rattle.pg_model.specs.Superstep.{visible_in};
+ghost use Rattle.pg_stats.specs.GlobalStats.{AreStatsBetween};
+
+use crate::beginning::{copied, shown_in};
+use crate::together::together;
+use crate::{Closed, Core, Event, Tally};
+use pg_global::{MasterCompute, MessageCombiner};
+use pg_graph::{Memory, Superstep};
+use pg_model::Ending;
+use pg_program::Computation;
+use pg_stats::GlobalStats;
+use std::alloc::Global;
+
+impl<'a, P: Computation, C: MessageCombiner<P::Message>, M: MasterCompute> Core<'a, P, C, M> {
+    /// Whether the open superstep may be closed: the run hasn't ended, and all partitions are past it. Costs
+    /// O(partitions).
+    pub fn may_close(&self) -> bool
+        ensures { result ≡ is_allowed self.now.state (Event.Close Closed.Next) }
+    {
+        // Tells the prover the most that it may be.
+        self.limits.limit();
+        self.state.may_close()
+    }
+
+    /// Closes the open superstep: the run ends, or the master decides what the next superstep shows. Costs one step for
+    /// each partition and aggregator. Where memory is refused the core is to be given up.
+    pub fn close(&mut self, alloc: Global) -> Result<Closed, Memory>
+        requires { is_allowed self.old.state (Event.Close Closed.Next) ≡ true }
+        ensures core { IfOk result (λ closed. HasClosed closed self.old self.new) }
+        ensures right { let job = job_by P.program C.combining M.master self.old in
+            IfOk result (λ closed. (kept : Option Rows) → IsRight job kept self.old
+            → ClosesRight job kept closed self.old self.new) }
+    {
+        let stats = self.come_to(alloc)?;
+        let closed = self.close_with(alloc, stats)?;
+        Ok(closed)
+    }
+
+    /// What the partitions have come to in the open superstep, together.
+    fn come_to(&self, alloc: Global) -> Result<GlobalStats, Memory>
+        requires { is_allowed self.now.state (Event.Close Closed.Next) ≡ true }
+        ensures places { IfOk result
+            (λ stats. length stats.gathered ≡ length (M.master self.now.master).registrations) }
+        ensures right { let job = job_by P.program C.combining M.master self.now in
+            IfOk result (λ stats. (kept : Option Rows) → IsRight job kept self.now
+            → AreStatsBetween (configuration job self.now.graph self.now.state.current)
+            (configuration job self.now.graph (self.now.state.current + 1)) stats) }
+    {
+        // Tells the prover that there are some partitions.
+        self.limits.limit();
+        let visible = self.visible(self.state.current());
+        let seen = visible.values.as_slice();
+        let stats = together(alloc, &self.registry, seen, self.parts.as_slice())?;
+        Ok(stats)
+    }
+
+    /// Closes the open superstep, where this is what the partitions have come to: the run ends, or the master decides
+    /// what the next superstep shows.
+    fn close_with(&mut self, alloc: Global, stats: GlobalStats) -> Result<Closed, Memory>
+        requires allowed { is_allowed self.old.state (Event.Close Closed.Next) ≡ true }
+        requires places { length stats.gathered ≡ length (M.master self.old.master).registrations }
+        ensures core { IfOk result (λ closed. HasClosed closed self.old self.new) }
+        ensures right { let job = job_by P.program C.combining M.master self.old in
+            IfOk result (λ closed. (kept : Option Rows) → IsRight job kept self.old
+            → AreStatsBetween (configuration job self.old.graph self.old.state.current)
+            (configuration job self.old.graph (self.old.state.current + 1)) stats
+            → ClosesRight job kept closed self.old self.new) }
+    {
+        let current = self.state.current();
+        let halt = self.visible(current).halt;
+        let limit = self.limits.limit();
+        let GlobalStats {
+            vertices,
+            edges,
+            is_idle,
+            sent,
+            dropped,
+            gathered,
+        } = stats;
+        let tally = Tally {
+            gathered,
+            sent: self.tally.sent.saturating_add(sent),
+            dropped: self.tally.dropped.saturating_add(dropped),
+        };
+        match ending_of(halt, is_idle, current.number() + 1, limit) {
+            Some(ending) => {
+                self.end(ending, tally)?;
+                Ok(Closed::Ended)
+            }
+            None => {
+                self.open_next(alloc, vertices, edges, tally)?;
+                Ok(Closed::Next)
+            }
+        }
+    }
+
+    /// The run has ended with the open superstep.
+    fn end(&mut self, ending: Ending, tally: Tally) -> Result<(), Memory>
+        requires allowed { is_allowed self.old.state (Event.Close Closed.Next) ≡ true }
+        requires places { length tally.gathered ≡ length (M.master self.old.master).registrations }
+        ensures { OnOk result (self.new ≡ with_end ending tally self.old) }
+    {
+        // Tells the prover the most that it may be.
+        self.limits.limit();
+        self.history.push(Event::Close(Closed::Ended))?;
+        self.state.close(Closed::Ended);
+        self.tally = tally;
+        self.ending = Some(ending);
+        Ok(())
+    }
+
+    /// Opens the next superstep, as which begins there are so many vertices and out-edges.
+    fn open_next(
+        &mut self,
+        alloc: Global,
+        vertices: u64,
+        edges: u64,
+        tally: Tally,
+    ) -> Result<(), Memory>
+        requires allowed { is_allowed self.old.state (Event.Close Closed.Next) ≡ true }
+        requires goes_on { self.old.state.current + 1 < self.old.limits.limit }
+        requires places { length tally.gathered ≡ length (M.master self.old.master).registrations }
+        ensures { let visible = visible_in (M.master self.old.master).deciding
+            (record { vertices = vertices; edges = edges })
+            (self.old.state.current + 1) tally.gathered in
+            OnOk result (self.new ≡ with_next visible tally self.old) }
+    {
+        // Tells the prover the most that it may be.
+        self.limits.limit();
+        let next = Superstep::new(self.state.current().number() + 1);
+        let seen = copied(alloc, &tally.gathered)?;
+        let visible = shown_in(alloc, self.master, next, vertices, edges, seen)?;
+        self.shown.push(visible)?;
+        self.history.push(Event::Close(Closed::Next))?;
+        self.state.close(Closed::Next);
+        self.tally = tally;
+        Ok(())
+    }
+}
+
+/// Why a run ends after a superstep, if it does: the master halted; all is idle; the limit is reached.
+fn ending_of(halt: bool, is_idle: bool, supersteps: u32, limit: u32) -> Option<Ending>
+    ensures { result ≡ cond halt (Some Ending.MasterHalted) (cond is_idle (Some Ending.Finished)
+        (cond (supersteps == limit) (Some Ending.LimitReached) None)) }
+{
+    if halt {
+        return Some(Ending::MasterHalted);
+    }
+    if is_idle {
+        return Some(Ending::Finished);
+    }
+    if supersteps == limit {
+        return Some(Ending::LimitReached);
+    }
+    None
+}

@@ -1,0 +1,58 @@
+//! A whole step of a partition: taken, made, and taken in.
+ghost use Rattle.std.specs.Prelude.{◌≡◌, ℕ, ◌+◌, ◌≤◌, ◌<◌, true, Option, Some, OnOk};
+ghost use Rattle.pg_core.specs.Machine.{place_at};
+ghost use Rattle.pg_core.specs.Progress.{HasMadeStep, IsRight, is_ready as ready_test, job_by};
+ghost use Rattle.pg_graph.specs.Rows.{Rows};
+ghost use Rattle.pg_model.specs.Needed.{needed_in};
+ghost use Rattle.pg_model.specs.Share.{belongs};
+ghost use Rattle.pg_model.specs.Superstep.{capped};
+
+use crate::Core;
+use pg_global::{MasterCompute, MessageCombiner};
+use pg_graph::{Memory, PartitionId};
+use pg_program::{Computation, Meter};
+use std::alloc::{AllocError, Global};
+
+impl<'a, P: Computation, C: MessageCombiner<P::Message>, M: MasterCompute> Core<'a, P, C, M> {
+    /// A step of a partition that is ready, beside the kept run, if there is one: its part is taken, stepped, and taken
+    /// in. The meter rises by one for each call of compute. Where memory is refused the core is to be given up.
+    pub fn step_ready(
+        &mut self,
+        alloc: Global,
+        partition: PartitionId,
+        meter: &mut Meter,
+    ) -> Result<(), Memory>
+        requires { ready_test self.old partition ≡ true }
+        ensures made { OnOk result (HasMadeStep partition self.old self.new) }
+        ensures right { let job = job_by P.program C.combining M.master self.old in
+            OnOk result ((kept : Option Rows)
+            → IsRight job kept self.old → IsRight job kept self.new) }
+        ensures counted { let job = job_by P.program C.combining M.master self.old in
+            OnOk result ((kept : Option Rows) (r : ℕ) → IsRight job kept self.old
+            → place_at partition self.old.state ≡ Some r
+            → meter.new ≡ capped (meter.old
+            + needed_in P.Value.PartialEq.eq P.Message.PartialEq.eq job kept self.old.graph
+            (belongs self.old.limits.partitions partition) r)) }
+    {
+        let part = self.take(partition);
+        let place = part.place();
+        let stepped = part.step(
+            alloc,
+            self.logs(),
+            self.visible(place),
+            self.old_logs(place),
+            self.old_visible(place),
+            self.registry(),
+            self.program(),
+            self.combiner(),
+            meter,
+        );
+        match stepped {
+            Ok((part, sent)) => {
+                self.stepped(alloc, partition, part, sent)?;
+                Ok(())
+            }
+            Err(_) => Err(AllocError),
+        }
+    }
+}

@@ -1,0 +1,167 @@
+//! The values of a run's vertices, read from the traces of its partitions.
+ghost use Rattle.std.specs.Prelude.{◌≡◌, ◌++◌, IfOk, OnOk};
+ghost use Rattle.std.specs.List.{flat_map, range_with_len};
+ghost use Rattle.std.specs.Map.{keys_of};
+ghost use Rattle.pg_core.specs.Values.{HaveShares, ids_before, ids_of_part, state_in, valued};
+ghost use Rattle.pg_graph.specs.Rows.{Rows};
+ghost use Rattle.pg_model.specs.Job.{Job};
+ghost use Rattle.pg_model.specs.Run.{configuration, values_of};
+ghost use Rattle.pg_trace.specs.Trace.{lent, records_of};
+
+use pg_course::rising;
+use pg_graph::{Memory, Missing, Superstep, VertexId};
+use pg_model::{Record, Sequence};
+use pg_part::{Part, Partitioner};
+use pg_program::Plain;
+use pg_trace::{StateRef, Trace};
+use std::alloc::Global;
+
+/// The values of the vertices as a superstep begins, by rising id. Costs a sort of their ids and a look-up for each;
+/// where messages make vertices, of the ids of all executions before.
+pub(crate) fn values_at<V: Plain, M: Plain>(
+    alloc: Global,
+    partitioner: Partitioner,
+    missing: Missing,
+    parts: &[Option<Part<V, M>>],
+    superstep: Superstep,
+) -> Result<Sequence<(VertexId, V)>, Memory>
+    ensures { IfOk result (λ values. (job : Job V M) (rows : Rows) → job.missing ≡ missing
+        → HaveShares job rows partitioner superstep parts.now
+        → values ≡ values_of job rows (configuration job rows superstep)) }
+{
+    let ids = rising(all_ids(alloc, missing, parts, superstep)?);
+    let values = values_of_ids(alloc, partitioner, parts, ids.as_slice(), superstep)?;
+    Ok(Sequence::from_vec(values))
+}
+
+/// The values of those of these ids that have a state.
+fn values_of_ids<V: Plain, M: Plain>(
+    alloc: Global,
+    partitioner: Partitioner,
+    parts: &[Option<Part<V, M>>],
+    ids: &[VertexId],
+    superstep: Superstep,
+) -> Result<Vec<(VertexId, V)>, Memory>
+    ensures { IfOk result (λ values. values.items
+        ≡ flat_map (λ id. valued id (state_in partitioner superstep parts.now id)) ids.now) }
+{
+    let mut values = Vec::with_capacity(alloc, ids.len())?;
+    for id in ids {
+        add_value(alloc, &mut values, partitioner, parts, *id, superstep)?;
+    }
+    Ok(values)
+}
+
+/// Adds the value of an id, if it has a state.
+fn add_value<V: Plain, M: Plain>(
+    alloc: Global,
+    values: &mut Vec<(VertexId, V)>,
+    partitioner: Partitioner,
+    parts: &[Option<Part<V, M>>],
+    id: VertexId,
+    superstep: Superstep,
+) -> Result<(), Memory>
+    ensures { OnOk result (values.new.items
+        ≡ values.old.items ++ valued id (state_in partitioner superstep parts.now id)) }
+{
+    if let Some(state) = state_in(partitioner, parts, id, superstep) {
+        values.push((id, state.value().copy(alloc)?))?;
+    }
+    Ok(())
+}
+
+/// The state of an id as its partition has it.
+fn state_in<V: Plain, M: Plain>(
+    partitioner: Partitioner,
+    parts: &[Option<Part<V, M>>],
+    id: VertexId,
+    superstep: Superstep,
+) -> Option<StateRef<'_, V>>
+    ensures { result ≡ state_in partitioner superstep parts.now id }
+{
+    let place = partitioner.partition(id).number() as usize;
+    if place >= parts.len() {
+        return None;
+    }
+    match &parts[place] {
+        Some(part) => part.trace().state_at(id, superstep),
+        None => None,
+    }
+}
+
+/// Ids among which are all that have a state as a superstep begins.
+fn all_ids<V: Plain, M: Plain>(
+    alloc: Global,
+    missing: Missing,
+    parts: &[Option<Part<V, M>>],
+    superstep: Superstep,
+) -> Result<Vec<VertexId>, Memory>
+    ensures { IfOk result (λ ids. ids.items ≡ flat_map (ids_of_part missing superstep) parts.now) }
+{
+    let mut ids = Vec::new(alloc);
+    for part in parts {
+        if let Some(part) = part {
+            add_ids(alloc, &mut ids, missing, part.trace(), superstep)?;
+        }
+    }
+    Ok(ids)
+}
+
+/// Adds those of one partition.
+fn add_ids<V: Plain, M: Plain>(
+    alloc: Global,
+    ids: &mut Vec<VertexId>,
+    missing: Missing,
+    trace: &Trace<V, M>,
+    superstep: Superstep,
+) -> Result<(), Memory>
+    ensures { OnOk result
+        (ids.new.items ≡ ids.old.items ++ ids_before missing superstep trace.now) }
+{
+    let initial = trace.initial_ids(alloc)?;
+    add_all(ids, initial.as_slice())?;
+    match missing {
+        Missing::Drop => Ok(()),
+        Missing::Create => add_ran(alloc, ids, trace, superstep),
+    }
+}
+
+/// Adds the ids that ran before a superstep.
+fn add_ran<V: Plain, M: Plain>(
+    alloc: Global,
+    ids: &mut Vec<VertexId>,
+    trace: &Trace<V, M>,
+    superstep: Superstep,
+) -> Result<(), Memory>
+    ensures { OnOk result (ids.new.items ≡ ids.old.items
+        ++ flat_map (λ t. keys_of (records_of t trace.now)) (range_with_len 0 superstep)) }
+{
+    for place in 0..superstep.number() {
+        let records = trace.records(alloc, Superstep::new(place))?;
+        add_keys(ids, records.as_slice())?;
+    }
+    Ok(())
+}
+
+/// Adds the ids of records.
+fn add_keys<V, M>(
+    ids: &mut Vec<VertexId>,
+    records: &[(VertexId, &Record<V, M>)],
+) -> Result<(), Memory>
+    ensures { OnOk result (ids.new.items ≡ ids.old.items ++ keys_of (lent records.now)) }
+{
+    for (id, _) in records {
+        ids.push(*id)?;
+    }
+    Ok(())
+}
+
+/// Adds ids.
+fn add_all(ids: &mut Vec<VertexId>, more: &[VertexId]) -> Result<(), Memory>
+    ensures { OnOk result (ids.new.items ≡ ids.old.items ++ more.now) }
+{
+    for id in more {
+        ids.push(*id)?;
+    }
+    Ok(())
+}

@@ -1,0 +1,113 @@
+-- A trace that holds a run up to a superstep holds it one further with that superstep's records.
+use Rattle.std.proofs.Common.{◌≡◌, ℕ, ◌+◌, ◌<◌, ◌≤◌, ◌==◌, Bool, true, false, cond, List, [], ◌∷◌, ◌++◌, length, slice_set, Option, option_map, refl, sym, ap, ap₂, ◌∙◌, arith, le_refl, subst, suc}
+use Rattle.std.specs.List.{AllByRecursion}
+use Rattle.std.specs.List.Sorted.{IsStrictlySortedBy}
+use Rattle.std.specs.Map.{keys_of}
+use Rattle.std.specs.Ordering.{nat_cmp}
+use Rattle.std.specs.declared.cmp.Ordering.TheVariants.{Less}
+use Rattle.std.proofs.lemmas.Bool.{eq-eqb}
+use Rattle.std.proofs.lemmas.List.{get_or-set_same, get_or_push, length-append, length-set, take-append-le, take-set-le, take_more}
+use Rattle.pg_graph.specs.Rows.{Rows}
+use Rattle.pg_graph.specs.declared.missing.Missing.{Missing}
+use Rattle.pg_inbox.specs.Bundles.{Parcels}
+use Rattle.pg_map.specs.Entries.{ChangesRise, with_changes, HasRisingIds as Rises}
+use Rattle.pg_model.specs.Job.{Combining, Job, Program}
+use Rattle.pg_model.specs.Share.{belongs, records_below, records_in}
+use Rattle.pg_model.specs.declared.record.Record.{Record}
+use Rattle.pg_model.specs.declared.view.View.{View}
+use Rattle.pg_course.specs.Candidates.{IsPlayed, own}
+use Rattle.pg_course.specs.Found.{is_taken_over, reads}
+use Rattle.pg_course.specs.Lists.{reaching}
+use Rattle.pg_course.specs.declared.execution.Played.{Played}
+use Rattle.pg_course.proofs.Changing.{entries-rise}
+use Rattle.pg_trace.specs.OfRun.{HoldsRun}
+use Rattle.pg_trace.specs.Trace.{Trace, records_of, with_replaced, with_superstep}
+
+module _ {V M : Type 0} (s : ℕ) where
+  nothing : List (List (ℕ × Record V M))
+  nothing = [] ∷ []
+
+  pub length-reaching : (trace : Trace V M) → s ≤ length trace.records → s < length (reaching s trace).records
+  unfolding nothing
+  length-reaching trace within = by (length trace.records == s) refl
+    where
+      by : (b : Bool) → (length trace.records == s) ≡ b → s < length (cond b (with_superstep [] trace) trace).records
+      by true e = let more = length-append trace.records nothing in omega (arith, more, within)
+      by false e =
+          let apart : length trace.records ≡ s → ⊥ = λ same. absurd (true_false (sym (eq-eqb (length trace.records) s same) ∙ e)) in
+          omega (arith, within, apart)
+        where
+          true_false : true ≡ false → ⊥
+          true_false h = cc
+
+  -- the superstep that comes next has no records yet
+  pub reaching_next : (trace : Trace V M) → length trace.records ≡ s → (records_of s (reaching s trace) ≡ []) × (length (reaching s trace).records ≡ s + 1)
+  unfolding nothing
+  reaching_next trace long = by (length trace.records == s) (eq-eqb (length trace.records) s long)
+    where
+      by : (b : Bool) → b ≡ true → (records_of s (cond b (with_superstep [] trace) trace) ≡ []) × (length (cond b (with_superstep [] trace) trace).records ≡ s + 1)
+      by true e = (get_or_push trace.records [] [] s long, (let more = length-append trace.records nothing in omega (arith, more, long)))
+      by false e = absurd (false_true e)
+        where
+          false_true : false ≡ true → ⊥
+          false_true h = cc
+
+module _ {V M : Type 0} (job : Job V M) (rows : Rows) (n p s : ℕ) where
+  -- with one superstep more it still holds the run so far
+  reaching_holds : (trace : Trace V M) → HoldsRun job rows n p s trace → s ≤ length trace.records → HoldsRun job rows n p s (reaching s trace)
+  reaching_holds trace holds within = by (length trace.records == s)
+    where
+      by : (b : Bool) → HoldsRun job rows n p s (cond b (with_superstep [] trace) trace)
+      by true = record { rise = holds.rise; initial = holds.initial; records = take-append-le s trace.records ([] ∷ []) within ∙ holds.records }
+      by false = holds
+
+  -- and with the records of that superstep it holds the run one further
+  replaced_holds : (trace : Trace V M) (changes : List (ℕ × Option (Record V M))) → HoldsRun job rows n p s trace → s < length trace.records
+      → with_changes changes (records_of s trace) ≡ records_in job rows n p s → HoldsRun job rows n p (s + 1) (with_replaced s changes trace)
+  unfolding records_below
+  replaced_holds trace changes holds within are = record {
+    rise = holds.rise;
+    initial = holds.initial;
+    records =
+        let now = slice_set trace.records s (with_changes changes (records_of s trace)) in
+        take_more now s [] (let long = length-set trace.records s (with_changes changes (records_of s trace)) in omega (arith, within, long))
+        ∙ ap₂ (λ l x. l ++ x ∷ [])
+        (take-set-le s trace.records s (with_changes changes (records_of s trace)) (le_refl s) ∙ holds.records)
+        (get_or-set_same trace.records s (with_changes changes (records_of s trace)) [] within ∙ are)
+        ∙ ap (records_below job rows n p) (let e : suc s ≡ s + 1 = omega arith in e);
+  }
+
+  pub stepped_holds : (trace : Trace V M) (changes : List (ℕ × Option (Record V M))) → HoldsRun job rows n p s trace → s ≤ length trace.records
+      → with_changes changes (records_of s (reaching s trace)) ≡ records_in job rows n p s
+      → HoldsRun job rows n p (s + 1) (with_replaced s changes (reaching s trace))
+  stepped_holds trace changes holds within are =
+      replaced_holds (reaching s trace) changes (reaching_holds trace holds within) (length-reaching s trace within) are
+
+-- ---- those of a partition, by rising id
+
+module _ {X : Type 0} (n p : ℕ) where
+  own_above : (k : ℕ) (xs : List (ℕ × X)) → AllByRecursion (λ i. nat_cmp k i ≡ Less) (keys_of xs) → AllByRecursion (λ i. nat_cmp k i ≡ Less) (keys_of (own n p xs))
+  own_above k [] h = tt
+  own_above k (x ∷ xs) h = by (belongs n p x.0) (own_above k xs h.1)
+    where
+      by : (b : Bool) → AllByRecursion (λ i. nat_cmp k i ≡ Less) (keys_of (own n p xs)) → AllByRecursion (λ i. nat_cmp k i ≡ Less) (keys_of (cond b (x ∷ own n p xs) (own n p xs)))
+      by true rest = (h.0, rest)
+      by false rest = rest
+
+  pub own_rise : (xs : List (ℕ × X)) → Rises xs → Rises (own n p xs)
+  unfolding IsStrictlySortedBy
+  own_rise [] h = tt
+  own_rise (x ∷ xs) h = by (belongs n p x.0) (own_rise xs h.1) (own_above x.0 xs h.0)
+    where
+      by : (b : Bool) → Rises (own n p xs) → AllByRecursion (λ i. nat_cmp x.0 i ≡ Less) (keys_of (own n p xs)) → Rises (cond b (x ∷ own n p xs) (own n p xs))
+      by true rest above = (above, rest)
+      by false rest above = rest
+
+-- what is played changes records by rising id
+pub played_rise : {V M : Type 0} (value_eq : V → V → Bool) (message_eq : M → M → Bool) (program : Program V M) (missing : Missing) (combining : Option (Combining M)) (view : View)
+    (n p s : ℕ) (trace : Trace V M) (bundles : List (Parcels M)) (beside : Option (Trace V M × List (Parcels M))) (ids : List ℕ) (all seen : Bool) (before : ℕ) (played : Played V M)
+    → IsPlayed value_eq message_eq program missing combining view n p s trace bundles beside ids all seen before played → ChangesRise played.changes.items
+played_rise value_eq message_eq program missing combining view n p s trace bundles beside ids all seen before played is =
+    subst ChangesRise (sym is.changes_are)
+    (entries-rise (λ c. c.id) (is_taken_over value_eq message_eq seen) (λ c. option_map program.step (reads view c.new)) is.candidates
+    (subst (IsStrictlySortedBy nat_cmp) (sym is.ids_are) (own_rise n p is.callees is.are.rise)))

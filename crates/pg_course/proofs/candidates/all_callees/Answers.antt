@@ -1,0 +1,11 @@
+use Rattle.std.proofs.Common.{map, true, sym, subst}
+use Rattle.pg_course.specs.Candidates.{AreCallees}
+use Rattle.pg_course.proofs.Callees.{are_callees}
+use Rattle.pg_course.proofs.candidates.all_callees.Goals as goal
+
+pub returns : goal.returns
+returns g c =
+    let combining = g.C.MessageCombiner.combining c.args.combiner.now in
+    let bundles = map (λ b. b.now) c.args.bundles.now in
+    subst (AreCallees combining bundles c.args.ids.now true) (sym c.in_ok-callees.ensures)
+    (are_callees combining bundles c.args.ids.now c.in_ok-inboxes.inboxes.items c.in_ok-inboxes.ensures)

@@ -1,0 +1,50 @@
+use Rattle.std.proofs.Common.{Some, ap, sym, ◌∙◌, subst, refl, false}
+use Rattle.pg_map.specs.Entries.{ChangesRise}
+use Rattle.pg_model.specs.Superstep.{has_id}
+use Rattle.pg_course.specs.Course.{AreTouched, Holding, Holds, IsWhole}
+use Rattle.pg_course.specs.Starting.{first_changes}
+use Rattle.pg_course.proofs.Beginning.{changes_by_id, changes_rise, holds_beside}
+use Rattle.pg_trace.specs.Beginning.{ChangesById, with_first}
+use Rattle.pg_course.proofs.course.Course.begin_beside.Goals as goal
+
+pub restarted-requires-clause-rise : goal.restarted-requires-clause-rise
+restarted-requires-clause-rise g c =
+    let program = g.P.Computation.program c.args.program.now in
+    let share = first_changes program c.rows.inside.graph.now c.rows.inside.partitions c.rows.inside.partition in
+    subst ChangesRise (sym (c.in_ok-changes.ensures.changes ∙ ap share c.as_slice.ensures.value))
+    (changes_rise program c.rows.inside.partitions c.rows.inside.partition c.rows.inside.graph.now c.rising-differing.result.items c.rising-differing.ensures.rise)
+
+pub restarted-requires-clause-by_id : goal.restarted-requires-clause-by_id
+restarted-requires-clause-by_id g c =
+    subst ChangesById (sym c.in_ok-changes.ensures.changes)
+    (changes_by_id (g.P.Computation.program c.args.program.now) c.rows.inside.partitions c.rows.inside.partition c.rows.inside.graph.now c.as_slice.result.now)
+
+pub returns-clause-differing : goal.returns-clause-differing
+returns-clause-differing g c id = c.rising-differing.ensures.same id ∙ ap (λ l. has_id l id) c.in_ok-copied.ensures
+
+pub returns-clause-holds : goal.returns-clause-holds
+returns-clause-holds g c job kept program missing whole touched =
+    let n = c.rows.inside.partitions in
+    let p = c.rows.inside.partition in
+    let graph = c.rows.inside.graph.now in
+    let ids = c.rising-differing.result.items in
+    let program' = g.P.Computation.program c.args.program.now in
+    let course : Holding g.row.V.Denot g.row.M.Denot = record {
+      partition = p;
+      partitions = n;
+      missing = c.args.missing;
+      place = c.new.result;
+      trace = c.in_ok-trace.trace;
+      kept = Some c.args.old;
+      differing = ids;
+      changed = c.new-2.result.items;
+      beside_old = false;
+    } in
+    let old : IsWhole job kept n p c.args.old = subst (λ r. IsWhole job kept r.partitions r.partition c.args.old) (sym c.rows.view_is) whole in
+    let same : AreTouched c.args.touched.now kept graph = subst (λ r. AreTouched c.args.touched.now kept r.graph) (sym c.rows.view_is) touched in
+    subst (λ r. Holds job (Some kept) r.graph r.partitions r.partition 0 course) c.rows.view_is
+    (holds_beside job kept graph n p c.in_ok-changes.ensures.rising program' program c.args.missing (sym missing) c.args.old old ids c.rising-differing.ensures.rise
+    (λ id other. same id (sym (ap (λ l. has_id l id) c.in_ok-copied.ensures) ∙ (sym (c.rising-differing.ensures.same id) ∙ other)))
+    course refl refl refl c.new.ensures
+    (c.in_ok-trace.ensures ∙ ap (λ l. record c.args.old { initial = with_first l c.args.old.initial })
+    (c.in_ok-changes.ensures.changes ∙ ap (first_changes program' graph n p) c.as_slice.ensures.value)) refl refl)

@@ -1,0 +1,63 @@
+use Rattle.std.proofs.Common.{◌≡◌, None, sym, ◌∙◌, subst}
+use Rattle.pg_course.specs.Course.{HasStepped, Holding, Holds}
+use Rattle.pg_course.specs.Warm.{IsConcluded, IsReplayed}
+use Rattle.pg_course.proofs.Stepping.{played_rise}
+use Rattle.pg_course.proofs.WarmStep.{beside_steps, nothing_kept}
+use Rattle.pg_course.proofs.course.Course.beside.Goals as goal
+
+pub concluded-requires-clause-rise : goal.concluded-requires-clause-rise
+concluded-requires-clause-rise g c κs within =
+    played_rise g.V.PartialEq.eq g.M.PartialEq.eq _ _ _ _ _ _ _ _ _ _ _ _ _ _ _ c.in_ok-played-in-Some.ensures.is
+
+pub returns-in_ok-stepped-in-Some-clause-stepped : goal.returns-in_ok-stepped-in-Some-clause-stepped
+returns-in_ok-stepped-in-Some-clause-stepped g c job kept rows n p s program combining holds within has bundled sees lent =
+    let values = g.met.V.Eq g.world.𝓛 g.world.𝓜 g.world.𝓡 ((λ s x. x), (λ x. x), (λ x. x), λ x. x) in
+    let messages = g.met.M.Eq g.world.𝓛 g.world.𝓜 g.world.𝓡 ((λ s x. x), (λ x. x), (λ x. x), λ x. x) in
+    let value_eq = g.V.PartialEq.eq in
+    let message_eq = g.M.PartialEq.eq in
+    let old = c.in-Some.old in
+    let combining' = g.C.MessageCombiner.combining c.args.combiner.now in
+    let program' = g.P.Computation.program c.args.program.now in
+    let played = c.in_ok-played-in-Some.played in
+    let after = c.in_ok-stepped-in-Some.stepped.course in
+    let sent = c.in_ok-stepped-in-Some.stepped.sent in
+    let course : Holding g.row.V.Denot g.row.M.Denot = record {
+      partition = c.course.inside.partition;
+      partitions = c.course.inside.partitions;
+      missing = c.course.inside.missing;
+      place = c.course.inside.place;
+      trace = c.course.inside.trace;
+      kept = c.course.inside.kept;
+      differing = c.course.inside.differing.items;
+      changed = c.course.inside.changed.items;
+      beside_old = c.course.inside.beside_old;
+    } in
+    let steps = beside_steps value_eq message_eq values.laws.refl messages.laws.refl course old combining' program' c.args.logs.now c.args.old_logs.now c.args.old_view c.args.stage.view
+    c.as_slice.result.now c.args.stage.meter played c.partitions.ensures.some
+    (sym c.take.ensures.value ∙ c.in-Some.is)
+    (subst (λ k. IsReplayed value_eq message_eq combining' (record course { kept = k }) old c.args.old_logs.now program' c.args.logs.now c.args.old_view c.args.stage.view
+    c.as_slice.result.now c.args.stage.meter played) c.take.ensures.after c.in_ok-played-in-Some.ensures)
+    after sent
+    (subst (λ k. IsConcluded value_eq message_eq combining' (record course { kept = k }) old c.args.old_logs.now played.changes.items after sent) c.take.ensures.after
+    c.in_ok-stepped-in-Some.ensures.concluded) in
+    subst (HasStepped job value_eq message_eq kept rows n p s after sent c.args.stage.meter) (sym c.in_ok-stepped-in-Some.ensures.counted)
+    (steps job kept rows n p s program combining (subst (Holds job kept rows n p s) (sym c.course.view_is) holds) within has (c.as_slice.ensures.value ∙ bundled) sees lent)
+
+pub returns-in_ok-stepped-in-None-clause-stepped : goal.returns-in_ok-stepped-in-None-clause-stepped
+returns-in_ok-stepped-in-None-clause-stepped g c job kept rows n p s program combining holds within has bundled sees lent =
+    let course : Holding g.row.V.Denot g.row.M.Denot = record {
+      partition = c.course.inside.partition;
+      partitions = c.course.inside.partitions;
+      missing = c.course.inside.missing;
+      place = c.course.inside.place;
+      trace = c.course.inside.trace;
+      kept = c.course.inside.kept;
+      differing = c.course.inside.differing.items;
+      changed = c.course.inside.changed.items;
+      beside_old = c.course.inside.beside_old;
+    } in
+    let here : Holds job kept rows n p s course = subst (Holds job kept rows n p s) (sym c.course.view_is) holds in
+    let none : course.kept ≡ None = sym c.take.ensures.value ∙ c.in-None.is in
+    c.in_ok-stepped-in-None.ensures.stepped job kept rows n p s c.args.logs.now program combining
+    (subst (Holds job kept rows n p s) (λ i. record course { kept = (none ∙ sym c.take.ensures.after) i }) here)
+    (nothing_kept job kept rows n p s course here none) within has bundled sees

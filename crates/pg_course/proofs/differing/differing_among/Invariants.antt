@@ -1,0 +1,9 @@
+use Rattle.std.proofs.Common.{◌≡◌, take}
+use Rattle.pg_course.specs.Differing.{AreTold, differing}
+use Rattle.pg_course.proofs.differing.differing_among.Given as goal
+
+abbrev pub invariant-loop-id : goal.invariant-loop-id
+invariant-loop-id g l = record {
+  differing : l.found.items ≡ differing g.V.PartialEq.eq l.old l.new l.superstep (take l.id-index l.ids);
+  told : AreTold g.V.PartialEq.eq l.old l.new l.superstep (take l.id-index l.ids);
+}

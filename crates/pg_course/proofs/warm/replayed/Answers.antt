@@ -1,0 +1,45 @@
+use Rattle.std.proofs.Common.{Some, not, ◌∙◌, subst, subst₂}
+use Rattle.pg_inbox.specs.Alike.{DeliverAlike}
+use Rattle.pg_course.specs.Candidates.{AreLookedAt, IsPlayed}
+use Rattle.pg_course.specs.Lent.{bundles_before}
+use Rattle.pg_course.specs.Course.{Holding}
+use Rattle.pg_course.specs.Warm.{IsReplayed}
+use Rattle.pg_course.proofs.warm.replayed.Goals as goal
+
+pub returns : goal.returns
+returns g c =
+    let value_eq = g.P.Value.PartialEq.eq in
+    let message_eq = g.P.Message.PartialEq.eq in
+    let combining = g.C.MessageCombiner.combining c.args.combiner.now in
+    let program = g.P.Computation.program c.args.program.now in
+    let old = c.args.old.now in
+    let logs = c.args.logs.now in
+    let old_logs = c.args.old_logs.now in
+    let view = c.args.stage.view in
+    let meter = c.args.stage.meter in
+    let bundles = c.args.bundles.now in
+    let played = c.in_ok-played.played in
+    let ids = c.in_ok-ids.ids.items in
+    let course : Holding g.row.P-Value.Denot g.row.P-Message.Denot = record {
+      partition = c.course.inside.partition;
+      partitions = c.course.inside.partitions;
+      missing = c.course.inside.missing;
+      place = c.course.inside.place;
+      trace = c.course.inside.trace;
+      kept = c.course.inside.kept;
+      differing = c.course.inside.differing.items;
+      changed = c.course.inside.changed.items;
+      beside_old = c.course.inside.beside_old;
+    } in
+    let seen = c.is_same_view-seen.result in
+    subst (λ h. IsReplayed value_eq message_eq combining h old old_logs program logs c.args.old_view.now view bundles meter played) c.course.view_is
+    (record {
+      ids = ids;
+      looked = subst₂ (λ d b. AreLookedAt course.partitions course.partition course.place course.trace d logs old_logs b ids)
+          c.as_slice-2.ensures.value c.is_same_view-seen.ensures c.in_ok-ids.ensures;
+      is = subst (λ b. IsPlayed value_eq message_eq program course.missing combining view course.partitions course.partition course.place course.trace bundles
+          (Some (old, bundles_before old_logs course.partitions course.partition course.place)) ids (not b) b meter played) c.is_same_view-seen.ensures
+          (subst₂ (λ x y. IsPlayed value_eq message_eq program course.missing combining view course.partitions course.partition course.place course.trace bundles
+          (Some (old, x)) y (not seen) seen meter played) (c.as_slice-3.ensures.value ∙ c.in_ok-old_bundles.ensures) c.as_slice-4.ensures.value c.in_ok-played.ensures);
+      alike = λ id. subst (λ l. DeliverAlike combining id l bundles) (c.as_slice.ensures.value ∙ c.in_ok-old_bundles.ensures) (c.tell_alike.ensures id);
+    })

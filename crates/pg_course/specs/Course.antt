@@ -1,0 +1,132 @@
+-- One partition of a run at a superstep, and what a step makes of it.
+use Rattle.std.specs.Prelude.{◌≡◌, ℕ, suc, ◌+◌, ◌<◌, ◌≤◌, max, length, Bool, true, false, List, Option, None, Some}
+use Rattle.std.specs.List.{slice_get}
+use Rattle.std.specs.List.Sorted.{IsStrictlySortedBy}
+use Rattle.std.specs.Ordering.{nat_cmp}
+use Rattle.pg_graph.specs.Rows.{Rows, row_at}
+use Rattle.pg_map.specs.Entries.{value_at}
+use Rattle.pg_graph.specs.declared.missing.Missing.{Missing}
+use Rattle.pg_inbox.specs.Patched.{TellsChanges}
+use Rattle.pg_inbox.specs.declared.logs.Logged.{Logged}
+use Rattle.pg_model.specs.ByIds.{state_at}
+use Rattle.pg_model.specs.Job.{Job}
+use Rattle.pg_model.specs.Needed.{needed_in}
+use Rattle.pg_model.specs.Run.{run_length}
+use Rattle.pg_model.specs.Share.{belongs, records_in}
+use Rattle.pg_model.specs.Superstep.{capped, has_id}
+use Rattle.pg_course.specs.Lent.{bundle_sent}
+use Rattle.pg_trace.specs.OfRun.{HoldsRun}
+use Rattle.pg_trace.specs.Trace.{Trace, records_of}
+
+-- the rows of a graph, and which partition of how many is meant
+pub record PartRows : Type 0 where
+  pub graph : Rows
+  pub partition : ℕ
+  pub partitions : ℕ
+
+-- a partition at a superstep: which it is, and its trace so far; where it is warm also the trace of the old run, and the
+-- ids at which the two may have other states; and the ids that the last step may have changed, beside the old run or beside
+-- the superstep before
+pub record Holding (V M : Type 0) : Type 0 where
+  pub partition : ℕ
+  pub partitions : ℕ
+  pub missing : Missing
+  pub place : ℕ
+  pub trace : Trace V M
+  pub kept : Option (Trace V M)
+  pub differing : List ℕ
+  pub changed : List ℕ
+  pub beside_old : Bool
+
+-- at all other ids two graphs have the same rows
+abbrev pub AreTouched : List ℕ → Rows → Rows → Type 0
+AreTouched ids old new = (id : ℕ) → has_id ids id ≡ false → row_at id old ≡ row_at id new
+
+module _ {V M : Type 0} (job : Job V M) where
+  -- a partition's trace of a whole run
+  pub record IsWhole (rows : Rows) (n p : ℕ) (trace : Trace V M) : Type 0 where
+    pub run : HoldsRun job rows n p (run_length job rows) trace
+    pub supersteps : length trace.records ≡ run_length job rows
+
+  -- how many supersteps the kept run has
+  abbrev pub kept_length : Option Rows → ℕ
+  kept_length None = 0
+  kept_length (Some rows) = run_length job rows
+
+  -- partition p of n, as superstep r begins, has the trace of the run on the old rows, in which its own goes on; outside
+  -- of the ids that may differ the two runs have the same states
+  pub record IsWarm (old rows : Rows) (n p r : ℕ) (course : Holding V M) : Type 0 where
+    pub trace : Trace V M
+    pub is : course.kept ≡ Some trace
+    pub whole : HoldsRun job old n p (run_length job old) trace
+    pub later : (s : ℕ) → r ≤ s → s < run_length job old → records_of s course.trace ≡ records_in job old n p s
+    pub others : (id : ℕ) → belongs n p id ≡ true → has_id course.differing id ≡ false → r < run_length job old
+        → state_at job old r id ≡ state_at job rows r id
+
+  -- a cold one has nothing of an old run
+  abbrev pub IsBeside : Option Rows → Rows → ℕ → ℕ → ℕ → Holding V M → Type 0
+  IsBeside None rows n p r course = course.kept ≡ None
+  IsBeside (Some old) rows n p r course = IsWarm old rows n p r course
+
+  -- it holds its share of the run on these rows as superstep r begins, beside the run on the kept rows, if any
+  pub record Holds (kept : Option Rows) (rows : Rows) (n p r : ℕ) (course : Holding V M) : Type 0 where
+    pub partition_is : course.partition ≡ p
+    pub partitions_are : course.partitions ≡ n
+    pub missing_is : course.missing ≡ job.missing
+    pub place_is : course.place ≡ r
+    pub run : HoldsRun job rows n p r course.trace
+    pub supersteps : length course.trace.records ≡ max r (kept_length kept)
+    pub beside : IsBeside kept rows n p r course
+
+  -- where the kept run has the superstep, a bundle of it tells at which targets it differs from that run's
+  abbrev pub TellsBeside : Option Rows → ℕ → ℕ → ℕ → ℕ → Logged M → Type 0
+  TellsBeside None n p q r logged = logged.changed ≡ None
+  TellsBeside (Some old) n p q r logged = r < run_length job old → TellsChanges (bundle_sent job old n p q r) logged
+
+  -- what partition p sends to partition q in superstep r
+  abbrev pub IsSentTo : Option Rows → Rows → ℕ → ℕ → ℕ → ℕ → Option (Logged M) → Type 0
+  IsSentTo kept rows n p q r None = ⊥
+  IsSentTo kept rows n p q r (Some logged) = (logged.bundle ≡ bundle_sent job rows n p q r) × TellsBeside kept n p q r logged
+
+  -- the partition's vertices outside of these ids have no record in superstep s, and it leaves them as they were
+  pub record AreTheOnly (rows : Rows) (n p s : ℕ) (ids : List ℕ) : Type 0 where
+    pub rise : IsStrictlySortedBy nat_cmp ids
+    pub mine : (id : ℕ) → has_id ids id ≡ true → belongs n p id ≡ true
+    pub records : (id : ℕ) → has_id ids id ≡ false → value_at id (records_in job rows n p s) ≡ None
+    pub states : (id : ℕ) → belongs n p id ≡ true → has_id ids id ≡ false → state_at job rows (suc s) id ≡ state_at job rows s id
+
+  -- or they have the records of the old run, which has the superstep, and its states after it
+  pub record AreTheOnlyBeside (old rows : Rows) (n p s : ℕ) (ids : List ℕ) : Type 0 where
+    pub there : s < run_length job old
+    pub rise : IsStrictlySortedBy nat_cmp ids
+    pub mine : (id : ℕ) → has_id ids id ≡ true → belongs n p id ≡ true
+    pub records : (id : ℕ) → has_id ids id ≡ false → value_at id (records_in job old n p s) ≡ value_at id (records_in job rows n p s)
+    pub states : (id : ℕ) → belongs n p id ≡ true → has_id ids id ≡ false → state_at job old (suc s) id ≡ state_at job rows (suc s) id
+
+  abbrev pub AreAllChanged : Option Rows → Rows → ℕ → ℕ → ℕ → Bool → List ℕ → Type 0
+  AreAllChanged kept rows n p s false ids = AreTheOnly rows n p s ids
+  AreAllChanged None rows n p s true ids = ⊥
+  AreAllChanged (Some old) rows n p s true ids = AreTheOnlyBeside old rows n p s ids
+
+  -- a step took the partition to the next superstep: it sent what its share sends, and counted just the executions of its
+  -- vertices that are needed beside the kept run, if any
+  pub record HasStepped (value_eq : V → V → Bool) (message_eq : M → M → Bool) (kept : Option Rows) (rows : Rows) (n p r : ℕ) (course : Holding V M) (sent : List (Logged M)) (calls calls_after : ℕ) : Type 0 where
+    pub holds : Holds kept rows n p (r + 1) course
+    pub to_each : length sent ≡ n
+    pub sends : (q : ℕ) → q < n → IsSentTo kept rows n p q r (slice_get sent q)
+    pub changed_are : AreAllChanged kept rows n p r course.beside_old course.changed
+    pub counted : calls_after ≡ capped (calls + needed_in value_eq message_eq job kept rows (belongs n p) r)
+
+-- a partition of these rows to which nothing has happened
+pub record HasBegun {V M : Type 0} (rows : PartRows) (missing : Missing) (course : Holding V M) : Type 0 where
+  pub partition_is : course.partition ≡ rows.partition
+  pub partitions_are : course.partitions ≡ rows.partitions
+  pub missing_is : course.missing ≡ missing
+  pub place_is : course.place ≡ 0
+
+-- the same partition, one superstep later
+pub record IsFurther {V M : Type 0} (before after : Holding V M) : Type 0 where
+  pub partition_stays : after.partition ≡ before.partition
+  pub partitions_stay : after.partitions ≡ before.partitions
+  pub missing_stays : after.missing ≡ before.missing
+  pub place_is : after.place ≡ before.place + 1

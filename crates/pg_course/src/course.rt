@@ -1,0 +1,519 @@
+//! One partition of a run, and its steps.
+ghost use Rattle.std.specs.Prelude.{◌≡◌, ℕ, ◌+◌, ◌<◌, ◌≤◌, ◌^◌, true, length, Option, None, Some, IfOk, IfSome};
+ghost use Rattle.std.specs.List.Sorted.{IsStrictlySortedBy};
+ghost use Rattle.std.specs.Option.{option_copied};
+ghost use Rattle.std.specs.Ordering.{nat_cmp};
+ghost use Rattle.pg_global.specs.Master.{has_places};
+ghost use Rattle.pg_graph.specs.Rows.{Rows as GraphRows};
+ghost use Rattle.pg_inbox.specs.Logged.{Slots};
+ghost use Rattle.pg_map.specs.Entries.{ChangesRise, HasRisingIds};
+ghost use Rattle.pg_model.specs.Job.{Job};
+ghost use Rattle.pg_model.specs.Run.{run_length, view_at};
+ghost use Rattle.pg_model.specs.Superstep.{has_id};
+ghost use Rattle.pg_course.specs.Lent.{HasMessages, IsBesideOld, IsLent, IsLentBeside, bundles_before};
+ghost use Rattle.pg_course.specs.Course.{AreTouched, HasBegun, HasStepped, Holds, IsFurther, IsWhole, kept_length};
+ghost use Rattle.pg_program.specs.Context.{ShowsDeclared};
+ghost use Rattle.pg_course.specs.Lists.{reaching};
+ghost use Rattle.pg_trace.specs.Trace.{StatesRise, with_replaced};
+ghost use Rattle.pg_course.specs.Starting.{first_states};
+
+use crate::begin::first_changes;
+use crate::candidates::{awake_ids, play_alone};
+use crate::changed::rising;
+use crate::execution::{Played, Stage};
+use crate::reading::bundles_before;
+use crate::sent::fresh_bundles;
+use crate::warm::{concluded, ids_of, replayed};
+use crate::{Partitioner, Rows, Sent, Share};
+use pg_global::{MessageCombiner, Visible, view_of};
+use pg_graph::{Memory, Missing, PartitionId, Superstep, VertexId};
+use pg_inbox::{Bundle, Logs};
+use pg_model::{Record, VertexState, View};
+use pg_program::{Computation, EdgeRoom, Meter, Plain};
+use pg_trace::Trace;
+use std::alloc::Global;
+use std::marker::Model;
+
+/// One partition of a run as a superstep begins: the states with which it began, and the records of
+/// the supersteps before. A warm one also has the trace of an old run, and steps beside that: its own trace
+/// goes on as that one does.
+#[derive(Drop)]
+pub struct Course<V, M> {
+    pub(crate) partition: PartitionId,
+    pub(crate) partitions: Partitioner,
+    pub(crate) missing: Missing,
+    pub(crate) place: Superstep,
+    pub(crate) trace: Trace<V, M>,
+    pub(crate) kept: Option<Trace<V, M>>,
+    pub(crate) differing: Vec<VertexId>,
+    pub(crate) changed: Vec<VertexId>,
+    pub(crate) beside_old: bool,
+}
+
+impl<V, M> Model for Course<V, M> {
+    ghost use Rattle.std.specs.Prelude.{◌≤◌, length};
+    ghost use Rattle.pg_course.specs.Course.{Holding};
+
+    ghost Value = { Holding V M };
+
+    ghost view = { λ p. record {
+      partition = p.partition;
+      partitions = p.partitions;
+      missing = p.missing;
+      place = p.place;
+      trace = p.trace;
+      kept = p.kept;
+      differing = p.differing.items;
+      changed = p.changed.items;
+      beside_old = p.beside_old;
+    } };
+
+    ghost invariant = { λ p. p.place ≤ length p.trace.records };
+}
+
+/// A step was given up, and its course with it, since memory was refused.
+#[derive(Clone, Copy, Debug, PartialEq, Eq)]
+pub struct Lost;
+
+/// What a step makes of a course.
+#[derive(Drop)]
+pub(crate) struct Stepped<V, M: Plain> {
+    pub course: Course<V, M>,
+    pub sent: Sent<M>,
+    pub meter: Meter,
+}
+
+impl<V: Plain, M: Plain> Course<V, M> {
+    /// The number of the partition.
+    pub fn partition(&self) -> PartitionId
+        ensures { result ≡ self.now.partition }
+    {
+        self.partition
+    }
+
+    /// How many partitions there are.
+    pub fn partitions(&self) -> Partitioner
+        ensures { result ≡ self.now.partitions }
+    {
+        self.partitions
+    }
+
+    /// What becomes of messages to nobody.
+    pub fn missing(&self) -> Missing
+        ensures { result ≡ self.now.missing }
+    {
+        self.missing
+    }
+
+    /// The superstep at which it stands.
+    pub fn place(&self) -> Superstep
+        ensures { result ≡ self.now.place }
+    {
+        self.place
+    }
+
+    /// The trace of the old run, where the partition is warm.
+    pub fn kept(&self) -> Option<&Trace<V, M>>
+        ensures { option_copied result ≡ self.now.kept }
+    {
+        self.kept.as_ref()
+    }
+
+    /// The vertices whose states may differ from those of the old run, where that has the superstep; by rising id as a run
+    /// begins.
+    pub fn differing(&self) -> &[VertexId]
+        ensures { result.now ≡ self.now.differing }
+    {
+        self.differing.as_slice()
+    }
+
+    /// The vertices that its last step may have changed, by rising id; none as a run begins.
+    pub fn changed(&self) -> &[VertexId]
+        ensures { result.now ≡ self.now.changed }
+    {
+        self.changed.as_slice()
+    }
+
+    /// Whether all other vertices have the records and the states of the old run. Else they had no record in its last
+    /// step and have the states from before it.
+    pub fn beside_old(&self) -> bool
+        ensures { result ≡ self.now.beside_old }
+    {
+        self.beside_old
+    }
+
+    /// Its trace: the states with which it began, and its records so far.
+    pub fn trace(&self) -> &Trace<V, M>
+        ensures { result.now ≡ self.now.trace }
+    {
+        &self.trace
+    }
+
+    /// The same to keep.
+    pub fn into_trace(self) -> Trace<V, M>
+        ensures { result ≡ self.trace }
+    {
+        let Course { trace, .. } = self;
+        trace
+    }
+
+    /// A partition as a run begins with these states of its vertices, which are to be those of the rows.
+    pub fn begin(
+        alloc: Global,
+        rows: Rows<'_>,
+        missing: Missing,
+        states: Vec<VertexState<V>>,
+    ) -> Result<Course<V, M>, Memory>
+        requires rise { StatesRise states.items }
+        ensures begins { IfOk result (λ course. HasBegun rows.entry missing course) }
+        ensures holds { IfOk result (λ course. (job : Job V M) → HasRisingIds rows.entry.graph → job.missing ≡ missing
+            → states.items ≡ first_states job.program rows.entry.graph rows.entry.partitions rows.entry.partition
+            → Holds job None rows.entry.graph rows.entry.partitions rows.entry.partition 0 course) }
+    {
+        let Rows {
+            partition,
+            partitions,
+            ..
+        } = rows;
+        let trace = Trace::new(alloc, states)?;
+        Ok(Course {
+            partition,
+            partitions,
+            missing,
+            place: Superstep::new(0),
+            trace,
+            kept: None,
+            differing: Vec::new(alloc),
+            changed: Vec::new(alloc),
+            beside_old: false,
+        })
+    }
+
+    /// A partition as a run begins beside an old one: with its trace of that, and with ids outside of which the
+    /// graph's rows are those of the old run's graph. Costs k look-ups for k such ids, a sort of them, a copy of the
+    /// chunks of the trace's first states that they lie in, and one count a superstep of the old run.
+    pub fn begin_beside<P: Computation<Value = V, Message = M>>(
+        alloc: Global,
+        rows: Rows<'_>,
+        missing: Missing,
+        old: Trace<V, M>,
+        touched: &[VertexId],
+        program: &P,
+    ) -> Result<Course<V, M>, Memory>
+        ensures begins { IfOk result (λ course. HasBegun rows.entry missing course) }
+        ensures rise { IfOk result (λ course. IsStrictlySortedBy nat_cmp course.differing) }
+        ensures differing { IfOk result (λ course. (id : ℕ) → has_id course.differing id ≡ has_id touched.now id) }
+        ensures kept { IfOk result (λ course. course.kept ≡ Some old) }
+        ensures holds { IfOk result (λ course. (job : Job V M) (kept : GraphRows)
+            → job.program ≡ P.program program.now → job.missing ≡ missing
+            → IsWhole job kept rows.entry.partitions rows.entry.partition old
+            → AreTouched touched.now kept rows.entry.graph
+            → Holds job (Some kept) rows.entry.graph rows.entry.partitions rows.entry.partition 0 course) }
+    {
+        let Rows {
+            graph,
+            partition,
+            partitions,
+        } = rows;
+        let share = Share {
+            partition,
+            partitions,
+        };
+        let differing = rising(copied(alloc, touched)?);
+        let changes = first_changes(alloc, graph, &share, differing.as_slice(), program)?;
+        let trace = old.restarted(alloc, changes)?;
+        Ok(Course {
+            partition,
+            partitions,
+            missing,
+            place: Superstep::new(0),
+            trace,
+            kept: Some(old),
+            differing,
+            changed: Vec::new(alloc),
+            beside_old: false,
+        })
+    }
+
+    /// One superstep. It reads what the logs have from each partition to this one of the superstep before, and what
+    /// is visible; and where the course is warm and the old run has the superstep, the logs and the visible values of
+    /// that run, which are to be given then and else not. A course whose step answers `Lost` is gone.
+    ///
+    /// A cold course executes each active vertex once; so does a warm one past the end of the old run. Else those are
+    /// executed that don't read what they read there. Each execution is counted.
+    ///
+    /// Costs what it executes, the messages that it receives and sends, and a walk over the records of the superstep
+    /// before; beside an old run that saw the same only the vertices whose states or messages may differ, and what
+    /// these send.
+    pub fn step<P: Computation<Value = V, Message = M>, C: MessageCombiner<M>>(
+        self,
+        alloc: Global,
+        logs: &Logs<M>,
+        visible: &Visible,
+        old_logs: Option<&Logs<M>>,
+        old_visible: Option<&Visible>,
+        program: &P,
+        combiner: &C,
+        meter: &mut Meter,
+    ) -> Result<(Course<V, M>, Sent<M>), Lost>
+        requires few { length visible.now.values ≤ 16 }
+        requires few_old { IfSome (option_copied old_visible) (λ v. length v.values ≤ 16) }
+        requires declared { has_places (P.program program.now).declared (length visible.now.values) ≡ true }
+        requires counts { self.place + 1 < 2 ^ 32 }
+        ensures further { IfOk result (λ stepped. IsFurther self stepped.0) }
+        ensures to_each { IfOk result (λ stepped. length stepped.1 ≡ self.partitions) }
+        ensures stepped { IfOk result (λ stepped. (job : Job V M) (kept : Option GraphRows) (rows : GraphRows) (n p r : ℕ)
+            → job.program ≡ P.program program.now → job.combining ≡ C.combining combiner.now
+            → Holds job kept rows n p r self → IsLent job rows n p r logs.now visible.now
+            → IsLentBeside job kept n p r logs.now (option_copied old_logs.entry) (option_copied old_visible.entry)
+            → HasStepped job V.PartialEq.eq M.PartialEq.eq kept rows n p r stepped.0 stepped.1 meter.old meter.new) }
+    {
+        match self.lent_step(
+            alloc,
+            logs,
+            visible,
+            old_logs,
+            old_visible,
+            program,
+            combiner,
+            meter.copy(),
+        ) {
+            Ok(stepped) => {
+                let Stepped {
+                    course,
+                    sent,
+                    meter: counted,
+                } = stepped;
+                *meter = counted;
+                Ok((course, sent))
+            }
+            Err(_) => Err(Lost),
+        }
+    }
+}
+
+impl<V: Plain, M: Plain> Course<V, M> {
+    /// A step with what it is lent.
+    fn lent_step<P: Computation<Value = V, Message = M>, C: MessageCombiner<M>>(
+        self,
+        alloc: Global,
+        logs: &Logs<M>,
+        visible: &Visible,
+        old_logs: Option<&Logs<M>>,
+        old_visible: Option<&Visible>,
+        program: &P,
+        combiner: &C,
+        meter: Meter,
+    ) -> Result<Stepped<V, M>, Memory>
+        requires few { length visible.now.values ≤ 16 }
+        requires few_old { IfSome (option_copied old_visible) (λ v. length v.values ≤ 16) }
+        requires declared { has_places (P.program program.now).declared (length visible.now.values) ≡ true }
+        requires counts { self.place + 1 < 2 ^ 32 }
+        ensures further { IfOk result (λ stepped. IsFurther self stepped.course) }
+        ensures to_each { IfOk result (λ stepped. length stepped.sent ≡ self.partitions) }
+        ensures stepped { IfOk result (λ stepped. (job : Job V M) (kept : Option GraphRows) (rows : GraphRows) (n p r : ℕ)
+            → job.program ≡ P.program program.now → job.combining ≡ C.combining combiner.now
+            → Holds job kept rows n p r self → IsLent job rows n p r logs.now visible.now
+            → IsLentBeside job kept n p r logs.now (option_copied old_logs.entry) (option_copied old_visible.entry)
+            → HasStepped job V.PartialEq.eq M.PartialEq.eq kept rows n p r stepped.course stepped.sent meter stepped.meter) }
+    {
+        // Tells the prover that the count fits.
+        meter.count();
+        let view = view_of(alloc, program.declared(), self.place, visible)?;
+        let bundles = bundles_before(alloc, logs, self.partitions, self.partition, self.place)?;
+        let stage = Stage {
+            view,
+            room: EdgeRoom::new(alloc),
+            meter,
+        };
+        match old_logs {
+            Some(old_logs) => match old_visible {
+                Some(old_visible) => {
+                    let old_view = view_of(alloc, program.declared(), self.place, old_visible)?;
+                    let stepped = self.beside(
+                        alloc, bundles, logs, old_logs, old_view, program, combiner, stage,
+                    )?;
+                    Ok(stepped)
+                }
+                None => {
+                    let stepped = self.alone(alloc, bundles, program, combiner, stage)?;
+                    Ok(stepped)
+                }
+            },
+            None => {
+                let stepped = self.alone(alloc, bundles, program, combiner, stage)?;
+                Ok(stepped)
+            }
+        }
+    }
+
+    /// A step beside an old run that has the superstep.
+    fn beside<P: Computation<Value = V, Message = M>, C: MessageCombiner<M>>(
+        self,
+        alloc: Global,
+        bundles: Vec<Bundle<M>>,
+        logs: &Logs<M>,
+        old_logs: &Logs<M>,
+        old_view: View,
+        program: &P,
+        combiner: &C,
+        stage: Stage,
+    ) -> Result<Stepped<V, M>, Memory>
+        requires shown { ShowsDeclared (P.program program.now).declared stage.view }
+        requires fits { stage.meter < 2 ^ 64 }
+        requires counts { self.place + 1 < 2 ^ 32 }
+        ensures further { IfOk result (λ stepped. IsFurther self stepped.course) }
+        ensures to_each { IfOk result (λ stepped. length stepped.sent ≡ self.partitions) }
+        ensures stepped { IfOk result
+            (λ stepped. (job : Job V M) (kept : Option GraphRows) (rows : GraphRows) (n p s : ℕ)
+            → job.program ≡ P.program program.now → job.combining ≡ C.combining combiner.now
+            → Holds job kept rows n p s self → s < run_length job rows
+            → HasMessages job rows n p s logs.now → bundles.items ≡ bundles_before logs.now n p s
+            → stage.view ≡ view_at job rows s
+            → IsBesideOld job kept n p s logs.now old_logs.now old_view
+            → HasStepped job V.PartialEq.eq M.PartialEq.eq kept rows n p s stepped.course stepped.sent stage.meter stepped.meter) }
+    {
+        let mut course = self;
+        // Tells the prover that there is a partition.
+        course.partitions.partitions();
+        match course.kept.take() {
+            Some(old) => {
+                let played = replayed(
+                    alloc,
+                    &course,
+                    &old,
+                    logs,
+                    old_logs,
+                    bundles.as_slice(),
+                    &old_view,
+                    program,
+                    combiner,
+                    stage,
+                )?;
+                let stepped = concluded(alloc, course, old, played, old_logs, combiner)?;
+                Ok(stepped)
+            }
+            None => {
+                let stepped = course.alone(alloc, bundles, program, combiner, stage)?;
+                Ok(stepped)
+            }
+        }
+    }
+
+    /// A step beside nothing, or past the end of the old run: each active vertex is executed.
+    fn alone<P: Computation<Value = V, Message = M>, C: MessageCombiner<M>>(
+        self,
+        alloc: Global,
+        bundles: Vec<Bundle<M>>,
+        program: &P,
+        combiner: &C,
+        stage: Stage,
+    ) -> Result<Stepped<V, M>, Memory>
+        requires shown { ShowsDeclared (P.program program.now).declared stage.view }
+        requires fits { stage.meter < 2 ^ 64 }
+        requires counts { self.place + 1 < 2 ^ 32 }
+        ensures further { IfOk result (λ stepped. IsFurther self stepped.course) }
+        ensures to_each { IfOk result (λ stepped. length stepped.sent ≡ self.partitions) }
+        ensures stepped { IfOk result
+            (λ stepped. (job : Job V M) (kept : Option GraphRows) (rows : GraphRows) (n p s : ℕ) (logs : Slots M)
+            → job.program ≡ P.program program.now → job.combining ≡ C.combining combiner.now
+            → Holds job kept rows n p s self → kept_length job kept ≤ s → s < run_length job rows
+            → HasMessages job rows n p s logs → bundles.items ≡ bundles_before logs n p s
+            → stage.view ≡ view_at job rows s
+            → HasStepped job V.PartialEq.eq M.PartialEq.eq kept rows n p s stepped.course stepped.sent stage.meter stepped.meter) }
+    {
+        let Course {
+            partition,
+            partitions,
+            missing,
+            place,
+            trace,
+            kept,
+            ..
+        } = self;
+        // Tells the prover that there is a partition.
+        partitions.partitions();
+        let ids = awake_ids(alloc, &trace, place)?;
+        let played = play_alone(
+            alloc,
+            program,
+            combiner,
+            missing,
+            Share {
+                partition,
+                partitions,
+            },
+            place,
+            &trace,
+            bundles.as_slice(),
+            ids.as_slice(),
+            stage,
+        )?;
+        let Played { changes, stage } = played;
+        let Stage { meter, .. } = stage;
+        let changed = ids_of(alloc, changes.as_slice())?;
+        let bundles = fresh_bundles(alloc, partitions, changes.as_slice(), combiner)?;
+        let trace = with_records(alloc, trace, place, changes)?;
+        let course = Course {
+            partition,
+            partitions,
+            missing,
+            place: Superstep::new(place.number() + 1),
+            trace,
+            kept,
+            differing: Vec::new(alloc),
+            changed,
+            beside_old: false,
+        };
+        Ok(Stepped {
+            course,
+            sent: Sent::of(bundles),
+            meter,
+        })
+    }
+}
+
+/// A copy of these ids.
+fn copied(alloc: Global, ids: &[VertexId]) -> Result<Vec<VertexId>, Memory>
+    ensures { IfOk result (λ copy. copy.items ≡ ids.now) }
+{
+    let mut copy = Vec::with_capacity(alloc, ids.len())?;
+    for id in ids {
+        copy.push(*id)?;
+    }
+    Ok(copy)
+}
+
+/// A trace with these changes of the records of a superstep, which it has or which comes next.
+pub(crate) fn with_records<V: Plain, M: Plain>(
+    alloc: Global,
+    trace: Trace<V, M>,
+    superstep: Superstep,
+    changes: Vec<(VertexId, Option<Record<V, M>>)>,
+) -> Result<Trace<V, M>, Memory>
+    requires rise { ChangesRise changes.items }
+    requires within { superstep ≤ length trace.records }
+    ensures { IfOk result
+        (λ after. after ≡ with_replaced superstep changes.items (reaching superstep trace)) }
+{
+    let mut trace = reaching(alloc, trace, superstep)?;
+    trace.replace(alloc, superstep, changes)?;
+    Ok(trace)
+}
+
+/// A trace with one superstep more, of no records, where this one comes next.
+fn reaching<V: Plain, M: Plain>(
+    alloc: Global,
+    trace: Trace<V, M>,
+    superstep: Superstep,
+) -> Result<Trace<V, M>, Memory>
+    requires { superstep ≤ length trace.records }
+    ensures value { IfOk result (λ after. after ≡ reaching superstep trace) }
+    ensures within { IfOk result (λ after. superstep < length after.records) }
+{
+    let mut trace = trace;
+    if trace.supersteps() == superstep.number() as usize {
+        trace.push_superstep(alloc, Vec::new(alloc))?;
+    }
+    Ok(trace)
+}

@@ -1,0 +1,154 @@
+//! A step beside an old run: what stands there is taken over where nothing has changed.
+ghost use Rattle.std.specs.Prelude.{ℕ, ◌+◌, ◌^◌, ◌<◌, ◌≡◌, IfOk};
+ghost use Rattle.std.specs.Map.{keys_of};
+ghost use Rattle.pg_map.specs.Entries.{ChangesRise};
+ghost use Rattle.pg_course.specs.Warm.{IsConcluded, IsReplayed};
+ghost use Rattle.pg_program.specs.Context.{ShowsDeclared};
+
+use crate::candidates::play_beside;
+use crate::changed::{is_same_view, looked_at};
+use crate::course::{Stepped, with_records};
+use crate::differing::differing_among;
+use crate::execution::{Played, Stage};
+use crate::reading::bundles_before;
+use crate::sent::mended_bundles;
+use crate::{Course, Sent, Share};
+use pg_global::MessageCombiner;
+use pg_graph::{Memory, Superstep, VertexId};
+use pg_inbox::{Bundle, Logs, tell_alike};
+use pg_model::{Record, View};
+use pg_program::{Computation, Plain};
+use pg_trace::Trace;
+use std::alloc::Global;
+
+/// Looks at the vertices that may read something else than in the old run, and executes those that do.
+pub(crate) fn replayed<P: Computation, C: MessageCombiner<P::Message>>(
+    alloc: Global,
+    course: &Course<P::Value, P::Message>,
+    old: &Trace<P::Value, P::Message>,
+    logs: &Logs<P::Message>,
+    old_logs: &Logs<P::Message>,
+    bundles: &[Bundle<P::Message>],
+    old_view: &View,
+    program: &P,
+    combiner: &C,
+    stage: Stage,
+) -> Result<Played<P::Value, P::Message>, Memory>
+    requires shown { ShowsDeclared (P.program program.now).declared stage.view }
+    requires fits { stage.meter < 2 ^ 64 }
+    ensures { IfOk result (λ played.
+        IsReplayed P.Value.PartialEq.eq P.Message.PartialEq.eq (C.combining combiner.now) course.now old.now old_logs.now
+        (P.program program.now) logs.now old_view.now stage.view bundles.now stage.meter played) }
+{
+    let old_bundles = bundles_before(
+        alloc,
+        old_logs,
+        course.partitions,
+        course.partition,
+        course.place,
+    )?;
+    tell_alike(old_bundles.as_slice(), bundles, combiner);
+    let seen = is_same_view(old_view, &stage.view);
+    let ids = looked_at(
+        alloc,
+        course.partitions,
+        course.partition,
+        course.place,
+        &course.trace,
+        course.differing.as_slice(),
+        logs,
+        old_logs,
+        seen,
+    )?;
+    let played = play_beside(
+        alloc,
+        program,
+        combiner,
+        course.missing,
+        Share {
+            partition: course.partition,
+            partitions: course.partitions,
+        },
+        course.place,
+        &course.trace,
+        bundles,
+        old,
+        old_bundles.as_slice(),
+        ids.as_slice(),
+        seen,
+        stage,
+    )?;
+    Ok(played)
+}
+
+/// The course with the changed records, and what it sends.
+pub(crate) fn concluded<V: Plain, M: Plain, C: MessageCombiner<M>>(
+    alloc: Global,
+    course: Course<V, M>,
+    old: Trace<V, M>,
+    played: Played<V, M>,
+    old_logs: &Logs<M>,
+    combiner: &C,
+) -> Result<Stepped<V, M>, Memory>
+    requires rise { ChangesRise played.changes.items }
+    requires counts { course.place + 1 < 2 ^ 32 }
+    ensures concluded { IfOk result (λ stepped.
+        IsConcluded V.PartialEq.eq M.PartialEq.eq (C.combining combiner.now) course old old_logs.now
+        played.changes.items stepped.course stepped.sent) }
+    ensures counted { IfOk result (λ stepped. stepped.meter ≡ played.stage.meter) }
+{
+    let Course {
+        partition,
+        partitions,
+        missing,
+        place,
+        trace,
+        ..
+    } = course;
+    let Played { changes, stage } = played;
+    let Stage { meter, .. } = stage;
+    let ids = ids_of(alloc, changes.as_slice())?;
+    let bundles = mended_bundles(
+        alloc,
+        partitions,
+        partition,
+        place,
+        changes.as_slice(),
+        &old,
+        old_logs,
+        combiner,
+    )?;
+    let trace = with_records(alloc, trace, place, changes)?;
+    let place = Superstep::new(place.number() + 1);
+    let differing = differing_among(alloc, &old, &trace, place, ids.as_slice())?;
+    let course = Course {
+        partition,
+        partitions,
+        missing,
+        place,
+        trace,
+        kept: Some(old),
+        differing,
+        changed: ids,
+        beside_old: true,
+    };
+    Ok(Stepped {
+        course,
+        sent: Sent::of(bundles),
+        meter,
+    })
+}
+
+/// The vertices of these changes.
+pub(crate) fn ids_of<V: Plain, M: Plain>(
+    alloc: Global,
+    changes: &[(VertexId, Option<Record<V, M>>)],
+) -> Result<Vec<VertexId>, Memory>
+    ensures { IfOk result (λ ids. ids.items ≡ keys_of changes.now) }
+{
+    let mut ids = Vec::with_capacity(alloc, changes.len())?;
+    for (id, _) in changes {
+        ids.push(*id)?;
+    }
+    Ok(ids)
+}

@@ -1,0 +1,111 @@
+-- The states of a partition's vertices, as its trace has them.
+use Rattle.std.proofs.Common.{◌≡◌, ℕ, ◌+◌, ◌≤◌, ◌==◌, ◌||◌, Bool, true, false, cond, List, [], ◌∷◌, ◌++◌, map, filter, Option, None, Some, option_map, refl, ap, ap₂, sym, ◌∙◌, subst, arith, true≢false}
+use Rattle.std.specs.List.{AllByRecursion}
+use Rattle.std.specs.List.Sorted.{IsStrictlySortedBy}
+use Rattle.std.specs.Option.{option_to_list}
+use Rattle.std.specs.Ordering.{nat_cmp}
+use Rattle.std.proofs.lemmas.Bool.{eqb-true}
+use Rattle.std.proofs.lemmas.Bool.Decides.{nat_tests}
+use Rattle.std.proofs.lemmas.List.Kept.{IsStrictlySortedBy-filter}
+use Rattle.std.proofs.lemmas.Simd.{map-map}
+use Rattle.pg_graph.specs.Rows.{HasRisingIds, Rows}
+use Rattle.pg_model.specs.ByIds.{state_at}
+use Rattle.pg_model.specs.Job.{Job}
+use Rattle.pg_model.specs.Run.{configuration}
+use Rattle.pg_model.specs.Share.{belongs, share, standings_of_share}
+use Rattle.pg_model.specs.Superstep.{has_id, ids}
+use Rattle.pg_model.specs.declared.configuration.Standing.{Standing}
+use Rattle.pg_model.specs.declared.configuration.VertexState.{VertexState}
+use Rattle.pg_model.proofs.LawsIds.{in_order}
+use Rattle.pg_model.proofs.LawsLists.{filter-map}
+use Rattle.pg_part.specs.Reckoned.{IsRecensus}
+use Rattle.pg_recount.specs.Census.{states_among}
+use Rattle.pg_recount.proofs.LawsCensus.{recounted_is, some_of}
+use Rattle.pg_stats.specs.Stats.{census_of}
+use Rattle.pg_stats.specs.declared.stats.Census.{Census}
+use Rattle.pg_trace.specs.OfRun.{HoldsRun}
+use Rattle.pg_trace.specs.Trace.{StatesRise, Trace, state_of}
+use Rattle.pg_trace.proofs.RunStates.{found_in_share, state_of_run}
+
+-- what holds of each id among some
+pub all_among : (P : ℕ → Type 0) (ids : List ℕ) → ((id : ℕ) → has_id ids id ≡ true → P id) → AllByRecursion P ids
+all_among P [] h = tt
+all_among P (i ∷ ids) h = (h i (first i ids), all_among P ids (λ id m. h id (later i ids id m)))
+  where
+    first : (i : ℕ) (ids : List ℕ) → has_id (i ∷ ids) i ≡ true
+    first i ids = ap (λ (b : Bool). b || has_id ids i) (let e : (i == i) ≡ true = grind (arith, nat_tests) in e)
+
+    later : (i : ℕ) (ids : List ℕ) (id : ℕ) → has_id ids id ≡ true → has_id (i ∷ ids) id ≡ true
+    later i ids id h = ap (λ (b : Bool). (i == id) || b) h ∙ by (i == id)
+      where
+        by : (b : Bool) → (b || true) ≡ true
+        by true = refl
+        by false = refl
+
+-- an id of another partition isn't found
+not_in_share : {V M : Type 0} (n p id : ℕ) → belongs n p id ≡ false → (xs : List (Standing V M))
+    → state_of id (map (λ x. x.state) (filter (λ x. belongs n p x.state.id) xs)) ≡ None
+not_in_share n p id other [] = refl
+not_in_share {V = V} {M = M} n p id other (x ∷ xs) = by (belongs n p x.state.id) refl (not_in_share n p id other xs)
+  where
+    rest : List (VertexState V)
+    rest = map (λ x. x.state) (filter (λ x. belongs n p x.state.id) xs)
+
+    at : (t : Bool) → (x.state.id == id) ≡ t → belongs n p x.state.id ≡ true → state_of id rest ≡ None → cond t (Some x.state) (state_of id rest) ≡ None
+    at true e h none = absurd (true≢false (sym h ∙ (ap (belongs n p) (eqb-true x.state.id id e) ∙ other)))
+    at false e h none = none
+
+    by : (b : Bool) → belongs n p x.state.id ≡ b → state_of id (map (λ x. x.state) (filter (λ x. belongs n p x.state.id) xs)) ≡ None
+        → state_of id (map (λ x. x.state) (cond b (x ∷ filter (λ x. belongs n p x.state.id) xs) (filter (λ x. belongs n p x.state.id) xs))) ≡ None
+    by true h none = at (x.state.id == id) refl h none
+    by false h none = none
+
+module _ {V M : Type 0} (job : Job V M) (n p : ℕ) where
+  -- the states of the partition's vertices as superstep s begins
+  abbrev pub states_in : Rows → ℕ → List (VertexState V)
+  states_in rows s = map (λ x. x.state) (standings_of_share job rows n p s)
+
+  pub states_rise : (rows : Rows) → HasRisingIds rows → (s : ℕ) → StatesRise (states_in rows s)
+  states_rise rows rise s =
+      let xs : List (Standing V M) = (configuration job rows s).standings in
+      let picked : List (Standing V M) = filter (λ x. belongs n p x.state.id) xs in
+      subst (IsStrictlySortedBy nat_cmp)
+      (filter-map (belongs n p) (λ (x : Standing V M). x.state.id) xs ∙ sym (map-map (λ (x : VertexState V). x.id) (λ (x : Standing V M). x.state) picked))
+      (IsStrictlySortedBy-filter nat_cmp (belongs n p) (ids xs) (in_order job rows rise s).standings)
+
+  -- those of some of its ids, as a trace that holds the run has them
+  pub found : (rows : Rows) (r : ℕ) (trace : Trace V M) → HoldsRun job rows n p r trace → (s : ℕ) → s ≤ r
+      → (ids : List ℕ) → AllByRecursion (λ id. belongs n p id ≡ true) ids → states_among s ids trace ≡ some_of ids (states_in rows s)
+  found rows r trace holds s within [] mine = refl
+  found rows r trace holds s within (id ∷ ids) mine =
+      ap₂ ◌++◌
+      (ap option_to_list (state_of_run trace id s job rows n p r holds mine.0 within ∙ sym (found_in_share n p id mine.0 (configuration job rows s).standings)))
+      (found rows r trace holds s within ids mine.1)
+
+  -- as the run begins, so it is of any ids
+  pub found_first : (rows : Rows) (r : ℕ) (trace : Trace V M) → HoldsRun job rows n p r trace → (ids : List ℕ) → states_among 0 ids trace ≡ some_of ids (states_in rows 0)
+  unfolding share
+  found_first rows r trace holds ids = ap (λ states. some_of ids states) holds.initial
+
+  -- where two runs have the same states at all of its other ids, its states are the same at all others
+  same_states : (old rows : Rows) (s t : ℕ) (ids : List ℕ)
+      → ((id : ℕ) → belongs n p id ≡ true → has_id ids id ≡ false → state_at job old s id ≡ state_at job rows t id)
+      → (id : ℕ) → has_id ids id ≡ false → state_of id (states_in old s) ≡ state_of id (states_in rows t)
+  same_states old rows s t ids same id outside = by (belongs n p id) refl
+    where
+      by : (b : Bool) → belongs n p id ≡ b → state_of id (states_in old s) ≡ state_of id (states_in rows t)
+      by true mine =
+          found_in_share n p id mine (configuration job old s).standings
+          ∙ (same id mine outside ∙ sym (found_in_share n p id mine (configuration job rows t).standings))
+      by false other =
+          not_in_share n p id other (configuration job old s).standings
+          ∙ sym (not_in_share n p id other (configuration job rows t).standings)
+
+  -- a census that was recounted at these ids is that of the run
+  pub census_is : (old rows : Rows) → HasRisingIds old → HasRisingIds rows → (before_trace trace : Trace V M) (s t : ℕ) (ids : List ℕ) → IsStrictlySortedBy nat_cmp ids
+      → states_among s ids before_trace ≡ some_of ids (states_in old s) → states_among t ids trace ≡ some_of ids (states_in rows t)
+      → ((id : ℕ) → belongs n p id ≡ true → has_id ids id ≡ false → state_at job old s id ≡ state_at job rows t id)
+      → (before after : Census) → before ≡ census_of (states_in old s) → IsRecensus before_trace s trace t ids before after → after ≡ census_of (states_in rows t)
+  census_is old rows old_rise new_rise before_trace trace s t ids rise found_old found_new same before after b h =
+      recounted_is (states_in old s) (states_in rows t) ids (states_rise old old_rise s) (states_rise rows new_rise t) rise (same_states old rows s t ids same)
+      before (census_of (states_among s ids before_trace)) (census_of (states_among t ids trace)) after b (ap census_of found_old) (ap census_of found_new) h

@@ -1,0 +1,54 @@
+-- What a partition comes to in a superstep, by what it or an old run had come to.
+use Rattle.std.specs.Prelude.{◌≡◌, ℕ, ◌+◌, true, false, List, [], map, ℤ, Option, Some}
+use Rattle.std.specs.List.{list_all, slice_get}
+use Rattle.pg_course.specs.Course.{Holding}
+use Rattle.pg_global.specs.Registry.{Registered}
+use Rattle.pg_graph.specs.Rows.{Rows}
+use Rattle.pg_inbox.specs.Logged.{Slots}
+use Rattle.pg_inbox.specs.declared.logs.Logged.{Logged}
+use Rattle.pg_recount.specs.Census.{IsRecounted, states_among}
+use Rattle.pg_recount.specs.Contributed.{contributes_alike, contributions_of}
+use Rattle.pg_recount.specs.Traffic.{IsRetold, traffic_of}
+use Rattle.pg_stats.specs.GlobalStats.{aggregators_of}
+use Rattle.pg_stats.specs.Stats.{census_of, gathered_afresh}
+use Rattle.pg_stats.specs.declared.stats.Census.{Census}
+use Rattle.pg_stats.specs.declared.stats.PartitionStats.{PartitionStats}
+use Rattle.pg_trace.specs.Trace.{Trace, records_of}
+
+-- the stats as a run begins with a census
+abbrev pub begun_with : Registered → Census → PartitionStats
+begun_with registry census = record { census = census; traffic = record { sent = 0; dropped = 0 }; gathered = gathered_afresh 0 (aggregators_of registry) [] }
+
+module _ {V M : Type 0} where
+  -- a census of these vertices as superstep `to` begins in one trace, by that as `from` begins in another, where the others
+  -- have the same states
+  abbrev pub IsRecensus : Trace V M → ℕ → Trace V M → ℕ → List ℕ → Census → Census → Type 0
+  IsRecensus old from new to ids before after = IsRecounted before (census_of (states_among from ids old)) (census_of (states_among to ids new)) after
+
+  -- what the vertices contribute in superstep s comes to
+  abbrev pub gathered_of : Registered → Trace V M → ℕ → List ℤ
+  gathered_of registry trace s = gathered_afresh 0 (aggregators_of registry) (contributions_of (records_of s trace))
+
+  -- the stats as a run begins beside an old one, by those with which that began
+  pub record HasBegunBeside (registry : Registered) (old : Trace V M) (course : Holding V M) (before after : PartitionStats) : Type 0 where
+    pub census : IsRecensus old 0 course.trace 0 course.differing before.census after.census
+    pub rest : after ≡ begun_with registry after.census
+
+  -- the stats after superstep s, by those before it
+  pub record IsReckoned (registry : Registered) (rows : Rows) (course : Holding V M) (s : ℕ) (bundles : List (Logged M)) (before after : PartitionStats) : Type 0 where
+    pub census : IsRecensus course.trace s course.trace (s + 1) course.changed before.census after.census
+    pub traffic : after.traffic ≡ traffic_of course.missing rows (map (λ l. l.bundle) bundles)
+    pub gathered : after.gathered ≡ gathered_of registry course.trace s
+
+  -- the same by those that the old run had after it
+  pub record IsReckonedBeside (registry : Registered) (rows : Rows) (moved : List ℕ) (old : Trace V M) (old_logs : Slots M) (course : Holding V M) (s : ℕ) (bundles : List (Logged M)) (before after : PartitionStats) : Type 0 where
+    pub census : IsRecensus old (s + 1) course.trace (s + 1) course.changed before.census after.census
+    pub traffic : IsRetold course.missing rows moved old_logs s course.partition bundles before.traffic after.traffic
+    pub alike : list_all (contributes_alike old course.trace s) course.changed ≡ true → after.gathered ≡ before.gathered
+    pub otherwise : list_all (contributes_alike old course.trace s) course.changed ≡ false → after.gathered ≡ gathered_of registry course.trace s
+
+  -- by the old run's where the superstep was made beside it, and else by those before it
+  pub record IsNextStats (registry : Registered) (rows : Rows) (moved : List ℕ) (stats old_stats : List PartitionStats) (old_logs : Option (Slots M)) (course : Holding V M) (s : ℕ) (bundles : List (Logged M)) (after : PartitionStats) : Type 0 where
+    pub alone : course.beside_old ≡ false → (before : PartitionStats) → slice_get stats s ≡ Some before → IsReckoned registry rows course s bundles before after
+    pub beside : course.beside_old ≡ true → (old : Trace V M) (logs : Slots M) (before : PartitionStats) → course.kept ≡ Some old → old_logs ≡ Some logs
+        → slice_get old_stats (s + 1) ≡ Some before → IsReckonedBeside registry rows moved old logs course s bundles before after

@@ -1,0 +1,235 @@
+//! What a partition has come to as a superstep begins, by what it or the old run had come to.
+ghost use Rattle.std.specs.Prelude.{◌≡◌, ◌+◌, ◌<◌, ◌≤◌, ◌^◌, true, false, length, IfOk, IsSome, Some};
+ghost use Rattle.std.specs.List.{list_all, slice_get};
+ghost use Rattle.std.specs.Option.{option_copied};
+ghost use Rattle.pg_part.specs.Reckoned.{HasBegunBeside, IsNextStats, IsReckoned, IsReckonedBeside, IsRecensus, begun_with, gathered_of};
+ghost use Rattle.pg_recount.specs.Contributed.{contributes_alike};
+ghost use Rattle.pg_trace.specs.Trace.{Trace as TraceOf};
+
+use pg_course::Course;
+use pg_global::Registry;
+use pg_graph::{Graph, Memory, Superstep, VertexId};
+use pg_inbox::{Logged, Logs};
+use pg_model::Sequence;
+use pg_program::Plain;
+use pg_recount::{
+    census_among, contribute_alike, contributions, gathered, recounted, traffic, traffic_beside,
+};
+use pg_stats::{Census, PartitionStats, Traffic};
+use pg_trace::Trace;
+use std::alloc::Global;
+
+/// The stats as a run begins, with this census.
+pub(crate) fn first_stats(
+    alloc: Global,
+    registry: &Registry,
+    census: Census,
+) -> Result<PartitionStats, Memory>
+    ensures { IfOk result (λ stats. stats ≡ begun_with registry.now census) }
+{
+    let traffic = Traffic {
+        sent: 0,
+        dropped: 0,
+    };
+    let gathered = gathered(alloc, registry, &[])?;
+    Ok(PartitionStats {
+        census,
+        traffic,
+        gathered,
+    })
+}
+
+/// The same beside an old run, by what the partition had come to as that began.
+pub(crate) fn first_stats_beside<V: Plain, M: Plain>(
+    alloc: Global,
+    registry: &Registry,
+    course: &Course<V, M>,
+    old_stats: &[PartitionStats],
+) -> Result<PartitionStats, Memory>
+    requires some { 0 < length old_stats.now }
+    requires warm { IsSome course.now.kept }
+    ensures { IfOk result (λ stats. (old : TraceOf V M) (before : PartitionStats) → course.now.kept ≡ Some old
+        → slice_get old_stats.now 0 ≡ Some before → HasBegunBeside registry.now old course.now before stats) }
+{
+    let start = Superstep::new(0);
+    let kept = course.kept().unwrap();
+    let before = old_stats[0].census;
+    let trace = course.trace();
+    let census = recensus(before, kept, start, trace, start, course.differing())?;
+    let stats = first_stats(alloc, registry, census)?;
+    Ok(stats)
+}
+
+/// The census as a superstep begins, by that as one begins in another trace, where all other vertices have the same
+/// states.
+pub(crate) fn recensus<V: Plain, M: Plain>(
+    before: Census,
+    old: &Trace<V, M>,
+    from: Superstep,
+    new: &Trace<V, M>,
+    to: Superstep,
+    ids: &[VertexId],
+) -> Result<Census, Memory>
+    ensures { IfOk result (λ after. IsRecensus old.now from new.now to ids.now before after) }
+{
+    let gone = census_among(old, from, ids)?;
+    let come = census_among(new, to, ids)?;
+    recounted(before, gone, come)
+}
+
+/// What the vertices contribute in a superstep comes to.
+fn gathered_in<V: Plain, M: Plain>(
+    alloc: Global,
+    registry: &Registry,
+    trace: &Trace<V, M>,
+    superstep: Superstep,
+) -> Result<Sequence<i64>, Memory>
+    ensures { IfOk result (λ gathered. gathered ≡ gathered_of registry.now trace.now superstep) }
+{
+    let contributions = contributions(alloc, trace, superstep)?;
+    gathered(alloc, registry, contributions.as_slice())
+}
+
+/// The stats after a superstep, by those before it.
+fn stats_after<V: Plain, M: Plain>(
+    alloc: Global,
+    registry: &Registry,
+    graph: &Graph,
+    course: &Course<V, M>,
+    superstep: Superstep,
+    bundles: &[Logged<M>],
+    before: &PartitionStats,
+) -> Result<PartitionStats, Memory>
+    requires { superstep + 1 < 2 ^ 32 }
+    ensures { IfOk result (λ after. IsReckoned registry.now graph.now course.now superstep bundles.now before.now after) }
+{
+    let trace = course.trace();
+    let next = Superstep::new(superstep.number() + 1);
+    let changed = course.changed();
+    Ok(PartitionStats {
+        census: recensus(before.census, trace, superstep, trace, next, changed)?,
+        traffic: traffic(bundles, graph, course.missing())?,
+        gathered: gathered_in(alloc, registry, trace, superstep)?,
+    })
+}
+
+/// The same by those that the old run had after it.
+fn stats_beside<V: Plain, M: Plain>(
+    alloc: Global,
+    registry: &Registry,
+    graph: &Graph,
+    moved: &[VertexId],
+    old: &Trace<V, M>,
+    old_logs: &Logs<M>,
+    course: &Course<V, M>,
+    superstep: Superstep,
+    bundles: &[Logged<M>],
+    before: &PartitionStats,
+) -> Result<PartitionStats, Memory>
+    requires counts { superstep + 1 < 2 ^ 32 }
+    requires few { length bundles.now ≤ 64 }
+    ensures { IfOk result (λ after. IsReckonedBeside registry.now graph.now moved.now old.now old_logs.now course.now
+        superstep bundles.now before.now after) }
+{
+    let trace = course.trace();
+    let next = Superstep::new(superstep.number() + 1);
+    let changed = course.changed();
+    let census = recensus(before.census, old, next, trace, next, changed)?;
+    let traffic = traffic_beside(
+        before.traffic,
+        old_logs,
+        superstep,
+        course.partition(),
+        bundles,
+        graph,
+        course.missing(),
+        moved,
+    )?;
+    let gathered = gathered_beside(
+        alloc,
+        registry,
+        old,
+        trace,
+        superstep,
+        changed,
+        &before.gathered,
+    )?;
+    Ok(PartitionStats {
+        census,
+        traffic,
+        gathered,
+    })
+}
+
+/// What the vertices contribute in a superstep comes to: the same as in the old run, where none of these contributes
+/// otherwise.
+fn gathered_beside<V: Plain, M: Plain>(
+    alloc: Global,
+    registry: &Registry,
+    old: &Trace<V, M>,
+    trace: &Trace<V, M>,
+    superstep: Superstep,
+    changed: &[VertexId],
+    before: &Sequence<i64>,
+) -> Result<Sequence<i64>, Memory>
+    ensures alike { IfOk result (λ gathered. list_all (contributes_alike old.now trace.now superstep) changed.now ≡ true
+        → gathered ≡ before.now) }
+    ensures otherwise { IfOk result (λ gathered. list_all (contributes_alike old.now trace.now superstep) changed.now ≡ false
+        → gathered ≡ gathered_of registry.now trace.now superstep) }
+{
+    if contribute_alike(old, trace, superstep, changed) {
+        return copied(alloc, before);
+    }
+    gathered_in(alloc, registry, trace, superstep)
+}
+
+/// The same values again.
+fn copied(alloc: Global, values: &Sequence<i64>) -> Result<Sequence<i64>, Memory>
+    ensures { IfOk result (λ copy. copy ≡ values.now) }
+{
+    Ok(Sequence::from_vec(Vec::from_slice(alloc, values.as_slice())?))
+}
+
+/// The stats after a superstep that a partition has made: by those of the old run where it made it beside that, and
+/// else by those before it.
+///
+/// Costs look-ups for each vertex that the superstep may have changed and for each target that the bundles name as
+/// changed; and a walk over the superstep's records where something else is contributed than in the old run, and over
+/// the messages where the superstep wasn't made beside it.
+pub(crate) fn next_stats<V: Plain, M: Plain>(
+    alloc: Global,
+    registry: &Registry,
+    graph: &Graph,
+    moved: &[VertexId],
+    stats: &[PartitionStats],
+    old_stats: &[PartitionStats],
+    old_logs: Option<&Logs<M>>,
+    course: &Course<V, M>,
+    superstep: Superstep,
+    bundles: &[Logged<M>],
+) -> Result<PartitionStats, Memory>
+    requires counts { superstep + 1 < 2 ^ 32 }
+    requires few { length bundles.now ≤ 64 }
+    requires there { superstep < length stats.now }
+    ensures { IfOk result (λ after. IsNextStats registry.now graph.now moved.now stats.now old_stats.now
+        (option_copied old_logs.entry) course.now superstep bundles.now after) }
+{
+    let place = superstep.number() as usize;
+    if course.beside_old() {
+        let found = (course.kept(), old_logs, old_stats.get(place + 1));
+        if let (Some(old), Some(old_logs), Some(before)) = found {
+            return stats_beside(
+                alloc, registry, graph, moved, old, old_logs, course, superstep, bundles, before,
+            );
+        }
+    }
+    stats_after(
+        alloc,
+        registry,
+        graph,
+        course,
+        superstep,
+        bundles,
+        &stats[place],
+    )
+}

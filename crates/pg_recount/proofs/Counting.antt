@@ -1,0 +1,54 @@
+-- Censuses of more vertices.
+use Rattle.std.proofs.Common.{◌≡◌, ℕ, cond, not, Bool, true, false, List, [], ◌∷◌, ◌++◌, length, refl, ap, subst, sym, ◌∙◌, zero-add, sum_by}
+use Rattle.std.proofs.lemmas.List.{length-append}
+use Rattle.std.proofs.lemmas.Grind.{flat_map-append}
+use Rattle.std.proofs.lemmas.List.Sums.{sum_by-append}
+use Rattle.std.specs.Option.{option_to_list}
+use Rattle.pg_model.specs.declared.configuration.VertexState.{VertexState}
+use Rattle.pg_recount.specs.Census.{IsSum, of_one, states_among}
+use Rattle.pg_stats.specs.Stats.{census_of}
+use Rattle.pg_stats.specs.declared.stats.Census.{Census}
+use Rattle.pg_trace.specs.Trace.{Trace, state_at}
+
+pub same_sum : (a b c d : Census) → IsSum a b c → IsSum a b d → c ≡ d
+same_sum a b c d h k =
+    let v : c.vertices ≡ d.vertices = h.vertices ∙ sym k.vertices in
+    let e : c.edges ≡ d.edges = h.edges ∙ sym k.edges in
+    let w : c.awake ≡ d.awake = h.awake ∙ sym k.awake in
+    λ i. record { vertices = v i; edges = e i; awake = w i }
+
+module _ {V : Type 0} where
+  pub census-append : (xs ys : List (VertexState V)) → IsSum (census_of xs) (census_of ys) (census_of (xs ++ ys))
+  census-append xs ys = record {
+    vertices = length-append xs ys;
+    edges = sum_by-append (λ (x : VertexState V). length x.edges) xs ys;
+    awake = sum_by-append (λ (x : VertexState V). cond (not x.halted) 1 0) xs ys;
+  }
+
+  one : (x : VertexState V) → census_of (x ∷ []) ≡ of_one (length x.edges) x.halted
+  one x =
+      let e : sum_by (λ (y : VertexState V). length y.edges) (x ∷ []) ≡ length x.edges = zero-add (length x.edges) in
+      let w : sum_by (λ (y : VertexState V). cond (not y.halted) 1 0) (x ∷ []) ≡ cond x.halted 0 1 = zero-add (cond (not x.halted) 1 0) ∙ by x.halted in
+      λ i. record { vertices = 1; edges = e i; awake = w i }
+    where
+      by : (b : Bool) → cond {A = ℕ} (not b) 1 0 ≡ cond b 0 1
+      by true = refl
+      by false = refl
+
+  -- with one vertex more
+  pub census_push : (xs : List (VertexState V)) (x : VertexState V) (after : Census) → IsSum (census_of xs) (of_one (length x.edges) x.halted) after
+      → after ≡ census_of (xs ++ x ∷ [])
+  census_push xs x after h =
+      same_sum (census_of xs) (of_one (length x.edges) x.halted) after (census_of (xs ++ x ∷ [])) h
+      (subst (λ (c : Census). IsSum (census_of xs) c (census_of (xs ++ x ∷ []))) (one x) (census-append xs (x ∷ [])))
+
+  module _ {M : Type 0} (s : ℕ) (trace : Trace V M) where
+    -- with the state of one id more, if it has one
+    pub among_push : (ids : List ℕ) (id : ℕ) (after : Census) → IsSum (census_of (states_among s ids trace)) (census_of (states_among s (id ∷ []) trace)) after
+        → after ≡ census_of (states_among s (ids ++ id ∷ []) trace)
+    among_push ids id after h =
+        let more : states_among s (ids ++ id ∷ []) trace ≡ states_among s ids trace ++ states_among s (id ∷ []) trace =
+        flat_map-append (λ k. option_to_list (state_at k s trace)) ids (id ∷ []) in
+        same_sum (census_of (states_among s ids trace)) (census_of (states_among s (id ∷ []) trace)) after _ h
+        (census-append (states_among s ids trace) (states_among s (id ∷ []) trace))
+        ∙ ap census_of (sym more)

@@ -1,0 +1,7 @@
+pub mod Afresh
+pub mod Counting
+pub mod LawsCensus
+pub mod LawsOfRun
+pub mod LawsTraffic
+pub mod Passing
+pub mod Sums

@@ -1,0 +1,67 @@
+-- The messages of more bundles.
+use Rattle.std.proofs.Common.{◌≡◌, ℕ, ◌+◌, List, [], ◌∷◌, ◌++◌, map, refl, ap, ap₂, sym, ◌∙◌, sum_by, zero-add, Bool, cond, length, Option, Some}
+use Rattle.std.proofs.lemmas.List.{map-append}
+use Rattle.std.proofs.lemmas.List.Sums.{sum_by_push}
+use Rattle.pg_graph.specs.Rows.{Rows}
+use Rattle.pg_graph.specs.declared.missing.Missing.{Missing}
+use Rattle.pg_graph.specs.declared.missing.Missing.TheVariants.{Drop, Create}
+use Rattle.pg_inbox.specs.Bundles.{Parcels, parcels_in}
+use Rattle.pg_inbox.specs.Inboxes.{letters_at}
+use Rattle.pg_inbox.specs.Logged.{Slots, slot_at}
+use Rattle.std.specs.List.{range_with_len, slice_get}
+use Rattle.std.specs.Option.{option_map}
+use Rattle.std.proofs.lemmas.List.FromFn.{sum_by-map-range_with_len_more}
+use Rattle.pg_inbox.specs.Counting.{messages_where}
+use Rattle.pg_inbox.specs.declared.logs.Logged.{Logged}
+use Rattle.pg_recount.specs.Traffic.{IsWithBundle, bundle_at, dropped_of, is_any, is_nobody, messages_among, traffic_of, turned, turned_at}
+use Rattle.pg_stats.specs.declared.stats.Traffic.{Traffic}
+
+module _ {M : Type 0} (rows : Rows) where
+  dropped_push : (missing : Missing) (bs : List (Parcels M)) (b : Parcels M) → dropped_of missing rows (bs ++ b ∷ []) ≡ dropped_of missing rows bs + dropped_of missing rows (b ∷ [])
+  dropped_push Drop bs b =
+      sum_by_push (messages_where (is_nobody rows)) bs b
+      ∙ ap (λ n. dropped_of Drop rows bs + n) (sym (zero-add (messages_where (is_nobody rows) b)))
+  dropped_push Create bs b = refl
+
+  pub traffic_push : (missing : Missing) (ls : List (Logged M)) (l : Logged M) (after : Traffic)
+      → IsWithBundle missing rows l.bundle (traffic_of missing rows (map (λ l. l.bundle) ls)) after
+      → after ≡ traffic_of missing rows (map (λ l. l.bundle) (ls ++ l ∷ []))
+  traffic_push missing ls l after h =
+      let bs : List (Parcels M) = map (λ (l : Logged M). l.bundle) ls in
+      let e : bs ++ l.bundle ∷ [] ≡ map (λ (l : Logged M). l.bundle) (ls ++ l ∷ []) = sym (map-append (λ (l : Logged M). l.bundle) ls (l ∷ [])) in
+      let sent : after.sent ≡ sum_by (messages_where is_any) (bs ++ l.bundle ∷ []) = h.sent ∙ sym (sum_by_push (messages_where is_any) bs l.bundle) in
+      let dropped : after.dropped ≡ dropped_of missing rows (bs ++ l.bundle ∷ []) = h.dropped ∙ sym (dropped_push missing bs l.bundle) in
+      (λ i. record { sent = sent i; dropped = dropped i }) ∙ ap (traffic_of missing rows) e
+
+-- a sum over one number more
+pub sum_range : (n : ℕ) (at : ℕ → ℕ) → sum_by at (range_with_len 0 (n + 1)) ≡ sum_by at (range_with_len 0 n) + at n
+sum_range n at =
+    ap (sum_by at) (sym (map_same (range_with_len 0 (n + 1))))
+    ∙ (sum_by-map-range_with_len_more at (λ k. k) 0 n n (zero-add n)
+    ∙ ap (λ l. sum_by at l + at n) (map_same (range_with_len 0 n)))
+  where
+    map_same : (ks : List ℕ) → map (λ k. k) ks ≡ ks
+    map_same [] = refl
+    map_same (k ∷ ks) = ap (◌∷◌ k) (map_same ks)
+
+module _ {M : Type 0} where
+  -- the messages to one id more
+  pub among_push : (picks : ℕ → Bool) (ids : List ℕ) (id : ℕ) (parcels : Parcels M)
+      → messages_among picks (ids ++ id ∷ []) parcels ≡ messages_among picks ids parcels + cond (picks id) (length (letters_at id parcels)) 0
+  among_push picks ids id parcels = sum_by_push (λ k. cond (picks k) (length (letters_at k parcels)) 0) ids id
+
+  -- what has turned at one receiver more
+  pub turned_more : (count : Parcels M → Logged M → ℕ) (logs : Slots M) (s p : ℕ) (bundles : List (Logged M)) (q : ℕ) (logged : Logged M)
+      → slice_get bundles q ≡ Some logged
+      → turned count logs s p bundles (q + 1) ≡ turned count logs s p bundles q + count (bundle_at (slot_at logs s p q)) logged
+  turned_more count logs s p bundles q logged e =
+      let at : ℕ → ℕ = λ k. turned_at count (slot_at logs s p k) (slice_get bundles k) in
+      sum_range q at ∙ ap (λ (n : Option (Logged M)). turned count logs s p bundles q + turned_at count (slot_at logs s p q) n) e
+
+  -- so a count goes on
+  pub turned_on : (count : Parcels M → Logged M → ℕ) (logs : Slots M) (s p : ℕ) (bundles : List (Logged M)) (q : ℕ) (logged : Logged M)
+      → slice_get bundles q ≡ Some logged → (before : Option (Parcels M)) → before ≡ option_map (λ l. l.bundle) (slot_at logs s p q)
+      → (a here after : ℕ) → a ≡ turned count logs s p bundles q → here ≡ count (parcels_in before) logged → after ≡ a + here
+      → after ≡ turned count logs s p bundles (q + 1)
+  turned_on count logs s p bundles q logged e before b a here after so_far h k =
+      k ∙ (ap₂ ◌+◌ so_far (h ∙ ap (λ (o : Option (Parcels M)). count (parcels_in o) logged) b) ∙ sym (turned_more count logs s p bundles q logged e))

@@ -1,0 +1,3 @@
+pub mod Census
+pub mod Contributed
+pub mod Traffic

@@ -1,0 +1,11 @@
+//! What changes make of a partition's stats: a new run's are had from an old one's, or from the superstep before.
+#![tactic(auto)]
+
+mod gathering;
+mod messages;
+mod vertices;
+
+pub use gathering::{contribute_alike, contributions, gathered};
+pub use messages::{traffic, traffic_beside};
+pub use pg_graph::Memory;
+pub use vertices::{census, census_among, recounted};

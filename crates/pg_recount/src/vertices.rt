@@ -1,0 +1,101 @@
+//! How many vertices there are, from how many there were.
+ghost use Rattle.std.specs.Prelude.{◌≡◌, [], ◌∷◌, ◌+◌, not, length, cond, IfOk};
+ghost use Rattle.pg_recount.specs.Census.{IsRecounted, IsSum, of_none, of_one, states_among};
+ghost use Rattle.pg_stats.specs.Stats.{census_of};
+
+use pg_graph::{Memory, Superstep, VertexId};
+use pg_model::VertexState;
+use pg_program::Plain;
+use pg_stats::Census;
+use pg_trace::Trace;
+use std::alloc::AllocError;
+
+/// The census of these vertices.
+#[tactic(auto, using(crate::proofs::Counting::census_push))]
+pub fn census<V: Plain>(states: &[VertexState<V>]) -> Result<Census, Memory>
+    ensures { IfOk result (λ census. census ≡ census_of states.now) }
+{
+    let mut census = nobody();
+    for state in states {
+        census = with_vertex(census, state.edges.as_slice().len(), state.halted)?;
+    }
+    Ok(census)
+}
+
+/// The census of those of these vertices that have a state as a superstep begins. Costs a look-up for each.
+#[tactic(auto, using(crate::proofs::Counting::among_push))]
+pub fn census_among<V: Plain, M: Plain>(
+    trace: &Trace<V, M>,
+    superstep: Superstep,
+    ids: &[VertexId],
+) -> Result<Census, Memory>
+    ensures { IfOk result (λ census. census ≡ census_of (states_among superstep ids.now trace.now)) }
+{
+    let mut census = nobody();
+    for id in ids {
+        census = with_vertex_at(census, trace, superstep, *id)?;
+    }
+    Ok(census)
+}
+
+/// The census of before, without those that are gone and with those that have come.
+pub fn recounted(before: Census, gone: Census, come: Census) -> Result<Census, Memory>
+    ensures { IfOk result (λ after. IsRecounted before gone come after) }
+{
+    Ok(Census {
+        vertices: moved(before.vertices, gone.vertices, come.vertices)?,
+        edges: moved(before.edges, gone.edges, come.edges)?,
+        awake: moved(before.awake, gone.awake, come.awake)?,
+    })
+}
+
+/// A count without some and with others. No memory holds more than fit the count.
+pub(crate) fn moved(before: u64, gone: u64, come: u64) -> Result<u64, Memory>
+    ensures { IfOk result (λ after. after + gone ≡ before + come) }
+{
+    let sum = before.checked_add(come).ok_or(AllocError)?;
+    sum.checked_sub(gone).ok_or(AllocError)
+}
+
+/// The census of nobody.
+fn nobody() -> Census
+    ensures { result ≡ of_none }
+{
+    Census {
+        vertices: 0,
+        edges: 0,
+        awake: 0,
+    }
+}
+
+/// With one vertex more. No memory holds more edges than fit the count.
+fn with_vertex(census: Census, degree: usize, halted: bool) -> Result<Census, Memory>
+    ensures { IfOk result (λ after. IsSum census (of_one degree halted) after) }
+{
+    Ok(Census {
+        vertices: census.vertices.checked_add(1).ok_or(AllocError)?,
+        edges: census.edges.checked_add(degree as u64).ok_or(AllocError)?,
+        awake: census.awake.checked_add(one_if(!halted)).ok_or(AllocError)?,
+    })
+}
+
+/// With one vertex more, where it has a state.
+fn with_vertex_at<V: Plain, M: Plain>(
+    census: Census,
+    trace: &Trace<V, M>,
+    superstep: Superstep,
+    id: VertexId,
+) -> Result<Census, Memory>
+    ensures { IfOk result (λ after. IsSum census (census_of (states_among superstep (id ∷ []) trace.now)) after) }
+{
+    match trace.state_at(id, superstep) {
+        Some(state) => with_vertex(census, state.edges().as_slice().len(), state.halted()),
+        None => Ok(census),
+    }
+}
+
+fn one_if(counts: bool) -> u64
+    ensures { result ≡ cond counts 1 0 }
+{
+    if counts { 1 } else { 0 }
+}

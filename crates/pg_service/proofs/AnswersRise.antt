@@ -1,0 +1,23 @@
+-- The ids of an answer rise.
+use Rattle.std.proofs.Common.{◌≡◌, ℤ, List, [], ◌∷◌, map, refl, ap, sym, subst}
+use Rattle.std.specs.List.Sorted.{IsStrictlySortedBy}
+use Rattle.std.specs.Map.{keys_of}
+use Rattle.std.specs.Ordering.{nat_cmp}
+use Rattle.pg_graph.specs.Rows.{HasRisingIds, Rows}
+use Rattle.pg_model.specs.Job.{Job}
+use Rattle.pg_model.specs.Run.{answer, configuration, run_length}
+use Rattle.pg_model.specs.Superstep.{ids}
+use Rattle.pg_model.specs.declared.configuration.Standing.{Standing}
+use Rattle.pg_model.proofs.LawsIds.{in_order}
+use Rattle.pg_service.specs.Answers.{HaveRisingIds}
+
+keys-values : (xs : List (Standing ℤ ℤ)) → keys_of (map (λ (x : Standing ℤ ℤ). (x.state.id, x.state.value)) xs) ≡ ids xs
+keys-values [] = refl
+keys-values (x ∷ xs) = ap (λ is. x.state.id ∷ is) (keys-values xs)
+
+-- where the ids of the rows rise
+pub answer_rises : (own : Job ℤ ℤ) (rows : Rows) → HasRisingIds rows → HaveRisingIds (answer own rows).values
+unfolding answer
+answer_rises own rows rising =
+    subst (IsStrictlySortedBy nat_cmp) (sym (keys-values (configuration own rows (run_length own rows)).standings))
+    (in_order own rows rising (run_length own rows)).standings

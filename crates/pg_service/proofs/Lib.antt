@@ -1,0 +1,3 @@
+pub mod AnswersRise
+pub mod OnlyMemory
+pub mod ReportTexts

@@ -1,0 +1,27 @@
+-- What is asked of published answers.
+use Rattle.std.specs.Prelude.{ℕ, ℤ, List, Option, slice_get}
+use Rattle.std.specs.BTreeMap.{is_at}
+use Rattle.std.specs.List.Sorted.{IsStrictlySortedBy}
+use Rattle.std.specs.Map.{lookup, keys_of}
+use Rattle.std.specs.Option.{option_and_then}
+use Rattle.std.specs.Ordering.{nat_cmp}
+use Rattle.pg_global.specs.Registry.{Registered, place_of}
+use Rattle.pg_model.specs.Publications.{Publication}
+
+-- what was published, with the names of its aggregates in the order of their places
+pub record Answered : Type 0 where
+  pub publication : Publication ℤ
+  pub registered : Registered
+
+-- the ids rise
+abbrev pub HaveRisingIds : List (ℕ × ℤ) → Type 0
+HaveRisingIds values = IsStrictlySortedBy nat_cmp (keys_of values)
+
+-- the value of a vertex, if it has one
+abbrev pub value_of : ℕ → List (ℕ × ℤ) → Option ℤ
+value_of id values = lookup (is_at (nat_cmp id)) values
+
+-- the aggregate of this name, if there is one
+abbrev pub aggregate_of : List ℕ → Registered → List ℤ → Option ℤ
+aggregate_of name registered aggregates =
+    option_and_then (slice_get aggregates) (place_of name registered)

@@ -1,0 +1,4 @@
+pub mod Answers
+pub mod Printed
+pub mod ReportJson
+pub mod Service

@@ -1,0 +1,149 @@
+//! What a refresh publishes, and what it tells.
+ghost use Rattle.std.specs.Prelude.{◌≡◌};
+ghost use Rattle.std.specs.Bool.{Decides};
+ghost use Rattle.std.specs.Option.{option_copied};
+ghost use Rattle.pg_service.specs.Answers.{HaveRisingIds, aggregate_of, value_of};
+
+use pg_global::Registry;
+use pg_graph::{Edition, VertexId};
+use pg_model::{Ending, Run};
+use std::marker::Model;
+
+/// What a refresh has published: the edition of the graph that it ran on, and the answer of the
+/// run, with its aggregates by name.
+#[derive(Drop)]
+pub struct Answers {
+    edition: Edition,
+    run: Run<i64>,
+    registry: Registry,
+}
+
+impl Model for Answers {
+    ghost use Rattle.pg_service.specs.Answers.{Answered, HaveRisingIds};
+
+    ghost Value = { Answered };
+
+    ghost view = { λ a. record {
+      publication = record { edition = a.edition; answer = a.run };
+      registered = a.registry;
+    } };
+
+    ghost invariant = { λ a. HaveRisingIds a.run.values };
+}
+
+impl Answers {
+    /// The answer of the run on this edition of a graph. Its aggregates have the names of the
+    /// registry.
+    pub(crate) fn new(edition: Edition, run: Run<i64>, registry: Registry) -> Answers
+        requires { HaveRisingIds run.values }
+        ensures { result ≡ record {
+          publication = record { edition = edition; answer = run };
+          registered = registry;
+        } }
+    {
+        Answers {
+            edition,
+            run,
+            registry,
+        }
+    }
+
+    /// The edition of the graph that the run was made on.
+    pub fn edition(&self) -> Edition
+        ensures { result ≡ self.now.publication.edition }
+    {
+        self.edition
+    }
+
+    /// The value of each vertex, by rising id.
+    pub fn values(&self) -> &[(VertexId, i64)]
+        ensures value { result.now ≡ self.now.publication.answer.values }
+        ensures rising { HaveRisingIds result.now }
+    {
+        self.run.values.as_slice()
+    }
+
+    /// The value of a vertex, found by halving.
+    pub fn value(&self, id: VertexId) -> Option<&i64>
+        ensures { option_copied result ≡ value_of id self.now.publication.answer.values }
+    {
+        let values = self.values();
+        match values.binary_search_by_key(&id, |entry| entry.0) {
+            Ok(place) => Some(&values[place].1),
+            Err(_) => None,
+        }
+    }
+
+    /// The aggregate of this name. Costs what reading the name costs.
+    pub fn aggregate(&self, name: &str) -> Option<i64>
+        ensures { result
+            ≡ aggregate_of name.now self.now.registered self.now.publication.answer.aggregates }
+    {
+        let place = self.registry.place(name)?;
+        let aggregates = self.run.aggregates.as_slice();
+        aggregates.get(usize::from(place.number())).copied()
+    }
+
+    /// The answer of the run, with its aggregates by place.
+    pub fn run(&self) -> &Run<i64>
+        ensures { result.now ≡ self.now.publication.answer }
+    {
+        &self.run
+    }
+}
+
+/// What a refresh did: on which edition it ran, how many supersteps were executed and why the run
+/// ended, how many messages were sent, before combining, and how many of them dropped, and how many
+/// times compute was called. The last three stop at 2^64 - 1.
+#[derive(Clone, Copy, Debug, PartialEq, Eq)]
+pub struct Report {
+    pub edition: Edition,
+    pub supersteps: u32,
+    pub ending: Ending,
+    pub sent: u64,
+    pub dropped: u64,
+    pub calls: u64,
+}
+
+/// Whether these are the answers of a run: its values, aggregates, ending and counts. The edition
+/// isn't looked at.
+pub fn same(answers: &Answers, run: &Run<i64>) -> bool
+    ensures { Decides result (answers.now.publication.answer ≡ run.now) }
+{
+    let own = answers.run();
+    if !are_same_values(own.values.as_slice(), run.values.as_slice()) {
+        return false;
+    }
+    if !are_same_aggregates(own.aggregates.as_slice(), run.aggregates.as_slice()) {
+        return false;
+    }
+    if own.ending != run.ending || own.supersteps != run.supersteps {
+        return false;
+    }
+    own.sent == run.sent && own.dropped == run.dropped
+}
+
+/// Whether these are the same ids with the same values.
+fn are_same_values(own: &[(VertexId, i64)], others: &[(VertexId, i64)]) -> bool
+    ensures { Decides result (own.now ≡ others.now) }
+{
+    own == others
+}
+
+/// Whether these are the same aggregates.
+fn are_same_aggregates(own: &[i64], others: &[i64]) -> bool
+    ensures { Decides result (own.now ≡ others.now) }
+{
+    own == others
+}
+
+/// What a check has found.
+#[derive(Clone, Copy, Debug, PartialEq, Eq)]
+pub enum Check {
+    /// What was published is of another edition, or nothing was published.
+    Stale,
+    /// It is the answer of the run from scratch, which calls compute so many times.
+    Same(u64),
+    /// It is another answer than that of the run from scratch, which calls compute so many times.
+    Different(u64),
+}

@@ -1,0 +1,2 @@
+pub mod GlobalStats
+pub mod Stats

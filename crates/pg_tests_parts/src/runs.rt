@@ -1,0 +1,219 @@
+ghost use Rattle.std.specs.Prelude.{◌≡◌, ℕ, ◌<◌, [], true, None, IsSome, IfOk};
+ghost use Rattle.pg_core.specs.Progress.{part_at};
+ghost use Rattle.pg_global.specs.Master.{is_registered};
+ghost use Rattle.pg_global.specs.Registry.{first_refusal};
+
+use pg_core::{Core, Event, Limits};
+use pg_global::{AnyCombiner, MasterCompute, MessageCombiner, NoMaster};
+use pg_graph::{Batch, Edit, Graph, Memory, Missing, PartitionId, Superstep, VertexId, WorkerId};
+use pg_model::Run;
+use pg_program::{Computation, Meter, Tally};
+use std::alloc::{AllocError, Global};
+use std::process::Abort;
+use std::test::Fail;
+
+fn id(number: u64) -> Result<VertexId, Fail> {
+    Ok(VertexId::new(number).ok_or("a number above 2^63 - 1")?)
+}
+
+// The graph of these vertices with their inputs, and of these edges.
+fn graph_of(alloc: Global, vertices: &[(u64, i64)], edges: &[(u64, u64)]) -> Result<Graph, Fail> {
+    let mut batch = Batch::new(alloc);
+    for (number, input) in vertices {
+        batch.push(Edit::AddVertex(id(*number)?, *input))?;
+    }
+    for (source, target) in edges {
+        batch.push(Edit::AddEdge(id(*source)?, id(*target)?, 1))?;
+    }
+    let mut graph = Graph::new(alloc);
+    graph.apply(alloc, &batch)?;
+    Ok(graph)
+}
+
+// One step of a partition that is ready.
+fn step_once<P: Computation, C: MessageCombiner<P::Message>, M: MasterCompute>(
+    alloc: Global,
+    core: &mut Core<'_, P, C, M>,
+    partition: PartitionId,
+    meter: &mut Meter,
+) -> Result<(), Memory> {
+    if !core.is_ready(partition) {
+        return Err(AllocError);
+    }
+    core.step_ready(alloc, partition, meter)
+}
+
+// A core with so many partitions on two workers, to which nothing has happened.
+fn opened<'a>(
+    alloc: Global,
+    graph: &'a Graph,
+    partitions: u32,
+) -> Result<Core<'a, Tally, AnyCombiner, NoMaster>, Fail>
+    ensures { IfOk result (λ core. (p : ℕ) → p < core.limits.partitions → IsSome (part_at p core)) }
+{
+    let limits = Limits::new(partitions, 2, 10, 0, 0).ok_or("no such limits")?;
+    let core = Core::open(
+        alloc,
+        graph,
+        &Tally,
+        &AnyCombiner::NoCombiner,
+        &NoMaster,
+        limits,
+        7,
+    )?;
+    Ok(core)
+}
+
+#[test]
+fn a_core_opens_with_all_partitions_ready(rt: HostRuntime) -> Result<(), Fail> {
+    let alloc = rt.alloc();
+    let graph = graph_of(alloc, &[(1, 10), (2, 20), (3, 0)], &[(1, 3), (2, 3)])?;
+    let core = opened(alloc, &graph, 3)?;
+    let ready = core.ready(alloc)?;
+    let (zero, one) = (WorkerId::new(0), WorkerId::new(1));
+    let (first, second, third) = (
+        PartitionId::new(0),
+        PartitionId::new(1),
+        PartitionId::new(2),
+    );
+    assert_eq!(rt;
+        ready.as_slice(),
+        [(zero, first), (one, second), (zero, third)].as_slice()
+    );
+    assert_eq!(rt; core.visible(Superstep::new(0)).total_edges, 2);
+    Ok(())
+}
+
+#[test]
+fn partitions_step_in_any_order(rt: HostRuntime) -> Result<(), Fail> {
+    let alloc = rt.alloc();
+    let graph = graph_of(alloc, &[(1, 10), (2, 20), (3, 0)], &[(1, 3), (2, 3)])?;
+    let mut core = opened(alloc, &graph, 2)?;
+    let mut meter = Meter::new();
+    let (first, second) = (PartitionId::new(0), PartitionId::new(1));
+    step_once(alloc, &mut core, second, &mut meter)?;
+    assert!(rt; !core.is_ready(second));
+    step_once(alloc, &mut core, first, &mut meter)?;
+    assert_eq!(rt;
+        core.history(),
+        [Event::Step(second), Event::Step(first)].as_slice()
+    );
+    assert_eq!(rt; meter.count(), 3);
+    Ok(())
+}
+
+// What a whole run gives: by rising id each vertex with how many messages came to it, or else its input; and how many
+// calls of compute it took.
+fn whole(alloc: Global, graph: &Graph, partitions: u32) -> Result<(Vec<(u64, i64)>, u64), Fail> {
+    let mut core = opened(alloc, graph, partitions)?;
+    let mut meter = Meter::new();
+    core.run_out(alloc, &mut meter)?;
+    let (run, _) = core.finish(alloc)?;
+    let mut values = Vec::new(alloc);
+    for (id, value) in run.values.as_slice() {
+        values.push((id.number(), value.0))?;
+    }
+    Ok((values, meter.count()))
+}
+
+#[test]
+fn however_many_partitions_run_to_the_same_end(rt: HostRuntime) -> Result<(), Fail> {
+    let alloc = rt.alloc();
+    let graph = graph_of(alloc, &[(1, 10), (2, 20), (3, 0)], &[(1, 3), (2, 3)])?;
+    for partitions in 1..4 {
+        let (values, calls) = whole(alloc, &graph, partitions)?;
+        assert_eq!(rt; values.as_slice(), [(1, 10), (2, 20), (3, 2)].as_slice());
+        assert_eq!(rt; calls, 4);
+    }
+    Ok(())
+}
+
+// How many calls of compute a run takes beside a whole one on the same graph, and its answer.
+fn again<'a, P: Computation, C: MessageCombiner<P::Message>, M: MasterCompute>(
+    alloc: Global,
+    graph: &'a Graph,
+    program: &'a P,
+    combiner: &'a C,
+    master: &'a M,
+    limits: Limits,
+) -> Result<(Run<P::Value>, u64), Memory>
+    requires lawful { first_refusal [] (M.master master.now).registrations ≡ None }
+    requires registered { is_registered (P.program program.now) (M.master master.now) ≡ true }
+{
+    let mut first = Core::open(alloc, graph, program, combiner, master, limits, 7)?;
+    let mut before = Meter::new();
+    first.run_out(alloc, &mut before)?;
+    let (_, left) = first.finish(alloc)?;
+    let mut second = Core::open_beside(
+        alloc,
+        graph,
+        left,
+        &[],
+        program,
+        combiner,
+        master,
+        limits,
+        8,
+    )?;
+    let mut meter = Meter::new();
+    second.run_out(alloc, &mut meter)?;
+    let (run, _) = second.finish(alloc)?;
+    Ok((run, meter.count()))
+}
+
+// The same of the sample program: by rising id each vertex with how many messages came to it, or else its input.
+fn tally_again(
+    alloc: Global,
+    graph: &Graph,
+    partitions: u32,
+) -> Result<(Vec<(u64, i64)>, u64), Fail> {
+    let limits = Limits::new(partitions, 2, 10, 0, 0).ok_or("no such limits")?;
+    let (run, calls) = again(
+        alloc,
+        graph,
+        &Tally,
+        &AnyCombiner::NoCombiner,
+        &NoMaster,
+        limits,
+    )?;
+    let mut values = Vec::new(alloc);
+    for (id, value) in run.values.as_slice() {
+        values.push((id.number(), value.0))?;
+    }
+    Ok((values, calls))
+}
+
+#[test]
+fn beside_itself_a_run_calls_nothing(rt: HostRuntime) -> Result<(), Fail> {
+    let alloc = rt.alloc();
+    let graph = graph_of(alloc, &[(1, 10), (2, 20), (3, 0)], &[(1, 3), (2, 3)])?;
+    let (values, calls) = tally_again(alloc, &graph, 2)?;
+    assert_eq!(rt; values.as_slice(), [(1, 10), (2, 20), (3, 2)].as_slice());
+    assert_eq!(rt; calls, 0);
+    Ok(())
+}
+
+#[test]
+fn limits_are_within_their_ranges(rt: HostRuntime) -> Result<(), Fail> {
+    let most = Limits::new(64, 16, 10_000, 1_000, 16).ok_or("the most")?;
+    assert_eq!(rt; most.partitions(), 64);
+    assert_eq!(rt; most.workers(), 16);
+    assert_eq!(rt; most.limit(), 10_000);
+    assert_eq!(rt; most.every(), 1_000);
+    assert_eq!(rt; most.max_losses(), 16);
+    assert_eq!(rt; most.missing(), Missing::Drop);
+    assert_eq!(rt;
+        most.with_missing(Missing::Create).missing(),
+        Missing::Create
+    );
+    assert!(rt; Limits::new(1, 1, 1, 0, 0).is_some());
+    assert!(rt; Limits::new(0, 1, 1, 0, 0).is_none());
+    assert!(rt; Limits::new(65, 1, 1, 0, 0).is_none());
+    assert!(rt; Limits::new(1, 0, 1, 0, 0).is_none());
+    assert!(rt; Limits::new(1, 17, 1, 0, 0).is_none());
+    assert!(rt; Limits::new(1, 1, 0, 0, 0).is_none());
+    assert!(rt; Limits::new(1, 1, 10_001, 0, 0).is_none());
+    assert!(rt; Limits::new(1, 1, 1, 1_001, 0).is_none());
+    assert!(rt; Limits::new(1, 1, 1, 0, 17).is_none());
+    Ok(())
+}

@@ -1,0 +1,14 @@
+//! Tests of the libraries that store vertices and messages, by their public calls: what no contract
+//! says.
+//!
+//! They stand in a crate of their own because a crate with tests is proved twice, once with them.
+#![tactic(auto)]
+
+#[cfg(test)]
+mod graph;
+#[cfg(test)]
+mod inbox;
+#[cfg(test)]
+mod map;
+#[cfg(test)]
+mod trace;
