@@ -8,18 +8,7 @@ set -eu
 bench=$(cd "$(dirname "$0")" && pwd)
 size=${1:-full}
 turns=${2:-5}
-case $size in
-  small) vertices=10000 edges=100000 ;;
-  full) vertices=100000 edges=1000000 ;;
-  *) echo "usage: compare.sh [small|full] [TURNS]" >&2; exit 2 ;;
-esac
-pregeld=${PREGELD:-$bench/../crates/pregeld_main/out/pregeld_main}
-if [ ! -x "$pregeld" ]; then
-  echo "build it first: cd crates/pregeld_main && rt run -- --program sssp < /dev/null" >&2
-  exit 2
-fi
-work=$(mktemp -d)
-trap 'rm -rf "$work"' EXIT
+. "$bench/setup.sh"
 rustc -O -o "$work/baseline" "$bench/baseline.rs"
 for shape in random grid; do
   python3 "$bench/workload.py" $shape $vertices $edges --no-refresh > "$work/$shape.import"

@@ -1,11 +1,12 @@
 #!/usr/bin/env python3
 """Writes a session for pregeld to standard output.
 
-workload.py SHAPE VERTICES EDGES [ROUNDS] [--no-refresh]
+workload.py SHAPE VERTICES EDGES [ROUNDS] [--no-refresh] [--one-refresh]
 
 SHAPE   random: EDGES edges between two vertices each, drawn at random; grid: a square of about VERTICES
         vertices, each joined to its neighbours both ways (EDGES is not read).
 ROUNDS  after the first refresh so many rounds: one edge is weighed anew, committed, and refreshed.
+--no-refresh    without any refresh; --one-refresh: without those of the rounds.
 
 Edges are imported in blocks of 25,000 lines, which no limit of a batch refuses. The same words give the
 same session."""
@@ -42,6 +43,7 @@ def main():
     words.add_argument("edges", type=int)
     words.add_argument("rounds", type=int, nargs="?", default=0)
     words.add_argument("--no-refresh", action="store_true")
+    words.add_argument("--one-refresh", action="store_true")
     asked = words.parse_args()
     draw = random.Random(2026)
     if asked.shape == "random":
@@ -58,7 +60,8 @@ def main():
     pairs = list(edges)
     for _ in range(asked.rounds):
         source, target = draw.choice(pairs)
-        said += ["import list 1", f"{source} {target} {draw.randint(1, 100)}", *refresh]
+        said += [f"reweigh {source} {target} {draw.randint(1, 100)}", "commit"]
+        said += [] if asked.one_refresh else refresh
     print("\n".join(said))
 
 

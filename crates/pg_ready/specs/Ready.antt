@@ -1,14 +1,10 @@
--- The ready programs with their masters, and the jobs that they make.
+-- The ready programs with their masters.
 use Rattle.std.specs.Prelude.{ℕ, ℤ, true, false, [], ◌∷◌, codes}
-use Rattle.pg_graph.specs.declared.missing.Missing.{Missing}
-use Rattle.pg_model.specs.Job.{Job, Program}
+use Rattle.pg_model.specs.Job.{Program}
 use Rattle.pg_model.specs.Programs.{sssp, cc, max_value, indegree, pagerank, pagerank_deciding, peel}
-use Rattle.pg_global.specs.Combiner.{combining_of}
-use Rattle.pg_global.specs.Master.{Master, leaves_all, job_of}
+use Rattle.pg_global.specs.Master.{Master, leaves_all}
 use Rattle.pg_global.specs.Registry.{Registered}
 use Rattle.pg_global.specs.declared.aggregator.AnyAggregator.TheVariants.{LongSum, LongMax}
-use Rattle.pg_global.specs.declared.combiner.AnyCombiner.TheVariants.{NoCombiner}
-use Rattle.pg_ready.specs.declared.ready.ReadyJob.{ReadyJob}
 use Rattle.pg_ready.specs.declared.ready.ReadyProgram.{ReadyProgram}
 use Rattle.pg_ready.specs.declared.ready.ReadyProgram.TheVariants.{Sssp, Cc, MaxValue, Indegree, Pagerank, Peel}
 
@@ -52,12 +48,3 @@ master_of (MaxValue p) = leaves_all greatest
 master_of (Indegree p) = leaves_all received
 master_of (Pagerank p) = pagerank_master p.eps
 master_of (Peel p) = leaves_all removed
-
--- the job of the command line: a ready program with its master, a combiner, a policy for messages to nobody, and a limit
-abbrev pub ready_job : ReadyJob → Job ℤ ℤ
-ready_job job = job_of (program_of job.program) (combining_of job.combiner) (master_of job.program) job.missing job.limit
-
--- shortest paths from a source, without a combiner
-abbrev pub shortest_paths : ℕ → Missing → ℕ → ReadyJob
-shortest_paths source missing limit =
-    record { program = Sssp (record { source = source }); combiner = NoCombiner; missing = missing; limit = limit }

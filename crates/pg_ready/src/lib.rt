@@ -16,5 +16,5 @@ pub use indegree::Indegree;
 pub use max::MaxValue;
 pub use pagerank::Pagerank;
 pub use peel::Peel;
-pub use ready::{ReadyJob, ReadyMaster, ReadyProgram};
+pub use ready::{ReadyMaster, ReadyProgram};
 pub use sssp::Sssp;

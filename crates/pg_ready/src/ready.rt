@@ -2,8 +2,8 @@
 ghost use Rattle.std.specs.Prelude.{◌≡◌};
 
 use crate::{Cc, Indegree, MaxValue, Pagerank, Peel, Sssp};
-use pg_global::{AnyAggregator, AnyCombiner, MasterCompute, MasterState, RegisterFault, Registry};
-use pg_graph::{Memory, Missing, VertexId};
+use pg_global::{AnyAggregator, MasterCompute, MasterState, RegisterFault, Registry};
+use pg_graph::{Memory, VertexId};
 use pg_program::{Computation, Cx, Declared, Vertex};
 use std::alloc::Global;
 
@@ -22,16 +22,6 @@ pub enum ReadyProgram {
     Pagerank(Pagerank),
     /// The vertices of a core.
     Peel(Peel),
-}
-
-/// A job of the command line: a ready program with its master, how messages are combined, what becomes of
-/// messages to ids that have no state, and the most supersteps of a run.
-#[derive(Clone, Copy, Debug, PartialEq, Eq)]
-pub struct ReadyJob {
-    pub program: ReadyProgram,
-    pub combiner: AnyCombiner,
-    pub missing: Missing,
-    pub limit: u32,
 }
 
 impl Computation for ReadyProgram {

@@ -9,6 +9,8 @@ mod made;
 #[cfg(test)]
 mod options;
 #[cfg(test)]
+mod partitions;
+#[cfg(test)]
 mod programs;
 #[cfg(test)]
 mod runs;

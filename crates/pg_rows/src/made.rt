@@ -1,13 +1,12 @@
 // Vertices that messages make, and totals that follow the run.
-ghost use Rattle.std.specs.Prelude.{◌<◌};
-
-use pg_global::{AnyCombiner, NoMaster};
-use pg_graph::{Batch, Edit, Edition, Graph, Missing, VertexId};
+use crate::runs::service_of;
+use pg_core::Limits;
+use pg_global::{AnyCombiner, MasterCompute, MessageCombiner, NoMaster};
+use pg_graph::{Batch, Edit, Edition, Missing, VertexId};
 use pg_model::{Ending, Run};
-use pg_program::{Computation, Meter, Shed};
-use pg_ready::{Pagerank, ReadyJob, ReadyProgram, Sssp};
-use pg_scratch::run;
-use pregeld::Service;
+use pg_program::{Computation, Shed};
+use pg_ready::{Pagerank, ReadyProgram, Sssp};
+use pregeld::{ReadyService, Service};
 use std::alloc::Global;
 use std::process::Abort;
 use std::test::Fail;
@@ -27,16 +26,14 @@ fn batch_of(alloc: Global, edits: &[Edit]) -> Result<Batch, Fail> {
 }
 
 // Shortest paths from 1.
-fn paths(rt: &impl Abort, missing: Missing, limit: u32) -> ReadyJob
-    requires { 0 < limit }
-    ensures { 0 < result.limit }
-{
-    ReadyJob {
-        program: ReadyProgram::Sssp(Sssp { source: id(rt, 1) }),
-        combiner: AnyCombiner::NoCombiner,
-        missing,
-        limit,
-    }
+fn paths(
+    rt: &impl Abort,
+    alloc: Global,
+    missing: Missing,
+    limit: u32,
+) -> Result<ReadyService, Fail> {
+    let program = ReadyProgram::Sssp(Sssp { source: id(rt, 1) });
+    service_of(alloc, program, 1, limit, missing)
 }
 
 // What an answer has: values, aggregates, ending and supersteps, sent and dropped.
@@ -64,13 +61,18 @@ fn is_answer(rt: &impl Abort, run: &Run<i64>, wanted: &Wanted<'_>) {
 }
 
 // A refresh takes so many calls, and publishes this.
-fn refreshes(
+fn refreshes<P, C, M>(
     rt: &impl Abort,
     alloc: Global,
-    service: &mut Service,
+    service: &mut Service<P, C, M>,
     calls: u64,
     wanted: &Wanted<'_>,
-) -> Result<(), Fail> {
+) -> Result<(), Fail>
+where
+    P: Computation<Value = i64>,
+    C: MessageCombiner<P::Message>,
+    M: MasterCompute,
+{
     let report = service.refresh(alloc)?;
     assert_eq!(rt;
         (report.calls, report.supersteps),
@@ -85,7 +87,7 @@ fn refreshes(
 fn created_and_then_added(rt: HostRuntime) -> Result<(), Fail> {
     let alloc = rt.alloc();
     let [one, two, three] = [id(&rt, 1), id(&rt, 2), id(&rt, 3)];
-    let mut service = Service::new(alloc, paths(&rt, Missing::Create, 1000));
+    let mut service = paths(&rt, alloc, Missing::Create, 1000)?;
     let edges = [
         Edit::AddVertex(one, 0),
         Edit::AddVertex(three, 0),
@@ -108,7 +110,7 @@ fn created_and_then_added(rt: HostRuntime) -> Result<(), Fail> {
     assert!(rt; input.is_err_and(|fault| fault.position == 1 && fault.kind.number() == 3));
     let vertex = service.edit(alloc, &batch_of(alloc, &[Edit::AddVertex(two, 0)])?);
     assert_eq!(rt; vertex.ok(), Some(Edition::new(2)));
-    refreshes(&rt, alloc, &mut service, 4, &wanted)
+    refreshes(&rt, alloc, &mut service, 1, &wanted)
 }
 
 #[test]
@@ -123,7 +125,7 @@ fn waiting_at_the_limit(rt: HostRuntime) -> Result<(), Fail> {
         (Missing::Drop, Ending::Finished, 1),
     ];
     for (missing, ending, dropped) in rows {
-        let mut service = Service::new(alloc, paths(&rt, missing, 1));
+        let mut service = paths(&rt, alloc, missing, 1)?;
         assert!(rt; service.edit(alloc, &batch_of(alloc, &edits)?).is_ok());
         let wanted = Wanted {
             values: &[(1, 0)],
@@ -141,13 +143,8 @@ fn waiting_at_the_limit(rt: HostRuntime) -> Result<(), Fail> {
 #[test]
 fn ranks_of_a_vertex_that_is_made(rt: HostRuntime) -> Result<(), Fail> {
     let alloc = rt.alloc();
-    let job = ReadyJob {
-        program: ReadyProgram::Pagerank(Pagerank { rounds: 2, eps: 0 }),
-        combiner: AnyCombiner::NoCombiner,
-        missing: Missing::Create,
-        limit: 1000,
-    };
-    let mut service = Service::new(alloc, job);
+    let program = ReadyProgram::Pagerank(Pagerank { rounds: 2, eps: 0 });
+    let mut service = service_of(alloc, program, 1, 1000, Missing::Create)?;
     let edits = [
         Edit::AddVertex(id(&rt, 1), 0),
         Edit::AddEdge(id(&rt, 1), id(&rt, 2), 1),
@@ -178,29 +175,36 @@ fn edges_are_shed(rt: HostRuntime) -> Result<(), Fail> {
         Edit::AddEdge(two, three, 1),
     ];
     let further = [
-        (Edit::SetInput(one, 0), 1),
-        (Edit::AddEdge(three, one, 1), 1),
-        (Edit::AddEdge(one, four, 1), 2),
+        (Edit::SetInput(one, 0), 1, 0),
+        (Edit::AddEdge(three, one, 1), 1, 3),
+        (Edit::AddEdge(one, four, 1), 2, 6),
     ];
-    for (edit, left) in further {
-        let mut graph = Graph::new(alloc);
-        assert!(rt; graph.apply(alloc, &batch_of(alloc, &first)?).is_ok());
-        assert!(rt; graph.apply(alloc, &batch_of(alloc, &[edit])?).is_ok());
-        let (combiner, missing) = (AnyCombiner::NoCombiner, Missing::Drop);
-        let mut meter = Meter::new();
-        let answer = run(
-            alloc, &graph, &Shed, &combiner, &NoMaster, missing, 1000, &mut meter,
-        );
-        let wanted = Wanted {
-            values: &[(1, left), (2, left), (3, left)],
-            aggregates: &[],
-            ending: Ending::Finished,
-            supersteps: 2,
-            sent: 0,
-            dropped: 0,
-        };
-        is_answer(&rt, &answer.expect(&rt, "an answer"), &wanted);
-        assert_eq!(rt; meter.count(), 6);
+    for (edit, left, calls) in further {
+        let limits = Limits::new(3, 1, 1000, 0, 0).ok_or("limits")?;
+        let mut service = Service::new(alloc, limits, Shed, AnyCombiner::NoCombiner, NoMaster)?;
+        assert!(rt; service.edit(alloc, &batch_of(alloc, &first)?).is_ok());
+        refreshes(
+            &rt,
+            alloc,
+            &mut service,
+            6,
+            &shed(&[(1, 1), (2, 1), (3, 1)]),
+        )?;
+        assert!(rt; service.edit(alloc, &batch_of(alloc, &[edit])?).is_ok());
+        let values = [(1, left), (2, left), (3, left)];
+        refreshes(&rt, alloc, &mut service, calls, &shed(&values))?;
     }
     Ok(())
+}
+
+// What is left where edges were shed.
+fn shed<'a>(values: &'a [(u64, i64)]) -> Wanted<'a> {
+    Wanted {
+        values,
+        aggregates: &[],
+        ending: Ending::Finished,
+        supersteps: 2,
+        sent: 0,
+        dropped: 0,
+    }
 }

@@ -1,12 +1,11 @@
-ghost use Rattle.std.specs.Prelude.{◌<◌};
-
+use pg_core::Limits;
 use pg_global::{AnyCombiner, NoMaster};
 use pg_graph::{Batch, Edit, Edition, Graph, Missing, VertexId};
 use pg_model::{Ending, Run};
 use pg_program::Meter;
-use pg_ready::{ReadyJob, ReadyMaster, ReadyProgram, Sssp};
+use pg_ready::{ReadyMaster, ReadyProgram, Sssp};
 use pg_scratch::{RunFault, run};
-use pregeld::{ServeFault, Service, serve, start};
+use pregeld::{ReadyService, ServeFault, Service, serve, start};
 use std::alloc::Global;
 use std::io::Write;
 use std::process::Abort;
@@ -156,16 +155,24 @@ fn id(number: u64) -> Result<VertexId, Fail> {
     Ok(VertexId::new(number).ok_or("a number above 2^63 - 1")?)
 }
 
+// A service of a ready program, on so many partitions.
+pub(crate) fn service_of(
+    alloc: Global,
+    program: ReadyProgram,
+    partitions: u32,
+    limit: u32,
+    missing: Missing,
+) -> Result<ReadyService, Fail> {
+    let limits = Limits::new(partitions, 1, limit, 0, 0).ok_or("limits")?;
+    let (limits, master) = (limits.with_missing(missing), ReadyMaster { program });
+    let service = Service::new(alloc, limits, program, AnyCombiner::NoCombiner, master)?;
+    Ok(service)
+}
+
 // Shortest paths from a source.
-pub(crate) fn shortest_paths(source: VertexId) -> ReadyJob
-    ensures { 0 < result.limit }
-{
-    ReadyJob {
-        program: ReadyProgram::Sssp(Sssp { source }),
-        combiner: AnyCombiner::NoCombiner,
-        missing: Missing::Drop,
-        limit: 1000,
-    }
+pub(crate) fn shortest_paths(alloc: Global, source: VertexId) -> Result<ReadyService, Fail> {
+    let program = ReadyProgram::Sssp(Sssp { source });
+    service_of(alloc, program, 1, 1000, Missing::Drop)
 }
 
 // The graph of 1 to 2 of weight 5 and 2 to 3 of weight 1.
@@ -218,7 +225,7 @@ fn runs(rt: HostRuntime) -> Result<(), Fail> {
 #[test]
 fn services(rt: HostRuntime) -> Result<(), Fail> {
     let alloc = rt.alloc();
-    let mut service = Service::new(alloc, shortest_paths(id(1)?));
+    let mut service = shortest_paths(alloc, id(1)?)?;
     assert!(&rt; service.answers().is_none());
     let batch = two_hops_batch(alloc)?;
     assert_eq!(&rt; service.edit(alloc, &batch).ok(), Some(Edition::new(1)));
@@ -236,7 +243,7 @@ fn services(rt: HostRuntime) -> Result<(), Fail> {
 #[test]
 fn a_writer_that_is_full(rt: HostRuntime) -> Result<(), Fail> {
     let alloc = rt.alloc();
-    let mut service = Service::new(alloc, shortest_paths(id(1)?));
+    let mut service = shortest_paths(alloc, id(1)?)?;
     let mut reader: &[u8] = TWO_HOPS;
     let mut room = [0_u8; 4];
     let mut writer = room.as_mut_slice();

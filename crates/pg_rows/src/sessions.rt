@@ -6,7 +6,7 @@ use pg_model::Run;
 use pg_program::Meter;
 use pg_ready::{ReadyMaster, ReadyProgram, Sssp};
 use pg_scratch::run;
-use pregeld::{Check, Service, same};
+use pregeld::{Check, same};
 use std::alloc::Global;
 use std::io::Write;
 use std::process::Abort;
@@ -17,7 +17,7 @@ use std::test::Fail;
 fn same_answers(rt: HostRuntime) -> Result<(), Fail> {
     let alloc = rt.alloc();
     let source = VertexId::new(1).ok_or("an id")?;
-    let mut service = Service::new(alloc, shortest_paths(source));
+    let mut service = shortest_paths(alloc, source)?;
     let first = two_hops_batch(alloc)?;
     assert!(&rt; service.edit(alloc, &first).is_ok());
     assert!(&rt; service.refresh(alloc).is_ok());
@@ -182,7 +182,7 @@ fn a_megabyte_of_zeros(rt: HostRuntime) -> Result<(), Fail> {
 fn by_calls(rt: HostRuntime) -> Result<(), Fail> {
     let alloc = rt.alloc();
     let source = VertexId::new(1).ok_or("an id")?;
-    let mut service = Service::new(alloc, shortest_paths(source));
+    let mut service = shortest_paths(alloc, source)?;
     let batch = two_hops_batch(alloc)?;
     assert!(&rt; service.edit(alloc, &batch).is_ok());
     let report = service.refresh(alloc).expect(&rt, "a report");

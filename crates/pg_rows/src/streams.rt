@@ -1,7 +1,7 @@
 // Sessions whose reader or writer fails in mid-stream.
 use crate::runs::shortest_paths;
 use pg_graph::VertexId;
-use pregeld::{ServeFault, Service, serve};
+use pregeld::{ReadyService, ServeFault, serve};
 use std::alloc::Global;
 use std::io;
 use std::io::{BufReader, Read, Write};
@@ -14,7 +14,7 @@ const INPUT: &[u8] =
     b"dump\n# a list\nimport list 2\n1 2 5\n2 3\nrefresh\nimport csv 1\n3,1\nfly\nrefresh\ndump\nedge 1 3 2\nget 3\nagg reached\ncommit\nreport\ncheck\n";
 
 const OUTPUT: &[u8] =
-    b"unpublished\nedition 1\nrefreshed edition 1 supersteps 3 ending finished calls 5 losses 0\nedition 2\nerror 1 line 9\nrefreshed edition 2 supersteps 4 ending finished calls 6 losses 0\nvalue 1 0\nvalue 2 5\nvalue 3 6\nend 3\nvalue 3 6\naggregate reached 3\nedition 3\n{\"calls\":6,\"dropped\":0,\"edition\":2,\"ending\":\"finished\",\"losses\":0,\"sent\":3,\"supersteps\":4}\ncheck stale\n";
+    b"unpublished\nedition 1\nrefreshed edition 1 supersteps 3 ending finished calls 5 losses 0\nedition 2\nerror 1 line 9\nrefreshed edition 2 supersteps 4 ending finished calls 3 losses 0\nvalue 1 0\nvalue 2 5\nvalue 3 6\nend 3\nvalue 3 6\naggregate reached 3\nedition 3\n{\"calls\":3,\"dropped\":0,\"edition\":2,\"ending\":\"finished\",\"losses\":0,\"sent\":3,\"supersteps\":4}\ncheck stale\n";
 
 // Gives its text a byte a call, and fails at the nth call.
 #[derive(Drop)]
@@ -77,7 +77,7 @@ struct Reached {
     published: Option<u64>,
 }
 
-fn reached_by(service: &Service) -> Reached {
+fn reached_by(service: &ReadyService) -> Reached {
     Reached {
         graph: service.edition().number(),
         published: service.answers().map(|answers| answers.edition().number()),
@@ -97,9 +97,9 @@ fn reached_after(lines: usize) -> Reached {
     Reached { graph, published }
 }
 
-fn service(alloc: Global) -> Result<Service, Fail> {
+fn service(alloc: Global) -> Result<ReadyService, Fail> {
     let source = VertexId::new(1).ok_or("an id")?;
-    Ok(Service::new(alloc, shortest_paths(source)))
+    shortest_paths(alloc, source)
 }
 
 // A session whose nth read fails has answered just the commands whose lines were read until then, each

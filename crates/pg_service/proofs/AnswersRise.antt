@@ -1,5 +1,5 @@
 -- The ids of an answer rise.
-use Rattle.std.proofs.Common.{◌≡◌, ℤ, List, [], ◌∷◌, map, refl, ap, sym, subst}
+use Rattle.std.proofs.Common.{◌≡◌, List, [], ◌∷◌, map, refl, ap, sym, subst}
 use Rattle.std.specs.List.Sorted.{IsStrictlySortedBy}
 use Rattle.std.specs.Map.{keys_of}
 use Rattle.std.specs.Ordering.{nat_cmp}
@@ -11,13 +11,14 @@ use Rattle.pg_model.specs.declared.configuration.Standing.{Standing}
 use Rattle.pg_model.proofs.LawsIds.{in_order}
 use Rattle.pg_service.specs.Answers.{HaveRisingIds}
 
-keys-values : (xs : List (Standing ℤ ℤ)) → keys_of (map (λ (x : Standing ℤ ℤ). (x.state.id, x.state.value)) xs) ≡ ids xs
-keys-values [] = refl
-keys-values (x ∷ xs) = ap (λ is. x.state.id ∷ is) (keys-values xs)
+module _ {V M : Type 0} where
+  keys-values : (xs : List (Standing V M)) → keys_of (map (λ (x : Standing V M). (x.state.id, x.state.value)) xs) ≡ ids xs
+  keys-values [] = refl
+  keys-values (x ∷ xs) = ap (λ is. x.state.id ∷ is) (keys-values xs)
 
--- where the ids of the rows rise
-pub answer_rises : (own : Job ℤ ℤ) (rows : Rows) → HasRisingIds rows → HaveRisingIds (answer own rows).values
-unfolding answer
-answer_rises own rows rising =
-    subst (IsStrictlySortedBy nat_cmp) (sym (keys-values (configuration own rows (run_length own rows)).standings))
-    (in_order own rows rising (run_length own rows)).standings
+  -- where the ids of the rows rise
+  pub answer_rises : (own : Job V M) (rows : Rows) → HasRisingIds rows → HaveRisingIds (answer own rows).values
+  unfolding answer
+  answer_rises own rows rising =
+      subst (IsStrictlySortedBy nat_cmp) (sym (keys-values (configuration own rows (run_length own rows)).standings))
+      (in_order own rows rising (run_length own rows)).standings

@@ -1,3 +1,5 @@
 pub mod AnswersRise
-pub mod OnlyMemory
+pub mod Finished
+pub mod Leading
 pub mod ReportTexts
+pub mod Untouched

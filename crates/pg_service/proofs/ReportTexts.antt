@@ -7,7 +7,7 @@ use Rattle.serde_json.specs.Written.{compact_text, has_float}
 use Rattle.serde_json.proofs.OnLiterals.{serde_json_on_literals}
 use Rattle.pg_service.specs.Printed.{json_text}
 use Rattle.pg_service.specs.ReportJson.{object_of}
-use Rattle.pg_service.specs.declared.answers.Report.{Report}
+use Rattle.pg_service.specs.declared.report.Report.{Report}
 
 -- whatever the ending
 by_ending : (report : Report) (ending : Ending) → compact_text (object_of (record report { ending = ending })) ≡ json_text (record report { ending = ending })

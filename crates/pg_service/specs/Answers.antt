@@ -9,16 +9,16 @@ use Rattle.pg_global.specs.Registry.{Registered, place_of}
 use Rattle.pg_model.specs.Publications.{Publication}
 
 -- what was published, with the names of its aggregates in the order of their places
-pub record Answered : Type 0 where
-  pub publication : Publication ℤ
+pub record Answered (V : Type 0) : Type 0 where
+  pub publication : Publication V
   pub registered : Registered
 
 -- the ids rise
-abbrev pub HaveRisingIds : List (ℕ × ℤ) → Type 0
+abbrev pub HaveRisingIds : {V : Type 0} → List (ℕ × V) → Type 0
 HaveRisingIds values = IsStrictlySortedBy nat_cmp (keys_of values)
 
 -- the value of a vertex, if it has one
-abbrev pub value_of : ℕ → List (ℕ × ℤ) → Option ℤ
+abbrev pub value_of : {V : Type 0} → ℕ → List (ℕ × V) → Option V
 value_of id values = lookup (is_at (nat_cmp id)) values
 
 -- the aggregate of this name, if there is one

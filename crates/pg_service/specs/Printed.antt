@@ -1,25 +1,16 @@
--- The texts of reports and checks.
-use Rattle.std.specs.Prelude.{ℕ, List, ◌++◌, decimal, codes}
+-- The texts of checks, and of reports as JSON.
+use Rattle.std.specs.Prelude.{ℕ, List, ◌++◌, length, decimal, codes}
 use Rattle.pg_model.specs.declared.run.Ending.{Ending}
 use Rattle.pg_model.specs.declared.run.Ending.TheVariants.{MasterHalted, Finished, LimitReached}
 use Rattle.pg_service.specs.declared.answers.Check.{Check}
 use Rattle.pg_service.specs.declared.answers.Check.TheVariants.{Stale, Same, Different}
-use Rattle.pg_service.specs.declared.answers.Report.{Report}
+use Rattle.pg_service.specs.declared.report.Report.{Report}
 
 -- the word for an ending
 abbrev pub ending_name : Ending → List ℕ
 ending_name MasterHalted = codes "halted"
 ending_name Finished = codes "finished"
 ending_name LimitReached = codes "limit"
-
--- the answer to a refresh
-unfoldable pub report_text : Report → List ℕ
-report_text report =
-    codes "refreshed edition " ++ (decimal report.edition
-    ++ (codes " supersteps " ++ (decimal report.supersteps
-    ++ (codes " ending " ++ (ending_name report.ending
-    ++ (codes " calls " ++ (decimal report.calls
-    ++ codes " losses 0")))))))
 
 -- the report of a refresh, as JSON
 unfoldable pub json_text : Report → List ℕ
@@ -28,9 +19,10 @@ json_text report =
     ++ (codes ",\"dropped\":" ++ (decimal report.dropped
     ++ (codes ",\"edition\":" ++ (decimal report.edition
     ++ (codes ",\"ending\":\"" ++ (ending_name report.ending
-    ++ (codes "\",\"losses\":0,\"sent\":" ++ (decimal report.sent
+    ++ (codes "\",\"losses\":" ++ (decimal (length report.losses)
+    ++ (codes ",\"sent\":" ++ (decimal report.sent
     ++ (codes ",\"supersteps\":" ++ (decimal report.supersteps
-    ++ codes "}")))))))))))
+    ++ codes "}")))))))))))))
 
 -- what a check has found
 abbrev pub check_text : Check → List ℕ

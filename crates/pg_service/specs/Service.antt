@@ -1,51 +1,39 @@
 -- What a service keeps, and what an edit and a refresh make of it.
-use Rattle.std.specs.Prelude.{◌≡◌, ◌⊎◌, ℕ, ℤ, ◌<◌, ◌≤◌, Bool, false, ◌==◌, nat_lt, if◌then◌else◌}
-use Rattle.std.specs.Prelude.{List, [], length, Option, None, Some, Result, Err}
-use Rattle.std.specs.Ordering.{int_eq}
+use Rattle.std.specs.Prelude.{◌≡◌, ◌⊎◌, ℕ, ◌<◌, ◌≤◌, Bool, false, ◌==◌, nat_lt, if◌then◌else◌}
+use Rattle.std.specs.Prelude.{List, [], length, replicate, Option, None, Some, IfSome, Result, Err}
+use Rattle.pg_core.specs.Limits.{Limits}
+use Rattle.pg_global.specs.Master.{Master, job_of}
 use Rattle.pg_graph.specs.Edit.{batch_edited, batch_limit, memory_fault}
 use Rattle.pg_graph.specs.Rows.{Rows}
 use Rattle.pg_graph.specs.declared.edit.Edit.{Edit}
 use Rattle.pg_graph.specs.declared.edit.EditFault.{EditFault}
 use Rattle.pg_graph.specs.declared.edit.EditKind.TheVariants.{Full}
 use Rattle.pg_global.specs.Registry.{Registered}
-use Rattle.pg_model.specs.Job.{Job}
+use Rattle.pg_model.specs.Job.{Combining, Job, Program}
 use Rattle.pg_model.specs.Needed.{needed_count}
 use Rattle.pg_model.specs.Publications.{Publication}
 use Rattle.pg_model.specs.Run.{answer}
 use Rattle.pg_model.specs.Superstep.{capped}
 use Rattle.pg_service.specs.Answers.{Answered}
+use Rattle.pg_service.specs.Job.{CanRun, ServiceJob}
+use Rattle.pg_service.specs.Kept.{IsKept, KeptRun}
+use Rattle.pg_service.specs.Reported.{report_on}
 use Rattle.pg_service.specs.declared.answers.Check.{Check}
 use Rattle.pg_service.specs.declared.answers.Check.TheVariants.{Same, Stale}
-use Rattle.pg_service.specs.declared.answers.Report.{Report}
-use Rattle.pg_ready.specs.Ready.{master_of, ready_job}
-use Rattle.pg_ready.specs.declared.ready.ReadyJob.{ReadyJob}
+use Rattle.pg_service.specs.declared.report.Report.{Report}
 
-pub record ServiceState : Type 0 where
-  pub job : ReadyJob
+-- what it runs, its graph with the number of batches that made it, what was published last, and the graph of the run
+-- that the next one may reuse
+pub record ServiceState (P C A V : Type 0) : Type 0 where
+  pub job : ServiceJob P C A
   pub graph : Rows
   pub edition : ℕ
-  pub published : Option (Publication ℤ)
+  pub published : Option (Publication V)
+  pub kept : Option Rows
 
--- what was published is of this edition of the graph or of an earlier one; of this one it is the
--- answer
-pub record IsPublished (job : Job ℤ ℤ) (graph : Rows) (edition : ℕ)
-    (publication : Publication ℤ) : Type 0 where
-  pub not_later : publication.edition ≤ edition
-  pub is_answer : publication.edition ≡ edition → publication.answer ≡ answer job graph
-
--- the aggregators that a job has, by name, in the order of their places
-abbrev pub registered_by : ReadyJob → Registered
-registered_by job = (master_of job.program).registrations
-
--- answers are what was published, with the names of the job's aggregates
-pub record IsAnswered (job : ReadyJob) (graph : Rows) (edition : ℕ)
-    (answers : Answered) : Type 0 where
-  pub published : IsPublished (ready_job job) graph edition answers.publication
-  pub named : answers.registered ≡ registered_by job
-
--- a service as it begins: an empty graph, and nothing published
-abbrev pub fresh : ReadyJob → ServiceState
-fresh job = record { job = job; graph = []; edition = 0; published = None }
+-- a service as it begins: an empty graph, and nothing published or kept
+abbrev pub fresh : {P C A V : Type 0} → ServiceJob P C A → ServiceState P C A V
+fresh job = record { job = job; graph = []; edition = 0; published = None; kept = None }
 
 -- no edition is greater
 abbrev pub edition_limit : ℕ
@@ -70,32 +58,61 @@ abbrev pub RefusesEdition : ℕ → Rows → List Edit → EditFault → Type 0
 RefusesEdition edition graph batch fault =
     ((fault ≡ memory_fault) × IsTried edition batch) ⊎ (next_graph edition graph batch ≡ Err fault)
 
-module _ (job : Job ℤ ℤ) where
+-- whether the last publication is of this edition
+abbrev pub is_current : {V : Type 0} → ℕ → Option (Publication V) → Bool
+is_current edition None = false
+is_current edition (Some publication) = publication.edition == edition
+
+module _ {V M : Type 0} (job : Job V M) where
+  -- what was published is of this edition and the answer of its graph, or of an earlier edition
+  pub record IsPublished (graph : Rows) (edition : ℕ) (publication : Publication V) : Type 0 where
+    pub not_later : publication.edition ≤ edition
+    pub is_answer : publication.edition ≡ edition → publication.answer ≡ answer job graph
+
+  -- answers are what was published, with the names of the job's aggregates
+  pub record IsAnswered (registered : Registered) (graph : Rows) (edition : ℕ)
+      (answers : Answered V) : Type 0 where
+    pub published : IsPublished graph edition answers.publication
+    pub named : answers.registered ≡ registered
+
   -- what a refresh publishes
-  abbrev pub publication_of : ℕ → Rows → Publication ℤ
+  abbrev pub publication_of : ℕ → Rows → Publication V
   publication_of edition graph = record { edition = edition; answer = answer job graph }
 
-  -- what it reports, beside the graph of the run that was kept, if any
-  abbrev pub report_of : Option Rows → ℕ → Rows → Report
-  report_of kept edition graph =
-      let run = answer job graph in
-      record {
-        edition = edition;
-        supersteps = run.supersteps;
-        ending = run.ending;
-        sent = run.sent;
-        dropped = run.dropped;
-        calls = capped (needed_count int_eq int_eq job kept graph);
-      }
+  module _ (value_eq : V → V → Bool) (message_eq : M → M → Bool) where
+    -- how many executions a run needs beside the run on a graph that was kept, if any
+    abbrev pub calls_of : Option Rows → Rows → ℕ
+    calls_of kept graph = capped (needed_count value_eq message_eq job kept graph)
 
-  -- whether the last publication is of this edition
-  abbrev pub is_current : ℕ → Option (Publication ℤ) → Bool
-  is_current edition None = false
-  is_current edition (Some publication) = publication.edition == edition
+    -- what a refresh may report of a run over n partitions. It depends on what workers were lost how many calls and steps
+    -- there were: where none was, the calls are the needed executions, at most 2^64 - 1, and each partition has made each
+    -- superstep once
+    pub record MayReport (n : ℕ) (kept : Option Rows) (edition : ℕ) (graph : Rows) (report : Report) : Type 0 where
+      pub edition_is : report.edition ≡ edition
+      pub supersteps_are : report.supersteps ≡ (answer job graph).supersteps
+      pub ending_is : report.ending ≡ (answer job graph).ending
+      pub sent_are : report.sent ≡ (answer job graph).sent
+      pub dropped_are : report.dropped ≡ (answer job graph).dropped
+      pub unlost : report.losses ≡ []
+          → (report.calls ≡ calls_of kept graph) × (report.steps ≡ replicate n (answer job graph).supersteps)
 
-  -- what a check finds: what was published is of another edition, or it is the answer of the run
-  -- from scratch, which has so many calls
-  abbrev pub check_of : ℕ → Rows → Option (Publication ℤ) → Check
-  check_of edition graph published =
-      if is_current edition published then Same (capped (needed_count int_eq int_eq job None graph))
-      else Stale
+    -- the report where no worker was lost
+    abbrev pub report_of : ℕ → Option Rows → ℕ → Rows → Report
+    report_of n kept edition graph = report_on n edition (answer job graph) (calls_of kept graph)
+
+    -- what a check finds: what was published is of another edition, or it is the answer of the run
+    -- from scratch, which has so many calls
+    abbrev pub check_of : ℕ → Rows → Option (Publication V) → Check
+    check_of edition graph published =
+        if is_current edition published then Same (calls_of None graph) else Stale
+
+-- what a service has fits together: its program can run with its master, what was published is of this
+-- edition and the answer of its graph, or of an earlier edition, and the run that is kept was on a graph that differs at the noted ids alone
+pub record Stands {V M : Type 0} (program : Program V M) (combining : Option (Combining M)) (master : Master)
+    (limits : Limits) (graph : Rows) (edition : ℕ) (published : Option (Answered V))
+    (kept : Option (KeptRun V M)) : Type 0 where
+  pub can_run : CanRun program master
+  pub answered : IfSome published (IsAnswered (job_of program combining master limits.missing limits.limit)
+      master.registrations graph edition)
+  pub beside : IfSome kept (IsKept (job_of program combining master limits.missing limits.limit) limits.partitions
+      graph)

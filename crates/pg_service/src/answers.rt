@@ -1,4 +1,4 @@
-//! What a refresh publishes, and what it tells.
+//! What a refresh publishes, and what a check finds of it.
 ghost use Rattle.std.specs.Prelude.{◌≡◌};
 ghost use Rattle.std.specs.Bool.{Decides};
 ghost use Rattle.std.specs.Option.{option_copied};
@@ -6,22 +6,23 @@ ghost use Rattle.pg_service.specs.Answers.{HaveRisingIds, aggregate_of, value_of
 
 use pg_global::Registry;
 use pg_graph::{Edition, VertexId};
-use pg_model::{Ending, Run};
+use pg_model::Run;
+use pg_program::Plain;
 use std::marker::Model;
 
 /// What a refresh has published: the edition of the graph that it ran on, and the answer of the
 /// run, with its aggregates by name.
 #[derive(Drop)]
-pub struct Answers {
+pub struct Answers<V> {
     edition: Edition,
-    run: Run<i64>,
+    run: Run<V>,
     registry: Registry,
 }
 
-impl Model for Answers {
+impl<V> Model for Answers<V> {
     ghost use Rattle.pg_service.specs.Answers.{Answered, HaveRisingIds};
 
-    ghost Value = { Answered };
+    ghost Value = { Answered V };
 
     ghost view = { λ a. record {
       publication = record { edition = a.edition; answer = a.run };
@@ -31,10 +32,10 @@ impl Model for Answers {
     ghost invariant = { λ a. HaveRisingIds a.run.values };
 }
 
-impl Answers {
+impl<V> Answers<V> {
     /// The answer of the run on this edition of a graph. Its aggregates have the names of the
     /// registry.
-    pub(crate) fn new(edition: Edition, run: Run<i64>, registry: Registry) -> Answers
+    pub(crate) fn new(edition: Edition, run: Run<V>, registry: Registry) -> Answers<V>
         requires { HaveRisingIds run.values }
         ensures { result ≡ record {
           publication = record { edition = edition; answer = run };
@@ -56,7 +57,7 @@ impl Answers {
     }
 
     /// The value of each vertex, by rising id.
-    pub fn values(&self) -> &[(VertexId, i64)]
+    pub fn values(&self) -> &[(VertexId, V)]
         ensures value { result.now ≡ self.now.publication.answer.values }
         ensures rising { HaveRisingIds result.now }
     {
@@ -64,7 +65,7 @@ impl Answers {
     }
 
     /// The value of a vertex, found by halving.
-    pub fn value(&self, id: VertexId) -> Option<&i64>
+    pub fn value(&self, id: VertexId) -> Option<&V>
         ensures { option_copied result ≡ value_of id self.now.publication.answer.values }
     {
         let values = self.values();
@@ -85,29 +86,16 @@ impl Answers {
     }
 
     /// The answer of the run, with its aggregates by place.
-    pub fn run(&self) -> &Run<i64>
+    pub fn run(&self) -> &Run<V>
         ensures { result.now ≡ self.now.publication.answer }
     {
         &self.run
     }
 }
 
-/// What a refresh did: on which edition it ran, how many supersteps were executed and why the run
-/// ended, how many messages were sent, before combining, and how many of them dropped, and how many
-/// times compute was called. The last three stop at 2^64 - 1.
-#[derive(Clone, Copy, Debug, PartialEq, Eq)]
-pub struct Report {
-    pub edition: Edition,
-    pub supersteps: u32,
-    pub ending: Ending,
-    pub sent: u64,
-    pub dropped: u64,
-    pub calls: u64,
-}
-
 /// Whether these are the answers of a run: its values, aggregates, ending and counts. The edition
-/// isn't looked at.
-pub fn same(answers: &Answers, run: &Run<i64>) -> bool
+/// isn't looked at. Costs one walk over the values.
+pub fn same<V: Plain>(answers: &Answers<V>, run: &Run<V>) -> bool
     ensures { Decides result (answers.now.publication.answer ≡ run.now) }
 {
     let own = answers.run();
@@ -124,10 +112,34 @@ pub fn same(answers: &Answers, run: &Run<i64>) -> bool
 }
 
 /// Whether these are the same ids with the same values.
-fn are_same_values(own: &[(VertexId, i64)], others: &[(VertexId, i64)]) -> bool
+fn are_same_values<V: Plain>(own: &[(VertexId, V)], others: &[(VertexId, V)]) -> bool
     ensures { Decides result (own.now ≡ others.now) }
 {
-    own == others
+    if own.len() != others.len() {
+        return false;
+    }
+    for place in 0..own.len() {
+        if !is_same_entry(&own[place], &others[place]) {
+            return false;
+        }
+    }
+    true
+}
+
+/// Whether this is the same id with the same value.
+fn is_same_entry<V: Plain>(own: &(VertexId, V), other: &(VertexId, V)) -> bool
+    ensures { Decides result (own.now ≡ other.now) }
+{
+    own.0 == other.0 && is_same_value(&own.1, &other.1)
+}
+
+/// Whether this is the same value.
+fn is_same_value<V: Plain>(own: &V, other: &V) -> bool
+    ensures { Decides result (own.now ≡ other.now) }
+{
+    own.fits();
+    other.fits();
+    own == other
 }
 
 /// Whether these are the same aggregates.

@@ -17,14 +17,15 @@ pub(crate) fn value_of_report(alloc: Global, report: &Report) -> Result<Value, M
     let ending = ending_word(report.ending);
     let (calls, dropped, sent) = (report.calls, report.dropped, report.sent);
     let (edition, supersteps) = (report.edition.number(), report.supersteps);
+    let losses = report.losses.as_slice().len() as u64;
     json!(in alloc; {
         "calls": calls, "dropped": dropped, "edition": edition, "ending": ending,
-        "losses": 0_u64, "sent": sent, "supersteps": supersteps
+        "losses": losses, "sent": sent, "supersteps": supersteps
     })
 }
 
 /// The word for an ending.
-fn ending_word(ending: Ending) -> &'static str
+pub fn ending_word(ending: Ending) -> &'static str
     ensures { result.now ≡ ending_name ending }
 {
     match ending {

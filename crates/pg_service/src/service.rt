@@ -1,65 +1,111 @@
-//! A graph that is kept, and the answers of the last refresh on it.
-ghost use Rattle.std.specs.Prelude.{◌≡◌, ◌+◌, ◌<◌, None, Some, length, option_map, Ok};
-ghost use Rattle.std.specs.Prelude.{IfOk, IfErr, IfSome, OnOk, OnErr};
+//! The service: a graph that is kept, the run that is kept beside it, and the answers of the last refresh.
+ghost use Rattle.std.specs.Prelude.{◌≡◌, ◌+◌, false, [], None, Some, IsSome, option_map, Ok};
+ghost use Rattle.std.specs.Prelude.{IfOk, IfErr, IfSome, OnOk, OnErr, IsErrOf};
 ghost use Rattle.std.specs.Option.{option_copied};
+ghost use Rattle.std.specs.String.{string_bytes};
+ghost use Rattle.pg_core.specs.Progress.{IsOpened, IsRight, job_by};
+ghost use Rattle.pg_core.specs.Traces.{IsLeftBy};
+ghost use Rattle.pg_global.specs.Master.{is_registered};
+ghost use Rattle.pg_global.specs.Registry.{first_refusal};
 ghost use Rattle.pg_graph.specs.Rows.{HasRisingIds};
 ghost use Rattle.pg_model.specs.Run.{answer};
-ghost use Rattle.pg_ready.specs.Ready.{ready_job};
 ghost use Rattle.pg_service.specs.Answers.{HaveRisingIds};
-ghost use Rattle.pg_service.specs.Service.{RefusesEdition, check_of, fresh, next_graph};
-ghost use Rattle.pg_service.specs.Service.{publication_of, registered_by, report_of};
+ghost use Rattle.pg_service.specs.Job.{CanRun, job_meant, registered_by};
+ghost use Rattle.pg_service.specs.Kept.{IsKept};
+ghost use Rattle.pg_service.specs.Led.{EditLeadsOn, RefreshLeadsOn};
 ghost use Rattle.pg_service.specs.Printed.{json_text};
-ghost use Rattle.std.specs.String.{string_bytes};
+ghost use Rattle.pg_service.specs.Service.{MayReport, RefusesEdition, calls_of, check_of, fresh, next_graph};
+ghost use Rattle.pg_service.specs.Service.{publication_of};
 
+use crate::kept::{KeptRun, note};
+use crate::registering::{names, test};
 use crate::report_json::value_of_report;
-use crate::{Answers, Check, Report, same};
-use pg_global::{MasterCompute, Registry};
+use crate::{Answers, Check, RefreshFault, Report, same};
+use pg_core::{Core, Limits, Traces};
+use pg_global::{MasterCompute, MessageCombiner};
 use pg_graph::{Batch, EditFault, EditKind, Edition, Graph, Memory};
 use pg_model::Run;
-use pg_program::Meter;
-use pg_ready::{ReadyJob, ReadyMaster};
+use pg_program::{Computation, Meter};
 use pg_scratch::{RunFault, run};
-use std::alloc::Global;
+use std::alloc::{AllocError, Global};
 use std::marker::Model;
 
-/// A service: a graph with its edition, the job that runs on it, and what was published last.
+/// The number that names a run: all have the same, since none is saved.
+const RUN: u64 = 0;
+
+/// A service: a program with its combiner and its master, a graph with its edition, what was published last, and what
+/// the last run left, beside which the next one runs.
 #[derive(Drop)]
-pub struct Service {
-    job: ReadyJob,
+pub struct Service<P: Computation, C: MessageCombiner<P::Message>, M: MasterCompute> {
+    program: P,
+    combiner: C,
+    master: M,
+    limits: Limits,
     graph: Graph,
     edition: Edition,
-    published: Option<Answers>,
-    ghost has_limit: { 0 < job.limit },
+    published: Option<Answers<P::Value>>,
+    kept: Option<KeptRun<P::Value, P::Message>>,
 }
 
-impl Model for Service {
-    ghost use Rattle.std.specs.Prelude.{IfSome, option_map};
-    ghost use Rattle.pg_service.specs.Service.{IsAnswered, ServiceState};
+impl<P: Computation, C: MessageCombiner<P::Message>, M: MasterCompute> Model for Service<P, C, M> {
+    ghost use Rattle.std.specs.Prelude.{option_map};
+    ghost use Rattle.pg_service.specs.Service.{ServiceState, Stands};
 
-    ghost Value = { ServiceState };
+    ghost Value = { ServiceState P C M P.Value };
 
     ghost view = { λ s. record {
-      job = s.job;
+      job = record { program = s.program; combiner = s.combiner; master = s.master; limits = s.limits };
       graph = s.graph;
       edition = s.edition;
       published = option_map (λ a. a.publication) s.published;
+      kept = option_map (λ k. k.traces.graph) s.kept;
     } };
 
-    ghost invariant = { λ s. IfSome s.published (IsAnswered s.job s.graph s.edition) };
+    ghost invariant = { λ s. Stands (P.program s.program) (C.combining s.combiner) (M.master s.master) s.limits
+        s.graph s.edition s.published s.kept };
 }
 
-impl Service {
-    /// A service with an empty graph of edition 0.
-    pub fn new(alloc: Global, job: ReadyJob) -> Service
-        requires { 0 < job.limit }
-        ensures { result ≡ fresh job }
+impl<P: Computation, C: MessageCombiner<P::Message>, M: MasterCompute> Service<P, C, M> {
+    /// A service with an empty graph of edition 0, and nothing published.
+    ///
+    /// # Errors
+    ///
+    /// The master's list of aggregators breaks the rules of registration, or the program has declared a place that
+    /// isn't among them; or want of memory.
+    pub fn new(
+        alloc: Global,
+        limits: Limits,
+        program: P,
+        combiner: C,
+        master: M,
+    ) -> Result<Service<P, C, M>, RunFault>
+    where
+        P: Drop,
+        C: Drop,
+        M: Drop,
+        ensures ok { IfOk result (λ service. service ≡ fresh (record {
+          program = program;
+          combiner = combiner;
+          master = master;
+          limits = limits;
+        })) }
+        ensures register { IsErrOf result RunFault.Register
+            → IsSome (first_refusal [] (M.master master).registrations) }
+        ensures unregistered { IsErrOf result RunFault.Unregistered
+            → (first_refusal [] (M.master master).registrations ≡ None)
+            × (is_registered (P.program program) (M.master master) ≡ false) }
     {
-        Service {
-            job,
+        test(alloc, &program, &master)?;
+        Ok(Service {
+            program,
+            combiner,
+            master,
+            limits,
             graph: Graph::new(alloc),
             edition: Edition::new(0),
             published: None,
-        }
+            kept: None,
+        })
     }
 
     /// The graph as it stands.
@@ -77,26 +123,26 @@ impl Service {
     }
 
     /// What was published last.
-    pub fn answers(&self) -> Option<&Answers>
+    pub fn answers(&self) -> Option<&Answers<P::Value>>
         ensures published { option_map (λ a. a.publication) (option_copied result)
             ≡ self.now.published }
         ensures named { IfSome (option_copied result)
-            (λ a. a.registered ≡ registered_by self.now.job) }
+            (λ a. a.registered ≡ registered_by M.master self.now.job) }
     {
         self.published.as_ref()
     }
 
-    /// Applies a batch, all of it or none, and gives the edition that it makes, which is one more
-    /// than the one before, also for an empty batch.
+    /// Applies a batch, all of it or none, and gives the edition that it makes, which is one more than the one before,
+    /// also for an empty batch. The run that is kept stays.
     ///
     /// # Errors
     ///
-    /// At edition 2^64 - 1, which is the last, `Full` at position 0. Else the first edit that has
-    /// no result. Or want of memory. The service stays as it was.
+    /// At edition 2^64 - 1, which is the last, `Full` at position 0. Else the first edit that has no result. Or want of
+    /// memory. The service stays as it was.
     ///
     /// # Cost
     ///
-    /// That of `Graph::apply`.
+    /// That of `Graph::apply`, and a number for each edit where a run is kept.
     #[tactic(auto, unfolding(crate::specs::Service::next_graph))]
     pub fn edit(&mut self, alloc: Global, batch: &Batch) -> Result<Edition, EditFault>
         ensures ok { OnOk result
@@ -106,51 +152,59 @@ impl Service {
             ≡ record self.old { graph = self.new.graph; edition = self.old.edition + 1 }) }
         ensures refused { IfErr result (RefusesEdition self.old.edition self.old.graph batch.now) }
         ensures err { OnErr result (self.new ≡ self.old) }
+        ensures leads { let job = job_meant P.program C.combining M.master self.old.job in
+            EditLeadsOn self.old.job job batch.now result self.old self.new }
     {
         let Some(number) = self.edition.number().checked_add(1) else {
             return Err(NO_EDITION_LEFT);
         };
+        note(&mut self.kept, batch)?;
         self.graph.apply(alloc, batch)?;
         self.edition = Edition::new(number);
         Ok(self.edition)
     }
 
-    /// Runs the program on the graph as it stands, and publishes the answer.
+    /// Runs the program on the graph as it stands, beside the last run where that is kept, publishes the answer, and
+    /// keeps what the run leaves. The answer is that of the run from scratch; the calls of compute are as many as the
+    /// vertices and supersteps whose inputs aren't those of the kept run, at most 2^64 - 1.
     ///
     /// # Errors
     ///
-    /// Want of memory; the service stays as it was.
+    /// Want of memory; then no run is kept, and the rest stays as it was.
     ///
     /// # Cost
     ///
-    /// That of a whole run: each superstep costs what it executes and sends.
-    pub fn refresh(&mut self, alloc: Global) -> Result<Report, RunFault>
-        ensures report { IfOk result (λ report. report
-            ≡ report_of (ready_job self.old.job) None self.old.edition self.old.graph) }
-        ensures published { let job = ready_job self.old.job in
+    /// Where no run is kept, that of a whole run. Else what is executed, with its edges and messages; a sort of the noted
+    /// ids and a look-up of each for each partition; a count for each superstep and pair of partitions; a walk over the
+    /// records of each superstep in which something else is contributed, and over what is active past the kept run's
+    /// end; and for the answer a sort of the vertices' ids with a look-up of each.
+    pub fn refresh(&mut self, alloc: Global) -> Result<Report, RefreshFault>
+        ensures report { let job = job_meant P.program C.combining M.master self.old.job in
+            IfOk result (MayReport job P.Value.PartialEq.eq P.Message.PartialEq.eq
+            self.old.job.limits.partitions self.old.kept self.old.edition self.old.graph) }
+        ensures unlost { IfOk result (λ report. report.losses ≡ []) }
+        ensures published { let job = job_meant P.program C.combining M.master self.old.job in
             OnOk result (self.new ≡ record self.old {
               published = Some (publication_of job self.old.edition self.old.graph);
+              kept = Some self.old.graph;
             }) }
-        ensures registered { IfErr result (λ fault. fault ≡ RunFault.Memory) }
-        ensures err { OnErr result (self.new ≡ self.old) }
+        ensures refused { IfErr result (λ fault. fault ≡ RefreshFault.Memory) }
+        ensures err { OnErr result (self.new ≡ record self.old { kept = None }) }
+        ensures leads { let job = job_meant P.program C.combining M.master self.old.job in
+            RefreshLeadsOn self.old.job job result self.old self.new }
     {
-        let registry = self.registry(alloc)?;
-        let (run, calls) = self.run_now(alloc)?;
+        let kept = self.kept.take();
+        let registry = names(alloc, &self.master)?;
+        let (run, traces, calls) = self.run_beside(alloc, kept)?;
         let edition = self.edition;
-        let report = Report {
-            edition,
-            supersteps: run.supersteps,
-            ending: run.ending,
-            sent: run.sent,
-            dropped: run.dropped,
-            calls,
-        };
+        let report = Report::unlost(alloc, edition, self.limits.partitions(), &run, calls)?;
         self.published = Some(Answers::new(edition, run, registry));
+        self.kept = Some(KeptRun::new(alloc, traces));
         Ok(report)
     }
 
-    /// Runs the program from scratch on the graph as it stands, and compares what was published
-    /// with the answer. Where what was published is of another edition, nothing is run.
+    /// Runs the program from scratch on the graph as it stands, and compares what was published with the answer. Where
+    /// what was published is of another edition, nothing is run.
     ///
     /// # Errors
     ///
@@ -160,9 +214,9 @@ impl Service {
     ///
     /// That of a whole run.
     pub fn check(&self, alloc: Global) -> Result<Check, Memory>
-        ensures { let job = ready_job self.now.job in
-            IfOk result (λ check. check
-            ≡ check_of job self.now.edition self.now.graph self.now.published) }
+        ensures { let job = job_meant P.program C.combining M.master self.now.job in
+            IfOk result (λ check. check ≡ check_of job P.Value.PartialEq.eq P.Message.PartialEq.eq
+            self.now.edition self.now.graph self.now.published) }
     {
         let Some(answers) = self.answers() else {
             return Ok(Check::Stale);
@@ -170,9 +224,7 @@ impl Service {
         if answers.edition() != self.edition {
             return Ok(Check::Stale);
         }
-        let Ok((run, calls)) = self.run_now(alloc) else {
-            return Err(Memory);
-        };
+        let (run, calls) = self.run_alone(alloc)?;
         if same(answers, &run) {
             return Ok(Check::Same(calls));
         }
@@ -191,48 +243,87 @@ impl Service {
         value.to_string(alloc)
     }
 
-    /// The names of the aggregators.
-    fn registry(&self, alloc: Global) -> Result<Registry, RunFault>
-        ensures names { IfOk result (λ registry. registry ≡ registered_by self.now.job) }
-        ensures registered { IfErr result (λ fault. fault ≡ RunFault.Memory) }
+    /// The run on the graph as it stands, beside one that was kept, with what it leaves and the number of calls of
+    /// compute.
+    fn run_beside(
+        &self,
+        alloc: Global,
+        kept: Option<KeptRun<P::Value, P::Message>>,
+    ) -> Result<(Run<P::Value>, Traces<P::Value, P::Message>, u64), Memory>
+        requires { IfSome kept (IsKept (job_meant P.program C.combining M.master self.now.job)
+            self.now.job.limits.partitions self.now.graph) }
+        ensures answer { IfOk result
+            (λ r. r.0 ≡ answer (job_meant P.program C.combining M.master self.now.job) self.now.graph) }
+        ensures rising { IfOk result (λ r. HaveRisingIds r.0.values) }
+        ensures leaves { IfOk result
+            (λ r. IsLeftBy (job_meant P.program C.combining M.master self.now.job)
+            self.now.graph self.now.job.limits.partitions r.1) }
+        ensures calls { let job = job_meant P.program C.combining M.master self.now.job in
+            IfOk result (λ r. r.2 ≡ calls_of job P.Value.PartialEq.eq P.Message.PartialEq.eq
+            (option_map (λ k. k.traces.graph) kept) self.now.graph) }
     {
-        let mut registry = Registry::new(alloc);
-        let master = ReadyMaster {
-            program: self.job.program,
-        };
-        match master.initialize(alloc, &mut registry) {
-            Ok(()) => Ok(registry),
-            Err(_) => Err(RunFault::Memory),
+        rises(&self.graph);
+        let mut core = self.opened(alloc, kept)?;
+        let mut meter = Meter::new();
+        core.run_out(alloc, &mut meter)?;
+        let (run, traces) = core.finish(alloc)?;
+        Ok((run, traces, meter.count()))
+    }
+
+    /// The run, opened beside one that was kept.
+    fn opened<'a>(
+        &'a self,
+        alloc: Global,
+        kept: Option<KeptRun<P::Value, P::Message>>,
+    ) -> Result<Core<'a, P, C, M>, Memory>
+        requires { IfSome kept (IsKept (job_meant P.program C.combining M.master self.now.job)
+            self.now.job.limits.partitions self.now.graph) }
+        ensures opened { IfOk result (λ core. IsOpened core self.now.job.program self.now.job.combiner
+            self.now.job.master self.now.graph self.now.job.limits 0) }
+        ensures right { IfOk result (λ core. IsRight (job_by P.program C.combining M.master core)
+            (option_map (λ k. k.traces.graph) kept) core) }
+    {
+        let Service {
+            program,
+            combiner,
+            master,
+            limits,
+            graph,
+            ..
+        } = self;
+        match kept {
+            None => Core::open(alloc, graph, program, combiner, master, *limits, RUN),
+            Some(KeptRun { traces, touched }) => {
+                let touched = touched.as_slice();
+                Core::open_beside(
+                    alloc, graph, traces, touched, program, combiner, master, *limits, RUN,
+                )
+            }
         }
     }
 
-    /// The run on the graph as it stands, with the number of calls of compute.
-    fn run_now(&self, alloc: Global) -> Result<(Run<i64>, u64), RunFault>
-        ensures answer { IfOk result (λ r. r.0 ≡ answer (ready_job self.now.job) self.now.graph) }
-        ensures rising { IfOk result (λ r. HaveRisingIds r.0.values) }
-        ensures calls { IfOk result (λ r. r.1
-            ≡ (report_of (ready_job self.now.job) None self.now.edition self.now.graph).calls) }
-        ensures registered { IfErr result (λ fault. fault ≡ RunFault.Memory) }
+    /// The run from scratch on the graph as it stands, with the number of calls of compute.
+    fn run_alone(&self, alloc: Global) -> Result<(Run<P::Value>, u64), Memory>
+        ensures answer { IfOk result
+            (λ r. r.0 ≡ answer (job_meant P.program C.combining M.master self.now.job) self.now.graph) }
+        ensures calls { let job = job_meant P.program C.combining M.master self.now.job in
+            IfOk result (λ r. r.1 ≡ calls_of job P.Value.PartialEq.eq P.Message.PartialEq.eq None self.now.graph) }
     {
         rises(&self.graph);
-        let job = self.job;
-        let master = ReadyMaster {
-            program: job.program,
-        };
         let mut meter = Meter::new();
         let run = run(
             alloc,
             &self.graph,
-            &job.program,
-            &job.combiner,
-            &master,
-            job.missing,
-            job.limit,
+            &self.program,
+            &self.combiner,
+            &self.master,
+            self.limits.missing(),
+            self.limits.limit(),
             &mut meter,
         );
         match run {
             Ok(run) => Ok((run, meter.count())),
-            Err(fault) => Err(fault),
+            Err(_) => Err(AllocError),
         }
     }
 }

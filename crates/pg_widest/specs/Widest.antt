@@ -6,15 +6,20 @@ use Rattle.std.specs.Prelude.{Some, codes}
 use Rattle.std.specs.Int.{int_min}
 use Rattle.std.specs.List.{slice_get}
 use Rattle.std.specs.Option.{unwrap_or}
-use Rattle.pg_graph.specs.declared.missing.Missing.TheVariants.{Drop}
+use Rattle.pg_core.specs.Limits.{Limits}
 use Rattle.pg_global.specs.Combiner.{greatest_message}
 use Rattle.pg_global.specs.Master.{Master, job_of}
 use Rattle.pg_global.specs.Registry.{Registered}
+use Rattle.pg_global.specs.declared.combiner.AnyCombiner.{AnyCombiner}
+use Rattle.pg_global.specs.declared.combiner.AnyCombiner.TheVariants.{Max}
 use Rattle.pg_global.specs.declared.aggregator.AnyAggregator.TheVariants.{LongMax}
 use Rattle.pg_model.specs.Aggregators.{greatest_number, least_number}
 use Rattle.pg_model.specs.Job.{Deciding, Inputs, Job, Program}
 use Rattle.pg_model.specs.Programs.{contributed, greatest_of, only_writes}
 use Rattle.pg_model.specs.declared.record.Record.{Record}
+use Rattle.pg_service.specs.Job.{ServiceJob}
+use Rattle.pg_widest.specs.declared.master.WidestMaster.{WidestMaster}
+use Rattle.pg_widest.specs.declared.program.Widest.{Widest}
 use Rattle.pg_widest.specs.declared.search.Search.{Search}
 
 -- the width where there is no path, and that of the path without an edge
@@ -58,8 +63,17 @@ halts_at enough s totals gathered =
 abbrev pub widest_master : ℤ → Master
 widest_master enough = record { registrations = found; deciding = halts_at enough }
 
--- the job of a search, in which a vertex gets the greatest of its messages alone
-abbrev pub widest_job : Search → Job ℤ ℤ
-widest_job search =
+-- what a service of a search runs: a vertex gets the greatest of its messages alone
+abbrev pub searched : Search → Limits → ServiceJob Widest AnyCombiner WidestMaster
+searched search limits = record {
+  program = record { source = search.source; target = search.target };
+  combiner = Max;
+  master = record { enough = search.enough };
+  limits = limits;
+}
+
+-- the job that it means
+abbrev pub widest_job : Search → Limits → Job ℤ ℤ
+widest_job search limits =
     job_of (widest search.source search.target) (Some greatest_message)
-    (widest_master search.enough) Drop search.limit
+    (widest_master search.enough) limits.missing limits.limit

@@ -1,5 +1,5 @@
-//! Widest paths: a vertex program beside the ready ones, with an aggregator, a master and a job of
-//! its own. docs/PROGRAMS.md goes through it.
+//! Widest paths: a vertex program beside the ready ones, with an aggregator, a master and a service
+//! of its own. docs/PROGRAMS.md goes through it.
 #![tactic(auto)]
 
 mod master;
@@ -10,4 +10,4 @@ mod tests;
 
 pub use master::WidestMaster;
 pub use program::Widest;
-pub use search::{Search, widest_paths};
+pub use search::{Search, Searching, searching, widest_paths};

@@ -1,48 +1,42 @@
-//! The job, and a run of it.
-ghost use Rattle.std.specs.Prelude.{◌≡◌, ◌+◌, ◌<◌, IfOk, IfErr, OnOk, OnErr};
-ghost use Rattle.pg_model.specs.Run.{answer, executions};
+//! A service that searches the graph that it keeps.
+ghost use Rattle.std.specs.Prelude.{◌≡◌, None, Some, IfOk, IfErr, OnOk, OnErr};
+ghost use Rattle.std.specs.Ordering.{int_eq};
+ghost use Rattle.pg_core.specs.Limits.{Limits};
+ghost use Rattle.pg_model.specs.Needed.{needed_count};
+ghost use Rattle.pg_model.specs.Run.{answer};
 ghost use Rattle.pg_model.specs.Superstep.{capped};
-ghost use Rattle.pg_widest.specs.Widest.{widest_job};
+ghost use Rattle.pg_service.specs.Service.{fresh};
+ghost use Rattle.pg_widest.specs.Widest.{searched, widest_job};
+ghost use Rattle.pg_widest.specs.declared.search.Search.{Search};
 
 use crate::{Widest, WidestMaster};
+use pg_core::Limits;
 use pg_global::AnyCombiner;
-use pg_graph::{Graph, Missing, VertexId};
-use pg_model::Run;
-use pg_program::Meter;
-use pg_scratch::{RunFault, run};
+use pg_graph::VertexId;
+use pg_scratch::RunFault;
+use pg_service::{RefreshFault, Report, Service};
 use std::alloc::Global;
 
-/// What is searched: the widest paths from a source, until one to the target is wide enough or so
-/// many supersteps are done.
+/// What is searched: the widest paths from a source, until one to the target is wide enough.
 #[derive(Clone, Copy, Debug, PartialEq, Eq)]
 pub struct Search {
     pub source: VertexId,
     pub target: VertexId,
     pub enough: i64,
-    pub limit: u32,
 }
 
-/// Runs a search on a graph from scratch.
+/// A service that searches the graph that it keeps.
+pub type Searching = Service<Widest, AnyCombiner, WidestMaster>;
+
+/// A service of a search, with an empty graph. The limits say on how many partitions it runs and how many supersteps it
+/// may take.
 ///
 /// # Errors
 ///
 /// Want of memory.
-///
-/// # Cost
-///
-/// That of [`run`].
-pub fn widest_paths(
-    alloc: Global,
-    graph: &Graph,
-    search: &Search,
-    meter: &mut Meter,
-) -> Result<Run<i64>, RunFault>
-    requires { 0 < search.now.limit }
-    ensures answer { IfOk result (λ run. run ≡ answer (widest_job search.now) graph.now) }
-    ensures calls { OnOk result
-        (meter.new ≡ capped (meter.old + executions (widest_job search.now) graph.now)) }
+pub fn searching(alloc: Global, search: &Search, limits: Limits) -> Result<Searching, RunFault>
+    ensures begun { IfOk result (λ service. service ≡ fresh (searched search.now limits)) }
     ensures memory { IfErr result (λ fault. fault ≡ RunFault.Memory) }
-    ensures uncounted { OnErr result (meter.new ≡ meter.old) }
 {
     let program = Widest {
         source: search.source,
@@ -51,14 +45,35 @@ pub fn widest_paths(
     let master = WidestMaster {
         enough: search.enough,
     };
-    run(
-        alloc,
-        graph,
-        &program,
-        &AnyCombiner::Max,
-        &master,
-        Missing::Drop,
-        search.limit,
-        meter,
-    )
+    Service::new(alloc, limits, program, AnyCombiner::Max, master)
+}
+
+/// Searches the graph as it stands, beside the last search where that is kept. What is published is the answer of the
+/// search from scratch; compute is called for what differs from the last search.
+///
+/// # Errors
+///
+/// Want of memory. What was published stays.
+///
+/// # Cost
+///
+/// That of [`Service::refresh`].
+pub fn widest_paths(alloc: Global, service: &mut Searching) -> Result<Report, RefreshFault>
+    ensures answer { OnOk result ((search : Search) (limits : Limits)
+        → service.old.job ≡ searched search limits
+        → service.new.published ≡ Some (record {
+          edition = service.old.edition;
+          answer = answer (widest_job search limits) service.old.graph;
+        })) }
+    ensures calls { IfOk result (λ report. (search : Search) (limits : Limits)
+        → service.old.job ≡ searched search limits
+        → report.calls ≡ capped (needed_count int_eq int_eq (widest_job search limits)
+        service.old.kept service.old.graph)) }
+    ensures rest { OnOk result (service.new ≡ record service.old {
+      published = service.new.published;
+      kept = Some service.old.graph;
+    }) }
+    ensures err { OnErr result (service.new ≡ record service.old { kept = None }) }
+{
+    service.refresh(alloc)
 }

@@ -1,10 +1,8 @@
-// A session by calls: a graph, a search, an edit, and the search again.
-ghost use Rattle.std.specs.Prelude.{◌<◌};
-
-use crate::{Search, widest_paths};
-use pg_graph::{Batch, Edit, Graph, VertexId};
+// A session by calls: a graph, a search, an edit, and the search beside the first one.
+use crate::{Search, Searching, searching, widest_paths};
+use pg_core::Limits;
+use pg_graph::{Batch, Edit, VertexId};
 use pg_model::Ending;
-use pg_program::Meter;
 use std::alloc::Global;
 use std::process::Abort;
 use std::test::Fail;
@@ -13,9 +11,17 @@ fn id(rt: &impl Abort, number: u64) -> VertexId {
     VertexId::new(number).expect(rt, "an id")
 }
 
-// 1 leads to 2 and 3, 2 leads to 3, and 3 leads to 4.
-fn graph(rt: &impl Abort, alloc: Global) -> Result<Graph, Fail> {
+// Looks for the widest paths from 1, until one to 3 is as wide as this, where 1 leads to 2 and 3, 2 leads to 3, and 3
+// leads to 4.
+fn service(rt: &impl Abort, alloc: Global, enough: i64) -> Result<Searching, Fail> {
     let [one, two, three, four] = [id(rt, 1), id(rt, 2), id(rt, 3), id(rt, 4)];
+    let search = Search {
+        source: one,
+        target: three,
+        enough,
+    };
+    let limits = Limits::new(2, 1, 1000, 0, 0).ok_or("limits")?;
+    let mut service = searching(alloc, &search, limits)?;
     let edits = [
         Edit::AddVertex(one, 0),
         Edit::AddVertex(two, 0),
@@ -30,9 +36,8 @@ fn graph(rt: &impl Abort, alloc: Global) -> Result<Graph, Fail> {
     for edit in edits {
         batch.push(edit)?;
     }
-    let mut graph = Graph::new(alloc);
-    graph.apply(alloc, &batch)?;
-    Ok(graph)
+    service.edit(alloc, &batch)?;
+    Ok(service)
 }
 
 // What a search has to find: values, the width at 3, ending and supersteps, and its calls.
@@ -45,51 +50,59 @@ struct Wanted<'a> {
     calls: u64,
 }
 
-// The widest paths from 1, until one to 3 is as wide as this, are those.
+// The service searches its graph, and finds this.
 fn finds(
     rt: &impl Abort,
     alloc: Global,
-    graph: &Graph,
-    enough: i64,
+    service: &mut Searching,
     wanted: &Wanted<'_>,
 ) -> Result<(), Fail> {
-    let search = Search {
-        source: id(rt, 1),
-        target: id(rt, 3),
-        enough,
-        limit: 1000,
-    };
-    let mut meter = Meter::new();
-    let run = widest_paths(alloc, graph, &search, &mut meter)?;
-    assert_eq!(rt; run.values.as_slice().len(), wanted.values.len());
-    for ((id, width), (number, other)) in run.values.as_slice().iter().zip(wanted.values) {
-        assert_eq!(rt; (id.number(), *width), (*number, *other));
-    }
-    assert_eq!(rt; run.aggregates.as_slice(), [wanted.found].as_slice());
+    let report = widest_paths(alloc, service)?;
     assert_eq!(rt;
-        (run.ending, run.supersteps, meter.count()),
+        (report.ending, report.supersteps, report.calls),
         (wanted.ending, wanted.supersteps, wanted.calls)
     );
+    let answers = service.answers().ok_or("answers")?;
+    assert_eq!(rt; answers.values().len(), wanted.values.len());
+    for ((id, width), (number, other)) in answers.values().iter().zip(wanted.values) {
+        assert_eq!(rt; (id.number(), *width), (*number, *other));
+    }
+    assert_eq!(rt; answers.aggregate("found"), Some(wanted.found));
     Ok(())
 }
 
+// All paths; then the road from 1 to 3 is made wider. Of the second search's eight executions four have other inputs:
+// vertex 1 in superstep 0, 3 in supersteps 1 and 2, and 4 in superstep 2.
 #[test]
-fn every_path(rt: HostRuntime) -> Result<(), Fail> {
-    let graph = graph(&rt, rt.alloc())?;
-    let wanted = Wanted {
+fn after_an_edit(rt: HostRuntime) -> Result<(), Fail> {
+    let alloc = rt.alloc();
+    let mut service = service(&rt, alloc, 100)?;
+    let first = Wanted {
         values: &[(1, i64::MAX), (2, 8), (3, 5), (4, 5)],
         found: 5,
         ending: Ending::Finished,
         supersteps: 4,
         calls: 9,
     };
-    finds(&rt, rt.alloc(), &graph, 100, &wanted)
+    finds(&rt, alloc, &mut service, &first)?;
+    let mut wider = Batch::new(alloc);
+    wider.push(Edit::SetEdge(id(&rt, 1), id(&rt, 3), 7))?;
+    service.edit(alloc, &wider)?;
+    let second = Wanted {
+        values: &[(1, i64::MAX), (2, 8), (3, 7), (4, 7)],
+        found: 7,
+        ending: Ending::Finished,
+        supersteps: 3,
+        calls: 4,
+    };
+    finds(&rt, alloc, &mut service, &second)
 }
 
 // The narrow road from 1 to 3 is enough: 4 hears of no better one.
 #[test]
 fn halted_at_enough(rt: HostRuntime) -> Result<(), Fail> {
-    let graph = graph(&rt, rt.alloc())?;
+    let alloc = rt.alloc();
+    let mut service = service(&rt, alloc, 3)?;
     let wanted = Wanted {
         values: &[(1, i64::MAX), (2, 8), (3, 5), (4, 3)],
         found: 5,
@@ -97,23 +110,5 @@ fn halted_at_enough(rt: HostRuntime) -> Result<(), Fail> {
         supersteps: 3,
         calls: 8,
     };
-    finds(&rt, rt.alloc(), &graph, 3, &wanted)
-}
-
-// That road is made wider, and the search is made again.
-#[test]
-fn after_an_edit(rt: HostRuntime) -> Result<(), Fail> {
-    let alloc = rt.alloc();
-    let mut graph = graph(&rt, alloc)?;
-    let mut wider = Batch::new(alloc);
-    wider.push(Edit::SetEdge(id(&rt, 1), id(&rt, 3), 7))?;
-    graph.apply(alloc, &wider)?;
-    let wanted = Wanted {
-        values: &[(1, i64::MAX), (2, 8), (3, 7), (4, 7)],
-        found: 7,
-        ending: Ending::Finished,
-        supersteps: 3,
-        calls: 8,
-    };
-    finds(&rt, alloc, &graph, 100, &wanted)
+    finds(&rt, alloc, &mut service, &wanted)
 }

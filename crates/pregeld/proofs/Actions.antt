@@ -5,11 +5,11 @@ use Rattle.std.specs.List.{concat, last_or}
 use Rattle.std.proofs.lemmas.Bool.Decides.{nat_tests}
 use Rattle.std.proofs.lemmas.Grind.{common_steps}
 use Rattle.pg_graph.specs.declared.edit.Edit.{Edit}
-use Rattle.pg_ready.specs.Ready.{ready_job}
+use Rattle.pregeld.specs.Job.{ReadyState, ready_job}
 use Rattle.pregeld.specs.Notes.{Held, Noted, stored}
 use Rattle.pregeld.specs.Reading.{SkipsLines, TakesLines}
 use Rattle.pregeld.specs.Keeping.{AreNotes, Checks, Edits, Imports, ImportsLines, Keeps, Refreshes, RepliesTo}
-use Rattle.pg_service.specs.Service.{ServiceState, next_graph, publication_of, report_of}
+use Rattle.pg_service.specs.Service.{next_graph, publication_of, report_of}
 use Rattle.pregeld.specs.Session.{Imported, Place, State, after, action_answer, answer_to, answered, edges_of, edited, emptied, import_answer}
 use Rattle.pregeld.specs.Session.{imported, past, refresh_answer}
 use Rattle.pregeld.specs.declared.block.Block.{Block}
@@ -28,7 +28,7 @@ last-append : {A : Type 0} (o : Option A) (xs : List A) (x : A) → last_or o (x
 last-append o [] x = refl
 last-append o (y ∷ xs) x = last-append (Some y) xs x
 
-refreshes_at : (s : ServiceState) (notes : Noted) (here : Place) (reply : Reply) (new : Held) (left : Option (List (List ℕ)))
+refreshes_at : (s : ReadyState) (notes : Noted) (here : Place) (reply : Reply) (new : Held) (left : Option (List (List ℕ)))
     → AreNotes notes here.state → left ≡ Some here.lines
     → Refreshes (record { service = after s here.state; notes = notes }) reply new → RepliesTo (Ok (Act Refresh)) here (after s here.state) reply
     here.number new left
@@ -36,17 +36,14 @@ unfolding answer_to action_answer
 refreshes_at s notes here reply new left are left_is (inl done) =
     let own = ready_job s.job in
     let next : Place = (refresh_answer s.job here).next in
-    let same : report_of own None here.state.edition here.state.graph ≡ report_of own here.state.kept here.state.edition here.state.graph =
-    ap (λ k. report_of own k here.state.edition here.state.graph) (sym are.no_run) in
     record {
       next = next;
-      answers = inl (ap (λ r. answered r next) (done.0 ∙ ap Refreshed same));
-      service_is = done.1 ∙ ap (λ p. record (after s here.state) { published = p })
+      answers = inl (ap (λ r. answered r next) done.0);
+      service_is = done.1 ∙ ap (λ p. record (after s here.state) { published = p; kept = Some here.state.graph })
           (sym (last-append None here.state.publications (publication_of own here.state.edition here.state.graph)));
       notes_are = record {
         pending_is = ap (λ (n : Noted). n.pending) done.2 ∙ are.pending_is;
-        report_is = ap (λ (n : Noted). n.report) done.2 ∙ ap Some same;
-        no_run = are.no_run;
+        report_is = ap (λ (n : Noted). n.report) done.2;
       };
       number_is = refl;
       left_is = left_is;
@@ -58,13 +55,12 @@ refreshes_at s notes here reply new left are left_is (inr refused) = record {
   notes_are = record {
     pending_is = ap (λ (h : Held). h.notes.pending) refused.1 ∙ are.pending_is;
     report_is = ap (λ (h : Held). h.notes.report) refused.1 ∙ are.report_is;
-    no_run = refl;
   };
   number_is = refl;
   left_is = left_is;
 }
 
-pub refresh_replies : (here : Place) (old : ServiceState) (notes : Noted) (reply : Reply) (new : Held) (left : Option (List (List ℕ)))
+pub refresh_replies : (here : Place) (old : ReadyState) (notes : Noted) (reply : Reply) (new : Held) (left : Option (List (List ℕ)))
     → Keeps (record { service = old; notes = notes }) here.state → left ≡ Some here.lines
     → Refreshes (record { service = old; notes = notes }) reply new → RepliesTo (Ok (Act Refresh)) here old reply here.number new left
 refresh_replies here old notes reply new left keeps left_is =
@@ -74,7 +70,7 @@ refresh_replies here old notes reply new left keeps left_is =
 
 -- ---- checks
 
-checks_at : (s : ServiceState) (notes : Noted) (here : Place) (reply : Reply) (left : Option (List (List ℕ))) → AreNotes notes here.state → left
+checks_at : (s : ReadyState) (notes : Noted) (here : Place) (reply : Reply) (left : Option (List (List ℕ))) → AreNotes notes here.state → left
     ≡ Some here.lines
     → Checks (after s here.state) reply → RepliesTo (Ok (Act Recompute)) here (after s here.state) reply here.number
     (record { service = after s here.state; notes = notes }) left
@@ -102,10 +98,9 @@ none_noted : (notes now : Noted) (state : State) → AreNotes notes state → no
 none_noted notes now state are now_is = record {
   pending_is = ap (λ n. n.pending) now_is ∙ sym stored_none;
   report_is = ap (λ n. n.report) now_is ∙ are.report_is;
-  no_run = are.no_run;
 }
 
-commits_at : (s : ServiceState) (notes now : Noted) (here : Place) (reply : Reply) (new : ServiceState) (left : Option (List (List ℕ)))
+commits_at : (s : ReadyState) (notes now : Noted) (here : Place) (reply : Reply) (new : ReadyState) (left : Option (List (List ℕ)))
     → AreNotes notes here.state → left ≡ Some here.lines
     → now ≡ record notes { pending = [] } → Edits notes.pending (after s here.state) reply new
     → RepliesTo (Ok (Act Commit)) here (after s here.state) reply here.number (record { service = new; notes = now }) left
@@ -122,7 +117,7 @@ commits_at s notes now here reply new left are left_is now_is (inl done) =
       next = next;
       answers = inl (ap (λ r. answered r next) told.0);
       service_is = told.1;
-      notes_are = record { pending_is = none.pending_is; report_is = none.report_is; no_run = none.no_run };
+      notes_are = record { pending_is = none.pending_is; report_is = none.report_is };
       number_is = refl;
       left_is = left_is;
     }
@@ -137,7 +132,7 @@ commits_at s notes now here reply new left are left_is now_is (inr refused) =
       left_is = left_is;
     }
 
-pub commit_replies : (here : Place) (old : ServiceState) (notes now : Noted) (reply : Reply) (new : ServiceState) (left : Option (List (List ℕ)))
+pub commit_replies : (here : Place) (old : ReadyState) (notes now : Noted) (reply : Reply) (new : ReadyState) (left : Option (List (List ℕ)))
     → Keeps (record { service = old; notes = notes }) here.state
     → left ≡ Some here.lines → now ≡ record notes { pending = [] } → Edits notes.pending old reply new
     → RepliesTo (Ok (Act Commit)) here old reply here.number (record { service = new; notes = now }) left
@@ -175,7 +170,7 @@ aside_replies form n block here held left keeps some skipped = record {
 }
 
 -- the lines of an import were read, and its block was answered
-pub lines_imported : (form : Form) (n : ℕ) (lines : List (List ℕ)) (block : List ℕ) (old : ServiceState) (reply : Reply) (new : ServiceState)
+pub lines_imported : (form : Form) (n : ℕ) (lines : List (List ℕ)) (block : List ℕ) (old : ReadyState) (reply : Reply) (new : ReadyState)
     (left : Option (List (List ℕ)))
     → TakesLines n Whole lines [] block left → Imports (edges_of form block) old reply new → ImportsLines form n lines old (Some reply) new left
 lines_imported form n lines block old reply new left taken imports =
@@ -186,7 +181,7 @@ alone_at : (held : Held) (state : State) → Keeps held state → held.notes.pen
 alone_at held state keeps none = none_pending state.pending (sym keeps.notes_are.pending_is ∙ none)
 
 -- an import that is cut short applies nothing
-pub cut_short_replies : (form : Form) (n : ℕ) (here : Place) (held : Held) (new : ServiceState) (left : Option (List (List ℕ)))
+pub cut_short_replies : (form : Form) (n : ℕ) (here : Place) (held : Held) (new : ReadyState) (left : Option (List (List ℕ)))
     → Keeps held here.state → held.notes.pending ≡ []
     → ImportsLines form n here.lines held.service None new left
     → RepliesTo (Ok (Act (Import form n))) here held.service (Fault fault.CutShort here.number) here.number (record { service = new; notes = held.notes }) left
@@ -202,7 +197,7 @@ cut_short_replies form n here held new left keeps none taken =
       left_is = taken.2;
     }
 
-imports_at : (form : Form) (n : ℕ) (s : ServiceState) (notes : Noted) (here : Place) (reply : Reply) (new : ServiceState)
+imports_at : (form : Form) (n : ℕ) (s : ReadyState) (notes : Noted) (here : Place) (reply : Reply) (new : ReadyState)
     (left : Option (List (List ℕ))) → AreNotes notes here.state → here.state.pending ≡ []
     → ImportsLines form n here.lines (after s here.state) (Some reply) new left
     → RepliesTo (Ok (Act (Import form n))) here (after s here.state) reply (here.number + n) (record { service = new; notes = notes }) left
@@ -215,7 +210,7 @@ imports_at form n s notes here reply new left are none (there, inl done, left_is
       next = next;
       answers = inl (ap (λ r. answered r next) done.0 ∙ sym (ap (λ es. import_answer es form n here) none ∙ rw within refl));
       service_is = done.1;
-      notes_are = record { pending_is = are.pending_is; report_is = are.report_is; no_run = are.no_run };
+      notes_are = record { pending_is = are.pending_is; report_is = are.report_is };
       number_is = refl;
       left_is = left_is;
     }
@@ -228,7 +223,7 @@ imports_at form n s notes here reply new left are none (there, inr refused, left
   left_is = left_is;
 }
 
-pub import_replies : (form : Form) (n : ℕ) (here : Place) (old : ServiceState) (notes : Noted) (reply : Reply) (new : ServiceState)
+pub import_replies : (form : Form) (n : ℕ) (here : Place) (old : ReadyState) (notes : Noted) (reply : Reply) (new : ReadyState)
     (left : Option (List (List ℕ)))
     → Keeps (record { service = old; notes = notes }) here.state → notes.pending ≡ [] → ImportsLines form n here.lines old (Some reply) new left
     → RepliesTo (Ok (Act (Import form n))) here old reply (here.number + n) (record { service = new; notes = notes }) left

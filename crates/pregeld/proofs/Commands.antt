@@ -5,20 +5,19 @@ use Rattle.std.specs.Io.KnownBytes.{Appends}
 use Rattle.std.specs.Fmt.{signed_decimal}
 use Rattle.std.specs.List.{last_or}
 use Rattle.pg_graph.specs.declared.edit.Edit.{Edit as OneEdit}
-use Rattle.pg_ready.specs.declared.ready.ReadyJob.{ReadyJob}
 use Rattle.pg_service.specs.Answers.{aggregate_of}
+use Rattle.pregeld.specs.Job.{ReadyJob, ReadyState, ready_names}
 use Rattle.pregeld.specs.Command.{command_of}
 use Rattle.pregeld.specs.Notes.{Held, Noted, stored}
 use Rattle.pregeld.specs.Keeping.{AnswersLine, AreNotes, FailsLine, FailsToTell, Keeps, RepliesTo}
 use Rattle.pregeld.specs.Reply.{line_of_aggregate, line_of_reply, line_of_value, text_of}
 use Rattle.pg_service.specs.Printed.{json_text}
-use Rattle.pg_service.specs.Service.{ServiceState, registered_by}
 use Rattle.pregeld.specs.Session.{Answer, Answers, Place, State, after, answer_to, answered, get_reply, noted, opened, query_text}
 use Rattle.pregeld.specs.declared.command.Command.{Command}
 use Rattle.pregeld.specs.declared.command.Command.TheVariants.{Nothing, Edit, Ask}
 use Rattle.pregeld.specs.declared.command.LineFault.{LineFault}
 use Rattle.pg_model.specs.Publications.{Publication}
-use Rattle.pg_service.specs.declared.answers.Report.{Report}
+use Rattle.pg_service.specs.declared.report.Report.{Report}
 use Rattle.pregeld.specs.declared.command.Query.{Query}
 use Rattle.pregeld.specs.declared.command.Query.TheVariants.{Aggregate, Dump, Get, Reported}
 use Rattle.pregeld.specs.declared.reply.Reply.{Reply}
@@ -32,7 +31,7 @@ last-one None = refl
 last-one (Some x) = refl
 
 -- what a session begins with is what its service keeps
-pub opened_is : (service : ServiceState) → service ≡ after service (opened service)
+pub opened_is : (service : ReadyState) → service ≡ after service (opened service)
 opened_is service = ap (λ p. record service { published = p }) (sym (last-one service.published))
 
 -- ---- no answer is empty
@@ -58,13 +57,13 @@ query_some own Dump (Some p) report = some_later (flat_map line_of_value p.answe
     (line_some (End (length p.answer.values)))
 query_some own (Get id) published report = line_some (get_reply id published)
 query_some own (Aggregate name) None report = line_some Unpublished
-query_some own (Aggregate name) (Some p) report = aggregate_some name (aggregate_of name (registered_by own) p.answer.aggregates)
+query_some own (Aggregate name) (Some p) report = aggregate_some name (aggregate_of name (ready_names own) p.answer.aggregates)
 query_some own Reported published None = line_some Unpublished
 query_some own Reported published (Some report) = some_later (json_text report) (10 ∷ []) (one_some 10)
 
 -- ---- one line that answers a command
 
-pub line_answered : (line : List ℕ) (command : Result Command LineFault) (here : Place) (old : ServiceState) (new : Held) (reply : Reply) (number : ℕ)
+pub line_answered : (line : List ℕ) (command : Result Command LineFault) (here : Place) (old : ReadyState) (new : Held) (reply : Reply) (number : ℕ)
     (left : Option (List (List ℕ))) (before now : Option (List ℕ))
     → command_of line ≡ command → RepliesTo command here old reply number new left → Appends before now (line_of_reply reply)
     → AnswersLine line here old new number left before now
@@ -79,7 +78,7 @@ line_answered line command here old new reply number left before now asks r wrot
 }
 
 -- the line can't be written
-pub line_unwritten : (fault : ServeFault) (line : List ℕ) (command : Result Command LineFault) (here : Place) (old : ServiceState) (new : Held)
+pub line_unwritten : (fault : ServeFault) (line : List ℕ) (command : Result Command LineFault) (here : Place) (old : ReadyState) (new : Held)
     (reply : Reply) (number : ℕ) (left : Option (List (List ℕ))) (before now : Option (List ℕ))
     → command_of line ≡ command → RepliesTo command here old reply number new left → fault ≡ Write → FailsLine fault line here old new.service before now
 line_unwritten fault line command here old new reply number left before now asks r failed =
@@ -95,7 +94,7 @@ fault_replies fault here held left keeps left_is =
 -- ---- lines with another answer
 
 -- a command with this answer was carried out, and the answer is written
-pub rest_answered : (line : List ℕ) (command : Result Command LineFault) (here : Place) (old : ServiceState) (new : Held) (answer : Answer)
+pub rest_answered : (line : List ℕ) (command : Result Command LineFault) (here : Place) (old : ReadyState) (new : Held) (answer : Answer)
     (left : Option (List (List ℕ))) (before now : Option (List ℕ))
     → command_of line ≡ command → answer_to old.job command here ≡ answer → new.service ≡ after old answer.next.state → AreNotes new.notes answer.next.state
     → left ≡ Some answer.next.lines → Appends before now answer.text → AnswersLine line here old new answer.next.number left before now
@@ -124,7 +123,6 @@ edit_noted : (edit : OneEdit) (notes now : Noted) (state : State) → AreNotes n
 edit_noted edit notes now state are now_is = record {
   pending_is = ap (λ n. n.pending) now_is ∙ (ap (λ es. stored (es ++ edit ∷ [])) are.pending_is ∙ stored_later state.pending edit);
   report_is = ap (λ n. n.report) now_is ∙ are.report_is;
-  no_run = are.no_run;
 }
 
 pub edit_answered : (line : List ℕ) (edit : OneEdit) (here : Place) (held : Held) (notes : Noted) (left : Option (List (List ℕ)))
@@ -138,7 +136,7 @@ edit_answered line edit here held notes left before now asks keeps notes_is left
     keeps.service_is (edit_noted edit held.notes notes here.state keeps.notes_are notes_is) left_is wrote
 
 -- what was published last, by the service and by the session
-published_is : (service : ServiceState) (state : State) → service ≡ after service state → service.published ≡ last_or None state.publications
+published_is : (service : ReadyState) (state : State) → service ≡ after service state → service.published ≡ last_or None state.publications
 published_is service state is = ap (λ s. s.published) is
 
 -- what is told

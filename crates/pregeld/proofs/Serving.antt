@@ -2,12 +2,11 @@
 use Rattle.std.proofs.Common.{◌≡◌, ◌≢◌, ℕ, ◌+◌, List, [], ◌∷◌, ◌++◌, Option, None, Some, IfSome, refl, sym, ap, subst, inl, inr, append-nil, append_assoc, ◌∙◌}
 use Rattle.std.specs.Io.KnownBytes.{Appends}
 use Rattle.pg_import.specs.Text.{raw_lines}
-use Rattle.pg_ready.specs.declared.ready.ReadyJob.{ReadyJob}
+use Rattle.pregeld.specs.Job.{ReadyJob, ReadyState}
 use Rattle.pregeld.specs.Command.{command_of}
 use Rattle.pregeld.specs.Notes.{Held, Noted}
 use Rattle.pregeld.specs.Reading.{lines_left}
 use Rattle.pregeld.specs.Keeping.{AnswersLine, AreNotes, FailsLine, Keeps}
-use Rattle.pg_service.specs.Service.{ServiceState}
 use Rattle.pregeld.specs.Session.{Answer, Answers, BreaksOff, Place, Runs, Serves, State, after, first_place, opened, stop, go}
 use Rattle.pregeld.specs.declared.session.ServeFault.{ServeFault}
 use Rattle.pregeld.specs.declared.session.ServeFault.TheVariants.{Write}
@@ -35,7 +34,7 @@ one_more own first text number state line lines answer so_far answers = record {
 }
 
 -- a service, what was read and what was written, in the midst of a session
-pub record Midway (input : List ℕ) (old : ServiceState) (now : Held) (number : ℕ) (left : Option (List (List ℕ))) (before written : Option (List ℕ)) :
+pub record Midway (input : List ℕ) (old : ReadyState) (now : Held) (number : ℕ) (left : Option (List (List ℕ))) (before written : Option (List ℕ)) :
     Type 0 where
   pub text : List ℕ
   pub state : State
@@ -46,7 +45,7 @@ pub record Midway (input : List ℕ) (old : ServiceState) (now : Held) (number :
   pub left_is : left ≡ Some lines
   pub wrote : Appends before written text
 
-pub at_first : (input : List ℕ) (known : Option (List ℕ)) (service : ServiceState) (notes : Noted) (written : Option (List ℕ)) → known ≡ Some input
+pub at_first : (input : List ℕ) (known : Option (List ℕ)) (service : ReadyState) (notes : Noted) (written : Option (List ℕ)) → known ≡ Some input
     → notes ≡ record { pending = []; report = None }
     → Midway input service (record { service = service; notes = notes }) 0 (lines_left known) written written
 at_first input known service notes written known_is none = record {
@@ -55,17 +54,17 @@ at_first input known service notes written known_is none = record {
   lines = raw_lines input;
   so_far = not_yet service.job (first_place service input);
   service_is = opened_is service;
-  notes_are = record { pending_is = ap (λ n. n.pending) none ∙ sym stored_none; report_is = ap (λ n. n.report) none; no_run = refl };
+  notes_are = record { pending_is = ap (λ n. n.pending) none ∙ sym stored_none; report_is = ap (λ n. n.report) none };
   left_is = ap lines_left known_is;
   wrote = nothing_written written;
 }
 
 -- the service of a session keeps what the session has come to
-pub keeps_midway : (old : ServiceState) (now : Held) (state : State) → now.service ≡ after old state → AreNotes now.notes state → Keeps now state
+pub keeps_midway : (old : ReadyState) (now : Held) (state : State) → now.service ≡ after old state → AreNotes now.notes state → Keeps now state
 keeps_midway old now state now_is are = record { service_is = subst (λ s. s ≡ after s state) (sym now_is) refl; notes_are = are }
 
 -- where no line is left, the whole input was answered
-pub at_end : (input : List ℕ) (old : ServiceState) (now : Held) (number : ℕ) (left : Option (List (List ℕ))) (before written : Option (List ℕ))
+pub at_end : (input : List ℕ) (old : ReadyState) (now : Held) (number : ℕ) (left : Option (List (List ℕ))) (before written : Option (List ℕ))
     (m : Midway input old now number left before written)
     → m.lines ≡ [] → Serves input old now.service before written
 at_end input old now number left before written m no_more = record {
@@ -80,7 +79,7 @@ at_end input old now number left before written m no_more = record {
 }
 
 -- a session that breaks off between two lines
-pub between_lines : (fault : ServeFault) (input : List ℕ) (old : ServiceState) (now : Held) (number : ℕ) (left : Option (List (List ℕ)))
+pub between_lines : (fault : ServeFault) (input : List ℕ) (old : ReadyState) (now : Held) (number : ℕ) (left : Option (List (List ℕ)))
     (before written : Option (List ℕ))
     → fault ≢ Write → Midway input old now number left before written → BreaksOff fault input old now.service before written
 between_lines fault input old now number left before written other m = record {
@@ -94,10 +93,10 @@ between_lines fault input old now number left before written other m = record {
   unwritten = λ is. absurd (other is);
 }
 
-module _ (input : List ℕ) (old : ServiceState) (number : ℕ) (state : State) (line : List ℕ) (lines : List (List ℕ)) (text : List ℕ)
+module _ (input : List ℕ) (old : ReadyState) (number : ℕ) (state : State) (line : List ℕ) (lines : List (List ℕ)) (text : List ℕ)
     (so_far : SoFar old.job (first_place old input) (record { number = number; state = state; lines = line ∷ lines }) text) where
   -- one more line is answered
-  line_after : (now : ServiceState) (new : Held) (reached : ℕ) (left : Option (List (List ℕ))) (before written more : Option (List ℕ)) → now
+  line_after : (now : ReadyState) (new : Held) (reached : ℕ) (left : Option (List (List ℕ))) (before written more : Option (List ℕ)) → now
       ≡ after old state → Appends before written text
       → AnswersLine line (record { number = number + 1; state = state; lines = lines }) (after old state) new reached left written more
       → Midway input old new reached left before more
@@ -115,7 +114,7 @@ module _ (input : List ℕ) (old : ServiceState) (number : ℕ) (state : State) 
   }
 
   -- a line is answered, and the answer can't be written
-  unwritten : (new : ServiceState) (before now : Option (List ℕ)) (answer : Answer) → Answers old.job (command_of line)
+  unwritten : (new : ReadyState) (before now : Option (List ℕ)) (answer : Answer) → Answers old.job (command_of line)
       (record { number = number + 1; state = state; lines = lines }) answer
       → new ≡ after old answer.next.state → answer.text ≢ [] → BreaksOff Write input old new before now
   unwritten new before now answer answers new_is some = record {
@@ -147,7 +146,7 @@ pub if_known : {P : List ℕ → Type 0} (known : Option (List ℕ)) → ((input
 if_known None h = tt
 if_known (Some input) h = h input refl
 
-module _ (input : List ℕ) (old : ServiceState) (now : Held) (number : ℕ) (left : Option (List (List ℕ))) (before written : Option (List ℕ))
+module _ (input : List ℕ) (old : ReadyState) (now : Held) (number : ℕ) (left : Option (List (List ℕ))) (before written : Option (List ℕ))
     (m : Midway input old now number left before written)
     (line : List ℕ) (rest : List (List ℕ)) (first : m.lines ≡ line ∷ rest) where
   abbrev here : Place
@@ -164,7 +163,7 @@ module _ (input : List ℕ) (old : ServiceState) (now : Held) (number : ℕ) (le
       (subst (λ s. AnswersLine line here s new reached left' written more) m.service_is a)
 
   -- a line that fails breaks the session off
-  pub breaks_off : (fault : ServeFault) (new : ServiceState) (more : Option (List ℕ)) → FailsLine fault line here now.service new written more
+  pub breaks_off : (fault : ServeFault) (new : ReadyState) (more : Option (List ℕ)) → FailsLine fault line here now.service new written more
       → BreaksOff fault input old new before more
   breaks_off fault new more (inl kept) =
       subst (λ w. BreaksOff fault input old new before w) (sym kept.2) (subst (λ s. BreaksOff fault input old s before written) (sym kept.1)

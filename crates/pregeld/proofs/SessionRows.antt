@@ -11,14 +11,14 @@ use Rattle.pg_model.specs.Programs.{peel_step, sssp_step}
 use Rattle.pg_model.specs.Run.{answer, configuration, first, length_from}
 use Rattle.pg_model.specs.Superstep.{gathered_from, next, outcome, view_of, visible_in}
 use Rattle.std.specs.Fmt.{digits}
+use Rattle.pregeld.specs.Job.{ReadyJob}
 use Rattle.pregeld.specs.Arguments.{job_in}
 use Rattle.pregeld.specs.Command.{agg_of, alone, command_in, command_of, edit_named, get_of, import_of, named}
 use Rattle.pregeld.specs.Edits.{edge_of as edge_asked, input_of, vertex_of}
 use Rattle.pg_global.specs.declared.combiner.AnyCombiner.TheVariants.{NoCombiner}
 use Rattle.pg_graph.specs.declared.missing.Missing.TheVariants.{Drop, Create}
-use Rattle.pg_ready.specs.declared.ready.ReadyJob.{ReadyJob}
-use Rattle.pregeld.specs.Reply.{text_of}
-use Rattle.pg_service.specs.Printed.{json_text, report_text}
+use Rattle.pregeld.specs.Reply.{text_of, told_text}
+use Rattle.pg_service.specs.Printed.{json_text}
 use Rattle.pg_service.specs.Service.{next_graph}
 use Rattle.pregeld.specs.Session.{State, action_answer, answer_to}
 use Rattle.pregeld.specs.declared.names.ProgramName.{ProgramName}
@@ -54,17 +54,23 @@ unfolding inputs_at needed_below answer configuration first length_from gathered
 running = tt
 
 unfoldable printing : ⊤
-unfolding text_of report_text json_text digits
+unfolding text_of told_text json_text digits
 printing = tt
 
 -- the options of a program where nothing else is said
 abbrev defaults : ProgramName → Options
-defaults program = record { program = program; source = 1; k = 2; rounds = 30; eps = pos 0; combiner = NoCombiner; limit = 1000; missing = Drop }
+defaults program = record { program = program; source = 1; k = 2; rounds = 30; eps = pos 0; combiner = NoCombiner; partitions = 1; limit = 1000; missing = Drop }
 
 two_hops : session (job_in (defaults Sssp)) (codes "import list 2\n1 2 5\n2 3\nrefresh\ndump\n")
     ≡ codes "edition 1\nrefreshed edition 1 supersteps 3 ending finished calls 5 losses 0\nvalue 1 0\nvalue 2 5\nvalue 3 6\nend 3\n"
 unfolding reading batching running printing sssp_step
 two_hops = refl
+
+-- a second run beside the first: the source is called again, and the end of the shortcut twice
+shortcut_added : session (job_in (defaults Sssp)) (codes "import list 2\n1 2 5\n2 3\nrefresh\nedge 1 3 2\ncommit\nrefresh\nget 3\ncheck\n")
+    ≡ codes "edition 1\nrefreshed edition 1 supersteps 3 ending finished calls 5 losses 0\nedition 2\nrefreshed edition 2 supersteps 3 ending finished calls 3 losses 0\nvalue 3 2\ncheck same calls 6\n"
+unfolding reading batching running printing sssp_step
+shortcut_added = refl
 
 -- where messages make vertices: an import adds the targets of its edges, so none is made here
 backwards : session (job_in (record (defaults Sssp) { source = 2; missing = Create })) (codes "import list 1\n2 1 5\nrefresh\ndump\n")

@@ -13,11 +13,12 @@ use Rattle.clap.specs.declared.error.kind.ErrorKind.TheVariants.{DisplayHelp}
 use Rattle.pg_global.specs.declared.combiner.AnyCombiner.{AnyCombiner}
 use Rattle.pg_global.specs.declared.combiner.AnyCombiner.TheVariants.{NoCombiner, Min}
 use Rattle.pg_global.specs.declared.combiner.AnyCombiner.TheVariants.{Max as MaxCombiner, Sum}
+use Rattle.pg_core.specs.Limits.{Limits}
 use Rattle.pg_graph.specs.declared.missing.Missing.{Missing}
 use Rattle.pg_graph.specs.declared.missing.Missing.TheVariants.{Drop, Create}
-use Rattle.pg_ready.specs.declared.ready.ReadyJob.{ReadyJob}
 use Rattle.pg_ready.specs.declared.ready.ReadyProgram.{ReadyProgram}
 use Rattle.pg_ready.specs.declared.ready.ReadyProgram.TheVariants as ready
+use Rattle.pregeld.specs.Job.{ReadyJob}
 use Rattle.pregeld.specs.declared.names.ProgramName.{ProgramName}
 use Rattle.pregeld.specs.declared.names.ProgramName.TheVariants.{Sssp, Cc, MaxValue, Indegree}
 use Rattle.pregeld.specs.declared.names.ProgramName.TheVariants.{Pagerank, Peel}
@@ -107,6 +108,9 @@ rounds_limit = 10000
 abbrev pub eps_limit : ℕ
 eps_limit = 1000000000000
 
+abbrev pub partition_limit : ℕ
+partition_limit = 64
+
 abbrev pub superstep_limit : ℕ
 superstep_limit = 10000
 
@@ -118,6 +122,7 @@ rules words =
     ∷ number_rule (codes "rounds") 0 rounds_limit (codes "30")
     ∷ number_rule (codes "eps") 0 eps_limit (codes "0")
     ∷ word_rule (codes "combiner") words.combiners (combiner_word NoCombiner)
+    ∷ number_rule (codes "partitions") 1 partition_limit (codes "1")
     ∷ number_rule (codes "limit") 1 superstep_limit (codes "1000")
     ∷ word_rule (codes "missing") words.policies (missing_word Drop)
     ∷ []
@@ -140,6 +145,13 @@ pub record WritesIn (text : Option Text) (least greatest number : ℕ) : Type 0 
   pub from : least ≤ number
   pub to : number ≤ greatest
 
+-- the numbers that runs are made with are within their limits
+pub record AreInRange (options : Options) : Type 0 where
+  pub some_partitions : 1 ≤ options.partitions
+  pub few_partitions : options.partitions ≤ partition_limit
+  pub some_supersteps : 1 ≤ options.limit
+  pub few_supersteps : options.limit ≤ superstep_limit
+
 -- the texts of the options say these
 pub record Say (text_of : Text → Option Text) (options : Options) : Type 0 where
   pub program_is : text_of (codes "program") ≡ Some (program_word options.program)
@@ -150,6 +162,7 @@ pub record Say (text_of : Text → Option Text) (options : Options) : Type 0 whe
   pub eps_is : WritesIn (text_of (codes "eps")) 0 eps_limit eps
   pub eps_in : options.eps ≡ pos eps
   pub combiner_is : text_of (codes "combiner") ≡ Some (combiner_word options.combiner)
+  pub partitions_are : WritesIn (text_of (codes "partitions")) 1 partition_limit options.partitions
   pub limit_is : WritesIn (text_of (codes "limit")) 1 superstep_limit options.limit
   pub missing_is : text_of (codes "missing") ≡ Some (missing_word options.missing)
 
@@ -209,10 +222,21 @@ program_in Indegree options = ready.Indegree (record {})
 program_in Pagerank options = ready.Pagerank (record { rounds = options.rounds; eps = options.eps })
 program_in Peel options = ready.Peel (record { k = options.k })
 
+-- the numbers of its runs: one worker, nothing saved, and as many losses borne as may be
+abbrev pub limits_in : Options → Limits
+limits_in options = record {
+  partitions = options.partitions;
+  workers = 1;
+  limit = options.limit;
+  every = 0;
+  max_losses = 16;
+  missing = options.missing;
+}
+
 abbrev pub job_in : Options → ReadyJob
 job_in options = record {
   program = program_in options.program options;
   combiner = options.combiner;
-  missing = options.missing;
-  limit = options.limit;
+  master = record { program = program_in options.program options };
+  limits = limits_in options;
 }

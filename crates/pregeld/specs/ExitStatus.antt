@@ -2,8 +2,9 @@
 use Rattle.std.specs.Prelude.{◌≡◌, ◌⊎◌, ℕ, List, Option, IfSome}
 use Rattle.std.specs.Io.KnownBytes.{Appends}
 use Rattle.clap.specs.Words.{Text}
+use Rattle.pregeld.specs.Job.{ReadyState}
 use Rattle.pregeld.specs.Arguments.{AreAtFault, AsksForHelp, AsksForRuns, job_in}
-use Rattle.pg_service.specs.Service.{ServiceState, fresh}
+use Rattle.pg_service.specs.Service.{fresh}
 use Rattle.pregeld.specs.Session.{BreaksOff, Serves}
 use Rattle.pregeld.specs.declared.options.Options.{Options}
 use Rattle.pregeld.specs.declared.session.ServeFault.{ServeFault}
@@ -13,7 +14,7 @@ use Rattle.pregeld.specs.declared.session.ServeFault.{ServeFault}
 pub record ServesWords (words : List Text) (remaining before now : Option (List ℕ)) : Type 0 where
   pub options : Options
   pub asked : AsksForRuns words options
-  pub served : IfSome remaining (λ input. (left : ServiceState)
+  pub served : IfSome remaining (λ input. (left : ReadyState)
       × Serves input (fresh (job_in options)) left before now)
 
 -- a fault broke off a session of the job that the words ask for, where the bytes that there were
@@ -23,7 +24,7 @@ pub record BreaksOffWords (words : List Text)
   pub options : Options
   pub asked : AsksForRuns words options
   pub fault : ServeFault
-  pub broken : IfSome remaining (λ input. (left : ServiceState)
+  pub broken : IfSome remaining (λ input. (left : ReadyState)
       × BreaksOff fault input (fresh (job_in options)) left before now)
 
 -- a text was added to what was written, where that is known

@@ -2,17 +2,18 @@
 use Rattle.std.specs.Prelude.{◌≡◌, ◌≢◌, ◌⊎◌, ℕ, ◌<◌, ◌≤◌, List, []}
 use Rattle.std.specs.Prelude.{length, take, drop, Option, None, Some, Result}
 use Rattle.std.specs.List.{concat}
+use Rattle.std.specs.Ordering.{int_eq}
 use Rattle.std.specs.Io.KnownBytes.{Appends}
 use Rattle.pg_graph.specs.Edit.{memory_fault}
 use Rattle.pg_graph.specs.declared.edit.Edit.{Edit}
 use Rattle.pg_import.specs.Import.{no_memory}
 use Rattle.pg_import.specs.declared.line.ImportFault.{ImportFault}
 use Rattle.pg_import.specs.declared.line.Line.{Line}
-use Rattle.pg_scratch.specs.declared.runner.RunFault.TheVariants.{Memory}
+use Rattle.pregeld.specs.Job.{ReadyState, ready_job}
 use Rattle.pregeld.specs.Command.{command_of}
-use Rattle.pg_ready.specs.Ready.{ready_job}
 use Rattle.pregeld.specs.Notes.{Held, Noted, stored}
-use Rattle.pg_service.specs.Service.{IsTried, ServiceState, check_of, next_graph, publication_of}
+use Rattle.pregeld.specs.Reply.{told_of}
+use Rattle.pg_service.specs.Service.{IsTried, check_of, next_graph, publication_of}
 use Rattle.pg_service.specs.Service.{report_of}
 use Rattle.pregeld.specs.Session.{Answer, Answers, IsTriedOf, Place, State, after, answered}
 use Rattle.pregeld.specs.Session.{edges_of, edited, imported}
@@ -26,14 +27,14 @@ use Rattle.pregeld.specs.declared.session.ServeFault.{ServeFault}
 use Rattle.pregeld.specs.declared.session.ServeFault.TheVariants.{Write}
 
 -- a batch may be answered so, or for want of memory where it is tried
-abbrev pub Edits : List Edit → ServiceState → Reply → ServiceState → Type 0
+abbrev pub Edits : List Edit → ReadyState → Reply → ReadyState → Type 0
 Edits batch old reply new =
     let now = edited (next_graph old.edition old.graph batch) old.edition old.graph in
     ((reply ≡ now.reply) × (new ≡ record old { edition = now.edition; graph = now.graph }))
     ⊎ ((new ≡ old) × (reply ≡ BatchRefused memory_fault) × IsTried old.edition batch)
 
 -- an import may be answered so, or for want of memory
-abbrev pub Imports : Result (List Line) ImportFault → ServiceState → Reply → ServiceState → Type 0
+abbrev pub Imports : Result (List Line) ImportFault → ReadyState → Reply → ReadyState → Type 0
 Imports edges old reply new =
     let now = imported edges old.edition old.graph in
     ((reply ≡ now.reply) × (new ≡ record old { edition = now.edition; graph = now.graph }))
@@ -42,7 +43,7 @@ Imports edges old reply new =
 
 -- the lines of an import were fewer, or were read and answered so
 abbrev pub ImportsLines :
-    Form → ℕ → List (List ℕ) → ServiceState → Option Reply → ServiceState
+    Form → ℕ → List (List ℕ) → ReadyState → Option Reply → ReadyState
     → Option (List (List ℕ)) → Type 0
 ImportsLines form n lines old None new left = (length lines < n) × (new ≡ old) × (left ≡ Some [])
 ImportsLines form n lines old (Some reply) new left =
@@ -50,32 +51,31 @@ ImportsLines form n lines old (Some reply) new left =
     × Imports (edges_of form (concat (take n lines))) old reply new
     × (left ≡ Some (drop n lines))
 
--- a refresh may be answered so and reported, or for want of memory
+-- a refresh may be answered so and reported, or for want of memory, and then no run is kept
 abbrev pub Refreshes : Held → Reply → Held → Type 0
 Refreshes old reply new =
     let service = old.service in
     let own = ready_job service.job in
-    let report = report_of own None service.edition service.graph in
+    let report = report_of own int_eq int_eq service.job.limits.partitions service.kept service.edition service.graph in
     let publication = publication_of own service.edition service.graph in
-    ((reply ≡ Refreshed report)
-    × (new.service ≡ record service { published = Some publication })
+    ((reply ≡ Refreshed (told_of report))
+    × (new.service ≡ record service { published = Some publication; kept = Some service.graph })
     × (new.notes ≡ record old.notes { report = Some report }))
-    ⊎ ((reply ≡ RunRefused Memory) × (new ≡ old))
+    ⊎ ((reply ≡ RunRefused 1)
+    × (new ≡ record old { service = record service { kept = None } }))
 
 -- a check may be answered so, or for want of memory
-abbrev pub Checks : ServiceState → Reply → Type 0
+abbrev pub Checks : ReadyState → Reply → Type 0
 Checks old reply =
-    (reply ≡ Checked (check_of (ready_job old.job) old.edition old.graph old.published))
-    ⊎ (reply ≡ RunRefused Memory)
+    (reply ≡ Checked (check_of (ready_job old.job) int_eq int_eq old.edition old.graph old.published))
+    ⊎ (reply ≡ RunRefused 1)
 
 -- ---- a service beside a session
 
--- what is noted of a session: its pending edits, and its last report; no run is kept for it to
--- reuse
+-- what is noted of a session: its pending edits, and its last report
 pub record AreNotes (notes : Noted) (state : State) : Type 0 where
   pub pending_is : notes.pending ≡ stored state.pending
   pub report_is : notes.report ≡ state.report
-  pub no_run : state.kept ≡ None
 
 -- a service and its notes keep what a session has come to
 pub record Keeps (held : Held) (state : State) : Type 0 where
@@ -83,7 +83,7 @@ pub record Keeps (held : Held) (state : State) : Type 0 where
   pub notes_are : AreNotes held.notes state
 
 -- a command was answered with this line, and the session goes on past the line of this number
-pub record RepliesTo (command : Result Command LineFault) (here : Place) (old : ServiceState)
+pub record RepliesTo (command : Result Command LineFault) (here : Place) (old : ReadyState)
     (reply : Reply) (number : ℕ) (new : Held) (left : Option (List (List ℕ))) : Type 0 where
   pub next : Place
   pub answers : Answers old.job command here (answered reply next)
@@ -93,7 +93,7 @@ pub record RepliesTo (command : Result Command LineFault) (here : Place) (old : 
   pub left_is : left ≡ Some next.lines
 
 -- a line was answered so, and the session goes on there
-pub record AnswersLine (line : List ℕ) (here : Place) (old : ServiceState) (new : Held) (number : ℕ)
+pub record AnswersLine (line : List ℕ) (here : Place) (old : ReadyState) (new : Held) (number : ℕ)
     (left : Option (List (List ℕ))) (before now : Option (List ℕ)) : Type 0 where
   pub answer : Answer
   pub answers : Answers old.job (command_of line) here answer
@@ -109,7 +109,7 @@ FailsToTell fault before now = (fault ≡ Write) ⊎ ((fault ≢ Write) × (now 
 
 -- a line couldn't be carried out, or its answer couldn't be written
 abbrev pub FailsLine :
-    ServeFault → List ℕ → Place → ServiceState → ServiceState
+    ServeFault → List ℕ → Place → ReadyState → ReadyState
     → Option (List ℕ) → Option (List ℕ) → Type 0
 FailsLine fault line here old new before now =
     ((fault ≢ Write) × (new ≡ old) × (now ≡ before))

@@ -2,6 +2,7 @@ pub mod Arguments
 pub mod Command
 pub mod Edits
 pub mod ExitStatus
+pub mod Job
 pub mod Keeping
 pub mod Notes
 pub mod Reading

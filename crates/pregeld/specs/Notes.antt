@@ -1,8 +1,8 @@
 -- What a session has beside its service.
 use Rattle.std.specs.Prelude.{ℕ, List, take, Option}
 use Rattle.pg_graph.specs.declared.edit.Edit.{Edit}
-use Rattle.pg_service.specs.Service.{ServiceState}
-use Rattle.pg_service.specs.declared.answers.Report.{Report}
+use Rattle.pg_service.specs.declared.report.Report.{Report}
+use Rattle.pregeld.specs.Job.{ReadyState}
 
 -- one edit more than a batch may have
 abbrev pub stored_limit : ℕ
@@ -19,8 +19,8 @@ pub record Noted : Type 0 where
 
 -- a service with the notes of its session
 pub record Held : Type 0 where
-  pub service : ServiceState
+  pub service : ReadyState
   pub notes : Noted
 
-abbrev pub with_notes : ServiceState → Noted → Held
+abbrev pub with_notes : ReadyState → Noted → Held
 with_notes service notes = record { service = service; notes = notes }

@@ -4,8 +4,7 @@ use Rattle.std.specs.Prelude.{decimal, codes}
 use Rattle.std.specs.Fmt.{signed_decimal}
 use Rattle.pg_graph.specs.EditKind as edit
 use Rattle.pg_import.specs.ImportKind as import
-use Rattle.pg_scratch.specs.declared.runner.RunFault.{RunFault}
-use Rattle.pg_scratch.specs.declared.runner.RunFault.TheVariants as run
+use Rattle.pg_service.specs.declared.report.Report.{Report}
 use Rattle.pregeld.specs.declared.command.LineFault.{LineFault}
 use Rattle.pregeld.specs.declared.command.LineFault.TheVariants.{NoCommand, WordCount, BadWord}
 use Rattle.pregeld.specs.declared.command.LineFault.TheVariants.{CutShort, EditsPending}
@@ -13,13 +12,27 @@ use Rattle.pregeld.specs.declared.reply.Reply.{Reply}
 use Rattle.pregeld.specs.declared.reply.Reply.TheVariants.{Edition, ImportRefused, BatchRefused}
 use Rattle.pregeld.specs.declared.reply.Reply.TheVariants.{Refreshed, RunRefused, Checked}
 use Rattle.pregeld.specs.declared.reply.Reply.TheVariants.{Unpublished, Value, NoValue, End, Fault}
-use Rattle.pg_service.specs.Printed.{check_text, report_text}
+use Rattle.pregeld.specs.declared.reply.Told.{Told}
+use Rattle.pg_service.specs.Printed.{check_text, ending_name}
 
--- the number of a refused run
-abbrev pub refusal_number : RunFault → ℕ
-refusal_number run.Memory = 1
-refusal_number run.Unregistered = 2
-refusal_number run.Register = 3
+-- what the answer to a refresh tells of its report
+abbrev pub told_of : Report → Told
+told_of report = record {
+  edition = report.edition;
+  supersteps = report.supersteps;
+  ending = report.ending;
+  calls = report.calls;
+  losses = length report.losses;
+}
+
+-- the answer to a refresh, without its line feed
+unfoldable pub told_text : Told → List ℕ
+told_text told =
+    codes "refreshed edition " ++ (decimal told.edition
+    ++ (codes " supersteps " ++ (decimal told.supersteps
+    ++ (codes " ending " ++ (ending_name told.ending
+    ++ (codes " calls " ++ (decimal told.calls
+    ++ (codes " losses " ++ decimal told.losses))))))))
 
 -- the number of a line's fault
 abbrev pub fault_number : LineFault → ℕ
@@ -38,8 +51,8 @@ text_of (ImportRefused fault) =
 text_of (BatchRefused fault) =
     codes "refused " ++ decimal (edit.number_of fault.kind)
     ++ codes " position " ++ decimal fault.position
-text_of (Refreshed report) = report_text report
-text_of (RunRefused fault) = codes "refused " ++ decimal (refusal_number fault)
+text_of (Refreshed told) = told_text told
+text_of (RunRefused number) = codes "refused " ++ decimal number
 text_of (Checked check) = check_text check
 text_of Unpublished = codes "unpublished"
 text_of (Value id value) = codes "value " ++ decimal id ++ codes " " ++ signed_decimal value

@@ -4,6 +4,7 @@ use Rattle.std.specs.Prelude.{◌++◌, length, take, drop, Option, None, Some, 
 use Rattle.std.specs.Prelude.{Ok, Err}
 use Rattle.std.specs.Io.KnownBytes.{Appends}
 use Rattle.std.specs.List.{concat, last_or}
+use Rattle.std.specs.Ordering.{int_eq}
 use Rattle.pg_graph.specs.Edit.{memory_fault}
 use Rattle.pg_graph.specs.Rows.{Rows}
 use Rattle.pg_graph.specs.declared.edit.Edit.{Edit as OneEdit}
@@ -15,16 +16,14 @@ use Rattle.pg_import.specs.declared.line.ImportFault.{ImportFault}
 use Rattle.pg_import.specs.declared.line.Line.{Line}
 use Rattle.pg_global.specs.Registry.{Registered}
 use Rattle.pg_model.specs.Publications.{Publication, Publications}
-use Rattle.pg_scratch.specs.declared.runner.RunFault.TheVariants.{Memory}
 use Rattle.pg_import.specs.Text.{raw_lines}
 use Rattle.pg_service.specs.Answers.{aggregate_of, value_of}
+use Rattle.pregeld.specs.Job.{ReadyJob, ReadyState, ready_job, ready_names}
 use Rattle.pregeld.specs.Command.{command_of}
-use Rattle.pg_ready.specs.Ready.{ready_job}
-use Rattle.pg_ready.specs.declared.ready.ReadyJob.{ReadyJob}
-use Rattle.pregeld.specs.Reply.{line_of_aggregate, line_of_reply, values_text}
+use Rattle.pregeld.specs.Reply.{line_of_aggregate, line_of_reply, told_of, values_text}
 use Rattle.pg_service.specs.Printed.{json_text}
-use Rattle.pg_service.specs.Service.{IsTried, ServiceState, check_of, next_graph, publication_of}
-use Rattle.pg_service.specs.Service.{registered_by, report_of}
+use Rattle.pg_service.specs.Service.{IsTried, check_of, next_graph, publication_of}
+use Rattle.pg_service.specs.Service.{report_of}
 use Rattle.pregeld.specs.declared.command.Command.{Command}
 use Rattle.pregeld.specs.declared.command.Command.TheVariants.{Nothing, Edit, Act, Ask}
 use Rattle.pregeld.specs.declared.command.Action.{Action}
@@ -39,7 +38,7 @@ use Rattle.pregeld.specs.declared.reply.Reply.{Reply}
 use Rattle.pregeld.specs.declared.reply.Reply.TheVariants.{Edition, ImportRefused, BatchRefused}
 use Rattle.pregeld.specs.declared.reply.Reply.TheVariants.{Refreshed, RunRefused, Checked}
 use Rattle.pregeld.specs.declared.reply.Reply.TheVariants.{Unpublished, Value, NoValue, Fault}
-use Rattle.pg_service.specs.declared.answers.Report.{Report}
+use Rattle.pg_service.specs.declared.report.Report.{Report}
 use Rattle.pregeld.specs.declared.session.ServeFault.{ServeFault}
 use Rattle.pregeld.specs.declared.session.ServeFault.TheVariants.{Write}
 
@@ -188,20 +187,21 @@ abbrev pub query_text : ReadyJob → Query → Option (Publication ℤ) → Opti
 query_text own Dump published report = dump_text published
 query_text own (Get id) published report = line_of_reply (get_reply id published)
 query_text own (Aggregate name) published report =
-    aggregate_text name (registered_by own) published
+    aggregate_text name (ready_names own) published
 query_text own Reported published report = report_line report
 
 module _ (own : ReadyJob) where
-  -- the run on the graph as it stands is published and reported
+  -- the run on the graph as it stands is published and reported, and is the one that the next may reuse
   abbrev pub refresh_answer : Place → Answer
   refresh_answer place =
       let state = place.state in
-      let report = report_of (ready_job own) state.kept state.edition state.graph in
+      let report = report_of (ready_job own) int_eq int_eq own.limits.partitions state.kept state.edition state.graph in
       let publication = publication_of (ready_job own) state.edition state.graph in
-      answered (Refreshed report) (record place {
+      answered (Refreshed (told_of report)) (record place {
         state = record state {
           publications = state.publications ++ publication ∷ [];
           report = Some report;
+          kept = Some state.graph;
         };
       })
 
@@ -213,7 +213,7 @@ module _ (own : ReadyJob) where
   action_answer Recompute place =
       let state = place.state in
       let published = last_or None state.publications in
-      answered (Checked (check_of (ready_job own) state.edition state.graph published)) place
+      answered (Checked (check_of (ready_job own) int_eq int_eq state.edition state.graph published)) place
 
   -- the answer to a command, which stands in the last line that was read
   unfoldable pub answer_to : Result Command LineFault → Place → Answer
@@ -240,8 +240,8 @@ module _ (own : ReadyJob) where
       × (answer ≡ answered reply (past n place))
   WantsMemory Refresh place answer =
       answer
-      ≡ answered (RunRefused Memory) (record place { state = record place.state { kept = None } })
-  WantsMemory Recompute place answer = answer ≡ answered (RunRefused Memory) place
+      ≡ answered (RunRefused 1) (record place { state = record place.state { kept = None } })
+  WantsMemory Recompute place answer = answer ≡ answered (RunRefused 1) place
 
   -- the answers for want of memory
   abbrev pub ForWantOfMemory : Result Command LineFault → Place → Answer → Type 0
@@ -282,36 +282,37 @@ module _ (own : ReadyJob) where
 -- ---- the service of a session
 
 -- a session begins with what a service keeps
-abbrev pub opened : ServiceState → State
+abbrev pub opened : ReadyState → State
 opened service = record {
   graph = service.graph;
   edition = service.edition;
   pending = [];
   publications = option_to_list service.published;
   report = None;
-  kept = None;
+  kept = service.kept;
 }
 
 -- a service keeps what a session has come to
-abbrev pub after : ServiceState → State → ServiceState
+abbrev pub after : ReadyState → State → ReadyState
 after service state = record service {
   graph = state.graph;
   edition = state.edition;
   published = last_or None state.publications;
+  kept = state.kept;
 }
 
 -- where a session of a service on an input begins
-abbrev pub first_place : ServiceState → List ℕ → Place
+abbrev pub first_place : ReadyState → List ℕ → Place
 first_place service input = place_at 0 (opened service) (raw_lines input)
 
 -- a session of a service on an input has come to a place, with this text
-pub record Comes (input : List ℕ) (old new : ServiceState) (text : List ℕ)
+pub record Comes (input : List ℕ) (old new : ReadyState) (text : List ℕ)
     (place : Place) : Type 0 where
   pub runs : Runs old.job (first_place old input) text place
   pub service_is : new ≡ after old place.state
 
 -- the whole input was answered, and that is what was written
-pub record Serves (input : List ℕ) (old new : ServiceState)
+pub record Serves (input : List ℕ) (old new : ReadyState)
     (before now : Option (List ℕ)) : Type 0 where
   pub text : List ℕ
   pub place : Place
@@ -321,7 +322,7 @@ pub record Serves (input : List ℕ) (old new : ServiceState)
 
 -- a fault broke a session off: all was written that was answered until then; where writing failed,
 -- it was the last answer that couldn't be written
-pub record BreaksOff (fault : ServeFault) (input : List ℕ) (old new : ServiceState)
+pub record BreaksOff (fault : ServeFault) (input : List ℕ) (old new : ReadyState)
     (before now : Option (List ℕ)) : Type 0 where
   pub text : List ℕ
   pub place : Place

@@ -29,6 +29,9 @@ pub(crate) const ROUNDS_LIMIT: u64 = 10_000;
 /// The greatest change of ranks that may end a run.
 pub(crate) const EPS_LIMIT: u64 = 1_000_000_000_000;
 
+/// The most partitions of a run.
+pub(crate) const PARTITION_LIMIT: u64 = 64;
+
 /// The most supersteps of a run.
 pub(crate) const SUPERSTEP_LIMIT: u64 = 10_000;
 
@@ -73,6 +76,14 @@ pub(crate) fn command<'a>(alloc: Global) -> Result<Command<'a>, AllocError>
             "pagerank: the change of all ranks that ends a run, if it is above 0",
         ))?
         .arg(combiner_option(alloc))?
+        .arg(number_option(
+            alloc,
+            "partitions",
+            1,
+            PARTITION_LIMIT,
+            "1",
+            "How many partitions the vertices are dealt out to",
+        ))?
         .arg(number_option(
             alloc,
             "limit",

@@ -11,13 +11,15 @@ ghost use Rattle.pregeld.specs.Session.{State, edges_of, place_at};
 use crate::block::{Block, skip_lines, take_block};
 use crate::command::{Action, Command, Form, LineFault};
 use crate::notes::Notes;
-use crate::reply::Reply;
-use crate::{ServeFault, Service};
+use crate::reply::{Reply, Told};
+use crate::{ReadyService, ServeFault};
 use pg_graph::Batch;
 use pg_import::{ImportFault, Line, into_batch, read_csv, read_list};
-use pg_scratch::RunFault;
 use std::alloc::Global;
 use std::io::BufRead;
+
+/// The number of a check that is refused for want of memory.
+const NO_MEMORY: u8 = 1;
 
 /// Does what is asked for, and gives its answer and the number of the last line that it has taken.
 ///
@@ -29,7 +31,7 @@ pub(crate) fn carry_out<R: BufRead>(
     number: u64,
     action: Action,
     reader: &mut R,
-    service: &mut Service,
+    service: &mut ReadyService,
     notes: &mut Notes,
 ) -> Result<(Reply, u64), ServeFault>
     ensures ok { IfOk result (λ r. (state : State) → Keeps (with_notes service.old notes.old) state
@@ -49,7 +51,7 @@ pub(crate) fn carry_out<R: BufRead>(
 }
 
 /// Applies the pending edits as one batch. None is pending afterwards.
-fn commit(alloc: Global, service: &mut Service, notes: &mut Notes) -> Reply
+fn commit(alloc: Global, service: &mut ReadyService, notes: &mut Notes) -> Reply
     ensures edits { Edits notes.old.pending service.old result service.new }
     ensures emptied { notes.new ≡ record notes.old { pending = [] } }
 {
@@ -59,7 +61,7 @@ fn commit(alloc: Global, service: &mut Service, notes: &mut Notes) -> Reply
 }
 
 /// Applies a batch.
-fn apply(alloc: Global, batch: &Batch, service: &mut Service) -> Reply
+fn apply(alloc: Global, batch: &Batch, service: &mut ReadyService) -> Reply
     ensures { Edits batch.now service.old result service.new }
 {
     match service.edit(alloc, batch) {
@@ -69,26 +71,27 @@ fn apply(alloc: Global, batch: &Batch, service: &mut Service) -> Reply
 }
 
 /// Runs the program, publishes the answer and keeps the report.
-fn refresh(alloc: Global, service: &mut Service, notes: &mut Notes) -> Reply
+fn refresh(alloc: Global, service: &mut ReadyService, notes: &mut Notes) -> Reply
     ensures { Refreshes (with_notes service.old notes.old) result
         (with_notes service.new notes.new) }
 {
     match service.refresh(alloc) {
         Ok(report) => {
-            notes.keep_report(&report);
-            Reply::Refreshed(report)
+            let told = Told::of(&report);
+            notes.keep_report(report);
+            Reply::Refreshed(told)
         }
-        Err(fault) => Reply::RunRefused(fault),
+        Err(fault) => Reply::RunRefused(fault.number()),
     }
 }
 
 /// Compares what was published with a run from scratch.
-fn check(alloc: Global, service: &Service) -> Reply
+fn check(alloc: Global, service: &ReadyService) -> Reply
     ensures { Checks service.now result }
 {
     match service.check(alloc) {
         Ok(check) => Reply::Checked(check),
-        Err(_) => Reply::RunRefused(RunFault::Memory),
+        Err(_) => Reply::RunRefused(NO_MEMORY),
     }
 }
 
@@ -100,7 +103,7 @@ fn import<R: BufRead>(
     form: Form,
     lines: u32,
     reader: &mut R,
-    service: &mut Service,
+    service: &mut ReadyService,
     notes: &Notes,
 ) -> Result<(Reply, u64), ServeFault>
     ensures ok { IfOk result (λ r. (state : State) → Keeps (with_notes service.old notes.now) state
@@ -130,7 +133,7 @@ fn import_lines<R: BufRead>(
     form: Form,
     lines: u32,
     reader: &mut R,
-    service: &mut Service,
+    service: &mut ReadyService,
 ) -> Result<Option<Reply>, ServeFault>
     ensures ok { IfOk result (λ reply. IfLines (R.remaining reader.old) (λ rest.
         ImportsLines form lines rest service.old reply service.new
@@ -146,7 +149,7 @@ fn import_lines<R: BufRead>(
 }
 
 /// Applies the text of an edge list as one batch.
-fn import_block(alloc: Global, form: Form, text: &[u8], service: &mut Service) -> Reply
+fn import_block(alloc: Global, form: Form, text: &[u8], service: &mut ReadyService) -> Reply
     ensures { Imports (edges_of form text.now) service.old result service.new }
 {
     let edges = match read_block(alloc, form, text) {

@@ -14,6 +14,11 @@ mod reply;
 mod session;
 mod writing;
 
-pub use pg_service::{Answers, Check, Report, Service, same};
+use pg_global::AnyCombiner;
+use pg_ready::{ReadyMaster, ReadyProgram};
+pub use pg_service::{Answers, Cause, Check, Loss, RefreshFault, Report, Service, same};
 pub use program::start;
 pub use session::{ServeFault, serve};
+
+/// A service of a ready program with its master.
+pub type ReadyService = Service<ReadyProgram, AnyCombiner, ReadyMaster>;

@@ -1,6 +1,7 @@
 //! What a session has beside its service.
 ghost use Rattle.std.specs.Prelude.{◌≡◌, ◌≢◌, ◌≤◌, [], ◌∷◌, ◌++◌, None, Some, length};
 ghost use Rattle.std.specs.Prelude.{MatchBool, OnOk, OnErr};
+ghost use Rattle.std.specs.Option.{option_copied};
 ghost use Rattle.pregeld.specs.Notes.{stored, stored_limit};
 
 use crate::Report;
@@ -49,10 +50,10 @@ impl Notes {
     }
 
     /// The last report.
-    pub(crate) fn report(&self) -> Option<Report>
-        ensures { result ≡ self.now.report }
+    pub(crate) fn report(&self) -> Option<&Report>
+        ensures { option_copied result ≡ self.now.report }
     {
-        self.report
+        self.report.as_ref()
     }
 
     /// Whether an edit is pending.
@@ -83,9 +84,9 @@ impl Notes {
     }
 
     /// This is the last report.
-    pub(crate) fn keep_report(&mut self, report: &Report)
-        ensures { self.new ≡ record self.old { report = Some report.now } }
+    pub(crate) fn keep_report(&mut self, report: Report)
+        ensures { self.new ≡ record self.old { report = Some report } }
     {
-        self.report = Some(*report);
+        self.report = Some(report);
     }
 }

@@ -1,17 +1,24 @@
 //! What the words of the command line ask for.
 ghost use Rattle.std.specs.Prelude.{◌≡◌, ◌<◌, ◌≤◌, ℕ, codes, map, IfOk, IfErr, IfSome, IfNone};
 ghost use Rattle.clap.specs.Words.{found_of, one_text};
-ghost use Rattle.pregeld.specs.Arguments.{AsksForRuns, Explains, Say, WritesIn, job_in, program_in};
+ghost use Rattle.pg_service.specs.Service.{fresh};
+ghost use Rattle.pregeld.specs.Arguments.{AreInRange, AsksForRuns, Explains, Say, WritesIn};
+ghost use Rattle.pregeld.specs.Arguments.{job_in, limits_in, program_in};
 ghost use Rattle.pregeld.specs.declared.options.Options.{Options};
 
-use crate::arguments::{EPS_LIMIT, K_LIMIT, ROUNDS_LIMIT, SOURCE_LIMIT, SUPERSTEP_LIMIT, command};
+use crate::arguments::{
+    EPS_LIMIT, K_LIMIT, PARTITION_LIMIT, ROUNDS_LIMIT, SOURCE_LIMIT, SUPERSTEP_LIMIT, command,
+};
 use crate::names::{Combining, Policy, ProgramName};
+use crate::{ReadyService, Service};
 use clap::error::ErrorKind;
 use clap::{ArgMatches, Error};
+use pg_core::Limits;
 use pg_global::AnyCombiner;
-use pg_graph::{Missing, VertexId};
-use pg_ready::{Cc, Indegree, MaxValue, Pagerank, Peel, ReadyJob, ReadyProgram, Sssp};
-use std::alloc::Global;
+use pg_graph::{Memory, Missing, VertexId};
+use pg_ready::{Cc, Indegree, MaxValue, Pagerank, Peel, ReadyMaster, ReadyProgram, Sssp};
+use pg_scratch::RunFault;
+use std::alloc::{AllocError, Global};
 use std::convert::AsStr;
 
 /// What the program is asked to run.
@@ -23,6 +30,7 @@ pub(crate) struct Options {
     pub rounds: u32,
     pub eps: i64,
     pub combiner: AnyCombiner,
+    pub partitions: u32,
     pub limit: u32,
     pub missing: Missing,
 }
@@ -40,7 +48,7 @@ pub(crate) enum NoOptions {
 
 /// The options that the words name, the program's name first.
 pub(crate) fn options_of<'a, S: AsStr>(alloc: Global, words: &'a [S]) -> Result<Options, NoOptions>
-    ensures some { IfOk result (λ options. 0 < options.limit) }
+    ensures range { IfOk result AreInRange }
     ensures ok { IfOk result (AsksForRuns (map S.text words.entry.now)) }
     ensures err { IfErr result (Explains (map S.text words.entry.now)) }
 {
@@ -72,6 +80,7 @@ fn read_from(matches: &ArgMatches<'_>) -> Option<Options>
     let rounds = number_in(matches, "rounds", 0, ROUNDS_LIMIT)?;
     let eps = number_in(matches, "eps", 0, EPS_LIMIT)?;
     let Combining { combiner } = matches.get_one::<Combining>("combiner")?;
+    let partitions = number_in(matches, "partitions", 1, PARTITION_LIMIT)?;
     let limit = number_in(matches, "limit", 1, SUPERSTEP_LIMIT)?;
     let Policy { missing } = matches.get_one::<Policy>("missing")?;
     Some(Options {
@@ -81,6 +90,7 @@ fn read_from(matches: &ArgMatches<'_>) -> Option<Options>
         rounds: rounds as u32,
         eps: eps as i64,
         combiner,
+        partitions: partitions as u32,
         limit: limit as u32,
         missing,
     })
@@ -101,16 +111,46 @@ fn number_in(matches: &ArgMatches<'_>, name: &str, least: u64, greatest: u64) ->
     Some(number)
 }
 
-/// The job that the options ask for.
-pub(crate) fn job_of(options: &Options) -> ReadyJob
-    ensures { result ≡ job_in options.now }
+/// A service of the job that the options ask for.
+pub(crate) fn service_of(alloc: Global, options: &Options) -> Result<ReadyService, Memory>
+    requires { AreInRange options.now }
+    ensures { IfOk result (λ service. service ≡ fresh (job_in options.now)) }
 {
-    ReadyJob {
-        program: program_of(options),
-        combiner: options.combiner,
-        missing: options.missing,
-        limit: options.limit,
+    let (limits, combiner) = (limits_of(options), options.combiner);
+    let made = Service::new(
+        alloc,
+        limits,
+        program_of(options),
+        combiner,
+        master_of(options),
+    );
+    match made {
+        Ok(service) => Ok(service),
+        Err(fault) => Err(memory_of(fault)),
     }
+}
+
+/// The master of the program that the options name.
+fn master_of(options: &Options) -> ReadyMaster
+    ensures { result ≡ record { program = program_in options.now.program options.now } }
+{
+    ReadyMaster {
+        program: program_of(options),
+    }
+}
+
+/// Want of memory, which alone keeps a ready program from being run.
+fn memory_of(_fault: RunFault) -> Memory {
+    AllocError
+}
+
+/// The numbers of its runs.
+fn limits_of(options: &Options) -> Limits
+    requires { AreInRange options.now }
+    ensures { result ≡ limits_in options.now }
+{
+    let limits = Limits::new(options.partitions, 1, options.limit, 0, 16);
+    limits.unwrap().with_missing(options.missing)
 }
 
 /// The program that the options name.

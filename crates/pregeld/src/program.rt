@@ -2,8 +2,8 @@
 ghost use Rattle.std.specs.Prelude.{◌≡◌, ◌≤◌, map, OnOk};
 ghost use Rattle.pregeld.specs.ExitStatus.{AddsText, EndsBroken, EndsWell, IsRefused};
 
-use crate::options::{NoOptions, job_of, options_of};
-use crate::{ServeFault, Service, serve};
+use crate::options::{NoOptions, options_of, service_of};
+use crate::{ServeFault, serve};
 use clap::Error;
 use std::alloc::Global;
 use std::convert::AsStr;
@@ -39,7 +39,9 @@ pub fn start<S: AsStr, R: BufRead, W: Write, E: Write>(
         Err(NoOptions::Memory) => return fail(errors, "memory", 1),
         Err(NoOptions::Arguments) => return fail(errors, "arguments", 2),
     };
-    let mut service = Service::new(alloc, job_of(&options));
+    let Ok(mut service) = service_of(alloc, &options) else {
+        return fail(errors, "memory", 1);
+    };
     match serve(alloc, reader, writer, &mut service) {
         Ok(()) => 0,
         Err(fault) => fail(errors, name_of(fault), 1),

@@ -1,12 +1,13 @@
 //! What a command is answered with.
 ghost use Rattle.std.specs.Prelude.{◌≡◌};
-ghost use Rattle.pregeld.specs.Reply.{refusal_number};
+ghost use Rattle.pregeld.specs.Reply.{told_of};
 
 use crate::command::LineFault;
 use crate::{Check, Report};
 use pg_graph::{EditFault, Edition, VertexId};
 use pg_import::ImportFault;
-use pg_scratch::RunFault;
+use pg_model::Ending;
+use pg_service::ending_word;
 use std::fmt;
 
 /// The line that answers a command.
@@ -19,9 +20,9 @@ pub(crate) enum Reply {
     /// A batch was refused.
     BatchRefused(EditFault),
     /// The answers of a run were published.
-    Refreshed(Report),
-    /// A run was refused.
-    RunRefused(RunFault),
+    Refreshed(Told),
+    /// A refresh or a check was refused, with this number.
+    RunRefused(u8),
     /// What was published was compared with a run from scratch.
     Checked(Check),
     /// Nothing was published.
@@ -54,8 +55,8 @@ impl fmt::Display for Reply {
                 let (number, position) = (fault.kind.number(), fault.position);
                 write!(f, "refused {number} position {position}")
             }
-            Reply::Refreshed(report) => write!(f, "{report}"),
-            Reply::RunRefused(fault) => write!(f, "refused {}", refusal_number(fault)),
+            Reply::Refreshed(told) => write!(f, "{told}"),
+            Reply::RunRefused(number) => write!(f, "refused {number}"),
             Reply::Checked(check) => write!(f, "{check}"),
             Reply::Unpublished => write!(f, "unpublished"),
             Reply::Value(id, value) => write!(f, "value {id} {value}"),
@@ -66,13 +67,44 @@ impl fmt::Display for Reply {
     }
 }
 
-/// The number of a refused run.
-fn refusal_number(fault: RunFault) -> u8
-    ensures { result ≡ refusal_number fault }
-{
-    match fault {
-        RunFault::Memory => 1,
-        RunFault::Unregistered => 2,
-        RunFault::Register => 3,
+/// What the answer to a refresh tells of its report.
+#[derive(Clone, Copy, Debug, PartialEq, Eq)]
+pub(crate) struct Told {
+    edition: Edition,
+    supersteps: u32,
+    ending: Ending,
+    calls: u64,
+    losses: usize,
+}
+
+impl Told {
+    /// What is told of a report.
+    pub(crate) fn of(report: &Report) -> Told
+        ensures { result ≡ told_of report.now }
+    {
+        Told {
+            edition: report.edition,
+            supersteps: report.supersteps,
+            ending: report.ending,
+            calls: report.calls,
+            losses: report.losses.as_slice().len(),
+        }
+    }
+}
+
+impl fmt::Display for Told {
+    ghost use Rattle.std.specs.Prelude.{Some};
+    ghost use Rattle.pregeld.specs.Reply.{told_text};
+
+    ghost output = { λ told. Some (told_text told) };
+
+    #[tactic(auto, unfolding(crate::specs::Reply::told_text))]
+    fn fmt<W: fmt::Write>(&self, f: &mut fmt::Formatter<W>) -> fmt::Result {
+        let (edition, calls, losses) = (self.edition.number(), self.calls, self.losses);
+        let (steps, ending) = (self.supersteps, ending_word(self.ending));
+        write!(
+            f,
+            "refreshed edition {edition} supersteps {steps} ending {ending} calls {calls} losses {losses}"
+        )
     }
 }

@@ -5,7 +5,7 @@ ghost use Rattle.pregeld.specs.Reading.{IfLines, lines_left};
 ghost use Rattle.pregeld.specs.Keeping.{AnswersLine, FailsLine, Keeps};
 ghost use Rattle.pregeld.specs.Session.{BreaksOff, Serves, State, place_at};
 
-use crate::Service;
+use crate::ReadyService;
 use crate::block::next_line;
 use crate::carrying::carry_out;
 use crate::command::{Command, command_of};
@@ -58,7 +58,7 @@ pub fn serve<R: BufRead, W: Write>(
     alloc: Global,
     reader: &mut R,
     writer: &mut W,
-    service: &mut Service,
+    service: &mut ReadyService,
 ) -> Result<(), ServeFault>
     ensures ok { OnOk result (IfSome (R.remaining reader.old) (λ input.
         Serves input service.old service.new (W.contents writer.old) (W.contents writer.new))) }
@@ -98,7 +98,7 @@ fn answer_line<R: BufRead, W: Write>(
     line: &[u8],
     reader: &mut R,
     writer: &mut W,
-    service: &mut Service,
+    service: &mut ReadyService,
     notes: &mut Notes,
 ) -> Result<u64, ServeFault>
     ensures ok { IfOk result (λ reached. (state : State)

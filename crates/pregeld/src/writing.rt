@@ -3,14 +3,14 @@ ghost use Rattle.std.specs.Prelude.{◌≡◌, flat_map, IfErr, OnOk};
 ghost use Rattle.std.specs.Io.KnownBytes.{Appends, Keeps};
 ghost use Rattle.pregeld.specs.Reply.{line_of_reply, line_of_value};
 ghost use Rattle.pregeld.specs.Keeping.{FailsToTell};
-ghost use Rattle.pg_service.specs.Service.{registered_by};
+ghost use Rattle.pregeld.specs.Job.{ready_names};
 ghost use Rattle.pregeld.specs.Session.{aggregate_text, dump_text, get_reply, query_text};
 ghost use Rattle.pregeld.specs.Session.{report_line};
 
 use crate::command::Query;
 use crate::notes::Notes;
 use crate::reply::Reply;
-use crate::{ServeFault, Service};
+use crate::{ReadyService, ServeFault};
 use pg_graph::VertexId;
 use std::alloc::Global;
 use std::io::Write;
@@ -47,7 +47,7 @@ pub(crate) fn tell<W: Write>(
     alloc: Global,
     writer: &mut W,
     query: Query<'_>,
-    service: &Service,
+    service: &ReadyService,
     notes: &Notes,
 ) -> Result<(), ServeFault>
     ensures ok { OnOk result (Appends (W.contents writer.old) (W.contents writer.new)
@@ -73,7 +73,7 @@ pub(crate) fn tell<W: Write>(
 }
 
 /// The published value of a vertex.
-fn get(id: VertexId, service: &Service) -> Reply
+fn get(id: VertexId, service: &ReadyService) -> Reply
     ensures { result ≡ get_reply id service.now.published }
 {
     let Some(answers) = service.answers() else {
@@ -86,9 +86,9 @@ fn get(id: VertexId, service: &Service) -> Reply
 }
 
 /// Prints the published aggregate of this name.
-fn aggregate<W: Write>(writer: &mut W, name: &str, service: &Service) -> Result<(), ServeFault>
+fn aggregate<W: Write>(writer: &mut W, name: &str, service: &ReadyService) -> Result<(), ServeFault>
     ensures ok { OnOk result (Appends (W.contents writer.old) (W.contents writer.new)
-        (aggregate_text name.now (registered_by service.now.job) service.now.published)) }
+        (aggregate_text name.now (ready_names service.now.job) service.now.published)) }
     ensures err { IfErr result (λ fault. fault ≡ ServeFault.Write) }
 {
     let Some(answers) = service.answers() else {
@@ -108,7 +108,7 @@ fn aggregate<W: Write>(writer: &mut W, name: &str, service: &Service) -> Result<
 fn report<W: Write>(
     alloc: Global,
     writer: &mut W,
-    service: &Service,
+    service: &ReadyService,
     notes: &Notes,
 ) -> Result<(), ServeFault>
     ensures ok { OnOk result
@@ -122,7 +122,7 @@ fn report<W: Write>(
             Err(fault) => Err(fault),
         };
     };
-    let Ok(text) = service.report_json(alloc, &report) else {
+    let Ok(text) = service.report_json(alloc, report) else {
         return Err(ServeFault::Memory);
     };
     let Ok(()) = writeln!(writer, "{text}") else {
@@ -135,7 +135,7 @@ fn report<W: Write>(
 }
 
 /// Prints the published values by rising id, and their number.
-fn dump<W: Write>(writer: &mut W, service: &Service) -> Result<(), ServeFault>
+fn dump<W: Write>(writer: &mut W, service: &ReadyService) -> Result<(), ServeFault>
     ensures ok { OnOk result (Appends (W.contents writer.old) (W.contents writer.new)
         (dump_text service.now.published)) }
     ensures err { IfErr result (λ fault. fault ≡ ServeFault.Write) }

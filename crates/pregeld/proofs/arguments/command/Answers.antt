@@ -30,7 +30,9 @@ returns c =
     c.in_ok-arg-6.ensures.shape c.combiner_option.ensures.local ∙ ap₂ with_rule five c.combiner_option.ensures.rule.2 in
     let seven : app_of c.in_ok-arg-7.field-0 ≡ with_first 7 words =
     c.in_ok-arg-7.ensures.shape c.number_option-5.ensures.local ∙ ap₂ with_rule six c.number_option-5.ensures.rule in
+    let eight : app_of c.in_ok-arg-8.field-0 ≡ with_first 8 words =
+    c.in_ok-arg-8.ensures.shape c.number_option-6.ensures.local ∙ ap₂ with_rule seven c.number_option-6.ensures.rule in
     let are_words : AreOptionWords words =
     record { programs = c.program_option.ensures.rule.1; combiners = c.combiner_option.ensures.rule.1; policies = c.missing_option.ensures.rule.1 } in
-    IfOk-weaker c.arg-8.result _ _
-    (λ r added. (words, are_words, added.shape c.missing_option.ensures.local ∙ ap₂ with_rule seven c.missing_option.ensures.rule.2)) c.arg-8.ensures
+    IfOk-weaker c.arg-9.result _ _
+    (λ r added. (words, are_words, added.shape c.missing_option.ensures.local ∙ ap₂ with_rule eight c.missing_option.ensures.rule.2)) c.arg-9.ensures

@@ -59,4 +59,4 @@ returns g c =
     let found = fault_found app option_words words (kind_of c.in-Err.error) app_is
     (λ memory. other.not-OutOfMemory (c.kind.ensures ∙ memory))
     (λ help. other.not-DisplayHelp (c.kind.ensures ∙ help)) (c.in-Err.ensures.kinds (plain_by app option_words app_is)) in
-    record { some = tt; ok = tt; err = record { option_words = option_words; are_words = c.in-Ok.ensures.1; faulty = inl found } }
+    record { range = tt; ok = tt; err = record { option_words = option_words; are_words = c.in-Ok.ensures.1; faulty = inl found } }

@@ -7,7 +7,7 @@ use Rattle.pg_service.proofs.ReportTexts.{no_float, text_of_object}
 use Rattle.pg_service.proofs.service.Service.report_json.Goals as goal
 
 pub returns : goal.returns
-returns c =
+returns g c =
     let built : view c.in_ok-value.value ≡ object_of c.args.report.now = c.in_ok-value.ensures in
     IfOk-weaker c.to_string.result _ _
     (λ text printed. printed (ap has_float built ∙ no_float c.args.report.now) ∙ (ap compact_text built ∙ text_of_object c.args.report.now))
