@@ -1,10 +1,8 @@
+// Whole runs of the program, by its words and its input.
 use pg_core::Limits;
-use pg_global::{AnyCombiner, NoMaster};
-use pg_graph::{Batch, Edit, Edition, Graph, Missing, VertexId};
-use pg_model::{Ending, Run};
-use pg_program::Meter;
+use pg_global::AnyCombiner;
+use pg_graph::VertexId;
 use pg_ready::{ReadyMaster, ReadyProgram, Sssp};
-use pg_scratch::{RunFault, run};
 use pregeld::{ReadyService, ServeFault, Service, serve, start};
 use std::alloc::Global;
 use std::io::Write;
@@ -151,99 +149,20 @@ fn help(rt: HostRuntime) {
     assert_eq!(&rt; own.as_slice(), other.as_slice());
 }
 
-fn id(number: u64) -> Result<VertexId, Fail> {
-    Ok(VertexId::new(number).ok_or("a number above 2^63 - 1")?)
-}
-
-// A service of a ready program, on so many partitions.
-pub(crate) fn service_of(
-    alloc: Global,
-    program: ReadyProgram,
-    partitions: u32,
-    limit: u32,
-    missing: Missing,
-) -> Result<ReadyService, Fail> {
-    let limits = Limits::new(partitions, 1, limit, 0, 0).ok_or("limits")?;
-    let (limits, master) = (limits.with_missing(missing), ReadyMaster { program });
-    let service = Service::new(alloc, limits, program, AnyCombiner::NoCombiner, master)?;
-    Ok(service)
-}
-
-// Shortest paths from a source.
-pub(crate) fn shortest_paths(alloc: Global, source: VertexId) -> Result<ReadyService, Fail> {
+// Shortest paths from 1, on no graph yet.
+pub(crate) fn shortest_paths(alloc: Global) -> Result<ReadyService, Fail> {
+    let source = VertexId::new(1).ok_or("an id")?;
     let program = ReadyProgram::Sssp(Sssp { source });
-    service_of(alloc, program, 1, 1000, Missing::Drop)
-}
-
-// The graph of 1 to 2 of weight 5 and 2 to 3 of weight 1.
-pub(crate) fn two_hops_batch(alloc: Global) -> Result<Batch, Fail> {
-    let mut batch = Batch::new(alloc);
-    for number in 1..4 {
-        batch.push(Edit::AddVertex(id(number)?, 0))?;
-    }
-    batch.push(Edit::AddEdge(id(1)?, id(2)?, 5))?;
-    batch.push(Edit::AddEdge(id(2)?, id(3)?, 1))?;
-    Ok(batch)
-}
-
-// The values and counts of the run on two hops.
-fn is_two_hops(rt: &impl Abort, run: &Run<i64>) {
-    assert_eq!(rt; run.values.as_slice().len(), 3);
-    for ((id, value), wanted) in run.values.as_slice().iter().zip([(1, 0), (2, 5), (3, 6)]) {
-        assert_eq!(rt; (id.number(), *value), wanted);
-    }
-    assert_eq!(rt; run.aggregates.as_slice(), [3].as_slice());
-    assert_eq!(rt; run.ending, Ending::Finished);
-    assert_eq!(rt; (run.supersteps, run.sent, run.dropped), (3, 2, 0));
-}
-
-#[test]
-fn runs(rt: HostRuntime) -> Result<(), Fail> {
-    let alloc = rt.alloc();
-    let batch = two_hops_batch(alloc)?;
-    let mut graph = Graph::new(alloc);
-    assert!(&rt; graph.apply(alloc, &batch).is_ok());
-    let program = Sssp { source: id(1)? };
-    let master = ReadyMaster {
-        program: ReadyProgram::Sssp(program),
-    };
-    let (combiner, missing) = (AnyCombiner::NoCombiner, Missing::Drop);
-    let mut meter = Meter::new();
-    let answer = run(
-        alloc, &graph, &program, &combiner, &master, missing, 1000, &mut meter,
-    );
-    is_two_hops(&rt, &answer.expect(&rt, "an answer"));
-    assert_eq!(&rt; meter.count(), 5);
-    let refused = run(
-        alloc, &graph, &program, &combiner, &NoMaster, missing, 1000, &mut meter,
-    );
-    assert_eq!(&rt; refused.err(), Some(RunFault::Unregistered));
-    assert_eq!(&rt; meter.count(), 5);
-    Ok(())
-}
-
-#[test]
-fn services(rt: HostRuntime) -> Result<(), Fail> {
-    let alloc = rt.alloc();
-    let mut service = shortest_paths(alloc, id(1)?)?;
-    assert!(&rt; service.answers().is_none());
-    let batch = two_hops_batch(alloc)?;
-    assert_eq!(&rt; service.edit(alloc, &batch).ok(), Some(Edition::new(1)));
-    assert_eq!(&rt; service.graph().vertices(), 3);
-    let refused = service.edit(alloc, &batch);
-    assert!(&rt; refused.is_err_and(|fault| fault.position == 1 && fault.kind.number() == 2));
-    let report = service.refresh(alloc).expect(&rt, "a report");
-    assert_eq!(&rt; (report.edition, report.calls), (Edition::new(1), 5));
-    let answers = service.answers().expect(&rt, "a publication");
-    assert_eq!(&rt; answers.edition(), Edition::new(1));
-    is_two_hops(&rt, answers.run());
-    Ok(())
+    let limits = Limits::new(1, 1, 1000, 0, 0).ok_or("limits")?;
+    let (combiner, master) = (AnyCombiner::NoCombiner, ReadyMaster { program });
+    let service = Service::new(alloc, limits, program, combiner, master)?;
+    Ok(service)
 }
 
 #[test]
 fn a_writer_that_is_full(rt: HostRuntime) -> Result<(), Fail> {
     let alloc = rt.alloc();
-    let mut service = shortest_paths(alloc, id(1)?)?;
+    let mut service = shortest_paths(alloc)?;
     let mut reader: &[u8] = TWO_HOPS;
     let mut room = [0_u8; 4];
     let mut writer = room.as_mut_slice();

@@ -1,56 +1,9 @@
-// Sessions of edits, commits and imports, on the program.
-use crate::runs::{prints, shortest_paths, two_hops_batch};
-use pg_global::AnyCombiner;
-use pg_graph::{Batch, Edit, Graph, Missing, VertexId};
-use pg_model::Run;
-use pg_program::Meter;
-use pg_ready::{ReadyMaster, ReadyProgram, Sssp};
-use pg_scratch::run;
-use pregeld::{Check, same};
+// Sessions of edits, commits and imports whose lines are too long to be stored.
+use crate::runs::prints;
 use std::alloc::Global;
 use std::io::Write;
 use std::process::Abort;
 use std::test::Fail;
-
-// The answers of one graph are those of a run on it, and not those of a run on another.
-#[test]
-fn same_answers(rt: HostRuntime) -> Result<(), Fail> {
-    let alloc = rt.alloc();
-    let source = VertexId::new(1).ok_or("an id")?;
-    let mut service = shortest_paths(alloc, source)?;
-    let first = two_hops_batch(alloc)?;
-    assert!(&rt; service.edit(alloc, &first).is_ok());
-    assert!(&rt; service.refresh(alloc).is_ok());
-    let own = run_of(&rt, alloc, service.graph())?;
-    let answers = service.answers().ok_or("answers")?;
-    assert!(&rt; same(answers, &own));
-    assert_eq!(&rt; answers.value(source).copied(), Some(0));
-    let mut shortcut = Batch::new(alloc);
-    let target = VertexId::new(3).ok_or("an id")?;
-    shortcut.push(Edit::AddEdge(source, target, 2))?;
-    assert!(&rt; service.edit(alloc, &shortcut).is_ok());
-    let other = run_of(&rt, alloc, service.graph())?;
-    let answers = service.answers().ok_or("answers")?;
-    assert!(&rt; !same(answers, &other));
-    assert_eq!(&rt; service.check(alloc).ok(), Some(Check::Stale));
-    Ok(())
-}
-
-// Shortest paths from 1, from scratch.
-fn run_of(rt: &impl Abort, alloc: Global, graph: &Graph) -> Result<Run<i64>, Fail> {
-    let program = Sssp {
-        source: VertexId::new(1).ok_or("an id")?,
-    };
-    let master = ReadyMaster {
-        program: ReadyProgram::Sssp(program),
-    };
-    let (combiner, missing) = (AnyCombiner::NoCombiner, Missing::Drop);
-    let mut meter = Meter::new();
-    let answer = run(
-        alloc, graph, &program, &combiner, &master, missing, 1000, &mut meter,
-    );
-    Ok(answer.expect(rt, "an answer"))
-}
 
 // A batch may have 100,000 edits; of one that has more the edits are given up.
 #[test]
@@ -173,28 +126,6 @@ fn a_megabyte_of_zeros(rt: HostRuntime) -> Result<(), Fail> {
         alloc,
         input.as_slice(),
         "error 5 line 4\nedition 1\nrefreshed edition 1 supersteps 1 ending finished calls 1 losses 0\n{\"calls\":1,\"dropped\":0,\"edition\":1,\"ending\":\"finished\",\"losses\":0,\"sent\":0,\"supersteps\":1}\nvalue 7 9223372036854775807\n",
-    );
-    Ok(())
-}
-
-// By calls: the aggregates of answers, by name and by place.
-#[test]
-fn by_calls(rt: HostRuntime) -> Result<(), Fail> {
-    let alloc = rt.alloc();
-    let source = VertexId::new(1).ok_or("an id")?;
-    let mut service = shortest_paths(alloc, source)?;
-    let batch = two_hops_batch(alloc)?;
-    assert!(&rt; service.edit(alloc, &batch).is_ok());
-    let report = service.refresh(alloc).expect(&rt, "a report");
-    let answers = service.answers().ok_or("answers")?;
-    assert_eq!(&rt; answers.aggregate("reached"), Some(3));
-    assert_eq!(&rt; answers.aggregate("change"), None);
-    assert_eq!(&rt; answers.run().aggregates.as_slice(), [3].as_slice());
-    assert_eq!(&rt; service.check(alloc).ok(), Some(Check::Same(5)));
-    let text = service.report_json(alloc, &report)?;
-    assert_eq!(&rt;
-        text.as_str(),
-        "{\"calls\":5,\"dropped\":0,\"edition\":1,\"ending\":\"finished\",\"losses\":0,\"sent\":2,\"supersteps\":3}"
     );
     Ok(())
 }

@@ -1,6 +1,5 @@
 // Sessions whose reader or writer fails in mid-stream.
 use crate::runs::shortest_paths;
-use pg_graph::VertexId;
 use pregeld::{ReadyService, ServeFault, serve};
 use std::alloc::Global;
 use std::io;
@@ -97,15 +96,10 @@ fn reached_after(lines: usize) -> Reached {
     Reached { graph, published }
 }
 
-fn service(alloc: Global) -> Result<ReadyService, Fail> {
-    let source = VertexId::new(1).ok_or("an id")?;
-    shortest_paths(alloc, source)
-}
-
 // A session whose nth read fails has answered just the commands whose lines were read until then, each
 // of them whole.
 fn read_fails_at(rt: &impl Abort, alloc: Global, calls: usize) -> Result<bool, Fail> {
-    let mut service = service(alloc)?;
+    let mut service = shortest_paths(alloc)?;
     let broken = NthReader {
         text: INPUT,
         calls_left: calls,
@@ -143,7 +137,7 @@ fn each_read_fails_in_turn(rt: HostRuntime) -> Result<(), Fail> {
 // A session whose nth write fails has carried out the command whose answer couldn't be written, as far as
 // the editions of the graph and of what is published tell, and none after it that changes them.
 fn write_fails_at(rt: &impl Abort, alloc: Global, calls: usize) -> Result<bool, Fail> {
-    let mut service = service(alloc)?;
+    let mut service = shortest_paths(alloc)?;
     let mut reader = INPUT;
     let mut writer = NthWriter {
         written: Vec::new(alloc),

@@ -1,6 +1,5 @@
 // Each answer is written before the next line is read.
 use crate::runs::shortest_paths;
-use pg_graph::VertexId;
 use pregeld::{ServeFault, serve};
 use std::alloc::Global;
 use std::cell::Cell;
@@ -80,8 +79,7 @@ impl<'a> Write for TurnWriter<'a> {
 
 // Serves the turns, and gives how many answers were handed on.
 fn served(alloc: Global, flushes: bool) -> Result<(Result<(), ServeFault>, usize), Fail> {
-    let source = VertexId::new(1).ok_or("an id")?;
-    let mut service = shortest_paths(alloc, source)?;
+    let mut service = shortest_paths(alloc)?;
     let handed_on = Cell::new(0);
     let turns = TurnReader {
         taken: 0,
