@@ -1,5 +1,5 @@
 -- What an index says of an id as supersteps come, go and change, and how it finds the last record.
-use Rattle.std.proofs.Common.{◌≡◌, ℕ, zero, suc, ◌+◌, ◌<◌, ◌≤◌, Bool, true, false, cond, List, [], ◌∷◌, ◌++◌, length, get_or, set, take, Option, None, Some, is_some, unwrap_or, refl, sym, ap, ◌∙◌, arith, ltb, true≢false}
+use Rattle.std.proofs.Common.{◌≡◌, ℕ, zero, suc, ◌+◌, ◌<◌, ◌≤◌, ◌-◌, ◌==◌, Bool, true, false, cond, List, [], ◌∷◌, ◌++◌, length, get_or, set, take, Option, None, Some, is_some, unwrap_or, refl, sym, ap, ◌∙◌, arith, ltb, true≢false}
 use Rattle.std.specs.List.{filter}
 use Rattle.std.specs.List.Sorted.{IsNonDecreasingBy, IsPartitionPoint}
 use Rattle.std.specs.Option.{option_and_then, option_or}
@@ -7,7 +7,7 @@ use Rattle.std.proofs.lemmas.Bool.{ltb-true, ltb-false}
 use Rattle.std.proofs.lemmas.Bool.Decides.{nat_tests}
 use Rattle.std.proofs.lemmas.List.{get_or-take, length-take}
 use Rattle.pg_map.specs.Entries.{value_at}
-use Rattle.pg_trace.specs.Ran.{last_of, noted, ran_from, steps_above, steps_below, with_ran}
+use Rattle.pg_trace.specs.Ran.{last_of, ran_from, steps_above, steps_below, with_ran}
 use Rattle.pg_trace.specs.Trace.{last_record}
 
 lower : (a b : ℕ) → a < b → ltb a b ≡ true
@@ -20,6 +20,11 @@ not_lower a b h = grind (arith, nat_tests)
 abbrev begun_by : Bool → ℕ → List ℕ → List ℕ
 begun_by t b steps = cond t (b ∷ steps) steps
 
+-- rising supersteps, where something is said of s or nothing
+abbrev pub steps_noted : ℕ → Option Bool → List ℕ → List ℕ
+steps_noted s None steps = steps
+steps_noted s (Some runs) steps = with_ran s runs steps
+
 -- what is noted of an id agrees with whether it ran before and runs now
 abbrev pub Agrees : Option Bool → Bool → Bool → Type 0
 Agrees None old new = new ≡ old
@@ -28,7 +33,7 @@ Agrees (Some runs) old new = new ≡ runs
 -- ---- one superstep noted
 
 -- below the superstep that is noted nothing changes
-under : (b s : ℕ) (o : Option Bool) (t : Bool) (steps : List ℕ) → b < s → begun_by t b (noted s o steps) ≡ noted s o (begun_by t b steps)
+under : (b s : ℕ) (o : Option Bool) (t : Bool) (steps : List ℕ) → b < s → begun_by t b (steps_noted s o steps) ≡ steps_noted s o (begun_by t b steps)
 under b s None t steps h = refl
 under b s (Some runs) false steps h = refl
 under b s (Some runs) true steps h =
@@ -81,49 +86,49 @@ module _ {X : Type 0} (id : ℕ) where
       put false = refl
 
   first_noted : (b : ℕ) (o : Option Bool) (old new : Bool) (rs : List (List (ℕ × X))) → Agrees o old new
-      → begun_by new b (ran_from id (b + 1) rs) ≡ noted b o (begun_by old b (ran_from id (b + 1) rs))
+      → begun_by new b (ran_from id (b + 1) rs) ≡ steps_noted b o (begun_by old b (ran_from id (b + 1) rs))
   first_noted b None old new rs fits = ap (λ t. begun_by t b (ran_from id (b + 1) rs)) fits
   first_noted b (Some runs) old new rs fits = ap (λ t. begun_by t b (ran_from id (b + 1) rs)) fits ∙ sym (here b runs old rs)
 
   -- a superstep whose records change
   pub ran-set : (b k : ℕ) (rs : List (List (ℕ × X))) (xs : List (ℕ × X)) (o : Option Bool) → k < length rs
-      → Agrees o (is_some (value_at id (get_or rs k []))) (is_some (value_at id xs)) → ran_from id b (set rs k xs) ≡ noted (b + k) o (ran_from id b rs)
+      → Agrees o (is_some (value_at id (get_or rs k []))) (is_some (value_at id xs)) → ran_from id b (set rs k xs) ≡ steps_noted (b + k) o (ran_from id b rs)
   ran-set b k [] xs o h fits = absurd (omega arith)
   ran-set b zero (r ∷ rs) xs o h fits =
       let at : b ≡ b + 0 = omega arith in
-      first_noted b o (is_some (value_at id r)) (is_some (value_at id xs)) rs fits ∙ ap (λ s. noted s o (ran_from id b (r ∷ rs))) at
+      first_noted b o (is_some (value_at id r)) (is_some (value_at id xs)) rs fits ∙ ap (λ s. steps_noted s o (ran_from id b (r ∷ rs))) at
   ran-set b (suc k) (r ∷ rs) xs o h fits =
       let at : (b + 1) + k ≡ b + suc k = omega arith in
       let t = is_some (value_at id r) in
-      ap (begun_by t b) (ran-set (b + 1) k rs xs o (omega arith) fits ∙ ap (λ s. noted s o (ran_from id (b + 1) rs)) at)
+      ap (begun_by t b) (ran-set (b + 1) k rs xs o (omega arith) fits ∙ ap (λ s. steps_noted s o (ran_from id (b + 1) rs)) at)
       ∙ under b (b + suc k) o t (ran_from id (b + 1) rs) (omega arith)
 
   -- a superstep more
   pub ran-push : (b : ℕ) (rs : List (List (ℕ × X))) (xs : List (ℕ × X)) (o : Option Bool) → Agrees o false (is_some (value_at id xs))
-      → ran_from id b (rs ++ xs ∷ []) ≡ noted (b + length rs) o (ran_from id b rs)
+      → ran_from id b (rs ++ xs ∷ []) ≡ steps_noted (b + length rs) o (ran_from id b rs)
   ran-push b [] xs o fits =
       let at : b ≡ b + 0 = omega arith in
-      first_noted b o false (is_some (value_at id xs)) [] fits ∙ ap (λ s. noted s o []) at
+      first_noted b o false (is_some (value_at id xs)) [] fits ∙ ap (λ s. steps_noted s o []) at
   ran-push b (r ∷ rs) xs o fits =
       let at : (b + 1) + length rs ≡ b + length (r ∷ rs) = omega arith in
       let t = is_some (value_at id r) in
-      ap (begun_by t b) (ran-push (b + 1) rs xs o fits ∙ ap (λ s. noted s o (ran_from id (b + 1) rs)) at)
+      ap (begun_by t b) (ran-push (b + 1) rs xs o fits ∙ ap (λ s. steps_noted s o (ran_from id (b + 1) rs)) at)
       ∙ under b (b + length (r ∷ rs)) o t (ran_from id (b + 1) rs) (omega arith)
 
   -- the last superstep less
   pub ran-less : (b n : ℕ) (rs : List (List (ℕ × X))) (o : Option Bool) → n < length rs
-      → Agrees o (is_some (value_at id (get_or rs n []))) false → ran_from id b (take n rs) ≡ noted (b + n) o (ran_from id b (take (n + 1) rs))
+      → Agrees o (is_some (value_at id (get_or rs n []))) false → ran_from id b (take n rs) ≡ steps_noted (b + n) o (ran_from id b (take (n + 1) rs))
   ran-less b n [] o h fits = absurd (omega arith)
   ran-less b zero (r ∷ rs) o h fits =
       let at : b ≡ b + 0 = omega arith in
-      first_noted b o (is_some (value_at id r)) false [] fits ∙ ap (λ s. noted s o (begun_by (is_some (value_at id r)) b [])) at
+      first_noted b o (is_some (value_at id r)) false [] fits ∙ ap (λ s. steps_noted s o (begun_by (is_some (value_at id r)) b [])) at
   ran-less b (suc n) (r ∷ rs) o h fits =
       let at : (b + 1) + n ≡ b + suc n = omega arith in
       let t = is_some (value_at id r) in
       let all : suc n + 1 ≡ suc (n + 1) = omega arith in
-      ap (begun_by t b) (ran-less (b + 1) n rs o (omega arith) fits ∙ ap (λ s. noted s o (ran_from id (b + 1) (take (n + 1) rs))) at)
+      ap (begun_by t b) (ran-less (b + 1) n rs o (omega arith) fits ∙ ap (λ s. steps_noted s o (ran_from id (b + 1) (take (n + 1) rs))) at)
       ∙ under b (b + suc n) o t (ran_from id (b + 1) (take (n + 1) rs)) (omega arith)
-      ∙ sym (ap (λ m. noted (b + suc n) o (ran_from id b (take m (r ∷ rs)))) all)
+      ∙ sym (ap (λ m. steps_noted (b + suc n) o (ran_from id b (take m (r ∷ rs)))) all)
 
   -- ---- the last record
 
@@ -168,6 +173,12 @@ module _ {X : Type 0} (id : ℕ) where
       let first : b ≡ b + 0 = omega arith in
       joined (ran_from id (b + 1) rs) (last_record id rs) (value_at id r) (λ t. value_at id (at t)) b later.0 later.1
       (ap (value_at id) (ap at first ∙ h 0 (omega arith)))
+
+  -- the last record is that of the last superstep in which the id ran
+  pub last_record_is : (rs : List (List (ℕ × X)))
+      → (last_record id rs ≡ option_and_then (λ t. value_at id (get_or rs t [])) (last_of (ran_from id 0 rs)))
+      × (is_some (last_record id rs) ≡ is_some (last_of (ran_from id 0 rs)))
+  last_record_is rs = last_ran 0 (λ t. get_or rs t []) rs (λ k w. let at : 0 + k ≡ k = omega arith in ap (λ t. get_or rs t []) at)
 
   -- the last record before a superstep is that of the last superstep before it in which the id ran
   pub last_before : (rs : List (List (ℕ × X))) (s : ℕ)
@@ -231,3 +242,14 @@ module _ (s n : ℕ) (xs : List ℕ) (within : n ≤ length xs) (parts : IsParti
 
   pub last_below : (m : ℕ) → suc m ≡ n → Some (get_or xs m 0) ≡ last_of (filter (λ t. ltb t s) xs)
   last_below m last = sym (ap last_of (found ∙ ap (λ k. take k xs) (sym last)) ∙ last_of-take m xs (omega arith))
+
+-- the last of all steps
+pub last_of_all : (xs : List ℕ) (m : ℕ) → suc m ≡ length xs → Some (get_or xs m 0) ≡ last_of xs
+last_of_all xs m last = sym (ap last_of (take_all xs) ∙ ap (λ k. last_of (take k xs)) (sym last) ∙ last_of-take m xs (omega arith))
+  where
+    take_all : (xs : List ℕ) → xs ≡ take (length xs) xs
+    take_all [] = refl
+    take_all (x ∷ xs) = ap (λ l. x ∷ l) (take_all xs)
+
+pub one_at_least : (n : ℕ) → false ≡ (n == 0) → suc (n - 1) ≡ n
+one_at_least n h = grind (arith, nat_tests)

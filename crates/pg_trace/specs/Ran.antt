@@ -1,22 +1,14 @@
--- In which supersteps an id ran.
-use Rattle.std.specs.Prelude.{◌≡◌, ℕ, ◌+◌, nat_lt, map, Bool, cond, List, [], ◌∷◌, ◌++◌, Option, None, Some, is_some, unwrap_or}
+-- What an index has of each id: in which supersteps it ran, and its last record.
+use Rattle.std.specs.Prelude.{◌≡◌, ℕ, ◌+◌, ◌==◌, nat_lt, map, Bool, cond, List, [], ◌∷◌, ◌++◌, Option, None, Some, is_some, slice_index_or, unwrap_or}
 use Rattle.std.specs.List.{filter}
+use Rattle.std.specs.Option.{option_map}
 use Rattle.pg_map.specs.Entries.{value_at}
+use Rattle.pg_trace.specs.Trace.{last_record}
 
-module _ {X : Type 0} where
-  -- in which of these supersteps an id ran, where the first is superstep `from`
-  abbrev pub ran_from : ℕ → ℕ → List (List (ℕ × X)) → List ℕ
-  ran_from id from [] = []
-  ran_from id from (records ∷ later) =
-      cond (is_some (value_at id records)) (from ∷ ran_from id (from + 1) later) (ran_from id (from + 1) later)
-
--- what an index has of an id
-abbrev pub ran_at : ℕ → List (ℕ × List ℕ) → List ℕ
-ran_at id index = elim (value_at id index) [ None ↦ [] | Some steps ↦ steps ]
-
--- an index has of each id the supersteps in which it ran
-abbrev pub IsIndex : {X : Type 0} → List (List (ℕ × X)) → List (ℕ × List ℕ) → Type 0
-IsIndex records index = (id : ℕ) → ran_at id index ≡ ran_from id 0 records
+-- the supersteps in which an id ran, rising, and the record of the last of them
+pub record Ran (X : Type 0) : Type 0 where
+  pub steps : List ℕ
+  pub last : X
 
 -- the supersteps below s, and those above it
 abbrev pub steps_below : ℕ → List ℕ → List ℕ
@@ -29,25 +21,45 @@ steps_above s steps = filter (λ t. nat_lt s t) steps
 abbrev pub with_ran : ℕ → Bool → List ℕ → List ℕ
 with_ran s runs steps = steps_below s steps ++ cond runs (s ∷ []) [] ++ steps_above s steps
 
--- the same where something is said of s
-abbrev pub noted : ℕ → Option Bool → List ℕ → List ℕ
-noted s None steps = steps
-noted s (Some runs) steps = with_ran s runs steps
-
--- an index after notes of superstep s: which ids ran in it, and which didn't
-abbrev pub IsNoted : ℕ → List (ℕ × Bool) → List (ℕ × List ℕ) → List (ℕ × List ℕ) → Type 0
-IsNoted s runs before after = (id : ℕ) → ran_at id after ≡ noted s (value_at id runs) (ran_at id before)
-
--- a list with something in it
-abbrev pub some_of : List ℕ → Option (List ℕ)
-some_of [] = None
-some_of (step ∷ steps) = Some (step ∷ steps)
-
--- the changes of an index that these notes are
-abbrev pub noting : ℕ → List (ℕ × Bool) → List (ℕ × List ℕ) → List (ℕ × Option (List ℕ))
-noting s runs index = map (λ r. (r.0, some_of (with_ran s r.1 (ran_at r.0 index)))) runs
-
 -- the last of them
 abbrev pub last_of : List ℕ → Option ℕ
 last_of [] = None
 last_of (step ∷ steps) = Some (unwrap_or (last_of steps) step)
+
+module _ {X : Type 0} where
+  -- in which of these supersteps an id ran, where the first is superstep `from`
+  abbrev pub ran_from : ℕ → ℕ → List (List (ℕ × X)) → List ℕ
+  ran_from id from [] = []
+  ran_from id from (records ∷ later) =
+      cond (is_some (value_at id records)) (from ∷ ran_from id (from + 1) later) (ran_from id (from + 1) later)
+
+  -- what these supersteps have of an id, if it ran in any
+  abbrev pub ran_in : ℕ → List (List (ℕ × X)) → Option (Ran X)
+  ran_in id records = option_map (λ last. record { steps = ran_from id 0 records; last = last }) (last_record id records)
+
+  -- an index has that of each id
+  abbrev pub IsIndex : List (List (ℕ × X)) → List (ℕ × Ran X) → Type 0
+  IsIndex records index = (id : ℕ) → value_at id index ≡ ran_in id records
+
+  -- in which supersteps an index says that an id ran
+  abbrev pub steps_in : Option (Ran X) → List ℕ
+  steps_in None = []
+  steps_in (Some ran) = ran.steps
+
+  -- what an id has that ran in these supersteps, where superstep s gave it this and the others are among the records
+  abbrev pub ran_by : ℕ → List (List (ℕ × X)) → ℕ → Option X → List ℕ → Option (Ran X)
+  ran_by id records s given steps =
+      elim (last_of steps) [ None ↦ None | Some t ↦ option_map (λ last. record { steps = steps; last = last }) (cond (t == s) given (value_at id (slice_index_or records t []))) ]
+
+  -- what an id has once it is noted what superstep s gave it, and where nothing is said of it
+  abbrev pub noted : ℕ → List (List (ℕ × X)) → ℕ → Option (Option X) → Option (Ran X) → Option (Ran X)
+  noted id records s None before = before
+  noted id records s (Some given) before = ran_by id records s given (with_ran s (is_some given) (steps_in before))
+
+  -- an index after notes of superstep s: to which ids it gave a record, and to which none
+  abbrev pub IsNoted : List (List (ℕ × X)) → ℕ → List (ℕ × Option X) → List (ℕ × Ran X) → List (ℕ × Ran X) → Type 0
+  IsNoted records s changes before after = (id : ℕ) → value_at id after ≡ noted id records s (value_at id changes) (value_at id before)
+
+  -- the changes of an index that these notes are
+  abbrev pub noting : List (List (ℕ × X)) → ℕ → List (ℕ × Option X) → List (ℕ × Ran X) → List (ℕ × Option (Ran X))
+  noting records s changes index = map (λ c. (c.0, noted c.0 records s (Some c.1) (value_at c.0 index))) changes

@@ -7,7 +7,7 @@ ghost use Rattle.pg_trace.specs.Beginning.{ChangesById, by_id, with_first};
 ghost use Rattle.pg_trace.specs.Trace.{StatesRise, state_of};
 
 use pg_graph::{Memory, VertexId};
-use pg_map::{Map, Share};
+use pg_map::{Finder, Map, Share};
 use pg_model::VertexState;
 use std::alloc::Global;
 use std::marker::Model;
@@ -74,6 +74,37 @@ impl<V> Model for Beginnings<V> {
     ghost invariant = { λ b. AreById b.states };
 }
 
+/// Looks up states by their ids. A contract sees the list of states.
+#[derive(Drop)]
+pub(crate) struct BegunFinder<'a, V> {
+    states: Finder<'a, Begun<V>>,
+}
+
+impl<'a, V> Model for BegunFinder<'a, V> {
+    ghost use Rattle.std.specs.Prelude.{List};
+    ghost use Rattle.std.specs.Map.{values_of};
+    ghost use Rattle.pg_model.specs.declared.configuration.VertexState.{VertexState};
+
+    ghost Value = { List (VertexState V) };
+
+    ghost use Rattle.pg_trace.specs.Beginning.{AreById};
+
+    ghost view = { λ f. values_of f.states };
+
+    ghost invariant = { λ f. AreById f.states };
+}
+
+impl<'a, V: Drop> BegunFinder<'a, V> {
+    /// The state with an id.
+    pub(crate) fn get(&mut self, id: VertexId) -> Option<&'a VertexState<V>>
+        ensures value { option_copied result ≡ state_of id self.old }
+        ensures same { self.new ≡ self.old }
+    {
+        let begun = self.states.get(id)?;
+        Some(begun.state())
+    }
+}
+
 impl<V: Drop> Beginnings<V> {
     /// These states.
     pub(crate) fn of(alloc: Global, states: Vec<VertexState<V>>) -> Result<Beginnings<V>, Memory>
@@ -94,13 +125,12 @@ impl<V: Drop> Beginnings<V> {
         Ok(ids)
     }
 
-    /// The state with an id. Costs two binary searches.
-    pub(crate) fn get(&self, id: VertexId) -> Option<&VertexState<V>>
-        ensures { option_copied result ≡ state_of id self.now }
+    /// Look-ups of states that come near one another.
+    pub(crate) fn finder(&self) -> BegunFinder<'_, V>
+        ensures { result ≡ self.now }
     {
-        match self.states.get(id) {
-            Some(begun) => Some(begun.state()),
-            None => None,
+        BegunFinder {
+            states: self.states.finder(),
         }
     }
 

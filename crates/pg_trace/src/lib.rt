@@ -6,9 +6,11 @@ mod kept;
 mod ran;
 mod records;
 mod state;
+mod states;
 mod trace;
 
 pub use pg_graph::Memory;
 pub use pg_model::Record;
 pub use state::StateRef;
+pub use states::States;
 pub use trace::Trace;

@@ -1,66 +1,126 @@
-//! The index of a trace: in which supersteps each vertex ran.
-ghost use Rattle.std.specs.Prelude.{◌≡◌, ◌++◌, IfOk, OnOk};
-ghost use Rattle.pg_map.specs.Entries.{HasRisingIds};
+//! The index of a trace: in which supersteps each vertex ran, and its last record.
+ghost use Rattle.std.specs.Prelude.{◌≡◌, ◌++◌, [], take, Some, IfOk, IsTrue, OnOk, slice_index_or};
+ghost use Rattle.std.specs.Option.{option_copied};
+ghost use Rattle.pg_map.specs.Entries.{ChangesRise, HasRisingIds, value_at};
 ghost use Rattle.std.specs.List.Sorted.{IsNonDecreasingBy};
-ghost use Rattle.pg_trace.specs.Ran.{IsNoted, last_of, noting, ran_at, some_of, steps_above, steps_below, with_ran};
+ghost use Rattle.pg_trace.specs.Ran.{IsNoted, last_of, noted, noting, ran_by, ran_in, steps_above, steps_below, steps_in, with_ran};
+ghost use Rattle.pg_trace.specs.Trace.{last_record};
 
+use crate::kept::Kept;
 use pg_graph::{Memory, VertexId};
 use pg_map::{Map, Share};
+use pg_model::Record;
 use std::alloc::Global;
 use std::marker::Model;
 use std::sync::Arc;
 
-/// The supersteps in which a vertex ran, rising. Copies share them.
+/// The supersteps in which a vertex ran, rising, and the record of the last of them. Copies share them.
 #[derive(Drop)]
-pub(crate) struct Ran {
-    shared: Arc<Vec<usize>>,
+pub(crate) struct Ran<V, M> {
+    shared: Arc<Steps<V, M>>,
 }
 
-impl Model for Ran {
-    ghost use Rattle.std.specs.Prelude.{ℕ, List};
+/// The supersteps in which a vertex ran, and its last record.
+#[derive(Drop)]
+struct Steps<V, M> {
+    steps: Vec<usize>,
+    last: Kept<V, M>,
+}
+
+impl<V, M> Model for Ran<V, M> {
+    ghost use Rattle.pg_model.specs.declared.record.Record.{Record};
+    ghost use Rattle.pg_trace.specs.Ran.{Ran};
     ghost use Rattle.std.specs.Arc.{arc_value};
 
-    ghost Value = { List ℕ };
+    ghost Value = { Ran (Record V M) };
 
-    ghost view = { λ r. (arc_value r.shared).items };
+    ghost view = { λ r. record { steps = (arc_value r.shared).steps.items; last = (arc_value r.shared).last } };
 }
 
-impl Share for Ran {
-    fn share(&self, _alloc: Global) -> Result<Ran, Memory> {
+impl<V: Drop, M: Drop> Share for Ran<V, M> {
+    fn share(&self, _alloc: Global) -> Result<Ran<V, M>, Memory> {
         Ok(Ran {
             shared: Arc::try_clone(&self.shared)?,
         })
     }
 }
 
-impl Ran {
-    fn of(alloc: Global, steps: Vec<usize>) -> Result<Ran, Memory>
-        ensures { IfOk result (λ ran. ran ≡ steps.items) }
+impl<V: Drop, M: Drop> Ran<V, M> {
+    fn of(alloc: Global, steps: Vec<usize>, last: Kept<V, M>) -> Result<Ran<V, M>, Memory>
+        ensures { IfOk result (λ ran. ran ≡ record { steps = steps.items; last = last }) }
     {
         Ok(Ran {
-            shared: Arc::new(alloc, steps)?,
+            shared: Arc::new(alloc, Steps { steps, last })?,
         })
     }
 
-    fn as_slice(&self) -> &[usize]
-        ensures { result.now ≡ self.now }
+    fn steps(&self) -> &[usize]
+        ensures { result.now ≡ self.now.steps }
     {
-        self.shared.as_slice()
+        self.shared.steps.as_slice()
+    }
+
+    fn last(&self) -> &Kept<V, M>
+        ensures { result.now ≡ self.now.last }
+    {
+        &self.shared.last
     }
 }
 
-/// The supersteps in which a vertex ran. Costs two binary searches.
-pub(crate) fn steps_of(ran: &Map<Ran>, id: VertexId) -> &[usize]
-    ensures { result.now ≡ ran_at id ran.now }
+/// The last record of a vertex before a superstep, where an index has this of it. It is found by halving among the
+/// supersteps in which the vertex ran, and read from the index or by two binary searches.
+pub(crate) fn last_before<'t, V: Drop, M: Drop>(
+    supersteps: &'t [Map<Kept<V, M>>],
+    ran: Option<&'t Ran<V, M>>,
+    id: VertexId,
+    superstep: usize,
+) -> Option<&'t Record<V, M>>
+    requires { option_copied ran ≡ ran_in id supersteps.now }
+    ensures { option_copied result ≡ last_record id (take superstep supersteps.now) }
 {
-    match ran.get(id) {
-        Some(steps) => steps.as_slice(),
-        None => &[],
+    let ran = ran?;
+    let last = last_below(ran.steps(), superstep)?;
+    if is_last(last, ran.steps()) {
+        return Some(ran.last().record());
     }
+    let kept = kept_in(supersteps, id, last)?;
+    Some(kept.record())
+}
+
+/// The record of a vertex in a superstep, if it ran in it. Costs two binary searches.
+pub(crate) fn kept_in<'t, V: Drop, M: Drop>(
+    supersteps: &'t [Map<Kept<V, M>>],
+    id: VertexId,
+    superstep: usize,
+) -> Option<&'t Kept<V, M>>
+    ensures { option_copied result ≡ value_at id (slice_index_or supersteps.now superstep []) }
+{
+    let records = supersteps.get(superstep)?;
+    records.get(id)
+}
+
+/// Whether a superstep is the last of these.
+fn is_last(superstep: usize, steps: &[usize]) -> bool
+    ensures { IsTrue result → Some superstep ≡ last_of steps.now }
+{
+    match last_of(steps) {
+        Some(last) => last == superstep,
+        None => false,
+    }
+}
+
+/// The last of supersteps.
+fn last_of(steps: &[usize]) -> Option<usize>
+    ensures { result ≡ last_of steps.now }
+{
+    if steps.is_empty() {
+        return None;
+    }
+    Some(steps[steps.len() - 1])
 }
 
 /// The last of rising supersteps that is below one, found by halving.
-pub(crate) fn last_below(steps: &[usize], superstep: usize) -> Option<usize>
+fn last_below(steps: &[usize], superstep: usize) -> Option<usize>
     requires { IsNonDecreasingBy (λ t. t) steps.now }
     ensures { result ≡ last_of (steps_below superstep steps.now) }
 {
@@ -71,17 +131,19 @@ pub(crate) fn last_below(steps: &[usize], superstep: usize) -> Option<usize>
     Some(steps[after - 1])
 }
 
-/// Notes of these vertices, by rising id, whether they ran in a superstep.
-pub(crate) fn note(
+/// Notes of these vertices, by rising id, which record a superstep gave them, if any. The others of their records are
+/// among those of the supersteps.
+pub(crate) fn note<V: Drop, M: Drop>(
     alloc: Global,
-    ran: &mut Map<Ran>,
+    ran: &mut Map<Ran<V, M>>,
+    supersteps: &[Map<Kept<V, M>>],
     superstep: usize,
-    runs: &[(VertexId, bool)],
+    given: &[(VertexId, Option<Kept<V, M>>)],
 ) -> Result<(), Memory>
-    requires { HasRisingIds runs.now }
-    ensures { OnOk result (IsNoted superstep runs.now ran.old ran.new) }
+    requires { ChangesRise given.now }
+    ensures { OnOk result (IsNoted supersteps.now superstep given.now ran.old ran.new) }
 {
-    let changes = changes_of(alloc, ran, superstep, runs)?;
+    let changes = changes_of(alloc, ran, supersteps, superstep, given)?;
     tell_rising(ran);
     ran.change(alloc, changes.as_slice())?;
     Ok(())
@@ -95,30 +157,74 @@ pub(crate) fn tell_rising<X>(map: &Map<X>)
 }
 
 /// What each of these vertices has after the superstep is noted; none where it is nothing.
-fn changes_of(
+fn changes_of<V: Drop, M: Drop>(
     alloc: Global,
-    ran: &Map<Ran>,
+    ran: &Map<Ran<V, M>>,
+    supersteps: &[Map<Kept<V, M>>],
     superstep: usize,
-    runs: &[(VertexId, bool)],
-) -> Result<Vec<(VertexId, Option<Ran>)>, Memory>
-    ensures { IfOk result (λ changes. changes.items ≡ noting superstep runs.now ran.now) }
+    given: &[(VertexId, Option<Kept<V, M>>)],
+) -> Result<Vec<(VertexId, Option<Ran<V, M>>)>, Memory>
+    ensures { IfOk result (λ changes. changes.items ≡ noting supersteps.now superstep given.now ran.now) }
 {
-    let mut changes = Vec::with_capacity(alloc, runs.len())?;
-    for (id, runs_now) in runs {
-        let steps = stepped(alloc, steps_of(ran, *id), superstep, *runs_now)?;
-        changes.push((*id, kept(alloc, steps)?))?;
+    let mut finder = ran.finder();
+    let mut changes = Vec::with_capacity(alloc, given.len())?;
+    for (id, given) in given {
+        let before = finder.get(*id);
+        let after = after(alloc, supersteps, *id, superstep, given.as_ref(), before)?;
+        changes.push((*id, after))?;
     }
     Ok(changes)
 }
 
-/// These supersteps, or none.
-fn kept(alloc: Global, steps: Vec<usize>) -> Result<Option<Ran>, Memory>
-    ensures { IfOk result (λ ran. ran ≡ some_of steps.items) }
+/// What a vertex has after it is noted what a superstep gave it.
+fn after<V: Drop, M: Drop>(
+    alloc: Global,
+    supersteps: &[Map<Kept<V, M>>],
+    id: VertexId,
+    superstep: usize,
+    given: Option<&Kept<V, M>>,
+    before: Option<&Ran<V, M>>,
+) -> Result<Option<Ran<V, M>>, Memory>
+    ensures { IfOk result (λ after.
+        after ≡ noted id supersteps.now superstep (Some (option_copied given.entry)) (option_copied before.entry)) }
 {
-    if steps.is_empty() {
-        return Ok(None);
+    let steps = stepped(alloc, steps_in(before), superstep, given.is_some())?;
+    ran_by(alloc, supersteps, id, superstep, given, steps)
+}
+
+/// The supersteps that an index has of a vertex.
+fn steps_in<'t, V: Drop, M: Drop>(ran: Option<&'t Ran<V, M>>) -> &'t [usize]
+    ensures { result.now ≡ steps_in (option_copied ran.entry) }
+{
+    match ran {
+        Some(ran) => ran.steps(),
+        None => &[],
     }
-    Ok(Some(Ran::of(alloc, steps)?))
+}
+
+/// What a vertex has that ran in these supersteps.
+fn ran_by<V: Drop, M: Drop>(
+    alloc: Global,
+    supersteps: &[Map<Kept<V, M>>],
+    id: VertexId,
+    superstep: usize,
+    given: Option<&Kept<V, M>>,
+    steps: Vec<usize>,
+) -> Result<Option<Ran<V, M>>, Memory>
+    ensures { IfOk result (λ ran. ran ≡ ran_by id supersteps.now superstep (option_copied given.entry) steps.items) }
+{
+    let Some(last) = last_of(steps.as_slice()) else {
+        return Ok(None);
+    };
+    let kept = if last == superstep {
+        given
+    } else {
+        kept_in(supersteps, id, last)
+    };
+    match kept {
+        Some(kept) => Ok(Some(Ran::of(alloc, steps, kept.share(alloc)?)?)),
+        None => Ok(None),
+    }
 }
 
 /// These supersteps with one among them or not.
@@ -130,7 +236,7 @@ fn stepped(
 ) -> Result<Vec<usize>, Memory>
     ensures { IfOk result (λ stepped. stepped.items ≡ with_ran superstep runs steps.now) }
 {
-    let mut stepped = Vec::with_capacity(alloc, steps.len())?;
+    let mut stepped = Vec::with_capacity(alloc, steps.len().saturating_add(1))?;
     add_below(&mut stepped, steps, superstep)?;
     if runs {
         stepped.push(superstep)?;

@@ -1,5 +1,5 @@
 //! The records of supersteps, one superstep or many at a time.
-ghost use Rattle.std.specs.Prelude.{◌≡◌, length, map, take, ◌≤◌, is_some, IfOk, OnOk};
+ghost use Rattle.std.specs.Prelude.{◌≡◌, length, map, take, ◌≤◌, None, Some, IfOk, OnOk};
 ghost use Rattle.pg_map.specs.Entries.{HasRisingIds};
 ghost use Rattle.pg_trace.specs.Ran.{IsIndex};
 ghost use Rattle.pg_trace.specs.Trace.{lent};
@@ -7,7 +7,7 @@ ghost use Rattle.pg_trace.specs.Trace.{lent};
 use crate::kept::Kept;
 use crate::ran::{Ran, note};
 use pg_graph::{Memory, VertexId};
-use pg_map::Map;
+use pg_map::{Map, Share};
 use pg_model::Record;
 use std::alloc::Global;
 
@@ -56,7 +56,7 @@ pub(crate) fn all_kept<V: Drop, M: Drop>(
 /// Forgets that vertices ran in these supersteps from a place on.
 pub(crate) fn forget<V: Drop, M: Drop>(
     alloc: Global,
-    ran: &mut Map<Ran>,
+    ran: &mut Map<Ran<V, M>>,
     supersteps: &[Map<Kept<V, M>>],
     len: usize,
 ) -> Result<(), Memory>
@@ -67,26 +67,41 @@ pub(crate) fn forget<V: Drop, M: Drop>(
     let mut left = supersteps.len();
     while left > len {
         left -= 1;
-        let none = all_noted(alloc, &supersteps[left], false)?;
-        note(alloc, ran, left, none.as_slice())?;
+        let none = none_given(alloc, &supersteps[left])?;
+        let (before, _) = supersteps.split_at(left);
+        note(alloc, ran, before, left, none.as_slice())?;
     }
     Ok(())
 }
 
-/// The ids of a superstep's records, each with this.
-pub(crate) fn all_noted<V: Drop, M: Drop>(
+/// No record for the ids of a superstep's records.
+fn none_given<V: Drop, M: Drop>(
     alloc: Global,
     records: &Map<Kept<V, M>>,
-    runs: bool,
-) -> Result<Vec<(VertexId, bool)>, Memory>
-    ensures noted { IfOk result (λ noted. noted.items ≡ map (λ e. (e.0, runs)) records.now) }
+) -> Result<Vec<(VertexId, Option<Kept<V, M>>)>, Memory>
+    ensures none { IfOk result (λ none. none.items ≡ map (λ e. (e.0, None)) records.now) }
     ensures rising { HasRisingIds records.now }
 {
-    let mut noted = Vec::with_capacity(alloc, records.len())?;
+    let mut none = Vec::with_capacity(alloc, records.len())?;
     for (id, _) in records.iter() {
-        noted.push((*id, runs))?;
+        none.push((*id, None))?;
     }
-    Ok(noted)
+    Ok(none)
+}
+
+/// Their own records for the ids of a superstep's records.
+pub(crate) fn all_given<V: Drop, M: Drop>(
+    alloc: Global,
+    records: &Map<Kept<V, M>>,
+) -> Result<Vec<(VertexId, Option<Kept<V, M>>)>, Memory>
+    ensures given { IfOk result (λ given. given.items ≡ map (λ e. (e.0, Some e.1)) records.now) }
+    ensures rising { HasRisingIds records.now }
+{
+    let mut given = Vec::with_capacity(alloc, records.len())?;
+    for (id, kept) in records.iter() {
+        given.push((*id, Some(kept.share(alloc)?)))?;
+    }
+    Ok(given)
 }
 
 /// Keeps the records among these changes.
@@ -114,18 +129,4 @@ fn kept_if_any<V: Drop, M: Drop>(
         Some(given) => Ok(Some(Kept::of(alloc, given)?)),
         None => Ok(None),
     }
-}
-
-/// The ids of changes, each with whether it has a record then.
-pub(crate) fn changes_noted<V: Drop, M: Drop>(
-    alloc: Global,
-    changes: &[(VertexId, Option<Kept<V, M>>)],
-) -> Result<Vec<(VertexId, bool)>, Memory>
-    ensures { IfOk result (λ noted. noted.items ≡ map (λ c. (c.0, is_some c.1)) changes.now) }
-{
-    let mut noted = Vec::with_capacity(alloc, changes.len())?;
-    for (id, change) in changes {
-        noted.push((*id, change.is_some()))?;
-    }
-    Ok(noted)
 }

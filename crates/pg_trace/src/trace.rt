@@ -9,8 +9,9 @@ ghost use Rattle.pg_trace.specs.Trace.{StatesRise, begun, lent, record_at, recor
 use crate::StateRef;
 use crate::beginnings::Beginnings;
 use crate::kept::Kept;
-use crate::ran::{Ran, last_below, note, steps_of, tell_rising};
-use crate::records::{all_kept, all_noted, changes_kept, changes_noted, forget, listed, shared};
+use crate::ran::{Ran, kept_in, note, tell_rising};
+use crate::records::{all_given, all_kept, changes_kept, forget, listed, shared};
+use crate::states::States;
 use pg_graph::{Memory, Superstep, VertexId};
 use pg_map::Map;
 use pg_model::{Record, VertexState};
@@ -21,12 +22,12 @@ use std::marker::Model;
 /// the records of the vertices that ran. A contract sees both as lists by rising id.
 ///
 /// No other state is kept: that of a vertex as a superstep begins is what its last record before it
-/// left. An index says of each vertex in which supersteps it ran. Copies share their memory.
+/// left. An index says of each vertex in which supersteps it ran, and has its last record. Copies share their memory.
 #[derive(Drop)]
 pub struct Trace<V, M> {
     initial: Beginnings<V>,
     supersteps: Vec<Map<Kept<V, M>>>,
-    ran: Map<Ran>,
+    ran: Map<Ran<V, M>>,
 }
 
 impl<V, M> Model for Trace<V, M> {
@@ -100,7 +101,8 @@ impl<V: Drop, M: Drop> Trace<V, M> {
     pub fn record_at(&self, id: VertexId, superstep: Superstep) -> Option<&Record<V, M>>
         ensures { option_copied result ≡ record_at id superstep self.now }
     {
-        self.record_in(id, superstep.number() as usize)
+        let kept = kept_in(self.supersteps.as_slice(), id, superstep.number() as usize)?;
+        Some(kept.record())
     }
 
     /// The state of a vertex as a superstep begins: that of its last record before it, else its
@@ -111,7 +113,14 @@ impl<V: Drop, M: Drop> Trace<V, M> {
         ensures value { result ≡ state_at id superstep self.now }
         ensures run { IsOfRun self.now id superstep result }
     {
-        self.state_before(id, superstep.number() as usize)
+        self.states().state_at(id, superstep)
+    }
+
+    /// Look-ups of states that come near one another.
+    pub fn states(&self) -> States<'_, V, M>
+        ensures { result ≡ self.now }
+    {
+        States::of(&self.initial, &self.ran, self.supersteps.as_slice())
     }
 
     /// The same trace, in the same memory. Costs one count a superstep.
@@ -159,9 +168,16 @@ impl<V: Drop, M: Drop> Trace<V, M> {
         ensures err { OnErr result (self.new ≡ self.old) }
     {
         let records = Map::from_rising(alloc, all_kept(alloc, records)?)?;
-        let runs = all_noted(alloc, &records, true)?;
+        let given = all_given(alloc, &records)?;
+        let supersteps = self.supersteps.as_slice();
         let mut ran = self.ran.share()?;
-        note(alloc, &mut ran, self.supersteps(), runs.as_slice())?;
+        note(
+            alloc,
+            &mut ran,
+            supersteps,
+            supersteps.len(),
+            given.as_slice(),
+        )?;
         self.supersteps.push(records)?;
         self.ran = ran;
         Ok(())
@@ -203,48 +219,14 @@ impl<V: Drop, M: Drop> Trace<V, M> {
     {
         let place = superstep.number() as usize;
         let changes = changes_kept(alloc, changes)?;
-        let runs = changes_noted(alloc, changes.as_slice())?;
-        let mut ran = self.ran.share()?;
-        note(alloc, &mut ran, place, runs.as_slice())?;
         let supersteps = self.supersteps.as_slice();
+        let mut ran = self.ran.share()?;
+        note(alloc, &mut ran, supersteps, place, changes.as_slice())?;
         let mut records = supersteps[place].share()?;
         tell_rising(&records);
         records.change(alloc, changes.as_slice())?;
         self.supersteps[place] = records;
         self.ran = ran;
         Ok(())
-    }
-
-    /// The record of a vertex in a superstep, if it ran in it.
-    fn record_in(&self, id: VertexId, place: usize) -> Option<&Record<V, M>>
-        ensures { option_copied result ≡ value_at id (slice_index_or self.now.records place []) }
-    {
-        let records = self.supersteps.get(place)?;
-        let kept = records.get(id)?;
-        Some(kept.record())
-    }
-
-    /// The state of a vertex as a superstep begins.
-    fn state_before(&self, id: VertexId, place: usize) -> Option<StateRef<'_, V>>
-        ensures { result ≡ state_at id place self.now }
-    {
-        match self.last_record(id, place) {
-            Some(left) => Some(StateRef::of_record(id, left)),
-            None => {
-                let state = self.initial.get(id)?;
-                Some(StateRef::of_state(state))
-            }
-        }
-    }
-
-    /// The last record of a vertex before a superstep.
-    fn last_record(&self, id: VertexId, place: usize) -> Option<&Record<V, M>>
-        ensures { option_copied result ≡ last_record id (take place self.now.records) }
-    {
-        let steps = steps_of(&self.ran, id);
-        match last_below(steps, place) {
-            Some(last) => self.record_in(id, last),
-            None => None,
-        }
     }
 }

@@ -3,4 +3,7 @@ use Rattle.pg_trace.specs.Ran.{noting}
 use Rattle.pg_trace.proofs.ran.changes_of.Given as goal
 
 abbrev pub invariant-loop-id : goal.invariant-loop-id
-invariant-loop-id l = l.changes.items ≡ noting l.superstep (take l.id-index l.runs) l.ran
+invariant-loop-id g l = record {
+  so_far : l.changes.items ≡ noting l.supersteps l.superstep (take l.id-index l.given) l.ran;
+  same : l.finder ≡ l.ran;
+}

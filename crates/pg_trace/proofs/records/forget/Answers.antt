@@ -1,15 +1,15 @@
-use Rattle.std.proofs.Common.{◌≡◌, ◌<◌, ◌+◌, ◌-◌, false, length, take, sym, ap, ◌∙◌, subst, arith}
+use Rattle.std.proofs.Common.{◌≡◌, ◌<◌, ◌+◌, ◌-◌, None, length, take, sym, ap, ◌∙◌, subst, arith}
 use Rattle.std.specs.List.Sorted.{IsStrictlySortedBy}
 use Rattle.std.specs.Map.{keys_of}
 use Rattle.std.specs.Ordering.{nat_cmp}
-use Rattle.pg_trace.specs.Ran.{IsIndex}
+use Rattle.pg_trace.specs.Ran.{IsIndex, IsNoted}
 use Rattle.pg_trace.proofs.Noting.{index-less, keys_map}
 use Rattle.pg_trace.proofs.records.forget.Goals as goal
 
 pub note-requires : goal.note-requires
 note-requires g c =
-    subst (IsStrictlySortedBy nat_cmp) (sym (ap keys_of (c.as_slice.ensures.value ∙ c.in_ok-none.ensures.noted)
-    ∙ keys_map (λ e. false) c.index-supersteps-left.result)) c.in_ok-none.ensures.rising
+    subst (IsStrictlySortedBy nat_cmp) (sym (ap keys_of (c.as_slice.ensures.value ∙ c.in_ok-none.ensures.none)
+    ∙ keys_map (λ e. None) c.index-supersteps-left.result)) c.in_ok-none.ensures.rising
 
 pub loop-left-preserved : goal.loop-left-preserved
 loop-left-preserved g c =
@@ -22,5 +22,6 @@ loop-left-preserved g c =
       high = omega (arith, within);
       index = index-less ss (left - 1) c.index-supersteps-left.result c.as_slice.result.now c.loop-left.ran c.note.new.ran within c.index-supersteps-left.is
           (subst (λ n. IsIndex (take n ss) c.loop-left.ran) one c.loop-left.invariant.index)
-          (c.as_slice.ensures.value ∙ c.in_ok-none.ensures.noted) c.in_ok-note.ensures;
+          (c.as_slice.ensures.value ∙ c.in_ok-none.ensures.none)
+          (subst (λ l. IsNoted l (left - 1) c.as_slice.result.now c.loop-left.ran c.note.new.ran) c.split_at.ensures.front c.in_ok-note.ensures);
     }

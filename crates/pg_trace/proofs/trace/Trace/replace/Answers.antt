@@ -1,31 +1,28 @@
-use Rattle.std.proofs.Common.{◌≡◌, ◌<◌, is_some, length, get_or, sym, ap, ◌∙◌, subst, arith}
-use Rattle.std.specs.List.Sorted.{IsStrictlySortedBy}
-use Rattle.std.specs.Map.{keys_of}
-use Rattle.std.specs.Ordering.{nat_cmp}
-use Rattle.pg_map.specs.Entries.{ChangesRise, with_changes, value_at}
-use Rattle.pg_trace.specs.Ran.{IsNoted, noted, ran_at}
-use Rattle.pg_trace.proofs.Noting.{index-set, keys_map}
+use Rattle.std.proofs.Common.{◌≡◌, ◌<◌, length, get_or, sym, ap, ◌∙◌, subst, arith}
+use Rattle.pg_map.specs.Entries.{ChangesRise, value_at, with_changes}
+use Rattle.pg_trace.specs.Ran.{IsNoted, noted}
+use Rattle.pg_trace.proofs.Noting.{index-set}
 use Rattle.pg_trace.proofs.trace.Trace.replace.Goals as goal
 
 pub note-requires : goal.note-requires
 note-requires g c =
-    subst (IsStrictlySortedBy nat_cmp) (sym (ap keys_of (c.as_slice-2.ensures.value ∙ c.in_ok-runs.ensures) ∙ keys_map (λ c. is_some c.1) c.as_slice.result.now
-    ∙ ap keys_of (c.as_slice.ensures.value ∙ c.in_ok-changes.ensures))) c.requires.rise
+    subst (λ l. ChangesRise l) (sym (c.as_slice.ensures.value ∙ c.in_ok-changes.ensures)) c.requires.rise
 
 pub invariant_of-self : goal.invariant_of-self
 invariant_of-self g c =
     let rs = c.self.inside.supersteps.items in
     let n = c.number-place.result in
     let r = c.in_ok-records.records in
-    let runs = c.as_slice-2.result.now in
+    let given = c.as_slice.result.now in
     let slice = c.as_slice-supersteps.ensures.value in
     let within : n < length rs = let w = c.requires.within in let e = c.number-place.ensures in let v = ap
     (λ t. length t.records) c.self.view_is in omega (arith, w, e, v) in
     let here : r ≡ get_or rs n r = c.in_ok-records.ensures ∙ c.index-supersteps-place.is
     ∙ ap (λ d. get_or c.as_slice-supersteps.result.now n d) (sym c.in_ok-records.ensures) ∙ ap (λ l. get_or l n r) slice in
-    let notes : IsNoted n runs c.self.inside.ran c.note.new.ran = λ id. c.in_ok-note.ensures id
-    ∙ ap (λ l. noted n (value_at id runs) (ran_at id l)) c.in_ok-ran.ensures in
+    let notes : IsNoted rs n given c.self.inside.ran c.note.new.ran = λ id. c.in_ok-note.ensures id
+    ∙ ap (λ l. noted id l n (value_at id given) (value_at id c.in_ok-ran.ran)) slice
+    ∙ ap (λ l. noted id rs n (value_at id given) (value_at id l)) c.in_ok-ran.ensures in
     let rise = subst (λ l. ChangesRise l) (sym (c.as_slice.ensures.value ∙ c.in_ok-changes.ensures)) c.requires.rise in
-    let made = c.in_ok-change.ensures.ok ∙ ap (λ l. with_changes l r) (c.as_slice-3.ensures.value ∙ sym c.as_slice.ensures.value) in
-    index-set rs n r c.change.new.self c.as_slice.result.now runs c.self.inside.ran c.note.new.ran within here
-    c.tell_rising.ensures rise made c.self.invariant (c.as_slice-2.ensures.value ∙ c.in_ok-runs.ensures) notes
+    let made = c.in_ok-change.ensures.ok ∙ ap (λ l. with_changes l r) (c.as_slice-2.ensures.value ∙ sym c.as_slice.ensures.value) in
+    index-set rs n r c.change.new.self given c.self.inside.ran c.note.new.ran within here
+    c.tell_rising.ensures rise made c.self.invariant notes

@@ -1,0 +1,90 @@
+//! Look-ups of states that come near one another.
+ghost use Rattle.std.specs.Prelude.{◌≡◌, take};
+ghost use Rattle.std.specs.Option.{option_copied};
+ghost use Rattle.pg_trace.specs.OfRun.{IsOfRun};
+ghost use Rattle.pg_trace.specs.Ran.{IsIndex};
+ghost use Rattle.pg_trace.specs.Trace.{last_record, state_at};
+
+use crate::StateRef;
+use crate::beginnings::{Beginnings, BegunFinder};
+use crate::kept::Kept;
+use crate::ran::{Ran, last_before};
+use pg_graph::{Superstep, VertexId};
+use pg_map::{Finder, Map};
+use pg_model::Record;
+use std::marker::Model;
+
+/// Looks up the states of vertices in a trace. Where an id lies near the one before, it costs a search near that.
+/// A contract sees the trace.
+#[derive(Drop)]
+pub struct States<'a, V, M> {
+    initial: BegunFinder<'a, V>,
+    ran: Finder<'a, Ran<V, M>>,
+    supersteps: &'a [Map<Kept<V, M>>],
+}
+
+impl<'a, V, M> Model for States<'a, V, M> {
+    ghost use Rattle.pg_trace.specs.Trace.{Trace};
+
+    ghost Value = { Trace V M };
+
+    ghost use Rattle.pg_trace.specs.Ran.{IsIndex};
+
+    ghost view = { λ s. record { initial = s.initial; records = s.supersteps.now } };
+
+    ghost invariant = { λ s. IsIndex s.supersteps.now s.ran };
+}
+
+impl<'a, V: Drop, M: Drop> States<'a, V, M> {
+    /// Look-ups in a trace of these parts.
+    pub(crate) fn of(
+        initial: &'a Beginnings<V>,
+        ran: &'a Map<Ran<V, M>>,
+        supersteps: &'a [Map<Kept<V, M>>],
+    ) -> States<'a, V, M>
+        requires { IsIndex supersteps.now ran.now }
+        ensures { result ≡ record { initial = initial.now; records = supersteps.now } }
+    {
+        States {
+            initial: initial.finder(),
+            ran: ran.finder(),
+            supersteps,
+        }
+    }
+
+    /// The state of a vertex as a superstep begins: that of its last record before it, else its initial one. There is
+    /// none where it has neither.
+    ///
+    /// Where the trace holds a run so far, it is the state in that run.
+    pub fn state_at(&mut self, id: VertexId, superstep: Superstep) -> Option<StateRef<'a, V>>
+        ensures value { result ≡ state_at id superstep self.old }
+        ensures run { IsOfRun self.old id superstep result }
+        ensures same { self.new ≡ self.old }
+    {
+        self.state_before(id, superstep.number() as usize)
+    }
+
+    /// The state of a vertex as a superstep begins.
+    fn state_before(&mut self, id: VertexId, place: usize) -> Option<StateRef<'a, V>>
+        ensures value { result ≡ state_at id place self.old }
+        ensures same { self.new ≡ self.old }
+    {
+        match self.last_record(id, place) {
+            Some(left) => Some(StateRef::of_record(id, left)),
+            None => {
+                let state = self.initial.get(id)?;
+                Some(StateRef::of_state(state))
+            }
+        }
+    }
+
+    /// The last record of a vertex before a superstep.
+    fn last_record(&mut self, id: VertexId, place: usize) -> Option<&'a Record<V, M>>
+        ensures value { option_copied result ≡ last_record id (take place self.old.records) }
+        ensures same { self.new ≡ self.old }
+    {
+        let supersteps = self.supersteps;
+        let ran = self.ran.get(id);
+        last_before(supersteps, ran, id, place)
+    }
+}
