@@ -6,11 +6,12 @@ use Rattle.std.specs.List.Sorted.{IsStrictlySortedBy}
 use Rattle.std.specs.Map.{keys_of}
 use Rattle.std.specs.Option.{option_or}
 use Rattle.std.specs.Ordering.{nat_cmp}
+use Rattle.std.proofs.Math.ListN.{get_or-map}
 use Rattle.std.proofs.Math.Nat.{mod-lt}
 use Rattle.std.proofs.lemmas.Bool.{eq-eqb}
 use Rattle.std.proofs.lemmas.List.Folds.{list_any-append}
 use Rattle.std.proofs.lemmas.Simd.{map-map}
-use Rattle.pg_core.specs.Values.{HasShare, HaveShares, ids_before, ids_of_part, state_in, valued}
+use Rattle.pg_core.specs.Values.{HasShare, HaveShares, ids_before, ids_of_part, state_by, state_in, traces_of, valued}
 use Rattle.pg_graph.specs.Rows.{HasRisingIds, Rows}
 use Rattle.pg_graph.specs.declared.missing.Missing.{Missing}
 use Rattle.pg_graph.specs.declared.missing.Missing.TheVariants.{Drop, Create}
@@ -150,3 +151,19 @@ module _ {V M : Type 0} (job : Job V M) (rows : Rows) (n s : ℕ) (parts : List 
       (λ id none. ap (valued id) (unlisted id (sym (same id) ∙ none)))
       (λ id none. ap (λ o. valued id (option_map (λ x. x.state) o)) (standing_at-none id all none))
       ∙ valued_all all all (found_by_id all order))
+
+-- ---- the same states, read from the traces alone
+
+module _ {V M : Type 0} (n s : ℕ) (parts : List (Option (PartState V M))) where
+  same_state : (id : ℕ) → state_by n s (traces_of parts) id ≡ state_in n s parts id
+  same_state id =
+      ap (option_and_then (λ trace. state_at id s trace)) (get_or-map (option_map (λ part. part.course.trace)) parts (id % n) None)
+      ∙ by (get_or parts (id % n) None)
+    where
+      by : (o : Option (PartState V M))
+          → option_and_then (λ trace. state_at id s trace) (option_map (λ part. part.course.trace) o) ≡ option_and_then (λ part. state_at id s part.course.trace) o
+      by None = refl
+      by (Some part) = refl
+
+  pub same_values : (ids : List ℕ) → flat_map (λ id. valued id (state_by n s (traces_of parts) id)) ids ≡ flat_map (λ id. valued id (state_in n s parts id)) ids
+  same_values ids = λ i. flat_map (λ id. valued id (same_state id i)) ids

@@ -2,7 +2,7 @@
 use Rattle.std.specs.Prelude.{ℕ, ◌<◌, ◌%◌, List, [], ◌∷◌, ◌++◌, map, slice_index_or, Option, None, Some}
 use Rattle.std.specs.List.{flat_map, range_with_len}
 use Rattle.std.specs.Map.{keys_of}
-use Rattle.std.specs.Option.{option_and_then}
+use Rattle.std.specs.Option.{option_and_then, option_map}
 use Rattle.pg_graph.specs.Rows.{Rows}
 use Rattle.pg_graph.specs.declared.missing.Missing.{Missing}
 use Rattle.pg_graph.specs.declared.missing.Missing.TheVariants.{Drop, Create}
@@ -28,6 +28,14 @@ module _ {V M : Type 0} where
   abbrev pub ids_of_part : Missing → ℕ → Option (PartState V M) → List ℕ
   ids_of_part missing s None = []
   ids_of_part missing s (Some part) = ids_before missing s part.course.trace
+
+  -- the traces of the parts that are here
+  abbrev pub traces_of : List (Option (PartState V M)) → List (Option (Trace V M))
+  traces_of parts = map (option_map (λ part. part.course.trace)) parts
+
+  -- the state of an id as the trace of its partition, of n, has it
+  abbrev pub state_by : ℕ → ℕ → List (Option (Trace V M)) → ℕ → Option (VertexState V)
+  state_by n s traces id = option_and_then (λ trace. state_at id s trace) (slice_index_or traces (id % n) None)
 
   -- the state of an id as its partition, of n, has it
   abbrev pub state_in : ℕ → ℕ → List (Option (PartState V M)) → ℕ → Option (VertexState V)

@@ -2,7 +2,8 @@
 ghost use Rattle.std.specs.Prelude.{◌≡◌, ◌++◌, IfOk, OnOk};
 ghost use Rattle.std.specs.List.{flat_map, range_with_len};
 ghost use Rattle.std.specs.Map.{keys_of};
-ghost use Rattle.pg_core.specs.Values.{HaveShares, ids_before, ids_of_part, state_in, valued};
+ghost use Rattle.std.specs.Option.{option_map};
+ghost use Rattle.pg_core.specs.Values.{HaveShares, ids_before, ids_of_part, state_by, traces_of, valued};
 ghost use Rattle.pg_graph.specs.Rows.{Rows};
 ghost use Rattle.pg_model.specs.Job.{Job};
 ghost use Rattle.pg_model.specs.Run.{configuration, values_of};
@@ -13,7 +14,7 @@ use pg_graph::{Memory, Missing, Superstep, VertexId};
 use pg_model::{Record, Sequence};
 use pg_part::{Part, Partitioner};
 use pg_program::Plain;
-use pg_trace::{StateRef, Trace};
+use pg_trace::{StateRef, States, Trace};
 use std::alloc::Global;
 
 /// The values of the vertices as a superstep begins, by rising id. Costs a sort of their ids and a look-up for each;
@@ -43,48 +44,82 @@ fn values_of_ids<V: Plain, M: Plain>(
     superstep: Superstep,
 ) -> Result<Vec<(VertexId, V)>, Memory>
     ensures { IfOk result (λ values. values.items
-        ≡ flat_map (λ id. valued id (state_in partitioner superstep parts.now id)) ids.now) }
+        ≡ flat_map (λ id. valued id (state_by partitioner superstep (traces_of parts.now) id)) ids.now) }
 {
+    let mut states = all_states(alloc, parts)?;
     let mut values = Vec::with_capacity(alloc, ids.len())?;
     for id in ids {
-        add_value(alloc, &mut values, partitioner, parts, *id, superstep)?;
+        add_value(
+            alloc,
+            &mut values,
+            partitioner,
+            &mut states,
+            *id,
+            superstep,
+        )?;
     }
     Ok(values)
 }
 
+/// Look-ups in the traces of these parts.
+fn all_states<'t, V: Plain, M: Plain>(
+    alloc: Global,
+    parts: &'t [Option<Part<V, M>>],
+) -> Result<Vec<Option<States<'t, V, M>>>, Memory>
+    ensures { IfOk result (λ states. states.items ≡ traces_of parts.now) }
+{
+    let mut states = Vec::with_capacity(alloc, parts.len())?;
+    for part in parts {
+        states.push(states_of(part))?;
+    }
+    Ok(states)
+}
+
+/// Look-ups in the trace of a part.
+fn states_of<'t, V: Plain, M: Plain>(part: &'t Option<Part<V, M>>) -> Option<States<'t, V, M>>
+    ensures { result ≡ option_map (λ p. p.course.trace) part.now }
+{
+    match part {
+        Some(part) => Some(part.trace().states()),
+        None => None,
+    }
+}
+
 /// Adds the value of an id, if it has a state.
-fn add_value<V: Plain, M: Plain>(
+fn add_value<'t, V: Plain, M: Plain>(
     alloc: Global,
     values: &mut Vec<(VertexId, V)>,
     partitioner: Partitioner,
-    parts: &[Option<Part<V, M>>],
+    states: &mut Vec<Option<States<'t, V, M>>>,
     id: VertexId,
     superstep: Superstep,
 ) -> Result<(), Memory>
-    ensures { OnOk result (values.new.items
-        ≡ values.old.items ++ valued id (state_in partitioner superstep parts.now id)) }
+    ensures added { OnOk result (values.new.items
+        ≡ values.old.items ++ valued id (state_by partitioner superstep states.old.items id)) }
+    ensures same { states.new.items ≡ states.old.items }
 {
-    if let Some(state) = state_in(partitioner, parts, id, superstep) {
+    if let Some(state) = state_by(partitioner, states, id, superstep) {
         values.push((id, state.value().copy(alloc)?))?;
     }
     Ok(())
 }
 
 /// The state of an id as its partition has it.
-fn state_in<V: Plain, M: Plain>(
+fn state_by<'t, V: Plain, M: Plain>(
     partitioner: Partitioner,
-    parts: &[Option<Part<V, M>>],
+    states: &mut Vec<Option<States<'t, V, M>>>,
     id: VertexId,
     superstep: Superstep,
-) -> Option<StateRef<'_, V>>
-    ensures { result ≡ state_in partitioner superstep parts.now id }
+) -> Option<StateRef<'t, V>>
+    ensures value { result ≡ state_by partitioner superstep states.old.items id }
+    ensures same { states.new.items ≡ states.old.items }
 {
     let place = partitioner.partition(id).number() as usize;
-    if place >= parts.len() {
+    if place >= states.len() {
         return None;
     }
-    match &parts[place] {
-        Some(part) => part.trace().state_at(id, superstep),
+    match &mut states[place] {
+        Some(states) => states.state_at(id, superstep),
         None => None,
     }
 }

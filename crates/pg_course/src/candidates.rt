@@ -18,7 +18,7 @@ use pg_graph::{Memory, Missing, Superstep, VertexId};
 use pg_inbox::{Bundle, inbox, inboxes};
 use pg_model::{Sequence, Standing};
 use pg_program::{Computation, Plain};
-use pg_trace::Trace;
+use pg_trace::{States, Trace};
 use std::alloc::Global;
 
 /// The vertices that aren't halted as a superstep begins, by rising id.
@@ -204,16 +204,26 @@ fn candidates_beside<P: Computation, C: MessageCombiner<P::Message>>(
     ensures told { IfOk result (λ candidates.
         AllByRecursion (IsTold P.Value.PartialEq.eq P.Message.PartialEq.eq) candidates.items) }
 {
+    let mut states = trace.states();
+    let mut old_states = old.states();
     let mut candidates = Vec::with_capacity(alloc, callees.len())?;
     for (id, delivered) in callees {
-        let new = vertex_at(alloc, program, missing, trace, superstep, id, delivered)?;
+        let new = vertex_at(
+            alloc,
+            program,
+            missing,
+            &mut states,
+            superstep,
+            id,
+            delivered,
+        )?;
         let old = found(
             alloc,
             program,
             combiner,
             missing,
             superstep,
-            old,
+            &mut old_states,
             old_bundles,
             id,
         )?;
@@ -230,19 +240,20 @@ fn found<P: Computation, C: MessageCombiner<P::Message>>(
     combiner: &C,
     missing: Missing,
     superstep: Superstep,
-    trace: &Trace<P::Value, P::Message>,
+    states: &mut States<'_, P::Value, P::Message>,
     bundles: &[&Bundle<P::Message>],
     id: VertexId,
 ) -> Result<Option<Standing<P::Value, P::Message>>, Memory>
-    ensures { IfOk result (λ x. IsFound (P.program program.now) missing (C.combining combiner.now) trace.now superstep
+    ensures found { IfOk result (λ x. IsFound (P.program program.now) missing (C.combining combiner.now) states.old superstep
         (map (λ b. b.now) bundles.now) id x) }
+    ensures same { states.new ≡ states.old }
 {
     let delivered = inbox(alloc, bundles, id, combiner)?;
     let vertex = vertex_at(
         alloc,
         program,
         missing,
-        trace,
+        states,
         superstep,
         id,
         Sequence::from_vec(delivered),
@@ -265,9 +276,18 @@ fn candidates_alone<P: Computation>(
         ≡ map (found_at (P.program program.now) missing superstep trace.now) callees.items) }
     ensures old { IfOk result (λ candidates. AllByRecursion (λ c. c.old ≡ None) candidates.items) }
 {
+    let mut states = trace.states();
     let mut candidates = Vec::with_capacity(alloc, callees.len())?;
     for (id, delivered) in callees {
-        let new = vertex_at(alloc, program, missing, trace, superstep, id, delivered)?;
+        let new = vertex_at(
+            alloc,
+            program,
+            missing,
+            &mut states,
+            superstep,
+            id,
+            delivered,
+        )?;
         let old = None;
         candidates.push(Candidate { id, old, new })?;
     }

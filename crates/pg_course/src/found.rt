@@ -10,7 +10,7 @@ ghost use Rattle.pg_trace.specs.Trace.{state_at};
 use pg_graph::{Edges, Memory, Missing, Superstep, VertexId};
 use pg_model::{Sequence, Standing, VertexState};
 use pg_program::{Computation, Plain};
-use pg_trace::{StateRef, Trace};
+use pg_trace::{StateRef, States};
 use std::alloc::Global;
 
 /// A vertex that a step looks at, as it finds it in the old run and in the new one, if it is there.
@@ -27,15 +27,16 @@ pub(crate) fn vertex_at<P: Computation>(
     alloc: Global,
     program: &P,
     missing: Missing,
-    trace: &Trace<P::Value, P::Message>,
+    states: &mut States<'_, P::Value, P::Message>,
     superstep: Superstep,
     id: VertexId,
     delivered: Sequence<P::Message>,
 ) -> Result<Option<Standing<P::Value, P::Message>>, Memory>
-    ensures { IfOk result
-        (λ x. x ≡ vertex_of (P.program program.now) missing id (state_at id superstep trace.now) delivered) }
+    ensures found { IfOk result
+        (λ x. x ≡ vertex_of (P.program program.now) missing id (state_at id superstep states.old) delivered) }
+    ensures same { states.new ≡ states.old }
 {
-    match trace.state_at(id, superstep) {
+    match states.state_at(id, superstep) {
         Some(state) => {
             let state = copied(alloc, &state)?;
             Ok(Some(Standing {

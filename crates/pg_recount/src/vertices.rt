@@ -7,7 +7,7 @@ use pg_graph::{Memory, Superstep, VertexId};
 use pg_model::VertexState;
 use pg_program::Plain;
 use pg_stats::Census;
-use pg_trace::Trace;
+use pg_trace::{States, Trace};
 use std::alloc::AllocError;
 
 /// The census of these vertices.
@@ -31,9 +31,10 @@ pub fn census_among<V: Plain, M: Plain>(
 ) -> Result<Census, Memory>
     ensures { IfOk result (λ census. census ≡ census_of (states_among superstep ids.now trace.now)) }
 {
+    let mut states = trace.states();
     let mut census = nobody();
     for id in ids {
-        census = with_vertex_at(census, trace, superstep, *id)?;
+        census = with_vertex_at(census, &mut states, superstep, *id)?;
     }
     Ok(census)
 }
@@ -82,13 +83,14 @@ fn with_vertex(census: Census, degree: usize, halted: bool) -> Result<Census, Me
 /// With one vertex more, where it has a state.
 fn with_vertex_at<V: Plain, M: Plain>(
     census: Census,
-    trace: &Trace<V, M>,
+    states: &mut States<'_, V, M>,
     superstep: Superstep,
     id: VertexId,
 ) -> Result<Census, Memory>
-    ensures { IfOk result (λ after. IsSum census (census_of (states_among superstep (id ∷ []) trace.now)) after) }
+    ensures sum { IfOk result (λ after. IsSum census (census_of (states_among superstep (id ∷ []) states.old)) after) }
+    ensures same { states.new ≡ states.old }
 {
-    match trace.state_at(id, superstep) {
+    match states.state_at(id, superstep) {
         Some(state) => with_vertex(census, state.edges().as_slice().len(), state.halted()),
         None => Ok(census),
     }

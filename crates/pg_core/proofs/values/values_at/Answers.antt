@@ -1,6 +1,6 @@
 use Rattle.std.proofs.Common.{ap, sym, ◌∙◌, flat_map}
-use Rattle.pg_core.specs.Values.{ids_of_part, state_in, valued}
-use Rattle.pg_core.proofs.ReadValues.{values_are}
+use Rattle.pg_core.specs.Values.{ids_of_part, state_by, traces_of, valued}
+use Rattle.pg_core.proofs.ReadValues.{same_values, values_are}
 use Rattle.pg_model.specs.Superstep.{has_id}
 use Rattle.pg_core.proofs.values.values_at.Goals as goal
 
@@ -12,6 +12,6 @@ returns g c job rows missing shares =
     let ids = c.rising-ids.result.items in
     c.from_vec.ensures
     ∙ (c.in_ok-values.ensures
-    ∙ (ap (flat_map (λ id. valued id (state_in n s parts id))) c.as_slice.ensures.value
-    ∙ values_are job rows n s parts shares ids c.rising-ids.ensures.rise
-    (λ id. c.rising-ids.ensures.same id ∙ (ap (λ l. has_id l id) c.in_ok-all_ids.ensures ∙ ap (λ m. has_id (flat_map (ids_of_part m s) parts) id) (sym missing)))))
+    ∙ (ap (flat_map (λ id. valued id (state_by n s (traces_of parts) id))) c.as_slice.ensures.value
+    ∙ (same_values n s parts ids ∙ values_are job rows n s parts shares ids c.rising-ids.ensures.rise
+    (λ id. c.rising-ids.ensures.same id ∙ (ap (λ l. has_id l id) c.in_ok-all_ids.ensures ∙ ap (λ m. has_id (flat_map (ids_of_part m s) parts) id) (sym missing))))))

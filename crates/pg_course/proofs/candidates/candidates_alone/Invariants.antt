@@ -11,5 +11,6 @@ invariant-loop-id g l =
       ids : map (λ c. c.id) l.candidates.items ≡ keys_of l.yielded;
       new : map (λ c. c.new) l.candidates.items ≡ map (found_at program l.missing l.superstep l.trace) l.yielded;
       old : AllByRecursion (λ c. c.old ≡ None) l.candidates.items;
+      states : l.states ≡ l.trace;
       whole : l.yielded ++ l.id-iterator.rest.items ≡ l.fn.callees.items;
     }

@@ -4,4 +4,7 @@ use Rattle.pg_stats.specs.Stats.{census_of}
 use Rattle.pg_recount.proofs.vertices.census_among.Given as goal
 
 abbrev pub invariant-loop-id : goal.invariant-loop-id
-invariant-loop-id g l = l.census ≡ census_of (states_among l.superstep (take l.id-index l.ids) l.trace)
+invariant-loop-id g l = record {
+  counted : l.census ≡ census_of (states_among l.superstep (take l.id-index l.ids) l.trace);
+  same : l.states ≡ l.trace;
+}
