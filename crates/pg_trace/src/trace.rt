@@ -203,7 +203,7 @@ impl<V: Drop, M: Drop> Trace<V, M> {
     /// Changes the records of a superstep that it has: each of these vertices, by rising id, has its
     /// new record there, or none. Nothing changes where memory is refused.
     ///
-    /// For k changes it costs k look-ups, a copy of the numbers of the supersteps in which these
+    /// With no change it costs nothing. For k changes it costs k look-ups, a copy of the numbers of the supersteps in which these
     /// vertices ran, and a change of the index and of the superstep: of the chunks with these
     /// vertices. The others stay unread.
     pub fn replace(
@@ -217,6 +217,9 @@ impl<V: Drop, M: Drop> Trace<V, M> {
         ensures ok { OnOk result (self.new ≡ with_replaced superstep changes.items self.old) }
         ensures err { OnErr result (self.new ≡ self.old) }
     {
+        if changes.is_empty() {
+            return Ok(());
+        }
         let place = superstep.number() as usize;
         let changes = changes_kept(alloc, changes)?;
         let supersteps = self.supersteps.as_slice();
