@@ -49,14 +49,7 @@ fn values_of_ids<V: Plain, M: Plain>(
     let mut states = all_states(alloc, parts)?;
     let mut values = Vec::with_capacity(alloc, ids.len())?;
     for id in ids {
-        add_value(
-            alloc,
-            &mut values,
-            partitioner,
-            &mut states,
-            *id,
-            superstep,
-        )?;
+        add_value(alloc, &mut values, partitioner, &mut states, *id, superstep)?;
     }
     Ok(values)
 }

@@ -149,13 +149,20 @@ fn help(rt: HostRuntime) {
     assert_eq!(&rt; own.as_slice(), other.as_slice());
 }
 
+// The program of shortest paths from a source.
+fn paths_from(source: VertexId) -> ReadyProgram {
+    ReadyProgram::Sssp(Sssp { source })
+}
+
 // Shortest paths from 1, on no graph yet.
 pub(crate) fn shortest_paths(alloc: Global) -> Result<ReadyService, Fail> {
     let source = VertexId::new(1).ok_or("an id")?;
-    let program = ReadyProgram::Sssp(Sssp { source });
     let limits = Limits::new(1, 1, 1000, 0, 0).ok_or("limits")?;
-    let (combiner, master) = (AnyCombiner::NoCombiner, ReadyMaster { program });
-    let service = Service::new(alloc, limits, program, combiner, master)?;
+    let master = ReadyMaster {
+        program: paths_from(source),
+    };
+    let combiner = AnyCombiner::NoCombiner;
+    let service = Service::new(alloc, limits, paths_from(source), combiner, master)?;
     Ok(service)
 }
 

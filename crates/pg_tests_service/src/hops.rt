@@ -13,13 +13,20 @@ pub(crate) fn id(number: u64) -> Result<VertexId, Fail> {
     Ok(VertexId::new(number).ok_or("a number above 2^63 - 1")?)
 }
 
+// The program of shortest paths from a source.
+fn paths_from(source: VertexId) -> ReadyProgram {
+    ReadyProgram::Sssp(Sssp { source })
+}
+
 // Shortest paths from 1 on so many partitions, on no graph yet.
 pub(crate) fn shortest_paths(alloc: Global, partitions: u32) -> Result<ReadyService, Fail> {
     let source = id(1)?;
-    let program = ReadyProgram::Sssp(Sssp { source });
     let limits = Limits::new(partitions, 1, 1000, 0, 0).ok_or("limits")?;
-    let (combiner, master) = (AnyCombiner::NoCombiner, ReadyMaster { program });
-    let service = Service::new(alloc, limits, program, combiner, master)?;
+    let master = ReadyMaster {
+        program: paths_from(source),
+    };
+    let combiner = AnyCombiner::NoCombiner;
+    let service = Service::new(alloc, limits, paths_from(source), combiner, master)?;
     Ok(service)
 }
 
