@@ -7,6 +7,4 @@
 #[cfg(test)]
 mod course;
 #[cfg(test)]
-mod orders;
-#[cfg(test)]
 mod runs;

@@ -17,11 +17,7 @@ fn id(number: u64) -> Result<VertexId, Fail> {
 }
 
 // The graph of these vertices with their inputs, and of these edges.
-pub(crate) fn graph_of(
-    alloc: Global,
-    vertices: &[(u64, i64)],
-    edges: &[(u64, u64)],
-) -> Result<Graph, Fail> {
+fn graph_of(alloc: Global, vertices: &[(u64, i64)], edges: &[(u64, u64)]) -> Result<Graph, Fail> {
     let mut batch = Batch::new(alloc);
     for (number, input) in vertices {
         batch.push(Edit::AddVertex(id(*number)?, *input))?;
@@ -35,7 +31,7 @@ pub(crate) fn graph_of(
 }
 
 // One step of a partition that is ready.
-pub(crate) fn step_once<P: Computation, C: MessageCombiner<P::Message>, M: MasterCompute>(
+fn step_once<P: Computation, C: MessageCombiner<P::Message>, M: MasterCompute>(
     alloc: Global,
     core: &mut Core<'_, P, C, M>,
     partition: PartitionId,
@@ -48,7 +44,7 @@ pub(crate) fn step_once<P: Computation, C: MessageCombiner<P::Message>, M: Maste
 }
 
 // A core with so many partitions on two workers, to which nothing has happened.
-pub(crate) fn opened<'a>(
+fn opened<'a>(
     alloc: Global,
     graph: &'a Graph,
     partitions: u32,
