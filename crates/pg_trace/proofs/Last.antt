@@ -6,7 +6,7 @@ use Rattle.std.specs.Option.{option_and_then}
 use Rattle.pg_map.specs.Entries.{value_at}
 use Rattle.pg_trace.specs.Ran.{Ran, last_of, ran_from, ran_in, steps_in}
 use Rattle.pg_trace.specs.Trace.{last_record}
-use Rattle.pg_trace.proofs.Index.{last_before, last_record_is, ran_rises}
+use Rattle.pg_trace.proofs.Supersteps.{last_before, last_record_is, ran_rises}
 use Rattle.pg_trace.proofs.Noting.{steps_of_ran}
 
 -- the last of rising supersteps that is below s

@@ -1,5 +1,7 @@
 pub mod Beginning
-pub mod Index
+pub mod InPlace
 pub mod Last
 pub mod Noting
 pub mod RunStates
+pub mod Somes
+pub mod Supersteps

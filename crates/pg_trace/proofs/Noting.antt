@@ -12,9 +12,9 @@ use Rattle.pg_map.specs.Entries.{ChangesRise, HasRisingIds, value_at, with_chang
 use Rattle.pg_map.proofs.Changing.{value_at-with_changes}
 use Rattle.pg_trace.specs.Ran.{IsIndex, IsNoted, Ran, last_of, noted, noting, ran_by, ran_from, ran_in, steps_in, with_ran}
 use Rattle.pg_trace.specs.Trace.{last_record}
-use Rattle.pg_trace.proofs.Index.{Agrees, last_record_is, ran-less, ran-push, ran-set, steps_noted}
+use Rattle.pg_trace.proofs.Supersteps.{Agrees, last_record_is, ran-less, ran-push, ran-set, steps_noted}
 
-same_id : (a b : ℕ) → is_at (nat_cmp a) b ≡ true → b ≡ a
+pub same_id : (a b : ℕ) → is_at (nat_cmp a) b ≡ true → b ≡ a
 same_id a b h = grind (arith, nat_tests)
 
 module _ {Y Z : Type 0} where
@@ -147,6 +147,16 @@ module _ {X : Type 0} (id : ℕ) where
       by None = none_there t (length rs) (value_at id (get_or rs t [])) (λ e. absent rs t (omega (arith, e)))
       by (Some x) = refl
 
+  added : (rs : List (List (ℕ × X))) (xs : List (ℕ × X)) (o : Option (Option X)) → value_at id xs ≡ unwrap_or o None → (t : ℕ)
+      → value_at id (get_or (rs ++ xs ∷ []) t []) ≡ given_at id rs rs (length rs) o t
+  added rs xs o are t =
+      ap (value_at id) (at_push rs xs [] t) ∙ at_cond (t == length rs) xs (get_or rs t [])
+      ∙ ap (λ v. cond (t == length rs) v (value_at id (get_or rs t []))) are ∙ by o
+    where
+      by : (c : Option (Option X)) → cond (t == length rs) (unwrap_or c None) (value_at id (get_or rs t [])) ≡ given_at id rs rs (length rs) c t
+      by None = none_there t (length rs) (value_at id (get_or rs t [])) (λ e. absent rs t (omega (arith, e)))
+      by (Some g) = refl
+
   lessened : (rs : List (List (ℕ × X))) (n : ℕ) (o : Option (Option X)) → n < length rs → o ≡ option_map (λ x. None) (value_at id (get_or rs n [])) → (t : ℕ)
       → value_at id (get_or (take n rs) t []) ≡ given_at id (take (n + 1) rs) (take n rs) n o t
   lessened rs n o within are t = by (value_at id (get_or rs n [])) refl ∙ ap (λ o. given_at id (take (n + 1) rs) (take n rs) n o t) (sym are)
@@ -205,6 +215,17 @@ module _ {X : Type 0} where
       ∙ ap (λ n. steps_noted n (option_map is_some (value_at id given)) (ran_from id 0 rs)) (first_is (length rs)) in
       indexed id rs (rs ++ xs ∷ []) rs (length rs) (value_at id given) (value_at id ran) (value_at id ran') (index id) (notes id) steps
       (pushed id rs xs (value_at id given) o)
+
+  -- what is pushed need be no more than what is given: an id that is given none has none there
+  pub index-next : (rs : List (List (ℕ × X))) (xs : List (ℕ × X)) (given : List (ℕ × Option X)) (ran ran' : List (ℕ × Ran X)) → IsIndex rs ran
+      → ((id : ℕ) → value_at id xs ≡ unwrap_or (value_at id given) None) → IsNoted rs (length rs) given ran ran' → IsIndex (rs ++ xs ∷ []) ran'
+  index-next rs xs given ran ran' index are notes id =
+      let agree : Agrees (option_map is_some (value_at id given)) false (is_some (value_at id xs)) =
+      subst (λ v. Agrees (option_map is_some (value_at id given)) false (is_some v)) (sym (are id)) (changed (value_at id given) None) in
+      let steps = ran-push id 0 rs xs (option_map is_some (value_at id given)) agree
+      ∙ ap (λ n. steps_noted n (option_map is_some (value_at id given)) (ran_from id 0 rs)) (first_is (length rs)) in
+      indexed id rs (rs ++ xs ∷ []) rs (length rs) (value_at id given) (value_at id ran) (value_at id ran') (index id) (notes id) steps
+      (added id rs xs (value_at id given) (are id))
 
   pub index-less : (rs : List (List (ℕ × X))) (n : ℕ) (r : List (ℕ × X)) (given : List (ℕ × Option X)) (ran ran' : List (ℕ × Ran X)) → n < length rs
       → r ≡ get_or rs n r

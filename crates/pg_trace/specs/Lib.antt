@@ -1,4 +1,5 @@
 pub mod Beginning
+pub mod Index
 pub mod OfRun
 pub mod Ran
 pub mod Rows

@@ -1,7 +1,9 @@
 -- What an index has of each id: in which supersteps it ran, and its last record.
 use Rattle.std.specs.Prelude.{◌≡◌, ℕ, ◌+◌, ◌==◌, nat_lt, map, Bool, cond, List, [], ◌∷◌, ◌++◌, Option, None, Some, is_some, slice_index_or, unwrap_or}
+use Rattle.std.specs.BTreeMap.{is_at}
 use Rattle.std.specs.List.{filter}
 use Rattle.std.specs.Option.{option_map}
+use Rattle.std.specs.Ordering.{nat_cmp}
 use Rattle.pg_map.specs.Entries.{value_at}
 use Rattle.pg_trace.specs.Trace.{last_record}
 
@@ -59,6 +61,11 @@ module _ {X : Type 0} where
   -- an index after notes of superstep s: to which ids it gave a record, and to which none
   abbrev pub IsNoted : List (List (ℕ × X)) → ℕ → List (ℕ × Option X) → List (ℕ × Ran X) → List (ℕ × Ran X) → Type 0
   IsNoted records s changes before after = (id : ℕ) → value_at id after ≡ noted id records s (value_at id changes) (value_at id before)
+
+  -- an index after a note of one id alone, which superstep s gave this
+  abbrev pub IsNotedOf : ℕ → List (List (ℕ × X)) → ℕ → Option X → List (ℕ × Ran X) → List (ℕ × Ran X) → Type 0
+  IsNotedOf id records s given before after =
+      (q : ℕ) → value_at q after ≡ cond (is_at (nat_cmp id) q) (noted id records s (Some given) (value_at id before)) (value_at q before)
 
   -- the changes of an index that these notes are
   abbrev pub noting : List (List (ℕ × X)) → ℕ → List (ℕ × Option X) → List (ℕ × Ran X) → List (ℕ × Option (Ran X))

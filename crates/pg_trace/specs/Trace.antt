@@ -1,5 +1,5 @@
 -- What a run leaves of one partition, and the states that are read from it.
-use Rattle.std.specs.Prelude.{ℕ, ◌==◌, List, [], ◌∷◌, ◌++◌, map, take, slice_index_or, slice_set, Option, None}
+use Rattle.std.specs.Prelude.{ℕ, ◌==◌, cond, List, [], ◌∷◌, ◌++◌, length, map, take, slice_index_or, slice_set, Option, None}
 use Rattle.std.specs.List.{find}
 use Rattle.std.specs.List.Sorted.{IsStrictlySortedBy}
 use Rattle.std.specs.Option.{option_map, option_or}
@@ -33,6 +33,12 @@ module _ {X : Type 0} where
   last_record id [] = None
   last_record id (records ∷ later) = option_or (last_record id later) (value_at id records)
 
+  -- supersteps, with changes of the records of superstep s, which they have or which comes next
+  abbrev pub put_at : ℕ → List (ℕ × Option X) → List (List (ℕ × X)) → List (List (ℕ × X))
+  put_at s changes records =
+      let reached = cond (length records == s) (records ++ [] ∷ []) records in
+      slice_set reached s (with_changes changes (slice_index_or reached s []))
+
 module _ {V M : Type 0} where
   -- as a run begins with these states
   abbrev pub begun : List (VertexState V) → Trace V M
@@ -65,3 +71,7 @@ module _ {V M : Type 0} where
   -- with changes of the records of superstep s
   abbrev pub with_replaced : ℕ → List (ℕ × Option (Record V M)) → Trace V M → Trace V M
   with_replaced s changes trace = record trace { records = slice_set trace.records s (with_changes changes (records_of s trace)) }
+
+  -- with one superstep more, of no records, where superstep s comes next
+  abbrev pub reaching : ℕ → Trace V M → Trace V M
+  reaching s trace = cond (length trace.records == s) (with_superstep [] trace) trace

@@ -2,11 +2,14 @@
 #![tactic(auto)]
 
 mod beginnings;
+mod growing;
+mod index;
 mod kept;
 mod ran;
 mod records;
 mod state;
 mod states;
+mod steps;
 mod trace;
 
 pub use pg_graph::Memory;

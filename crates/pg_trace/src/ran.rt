@@ -1,4 +1,4 @@
-//! The index of a trace: in which supersteps each vertex ran, and its last record.
+//! What an index has of a vertex, as copies share it, and notes in a shared index.
 ghost use Rattle.std.specs.Prelude.{◌≡◌, ◌++◌, [], take, Some, IfOk, IsTrue, OnOk, slice_index_or};
 ghost use Rattle.std.specs.Option.{option_copied};
 ghost use Rattle.pg_map.specs.Entries.{ChangesRise, HasRisingIds, value_at};
@@ -7,6 +7,7 @@ ghost use Rattle.pg_trace.specs.Ran.{IsNoted, last_of, noted, noting, ran_by, ra
 ghost use Rattle.pg_trace.specs.Trace.{last_record};
 
 use crate::kept::Kept;
+use crate::steps::Steps;
 use pg_graph::{Memory, VertexId};
 use pg_map::{Map, Share};
 use pg_model::Record;
@@ -20,13 +21,6 @@ pub(crate) struct Ran<V, M> {
     shared: Arc<Steps<V, M>>,
 }
 
-/// The supersteps in which a vertex ran, and its last record.
-#[derive(Drop)]
-struct Steps<V, M> {
-    steps: Vec<usize>,
-    last: Kept<V, M>,
-}
-
 impl<V, M> Model for Ran<V, M> {
     ghost use Rattle.pg_model.specs.declared.record.Record.{Record};
     ghost use Rattle.pg_trace.specs.Ran.{Ran};
@@ -34,7 +28,7 @@ impl<V, M> Model for Ran<V, M> {
 
     ghost Value = { Ran (Record V M) };
 
-    ghost view = { λ r. record { steps = (arc_value r.shared).steps.items; last = (arc_value r.shared).last } };
+    ghost view = { λ r. arc_value r.shared };
 }
 
 impl<V: Drop, M: Drop> Share for Ran<V, M> {
@@ -46,24 +40,20 @@ impl<V: Drop, M: Drop> Share for Ran<V, M> {
 }
 
 impl<V: Drop, M: Drop> Ran<V, M> {
-    fn of(alloc: Global, steps: Vec<usize>, last: Kept<V, M>) -> Result<Ran<V, M>, Memory>
-        ensures { IfOk result (λ ran. ran ≡ record { steps = steps.items; last = last }) }
+    /// Keeps what there is of a vertex.
+    pub(crate) fn of(alloc: Global, steps: Steps<V, M>) -> Result<Ran<V, M>, Memory>
+        ensures { IfOk result (λ ran. ran ≡ steps) }
     {
         Ok(Ran {
-            shared: Arc::new(alloc, Steps { steps, last })?,
+            shared: Arc::new(alloc, steps)?,
         })
     }
 
-    fn steps(&self) -> &[usize]
-        ensures { result.now ≡ self.now.steps }
+    /// What there is of the vertex.
+    pub(crate) fn steps(&self) -> &Steps<V, M>
+        ensures { result.now ≡ self.now }
     {
-        self.shared.steps.as_slice()
-    }
-
-    fn last(&self) -> &Kept<V, M>
-        ensures { result.now ≡ self.now.last }
-    {
-        &self.shared.last
+        &self.shared
     }
 }
 
@@ -71,7 +61,7 @@ impl<V: Drop, M: Drop> Ran<V, M> {
 /// supersteps in which the vertex ran, and read from the index or by two binary searches.
 pub(crate) fn last_before<'t, V: Drop, M: Drop>(
     supersteps: &'t [Map<Kept<V, M>>],
-    ran: Option<&'t Ran<V, M>>,
+    ran: Option<&'t Steps<V, M>>,
     id: VertexId,
     superstep: usize,
 ) -> Option<&'t Record<V, M>>
@@ -79,8 +69,8 @@ pub(crate) fn last_before<'t, V: Drop, M: Drop>(
     ensures { option_copied result ≡ last_record id (take superstep supersteps.now) }
 {
     let ran = ran?;
-    let last = last_below(ran.steps(), superstep)?;
-    if is_last(last, ran.steps()) {
+    let last = last_below(ran.supersteps(), superstep)?;
+    if is_last(last, ran.supersteps()) {
         return Some(ran.last().record());
     }
     let kept = kept_in(supersteps, id, last)?;
@@ -169,22 +159,43 @@ fn changes_of<V: Drop, M: Drop>(
     let mut finder = ran.finder();
     let mut changes = Vec::with_capacity(alloc, given.len())?;
     for (id, given) in given {
-        let before = finder.get(*id);
+        let before = steps_of(finder.get(*id));
         let after = after(alloc, supersteps, *id, superstep, given.as_ref(), before)?;
-        changes.push((*id, after))?;
+        changes.push((*id, ran_if_any(alloc, after)?))?;
     }
     Ok(changes)
 }
 
+/// What there is of a vertex, if anything.
+fn steps_of<'t, V: Drop, M: Drop>(ran: Option<&'t Ran<V, M>>) -> Option<&'t Steps<V, M>>
+    ensures { option_copied result ≡ option_copied ran.entry }
+{
+    let ran = ran?;
+    Some(ran.steps())
+}
+
+/// Keeps what there is of a vertex, if anything.
+fn ran_if_any<V: Drop, M: Drop>(
+    alloc: Global,
+    steps: Option<Steps<V, M>>,
+) -> Result<Option<Ran<V, M>>, Memory>
+    ensures { IfOk result (λ ran. ran ≡ steps) }
+{
+    match steps {
+        Some(steps) => Ok(Some(Ran::of(alloc, steps)?)),
+        None => Ok(None),
+    }
+}
+
 /// What a vertex has after it is noted what a superstep gave it.
-fn after<V: Drop, M: Drop>(
+pub(crate) fn after<V: Drop, M: Drop>(
     alloc: Global,
     supersteps: &[Map<Kept<V, M>>],
     id: VertexId,
     superstep: usize,
     given: Option<&Kept<V, M>>,
-    before: Option<&Ran<V, M>>,
-) -> Result<Option<Ran<V, M>>, Memory>
+    before: Option<&Steps<V, M>>,
+) -> Result<Option<Steps<V, M>>, Memory>
     ensures { IfOk result (λ after.
         after ≡ noted id supersteps.now superstep (Some (option_copied given.entry)) (option_copied before.entry)) }
 {
@@ -193,11 +204,11 @@ fn after<V: Drop, M: Drop>(
 }
 
 /// The supersteps that an index has of a vertex.
-fn steps_in<'t, V: Drop, M: Drop>(ran: Option<&'t Ran<V, M>>) -> &'t [usize]
+fn steps_in<'t, V: Drop, M: Drop>(ran: Option<&'t Steps<V, M>>) -> &'t [usize]
     ensures { result.now ≡ steps_in (option_copied ran.entry) }
 {
     match ran {
-        Some(ran) => ran.steps(),
+        Some(ran) => ran.supersteps(),
         None => &[],
     }
 }
@@ -210,7 +221,7 @@ fn ran_by<V: Drop, M: Drop>(
     superstep: usize,
     given: Option<&Kept<V, M>>,
     steps: Vec<usize>,
-) -> Result<Option<Ran<V, M>>, Memory>
+) -> Result<Option<Steps<V, M>>, Memory>
     ensures { IfOk result (λ ran. ran ≡ ran_by id supersteps.now superstep (option_copied given.entry) steps.items) }
 {
     let Some(last) = last_of(steps.as_slice()) else {
@@ -222,7 +233,7 @@ fn ran_by<V: Drop, M: Drop>(
         kept_in(supersteps, id, last)
     };
     match kept {
-        Some(kept) => Ok(Some(Ran::of(alloc, steps, kept.share(alloc)?)?)),
+        Some(kept) => Ok(Some(Steps::of(steps, kept.share(alloc)?))),
         None => Ok(None),
     }
 }

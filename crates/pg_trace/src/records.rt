@@ -1,11 +1,11 @@
 //! The records of supersteps, one superstep or many at a time.
-ghost use Rattle.std.specs.Prelude.{◌≡◌, length, map, take, ◌≤◌, None, Some, IfOk, OnOk};
-ghost use Rattle.pg_map.specs.Entries.{HasRisingIds};
+ghost use Rattle.std.specs.Prelude.{◌≡◌, [], length, map, take, ◌≤◌, None, Some, IfOk, OnOk, slice_index_or};
+ghost use Rattle.pg_map.specs.Entries.{ChangesRise, HasRisingIds, with_changes};
 ghost use Rattle.pg_trace.specs.Ran.{IsIndex};
-ghost use Rattle.pg_trace.specs.Trace.{lent};
+ghost use Rattle.pg_trace.specs.Trace.{lent, put_at};
 
 use crate::kept::Kept;
-use crate::ran::{Ran, note};
+use crate::ran::{Ran, note, tell_rising};
 use pg_graph::{Memory, VertexId};
 use pg_map::{Map, Share};
 use pg_model::Record;
@@ -129,4 +129,50 @@ fn kept_if_any<V: Drop, M: Drop>(
         Some(given) => Ok(Some(Kept::of(alloc, given)?)),
         None => Ok(None),
     }
+}
+
+/// Supersteps with these changes of the records of one, which they have or which comes next. Where it comes next its
+/// map is made of the records that are there; else it costs a copy of the chunks that are changed, and with no change
+/// nothing.
+pub(crate) fn put_records<V: Drop, M: Drop>(
+    alloc: Global,
+    supersteps: Vec<Map<Kept<V, M>>>,
+    place: usize,
+    changes: Vec<(VertexId, Option<Kept<V, M>>)>,
+) -> Result<Vec<Map<Kept<V, M>>>, Memory>
+    requires rise { ChangesRise changes.items }
+    requires within { place ≤ length supersteps.items }
+    ensures put { IfOk result (λ after. after.items ≡ put_at place changes.items supersteps.items) }
+    ensures rising { IfOk result (λ after. HasRisingIds (slice_index_or supersteps.items place [])) }
+{
+    let mut supersteps = supersteps;
+    if place == supersteps.len() {
+        supersteps.push(fresh(alloc, changes)?)?;
+        return Ok(supersteps);
+    }
+    let mut records = supersteps[place].share()?;
+    tell_rising(&records);
+    if changes.is_empty() {
+        return Ok(supersteps);
+    }
+    records.change(alloc, changes.as_slice())?;
+    supersteps[place] = records;
+    Ok(supersteps)
+}
+
+/// The records of a superstep that comes next.
+fn fresh<V: Drop, M: Drop>(
+    alloc: Global,
+    changes: Vec<(VertexId, Option<Kept<V, M>>)>,
+) -> Result<Map<Kept<V, M>>, Memory>
+    requires { ChangesRise changes.items }
+    ensures { IfOk result (λ records. records ≡ with_changes changes.items []) }
+{
+    let mut there = Vec::with_capacity(alloc, changes.len())?;
+    for (id, change) in changes {
+        if let Some(kept) = change {
+            there.push((id, kept))?;
+        }
+    }
+    Map::from_rising(alloc, there)
 }

@@ -7,10 +7,11 @@ ghost use Rattle.pg_trace.specs.Trace.{last_record, state_at};
 
 use crate::StateRef;
 use crate::beginnings::{Beginnings, BegunFinder};
+use crate::index::{Index, IndexFinder};
 use crate::kept::Kept;
-use crate::ran::{Ran, last_before};
+use crate::ran::last_before;
 use pg_graph::{Superstep, VertexId};
-use pg_map::{Finder, Map};
+use pg_map::Map;
 use pg_model::Record;
 use std::marker::Model;
 
@@ -19,7 +20,7 @@ use std::marker::Model;
 #[derive(Drop)]
 pub struct States<'a, V, M> {
     initial: BegunFinder<'a, V>,
-    ran: Finder<'a, Ran<V, M>>,
+    ran: IndexFinder<'a, V, M>,
     supersteps: &'a [Map<Kept<V, M>>],
 }
 
@@ -39,7 +40,7 @@ impl<'a, V: Drop, M: Drop> States<'a, V, M> {
     /// Look-ups in a trace of these parts.
     pub(crate) fn of(
         initial: &'a Beginnings<V>,
-        ran: &'a Map<Ran<V, M>>,
+        ran: &'a Index<V, M>,
         supersteps: &'a [Map<Kept<V, M>>],
     ) -> States<'a, V, M>
         requires { IsIndex supersteps.now ran.now }

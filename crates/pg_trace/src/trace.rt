@@ -1,16 +1,17 @@
 //! The trace of a partition's run.
-ghost use Rattle.std.specs.Prelude.{◌≡◌, ℕ, [], length, map, take, slice_index_or, ◌<◌, IfOk, OnOk, OnErr};
+ghost use Rattle.std.specs.Prelude.{◌≡◌, ℕ, [], length, map, take, slice_index_or, ◌<◌, ◌≤◌, IfOk, OnOk, OnErr};
 ghost use Rattle.std.specs.Option.{option_copied};
 ghost use Rattle.pg_map.specs.Entries.{ChangesRise, HasRisingIds, value_at};
 ghost use Rattle.pg_trace.specs.Beginning.{ChangesById, with_first};
 ghost use Rattle.pg_trace.specs.OfRun.{IsOfRun};
-ghost use Rattle.pg_trace.specs.Trace.{StatesRise, begun, lent, record_at, records_of, state_at, with_superstep, first_supersteps, last_record, with_replaced};
+ghost use Rattle.pg_trace.specs.Trace.{StatesRise, begun, lent, record_at, records_of, state_at, reaching, with_superstep, first_supersteps, last_record, with_replaced};
 
 use crate::StateRef;
 use crate::beginnings::Beginnings;
+use crate::index::Index;
 use crate::kept::Kept;
-use crate::ran::{Ran, kept_in, note, tell_rising};
-use crate::records::{all_given, all_kept, changes_kept, forget, listed, shared};
+use crate::ran::{kept_in, note, tell_rising};
+use crate::records::{all_given, all_kept, changes_kept, forget, listed, put_records, shared};
 use crate::states::States;
 use pg_graph::{Memory, Superstep, VertexId};
 use pg_map::Map;
@@ -22,12 +23,13 @@ use std::marker::Model;
 /// the records of the vertices that ran. A contract sees both as lists by rising id.
 ///
 /// No other state is kept: that of a vertex as a superstep begins is what its last record before it
-/// left. An index says of each vertex in which supersteps it ran, and has its last record. Copies share their memory.
+/// left. An index says of each vertex in which supersteps it ran, and has its last record. A new trace grows: `recorded`
+/// changes its index in place. Once it is settled copies share its memory.
 #[derive(Drop)]
 pub struct Trace<V, M> {
     initial: Beginnings<V>,
     supersteps: Vec<Map<Kept<V, M>>>,
-    ran: Map<Ran<V, M>>,
+    ran: Index<V, M>,
 }
 
 impl<V, M> Model for Trace<V, M> {
@@ -52,7 +54,7 @@ impl<V: Drop, M: Drop> Trace<V, M> {
         Ok(Trace {
             initial,
             supersteps: Vec::new(alloc),
-            ran: Map::new(),
+            ran: Index::growing(alloc),
         })
     }
 
@@ -123,13 +125,64 @@ impl<V: Drop, M: Drop> Trace<V, M> {
         States::of(&self.initial, &self.ran, self.supersteps.as_slice())
     }
 
-    /// The same trace, in the same memory. Costs one count a superstep.
+    /// The same trace, in the same memory. Costs one count a superstep; where the trace still grows, also a copy of the
+    /// index.
     pub fn share(&self, alloc: Global) -> Result<Trace<V, M>, Memory>
         ensures { IfOk result (λ trace. trace ≡ self.now) }
     {
         let initial = self.initial.share()?;
         let supersteps = shared(alloc, self.supersteps.as_slice())?;
-        let ran = self.ran.share()?;
+        let ran = Index::of(self.ran.shared(alloc)?);
+        Ok(Trace {
+            initial,
+            supersteps,
+            ran,
+        })
+    }
+
+    /// The same trace, whose copies share all its memory from now on. Costs O(1) where it doesn't grow, and else O(1) a
+    /// vertex that ran.
+    pub fn settled(self, alloc: Global) -> Result<Trace<V, M>, Memory>
+        ensures { IfOk result (λ trace. trace ≡ self) }
+    {
+        let Trace {
+            initial,
+            supersteps,
+            ran,
+        } = self;
+        let ran = ran.settled(alloc)?;
+        Ok(Trace {
+            initial,
+            supersteps,
+            ran,
+        })
+    }
+
+    /// The trace with these changes of the records of a superstep, which it has or which comes next: each of these
+    /// vertices, by rising id, has its new record there, or none. The trace is gone where memory is refused.
+    ///
+    /// Where the trace still grows, the changes cost a look-up each, and nothing is copied that isn't changed; else as
+    /// `replace`.
+    pub fn recorded(
+        self,
+        alloc: Global,
+        superstep: Superstep,
+        changes: Vec<(VertexId, Option<Record<V, M>>)>,
+    ) -> Result<Trace<V, M>, Memory>
+        requires rise { ChangesRise changes.items }
+        requires within { superstep ≤ length self.records }
+        ensures { IfOk result
+            (λ after. after ≡ with_replaced superstep changes.items (reaching superstep self)) }
+    {
+        let place = superstep.number() as usize;
+        let Trace {
+            initial,
+            supersteps,
+            ran,
+        } = self;
+        let changes = changes_kept(alloc, changes)?;
+        let ran = ran.noted(alloc, supersteps.as_slice(), place, changes.as_slice())?;
+        let supersteps = put_records(alloc, supersteps, place, changes)?;
         Ok(Trace {
             initial,
             supersteps,
@@ -157,7 +210,8 @@ impl<V: Drop, M: Drop> Trace<V, M> {
     /// changes where memory is refused.
     ///
     /// For k records it costs k look-ups, a copy of the numbers of the supersteps in which these
-    /// vertices ran, and a change of the index: of the chunks with these vertices.
+    /// vertices ran, and a change of the index: of the chunks with these vertices. A trace that grows is settled
+    /// first, by a copy of the index.
     pub fn push_superstep(
         &mut self,
         alloc: Global,
@@ -170,7 +224,7 @@ impl<V: Drop, M: Drop> Trace<V, M> {
         let records = Map::from_rising(alloc, all_kept(alloc, records)?)?;
         let given = all_given(alloc, &records)?;
         let supersteps = self.supersteps.as_slice();
-        let mut ran = self.ran.share()?;
+        let mut ran = self.ran.shared(alloc)?;
         note(
             alloc,
             &mut ran,
@@ -179,7 +233,7 @@ impl<V: Drop, M: Drop> Trace<V, M> {
             given.as_slice(),
         )?;
         self.supersteps.push(records)?;
-        self.ran = ran;
+        self.ran = Index::of(ran);
         Ok(())
     }
 
@@ -193,19 +247,19 @@ impl<V: Drop, M: Drop> Trace<V, M> {
         if len >= self.supersteps() {
             return Ok(());
         }
-        let mut ran = self.ran.share()?;
+        let mut ran = self.ran.shared(alloc)?;
         forget(alloc, &mut ran, self.supersteps.as_slice(), len)?;
         self.supersteps.truncate(len);
-        self.ran = ran;
+        self.ran = Index::of(ran);
         Ok(())
     }
 
     /// Changes the records of a superstep that it has: each of these vertices, by rising id, has its
     /// new record there, or none. Nothing changes where memory is refused.
     ///
-    /// With no change it costs nothing. For k changes it costs k look-ups, a copy of the numbers of the supersteps in which these
-    /// vertices ran, and a change of the index and of the superstep: of the chunks with these
-    /// vertices. The others stay unread.
+    /// With no change it costs nothing. For k changes it costs k look-ups, a copy of the numbers of the supersteps in
+    /// which these vertices ran, and a change of the index and of the superstep: of the chunks with these vertices. The
+    /// others stay unread. A trace that grows is settled first, by a copy of the index.
     pub fn replace(
         &mut self,
         alloc: Global,
@@ -223,13 +277,13 @@ impl<V: Drop, M: Drop> Trace<V, M> {
         let place = superstep.number() as usize;
         let changes = changes_kept(alloc, changes)?;
         let supersteps = self.supersteps.as_slice();
-        let mut ran = self.ran.share()?;
+        let mut ran = self.ran.shared(alloc)?;
         note(alloc, &mut ran, supersteps, place, changes.as_slice())?;
         let mut records = supersteps[place].share()?;
         tell_rising(&records);
         records.change(alloc, changes.as_slice())?;
         self.supersteps[place] = records;
-        self.ran = ran;
+        self.ran = Index::of(ran);
         Ok(())
     }
 }

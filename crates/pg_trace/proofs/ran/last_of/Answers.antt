@@ -1,5 +1,5 @@
 use Rattle.std.proofs.Common.{◌-◌, length}
-use Rattle.pg_trace.proofs.Index.{last_of_all, one_at_least}
+use Rattle.pg_trace.proofs.Supersteps.{last_of_all, one_at_least}
 use Rattle.pg_trace.proofs.ran.last_of.Goals as goal
 
 pub returns : goal.returns

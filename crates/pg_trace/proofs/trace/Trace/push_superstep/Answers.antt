@@ -19,5 +19,6 @@ invariant_of-self-2 g c =
     let notes : IsNoted rs (length rs) given c.self.inside.ran c.note.new.ran = λ id. c.in_ok-note.ensures id
     ∙ ap (λ l. noted id l (length l) (value_at id given) (value_at id c.in_ok-ran.ran)) c.as_slice-supersteps.ensures.value
     ∙ ap (λ l. noted id rs (length rs) (value_at id given) (value_at id l)) c.in_ok-ran.ensures in
-    subst (λ l. IsIndex l c.note.new.ran) (sym c.in_ok-push.ensures.items)
-    (index-push rs c.in_ok-records.records given c.self.inside.ran c.note.new.ran c.self.invariant (c.as_slice.ensures.value ∙ c.in_ok-given.ensures.given) notes)
+    subst (λ i. IsIndex c.push.new.self.items i) (sym c.of.ensures)
+    (subst (λ l. IsIndex l c.note.new.ran) (sym c.in_ok-push.ensures.items)
+    (index-push rs c.in_ok-records.records given c.self.inside.ran c.note.new.ran c.self.invariant (c.as_slice.ensures.value ∙ c.in_ok-given.ensures.given) notes))

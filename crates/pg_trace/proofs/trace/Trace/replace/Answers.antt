@@ -1,6 +1,6 @@
-use Rattle.std.proofs.Common.{◌≡◌, ◌<◌, length, get_or, sym, ap, ◌∙◌, subst, arith}
+use Rattle.std.proofs.Common.{◌≡◌, ◌<◌, length, get_or, set, sym, ap, ◌∙◌, subst, arith}
 use Rattle.pg_map.specs.Entries.{ChangesRise, value_at, with_changes}
-use Rattle.pg_trace.specs.Ran.{IsNoted, noted}
+use Rattle.pg_trace.specs.Ran.{IsIndex, IsNoted, noted}
 use Rattle.pg_trace.proofs.Noting.{index-set}
 use Rattle.pg_trace.proofs.trace.Trace.replace.Goals as goal
 
@@ -24,5 +24,6 @@ invariant_of-self g c =
     ∙ ap (λ l. noted id rs n (value_at id given) (value_at id l)) c.in_ok-ran.ensures in
     let rise = subst (λ l. ChangesRise l) (sym (c.as_slice.ensures.value ∙ c.in_ok-changes.ensures)) c.requires.rise in
     let made = c.in_ok-change.ensures.ok ∙ ap (λ l. with_changes l r) (c.as_slice-2.ensures.value ∙ sym c.as_slice.ensures.value) in
-    index-set rs n r c.change.new.self given c.self.inside.ran c.note.new.ran within here
-    c.tell_rising.ensures rise made c.self.invariant notes
+    subst (λ i. IsIndex (set rs n c.change.new.self) i) (sym c.of.ensures)
+    (index-set rs n r c.change.new.self given c.self.inside.ran c.note.new.ran within here
+    c.tell_rising.ensures rise made c.self.invariant notes)

@@ -10,10 +10,10 @@ use Rattle.pg_map.specs.Entries.{value_at}
 use Rattle.pg_trace.specs.Ran.{last_of, ran_from, steps_above, steps_below, with_ran}
 use Rattle.pg_trace.specs.Trace.{last_record}
 
-lower : (a b : ℕ) → a < b → ltb a b ≡ true
+pub lower : (a b : ℕ) → a < b → ltb a b ≡ true
 lower a b h = grind (arith, nat_tests)
 
-not_lower : (a b : ℕ) → b ≤ a → ltb a b ≡ false
+pub not_lower : (a b : ℕ) → b ≤ a → ltb a b ≡ false
 not_lower a b h = grind (arith, nat_tests)
 
 -- a list that begins with b or doesn't

@@ -1,0 +1,20 @@
+use Rattle.std.proofs.Common.{◌≤◌, length, sym, ap, ◌∙◌, subst, arith}
+use Rattle.pg_map.specs.Entries.{ChangesRise, value_at}
+use Rattle.pg_trace.specs.Ran.{IsIndex, IsNoted, noted}
+use Rattle.pg_trace.proofs.InPlace.{index-put}
+use Rattle.pg_trace.proofs.trace.Trace.recorded.Goals as goal
+
+pub invariant_of-result : goal.invariant_of-result
+invariant_of-result g c =
+    let rs = c.self.inside.supersteps.items in
+    let n = c.number-place.result in
+    let ran = c.self.inside.ran in
+    let given = c.in_ok-changes.changes.items in
+    let within : n ≤ length rs = let w = c.requires.within in let e = c.number-place.ensures in let v = ap
+    (λ t. length t.records) c.self.view_is in omega (arith, w, e, v) in
+    let notes : IsNoted rs n given ran c.in_ok-ran.ran = λ id. c.in_ok-ran.ensures id
+    ∙ ap (λ l. noted id l n (value_at id c.as_slice-2.result.now) (value_at id ran)) c.as_slice.ensures.value
+    ∙ ap (λ l. noted id rs n (value_at id l) (value_at id ran)) c.as_slice-2.ensures.value in
+    let rise = subst (λ l. ChangesRise l) (sym c.in_ok-changes.ensures) c.requires.rise in
+    subst (λ l. IsIndex l c.in_ok-ran.ran) (sym c.in_ok-supersteps.ensures.put)
+    (index-put rs n given ran c.in_ok-ran.ran within rise c.in_ok-supersteps.ensures.rising c.self.invariant notes)
