@@ -1,5 +1,5 @@
 -- A step beside nothing, or past the end of the old run.
-use Rattle.std.proofs.Common.{◌≡◌, ℕ, ◌+◌, ◌<◌, ◌≤◌, Bool, true, false, List, [], map, length, Option, None, Some, option_map, is_some, refl, sym, ap, ◌∙◌, arith, subst, true≢false, flat_map, count_by, inl, inr}
+use Rattle.std.proofs.Common.{◌≡◌, ℕ, suc, ◌+◌, ◌<◌, ◌≤◌, Bool, true, false, List, [], ◌++◌, map, length, Option, None, Some, option_map, is_some, refl, sym, ap, ◌∙◌, arith, subst, true≢false, flat_map, count_by, inl, inr}
 use Rattle.std.specs.List.{AllByRecursion, slice_get}
 use Rattle.std.specs.List.Sorted.{IsStrictlySortedBy}
 use Rattle.std.specs.Ordering.{nat_cmp}
@@ -25,7 +25,7 @@ use Rattle.pg_course.specs.Candidates.{AreCallees, IsPlayed, awake_ids, own}
 use Rattle.pg_course.specs.Found.{is_run, reads}
 use Rattle.pg_course.specs.Lent.{HasMessages, as_sends, bundles_before}
 use Rattle.pg_course.specs.Lists.{reaching}
-use Rattle.pg_course.specs.Course.{AreAllChanged, AreTheOnly, HasStepped, Holding, Holds, IsBeside, IsSentTo, TellsBeside, kept_length}
+use Rattle.pg_course.specs.Course.{AreAllChanged, AreTheOnly, HasStepped, Holding, Holds, IsBeside, IsSentTo, TellsBeside, differing_past, kept_length}
 use Rattle.pg_course.specs.Sending.{IsFresh, items_to, sends_of}
 use Rattle.pg_course.specs.declared.execution.Played.{Played}
 use Rattle.pg_course.specs.declared.found.Candidate.{Candidate}
@@ -36,9 +36,12 @@ use Rattle.std.proofs.lemmas.Option.{none-some}
 use Rattle.pg_course.proofs.ReadVertices.{IsRead, active_among, all_found, all_own, all_read, gives_record, no_inputs_if_inactive, own_belong, reads_inputs}
 use Rattle.pg_course.proofs.Recording.{IsCounted, IsRight, counted_are, no_other_record, records_are, records_rise}
 use Rattle.pg_course.proofs.Callees.{nothing_rises}
-use Rattle.pg_course.proofs.Sends.{sends_of_changes, somes_are}
+use Rattle.pg_course.proofs.Sends.{sends_of_changes}
+use Rattle.pg_trace.proofs.Somes.{somes_are}
 use Rattle.pg_course.proofs.Stepping.{own_rise, reaching_next, stepped_holds}
-use Rattle.pg_trace.specs.Trace.{records_of, with_replaced}
+use Rattle.pg_course.proofs.Looking.{in_neither}
+use Rattle.pg_model.specs.ByIds.{state_at}
+use Rattle.pg_trace.specs.Trace.{Trace, records_of, with_replaced}
 
 module _ {V M : Type 0} (value_eq : V → V → Bool) (message_eq : M → M → Bool) (job : Job V M) (kept : Option Rows) (rows : Rows) (n p s : ℕ)
     (some : 0 < n) (course : Holding V M) (holds : Holds job kept rows n p s course) (past : kept_length job kept ≤ s) (within : s < run_length job rows)
@@ -164,7 +167,7 @@ module _ {V M : Type 0} (value_eq : V → V → Bool) (message_eq : M → M → 
   }
 
   pub stepped_alone : (after : Holding V M) (sent : List (Logged M))
-      → after ≡ record course { place = s + 1; trace = with_replaced s played.changes.items (reaching s course.trace); differing = []; changed = keys_of played.changes.items; beside_old = false }
+      → after ≡ record course { place = s + 1; trace = with_replaced s played.changes.items (reaching s course.trace); differing = differing_past course.kept course.differing (keys_of played.changes.items); changed = keys_of played.changes.items; beside_old = false }
       → length sent ≡ n
       → ((q : ℕ) → q < n → IsFresh job.combining (items_to n q (flat_map sends_of played.changes.items)) (slice_get sent q))
       → HasStepped job value_eq message_eq kept rows n p s after sent before played.stage.meter
@@ -192,7 +195,7 @@ module _ {V M : Type 0} (value_eq : V → V → Bool) (message_eq : M → M → 
       long = let e = holds.supersteps in omega (arith, past, e)
 
       next_part : Holding V M
-      next_part = record course { place = s + 1; trace = with_replaced s played.changes.items (reaching s course.trace); differing = []; changed = keys_of played.changes.items; beside_old = false }
+      next_part = record course { place = s + 1; trace = with_replaced s played.changes.items (reaching s course.trace); differing = differing_past course.kept course.differing (keys_of played.changes.items); changed = keys_of played.changes.items; beside_old = false }
 
       besides : (k : Option Rows) → kept_length job k ≤ s → IsBeside job k rows n p s course → IsBeside job k rows n p (s + 1) next_part
       besides None ends beside = beside
@@ -202,6 +205,13 @@ module _ {V M : Type 0} (value_eq : V → V → Bool) (message_eq : M → M → 
         whole = beside.whole;
         later = λ t low high. absurd (omega (arith, low, high, ends));
         others = λ id mine other high. absurd (omega (arith, high, ends));
+        as_ended = λ id mine other low.
+            let changed_ids = keys_of played.changes.items in
+            let both = differing_past course.kept course.differing changed_ids in
+            let is_both : both ≡ course.differing ++ changed_ids = ap (λ (o : Option (Trace V M)). differing_past o course.differing changed_ids) beside.is in
+            let apart = in_neither course.differing changed_ids both is_both id other in
+            beside.as_ended id mine apart.0 ends
+            ∙ (sym (only.states id mine apart.1) ∙ ap (λ (k : ℕ). state_at job rows k id) (let e : suc s ≡ s + 1 = omega arith in e));
       }
 
       tells : (k : Option Rows) → kept_length job k ≤ s → (q : ℕ) (logged : Logged M) → logged.changed ≡ None → TellsBeside job k n p q s logged
@@ -220,7 +230,7 @@ module _ {V M : Type 0} (value_eq : V → V → Bool) (message_eq : M → M → 
   pub alone_steps : (job : Job V M) (kept : Option Rows) (rows : Rows) (n p s : ℕ) (logs : Slots M) → job.program ≡ program → job.combining ≡ combining
       → 0 < course.partitions → Holds job kept rows n p s course → kept_length job kept ≤ s → s < run_length job rows → HasMessages job rows n p s logs
       → bundles ≡ bundles_before logs n p s → view ≡ view_at job rows s → (after : Holding V M) (sent : List (Logged M))
-      → after ≡ record course { place = course.place + 1; trace = with_replaced course.place played.changes.items (reaching course.place course.trace); differing = []; changed = keys_of played.changes.items; beside_old = false }
+      → after ≡ record course { place = course.place + 1; trace = with_replaced course.place played.changes.items (reaching course.place course.trace); differing = differing_past course.kept course.differing (keys_of played.changes.items); changed = keys_of played.changes.items; beside_old = false }
       → length sent ≡ course.partitions
       → ((q : ℕ) → q < course.partitions → IsFresh combining (items_to course.partitions q (flat_map sends_of played.changes.items)) (slice_get sent q))
       → HasStepped job value_eq message_eq kept rows n p s after sent before played.stage.meter
@@ -237,7 +247,7 @@ module _ {V M : Type 0} (value_eq : V → V → Bool) (message_eq : M → M → 
       (subst (λ k. IsPlayed value_eq message_eq job.program course.missing k view course.partitions course.partition course.place course.trace bundles None ids true false before played) (sym combining_is)
       (subst (λ k. IsPlayed value_eq message_eq k course.missing combining view course.partitions course.partition course.place course.trace bundles None ids true false before played) (sym program_is) is)))))))
       after sent
-      (further ∙ ap (λ k. record course { place = k + 1; trace = with_replaced k played.changes.items (reaching k course.trace); differing = []; changed = keys_of played.changes.items; beside_old = false }) here)
+      (further ∙ ap (λ k. record course { place = k + 1; trace = with_replaced k played.changes.items (reaching k course.trace); differing = differing_past course.kept course.differing (keys_of played.changes.items); changed = keys_of played.changes.items; beside_old = false }) here)
       (to_each ∙ all)
       (λ q below. subst (λ k. IsFresh k (items_to n q (flat_map sends_of played.changes.items)) (slice_get sent q)) (sym combining_is)
       (subst (λ k. IsFresh combining (items_to k q (flat_map sends_of played.changes.items)) (slice_get sent q)) all (fresh q (subst (λ k. q < k) (sym all) below))))

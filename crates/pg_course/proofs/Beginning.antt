@@ -14,7 +14,7 @@ use Rattle.pg_map.specs.Entries.{ChangesRise, value_at, with_changes}
 use Rattle.pg_map.proofs.Changing.{rises-changes, value_at-with_changes}
 use Rattle.pg_map.proofs.Rising.{same_entries}
 use Rattle.pg_graph.specs.declared.missing.Missing.{Missing}
-use Rattle.pg_model.specs.ByIds.{state_first}
+use Rattle.pg_model.specs.ByIds.{state_at, state_first}
 use Rattle.pg_model.specs.Job.{Job, Program}
 use Rattle.pg_model.specs.Run.{beginning, configuration, first, run_length}
 use Rattle.pg_model.specs.Share.{belongs, records_below, share}
@@ -244,10 +244,15 @@ holds_beside job kept rows n p rise program is missing missing_is old whole touc
     is = is_kept;
     whole = whole.run;
     later = λ s low high. ap (records_of s) trace_is ∙ records_held job kept n p old s (run_length job kept) whole.run high;
-    others = λ id mine other high. (StandsAlike-first job kept rows id (same id (sym (ap (λ l. has_id l id) touched_are) ∙ other))).state;
+    others = λ id mine other high. alike id other;
+    as_ended = λ id mine other none.
+        subst (λ k. state_at job kept k id ≡ state_at job rows 0 id) (let e : 0 ≡ run_length job kept = omega (arith, none) in e) (alike id other);
   };
 }
   where
+    alike : (id : ℕ) → has_id course.differing id ≡ false → state_at job kept 0 id ≡ state_at job rows 0 id
+    alike id other = (StandsAlike-first job kept rows id (same id (sym (ap (λ l. has_id l id) touched_are) ∙ other))).state
+
     fresh : HoldsRun job rows n p 0 (begun (map (λ r. state_first program r.0 r.1) (own n p rows)))
     fresh = begun_holds job rows n p rise program is
 

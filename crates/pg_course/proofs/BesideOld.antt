@@ -114,7 +114,7 @@ module _ {V M : Type 0} (value_eq : V → V → Bool) (message_eq : M → M → 
       true≢false (sym (w.is.are.have id h) ∙ (sym (has_own n p w.is.callees id mine) ∙ (sym (ap (λ l. has_id l id) w.is.ids_are) ∙ other))))
 
   same_state : (id : ℕ) → belongs n p id ≡ true → has_id candidate_ids id ≡ false → state_at job old s id ≡ state_at job rows s id
-  same_state id mine other = w.holds.beside.others id mine (w.looked.states id (not_looked_at id mine other)) w.lends.there
+  same_state id mine other = w.holds.beside.others id mine (w.looked.states id (not_looked_at id mine other)) (omega (arith, w.lends.there))
 
   -- the same is delivered to it
   same_delivered : (r : ℕ) → suc r ≡ s → (id : ℕ) → belongs n p id ≡ true → has_id candidate_ids id ≡ false

@@ -22,7 +22,7 @@ pub more_calls : (m a b : ℕ) → capped (capped (m + a) + b) ≡ capped (m + (
 more_calls m a b = omega arith
 
 module _ {Y : Type 0} (f : ℕ → List Y) where
-  flat_map-range_from : (a n : ℕ) → flat_map f (range_with_len a (n + 1)) ≡ flat_map f (range_with_len a n) ++ f (a + n)
+  pub flat_map-range_from : (a n : ℕ) → flat_map f (range_with_len a (n + 1)) ≡ flat_map f (range_with_len a n) ++ f (a + n)
   flat_map-range_from a zero = append-nil (f a) ∙ ap f (let e : a ≡ a + 0 = omega arith in e)
   flat_map-range_from a (suc n) =
       ap (λ k. flat_map f (range_with_len a k)) (let e : suc n + 1 ≡ suc (n + 1) = omega arith in e)

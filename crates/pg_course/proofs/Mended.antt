@@ -20,7 +20,8 @@ use Rattle.pg_model.specs.declared.record.Record.{Record}
 use Rattle.pg_course.specs.Sending.{items_to, pairs_by, pairs_of, sends_by, sends_of}
 use Rattle.pg_course.proofs.Delivery.{either_order}
 use Rattle.pg_course.proofs.Recording.{all_picked}
-use Rattle.pg_course.proofs.Sends.{items-append, sends-somes, sends_by_records, somes, somes_rise, value_at-somes}
+use Rattle.pg_course.proofs.Sends.{items-append, sends-somes, sends_by_records}
+use Rattle.pg_trace.proofs.Somes.{somes, somes_rise, value_at-somes}
 use Rattle.pg_trace.specs.Trace.{Trace, record_at}
 
 -- ---- tests

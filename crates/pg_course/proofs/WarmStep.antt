@@ -260,7 +260,7 @@ module _ {V M : Type 0} (value_eq : V → V → Bool) (message_eq : M → M → 
       ∙ (ap (records_of t) reached ∙ w.holds.beside.later t (omega (arith, low)) high)
 
   -- the state of an id as the next superstep begins, as the trace has it
-  state_then : (id : ℕ) → belongs n p id ≡ true → s + 1 < run_length job old → AreTold value_eq trace next_trace (s + 1) (keys_of played.changes.items)
+  state_then : (id : ℕ) → belongs n p id ≡ true → s + 1 ≤ run_length job old → AreTold value_eq trace next_trace (s + 1) (keys_of played.changes.items)
       → has_id (differing value_eq trace next_trace (s + 1) (keys_of played.changes.items)) id ≡ false
       → has_id (keys_of played.changes.items) id ≡ true → state_at job old (s + 1) id ≡ state_at job rows (s + 1) id
   state_then id mine within told apart is_changed =
@@ -313,6 +313,15 @@ module _ {V M : Type 0} (value_eq : V → V → Bool) (message_eq : M → M → 
     states = state_unchanged;
   }
 
+  -- one that isn't found to differ has the state of the old run
+  alike_then : (id : ℕ) → belongs n p id ≡ true → s + 1 ≤ run_length job old → AreTold value_eq trace next_trace (s + 1) (keys_of played.changes.items)
+      → has_id (differing value_eq trace next_trace (s + 1) (keys_of played.changes.items)) id ≡ false → state_at job old (s + 1) id ≡ state_at job rows (s + 1) id
+  alike_then id mine within told apart =
+      elim (cases_Bool (has_id (keys_of played.changes.items) id)) [
+        | inl is_changed ↦ state_then id mine within told apart is_changed
+        | inr same ↦ subst (λ k. state_at job old k id ≡ state_at job rows k id) (let e : suc s ≡ s + 1 = omega arith in e) (state_unchanged id mine same)
+      ]
+
   pub warm_step : (after : Holding V M) (sent : List (Logged M))
       → after ≡ record course { place = s + 1; trace = next_trace; kept = Some trace; differing = differing value_eq trace next_trace (s + 1) (keys_of played.changes.items); changed = keys_of played.changes.items; beside_old = true }
       → AreTold value_eq trace next_trace (s + 1) (keys_of played.changes.items)
@@ -337,10 +346,11 @@ module _ {V M : Type 0} (value_eq : V → V → Bool) (message_eq : M → M → 
         is = refl;
         whole = w.holds.beside.whole;
         later = later_records;
-        others = λ id mine apart within. elim (cases_Bool (has_id (keys_of played.changes.items) id)) [
-          | inl is_changed ↦ state_then id mine within told apart is_changed
-          | inr same ↦ subst (λ k. state_at job old k id ≡ state_at job rows k id) (let e : suc s ≡ s + 1 = omega arith in e) (state_unchanged id mine same)
-        ];
+        others = λ id mine apart within. alike_then id mine within told apart;
+        as_ended = λ id mine apart low.
+            let within : s + 1 ≤ run_length job old = omega (arith, w.lends.there) in
+            subst (λ k. state_at job old k id ≡ state_at job rows (s + 1) id) (let e : s + 1 ≡ run_length job old = omega (arith, low, within) in e)
+            (alike_then id mine within told apart);
       };
     });
     to_each = to_each;

@@ -1,5 +1,5 @@
 -- One partition of a run at a superstep, and what a step makes of it.
-use Rattle.std.specs.Prelude.{◌≡◌, ℕ, suc, ◌+◌, ◌<◌, ◌≤◌, max, length, Bool, true, false, List, Option, None, Some}
+use Rattle.std.specs.Prelude.{◌≡◌, ℕ, suc, ◌+◌, ◌<◌, ◌≤◌, max, length, Bool, true, false, List, ◌++◌, Option, None, Some}
 use Rattle.std.specs.List.{slice_get}
 use Rattle.std.specs.List.Sorted.{IsStrictlySortedBy}
 use Rattle.std.specs.Ordering.{nat_cmp}
@@ -42,6 +42,11 @@ pub record Holding (V M : Type 0) : Type 0 where
 abbrev pub AreTouched : List ℕ → Rows → Rows → Type 0
 AreTouched ids old new = (id : ℕ) → has_id ids id ≡ false → row_at id old ≡ row_at id new
 
+-- the ids that may differ after a step past the end of the old run, if any: those that did before, and the changed ones
+abbrev pub differing_past : {V M : Type 0} → Option (Trace V M) → List ℕ → List ℕ → List ℕ
+differing_past None differing changed = differing
+differing_past (Some old) differing changed = differing ++ changed
+
 module _ {V M : Type 0} (job : Job V M) where
   -- a partition's trace of a whole run
   pub record IsWhole (rows : Rows) (n p : ℕ) (trace : Trace V M) : Type 0 where
@@ -54,14 +59,16 @@ module _ {V M : Type 0} (job : Job V M) where
   kept_length (Some rows) = run_length job rows
 
   -- partition p of n, as superstep r begins, has the trace of the run on the old rows, in which its own goes on; outside
-  -- of the ids that may differ the two runs have the same states
+  -- of the ids that may differ the two runs have the same states, and past the end of the old one those with which it ended
   pub record IsWarm (old rows : Rows) (n p r : ℕ) (course : Holding V M) : Type 0 where
     pub trace : Trace V M
     pub is : course.kept ≡ Some trace
     pub whole : HoldsRun job old n p (run_length job old) trace
     pub later : (s : ℕ) → r ≤ s → s < run_length job old → records_of s course.trace ≡ records_in job old n p s
-    pub others : (id : ℕ) → belongs n p id ≡ true → has_id course.differing id ≡ false → r < run_length job old
+    pub others : (id : ℕ) → belongs n p id ≡ true → has_id course.differing id ≡ false → r ≤ run_length job old
         → state_at job old r id ≡ state_at job rows r id
+    pub as_ended : (id : ℕ) → belongs n p id ≡ true → has_id course.differing id ≡ false → run_length job old ≤ r
+        → state_at job old (run_length job old) id ≡ state_at job rows r id
 
   -- a cold one has nothing of an old run
   abbrev pub IsBeside : Option Rows → Rows → ℕ → ℕ → ℕ → Holding V M → Type 0

@@ -1,10 +1,10 @@
 -- Lists by rising id that are made of others.
-use Rattle.std.specs.Prelude.{ℕ, ◌==◌, [], List, cond, length, map, not}
+pub use Rattle.pg_trace.specs.Trace.{reaching}
+use Rattle.std.specs.Prelude.{ℕ, [], List, map, not}
 use Rattle.std.specs.BTreeMap.{insert_entry}
 use Rattle.std.specs.List.{filter, fold}
 use Rattle.std.specs.Ordering.{nat_cmp}
 use Rattle.pg_model.specs.declared.record.Record.{Record}
-use Rattle.pg_trace.specs.Trace.{Trace, with_superstep}
 
 module _ {X : Type 0} where
   -- entries by rising id, with these put in place of what was there
@@ -18,7 +18,3 @@ with_empty ids inboxes = with_entries inboxes (with_entries (map (λ id. (id, []
 -- the ids of those that weren't halted by what they gave
 abbrev pub awake_after : {V M : Type 0} → List (ℕ × Record V M) → List ℕ
 awake_after records = map (λ r. r.0) (filter (λ r. not r.1.halted) records)
-
--- a trace with one superstep more, of no records, where superstep s comes next
-abbrev pub reaching : {V M : Type 0} → ℕ → Trace V M → Trace V M
-reaching s trace = cond (length trace.records == s) (with_superstep [] trace) trace

@@ -1,5 +1,5 @@
 //! One partition of a run, and its steps.
-ghost use Rattle.std.specs.Prelude.{◌≡◌, ℕ, ◌+◌, ◌<◌, ◌≤◌, ◌^◌, true, length, Option, None, Some, IfOk, IfSome};
+ghost use Rattle.std.specs.Prelude.{◌≡◌, ℕ, ◌+◌, ◌++◌, ◌<◌, ◌≤◌, ◌^◌, true, length, Option, None, Some, IfOk, IfSome};
 ghost use Rattle.std.specs.List.Sorted.{IsStrictlySortedBy};
 ghost use Rattle.std.specs.Option.{option_copied};
 ghost use Rattle.std.specs.Ordering.{nat_cmp};
@@ -11,7 +11,7 @@ ghost use Rattle.pg_model.specs.Job.{Job};
 ghost use Rattle.pg_model.specs.Run.{run_length, view_at};
 ghost use Rattle.pg_model.specs.Superstep.{has_id};
 ghost use Rattle.pg_course.specs.Lent.{HasMessages, IsBesideOld, IsLent, IsLentBeside, bundles_before};
-ghost use Rattle.pg_course.specs.Course.{AreTouched, HasBegun, HasStepped, Holds, IsFurther, IsWhole, kept_length};
+ghost use Rattle.pg_course.specs.Course.{AreTouched, HasBegun, HasStepped, Holds, IsFurther, IsWhole, differing_past, kept_length};
 ghost use Rattle.pg_program.specs.Context.{ShowsDeclared};
 ghost use Rattle.pg_course.specs.Lists.{reaching};
 ghost use Rattle.pg_trace.specs.Trace.{StatesRise, with_replaced};
@@ -119,8 +119,8 @@ impl<V: Plain, M: Plain> Course<V, M> {
         self.kept.as_ref()
     }
 
-    /// The vertices whose states may differ from those of the old run, where that has the superstep; by rising id as a run
-    /// begins.
+    /// The vertices whose states may differ from those of the old run, or past its end from those with which it ended; by
+    /// rising id as a run begins.
     pub fn differing(&self) -> &[VertexId]
         ensures { result.now ≡ self.now.differing }
     {
@@ -429,6 +429,7 @@ impl<V: Plain, M: Plain> Course<V, M> {
             place,
             trace,
             kept,
+            differing,
             ..
         } = self;
         // Tells the prover that there is a partition.
@@ -452,6 +453,7 @@ impl<V: Plain, M: Plain> Course<V, M> {
         let Played { changes, stage } = played;
         let Stage { meter, .. } = stage;
         let changed = ids_of(alloc, changes.as_slice())?;
+        let differing = differing_past(&kept, differing, changed.as_slice())?;
         let bundles = fresh_bundles(alloc, partitions, changes.as_slice(), combiner)?;
         let trace = with_records(alloc, trace, place, changes)?;
         let course = Course {
@@ -461,7 +463,7 @@ impl<V: Plain, M: Plain> Course<V, M> {
             place: Superstep::new(place.number() + 1),
             trace,
             kept,
-            differing: Vec::new(alloc),
+            differing,
             changed,
             beside_old: false,
         };
@@ -471,6 +473,32 @@ impl<V: Plain, M: Plain> Course<V, M> {
             meter,
         })
     }
+}
+
+/// The vertices that may differ after a step past the end of an old run, if there is one: those that did before, and those
+/// that the step changed.
+fn differing_past<V, M>(
+    old: &Option<Trace<V, M>>,
+    differing: Vec<VertexId>,
+    changed: &[VertexId],
+) -> Result<Vec<VertexId>, Memory>
+    ensures { IfOk result (λ all. all.items ≡ differing_past old.now differing.items changed.now) }
+{
+    match old {
+        None => Ok(differing),
+        Some(_) => with_ids(differing, changed),
+    }
+}
+
+/// These ids, and more.
+fn with_ids(ids: Vec<VertexId>, more: &[VertexId]) -> Result<Vec<VertexId>, Memory>
+    ensures { IfOk result (λ all. all.items ≡ ids.items ++ more.now) }
+{
+    let mut all = ids;
+    for id in more {
+        all.push(*id)?;
+    }
+    Ok(all)
 }
 
 /// A copy of these ids.
@@ -496,24 +524,5 @@ pub(crate) fn with_records<V: Plain, M: Plain>(
     ensures { IfOk result
         (λ after. after ≡ with_replaced superstep changes.items (reaching superstep trace)) }
 {
-    let mut trace = reaching(alloc, trace, superstep)?;
-    trace.replace(alloc, superstep, changes)?;
-    Ok(trace)
-}
-
-/// A trace with one superstep more, of no records, where this one comes next.
-fn reaching<V: Plain, M: Plain>(
-    alloc: Global,
-    trace: Trace<V, M>,
-    superstep: Superstep,
-) -> Result<Trace<V, M>, Memory>
-    requires { superstep ≤ length trace.records }
-    ensures value { IfOk result (λ after. after ≡ reaching superstep trace) }
-    ensures within { IfOk result (λ after. superstep < length after.records) }
-{
-    let mut trace = trace;
-    if trace.supersteps() == superstep.number() as usize {
-        trace.push_superstep(alloc, Vec::new(alloc))?;
-    }
-    Ok(trace)
+    trace.recorded(alloc, superstep, changes)
 }

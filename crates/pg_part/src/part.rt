@@ -93,6 +93,13 @@ impl<V: Plain, M: Plain> Part<V, M> {
         self.course.trace()
     }
 
+    /// The vertices whose states may differ from those of the old run, or past its end from those with which it ended.
+    pub fn differing(&self) -> &[VertexId]
+        ensures { result.now ≡ self.now.course.differing }
+    {
+        self.course.differing()
+    }
+
     /// What it has come to as its superstep begins.
     pub fn stats(&self) -> &PartitionStats
         ensures value { slice_get self.now.stats self.now.course.place ≡ Some result.now }
@@ -266,7 +273,7 @@ impl<V: Plain, M: Plain> Part<V, M> {
     }
 
     /// What it leaves of a run of so many supersteps, at the end of which it stands. Costs what is cut where the old run
-    /// was longer.
+    /// was longer, and O(1) a vertex that ran where there was none.
     pub fn leave(self, alloc: Global, supersteps: Superstep) -> Result<Left<V, M>, Memory>
         ensures { IfOk result (λ left. (job : Job V M) (kept : Option GraphRows) (rows : GraphRows) (n p : ℕ)
             → supersteps ≡ run_length job rows → HoldsShare job kept rows n p supersteps self
@@ -275,6 +282,7 @@ impl<V: Plain, M: Plain> Part<V, M> {
         let Part { course, stats, .. } = self;
         let mut trace = course.into_trace();
         trace.cut(alloc, supersteps)?;
+        let trace = trace.settled(alloc)?;
         Ok(Left { trace, stats })
     }
 }

@@ -4,7 +4,7 @@ use Rattle.std.specs.Map.{keys_of}
 use Rattle.std.proofs.lemmas.List.{length-set}
 use Rattle.pg_map.specs.Entries.{with_changes}
 use Rattle.pg_course.specs.Lists.{reaching}
-use Rattle.pg_course.specs.Course.{Holding, Holds}
+use Rattle.pg_course.specs.Course.{Holding, Holds, differing_past}
 use Rattle.pg_course.specs.Sending.{IsFresh, items_to, sends_of}
 use Rattle.pg_course.proofs.Alone.{alone_steps}
 use Rattle.pg_course.proofs.Stepping.{length-reaching, played_rise}
@@ -50,11 +50,11 @@ returns-clause-stepped g c job kept rows n p s logs program combining holds past
       place = (c.new.ensures ∙ ap (λ k. k + 1) c.number.ensures) i;
       trace = c.in_ok-trace.ensures i;
       kept = c.self.inside.kept;
-      differing = c.new-2.ensures.items i;
+      differing = (c.in_ok-differing.ensures ∙ ap (differing_past c.self.inside.kept c.self.inside.differing.items) (c.as_slice-4.ensures.value ∙ c.in_ok-changed.ensures ∙ ap keys_of c.as_slice-3.ensures.value)) i;
       changed = (c.in_ok-changed.ensures ∙ ap keys_of c.as_slice-3.ensures.value) i;
       beside_old = false;
     })
     (ap length c.of.ensures ∙ c.in_ok-bundles.ensures.len)
     (λ q below.
     subst₂ (λ changes bundles. IsFresh (g.C.MessageCombiner.combining c.args.combiner.now) (items_to c.self.inside.partitions q (flat_map sends_of changes)) (slice_get bundles q))
-    c.as_slice-4.ensures.value (sym c.of.ensures) (c.in_ok-bundles.ensures.bundles q below))
+    c.as_slice-5.ensures.value (sym c.of.ensures) (c.in_ok-bundles.ensures.bundles q below))
