@@ -1,18 +1,19 @@
 -- What a run over partitions gives once it has ended.
-use Rattle.std.proofs.Common.{◌≡◌, ℕ, ◌+◌, ◌-◌, ◌<◌, ◌≤◌, true, cond, List, [], ◌∷◌, ◌++◌, length, get_or, Option, None, Some, is_some, refl, ap, sym, ◌∙◌, subst, arith, inl, inr, eq-or-lt_of_le}
+use Rattle.std.proofs.Common.{◌≡◌, ℕ, ◌+◌, ◌-◌, ◌<◌, ◌≤◌, true, cond, List, [], ◌∷◌, ◌++◌, length, get_or, Option, None, Some, option_map, is_some, refl, ap, sym, ◌∙◌, subst, arith, inl, inr, eq-or-lt_of_le}
 use Rattle.std.specs.List.{slice_get}
 use Rattle.std.specs.Option.{IsSome, unwrap_or}
 use Rattle.std.proofs.lemmas.Bool.{lt-ltb, true≢false}
+use Rattle.std.proofs.lemmas.List.FromFn.{length-map-range_with_len}
 use Rattle.pg_core.specs.Machine.{place_at}
 use Rattle.pg_core.specs.Progress.{HoldsAt, IsRight, Progress, is_past, part_at, tally_at}
-use Rattle.pg_core.specs.Traces.{HasEnded, HasLeft, HaveLeft, IsLeftBy, shown_below}
-use Rattle.pg_core.specs.Values.{HasShare, HaveShares}
+use Rattle.pg_core.specs.Traces.{Common, HasLeft, HaveLeft, IsLeftBy, KeepsCommon, ended_by, shown_below}
+use Rattle.pg_values.specs.Values.{HasEnded, HaveEnded, KeepsEnd}
 use Rattle.pg_core.specs.declared.tally.Tally.{Tally}
 use Rattle.pg_graph.specs.Rows.{Rows}
 use Rattle.pg_inbox.specs.Logged.{Slots, slot_at}
 use Rattle.pg_inbox.specs.declared.logs.Logged.{Logged}
 use Rattle.pg_model.specs.Job.{Job}
-use Rattle.pg_model.specs.Run.{answer, configuration, ending_after, run_length, values_of}
+use Rattle.pg_model.specs.Run.{answer, configuration, ending_after, run_length, values_of, visible_at}
 use Rattle.pg_model.specs.declared.run.Ending.{Ending}
 use Rattle.pg_model.specs.declared.run.Ending.TheVariants.{LimitReached}
 use Rattle.pg_model.specs.declared.view.Visible.{Visible}
@@ -61,6 +62,15 @@ module _ {V M : Type 0} (s : ℕ) (parts : List (Option (PartState V M))) where
             (so_far job kept rows n ends (λ q inside. held q (omega (arith, inside))) p less)
       ])
 
+-- how the kept run ended, of what is kept of it
+pub keeps_end : {V M : Type 0} (job : Job V M) (old : Option Rows) (n : ℕ) (common : Option (Common V M)) → KeepsCommon job old n common → KeepsEnd job old (option_map ended_by common)
+keeps_end job None n common none = ap (option_map ended_by) none
+keeps_end job (Some rows) n None keeps = absurd keeps
+keeps_end job (Some rows) n (Some common) keeps = record {
+  values_are = keeps.values;
+  supersteps_are = ap length keeps.shown ∙ length-map-range_with_len (visible_at job rows) 0 (run_length job rows);
+}
+
 -- ---- a core that has ended
 
 bundle_in-sent : {V M : Type 0} (job : Job V M) (kept : Option Rows) (rows : Rows) (n p q s : ℕ) (slot : Option (Logged M)) → IsSentTo job kept rows n p q s slot → bundle_in slot ≡ Some (bundle_sent job rows n p q s)
@@ -85,13 +95,6 @@ module _ {P C A V M : Type 0} (job : Job V M) (kept : Option Rows) (core : Progr
       by None at is = absurd (true≢false (sym is))
       by (Some part) at is = subst (λ place. HoldsAt job kept core.graph core.limits.partitions p place part) (places p within) (right.parts p part at)
 
-  pub have_shares : HaveShares job core.graph core.limits.partitions end core.parts
-  have_shares = record { shares = λ p within. by p (part_at p core) (held p within); some = some }
-    where
-      by : (p : ℕ) (part : Option (PartState V M)) → HoldsLast p part → HasShare job core.graph core.limits.partitions p end part
-      by p None h = absurd h
-      by p (Some part) h = h.course.run
-
   pub tally_last : core.tally ≡ tally_at job core.graph end
   tally_last = right.tally ∙ ap (λ b. tally_at job core.graph (cond b end core.state.current)) ended
 
@@ -106,10 +109,14 @@ module _ {P C A V M : Type 0} (job : Job V M) (kept : Option Rows) (core : Progr
       by None h = absurd h
       by (Some part) h = subst (λ (r : ℕ). HoldsShare job kept core.graph core.limits.partitions p r part) last h
 
+  pub have_all_ended : HaveEnded job kept core.graph core.limits.partitions end core.parts
+  have_all_ended = record { parts_are = have_ended; some = some; last = last }
+
   -- so what they left is what the run leaves
-  pub left_as : (lefts : List (LeftOf V M)) (graph : Rows) (logs : Slots M) (shown : List Visible) → length lefts ≡ core.limits.partitions → HaveLeft end core.parts core.limits.partitions lefts
-      → graph ≡ core.graph → logs ≡ core.logs → shown ≡ core.shown → IsLeftBy job core.graph core.limits.partitions (record { lefts = lefts; graph = graph; common = record { logs = logs; shown = shown } })
-  left_as lefts graph logs shown many left graph_is same shows = record {
+  pub left_as : (lefts : List (LeftOf V M)) (graph : Rows) (logs : Slots M) (shown : List Visible) (values : List (ℕ × V)) → length lefts ≡ core.limits.partitions → HaveLeft end core.parts core.limits.partitions lefts
+      → graph ≡ core.graph → logs ≡ core.logs → shown ≡ core.shown → values ≡ values_of job core.graph (configuration job core.graph end)
+      → IsLeftBy job core.graph core.limits.partitions (record { lefts = lefts; graph = graph; common = record { logs = logs; shown = shown; values = values } })
+  left_as lefts graph logs shown values many left graph_is same shows are = record {
     each = many;
     whole = left job kept core.graph core.limits.partitions last have_ended;
     graph_is = graph_is;
@@ -119,5 +126,6 @@ module _ {P C A V M : Type 0} (job : Job V M) (kept : Option Rows) (core : Progr
           (right.logs.sent s p q (ap (is_past s) (places p mine) ∙ lt-ltb s end (omega (arith, before, last))) theirs) in
           subst (λ (l : Slots M). bundle_in (slot_at l s p q) ≡ Some (bundle_sent job core.graph core.limits.partitions p q s)) (sym same) sent_is;
       shown = shows ∙ (right.shown ∙ ap (shown_below job core.graph) last);
+      values = are ∙ ap (λ (k : ℕ). values_of job core.graph (configuration job core.graph k)) last;
     };
   }

@@ -10,4 +10,3 @@ pub mod Parts
 pub mod Putting
 pub mod Steps
 pub mod AllStats
-pub mod ReadValues

@@ -8,7 +8,7 @@ use Rattle.pg_core.specs.Beginning.{HasBegun, HaveBegun, HaveBegunBeside}
 use Rattle.pg_core.specs.Limits.{AreLimits, Limits}
 use Rattle.pg_core.specs.Machine.{State, first_state, place_at}
 use Rattle.pg_core.specs.Progress.{HoldsAt, IsLawful, IsOpened, IsRight, Progress, job_by, is_past, tally_at}
-use Rattle.pg_core.specs.Traces.{HasLeft, IsLeftBy, KeepsLogs, Traces, shown_below}
+use Rattle.pg_core.specs.Traces.{HasLeft, IsLeftBy, KeepsCommon, Traces, shown_below}
 use Rattle.pg_core.specs.declared.tally.Tally.{Tally}
 use Rattle.pg_core.proofs.Events.{Reaches-none, length-first, some_within, starts_at}
 use Rattle.pg_core.proofs.Opening.{beginning-edges}
@@ -95,7 +95,7 @@ module _ {V M : Type 0} (program : Program V M) (master : Master) (combining : O
       subst (λ (s : State). IsLawful limits program.declared master.registrations registry s [] parts shown tally) (sym is)
       (subst (λ (l : List Visible). IsLawful limits program.declared master.registrations registry start [] parts l tally) (sym shows) lawful)
 
-  pub IsRight-opened : {P C A : Type 0} (core : Progress P C A V M) → AreLimits limits → core.graph ≡ rows → core.limits ≡ limits → core.parts ≡ parts → core.state ≡ first_state limits.partitions limits.workers → ((s p q : ℕ) → slot_at core.logs s p q ≡ None) → core.shown ≡ shown_below (job_of program combining master limits.missing limits.limit) rows 1 → core.tally ≡ tally_at (job_of program combining master limits.missing limits.limit) rows 0 → core.ending ≡ None → KeepsLogs (job_of program combining master limits.missing limits.limit) old limits.partitions core.kept → IsRight (job_of program combining master limits.missing limits.limit) old core
+  pub IsRight-opened : {P C A : Type 0} (core : Progress P C A V M) → AreLimits limits → core.graph ≡ rows → core.limits ≡ limits → core.parts ≡ parts → core.state ≡ first_state limits.partitions limits.workers → ((s p q : ℕ) → slot_at core.logs s p q ≡ None) → core.shown ≡ shown_below (job_of program combining master limits.missing limits.limit) rows 1 → core.tally ≡ tally_at (job_of program combining master limits.missing limits.limit) rows 0 → core.ending ≡ None → KeepsCommon (job_of program combining master limits.missing limits.limit) old limits.partitions core.kept → IsRight (job_of program combining master limits.missing limits.limit) old core
   IsRight-opened {P} {C} {A} core are graph_is limits_are parts_are state_is empty shows counts goes_on keeps =
       let job : Job V M = job_of program combining master limits.missing limits.limit in
       let n : ℕ = limits.partitions in

@@ -10,7 +10,7 @@ use Rattle.std.proofs.lemmas.List.Sums.{AllPass-from_list_all}
 use Rattle.pg_core.specs.Limits.{Limits}
 use Rattle.pg_core.specs.Machine.{Reaches, State, after, first_state, is_allowed, is_from, may_step, place_at}
 use Rattle.pg_core.specs.Progress.{HasMadeStep, HasPut, HoldsAt, IsLawful, IsNext, IsPartAt, IsRight, IsStepLent, IsStepOf, LogsHold, Progress, TakesIn, is_past, part_at, with_step, without_part}
-use Rattle.pg_core.specs.Traces.{KeepsLogs, KeptLogs, logs_in, visible_in}
+use Rattle.pg_core.specs.Traces.{KeepsCommon, Common, logs_in, visible_in}
 use Rattle.pg_core.specs.declared.event.Event.{Event}
 use Rattle.pg_core.specs.declared.event.Event.TheVariants.{Step}
 use Rattle.pg_core.specs.declared.tally.Tally.{Tally}
@@ -177,7 +177,7 @@ TellsAt-from_sent {V} {M} job old rows n q p s old_slot (Some logged) within had
     by (Some ids) h = h
 
 -- what a step is lent of the kept run: what it reads there, and its logs tell where they differ
-IsLentBeside-kept : {V M : Type 0} (job : Job V M) (old : Option Rows) (rows : Rows) (n p r : ℕ) (logs : Slots M) (kept : Option (KeptLogs M)) → p < n → KeepsLogs job old n kept → ((s q : ℕ) → s + 1 ≡ r → q < n → IsSentTo job old rows n q p s (slot_at logs s q p)) → IsLentBeside job old n p r logs (logs_in r kept) (visible_in r kept)
+IsLentBeside-kept : {V M : Type 0} (job : Job V M) (old : Option Rows) (rows : Rows) (n p r : ℕ) (logs : Slots M) (kept : Option (Common V M)) → p < n → KeepsCommon job old n kept → ((s q : ℕ) → s + 1 ≡ r → q < n → IsSentTo job old rows n q p s (slot_at logs s q p)) → IsLentBeside job old n p r logs (logs_in r kept) (visible_in r kept)
 IsLentBeside-kept job None rows n p r logs kept mine keeps sent = tt
 IsLentBeside-kept job (Some old) rows n p r logs None mine keeps sent = absurd keeps
 IsLentBeside-kept {V} {M} job (Some old) rows n p r logs (Some kept) mine keeps sent =

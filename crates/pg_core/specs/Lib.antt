@@ -7,4 +7,3 @@ pub mod MachineRows
 pub mod Progress
 pub mod Together
 pub mod Traces
-pub mod Values

@@ -2,7 +2,7 @@
 use Rattle.std.specs.Prelude.{◌≡◌, ◌==◌, ℕ, ◌+◌, ◌<◌, ◌≤◌, nat_lt, Bool, true, false, cond, ◌&&◌, List, [], ◌∷◌, ◌++◌, map, length, slice_index_or, slice_set, take, Option, None, Some, IsSome, is_some}
 use Rattle.std.specs.List.{All, filter, range_with_len, slice_get}
 use Rattle.pg_core.specs.Limits.{Limits}
-use Rattle.pg_core.specs.Traces.{KeepsLogs, KeptLogs, logs_in, shown_below, visible_in}
+use Rattle.pg_core.specs.Traces.{KeepsCommon, Common, logs_in, shown_below, visible_in}
 use Rattle.pg_core.specs.Machine.{State, Reaches, after, first_state, host_of, is_allowed, place_at}
 use Rattle.pg_core.specs.declared.event.Event.{Event}
 use Rattle.pg_core.specs.declared.event.Event.TheVariants.{Step}
@@ -39,7 +39,7 @@ pub record Progress (P C A V M : Type 0) : Type 0 where
   pub shown : List Visible
   pub tally : Tally
   pub ending : Option Ending
-  pub kept : Option (KeptLogs M)
+  pub kept : Option (Common V M)
 
 -- a part that is here is of its partition, and at its place
 pub record IsPartAt {V M : Type 0} (partitions : ℕ) (state : State) (p : ℕ) (part : PartState V M) : Type 0 where
@@ -121,7 +121,7 @@ module _ {P C A V M : Type 0} where
     pub tally : core.tally ≡ tally_at job core.graph (reached core.state)
     pub ending : core.ending ≡ ending_in job core.graph core.state
     pub at_end : core.state.ended ≡ true → core.state.current + 1 ≡ run_length job core.graph
-    pub beside : KeepsLogs job kept core.limits.partitions core.kept
+    pub beside : KeepsCommon job kept core.limits.partitions core.kept
 
   -- the part of a partition can be taken for a step
   abbrev pub is_ready : Progress P C A V M → ℕ → Bool

@@ -4,64 +4,68 @@ use Rattle.std.specs.List.{range_with_len, slice_get}
 use Rattle.pg_graph.specs.Rows.{Rows}
 use Rattle.pg_inbox.specs.Logged.{Slots, slot_at}
 use Rattle.pg_model.specs.Job.{Job}
-use Rattle.pg_model.specs.Run.{run_length, visible_at}
+use Rattle.pg_model.specs.Run.{configuration, run_length, values_of, visible_at}
 use Rattle.pg_model.specs.declared.view.Visible.{Visible}
 use Rattle.pg_course.specs.Lent.{bundle_in, bundle_sent}
 use Rattle.pg_course.specs.Course.{AreTouched}
-use Rattle.pg_part.specs.Part.{HoldsShare, IsLeft, LeftOf, PartState}
+use Rattle.pg_part.specs.Part.{IsLeft, LeftOf, PartState}
+use Rattle.pg_values.specs.Values.{Ended, HasEnded}
 
--- what the partitions sent, and what the master showed in each superstep
-pub record KeptLogs (M : Type 0) : Type 0 where
+-- what all partitions of a run have in common: what they sent, what the master showed in each superstep, and the values
+-- with which the vertices ended
+pub record Common (V M : Type 0) : Type 0 where
   pub logs : Slots M
   pub shown : List Visible
+  pub values : List (ℕ × V)
 
 -- what the partitions left, by partition, the graph, and what all partitions have in common
 pub record Traces (V M : Type 0) : Type 0 where
   pub lefts : List (LeftOf V M)
   pub graph : Rows
-  pub common : KeptLogs M
+  pub common : Common V M
 
 -- what a step in superstep s is lent of a kept run: its logs and what was visible, where that run has the superstep
-abbrev pub logs_in : {M : Type 0} → ℕ → Option (KeptLogs M) → Option (Slots M)
+abbrev pub logs_in : {V M : Type 0} → ℕ → Option (Common V M) → Option (Slots M)
 logs_in s None = None
 logs_in s (Some kept) = cond (nat_lt s (length kept.shown)) (Some kept.logs) None
 
-abbrev pub visible_in : {M : Type 0} → ℕ → Option (KeptLogs M) → Option Visible
+abbrev pub visible_in : {V M : Type 0} → ℕ → Option (Common V M) → Option Visible
 visible_in s None = None
 visible_in s (Some kept) = slice_get kept.shown s
+
+-- how it ended
+abbrev pub ended_by : {V M : Type 0} → Common V M → Ended V
+ended_by kept = record { values = kept.values; supersteps = length kept.shown }
 
 module _ {V M : Type 0} (job : Job V M) where
   -- what the master shows in each superstep below s
   abbrev pub shown_below : Rows → ℕ → List Visible
   shown_below rows s = map (visible_at job rows) (range_with_len 0 s)
 
-  -- logs have what each of n partitions sent in each superstep of the run, and all that was shown in it
-  pub record AreLogsOf (rows : Rows) (n : ℕ) (kept : KeptLogs M) : Type 0 where
+  -- this is what n partitions have in common of the whole run: what each of them sent in each superstep, all that was shown,
+  -- and the values of the answer
+  pub record IsCommonOf (rows : Rows) (n : ℕ) (kept : Common V M) : Type 0 where
     pub sent : (s p q : ℕ) → s < run_length job rows → p < n → q < n → bundle_in (slot_at kept.logs s p q) ≡ Some (bundle_sent job rows n p q s)
     pub shown : kept.shown ≡ shown_below rows (run_length job rows)
+    pub values : kept.values ≡ values_of job rows (configuration job rows (run_length job rows))
 
   -- those of the kept run, where there is one
-  abbrev pub KeepsLogs : Option Rows → ℕ → Option (KeptLogs M) → Type 0
-  KeepsLogs None n kept = kept ≡ None
-  KeepsLogs (Some rows) n None = ⊥
-  KeepsLogs (Some rows) n (Some kept) = AreLogsOf rows n kept
+  abbrev pub KeepsCommon : Option Rows → ℕ → Option (Common V M) → Type 0
+  KeepsCommon None n kept = kept ≡ None
+  KeepsCommon (Some rows) n None = ⊥
+  KeepsCommon (Some rows) n (Some kept) = IsCommonOf rows n kept
 
   -- this is what partition p of n leaves
   abbrev pub HasLeft : Rows → ℕ → ℕ → Option (LeftOf V M) → Type 0
   HasLeft rows n p None = ⊥
   HasLeft rows n p (Some left) = IsLeft job rows n p left
 
-  -- its part is here, and has come to the end of the run
-  abbrev pub HasEnded : Option Rows → Rows → ℕ → ℕ → Option (PartState V M) → Type 0
-  HasEnded kept rows n p None = ⊥
-  HasEnded kept rows n p (Some part) = HoldsShare job kept rows n p (run_length job rows) part
-
   -- this is what the run on these rows leaves, over n partitions
   pub record IsLeftBy (rows : Rows) (n : ℕ) (left : Traces V M) : Type 0 where
     pub each : length left.lefts ≡ n
     pub whole : (p : ℕ) → p < n → HasLeft rows n p (slice_get left.lefts p)
     pub graph_is : left.graph ≡ rows
-    pub common : AreLogsOf rows n left.common
+    pub common : IsCommonOf rows n left.common
 
   -- this is what some run leaves, on whose graph all rows were those of this one but for the touched ids
   pub record IsLeftBeside (rows : Rows) (n : ℕ) (touched : List ℕ) (left : Traces V M) : Type 0 where

@@ -6,19 +6,21 @@ ghost use Rattle.pg_core.specs.Traces.{HaveLeft};
 ghost use Rattle.pg_graph.specs.Rows.{Rows};
 
 use crate::running::partitioner_of;
-use crate::traces::KeptLogs;
-use crate::values::values_at;
+use crate::traces::{Common, ended_of};
 use crate::{Core, Tally, Traces};
 use pg_global::{MasterCompute, MessageCombiner};
 use pg_graph::{Memory, Superstep};
 use pg_model::{Ending, Run};
 use pg_part::{Left, Part};
 use pg_program::{Computation, Plain};
+use pg_values::{copied_values, values_beside};
 use std::alloc::Global;
 
 impl<'a, P: Computation, C: MessageCombiner<P::Message>, M: MasterCompute> Core<'a, P, C, M> {
-    /// The answer of a run that has ended, and all that the run leaves for one beside it. Costs a sort of the vertices'
-    /// ids and a look-up for each, and what is cut where the kept run was longer.
+    /// The answer of a run that has ended, and all that the run leaves for one beside it.
+    ///
+    /// Costs a copy of the vertices' values, a look-up for each vertex that may have ended otherwise than in the kept run,
+    /// and what is cut where that was longer. Beside nothing it costs a sort of the vertices' ids and a look-up for each.
     pub fn finish(
         self,
         alloc: Global,
@@ -39,11 +41,15 @@ impl<'a, P: Computation, C: MessageCombiner<P::Message>, M: MasterCompute> Core<
             shown,
             tally,
             ending,
+            kept,
             ..
         } = self;
         let partitioner = partitioner_of(limits);
         let missing = limits.missing();
-        let values = values_at(alloc, partitioner, missing, parts.as_slice(), supersteps)?;
+        let ended = ended_of(&kept);
+        let parts_here = parts.as_slice();
+        let values = values_beside(alloc, partitioner, missing, parts_here, ended, supersteps)?;
+        let again = copied_values(alloc, &values)?;
         let Tally {
             gathered,
             sent,
@@ -59,7 +65,11 @@ impl<'a, P: Computation, C: MessageCombiner<P::Message>, M: MasterCompute> Core<
         };
         let graph = graph.copy(alloc)?;
         let lefts = lefts_of(alloc, parts, supersteps)?;
-        let common = KeptLogs { logs, shown };
+        let common = Common {
+            logs,
+            shown,
+            values: again,
+        };
         let traces = Traces {
             lefts,
             graph,

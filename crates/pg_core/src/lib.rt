@@ -13,7 +13,6 @@ mod stepping;
 mod tally;
 mod together;
 mod traces;
-mod values;
 
 pub use event::{Closed, Event};
 pub use limits::Limits;

@@ -6,7 +6,7 @@ ghost use Rattle.pg_core.specs.Progress.{is_ready as ready_test, job_by, part_at
 ghost use Rattle.pg_core.specs.Beginning.{AreBegun, HasBegun};
 ghost use Rattle.pg_global.specs.Master.{has_places, is_registered, job_of};
 ghost use Rattle.pg_global.specs.Registry.{first_refusal};
-ghost use Rattle.pg_core.specs.Traces.{IsLeftBeside, IsLeftBy, KeepsLogs, logs_in, visible_in};
+ghost use Rattle.pg_core.specs.Traces.{IsLeftBeside, IsLeftBy, KeepsCommon, logs_in, visible_in};
 ghost use Rattle.pg_course.specs.Course.{AreTouched};
 ghost use Rattle.std.specs.Option.{option_copied};
 ghost use Rattle.pg_graph.specs.Rows.{Rows};
@@ -15,7 +15,7 @@ ghost use Rattle.pg_model.specs.Run.{visible_at};
 use crate::beginning::{
     begun_parts, begun_parts_beside, copied, initial_values, registered, shown_in,
 };
-use crate::traces::KeptLogs;
+use crate::traces::Common;
 use crate::{Event, Limits, State, Tally, Traces};
 use pg_global::{MasterCompute, MessageCombiner, Registry, Visible};
 use pg_graph::{Graph, Memory, PartitionId, Superstep, VertexId, WorkerId};
@@ -44,7 +44,7 @@ pub struct Core<'a, P: Computation, C: MessageCombiner<P::Message>, M: MasterCom
     pub(crate) tally: Tally,
     pub(crate) registry: Registry,
     pub(crate) ending: Option<Ending>,
-    pub(crate) kept: Option<KeptLogs<P::Message>>,
+    pub(crate) kept: Option<Common<P::Value, P::Message>>,
 }
 
 impl<'a, P: Computation, C: MessageCombiner<P::Message>, M: MasterCompute> Model
@@ -397,7 +397,7 @@ fn open_with<'a, P: Computation, C: MessageCombiner<P::Message>, M: MasterComput
     run: u64,
     registry: Registry,
     parts: Vec<Option<Part<P::Value, P::Message>>>,
-    kept: Option<KeptLogs<P::Message>>,
+    kept: Option<Common<P::Value, P::Message>>,
 ) -> Result<Core<'a, P, C, M>, Memory>
     requires registry_is { registry ≡ (M.master master.now).registrations }
     requires registered { is_registered (P.program program.now) (M.master master.now) ≡ true }
@@ -409,7 +409,7 @@ fn open_with<'a, P: Computation, C: MessageCombiner<P::Message>, M: MasterComput
         (λ core. IsOpened core program.now combiner.now master.now graph.now limits run) }
     ensures right { let job = job_of (P.program program.now) (C.combining combiner.now)
         (M.master master.now) limits.missing limits.limit in
-        IfOk result (λ core. (old : Option Rows) → KeepsLogs job old limits.partitions kept
+        IfOk result (λ core. (old : Option Rows) → KeepsCommon job old limits.partitions kept
         → ((p : ℕ) → p < limits.partitions
         → HasBegun job old graph.now limits.partitions p (slice_index_or parts.items p None))
         → IsRight job old core) }

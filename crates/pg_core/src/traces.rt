@@ -1,34 +1,40 @@
 //! What a whole run over partitions leaves, for a run beside it.
-ghost use Rattle.std.specs.Prelude.{◌≡◌, ◌≤◌, length, Some, IfSome};
+ghost use Rattle.std.specs.Prelude.{◌≡◌, ◌≤◌, length, Some, IfSome, option_map};
 ghost use Rattle.std.specs.Option.{option_copied};
-ghost use Rattle.pg_core.specs.Traces.{logs_in, visible_in};
+ghost use Rattle.pg_core.specs.Traces.{ended_by, logs_in, visible_in};
+ghost use Rattle.pg_map.specs.Entries.{HasRisingIds};
 
 use pg_global::Visible;
-use pg_graph::{Graph, Superstep};
+use pg_graph::{Graph, Superstep, VertexId};
 use pg_inbox::Logs;
+use pg_model::Sequence;
 use pg_part::Left;
 use pg_program::Plain;
+use pg_values::Ended;
 use std::marker::Model;
 
-/// What the partitions of a whole run sent, and what the master showed in each superstep of it.
+/// What all partitions of a whole run have in common: what they sent, what the master showed in each superstep, and the
+/// values with which the vertices ended, by rising id.
 #[derive(Drop)]
-pub(crate) struct KeptLogs<M: Plain> {
+pub(crate) struct Common<V, M: Plain> {
     pub(crate) logs: Logs<M>,
     pub(crate) shown: Vec<Visible>,
+    pub(crate) values: Sequence<(VertexId, V)>,
 }
 
-impl<M: Plain> Model for KeptLogs<M> {
+impl<V, M: Plain> Model for Common<V, M> {
     ghost use Rattle.std.specs.Prelude.{All, length, ◌≤◌};
-    ghost use Rattle.pg_core.specs.Traces.{KeptLogs};
+    ghost use Rattle.pg_core.specs.Traces.{Common};
+    ghost use Rattle.pg_map.specs.Entries.{HasRisingIds};
 
-    ghost Value = { KeptLogs M };
+    ghost Value = { Common V M };
 
-    ghost view = { λ k. record { logs = k.logs; shown = k.shown.items } };
+    ghost view = { λ k. record { logs = k.logs; shown = k.shown.items; values = k.values } };
 
-    ghost invariant = { λ k. All (λ v. length v.values ≤ 16) k.shown.items };
+    ghost invariant = { λ k. All (λ v. length v.values ≤ 16) k.shown.items × HasRisingIds k.values };
 }
 
-impl<M: Plain> KeptLogs<M> {
+impl<V, M: Plain> Common<V, M> {
     /// What was sent, for a step in a superstep that the run has.
     pub(crate) fn logs_in(&self, superstep: Superstep) -> Option<&Logs<M>>
         ensures { option_copied result ≡ logs_in superstep (Some self.now) }
@@ -49,13 +55,24 @@ impl<M: Plain> KeptLogs<M> {
     }
 }
 
-/// What a whole run leaves: what each partition leaves, the graph, what the partitions sent, and what the master showed.
-/// A run on another graph opens beside it.
+/// How the kept run ended, if there is one.
+pub(crate) fn ended_of<V, M: Plain>(kept: &Option<Common<V, M>>) -> Option<Ended<'_, V>>
+    ensures ended { result ≡ option_map ended_by kept.now }
+    ensures rising { IfSome result (λ ended. HasRisingIds ended.values) }
+{
+    match kept {
+        Some(kept) => Some(Ended::new(&kept.values, kept.shown.len())),
+        None => None,
+    }
+}
+
+/// What a whole run leaves: what each partition leaves, the graph, what the partitions sent, what the master showed, and
+/// the values with which the vertices ended. A run on another graph opens beside it.
 #[derive(Drop)]
 pub struct Traces<V, M: Plain> {
     pub(crate) lefts: Vec<Left<V, M>>,
     pub(crate) graph: Graph,
-    pub(crate) common: KeptLogs<M>,
+    pub(crate) common: Common<V, M>,
 }
 
 impl<V, M: Plain> Model for Traces<V, M> {

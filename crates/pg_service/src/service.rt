@@ -177,7 +177,8 @@ impl<P: Computation, C: MessageCombiner<P::Message>, M: MasterCompute> Service<P
     /// Where no run is kept, that of a whole run. Else what is executed, with its edges and messages; a sort of the noted
     /// ids and a look-up of each for each partition; a count for each superstep and pair of partitions; a walk over the
     /// records of each superstep in which something else is contributed, and over what is active past the kept run's
-    /// end; and for the answer a sort of the vertices' ids with a look-up of each.
+    /// end; and for the answer two copies of the vertices' values, with a look-up for each vertex that may have ended
+    /// otherwise.
     pub fn refresh(&mut self, alloc: Global) -> Result<Report, RefreshFault>
         ensures report { let job = job_meant P.program C.combining M.master self.old.job in
             IfOk result (MayReport job P.Value.PartialEq.eq P.Message.PartialEq.eq

@@ -1,6 +1,6 @@
 use Rattle.std.proofs.Common.{◌≡◌, ℕ, List, Some, subst, sym, ap, ◌∙◌}
 use Rattle.pg_core.specs.Beginning.{HaveBegunBeside}
-use Rattle.pg_core.specs.Traces.{AreLogsOf}
+use Rattle.pg_core.specs.Traces.{IsCommonOf}
 use Rattle.pg_global.specs.Master.{job_of}
 use Rattle.pg_core.specs.Progress.{IsRight}
 use Rattle.pg_core.proofs.Opened.{have_begun_beside, job_as_opened}
@@ -44,6 +44,6 @@ returns-clause-right g c kept left untouched =
     let begins = subst (λ old. HaveBegunBeside program c.missing.result c.in_ok-registry.registry c.args.graph.now c.args.touched.now c.as_slice.result.now old.lefts n n parts) c.old.view_is c.in_ok-parts.ensures.begun in
     let moves = moved_from c.args.touched.now c.as_slice.result.now c.in_ok-moved.moved.items c.args.graph.now c.old.inside.graph c.args.old.graph (ap (λ old. old.graph) c.old.view_is) c.as_slice.ensures.value c.in_ok-moved.ensures in
     let begun = have_begun_beside program combining master c.args.limits c.args.graph.now n c.missing.result c.in_ok-registry.registry c.partitioner_of-partitioner.ensures c.missing.ensures c.in_ok-registry.ensures parts c.args.touched.now c.as_slice.result.now c.args.old kept begins left untouched (moves kept left.graph_is untouched) in
-    let common = subst (λ old. AreLogsOf job kept c.args.limits.partitions old.common) (sym c.old.view_is) left.common in
+    let common = subst (λ old. IsCommonOf job kept c.args.limits.partitions old.common) (sym c.old.view_is) left.common in
     subst (λ job. IsRight job (Some kept) core) (job_as_opened g.P.Computation.program g.C.MessageCombiner.combining g.M.MasterCompute.master core c.args.program.now c.args.combiner.now c.args.master.now c.args.graph.now c.args.limits c.args.run c.in_ok-core.ensures.opened)
     (c.in_ok-core.ensures.right (Some kept) common begun)

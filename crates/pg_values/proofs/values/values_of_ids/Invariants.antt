@@ -1,6 +1,6 @@
 use Rattle.std.proofs.Common.{◌≡◌, flat_map, take}
-use Rattle.pg_core.specs.Values.{state_by, traces_of, valued}
-use Rattle.pg_core.proofs.values.values_of_ids.Given as goal
+use Rattle.pg_values.specs.Values.{state_by, traces_of, valued}
+use Rattle.pg_values.proofs.values.values_of_ids.Given as goal
 
 abbrev pub invariant-loop-id : goal.invariant-loop-id
 invariant-loop-id g l = record {

@@ -1,13 +1,14 @@
 //! The values of a run's vertices, read from the traces of its partitions.
 ghost use Rattle.std.specs.Prelude.{◌≡◌, ◌++◌, IfOk, OnOk};
-ghost use Rattle.std.specs.List.{flat_map, range_with_len};
+ghost use Rattle.std.specs.List.{flat_map};
 ghost use Rattle.std.specs.Map.{keys_of};
 ghost use Rattle.std.specs.Option.{option_map};
-ghost use Rattle.pg_core.specs.Values.{HaveShares, ids_before, ids_of_part, state_by, traces_of, valued};
+ghost use Rattle.pg_values.specs.Values.{HaveShares, ids_before, ids_of_part, ran_between, state_by, traces_of, valued};
 ghost use Rattle.pg_graph.specs.Rows.{Rows};
 ghost use Rattle.pg_model.specs.Job.{Job};
 ghost use Rattle.pg_model.specs.Run.{configuration, values_of};
-ghost use Rattle.pg_trace.specs.Trace.{lent, records_of};
+ghost use Rattle.pg_map.specs.Entries.{HasRisingIds};
+ghost use Rattle.pg_trace.specs.Trace.{lent};
 
 use pg_course::rising;
 use pg_graph::{Memory, Missing, Superstep, VertexId};
@@ -26,9 +27,10 @@ pub(crate) fn values_at<V: Plain, M: Plain>(
     parts: &[Option<Part<V, M>>],
     superstep: Superstep,
 ) -> Result<Sequence<(VertexId, V)>, Memory>
-    ensures { IfOk result (λ values. (job : Job V M) (rows : Rows) → job.missing ≡ missing
+    ensures values { IfOk result (λ values. (job : Job V M) (rows : Rows) → job.missing ≡ missing
         → HaveShares job rows partitioner superstep parts.now
         → values ≡ values_of job rows (configuration job rows superstep)) }
+    ensures rising { IfOk result (λ values. HasRisingIds values) }
 {
     let ids = rising(all_ids(alloc, missing, parts, superstep)?);
     let values = values_of_ids(alloc, partitioner, parts, ids.as_slice(), superstep)?;
@@ -55,7 +57,7 @@ fn values_of_ids<V: Plain, M: Plain>(
 }
 
 /// Look-ups in the traces of these parts.
-fn all_states<'t, V: Plain, M: Plain>(
+pub(crate) fn all_states<'t, V: Plain, M: Plain>(
     alloc: Global,
     parts: &'t [Option<Part<V, M>>],
 ) -> Result<Vec<Option<States<'t, V, M>>>, Memory>
@@ -98,7 +100,7 @@ fn add_value<'t, V: Plain, M: Plain>(
 }
 
 /// The state of an id as its partition has it.
-fn state_by<'t, V: Plain, M: Plain>(
+pub(crate) fn state_by<'t, V: Plain, M: Plain>(
     partitioner: Partitioner,
     states: &mut Vec<Option<States<'t, V, M>>>,
     id: VertexId,
@@ -150,21 +152,21 @@ fn add_ids<V: Plain, M: Plain>(
     add_all(ids, initial.as_slice())?;
     match missing {
         Missing::Drop => Ok(()),
-        Missing::Create => add_ran(alloc, ids, trace, superstep),
+        Missing::Create => add_ran(alloc, ids, trace, 0, superstep.number()),
     }
 }
 
-/// Adds the ids that ran before a superstep.
-fn add_ran<V: Plain, M: Plain>(
+/// Adds the ids that ran in the supersteps from one on and before another.
+pub(crate) fn add_ran<V: Plain, M: Plain>(
     alloc: Global,
     ids: &mut Vec<VertexId>,
     trace: &Trace<V, M>,
-    superstep: Superstep,
+    from: u32,
+    to: u32,
 ) -> Result<(), Memory>
-    ensures { OnOk result (ids.new.items ≡ ids.old.items
-        ++ flat_map (λ t. keys_of (records_of t trace.now)) (range_with_len 0 superstep)) }
+    ensures { OnOk result (ids.new.items ≡ ids.old.items ++ ran_between from to trace.now) }
 {
-    for place in 0..superstep.number() {
+    for place in from..to {
         let records = trace.records(alloc, Superstep::new(place))?;
         add_keys(ids, records.as_slice())?;
     }
@@ -185,7 +187,7 @@ fn add_keys<V, M>(
 }
 
 /// Adds ids.
-fn add_all(ids: &mut Vec<VertexId>, more: &[VertexId]) -> Result<(), Memory>
+pub(crate) fn add_all(ids: &mut Vec<VertexId>, more: &[VertexId]) -> Result<(), Memory>
     ensures { OnOk result (ids.new.items ≡ ids.old.items ++ more.now) }
 {
     for id in more {

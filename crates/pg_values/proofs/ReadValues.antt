@@ -1,5 +1,5 @@
 -- The values that the partitions of a run have are the run's.
-use Rattle.std.proofs.Common.{◌≡◌, ℕ, zero, suc, ◌+◌, ◌<◌, ◌≤◌, ◌%◌, Bool, true, false, cond, ◌||◌, ◌&&◌, List, [], ◌∷◌, ◌++◌, map, take, get_or, Option, None, Some, option_and_then, option_map, refl, ap, ap₂, sym, ◌∙◌, arith, true≢false, filter, flat_map}
+use Rattle.std.proofs.Common.{◌≡◌, ℕ, zero, suc, ◌+◌, ◌-◌, ◌<◌, ◌≤◌, ◌%◌, Bool, true, false, cond, ◌||◌, ◌&&◌, List, [], ◌∷◌, ◌++◌, map, take, get_or, Option, None, Some, option_and_then, option_map, refl, ap, ap₂, sym, ◌∙◌, arith, true≢false, filter, flat_map}
 use Rattle.std.specs.Prelude.{◌==◌}
 use Rattle.std.specs.List.{AllByRecursion, find, range_with_len}
 use Rattle.std.specs.List.Sorted.{IsStrictlySortedBy}
@@ -11,17 +11,19 @@ use Rattle.std.proofs.Math.Nat.{mod-lt}
 use Rattle.std.proofs.lemmas.Bool.{eq-eqb}
 use Rattle.std.proofs.lemmas.List.Folds.{list_any-append}
 use Rattle.std.proofs.lemmas.Simd.{map-map}
-use Rattle.pg_core.specs.Values.{HasShare, HaveShares, ids_before, ids_of_part, state_by, state_in, traces_of, valued}
-use Rattle.pg_graph.specs.Rows.{HasRisingIds, Rows}
+use Rattle.pg_values.specs.Values.{HasShare, HaveShares, ids_before, ids_of_part, ran_between, state_by, state_in, traces_of, valued}
+use Rattle.pg_graph.specs.Rows.{Rows}
 use Rattle.pg_graph.specs.declared.missing.Missing.{Missing}
 use Rattle.pg_graph.specs.declared.missing.Missing.TheVariants.{Drop, Create}
-use Rattle.pg_map.specs.Entries.{value_at}
+use Rattle.pg_map.specs.Entries.{HasRisingIds, value_at}
 use Rattle.pg_model.specs.Job.{Job}
 use Rattle.pg_model.specs.Needed.{standing_at}
 use Rattle.pg_model.specs.Run.{configuration, values_of}
 use Rattle.pg_model.specs.Share.{belongs, share}
 use Rattle.pg_model.specs.Superstep.{has_id, ids}
 use Rattle.pg_model.specs.declared.configuration.Standing.{Standing}
+use Rattle.pg_model.specs.declared.configuration.VertexState.{VertexState}
+use Rattle.std.specs.declared.cmp.Ordering.TheVariants.{Less}
 use Rattle.pg_model.proofs.LawsIds.{ids-configuration, in_order}
 use Rattle.pg_model.proofs.LawsLists.{filter-map}
 use Rattle.pg_model.proofs.LawsPresent.{at_key, standing_at-none}
@@ -34,7 +36,7 @@ use Rattle.pg_trace.proofs.RunStates.{state_of_run}
 
 -- ---- what isn't listed isn't found
 
-neither : (a b : Bool) → (a || b) ≡ false → (a ≡ false) × (b ≡ false)
+pub neither : (a b : Bool) → (a || b) ≡ false → (a ≡ false) × (b ≡ false)
 neither true b h = absurd (true≢false h)
 neither false b h = (refl, h)
 
@@ -44,7 +46,7 @@ none_keyed key id (x ∷ xs) h =
     let p = neither (key x == id) (has_id (map key xs) id) h in
     ap (λ (b : Bool). cond b (Some x) (find (λ x. key x == id) xs)) p.0 ∙ none_keyed key id xs p.1
 
-none_valued : {X : Type 0} (id : ℕ) (es : List (ℕ × X)) → has_id (keys_of es) id ≡ false → value_at id es ≡ None
+pub none_valued : {X : Type 0} (id : ℕ) (es : List (ℕ × X)) → has_id (keys_of es) id ≡ false → value_at id es ≡ None
 none_valued id [] h = refl
 none_valued id (e ∷ es) h =
     let p = neither (e.0 == id) (has_id (keys_of es) id) h in
@@ -56,7 +58,7 @@ none_ran id (suc s) [] h = refl
 none_ran id (suc s) (r ∷ rs) h =
     ap₂ option_or (none_ran id s rs (λ t less. h (suc t) (omega arith))) (none_valued id r (h 0 (omega arith)))
 
-none_in_range : (id : ℕ) (f : ℕ → List ℕ) (a n : ℕ) → has_id (flat_map f (range_with_len a n)) id ≡ false → (t : ℕ) → t < n → has_id (f (a + t)) id ≡ false
+pub none_in_range : (id : ℕ) (f : ℕ → List ℕ) (a n : ℕ) → has_id (flat_map f (range_with_len a n)) id ≡ false → (t : ℕ) → t < n → has_id (f (a + t)) id ≡ false
 none_in_range id f a zero h t less = absurd (omega arith)
 none_in_range id f a (suc n) h t less = by t less (none_in_range id f (a + 1) n parts.1)
   where
@@ -67,7 +69,7 @@ none_in_range id f a (suc n) h t less = by t less (none_in_range id f (a + 1) n 
     by zero less later = ap (λ k. has_id (f k) id) (let e : a + 0 ≡ a = omega arith in e) ∙ parts.0
     by (suc t) less later = ap (λ k. has_id (f k) id) (let e : a + suc t ≡ a + 1 + t = omega arith in e) ∙ later t (omega arith)
 
-none_at : {X : Type 0} (id : ℕ) (f : X → List ℕ) (d : X) → has_id (f d) id ≡ false → (xs : List X) (i : ℕ) → has_id (flat_map f xs) id ≡ false → has_id (f (get_or xs i d)) id ≡ false
+pub none_at : {X : Type 0} (id : ℕ) (f : X → List ℕ) (d : X) → has_id (f d) id ≡ false → (xs : List X) (i : ℕ) → has_id (flat_map f xs) id ≡ false → has_id (f (get_or xs i d)) id ≡ false
 none_at id f d none [] i h = none
 none_at id f d none (x ∷ xs) i h = by i (λ i. none_at id f d none xs i parts.1)
   where
@@ -96,11 +98,11 @@ module _ {V M : Type 0} (job : Job V M) (rows : Rows) (n p s id : ℕ) (mine : b
       ap (option_map (λ x. x.state)) (standing_at-none id (configuration job rows s).standings still)
 
   -- one that has neither begun nor run before has none
-  none_before : has_id (map (λ x. x.id) trace.initial ++ flat_map (λ t. keys_of (records_of t trace)) (range_with_len 0 s)) id ≡ false → run_state job rows id s ≡ None
+  none_before : has_id (map (λ x. x.id) trace.initial ++ ran_between 0 s trace) id ≡ false → run_state job rows id s ≡ None
   none_before h =
       let keys : ℕ → List ℕ = λ t. keys_of (records_of t trace) in
-      let parts = neither _ _ (sym (list_any-append (λ other. other == id) (map (λ x. x.id) trace.initial) (flat_map keys (range_with_len 0 s))) ∙ h) in
-      let ran = none_ran id s trace.records (λ t less. ap (λ k. has_id (keys k) id) (let e : t ≡ 0 + t = omega arith in e) ∙ none_in_range id keys 0 s parts.1 t less) in
+      let parts = neither _ _ (sym (list_any-append (λ other. other == id) (map (λ x. x.id) trace.initial) (ran_between 0 s trace)) ∙ h) in
+      let ran = none_ran id s trace.records (λ t less. ap (λ k. has_id (keys k) id) (let e : t ≡ 0 + t = omega arith in e) ∙ none_in_range id keys 0 (s - 0) parts.1 t (omega (arith, less))) in
       let began = none_keyed (λ x. x.id) id trace.initial parts.0 in
       sym (state_of_run trace id s job rows n p s holds mine (let all : s ≤ s = omega arith in all))
       ∙ ap₂ (λ o i. option_or (option_map (left_by id) o) i) ran began
@@ -117,7 +119,7 @@ valued_all all [] found = refl
 valued_all all (x ∷ xs) found = ap₂ ◌++◌ (ap (λ o. valued x.state.id (option_map (λ x. x.state) o)) found.0) (valued_all all xs found.1)
 
 module _ {V M : Type 0} (job : Job V M) (rows : Rows) (n s : ℕ) (parts : List (Option (PartState V M))) (have : HaveShares job rows n s parts) where
-  state_is : (id : ℕ) → state_in n s parts id ≡ run_state job rows id s
+  pub state_is : (id : ℕ) → state_in n s parts id ≡ run_state job rows id s
   state_is id = by (get_or parts (id % n) None) (have.shares (id % n) (mod-lt id have.some))
     where
       by : (part : Option (PartState V M)) → HasShare job rows n (id % n) s part → option_and_then (λ part. state_at id s part.course.trace) part ≡ run_state job rows id s
@@ -132,7 +134,7 @@ module _ {V M : Type 0} (job : Job V M) (rows : Rows) (n s : ℕ) (parts : List 
       by None holds none = absurd holds
       by (Some part) holds none = none_listed job rows n (id % n) s id (eq-eqb (id % n) (id % n) refl) part.course.trace holds job.missing refl none
 
-  rows_rise : HasRisingIds rows
+  pub rows_rise : HasRisingIds rows
   rows_rise = by (get_or parts 0 None) (have.shares 0 have.some)
     where
       by : (part : Option (PartState V M)) → HasShare job rows n 0 s part → HasRisingIds rows
@@ -152,10 +154,29 @@ module _ {V M : Type 0} (job : Job V M) (rows : Rows) (n s : ℕ) (parts : List 
       (λ id none. ap (λ o. valued id (option_map (λ x. x.state) o)) (standing_at-none id all none))
       ∙ valued_all all all (found_by_id all order))
 
+-- ---- what is read at rising ids rises
+
+all_valued : {V : Type 0} (P : ℕ → Type 0) (f : ℕ → Option (VertexState V)) (is : List ℕ) → AllByRecursion P is → AllByRecursion P (keys_of (flat_map (λ id. valued id (f id)) is))
+all_valued P f [] all = tt
+all_valued {V} P f (i ∷ is) all = by (f i) (all_valued P f is all.1)
+  where
+    by : (o : Option (VertexState V)) → AllByRecursion P (keys_of (flat_map (λ id. valued id (f id)) is)) → AllByRecursion P (keys_of (valued i o ++ flat_map (λ id. valued id (f id)) is))
+    by None later = later
+    by (Some x) later = (all.0, later)
+
+pub valued_rise : {V : Type 0} (f : ℕ → Option (VertexState V)) (is : List ℕ) → IsStrictlySortedBy nat_cmp is → HasRisingIds (flat_map (λ id. valued id (f id)) is)
+unfolding IsStrictlySortedBy
+valued_rise f [] rise = tt
+valued_rise {V} f (i ∷ is) rise = by (f i) (valued_rise f is rise.1)
+  where
+    by : (o : Option (VertexState V)) → HasRisingIds (flat_map (λ id. valued id (f id)) is) → HasRisingIds (valued i o ++ flat_map (λ id. valued id (f id)) is)
+    by None later = later
+    by (Some x) later = (all_valued (λ y. nat_cmp i y ≡ Less) f is rise.0, later)
+
 -- ---- the same states, read from the traces alone
 
 module _ {V M : Type 0} (n s : ℕ) (parts : List (Option (PartState V M))) where
-  same_state : (id : ℕ) → state_by n s (traces_of parts) id ≡ state_in n s parts id
+  pub same_state : (id : ℕ) → state_by n s (traces_of parts) id ≡ state_in n s parts id
   same_state id =
       ap (option_and_then (λ trace. state_at id s trace)) (get_or-map (option_map (λ part. part.course.trace)) parts (id % n) None)
       ∙ by (get_or parts (id % n) None)

@@ -1,0 +1,61 @@
+use Rattle.std.proofs.Common.{◌+◌, ◌∙◌, subst}
+use Rattle.pg_map.specs.Entries.{ChangesRise, HasRisingIds}
+use Rattle.pg_map.proofs.Parts.{From, rises_after}
+use Rattle.pg_map.proofs.Turns.{below_by, not_below_by, same_by, apart_by, pass_turn, skip_turn, put_turn, remove_turn, from_entry, from_none}
+use Rattle.pg_values.proofs.patching.patched.Goals as goal
+use Rattle.pg_values.proofs.patching.patched.Goals.{in_default-split_first-via-in-Some-2+else-eq, in_default-split_first-via-in_default-split_first}
+
+pub loop-change-preserved-then-lt : goal.loop-change-preserved-then-lt
+loop-change-preserved-then-lt g c =
+    let now = c.loop-change in
+    let entry = c.in-Some-split_first.value.now in
+    let at = c.in-Some-split_first.ensures.cases.0 in
+    let below = below_by entry.0 c.in-Some.change.now.0 c.if-lt.ensures in
+    record {
+      made = pass_turn now.made.items _ _ _ _ _ c.in-Some.ensures.cases.0 now.invariant.changes_rise entry _ at _ c.in_ok-push-in-Some-split_first.ensures.items c.in_ok-copy-in-Some-split_first.ensures below ∙ now.invariant.made;
+      values_rise = rises_after entry _ (subst HasRisingIds at now.invariant.values_rise);
+      changes_rise = now.invariant.changes_rise;
+    }
+
+pub loop-change-preserved-then-eq : goal.loop-change-preserved-then-eq
+loop-change-preserved-then-eq g c =
+    let now = c.loop-change in
+    let entry = c.in-Some-split_first.value.now in
+    let at = c.in-Some-split_first.ensures.cases.0 in
+    let same = same_by entry.0 c.in-Some.change.now.0 c.if-eq.ensures in
+    record {
+      made = skip_turn now.made.items now.made.items _ _ _ _ c.in-Some.ensures.cases.0 now.invariant.changes_rise entry _ at same now.invariant.values_rise
+          ∙ now.invariant.made;
+      values_rise = rises_after entry _ (subst HasRisingIds at now.invariant.values_rise);
+      changes_rise = now.invariant.changes_rise;
+    }
+
+pub loop-change-preserved-in_ok-push-in_default-split_first : goal.loop-change-preserved-in_ok-push-in_default-split_first
+loop-change-preserved-in_ok-push-in_default-split_first g c =
+    let now = c.loop-change in
+    let next = c.in-Some.ensures.cases.0 in
+    let above : From (c.in-Some.change.now.0 + 1) now.left.now = elim c.in_default-split_first.branch [
+      | in_default-split_first-via-in-Some-2+else-eq w ↦ from_entry now.made.items now.made.items _ _ _ _ next now.invariant.changes_rise w.in-Some-split_first.value.now _ w.in-Some-split_first.ensures.cases.0 now.invariant.values_rise
+          (not_below_by _ _ w.if-lt.ensures) (apart_by _ _ w.if-eq.ensures)
+      | in_default-split_first-via-in_default-split_first w ↦ from_none now.made.items now.made.items _ _ _ _ next now.invariant.changes_rise w.in_default-split_first.ensures.cases
+    ] in
+    record {
+      made = put_turn now.made.items _ _ _ _ _ next now.invariant.changes_rise above _ _ c.in-Some-1₀.is c.in_ok-copy-in_default-split_first.ensures c.in_ok-push-in_default-split_first.ensures.items ∙ now.invariant.made;
+      values_rise = now.invariant.values_rise;
+      changes_rise = rises_after c.in-Some.change.now c.in-Some.later.now (subst ChangesRise next now.invariant.changes_rise);
+    }
+
+pub loop-change-preserved : goal.loop-change-preserved
+loop-change-preserved g c =
+    let now = c.loop-change in
+    let next = c.in-Some.ensures.cases.0 in
+    let above : From (c.in-Some.change.now.0 + 1) now.left.now = elim c.in_default-split_first.branch [
+      | in_default-split_first-via-in-Some-2+else-eq w ↦ from_entry now.made.items now.made.items _ _ _ _ next now.invariant.changes_rise w.in-Some-split_first.value.now _ w.in-Some-split_first.ensures.cases.0 now.invariant.values_rise
+          (not_below_by _ _ w.if-lt.ensures) (apart_by _ _ w.if-eq.ensures)
+      | in_default-split_first-via-in_default-split_first w ↦ from_none now.made.items now.made.items _ _ _ _ next now.invariant.changes_rise w.in_default-split_first.ensures.cases
+    ] in
+    record {
+      made = remove_turn now.made.items now.made.items _ _ _ _ next now.invariant.changes_rise above c.in_default-1₀.is ∙ now.invariant.made;
+      values_rise = now.invariant.values_rise;
+      changes_rise = rises_after c.in-Some.change.now c.in-Some.later.now (subst ChangesRise next now.invariant.changes_rise);
+    }

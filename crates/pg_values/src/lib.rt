@@ -1,0 +1,10 @@
+//! The values with which a run over partitions ends, from scratch or beside those of an old run.
+#![tactic(auto)]
+
+mod ended;
+mod patching;
+mod values;
+
+pub use ended::Ended;
+pub use patching::{copied_values, values_beside};
+pub use pg_graph::Memory;

@@ -1,0 +1,196 @@
+//! The values of a run's vertices, made of those with which the kept run ended.
+ghost use Rattle.std.specs.Prelude.{◌≡◌, ◌++◌, Option, Some, IfOk, IfSome, OnOk};
+ghost use Rattle.std.specs.List.{flat_map};
+ghost use Rattle.std.specs.Option.{option_map};
+ghost use Rattle.pg_values.specs.Values.{HaveEnded, KeepsEnd, apart_in, new_values, traces_of};
+ghost use Rattle.pg_graph.specs.Rows.{Rows};
+ghost use Rattle.pg_map.specs.Entries.{ChangesRise, HasRisingIds, with_changes};
+ghost use Rattle.pg_model.specs.Job.{Job};
+ghost use Rattle.pg_model.specs.Run.{configuration, values_of};
+
+use crate::Ended;
+use crate::values::{add_all, add_ran, all_states, state_by, values_at};
+use pg_course::rising;
+use pg_graph::{Memory, Missing, Superstep, VertexId};
+use pg_model::Sequence;
+use pg_part::{Part, Partitioner};
+use pg_program::Plain;
+use pg_trace::StateRef;
+use std::alloc::{AllocError, Global};
+
+/// The values of the vertices as a run of so many supersteps ends, by rising id.
+///
+/// Beside a kept run it costs a copy of that run's values, and a look-up for each vertex that may have ended otherwise: the
+/// parts tell which. Else it costs a sort of the vertices' ids and a look-up for each; where messages make vertices, of the
+/// ids of all executions.
+pub fn values_beside<V: Plain, M: Plain>(
+    alloc: Global,
+    partitioner: Partitioner,
+    missing: Missing,
+    parts: &[Option<Part<V, M>>],
+    kept: Option<Ended<'_, V>>,
+    superstep: Superstep,
+) -> Result<Sequence<(VertexId, V)>, Memory>
+    requires { IfSome kept (λ ended. HasRisingIds ended.values) }
+    ensures values { IfOk result (λ values. (job : Job V M) (old : Option Rows) (rows : Rows) → job.missing ≡ missing
+        → HaveEnded job old rows partitioner superstep parts.now
+        → KeepsEnd job old kept.entry
+        → values ≡ values_of job rows (configuration job rows superstep)) }
+    ensures rising { IfOk result (λ values. HasRisingIds values) }
+{
+    match kept {
+        None => values_at(alloc, partitioner, missing, parts, superstep),
+        Some(kept) => values_patched(alloc, partitioner, parts, kept, superstep),
+    }
+}
+
+/// The same beside a kept run: its values, with those of the vertices that may have ended otherwise.
+fn values_patched<V: Plain, M: Plain>(
+    alloc: Global,
+    partitioner: Partitioner,
+    parts: &[Option<Part<V, M>>],
+    kept: Ended<'_, V>,
+    superstep: Superstep,
+) -> Result<Sequence<(VertexId, V)>, Memory>
+    requires { HasRisingIds kept.values }
+    ensures values { IfOk result (λ values. (job : Job V M) (old : Option Rows) (rows : Rows)
+        → HaveEnded job old rows partitioner superstep parts.now
+        → KeepsEnd job old (Some kept.entry)
+        → values ≡ values_of job rows (configuration job rows superstep)) }
+    ensures rising { IfOk result (λ values. HasRisingIds values) }
+{
+    let ids = rising(apart_ids(alloc, parts, superstep, kept.supersteps())?);
+    let changes = changes_at(alloc, partitioner, parts, ids.as_slice(), superstep)?;
+    let values = patched(alloc, kept.values(), changes.as_slice())?;
+    Ok(Sequence::from_vec(values))
+}
+
+/// Ids outside of which all vertices ended as in an old run of so many supersteps.
+fn apart_ids<V: Plain, M: Plain>(
+    alloc: Global,
+    parts: &[Option<Part<V, M>>],
+    superstep: Superstep,
+    old: usize,
+) -> Result<Vec<VertexId>, Memory>
+    ensures { IfOk result (λ ids. ids.items ≡ flat_map (apart_in superstep old) parts.now) }
+{
+    let old = fitting(old)?;
+    let mut ids = Vec::new(alloc);
+    for part in parts {
+        if let Some(part) = part {
+            add_apart(alloc, &mut ids, part, superstep, old)?;
+        }
+    }
+    Ok(ids)
+}
+
+/// A count of supersteps. No memory holds more of them than fit the number.
+fn fitting(count: usize) -> Result<u32, Memory>
+    ensures { IfOk result (λ number. number ≡ count) }
+{
+    if count > u32::MAX as usize {
+        return Err(AllocError);
+    }
+    Ok(count as u32)
+}
+
+/// Adds those of one partition.
+fn add_apart<V: Plain, M: Plain>(
+    alloc: Global,
+    ids: &mut Vec<VertexId>,
+    part: &Part<V, M>,
+    superstep: Superstep,
+    old: u32,
+) -> Result<(), Memory>
+    ensures { OnOk result (ids.new.items ≡ ids.old.items ++ apart_in superstep old (Some part.now)) }
+{
+    add_all(ids, part.differing())?;
+    add_ran(alloc, ids, part.trace(), superstep.number(), old)?;
+    Ok(())
+}
+
+/// The values of these ids as a superstep begins, for those that have a state.
+fn changes_at<V: Plain, M: Plain>(
+    alloc: Global,
+    partitioner: Partitioner,
+    parts: &[Option<Part<V, M>>],
+    ids: &[VertexId],
+    superstep: Superstep,
+) -> Result<Vec<(VertexId, Option<V>)>, Memory>
+    ensures { IfOk result (λ changes. changes.items ≡ new_values partitioner superstep (traces_of parts.now) ids.now) }
+{
+    let mut states = all_states(alloc, parts)?;
+    let mut changes = Vec::with_capacity(alloc, ids.len())?;
+    for id in ids {
+        let state = state_by(partitioner, &mut states, *id, superstep);
+        changes.push((*id, value_of(alloc, state)?))?;
+    }
+    Ok(changes)
+}
+
+/// A copy of the value of a state, if there is one.
+fn value_of<V: Plain>(alloc: Global, state: Option<StateRef<'_, V>>) -> Result<Option<V>, Memory>
+    ensures { IfOk result (λ value. value ≡ option_map (λ x. x.value) state.entry) }
+{
+    match state {
+        Some(state) => Ok(Some(state.value().copy(alloc)?)),
+        None => Ok(None),
+    }
+}
+
+/// These values, with changes. Costs a copy of each.
+fn patched<V: Plain>(
+    alloc: Global,
+    values: &[(VertexId, V)],
+    changes: &[(VertexId, Option<V>)],
+) -> Result<Vec<(VertexId, V)>, Memory>
+    requires changes_rise { ChangesRise changes.now }
+    requires values_rise { HasRisingIds values.now }
+    ensures { IfOk result (λ made. made.items ≡ with_changes changes.now values.now) }
+{
+    let mut made = Vec::with_capacity(alloc, values.len())?;
+    let (mut todo, mut left) = (changes, values);
+    while let Some((change, later)) = todo.split_first() {
+        match left.split_first() {
+            Some((value, others)) if value.0 < change.0 => {
+                made.push((value.0, value.1.copy(alloc)?))?;
+                left = others;
+            }
+            Some((value, others)) if value.0 == change.0 => left = others,
+            _ => {
+                if let Some(value) = &change.1 {
+                    made.push((change.0, value.copy(alloc)?))?;
+                }
+                todo = later;
+            }
+        }
+    }
+    add_copies(alloc, &mut made, left)?;
+    Ok(made)
+}
+
+/// Adds copies of values.
+fn add_copies<V: Plain>(
+    alloc: Global,
+    made: &mut Vec<(VertexId, V)>,
+    values: &[(VertexId, V)],
+) -> Result<(), Memory>
+    ensures { OnOk result (made.new.items ≡ made.old.items ++ values.now) }
+{
+    for (id, value) in values {
+        made.push((*id, value.copy(alloc)?))?;
+    }
+    Ok(())
+}
+
+/// The same values again.
+pub fn copied_values<V: Plain>(
+    alloc: Global,
+    values: &Sequence<(VertexId, V)>,
+) -> Result<Sequence<(VertexId, V)>, Memory>
+    ensures { IfOk result (λ copy. copy ≡ values.now) }
+{
+    let mut copy = Vec::with_capacity(alloc, values.as_slice().len())?;
+    add_copies(alloc, &mut copy, values.as_slice())?;
+    Ok(Sequence::from_vec(copy))
+}
