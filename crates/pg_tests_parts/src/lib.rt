@@ -7,4 +7,6 @@
 #[cfg(test)]
 mod course;
 #[cfg(test)]
+mod orders;
+#[cfg(test)]
 mod runs;

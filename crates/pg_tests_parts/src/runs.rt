@@ -17,7 +17,11 @@ fn id(number: u64) -> Result<VertexId, Fail> {
 }
 
 // The graph of these vertices with their inputs, and of these edges.
-fn graph_of(alloc: Global, vertices: &[(u64, i64)], edges: &[(u64, u64)]) -> Result<Graph, Fail> {
+pub(crate) fn graph_of(
+    alloc: Global,
+    vertices: &[(u64, i64)],
+    edges: &[(u64, u64)],
+) -> Result<Graph, Fail> {
     let mut batch = Batch::new(alloc);
     for (number, input) in vertices {
         batch.push(Edit::AddVertex(id(*number)?, *input))?;
@@ -31,7 +35,7 @@ fn graph_of(alloc: Global, vertices: &[(u64, i64)], edges: &[(u64, u64)]) -> Res
 }
 
 // One step of a partition that is ready.
-fn step_once<P: Computation, C: MessageCombiner<P::Message>, M: MasterCompute>(
+pub(crate) fn step_once<P: Computation, C: MessageCombiner<P::Message>, M: MasterCompute>(
     alloc: Global,
     core: &mut Core<'_, P, C, M>,
     partition: PartitionId,
