@@ -1,4 +1,4 @@
-use Rattle.std.proofs.Common.{◌≡◌, ℕ, ◌++◌, ◌∷◌, [], true, length, set, take, Some, ap, sym, ◌∙◌, subst, subst₂, arith}
+use Rattle.std.proofs.Common.{◌≡◌, ℕ, ◌+◌, ◌++◌, ◌∷◌, [], true, length, set, take, Some, option_map, ap, sym, ◌∙◌, subst, subst₂, arith}
 use Rattle.pg_core.specs.Machine.{after, is_allowed}
 use Rattle.pg_core.specs.Progress.{HasPut, IsLawful, IsNext, job_by, with_step}
 use Rattle.pg_core.specs.declared.event.Event.TheVariants.{Step}
@@ -16,6 +16,15 @@ index_mut-requires g c =
     let steps = StepsFrom-from_allowed inside.state p allowed in
     let within = part_within inside.limits declared registered inside.registry inside.state inside.history.items inside.parts.items inside.shown.items inside.tally c.self.invariant p allowed p steps.from steps.at in
     omega (arith, c.number-2.ensures, within, inside.parts.ok)
+
+pub step-requires : goal.step-requires
+step-requires g c =
+    let inside = c.self.inside in
+    let p = c.args.partition in
+    let allowed = subst (λ core. is_allowed core.state (Step p) ≡ true) (sym c.self.view_is) c.requires.allowed in
+    let next = subst (λ core. IsNext core.limits.partitions core.state p c.args.part) (sym c.self.view_is) c.requires.next in
+    let steps = StepsFrom-from_allowed inside.state p allowed in
+    ap (option_map (λ (r : ℕ). r + 1)) steps.at ∙ ap Some (sym (c.place-next.ensures ∙ next.place_is steps.from steps.at))
 
 pub invariant_of-self-2 : goal.invariant_of-self-2
 invariant_of-self-2 g c =
