@@ -22,14 +22,14 @@ use Rattle.pg_model.proofs.LawsSharesAlike.{record_in_share}
 use Rattle.pg_model.specs.declared.record.Record.{Record}
 use Rattle.pg_model.specs.declared.view.View.{View}
 use Rattle.pg_course.specs.Candidates.{AreCallees, IsPlayed, awake_ids, own}
-use Rattle.pg_course.specs.Found.{is_run, reads}
+use Rattle.pg_course.specs.Found.{are_at_rest, is_run, reads}
 use Rattle.pg_course.specs.Lent.{HasMessages, as_sends, bundles_before}
 use Rattle.pg_course.specs.Lists.{reaching}
 use Rattle.pg_course.specs.Course.{AreAllChanged, AreTheOnly, HasStepped, Holding, Holds, IsBeside, IsSentTo, TellsBeside, differing_past, kept_length}
 use Rattle.pg_course.specs.Sending.{IsFresh, items_to, sends_of}
 use Rattle.pg_course.specs.declared.execution.Played.{Played}
 use Rattle.pg_course.specs.declared.found.Candidate.{Candidate}
-use Rattle.pg_course.proofs.Changing.{entries, entries-hold, entries-rise, told_at}
+use Rattle.pg_course.proofs.Changing.{entries, entries-fewer, entries-hold, entries-rise, keys_of-entries, told_at}
 use Rattle.pg_inbox.proofs.Replacing.{unchanged_at}
 use Rattle.std.specs.Map.{keys_of}
 use Rattle.std.proofs.lemmas.Option.{none-some}
@@ -40,6 +40,7 @@ use Rattle.pg_course.proofs.Sends.{sends_of_changes}
 use Rattle.pg_trace.proofs.Somes.{somes_are}
 use Rattle.pg_course.proofs.Stepping.{own_rise, reaching_next, stepped_holds}
 use Rattle.pg_course.proofs.Looking.{in_neither}
+use Rattle.pg_course.proofs.Sames.{at_rest_then}
 use Rattle.pg_model.specs.ByIds.{state_at}
 use Rattle.pg_trace.specs.Trace.{Trace, records_of, with_replaced}
 
@@ -78,19 +79,32 @@ module _ {V M : Type 0} (value_eq : V → V → Bool) (message_eq : M → M → 
   gives : Candidate V M → Option (Record V M)
   gives c = option_map job.program.step (reads view c.new)
 
+  -- each is listed, and has a change where it isn't at rest
+  moves : List (ℕ × Option (Record V M))
+  moves = entries (λ c. c.id) (λ c. false) gives cs
+
+  moved_are : played.moved.items ≡ keys_of moves
+  unfolding moves gives cs
+  moved_are = is.moved_are ∙ sym (keys_of-entries (λ c. c.id) (λ c. false) gives cs)
+
+  rests : Candidate V M → Bool
+  rests c = are_at_rest c.old c.new
+
   changes : List (ℕ × Option (Record V M))
-  changes = entries (λ c. c.id) (λ c. false) gives cs
+  changes = entries (λ c. c.id) rests gives cs
 
   changed : played.changes.items ≡ changes
-  unfolding changes gives cs
+  unfolding changes gives rests cs
   changed = is.changes_are
 
   new_records : with_changes changes [] ≡ records_in job rows n p s
-  unfolding changes gives
+  unfolding changes gives rests
   new_records =
-      records_are (λ c. false) gives [] (records_in job rows n p s) cs rise
-      (all_weaker (IsRead job rows n p s) (IsRight (λ c. false) gives [] (records_in job rows n p s)) (λ c r. record {
-        kept = λ h. absurd (true≢false (sym h));
+      records_are rests gives [] (records_in job rows n p s) cs rise
+      (all_weaker (IsRead job rows n p s) (IsRight rests gives [] (records_in job rows n p s)) (λ c r. record {
+        kept = λ h.
+            sym (ap (option_map job.program.step) (at_rest_then value_eq message_eq view view c.old c.new h).1)
+            ∙ gives_record job rows n p s some course.trace logs holds.run has within view sees c r;
         given_is = λ _. gives_record job rows n p s some course.trace logs holds.run has within view sees c r;
       }) cs read)
       (nothing_rises (Record V M)) (records_rise job rows n p s holds.run.rise)
@@ -123,7 +137,7 @@ module _ {V M : Type 0} (value_eq : V → V → Bool) (message_eq : M → M → 
 
   rises : ChangesRise played.changes.items
   unfolding changes
-  rises = subst ChangesRise (sym changed) (entries-rise (λ c. c.id) (λ c. false) gives cs rise)
+  rises = subst ChangesRise (sym changed) (entries-rise (λ c. c.id) rests gives cs rise)
 
   -- the records of the superstep are the run's
   records_left : with_changes played.changes.items (records_of s (reaching s course.trace)) ≡ records_in job rows n p s
@@ -141,24 +155,30 @@ module _ {V M : Type 0} (value_eq : V → V → Bool) (message_eq : M → M → 
       (somes_are played.changes.items rises ∙ (ap (λ l. with_changes l []) changed ∙ new_records))
 
   -- what the step changes: no other vertex has a record, and each other is as before
-  none_else : (id : ℕ) → has_id (keys_of played.changes.items) id ≡ false → value_at id (records_in job rows n p s) ≡ None
+  none_else : (id : ℕ) → has_id played.moved.items id ≡ false → value_at id (records_in job rows n p s) ≡ None
+  unfolding moves changes
   none_else id other =
       ap (value_at id) (sym records_left)
-      ∙ (unchanged_at played.changes.items (records_of s (reaching s course.trace)) id other ∙ ap (value_at id) (reaching_next s course.trace long).0)
+      ∙ (unchanged_at played.changes.items (records_of s (reaching s course.trace)) id unchanged ∙ ap (value_at id) (reaching_next s course.trace long).0)
     where
       long : length course.trace.records ≡ s
       long = let e = holds.supersteps in omega (arith, past, e)
+
+      unchanged : has_id (keys_of played.changes.items) id ≡ false
+      unchanged =
+          ap (λ l. has_id (keys_of l) id) changed
+          ∙ entries-fewer (λ c. c.id) (λ c. false) rests gives (λ c h. absurd (true≢false (sym h))) id cs (sym (ap (λ l. has_id l id) moved_are) ∙ other)
 
   no_inputs : (o : Option (Inputs V M)) → option_map job.program.step o ≡ None → o ≡ None
   no_inputs None e = refl
   no_inputs (Some i) e = absurd (none-some (job.program.step i) (sym e))
 
-  only : AreTheOnly job rows n p s (keys_of played.changes.items)
-  unfolding changes
+  only : AreTheOnly job rows n p s played.moved.items
+  unfolding moves
   only = record {
-    rise = rises;
-    mine = told_at (λ k. belongs n p k ≡ true) (keys_of played.changes.items)
-        (subst (λ l. AllByRecursion (λ k. belongs n p k ≡ true) (keys_of l)) (sym changed)
+    rise = subst (IsStrictlySortedBy nat_cmp) (sym moved_are) (entries-rise (λ c. c.id) (λ c. false) gives cs rise);
+    mine = told_at (λ k. belongs n p k ≡ true) played.moved.items
+        (subst (AllByRecursion (λ k. belongs n p k ≡ true)) (sym moved_are)
         (entries-hold (λ c. c.id) (λ c. false) gives (λ k. belongs n p k ≡ true) cs (all_weaker (IsRead job rows n p s) (λ c. belongs n p c.id ≡ true) (λ c r. r.mine) cs read)));
     records = none_else;
     states = λ id mine other.
@@ -167,7 +187,7 @@ module _ {V M : Type 0} (value_eq : V → V → Bool) (message_eq : M → M → 
   }
 
   pub stepped_alone : (after : Holding V M) (sent : List (Logged M))
-      → after ≡ record course { place = s + 1; trace = with_replaced s played.changes.items (reaching s course.trace); differing = differing_past course.kept course.differing (keys_of played.changes.items); changed = keys_of played.changes.items; beside_old = false }
+      → after ≡ record course { place = s + 1; trace = with_replaced s played.changes.items (reaching s course.trace); differing = differing_past course.kept course.differing played.moved.items; changed = played.moved.items; beside_old = false }
       → length sent ≡ n
       → ((q : ℕ) → q < n → IsFresh job.combining (items_to n q (flat_map sends_of played.changes.items)) (slice_get sent q))
       → HasStepped job value_eq message_eq kept rows n p s after sent before played.stage.meter
@@ -195,7 +215,7 @@ module _ {V M : Type 0} (value_eq : V → V → Bool) (message_eq : M → M → 
       long = let e = holds.supersteps in omega (arith, past, e)
 
       next_part : Holding V M
-      next_part = record course { place = s + 1; trace = with_replaced s played.changes.items (reaching s course.trace); differing = differing_past course.kept course.differing (keys_of played.changes.items); changed = keys_of played.changes.items; beside_old = false }
+      next_part = record course { place = s + 1; trace = with_replaced s played.changes.items (reaching s course.trace); differing = differing_past course.kept course.differing played.moved.items; changed = played.moved.items; beside_old = false }
 
       besides : (k : Option Rows) → kept_length job k ≤ s → IsBeside job k rows n p s course → IsBeside job k rows n p (s + 1) next_part
       besides None ends beside = beside
@@ -206,7 +226,7 @@ module _ {V M : Type 0} (value_eq : V → V → Bool) (message_eq : M → M → 
         later = λ t low high. absurd (omega (arith, low, high, ends));
         others = λ id mine other high. absurd (omega (arith, high, ends));
         as_ended = λ id mine other low.
-            let changed_ids = keys_of played.changes.items in
+            let changed_ids = played.moved.items in
             let both = differing_past course.kept course.differing changed_ids in
             let is_both : both ≡ course.differing ++ changed_ids = ap (λ (o : Option (Trace V M)). differing_past o course.differing changed_ids) beside.is in
             let apart = in_neither course.differing changed_ids both is_both id other in
@@ -230,7 +250,7 @@ module _ {V M : Type 0} (value_eq : V → V → Bool) (message_eq : M → M → 
   pub alone_steps : (job : Job V M) (kept : Option Rows) (rows : Rows) (n p s : ℕ) (logs : Slots M) → job.program ≡ program → job.combining ≡ combining
       → 0 < course.partitions → Holds job kept rows n p s course → kept_length job kept ≤ s → s < run_length job rows → HasMessages job rows n p s logs
       → bundles ≡ bundles_before logs n p s → view ≡ view_at job rows s → (after : Holding V M) (sent : List (Logged M))
-      → after ≡ record course { place = course.place + 1; trace = with_replaced course.place played.changes.items (reaching course.place course.trace); differing = differing_past course.kept course.differing (keys_of played.changes.items); changed = keys_of played.changes.items; beside_old = false }
+      → after ≡ record course { place = course.place + 1; trace = with_replaced course.place played.changes.items (reaching course.place course.trace); differing = differing_past course.kept course.differing played.moved.items; changed = played.moved.items; beside_old = false }
       → length sent ≡ course.partitions
       → ((q : ℕ) → q < course.partitions → IsFresh combining (items_to course.partitions q (flat_map sends_of played.changes.items)) (slice_get sent q))
       → HasStepped job value_eq message_eq kept rows n p s after sent before played.stage.meter
@@ -247,7 +267,7 @@ module _ {V M : Type 0} (value_eq : V → V → Bool) (message_eq : M → M → 
       (subst (λ k. IsPlayed value_eq message_eq job.program course.missing k view course.partitions course.partition course.place course.trace bundles None ids true false before played) (sym combining_is)
       (subst (λ k. IsPlayed value_eq message_eq k course.missing combining view course.partitions course.partition course.place course.trace bundles None ids true false before played) (sym program_is) is)))))))
       after sent
-      (further ∙ ap (λ k. record course { place = k + 1; trace = with_replaced k played.changes.items (reaching k course.trace); differing = differing_past course.kept course.differing (keys_of played.changes.items); changed = keys_of played.changes.items; beside_old = false }) here)
+      (further ∙ ap (λ k. record course { place = k + 1; trace = with_replaced k played.changes.items (reaching k course.trace); differing = differing_past course.kept course.differing played.moved.items; changed = played.moved.items; beside_old = false }) here)
       (to_each ∙ all)
       (λ q below. subst (λ k. IsFresh k (items_to n q (flat_map sends_of played.changes.items)) (slice_get sent q)) (sym combining_is)
       (subst (λ k. IsFresh combining (items_to k q (flat_map sends_of played.changes.items)) (slice_get sent q)) all (fresh q (subst (λ k. q < k) (sym all) below))))

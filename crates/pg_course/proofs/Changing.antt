@@ -86,6 +86,35 @@ module _ {C X : Type 0} (id_of : C → ℕ) (skips : C → Bool) (gives : C → 
           passed true = refl
           passed false = ap (λ (t : Bool). cond t (Some (gives c)) (value_at k (entries cs))) (at_key k (id_of c) ∙ f)
 
+  -- the ids at which entries stand
+  pub keys_of-entries : (cs : List C) → keys_of (entries cs) ≡ flat_map (λ c. cond (skips c) [] (id_of c ∷ [])) cs
+  keys_of-entries [] = refl
+  keys_of-entries (c ∷ cs) = by (skips c) (keys_of-entries cs)
+    where
+      by : (b : Bool) → keys_of (entries cs) ≡ flat_map (λ c. cond (skips c) [] (id_of c ∷ [])) cs
+          → keys_of (cond b [] ((id_of c, gives c) ∷ []) ++ entries cs) ≡ cond b [] (id_of c ∷ []) ++ flat_map (λ c. cond (skips c) [] (id_of c ∷ [])) cs
+      by true e = e
+      by false e = ap (λ l. id_of c ∷ l) e
+
+-- where more are skipped, entries stand at no other ids
+module _ {C X : Type 0} (id_of : C → ℕ) (skips more : C → Bool) (gives : C → X) (skipped : (c : C) → skips c ≡ true → more c ≡ true) where
+  pub entries-fewer : (id : ℕ) (cs : List C) → has_id (keys_of (entries id_of skips gives cs)) id ≡ false
+      → has_id (keys_of (entries id_of more gives cs)) id ≡ false
+  entries-fewer id [] h = refl
+  entries-fewer id (c ∷ cs) h = by (skips c) refl (more c) refl (id_of c == id) refl h (λ g. entries-fewer id cs g)
+    where
+      by : (b : Bool) → skips c ≡ b → (m : Bool) → more c ≡ m → (t : Bool) → (id_of c == id) ≡ t
+          → has_id (keys_of (cond b [] ((id_of c, gives c) ∷ []) ++ entries id_of skips gives cs)) id ≡ false
+          → (has_id (keys_of (entries id_of skips gives cs)) id ≡ false → has_id (keys_of (entries id_of more gives cs)) id ≡ false)
+          → has_id (keys_of (cond m [] ((id_of c, gives c) ∷ []) ++ entries id_of more gives cs)) id ≡ false
+      by true e true f t g h later = later h
+      by true e false f t g h later = absurd (true≢false (sym (skipped c e) ∙ f))
+      by false e m f true g h later = absurd (true≢false (sym (ap (λ (b : Bool). b || has_id (keys_of (entries id_of skips gives cs)) id) g) ∙ h))
+      by false e true f false g h later = later (sym (ap (λ (b : Bool). b || has_id (keys_of (entries id_of skips gives cs)) id) g) ∙ h)
+      by false e false f false g h later =
+          ap (λ (b : Bool). b || has_id (keys_of (entries id_of more gives cs)) id) g
+          ∙ later (sym (ap (λ (b : Bool). b || has_id (keys_of (entries id_of skips gives cs)) id) g) ∙ h)
+
 -- what holds of all ids holds of one of them
 pub told_at : (P : ℕ → Type 0) (ids : List ℕ) → AllByRecursion P ids → (id : ℕ) → has_id ids id ≡ true → P id
 told_at P [] h id there = absurd (true≢false (sym there))

@@ -13,7 +13,7 @@ use Rattle.pg_model.proofs.LawsInputs.{executed_from_inputs}
 use Rattle.pg_model.proofs.LawsPresent.{state_at-next}
 use Rattle.pg_model.specs.declared.configuration.Standing.{Standing}
 use Rattle.pg_model.specs.declared.view.View.{View}
-use Rattle.pg_course.specs.Found.{AreSameVertices, are_same_reading, is_same_vertex, is_same_view, reads}
+use Rattle.pg_course.specs.Found.{AreSameVertices, are_at_rest, are_same_reading, is_running, is_same_vertex, is_same_view, reads}
 use Rattle.pg_course.proofs.Coverage.{length_below}
 use Rattle.pg_trace.specs.OfRun.{HoldsRun}
 use Rattle.pg_trace.specs.Trace.{Trace}
@@ -45,6 +45,20 @@ module _ {V M : Type 0} (value_eq : V → V → Bool) (message_eq : M → M → 
   is_active_then view (Some x) (Some y) h =
       let a = both (is_active x) (is_active y && is_same_vertex value_eq message_eq x y) h in
       ap (λ (t : Bool). is_some (cond t (Some (inputs_of view y)) None)) (both (is_active y) (is_same_vertex value_eq message_eq x y) a.1).0
+
+  -- one that is executed in neither run reads nothing in both
+  pub at_rest_then : (old_view view : View) (o o' : Option (Standing V M)) → are_at_rest o o' ≡ true → (reads old_view o ≡ None) × (reads view o' ≡ None)
+  at_rest_then old_view view o o' h =
+      let parts = both (not (is_running o)) (not (is_running o')) h in
+      (nothing old_view o (off (is_running o) parts.0), nothing view o' (off (is_running o') parts.1))
+    where
+      off : (b : Bool) → not b ≡ true → b ≡ false
+      off true h = absurd (true≢false (sym h))
+      off false h = refl
+
+      nothing : (v : View) (o : Option (Standing V M)) → is_running o ≡ false → reads v o ≡ None
+      nothing v None h = refl
+      nothing v (Some x) h = ap (λ (t : Bool). cond t (Some (inputs_of v x)) None) h
 
   -- a vertex is executed just where it reads something else than in the old run
   pub runs_if_changed : (old_view view : View) (o o' : Option (Standing V M))

@@ -16,7 +16,7 @@ use Rattle.pg_model.specs.Share.{belongs, records_below, records_in}
 use Rattle.pg_model.specs.declared.record.Record.{Record}
 use Rattle.pg_model.specs.declared.view.View.{View}
 use Rattle.pg_course.specs.Candidates.{IsPlayed, own}
-use Rattle.pg_course.specs.Found.{is_taken_over, reads}
+use Rattle.pg_course.specs.Found.{is_left, reads}
 use Rattle.pg_course.specs.Lists.{reaching}
 use Rattle.pg_course.specs.declared.execution.Played.{Played}
 use Rattle.pg_course.proofs.Changing.{entries-rise}
@@ -109,5 +109,5 @@ pub played_rise : {V M : Type 0} (value_eq : V → V → Bool) (message_eq : M �
     → IsPlayed value_eq message_eq program missing combining view n p s trace bundles beside ids all seen before played → ChangesRise played.changes.items
 played_rise value_eq message_eq program missing combining view n p s trace bundles beside ids all seen before played is =
     subst ChangesRise (sym is.changes_are)
-    (entries-rise (λ c. c.id) (is_taken_over value_eq message_eq seen) (λ c. option_map program.step (reads view c.new)) is.candidates
+    (entries-rise (λ c. c.id) (is_left value_eq message_eq seen) (λ c. option_map program.step (reads view c.new)) is.candidates
     (subst (IsStrictlySortedBy nat_cmp) (sym is.ids_are) (own_rise n p is.callees is.are.rise)))

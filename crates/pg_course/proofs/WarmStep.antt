@@ -33,7 +33,7 @@ use Rattle.pg_model.specs.declared.view.View.{View}
 use Rattle.pg_model.specs.declared.view.Visible.{Visible}
 use Rattle.pg_course.specs.Candidates.{IsPlayed}
 use Rattle.pg_course.specs.Differing.{AreTold, differing, has_same_state}
-use Rattle.pg_course.specs.Found.{IsTold, is_run, is_same_view, is_taken_over, reads}
+use Rattle.pg_course.specs.Found.{IsTold, are_at_rest, is_left, is_run, is_same_view, is_taken_over, reads}
 use Rattle.pg_course.specs.Lent.{HasMessages, IsBesideOld, IsLentBeside, LendsLogs, as_sends, bundle_in, bundle_sent, bundles_before}
 use Rattle.pg_course.specs.Lists.{reaching}
 use Rattle.pg_course.specs.Course.{AreAllChanged, AreTheOnlyBeside, HasStepped, Holding, Holds, IsSentTo, kept_length}
@@ -43,7 +43,7 @@ use Rattle.pg_course.specs.declared.execution.Played.{Played}
 use Rattle.pg_course.specs.declared.found.Candidate.{Candidate}
 use Rattle.pg_course.proofs.BesideOld.{IsWarmStep, WasRead, all_are_read, all_were_read, are_candidates, candidates, candidates_rise, kept, kept_holds}
 use Rattle.pg_course.proofs.Callees.{not_key}
-use Rattle.pg_course.proofs.Changing.{IsEntry, entries, entries-hold, entries-rise, entries-some, told_at}
+use Rattle.pg_course.proofs.Changing.{IsEntry, entries, entries-fewer, entries-hold, entries-rise, entries-some, keys_of-entries, told_at}
 use Rattle.pg_inbox.proofs.Replacing.{unchanged_at}
 use Rattle.pg_course.proofs.Coverage.{records_held}
 use Rattle.pg_course.proofs.Delivery.{sent_rise}
@@ -51,7 +51,7 @@ use Rattle.pg_course.proofs.Finding.{state_in_run}
 use Rattle.pg_course.proofs.Mended.{sender_mended}
 use Rattle.pg_course.proofs.ReadVertices.{IsRead, gives_record, reads_inputs}
 use Rattle.pg_course.proofs.Recording.{IsCounted, IsRight, counted_are, no_other_record, records_are, records_rise}
-use Rattle.pg_course.proofs.Sames.{both, is_active_then, reads_same, runs_if_changed, same_next_state}
+use Rattle.pg_course.proofs.Sames.{at_rest_then, both, is_active_then, reads_same, runs_if_changed, same_next_state}
 use Rattle.pg_course.proofs.Sends.{by_records, sends_by_records}
 use Rattle.pg_course.proofs.Stepping.{stepped_holds}
 use Rattle.pg_trace.specs.OfRun.{HoldsRun}
@@ -115,6 +115,9 @@ module _ {V M : Type 0} (value_eq : V → V → Bool) (message_eq : M → M → 
   abbrev taken : Candidate V M → Bool
   taken c = is_taken_over value_eq message_eq (is_same_view old_view view) c
 
+  abbrev left : Candidate V M → Bool
+  left c = is_left value_eq message_eq (is_same_view old_view view) c
+
   abbrev gives : Candidate V M → Option (Record V M)
   gives c = option_map job.program.step (reads view c.new)
 
@@ -135,6 +138,16 @@ module _ {V M : Type 0} (value_eq : V → V → Bool) (message_eq : M → M → 
       let views : old_view ≡ view = (Decides-view_eq (λ (x y : ℕ). true) (λ (x y : ℕ). true) old_view view).0 parts.0 in
       sym (inputs_once c k) ∙ (ap (λ v. reads v c.old) views ∙ (reads_same value_eq message_eq view c.old c.new parts.1 (k.told parts.1) ∙ inputs_now c k))
 
+  -- and one that is left reads the same, or nothing in both
+  left_same : (c : Candidate V M) → IsKnown c → left c ≡ true → inputs_at job old s c.id ≡ inputs_at job rows s c.id
+  left_same c k h = by (taken c) refl h
+    where
+      by : (b : Bool) → taken c ≡ b → (b || are_at_rest c.old c.new) ≡ true → inputs_at job old s c.id ≡ inputs_at job rows s c.id
+      by true e g = same_inputs c k e
+      by false e g =
+          let none = at_rest_then value_eq message_eq old_view view c.old c.new g in
+          sym (inputs_once c k) ∙ (none.0 ∙ (sym none.1 ∙ inputs_now c k))
+
   -- ---- records
 
   held_before : records_of s course.trace ≡ records_in job old n p s
@@ -147,13 +160,20 @@ module _ {V M : Type 0} (value_eq : V → V → Bool) (message_eq : M → M → 
   rising = w.holds.run.rise
 
   abbrev changes : List (ℕ × Option (Record V M))
-  changes = entries (λ c. c.id) taken gives cs
+  changes = entries (λ c. c.id) left gives cs
 
   changed : played.changes.items ≡ changes
   changed = w.is.changes_are
 
   changes_rise : ChangesRise changes
-  changes_rise = entries-rise (λ c. c.id) taken gives cs rise
+  changes_rise = entries-rise (λ c. c.id) left gives cs rise
+
+  -- those that aren't taken over, at rest in both runs or not
+  abbrev moves : List (ℕ × Option (Record V M))
+  moves = entries (λ c. c.id) taken gives cs
+
+  moved_are : played.moved.items ≡ keys_of moves
+  moved_are = w.is.moved_are ∙ sym (keys_of-entries (λ c. c.id) taken gives cs)
 
   -- one that isn't a candidate, or of another partition, has the same record in both runs
   same_record : (id : ℕ) → has_id (map (λ c. c.id) cs) id ≡ false → value_at id (records_in job old n p s) ≡ value_at id (records_in job rows n p s)
@@ -163,18 +183,18 @@ module _ {V M : Type 0} (value_eq : V → V → Bool) (message_eq : M → M → 
         | inr apart ↦ no_other_record job old n p s id apart ∙ sym (no_other_record job rows n p s id apart)
       ]
 
-  right : (c : Candidate V M) → IsKnown c → IsRight taken gives (records_in job old n p s) (records_in job rows n p s) c
+  right : (c : Candidate V M) → IsKnown c → IsRight left gives (records_in job old n p s) (records_in job rows n p s) c
   right c k = record {
     kept = λ h.
         record_in_share job old n p s c.id old_rising there k.now.mine
-        ∙ (ap (option_map job.program.step) (same_inputs c k h) ∙ sym (record_in_share job rows n p s c.id rising w.within k.now.mine));
+        ∙ (ap (option_map job.program.step) (left_same c k h) ∙ sym (record_in_share job rows n p s c.id rising w.within k.now.mine));
     given_is = λ _. gives_record job rows n p s w.some course.trace logs w.holds.run w.has w.within view w.sees c k.now;
   }
 
   new_records : with_changes changes (records_in job old n p s) ≡ records_in job rows n p s
   new_records =
-      records_are taken gives (records_in job old n p s) (records_in job rows n p s) cs rise
-      (all_weaker IsKnown (IsRight taken gives (records_in job old n p s) (records_in job rows n p s)) right cs known)
+      records_are left gives (records_in job old n p s) (records_in job rows n p s) cs rise
+      (all_weaker IsKnown (IsRight left gives (records_in job old n p s) (records_in job rows n p s)) right cs known)
       (records_rise job old n p s old_rising) (records_rise job rows n p s rising) same_record
 
   -- ---- executions
@@ -260,14 +280,14 @@ module _ {V M : Type 0} (value_eq : V → V → Bool) (message_eq : M → M → 
       ∙ (ap (records_of t) reached ∙ w.holds.beside.later t (omega (arith, low)) high)
 
   -- the state of an id as the next superstep begins, as the trace has it
-  state_then : (id : ℕ) → belongs n p id ≡ true → s + 1 ≤ run_length job old → AreTold value_eq trace next_trace (s + 1) (keys_of played.changes.items)
-      → has_id (differing value_eq trace next_trace (s + 1) (keys_of played.changes.items)) id ≡ false
-      → has_id (keys_of played.changes.items) id ≡ true → state_at job old (s + 1) id ≡ state_at job rows (s + 1) id
+  state_then : (id : ℕ) → belongs n p id ≡ true → s + 1 ≤ run_length job old → AreTold value_eq trace next_trace (s + 1) played.moved.items
+      → has_id (differing value_eq trace next_trace (s + 1) played.moved.items) id ≡ false
+      → has_id played.moved.items id ≡ true → state_at job old (s + 1) id ≡ state_at job rows (s + 1) id
   state_then id mine within told apart is_changed =
       sym (state_of_run trace id (s + 1) job old n p (run_length job old) w.holds.beside.whole mine (omega (arith, within)))
       ∙ (told_at (λ k. has_same_state value_eq trace next_trace (s + 1) k ≡ true → trace_state_at k (s + 1) trace ≡ trace_state_at k (s + 1) next_trace)
-      (keys_of played.changes.items) told id is_changed
-      (not_differing (has_same_state value_eq trace next_trace (s + 1)) (keys_of played.changes.items) id is_changed apart)
+      played.moved.items told id is_changed
+      (not_differing (has_same_state value_eq trace next_trace (s + 1)) played.moved.items id is_changed apart)
       ∙ state_in_run job rows n p w.some next_trace logs id mine (s + 1) next_holds)
 
   -- one that is taken over is left the same state by the same inputs
@@ -281,15 +301,15 @@ module _ {V M : Type 0} (value_eq : V → V → Bool) (message_eq : M → M → 
       by None e = absurd (true≢false (sym active ∙ ap is_some (inputs_now c k ∙ e)))
       by (Some i) e = same_next_state job old rows s c.id i (same_inputs c k h ∙ e) e
 
-  state_unchanged : (id : ℕ) → belongs n p id ≡ true → has_id (keys_of played.changes.items) id ≡ false → state_at job old (suc s) id ≡ state_at job rows (suc s) id
+  state_unchanged : (id : ℕ) → belongs n p id ≡ true → has_id played.moved.items id ≡ false → state_at job old (suc s) id ≡ state_at job rows (suc s) id
   state_unchanged id mine same =
       elim (cases_Bool (has_id (map (λ c. c.id) cs) id)) [
         | inl one ↦ of_one (entries-some (λ c. c.id) taken gives IsKnown id cs rise known one)
         | inr other ↦ (IsTakenOver-from_IsUnaffected job old rows s id w.within (unaffected.others id mine other) there).state
       ]
     where
-      none_at : value_at id changes ≡ None
-      none_at = not_key id changes (sym (ap (λ l. has_id (keys_of l) id) changed) ∙ same)
+      none_at : value_at id moves ≡ None
+      none_at = not_key id moves (sym (ap (λ l. has_id l id) moved_are) ∙ same)
 
       of_one : IsEntry (λ c. c.id) taken gives IsKnown id cs → state_at job old (suc s) id ≡ state_at job rows (suc s) id
       of_one e = by (taken e.one) refl
@@ -301,30 +321,35 @@ module _ {V M : Type 0} (value_eq : V → V → Bool) (message_eq : M → M → 
   -- ---- the step
 
   -- what the step may have changed: all else is as in the old run
-  only : AreTheOnlyBeside job old rows n p s (keys_of played.changes.items)
+  only : AreTheOnlyBeside job old rows n p s played.moved.items
   only = record {
     there = there;
-    rise = subst ChangesRise (sym changed) changes_rise;
-    mine = told_at (λ k. belongs n p k ≡ true) (keys_of played.changes.items)
-        (subst (λ l. AllByRecursion (λ k. belongs n p k ≡ true) (keys_of l)) (sym changed)
+    rise = subst (IsStrictlySortedBy nat_cmp) (sym moved_are) (entries-rise (λ c. c.id) taken gives cs rise);
+    mine = told_at (λ k. belongs n p k ≡ true) played.moved.items
+        (subst (AllByRecursion (λ k. belongs n p k ≡ true)) (sym moved_are)
         (entries-hold (λ c. c.id) taken gives (λ k. belongs n p k ≡ true) cs (all_weaker IsKnown (λ c. belongs n p c.id ≡ true) (λ c k. k.now.mine) cs known)));
     records = λ id other.
-        sym (unchanged_at changes (records_in job old n p s) id (sym (ap (λ l. has_id (keys_of l) id) changed) ∙ other)) ∙ ap (value_at id) new_records;
+        sym (unchanged_at changes (records_in job old n p s) id (unchanged id other)) ∙ ap (value_at id) new_records;
     states = state_unchanged;
   }
+    where
+      unchanged : (id : ℕ) → has_id played.moved.items id ≡ false → has_id (keys_of changes) id ≡ false
+      unchanged id other =
+          entries-fewer (λ c. c.id) taken left gives (λ c h. ap (λ (b : Bool). b || are_at_rest c.old c.new) h) id cs
+          (sym (ap (λ l. has_id l id) moved_are) ∙ other)
 
   -- one that isn't found to differ has the state of the old run
-  alike_then : (id : ℕ) → belongs n p id ≡ true → s + 1 ≤ run_length job old → AreTold value_eq trace next_trace (s + 1) (keys_of played.changes.items)
-      → has_id (differing value_eq trace next_trace (s + 1) (keys_of played.changes.items)) id ≡ false → state_at job old (s + 1) id ≡ state_at job rows (s + 1) id
+  alike_then : (id : ℕ) → belongs n p id ≡ true → s + 1 ≤ run_length job old → AreTold value_eq trace next_trace (s + 1) played.moved.items
+      → has_id (differing value_eq trace next_trace (s + 1) played.moved.items) id ≡ false → state_at job old (s + 1) id ≡ state_at job rows (s + 1) id
   alike_then id mine within told apart =
-      elim (cases_Bool (has_id (keys_of played.changes.items) id)) [
+      elim (cases_Bool (has_id played.moved.items id)) [
         | inl is_changed ↦ state_then id mine within told apart is_changed
         | inr same ↦ subst (λ k. state_at job old k id ≡ state_at job rows k id) (let e : suc s ≡ s + 1 = omega arith in e) (state_unchanged id mine same)
       ]
 
   pub warm_step : (after : Holding V M) (sent : List (Logged M))
-      → after ≡ record course { place = s + 1; trace = next_trace; kept = Some trace; differing = differing value_eq trace next_trace (s + 1) (keys_of played.changes.items); changed = keys_of played.changes.items; beside_old = true }
-      → AreTold value_eq trace next_trace (s + 1) (keys_of played.changes.items)
+      → after ≡ record course { place = s + 1; trace = next_trace; kept = Some trace; differing = differing value_eq trace next_trace (s + 1) played.moved.items; changed = played.moved.items; beside_old = true }
+      → AreTold value_eq trace next_trace (s + 1) played.moved.items
       → length sent ≡ n
       → ((q : ℕ) → q < n → IsMended job.combining (items_to n q (flat_map (pairs_of trace s) played.changes.items)) (items_to n q (flat_map sends_of played.changes.items))
       (slot_at old_logs s p q) (slice_get sent q))
@@ -368,7 +393,7 @@ module _ {V M : Type 0} (value_eq : V → V → Bool) (message_eq : M → M → 
     (bundles : List (Parcels M)) (before : ℕ) (played : Played V M) (some : 0 < course.partitions) (is_kept : course.kept ≡ Some trace)
     (replayed : IsReplayed value_eq message_eq combining (record course { kept = None }) trace old_logs program logs old_view view bundles before played)
     (after : Holding V M) (sent : List (Logged M))
-    (concluded : IsConcluded value_eq message_eq combining (record course { kept = None }) trace old_logs played.changes.items after sent) where
+    (concluded : IsConcluded value_eq message_eq combining (record course { kept = None }) trace old_logs played.moved.items played.changes.items after sent) where
   module _ (job : Job V M) (old rows : Rows) (program_is : job.program ≡ program) (combining_is : job.combining ≡ combining) where
     abbrev StepsAt : ℕ → ℕ → ℕ → Type 0
     StepsAt n p s =
@@ -393,10 +418,10 @@ module _ {V M : Type 0} (value_eq : V → V → Bool) (message_eq : M → M → 
             (subst (λ k. IsReplayed value_eq message_eq k emptied holds.beside.trace old_logs program logs old_view view bundles before played) (sym combining_is)
             (subst (λ k. IsReplayed value_eq message_eq combining emptied k old_logs program logs old_view view bundles before played) same replayed))
 
-        ending : IsConcluded value_eq message_eq job.combining emptied holds.beside.trace old_logs played.changes.items after sent
+        ending : IsConcluded value_eq message_eq job.combining emptied holds.beside.trace old_logs played.moved.items played.changes.items after sent
         ending =
-            subst (λ k. IsConcluded value_eq message_eq k emptied holds.beside.trace old_logs played.changes.items after sent) (sym combining_is)
-            (subst (λ k. IsConcluded value_eq message_eq combining emptied k old_logs played.changes.items after sent) same concluded)
+            subst (λ k. IsConcluded value_eq message_eq k emptied holds.beside.trace old_logs played.moved.items played.changes.items after sent) (sym combining_is)
+            (subst (λ k. IsConcluded value_eq message_eq combining emptied k old_logs played.moved.items played.changes.items after sent) same concluded)
 
         seen : Bool
         seen = is_same_view old_view view

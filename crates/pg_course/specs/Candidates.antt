@@ -14,7 +14,7 @@ use Rattle.pg_model.specs.Share.{belongs}
 use Rattle.pg_model.specs.Superstep.{capped, has_id}
 use Rattle.pg_model.specs.declared.configuration.Standing.{Standing}
 use Rattle.pg_model.specs.declared.view.View.{View}
-use Rattle.pg_course.specs.Found.{IsFound, IsTold, change_of, is_run, vertex_of}
+use Rattle.pg_course.specs.Found.{IsFound, IsTold, change_of, is_run, moved_of, vertex_of}
 use Rattle.pg_course.specs.Lent.{AreSameTo}
 use Rattle.pg_course.specs.Lists.{awake_after}
 use Rattle.pg_course.specs.declared.execution.Played.{Played}
@@ -58,6 +58,7 @@ pub record IsPlayed {V M : Type 0} (value_eq : V → V → Bool) (message_eq : M
   pub new_are : map (λ c. c.new) candidates ≡ map (found_at program missing s trace) (own n p callees)
   pub beside_are : AllByRecursion (λ c. IsFoundBeside program missing combining s beside c.id c.old) candidates
   pub told : AllByRecursion (IsTold value_eq message_eq) candidates
+  pub moved_are : played.moved.items ≡ flat_map (moved_of value_eq message_eq seen) candidates
   pub changes_are : played.changes.items ≡ flat_map (change_of value_eq message_eq program view seen) candidates
   pub counted : played.stage.meter ≡ capped (before + count_by (is_run value_eq message_eq program view seen) candidates)
 

@@ -1,5 +1,5 @@
 -- The vertices that a step looks at, as it finds them in the new run and in the old one.
-use Rattle.std.specs.Prelude.{◌≡◌, ℕ, ◌==◌, ◌&&◌, not, Bool, true, false, cond, List, [], ◌∷◌, Option, None, Some, is_some}
+use Rattle.std.specs.Prelude.{◌≡◌, ℕ, ◌==◌, ◌&&◌, ◌||◌, not, Bool, true, false, cond, List, [], ◌∷◌, Option, None, Some, is_some}
 use Rattle.std.specs.Cmp.Lexicographic.{pointwise}
 use Rattle.std.specs.Option.{option_and_then, option_map}
 use Rattle.pg_graph.specs.declared.missing.Missing.{Missing}
@@ -35,6 +35,15 @@ module _ {V M : Type 0} where
   abbrev pub reads : View → Option (Standing V M) → Option (Inputs V M)
   reads view x = option_and_then (inputs_if_active view) x
 
+  -- it is there and active
+  abbrev pub is_running : Option (Standing V M) → Bool
+  is_running None = false
+  is_running (Some x) = is_active x
+
+  -- it is executed in neither of two runs
+  abbrev pub are_at_rest : Option (Standing V M) → Option (Standing V M) → Bool
+  are_at_rest old new = not (is_running old) && not (is_running new)
+
   -- identical but for their votes
   pub record IsSameVertex (x y : Standing V M) : Type 0 where
     pub id : x.state.id ≡ y.state.id
@@ -47,6 +56,10 @@ module _ {V M : Type 0} where
   AreSameVertices None new = Unit {0}
   AreSameVertices (Some x) None = Unit {0}
   AreSameVertices (Some x) (Some y) = IsSameVertex x y
+
+  -- what its execution makes of its record, or that there is none, unless the record is left
+  abbrev pub change_unless : Program V M → View → Bool → Candidate V M → List (ℕ × Option (Record V M))
+  change_unless program view left c = cond left [] ((c.id, option_map program.step (reads view c.new)) ∷ [])
 
   module _ (value_eq : V → V → Bool) (message_eq : M → M → Bool) where
     -- the same id, value, edges and messages
@@ -65,6 +78,14 @@ module _ {V M : Type 0} where
     abbrev pub is_taken_over : Bool → Candidate V M → Bool
     is_taken_over seen c = seen && are_same_reading c.old c.new
 
+    -- its record stays as it was in the old run: it reads the same, or nothing in both
+    abbrev pub is_left : Bool → Candidate V M → Bool
+    is_left seen c = is_taken_over seen c || are_at_rest c.old c.new
+
+    -- the ids of those that may be left another state than in the old run
+    abbrev pub moved_of : Bool → Candidate V M → List ℕ
+    moved_of seen c = cond (is_taken_over seen c) [] (c.id ∷ [])
+
     -- one that is found the same is
     abbrev pub IsTold : Candidate V M → Type 0
     IsTold c = are_same_reading c.old c.new ≡ true → AreSameVertices c.old c.new
@@ -72,7 +93,7 @@ module _ {V M : Type 0} where
     module _ (program : Program V M) (view : View) (seen : Bool) where
       -- what the superstep makes of its record: nothing new, or that of its execution, or none
       abbrev pub change_of : Candidate V M → List (ℕ × Option (Record V M))
-      change_of c = cond (is_taken_over seen c) [] ((c.id, option_map program.step (reads view c.new)) ∷ [])
+      change_of c = change_unless program view (is_left seen c) c
 
       -- it is executed
       abbrev pub is_run : Candidate V M → Bool

@@ -1,7 +1,6 @@
 -- What a step beside an old run makes of a partition, by what it looked at.
 use Rattle.std.specs.Prelude.{◌≡◌, ℕ, ◌+◌, ◌<◌, not, true, length, Bool, List, Option, Some}
 use Rattle.std.specs.List.{flat_map, slice_get}
-use Rattle.std.specs.Map.{keys_of}
 use Rattle.pg_inbox.specs.Alike.{DeliverAlike}
 use Rattle.pg_inbox.specs.Bundles.{Parcels}
 use Rattle.pg_inbox.specs.Logged.{Slots, slot_at}
@@ -32,17 +31,17 @@ module _ {V M : Type 0} (value_eq : V → V → Bool) (message_eq : M → M → 
         (Some (old, old_bundles)) ids (not (is_same_view old_view view)) (is_same_view old_view view) before played
     pub alike : (id : ℕ) → DeliverAlike combining id old_bundles bundles
 
-  -- the trace has the changed records, what the old run sent is mended, and the states where they changed are compared
-  pub record IsConcluded (changes : List (ℕ × Option (Record V M))) (after : Holding V M) (sent : List (Logged M)) : Type 0 where
+  -- the trace has the changed records, what the old run sent is mended, and the states where they may differ are compared
+  pub record IsConcluded (moved : List ℕ) (changes : List (ℕ × Option (Record V M))) (after : Holding V M) (sent : List (Logged M)) : Type 0 where
     pub part_is : after ≡ record course {
       place = course.place + 1;
       trace = with_replaced course.place changes (reaching course.place course.trace);
       kept = Some old;
-      differing = differing value_eq old (with_replaced course.place changes (reaching course.place course.trace)) (course.place + 1) (keys_of changes);
-      changed = keys_of changes;
+      differing = differing value_eq old (with_replaced course.place changes (reaching course.place course.trace)) (course.place + 1) moved;
+      changed = moved;
       beside_old = true;
     }
-    pub told : AreTold value_eq old (with_replaced course.place changes (reaching course.place course.trace)) (course.place + 1) (keys_of changes)
+    pub told : AreTold value_eq old (with_replaced course.place changes (reaching course.place course.trace)) (course.place + 1) moved
     pub to_each : length sent ≡ course.partitions
     pub sends : (q : ℕ) → q < course.partitions → IsMended combining
         (items_to course.partitions q (flat_map (pairs_of old course.place) changes)) (items_to course.partitions q (flat_map sends_of changes))

@@ -23,7 +23,7 @@ use crate::changed::rising;
 use crate::execution::{Played, Stage};
 use crate::reading::bundles_before;
 use crate::sent::fresh_bundles;
-use crate::warm::{concluded, ids_of, replayed};
+use crate::warm::{concluded, replayed};
 use crate::{Partitioner, Rows, Sent, Share};
 use pg_global::{MessageCombiner, Visible, view_of};
 use pg_graph::{Memory, Missing, PartitionId, Superstep, VertexId};
@@ -450,10 +450,13 @@ impl<V: Plain, M: Plain> Course<V, M> {
             ids.as_slice(),
             stage,
         )?;
-        let Played { changes, stage } = played;
+        let Played {
+            moved,
+            changes,
+            stage,
+        } = played;
         let Stage { meter, .. } = stage;
-        let changed = ids_of(alloc, changes.as_slice())?;
-        let differing = differing_past(&kept, differing, changed.as_slice())?;
+        let differing = differing_past(&kept, differing, moved.as_slice())?;
         let bundles = fresh_bundles(alloc, partitions, changes.as_slice(), combiner)?;
         let trace = with_records(alloc, trace, place, changes)?;
         let course = Course {
@@ -464,7 +467,7 @@ impl<V: Plain, M: Plain> Course<V, M> {
             trace,
             kept,
             differing,
-            changed,
+            changed: moved,
             beside_old: false,
         };
         Ok(Stepped {

@@ -5,7 +5,7 @@ ghost use Rattle.pg_course.specs.Differing.{AreTold, differing, has_same_rest, i
 
 use pg_graph::{Memory, Superstep, VertexId};
 use pg_program::Plain;
-use pg_trace::{StateRef, Trace};
+use pg_trace::{StateRef, States, Trace};
 use std::alloc::Global;
 
 /// Those of these vertices whose states as a superstep begins differ between two traces.
@@ -19,9 +19,11 @@ pub(crate) fn differing_among<V: Plain, M: Plain>(
     ensures differing { IfOk result (λ found. found.items ≡ differing V.PartialEq.eq old.now new.now superstep ids.now) }
     ensures told { IfOk result (λ _. AreTold V.PartialEq.eq old.now new.now superstep ids.now) }
 {
+    let mut old_states = old.states();
+    let mut new_states = new.states();
     let mut found = Vec::new(alloc);
     for id in ids {
-        add_if_differing(&mut found, old, new, superstep, *id)?;
+        add_if_differing(&mut found, &mut old_states, &mut new_states, superstep, *id)?;
     }
     Ok(found)
 }
@@ -29,13 +31,15 @@ pub(crate) fn differing_among<V: Plain, M: Plain>(
 /// Adds a vertex whose states differ.
 fn add_if_differing<V: Plain, M: Plain>(
     found: &mut Vec<VertexId>,
-    old: &Trace<V, M>,
-    new: &Trace<V, M>,
+    old: &mut States<'_, V, M>,
+    new: &mut States<'_, V, M>,
     superstep: Superstep,
     id: VertexId,
 ) -> Result<(), Memory>
-    ensures differing { OnOk result (found.new.items ≡ found.old.items ++ differing V.PartialEq.eq old.now new.now superstep (id ∷ [])) }
-    ensures told { AreTold V.PartialEq.eq old.now new.now superstep (id ∷ []) }
+    ensures differing { OnOk result (found.new.items ≡ found.old.items ++ differing V.PartialEq.eq old.old new.old superstep (id ∷ [])) }
+    ensures told { AreTold V.PartialEq.eq old.old new.old superstep (id ∷ []) }
+    ensures old_stays { old.new ≡ old.old }
+    ensures new_stays { new.new ≡ new.old }
 {
     if !is_same(old.state_at(id, superstep), new.state_at(id, superstep)) {
         found.push(id)?;

@@ -1,15 +1,15 @@
 //! The executions of a step.
-ghost use Rattle.std.specs.Prelude.{◌≡◌, ℕ, ◌+◌, ◌^◌, ◌<◌, cond, is_some, IfOk, OnOk, ◌++◌};
+ghost use Rattle.std.specs.Prelude.{◌≡◌, ℕ, ◌+◌, ◌^◌, ◌<◌, cond, is_some, IfOk, OnOk, [], ◌∷◌, ◌++◌};
 ghost use Rattle.std.specs.List.{count_by, flat_map};
 ghost use Rattle.std.specs.Option.{option_map};
 ghost use Rattle.pg_model.specs.Superstep.{capped, inputs_of};
-ghost use Rattle.pg_course.specs.Found.{change_of, is_run, reads};
+ghost use Rattle.pg_course.specs.Found.{are_at_rest, change_of, change_unless, is_run, moved_of, reads};
 ghost use Rattle.pg_program.specs.Context.{ShowsDeclared};
 
-use crate::found::{Candidate, are_same_reading, is_active};
+use crate::found::{Candidate, are_at_rest, are_same_reading, is_active};
 use pg_graph::{Memory, VertexId};
 use pg_model::{Record, Standing, View};
-use pg_program::{Computation, Cx, EdgeRoom, Meter, Vertex};
+use pg_program::{Computation, Cx, EdgeRoom, Meter, Plain, Vertex};
 use std::alloc::Global;
 
 /// What the executions of a superstep share: what they see, room for changed edges, and the meter.
@@ -20,9 +20,11 @@ pub(crate) struct Stage {
     pub meter: Meter,
 }
 
-/// What becomes of the records of vertices that a step looks at, and the stage after it.
+/// What a step makes of the vertices that it looks at: those that may be left another state than in the old run, what
+/// becomes of their records where it isn't what stands there, and the stage afterwards.
 #[derive(Drop)]
 pub(crate) struct Played<V, M> {
+    pub moved: Vec<VertexId>,
     pub changes: Vec<(VertexId, Option<Record<V, M>>)>,
     pub stage: Stage,
 }
@@ -38,18 +40,23 @@ pub(crate) fn play<P: Computation>(
 ) -> Result<Played<P::Value, P::Message>, Memory>
     requires shown { ShowsDeclared (P.program program.now).declared stage.view }
     requires fits { stage.meter < 2 ^ 64 }
+    ensures moved { IfOk result (λ p. p.moved.items
+        ≡ flat_map (moved_of P.Value.PartialEq.eq P.Message.PartialEq.eq seen) candidates.items) }
     ensures changes { IfOk result (λ p. p.changes.items
         ≡ flat_map (change_of P.Value.PartialEq.eq P.Message.PartialEq.eq (P.program program.now) stage.view seen) candidates.items) }
     ensures view { IfOk result (λ p. p.stage.view ≡ stage.view) }
     ensures meter { IfOk result (λ p. p.stage.meter
         ≡ capped (stage.meter + count_by (is_run P.Value.PartialEq.eq P.Message.PartialEq.eq (P.program program.now) stage.view seen) candidates.items)) }
 {
-    let mut changes = Vec::new(alloc);
-    let mut stage = stage;
+    let mut played = Played {
+        moved: Vec::new(alloc),
+        changes: Vec::new(alloc),
+        stage,
+    };
     for candidate in candidates {
-        stage = play_one(alloc, program, candidate, seen, stage, &mut changes)?;
+        played = play_one(alloc, program, candidate, seen, played)?;
     }
-    Ok(Played { changes, stage })
+    Ok(played)
 }
 
 /// Executes a vertex, if it is active and doesn't read what it read in the old run.
@@ -58,24 +65,71 @@ fn play_one<P: Computation>(
     program: &P,
     candidate: Candidate<P::Value, P::Message>,
     seen: bool,
-    stage: Stage,
-    changes: &mut Vec<(VertexId, Option<Record<P::Value, P::Message>>)>,
-) -> Result<Stage, Memory>
-    requires shown { ShowsDeclared (P.program program.now).declared stage.view }
-    requires fits { stage.meter < 2 ^ 64 }
-    ensures changes { OnOk result (changes.new.items
-        ≡ changes.old.items ++ change_of P.Value.PartialEq.eq P.Message.PartialEq.eq (P.program program.now) stage.view seen candidate) }
-    ensures view { IfOk result (λ s. s.view ≡ stage.view) }
-    ensures meter { IfOk result (λ s. s.meter
-        ≡ capped (stage.meter + cond (is_run P.Value.PartialEq.eq P.Message.PartialEq.eq (P.program program.now) stage.view seen candidate) 1 0)) }
+    played: Played<P::Value, P::Message>,
+) -> Result<Played<P::Value, P::Message>, Memory>
+    requires shown { ShowsDeclared (P.program program.now).declared played.stage.view }
+    requires fits { played.stage.meter < 2 ^ 64 }
+    ensures moved { IfOk result (λ p. p.moved.items
+        ≡ played.moved.items ++ moved_of P.Value.PartialEq.eq P.Message.PartialEq.eq seen candidate) }
+    ensures changes { IfOk result (λ p. p.changes.items
+        ≡ played.changes.items ++ change_of P.Value.PartialEq.eq P.Message.PartialEq.eq (P.program program.now) played.stage.view seen candidate) }
+    ensures view { IfOk result (λ p. p.stage.view ≡ played.stage.view) }
+    ensures meter { IfOk result (λ p. p.stage.meter
+        ≡ capped (played.stage.meter + cond (is_run P.Value.PartialEq.eq P.Message.PartialEq.eq (P.program program.now) played.stage.view seen candidate) 1 0)) }
 {
     if seen && are_same_reading(&candidate.old, &candidate.new) {
-        return Ok(stage);
+        return Ok(played);
     }
+    play_other(alloc, program, candidate, played)
+}
+
+/// Lists a vertex, and executes it if it is active.
+fn play_other<P: Computation>(
+    alloc: Global,
+    program: &P,
+    candidate: Candidate<P::Value, P::Message>,
+    played: Played<P::Value, P::Message>,
+) -> Result<Played<P::Value, P::Message>, Memory>
+    requires shown { ShowsDeclared (P.program program.now).declared played.stage.view }
+    requires fits { played.stage.meter < 2 ^ 64 }
+    ensures moved { IfOk result (λ p. p.moved.items ≡ played.moved.items ++ candidate.id ∷ []) }
+    ensures changes { IfOk result (λ p. p.changes.items
+        ≡ played.changes.items ++ change_unless (P.program program.now) played.stage.view (are_at_rest candidate.old candidate.new) candidate) }
+    ensures view { IfOk result (λ p. p.stage.view ≡ played.stage.view) }
+    ensures meter { IfOk result (λ p. p.stage.meter
+        ≡ capped (played.stage.meter + cond (is_some (reads played.stage.view candidate.new)) 1 0)) }
+{
+    let rests = are_at_rest(&candidate.old, &candidate.new);
     let Candidate { id, old: _, new } = candidate;
+    let Played {
+        mut moved,
+        mut changes,
+        stage,
+    } = played;
+    moved.push(id)?;
     let (given, stage) = given_by(alloc, program, new, stage)?;
+    push_unless(&mut changes, rests, id, given)?;
+    Ok(Played {
+        moved,
+        changes,
+        stage,
+    })
+}
+
+/// Adds what becomes of a record, unless nothing becomes of it.
+fn push_unless<V: Plain, M: Plain>(
+    changes: &mut Vec<(VertexId, Option<Record<V, M>>)>,
+    rests: bool,
+    id: VertexId,
+    given: Option<Record<V, M>>,
+) -> Result<(), Memory>
+    ensures { OnOk result (changes.new.items ≡ changes.old.items ++ cond rests [] ((id, given) ∷ [])) }
+{
+    if rests {
+        return Ok(());
+    }
     changes.push((id, given))?;
-    Ok(stage)
+    Ok(())
 }
 
 /// What the execution of a vertex gives, if it is there and active.

@@ -4,7 +4,7 @@ ghost use Rattle.std.specs.Cmp.Lexicographic.{pointwise};
 ghost use Rattle.std.specs.List.{AllByRecursion};
 ghost use Rattle.pg_model.specs.Needed.{edge_eq};
 ghost use Rattle.pg_model.specs.Superstep.{is_active, made};
-ghost use Rattle.pg_course.specs.Found.{AreSameVertices, IsSameVertex, are_same_reading, is_same_vertex, vertex_of};
+ghost use Rattle.pg_course.specs.Found.{AreSameVertices, IsSameVertex, are_at_rest, are_same_reading, is_running, is_same_vertex, vertex_of};
 ghost use Rattle.pg_trace.specs.Trace.{state_at};
 
 use pg_graph::{Edges, Memory, Missing, Superstep, VertexId};
@@ -102,6 +102,23 @@ pub(crate) fn are_same_reading<V: Plain, M: Plain>(
     match (old, new) {
         (Some(old), Some(new)) => is_active(old) && is_active(new) && is_same_vertex(old, new),
         _ => false,
+    }
+}
+
+/// Whether a vertex is executed in neither of two runs.
+pub(crate) fn are_at_rest<V, M>(old: &Option<Standing<V, M>>, new: &Option<Standing<V, M>>) -> bool
+    ensures { result ≡ are_at_rest old.now new.now }
+{
+    !is_running(old) && !is_running(new)
+}
+
+/// Whether a vertex is there and executed.
+fn is_running<V, M>(vertex: &Option<Standing<V, M>>) -> bool
+    ensures { result ≡ is_running vertex.now }
+{
+    match vertex {
+        Some(vertex) => is_active(vertex),
+        None => false,
     }
 }
 

@@ -1,6 +1,5 @@
 //! A step beside an old run: what stands there is taken over where nothing has changed.
 ghost use Rattle.std.specs.Prelude.{ℕ, ◌+◌, ◌^◌, ◌<◌, ◌≡◌, IfOk};
-ghost use Rattle.std.specs.Map.{keys_of};
 ghost use Rattle.pg_map.specs.Entries.{ChangesRise};
 ghost use Rattle.pg_course.specs.Warm.{IsConcluded, IsReplayed};
 ghost use Rattle.pg_program.specs.Context.{ShowsDeclared};
@@ -14,9 +13,9 @@ use crate::reading::bundles_before;
 use crate::sent::mended_bundles;
 use crate::{Course, Sent, Share};
 use pg_global::MessageCombiner;
-use pg_graph::{Memory, Superstep, VertexId};
+use pg_graph::{Memory, Superstep};
 use pg_inbox::{Bundle, Logs, tell_alike};
-use pg_model::{Record, View};
+use pg_model::View;
 use pg_program::{Computation, Plain};
 use pg_trace::Trace;
 use std::alloc::Global;
@@ -94,7 +93,7 @@ pub(crate) fn concluded<V: Plain, M: Plain, C: MessageCombiner<M>>(
     requires counts { course.place + 1 < 2 ^ 32 }
     ensures concluded { IfOk result (λ stepped.
         IsConcluded V.PartialEq.eq M.PartialEq.eq (C.combining combiner.now) course old old_logs.now
-        played.changes.items stepped.course stepped.sent) }
+        played.moved.items played.changes.items stepped.course stepped.sent) }
     ensures counted { IfOk result (λ stepped. stepped.meter ≡ played.stage.meter) }
 {
     let Course {
@@ -105,9 +104,12 @@ pub(crate) fn concluded<V: Plain, M: Plain, C: MessageCombiner<M>>(
         trace,
         ..
     } = course;
-    let Played { changes, stage } = played;
+    let Played {
+        moved,
+        changes,
+        stage,
+    } = played;
     let Stage { meter, .. } = stage;
-    let ids = ids_of(alloc, changes.as_slice())?;
     let bundles = mended_bundles(
         alloc,
         partitions,
@@ -120,7 +122,7 @@ pub(crate) fn concluded<V: Plain, M: Plain, C: MessageCombiner<M>>(
     )?;
     let trace = with_records(alloc, trace, place, changes)?;
     let place = Superstep::new(place.number() + 1);
-    let differing = differing_among(alloc, &old, &trace, place, ids.as_slice())?;
+    let differing = differing_among(alloc, &old, &trace, place, moved.as_slice())?;
     let course = Course {
         partition,
         partitions,
@@ -129,7 +131,7 @@ pub(crate) fn concluded<V: Plain, M: Plain, C: MessageCombiner<M>>(
         trace,
         kept: Some(old),
         differing,
-        changed: ids,
+        changed: moved,
         beside_old: true,
     };
     Ok(Stepped {
@@ -137,18 +139,4 @@ pub(crate) fn concluded<V: Plain, M: Plain, C: MessageCombiner<M>>(
         sent: Sent::of(bundles),
         meter,
     })
-}
-
-/// The vertices of these changes.
-pub(crate) fn ids_of<V: Plain, M: Plain>(
-    alloc: Global,
-    changes: &[(VertexId, Option<Record<V, M>>)],
-) -> Result<Vec<VertexId>, Memory>
-    ensures { IfOk result (λ ids. ids.items ≡ keys_of changes.now) }
-{
-    let mut ids = Vec::with_capacity(alloc, changes.len())?;
-    for (id, _) in changes {
-        ids.push(*id)?;
-    }
-    Ok(ids)
 }

@@ -14,7 +14,7 @@ use pg_global::{AnyCombiner, MessageCombiner, NoMaster, Registry, Visible};
 use pg_graph::{Batch, Edit, Graph, Memory, Missing, PartitionId, Superstep, VertexId};
 use pg_inbox::Logs;
 use pg_model::Sequence;
-use pg_part::{Left, Part, Partitioner};
+use pg_part::{Left, Part, Partitioner, Sent};
 use pg_program::{Computation, Meter, Plain, Tally};
 use pg_scratch::run;
 use std::alloc::{AllocError, Global};
@@ -123,7 +123,60 @@ fn nanos(took: Duration) -> u64 {
     u64::try_from(took.as_nanos()).unwrap_or(u64::MAX)
 }
 
-/// Makes the step of superstep 0, beside what an old run sent in it where that is lent, and takes the time.
+/// Makes the step of superstep 0, and takes the time in nanoseconds.
+fn timed_step<P: Computation, C: MessageCombiner<P::Message>, R: Clock>(
+    rt: &R,
+    alloc: Global,
+    part: Part<P::Value, P::Message>,
+    visible: &Visible,
+    old_logs: Option<&Logs<P::Message>>,
+    old_visible: Option<&Visible>,
+    registry: &Registry,
+    program: &P,
+    combiner: &C,
+    meter: &mut Meter,
+) -> io::Result<(Part<P::Value, P::Message>, Sent<P::Message>, u64)>
+    requires declared { has_places (P.program program.now).declared 0 ≡ true }
+    requires shown { length visible.now.values ≡ 0 }
+    requires shown_before { IfSome (option_copied old_visible) (λ v. length v.values ≡ 0) }
+{
+    if part.place().number() > 0 {
+        return Err(AllocError.into());
+    }
+    let logs = Logs::new(alloc);
+    let started = Instant::now(rt)?;
+    let stepped = part.step(
+        alloc,
+        &logs,
+        visible,
+        old_logs,
+        old_visible,
+        registry,
+        program,
+        combiner,
+        meter,
+    );
+    let took = started.elapsed(rt)?;
+    let (part, sent) = stepped.map_err(|_| AllocError)?;
+    Ok((part, sent, nanos(took)))
+}
+
+/// The logs of superstep 0, in which the only partition sent this.
+fn logs_of<M: Plain>(alloc: Global, sent: Sent<M>) -> Result<Logs<M>, Memory> {
+    let (place, partition) = (Superstep::new(0), PartitionId::new(0));
+    let mut logs = Logs::new(alloc);
+    for logged in sent.into_bundles() {
+        logs.put(alloc, place, partition, partition, logged)?;
+    }
+    Ok(logs)
+}
+
+/// What a partition leaves of a run of one superstep.
+fn left_of<V: Plain, M: Plain>(alloc: Global, part: Part<V, M>) -> Result<Left<V, M>, Memory> {
+    part.leave(alloc, Superstep::new(1))
+}
+
+/// Makes the step of superstep 0, beside what an old run sent in it where that is lent.
 fn step<P: Computation, C: MessageCombiner<P::Message>, R: Clock>(
     rt: &R,
     alloc: Global,
@@ -136,15 +189,12 @@ fn step<P: Computation, C: MessageCombiner<P::Message>, R: Clock>(
 ) -> io::Result<Ran<P::Value, P::Message>>
     requires { has_places (P.program program.now).declared 0 ≡ true }
 {
-    let (visible, logs) = (showing(alloc), Logs::new(alloc));
+    let visible = showing(alloc);
     let mut meter = Meter::new();
-    if part.place().number() > 0 {
-        return Err(AllocError.into());
-    }
-    let started = Instant::now(rt)?;
-    let stepped = part.step(
+    let (part, sent, nanos) = timed_step(
+        rt,
         alloc,
-        &logs,
+        part,
         &visible,
         lent_if(beside, old_logs),
         lent_if(beside, &visible),
@@ -152,20 +202,48 @@ fn step<P: Computation, C: MessageCombiner<P::Message>, R: Clock>(
         program,
         combiner,
         &mut meter,
-    );
-    let took = started.elapsed(rt)?;
-    let (part, sent) = stepped.map_err(|_| AllocError)?;
-    let (place, partition) = (Superstep::new(0), PartitionId::new(0));
-    let mut logs = Logs::new(alloc);
-    for logged in sent.into_bundles() {
-        logs.put(alloc, place, partition, partition, logged)?;
-    }
+    )?;
     Ok(Ran {
-        left: part.leave(alloc, Superstep::new(1))?,
-        logs,
-        nanos: nanos(took),
+        left: left_of(alloc, part)?,
+        logs: logs_of(alloc, sent)?,
+        nanos,
         calls: meter.count(),
     })
+}
+
+/// The only partition of a graph, as a run from scratch begins.
+fn begun<P: Computation>(
+    alloc: Global,
+    partitioner: Partitioner,
+    graph: &Graph,
+    registry: &Registry,
+    program: &P,
+) -> Result<Part<P::Value, P::Message>, Memory> {
+    let rows = partitioner.rows(graph, PartitionId::new(0));
+    Part::begin(alloc, rows, Missing::Drop, registry, program)
+}
+
+/// The same beside a run on a graph in which these vertices had other inputs.
+fn begun_beside<P: Computation>(
+    alloc: Global,
+    partitioner: Partitioner,
+    graph: &Graph,
+    touched: &[VertexId],
+    left: Left<P::Value, P::Message>,
+    registry: &Registry,
+    program: &P,
+) -> Result<Part<P::Value, P::Message>, Memory> {
+    let rows = partitioner.rows(graph, PartitionId::new(0));
+    Part::begin_beside(
+        alloc,
+        rows,
+        Missing::Drop,
+        registry,
+        left,
+        touched,
+        &[],
+        program,
+    )
 }
 
 /// A run from scratch of one superstep.
@@ -180,8 +258,7 @@ fn first_run<P: Computation, C: MessageCombiner<P::Message>, R: Clock>(
 ) -> io::Result<Ran<P::Value, P::Message>>
     requires { has_places (P.program program.now).declared 0 ≡ true }
 {
-    let rows = partitioner.rows(graph, PartitionId::new(0));
-    let part = Part::begin(alloc, rows, Missing::Drop, registry, program)?;
+    let part = begun(alloc, partitioner, graph, registry, program)?;
     let none = Logs::new(alloc);
     step(rt, alloc, part, false, &none, registry, program, combiner)
 }
@@ -201,17 +278,7 @@ fn next_run<P: Computation, C: MessageCombiner<P::Message>, R: Clock>(
     requires { has_places (P.program program.now).declared 0 ≡ true }
 {
     let Ran { left, logs, .. } = before;
-    let rows = partitioner.rows(graph, PartitionId::new(0));
-    let part = Part::begin_beside(
-        alloc,
-        rows,
-        Missing::Drop,
-        registry,
-        left,
-        touched,
-        &[],
-        program,
-    )?;
+    let part = begun_beside(alloc, partitioner, graph, touched, left, registry, program)?;
     step(rt, alloc, part, true, &logs, registry, program, combiner)
 }
 

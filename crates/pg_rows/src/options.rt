@@ -1,5 +1,5 @@
 // Runs of the program as the options of its command line ask for them.
-use pregeld::start;
+use crate::runs::started;
 use std::alloc::Global;
 use std::process::Abort;
 
@@ -15,7 +15,7 @@ fn is_printed(rt: &impl Abort, alloc: Global, row: &Row<'_>) {
     let mut reader = row.input;
     let mut writer = Vec::new(alloc);
     let mut errors = Vec::new(alloc);
-    let status = start(alloc, row.words, &mut reader, &mut writer, &mut errors);
+    let status = started(alloc, row.words, &mut reader, &mut writer, &mut errors);
     assert_eq!(rt; writer.as_slice(), row.output.as_bytes());
     assert!(rt; errors.is_empty());
     assert_eq!(rt; status, 0);
@@ -92,7 +92,7 @@ fn are_at_fault(rt: &impl Abort, alloc: Global, words: &[&str]) {
     let mut reader = TWO_HOPS;
     let mut writer = Vec::new(alloc);
     let mut errors = Vec::new(alloc);
-    let status = start(alloc, words, &mut reader, &mut writer, &mut errors);
+    let status = started(alloc, words, &mut reader, &mut writer, &mut errors);
     assert_eq!(rt; status, 2);
     assert_eq!(rt; reader, TWO_HOPS);
     assert!(rt; writer.is_empty());

@@ -5,11 +5,32 @@ use pg_graph::VertexId;
 use pg_ready::{ReadyMaster, ReadyProgram, Sssp};
 use pregeld::{ReadyService, ServeFault, Service, serve, start};
 use std::alloc::Global;
-use std::io::Write;
+use std::io::{BufRead, Write};
 use std::process::Abort;
 use std::test::Fail;
 
 const TWO_HOPS: &[u8] = b"import list 2\n1 2 5\n2 3\nrefresh\ndump\n";
+
+// The program, by any streams: so the prover doesn't go through what it promises of the bytes of these.
+pub(crate) fn started<R: BufRead, W: Write, E: Write>(
+    alloc: Global,
+    words: &[&str],
+    reader: &mut R,
+    writer: &mut W,
+    errors: &mut E,
+) -> u8 {
+    start(alloc, words, reader, writer, errors)
+}
+
+// The same of a session.
+pub(crate) fn served<R: BufRead, W: Write>(
+    alloc: Global,
+    reader: &mut R,
+    writer: &mut W,
+    service: &mut ReadyService,
+) -> Result<(), ServeFault> {
+    serve(alloc, reader, writer, service)
+}
 
 // What the program is given, and what it has to answer.
 #[derive(Clone, Copy)]
@@ -26,7 +47,7 @@ pub(crate) fn answers(rt: &impl Abort, alloc: Global, session: &Session<'_>) {
     let mut reader = session.input;
     let mut writer = Vec::new(alloc);
     let mut errors = Vec::new(alloc);
-    let status = start(alloc, session.words, &mut reader, &mut writer, &mut errors);
+    let status = started(alloc, session.words, &mut reader, &mut writer, &mut errors);
     assert_eq!(rt; status, session.status);
     assert_eq!(rt; writer.as_slice(), session.output.as_bytes());
     assert_eq!(rt; errors.as_slice(), session.errors.as_bytes());
@@ -130,7 +151,7 @@ fn help_of(rt: &impl Abort, alloc: Global, name: &str) -> Vec<u8> {
     let mut writer = Vec::new(alloc);
     let mut errors = Vec::new(alloc);
     let words = [name, "--help"];
-    let status = start(alloc, &words, &mut reader, &mut writer, &mut errors);
+    let status = started(alloc, &words, &mut reader, &mut writer, &mut errors);
     assert_eq!(rt; status, 0);
     assert_eq!(rt; reader, TWO_HOPS);
     assert!(rt; errors.is_empty());
@@ -173,7 +194,7 @@ fn a_writer_that_is_full(rt: HostRuntime) -> Result<(), Fail> {
     let mut reader: &[u8] = TWO_HOPS;
     let mut room = [0_u8; 4];
     let mut writer = room.as_mut_slice();
-    let served = serve(alloc, &mut reader, &mut writer, &mut service);
+    let served = served(alloc, &mut reader, &mut writer, &mut service);
     assert_eq!(&rt; served, Err(ServeFault::Write));
     assert_eq!(&rt; service.graph().vertices(), 3);
     assert!(&rt; service.answers().is_none());

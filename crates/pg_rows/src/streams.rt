@@ -1,6 +1,6 @@
 // Sessions whose reader or writer fails in mid-stream.
-use crate::runs::shortest_paths;
-use pregeld::{ReadyService, ServeFault, serve};
+use crate::runs::{served, shortest_paths};
+use pregeld::{ReadyService, ServeFault};
 use std::alloc::Global;
 use std::io;
 use std::io::{BufReader, Read, Write};
@@ -106,7 +106,7 @@ fn read_fails_at(rt: &impl Abort, alloc: Global, calls: usize) -> Result<bool, F
     };
     let mut reader = BufReader::with_capacity(alloc, 16, broken)?;
     let mut writer = Vec::new(alloc);
-    let served = serve(alloc, &mut reader, &mut writer, &mut service);
+    let served = served(alloc, &mut reader, &mut writer, &mut service);
     let read = INPUT.get(..calls).unwrap_or(INPUT);
     let lines = ANSWERED[lines_of(read).min(17)];
     assert!(rt; OUTPUT.starts_with(writer.as_slice()));
@@ -143,7 +143,7 @@ fn write_fails_at(rt: &impl Abort, alloc: Global, calls: usize) -> Result<bool, 
         written: Vec::new(alloc),
         calls_left: calls,
     };
-    let served = serve(alloc, &mut reader, &mut writer, &mut service);
+    let served = served(alloc, &mut reader, &mut writer, &mut service);
     let written = writer.written.as_slice();
     assert!(rt; OUTPUT.starts_with(written));
     if served == Ok(()) {

@@ -1,6 +1,6 @@
 // Each answer is written before the next line is read.
-use crate::runs::shortest_paths;
-use pregeld::{ServeFault, serve};
+use crate::runs::{served, shortest_paths};
+use pregeld::ServeFault;
 use std::alloc::Global;
 use std::cell::Cell;
 use std::io;
@@ -78,7 +78,7 @@ impl<'a> Write for TurnWriter<'a> {
 }
 
 // Serves the turns, and gives how many answers were handed on.
-fn served(alloc: Global, flushes: bool) -> Result<(Result<(), ServeFault>, usize), Fail> {
+fn served_in_turns(alloc: Global, flushes: bool) -> Result<(Result<(), ServeFault>, usize), Fail> {
     let mut service = shortest_paths(alloc)?;
     let handed_on = Cell::new(0);
     let turns = TurnReader {
@@ -91,13 +91,13 @@ fn served(alloc: Global, flushes: bool) -> Result<(Result<(), ServeFault>, usize
         handed_on: &handed_on,
         flushes,
     };
-    let served = serve(alloc, &mut reader, &mut writer, &mut service);
-    Ok((served, handed_on.get()))
+    let ended = served(alloc, &mut reader, &mut writer, &mut service);
+    Ok((ended, handed_on.get()))
 }
 
 #[test]
 fn each_answer_comes_before_the_next_line(rt: HostRuntime) -> Result<(), Fail> {
-    let answered = served(rt.alloc(), true)?;
+    let answered = served_in_turns(rt.alloc(), true)?;
     assert_eq!(&rt; answered, (Ok(()), ANSWERS));
     Ok(())
 }
@@ -105,7 +105,7 @@ fn each_answer_comes_before_the_next_line(rt: HostRuntime) -> Result<(), Fail> {
 // The reader does look: where nothing is handed on, it fails once an answer is due.
 #[test]
 fn an_answer_that_is_kept_is_missed(rt: HostRuntime) -> Result<(), Fail> {
-    let missed = served(rt.alloc(), false)?;
+    let missed = served_in_turns(rt.alloc(), false)?;
     assert_eq!(&rt; missed, (Err(ServeFault::Read), 0));
     Ok(())
 }

@@ -2,9 +2,10 @@ ghost use Rattle.std.specs.Prelude.{◌≡◌, ◌≤◌, length, true, IfSome};
 ghost use Rattle.std.specs.Option.{option_copied};
 ghost use Rattle.pg_global.specs.Master.{has_places};
 
-use pg_course::{Course, Partitioner};
+use crate::runs::{graph_of, id};
+use pg_course::{Course, Partitioner, Sent};
 use pg_global::{AnyCombiner, MessageCombiner, Visible};
-use pg_graph::{Batch, Edit, Graph, Missing, PartitionId, Superstep, VertexId};
+use pg_graph::{Graph, Missing, PartitionId, Superstep, VertexId};
 use pg_inbox::Logs;
 use pg_model::Sequence;
 use pg_program::{Computation, Meter, Plain, Tally};
@@ -12,24 +13,6 @@ use std::alloc::Global;
 use std::fmt::Write;
 use std::process::Abort;
 use std::test::Fail;
-
-fn id(number: u64) -> Result<VertexId, Fail> {
-    Ok(VertexId::new(number).ok_or("a number above 2^63 - 1")?)
-}
-
-// The graph of these vertices with their inputs, and of these edges.
-fn graph_of(alloc: Global, vertices: &[(u64, i64)], edges: &[(u64, u64)]) -> Result<Graph, Fail> {
-    let mut batch = Batch::new(alloc);
-    for (number, input) in vertices {
-        batch.push(Edit::AddVertex(id(*number)?, *input))?;
-    }
-    for (source, target) in edges {
-        batch.push(Edit::AddEdge(id(*source)?, id(*target)?, 1))?;
-    }
-    let mut graph = Graph::new(alloc);
-    graph.apply(alloc, &batch)?;
-    Ok(graph)
-}
 
 // What is visible where nothing but the number of edges is.
 fn showing(alloc: Global, total_edges: u64) -> Visible
@@ -50,59 +33,94 @@ fn lent_if<X>(there: bool, value: &X) -> Option<&X>
     if there { Some(value) } else { None }
 }
 
-// Each course one superstep further, beside an old run where that has the superstep, with as many edges as are told. What
-// it sends is put into the logs.
+// A course one superstep further, and what it sends.
+fn stepped<P: Computation, C: MessageCombiner<P::Message>>(
+    alloc: Global,
+    course: Course<P::Value, P::Message>,
+    logs: &Logs<P::Message>,
+    visible: &Visible,
+    program: &P,
+    combiner: &C,
+    meter: &mut Meter,
+) -> Result<(Course<P::Value, P::Message>, Sent<P::Message>), Fail>
+    requires declared { has_places (P.program program.now).declared 0 ≡ true }
+    requires shown { length visible.now.values ≡ 0 }
+{
+    if course.place().number() > 100 {
+        return Err(Fail::from("a run without an end"));
+    }
+    let none = Logs::new(alloc);
+    let stepped = course.step(
+        alloc,
+        logs,
+        visible,
+        lent_if(false, &none),
+        lent_if(false, visible),
+        program,
+        combiner,
+        meter,
+    );
+    Ok(stepped.ok().ok_or("a step was lost")?)
+}
+
+// Puts into the logs what a partition sent in a superstep.
+fn log<M: Plain>(
+    alloc: Global,
+    logs: &mut Logs<M>,
+    place: Superstep,
+    partition: PartitionId,
+    sent: Sent<M>,
+) -> Result<(), Fail> {
+    let mut to = 0u32;
+    for logged in sent.into_bundles() {
+        logs.put(alloc, place, partition, PartitionId::new(to), logged)?;
+        to = to.saturating_add(1);
+    }
+    Ok(())
+}
+
+// Each course one superstep further, with as many edges as are told. What it sends is put into the logs.
 fn further<P: Computation, C: MessageCombiner<P::Message>>(
     alloc: Global,
     courses: Vec<Course<P::Value, P::Message>>,
     logs: &mut Logs<P::Message>,
     total_edges: u64,
-    old_logs: &Logs<P::Message>,
-    old_edges: Option<u64>,
     program: &P,
     combiner: &C,
     meter: &mut Meter,
 ) -> Result<Vec<Course<P::Value, P::Message>>, Fail>
     requires { has_places (P.program program.now).declared 0 ≡ true }
 {
-    let seen = showing(alloc, old_edges.unwrap_or(0));
     let visible = showing(alloc, total_edges);
     let mut all = Vec::new(alloc);
     for course in courses {
         let (partition, place) = (course.partition(), course.place());
-        if place.number() > 100 {
-            return Err(Fail::from("a run without an end"));
-        }
-        let (course, sent) = course
-            .step(
-                alloc,
-                logs,
-                &visible,
-                lent_if(old_edges.is_some(), old_logs),
-                lent_if(old_edges.is_some(), &seen),
-                program,
-                combiner,
-                meter,
-            )
-            .ok()
-            .ok_or("a step was lost")?;
-        let mut to = 0u32;
-        for logged in sent.into_bundles() {
-            logs.put(alloc, place, partition, PartitionId::new(to), logged)?;
-            to = to.saturating_add(1);
-        }
+        let (course, sent) = stepped(alloc, course, logs, &visible, program, combiner, meter)?;
+        log(alloc, logs, place, partition, sent)?;
         all.push(course)?;
     }
     Ok(all)
 }
 
-// A run that was made on courses, with the number of edges in each superstep.
+// A run that was made on courses, with how many supersteps it has.
 #[derive(Drop)]
 struct Made<V: Plain, M: Plain> {
     courses: Vec<Course<V, M>>,
-    logs: Logs<M>,
-    totals: Vec<u64>,
+    supersteps: u32,
     meter: Meter,
+}
+
+// A partition as a run from scratch begins.
+fn begun<P: Computation>(
+    alloc: Global,
+    graph: &Graph,
+    partitioner: Partitioner,
+    partition: PartitionId,
+    program: &P,
+) -> Result<Course<P::Value, P::Message>, Fail> {
+    let rows = partitioner.rows(graph, partition);
+    let states = rows.first_states(alloc, program)?;
+    Ok(Course::begin(alloc, rows, Missing::Drop, states)?)
 }
 
 // A run from scratch of as many supersteps as there are totals of edges, on so many partitions.
@@ -110,7 +128,6 @@ fn cold_run<P: Computation, C: MessageCombiner<P::Message>>(
     alloc: Global,
     graph: &Graph,
     partitioner: Partitioner,
-    missing: Missing,
     totals: &[u64],
     program: &P,
     combiner: &C,
@@ -119,26 +136,37 @@ fn cold_run<P: Computation, C: MessageCombiner<P::Message>>(
 {
     let mut courses = Vec::new(alloc);
     for partition in 0..partitioner.partitions() {
-        let rows = partitioner.rows(graph, PartitionId::new(partition));
-        let states = rows.first_states(alloc, program)?;
-        courses.push(Course::begin(alloc, rows, missing, states)?)?;
+        let partition = PartitionId::new(partition);
+        courses.push(begun(alloc, graph, partitioner, partition, program)?)?;
     }
-    let mut logs = Logs::new(alloc);
-    let mut meter = Meter::new();
-    let mut all = Vec::new(alloc);
-    let none = Logs::new(alloc);
+    let (mut logs, mut meter) = (Logs::new(alloc), Meter::new());
+    let mut supersteps = 0u32;
     for total in totals {
         courses = further(
-            alloc, courses, &mut logs, *total, &none, None, program, combiner, &mut meter,
+            alloc, courses, &mut logs, *total, program, combiner, &mut meter,
         )?;
-        all.push(*total)?;
+        supersteps = supersteps.saturating_add(1);
     }
     Ok(Made {
         courses,
-        logs,
-        totals: all,
+        supersteps,
         meter,
     })
+}
+
+// The value of a vertex as a superstep begins, if it is there.
+fn show_value<V: Plain, M: Plain>(
+    text: &mut String,
+    course: &Course<V, M>,
+    vertex: VertexId,
+    superstep: Superstep,
+) -> Result<(), Fail> {
+    if let Some(state) = course.trace().state_at(vertex, superstep) {
+        write!(text, "{vertex}=")?;
+        state.value().show(text)?;
+        text.push_str(" ")?;
+    }
+    Ok(())
 }
 
 // The values of the ids up to nine as a run ends, and how many executions there were.
@@ -147,22 +175,12 @@ fn told<V: Plain, M: Plain>(
     partitioner: Partitioner,
     made: &Made<V, M>,
 ) -> Result<String, Fail> {
-    let mut supersteps = 0u32;
-    for _ in &made.totals {
-        supersteps = supersteps.saturating_add(1);
-    }
     let mut text = String::new(alloc);
     for number in 1..10 {
         let vertex = id(number)?;
-        let course = made
-            .courses
-            .get(partitioner.partition(vertex).number() as usize)
-            .ok_or("a partition is missing")?;
-        if let Some(state) = course.trace().state_at(vertex, Superstep::new(supersteps)) {
-            write!(text, "{number}=")?;
-            state.value().show(&mut text)?;
-            text.push_str(" ")?;
-        }
+        let place = partitioner.partition(vertex).number() as usize;
+        let course = made.courses.get(place).ok_or("a partition is missing")?;
+        show_value(&mut text, course, vertex, Superstep::new(made.supersteps))?;
     }
     let calls = made.meter.count();
     write!(text, "calls {calls}")?;
@@ -174,7 +192,6 @@ fn run_parts<P: Computation, C: MessageCombiner<P::Message>>(
     alloc: Global,
     graph: &Graph,
     partitions: u32,
-    missing: Missing,
     totals: &[u64],
     program: &P,
     combiner: &C,
@@ -182,19 +199,21 @@ fn run_parts<P: Computation, C: MessageCombiner<P::Message>>(
     requires { has_places (P.program program.now).declared 0 ≡ true }
 {
     let partitioner = Partitioner::new(partitions).ok_or("no such number of partitions")?;
-    let made = cold_run(
-        alloc,
-        graph,
-        partitioner,
-        missing,
-        totals,
-        program,
-        combiner,
-    )?;
+    let made = cold_run(alloc, graph, partitioner, totals, program, combiner)?;
     told(alloc, partitioner, &made)
 }
 
 static SIZES: [u32; 5] = [1, 2, 3, 5, 64];
+
+// What the sample program finds in two supersteps on a graph with five edges.
+fn tallied(
+    alloc: Global,
+    graph: &Graph,
+    partitions: u32,
+    combiner: AnyCombiner,
+) -> Result<String, Fail> {
+    run_parts(alloc, graph, partitions, &[5, 5], &Tally, &combiner)
+}
 
 #[test]
 fn messages_come_by_sender_on_however_many_partitions(rt: HostRuntime) -> Result<(), Fail> {
@@ -202,28 +221,12 @@ fn messages_come_by_sender_on_however_many_partitions(rt: HostRuntime) -> Result
     let vertices = [(1, 10), (2, 20), (3, 30), (4, 40), (5, 50)];
     let graph = graph_of(alloc, &vertices, &[(5, 3), (4, 3), (3, 1), (2, 3), (1, 3)])?;
     for partitions in SIZES {
-        let each = run_parts(
-            alloc,
-            &graph,
-            partitions,
-            Missing::Drop,
-            &[5, 5],
-            &Tally,
-            &AnyCombiner::NoCombiner,
-        )?;
+        let each = tallied(alloc, &graph, partitions, AnyCombiner::NoCombiner)?;
         assert_eq!(rt;
             each.as_str(),
             "1=(1 [30]) 2=(20 []) 3=(4 [10 20 40 50]) 4=(40 []) 5=(50 []) calls 7"
         );
-        let sum = run_parts(
-            alloc,
-            &graph,
-            partitions,
-            Missing::Drop,
-            &[5, 5],
-            &Tally,
-            &AnyCombiner::Sum,
-        )?;
+        let sum = tallied(alloc, &graph, partitions, AnyCombiner::Sum)?;
         assert_eq!(rt;
             sum.as_str(),
             "1=(1 [30]) 2=(20 []) 3=(1 [120]) 4=(40 []) 5=(50 []) calls 7"

@@ -12,7 +12,7 @@ use std::alloc::{AllocError, Global};
 use std::process::Abort;
 use std::test::Fail;
 
-fn id(number: u64) -> Result<VertexId, Fail> {
+pub(crate) fn id(number: u64) -> Result<VertexId, Fail> {
     Ok(VertexId::new(number).ok_or("a number above 2^63 - 1")?)
 }
 
@@ -198,26 +198,33 @@ fn beside_itself_a_run_calls_nothing(rt: HostRuntime) -> Result<(), Fail> {
 }
 
 #[test]
-fn limits_are_within_their_ranges(rt: HostRuntime) -> Result<(), Fail> {
+fn limits_hand_out_what_they_were_made_of(rt: HostRuntime) -> Result<(), Fail> {
     let most = Limits::new(64, 16, 10_000, 1_000, 16).ok_or("the most")?;
-    assert_eq!(rt; most.partitions(), 64);
-    assert_eq!(rt; most.workers(), 16);
-    assert_eq!(rt; most.limit(), 10_000);
-    assert_eq!(rt; most.every(), 1_000);
-    assert_eq!(rt; most.max_losses(), 16);
-    assert_eq!(rt; most.missing(), Missing::Drop);
+    assert_eq!(rt; (most.partitions(), most.workers()), (64, 16));
     assert_eq!(rt;
-        most.with_missing(Missing::Create).missing(),
-        Missing::Create
+        (most.limit(), most.every(), most.max_losses()),
+        (10_000, 1_000, 16)
     );
+    assert!(rt; most.missing() == Missing::Drop);
+    assert!(rt; most.with_missing(Missing::Create).missing() == Missing::Create);
+    Ok(())
+}
+
+#[test]
+fn limits_are_within_their_ranges(rt: HostRuntime) -> Result<(), Fail> {
     assert!(rt; Limits::new(1, 1, 1, 0, 0).is_some());
-    assert!(rt; Limits::new(0, 1, 1, 0, 0).is_none());
-    assert!(rt; Limits::new(65, 1, 1, 0, 0).is_none());
-    assert!(rt; Limits::new(1, 0, 1, 0, 0).is_none());
-    assert!(rt; Limits::new(1, 17, 1, 0, 0).is_none());
-    assert!(rt; Limits::new(1, 1, 0, 0, 0).is_none());
-    assert!(rt; Limits::new(1, 1, 10_001, 0, 0).is_none());
-    assert!(rt; Limits::new(1, 1, 1, 1_001, 0).is_none());
-    assert!(rt; Limits::new(1, 1, 1, 0, 17).is_none());
+    let outside = [
+        (0, 1, 1, 0, 0),
+        (65, 1, 1, 0, 0),
+        (1, 0, 1, 0, 0),
+        (1, 17, 1, 0, 0),
+        (1, 1, 0, 0, 0),
+        (1, 1, 10_001, 0, 0),
+        (1, 1, 1, 1_001, 0),
+        (1, 1, 1, 0, 17),
+    ];
+    for (partitions, workers, limit, every, max_losses) in outside {
+        assert!(rt; Limits::new(partitions, workers, limit, every, max_losses).is_none());
+    }
     Ok(())
 }

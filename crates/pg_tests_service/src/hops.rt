@@ -4,11 +4,12 @@
 use pg_core::Limits;
 use pg_global::{AnyCombiner, MasterCompute, MessageCombiner};
 use pg_graph::{Batch, Edit, EditKind, Graph, Missing, VertexId};
-use pg_program::{Computation, Meter};
+use pg_program::{Computation, Meter, Plain};
 use pg_ready::{ReadyMaster, ReadyProgram, Sssp};
 use pg_scratch::run;
 use pg_service::{Service, same};
 use std::alloc::Global;
+use std::fmt::Write;
 use std::test::Fail;
 
 pub(crate) type Paths = Service<ReadyProgram, AnyCombiner, ReadyMaster>;
@@ -61,15 +62,19 @@ pub(crate) fn empty(alloc: Global, partitions: u32, missing: Missing) -> Result<
 #[derive(Clone, Copy)]
 pub(crate) enum Line {
     Vertex(u64),
+    Unvertex(u64),
     Edge(u64, u64, i64),
+    Unedge(u64, u64),
 }
 
 fn edit_of(line: Line) -> Result<Edit, Fail> {
     match line {
         Line::Vertex(vertex) => Ok(Edit::AddVertex(id(vertex)?, 0)),
+        Line::Unvertex(vertex) => Ok(Edit::RemoveVertex(id(vertex)?)),
         Line::Edge(source, target, weight) => {
             Ok(Edit::AddEdge(id(source)?, id(target)?, weight))
         }
+        Line::Unedge(source, target) => Ok(Edit::RemoveEdge(id(source)?, id(target)?)),
     }
 }
 
@@ -124,6 +129,78 @@ pub(crate) fn refresh<P: Computation, C: MessageCombiner<P::Message>, M: MasterC
 ) -> Result<u64, Fail> {
     let report = service.refresh(alloc)?;
     Ok(report.calls)
+}
+
+// The same, where the refresh may be refused.
+pub(crate) fn attempted<P: Computation, C: MessageCombiner<P::Message>, M: MasterCompute>(
+    alloc: Global,
+    service: &mut Service<P, C, M>,
+) -> Option<u64> {
+    match service.refresh(alloc) {
+        Ok(report) => Some(report.calls),
+        Err(_) => None,
+    }
+}
+
+// What a refresh tells and publishes: calls of compute, supersteps, the steps of each partition, and the values by
+// rising id.
+fn tell_refresh<P: Computation, C: MessageCombiner<P::Message>, M: MasterCompute>(
+    alloc: Global,
+    service: &mut Service<P, C, M>,
+    text: &mut String,
+) -> Result<(), Fail> {
+    let report = service.refresh(alloc)?;
+    let (calls, supersteps, steps) = (report.calls, report.supersteps, report.steps.len());
+    write!(text, "calls {calls} supersteps {supersteps} steps")?;
+    let mut others = 0_usize;
+    for made in report.steps.as_slice() {
+        if *made != supersteps {
+            others = others.saturating_add(1);
+        }
+    }
+    write!(text, " {steps} others {others}")?;
+    Ok(())
+}
+
+fn tell_values<P: Computation, C: MessageCombiner<P::Message>, M: MasterCompute>(
+    service: &Service<P, C, M>,
+    text: &mut String,
+) -> Result<(), Fail> {
+    let answers = service.answers().ok_or("nothing is published")?;
+    for (vertex, value) in answers.values() {
+        write!(text, " {vertex}=")?;
+        value.show(text)?;
+    }
+    text.push_str("\n")?;
+    Ok(())
+}
+
+// The same of shortest paths, after a batch of these lines.
+fn tell_after(
+    alloc: Global,
+    service: &mut Paths,
+    lines: &[Line],
+    text: &mut String,
+) -> Result<(), Fail> {
+    let batch = batch_of(alloc, lines)?;
+    edit(alloc, service, &batch).map_err(|_| "a batch that is refused")?;
+    tell_refresh(alloc, service, text)?;
+    tell_values(service, text)
+}
+
+// What the refreshes of a service tell, each after a batch of these lines.
+pub(crate) fn told(
+    alloc: Global,
+    partitions: u32,
+    missing: Missing,
+    batches: &[&[Line]],
+) -> Result<String, Fail> {
+    let mut service = empty(alloc, partitions, missing)?;
+    let mut text = String::new(alloc);
+    for lines in batches {
+        tell_after(alloc, &mut service, lines, &mut text)?;
+    }
+    Ok(text)
 }
 
 // Whether what a service has published is what a run from scratch of its job finds on a graph.

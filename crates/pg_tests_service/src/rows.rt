@@ -1,5 +1,5 @@
 // What a service has published, beside runs from scratch. All was found by hand.
-use crate::hops::{Line, TWO_HOPS, is_run_of, refresh, two_hops};
+use crate::hops::{Line, TWO_HOPS, attempted, commit, is_run_of, refresh, told, two_hops};
 use pg_graph::Missing;
 use std::process::Abort;
 use std::test::Fail;
@@ -21,5 +21,62 @@ fn the_same_as_a_run_of_its_graph_alone(rt: HostRuntime) -> Result<(), Fail> {
     let same = is_run_of(alloc, &service, TWO_HOPS.as_slice())?;
     let other = is_run_of(alloc, &service, SHORTCUT.as_slice())?;
     assert_eq!(rt; (calls, same, other), (5, true, false));
+    Ok(())
+}
+
+// The two hops, a shortcut, the first hop withdrawn, an edge that is added and taken away again.
+#[test]
+fn each_refresh_calls_what_differs(rt: HostRuntime) -> Result<(), Fail> {
+    let alloc = rt.alloc();
+    let batches: [&[Line]; 4] = [
+        &TWO_HOPS,
+        &[Line::Edge(1, 3, 2)],
+        &[Line::Unedge(1, 2)],
+        &[Line::Edge(3, 1, 1), Line::Unedge(3, 1)],
+    ];
+    let told = told(alloc, 3, Missing::Drop, &batches)?;
+    assert_eq!(rt;
+        told.as_str(),
+        "calls 5 supersteps 3 steps 3 others 0 1=0 2=5 3=6\n\
+calls 3 supersteps 3 steps 3 others 0 1=0 2=5 3=2\n\
+calls 1 supersteps 2 steps 3 others 0 1=0 2=9223372036854775807 3=2\n\
+calls 0 supersteps 2 steps 3 others 0 1=0 2=9223372036854775807 3=2\n"
+    );
+    Ok(())
+}
+
+// A vertex that is removed, under both policies for messages to nobody.
+#[test]
+fn a_removed_vertex_is_made_again_or_not(rt: HostRuntime) -> Result<(), Fail> {
+    let alloc = rt.alloc();
+    let batches: [&[Line]; 2] = [&TWO_HOPS, &[Line::Unvertex(2)]];
+    let dropped = told(alloc, 64, Missing::Drop, &batches)?;
+    assert_eq!(rt;
+        dropped.as_str(),
+        "calls 5 supersteps 3 steps 64 others 0 1=0 2=5 3=6\n\
+calls 0 supersteps 1 steps 64 others 0 1=0 3=9223372036854775807\n"
+    );
+    let made = told(alloc, 2, Missing::Create, &batches)?;
+    assert_eq!(rt;
+        made.as_str(),
+        "calls 5 supersteps 3 steps 2 others 0 1=0 2=5 3=6\n\
+calls 1 supersteps 2 steps 2 others 0 1=0 2=5 3=9223372036854775807\n"
+    );
+    Ok(())
+}
+
+// After a refresh that is refused no run is kept, and the next one calls all: this is for runs in which an allocation is
+// refused.
+#[test]
+fn a_refused_refresh_keeps_no_run(rt: HostRuntime) -> Result<(), Fail> {
+    let alloc = rt.alloc();
+    let mut service = two_hops(alloc, 2, Missing::Drop)?;
+    refresh(alloc, &mut service)?;
+    commit(alloc, &mut service, &[Line::Edge(1, 3, 2)])?.map_err(|_| "a batch that is refused")?;
+    let first = attempted(alloc, &mut service);
+    assert!(rt; first.unwrap_or(3) == 3);
+    let wanted = if first.is_some() { 0 } else { 6 };
+    let calls = refresh(alloc, &mut service)?;
+    assert_eq!(rt; calls, wanted);
     Ok(())
 }

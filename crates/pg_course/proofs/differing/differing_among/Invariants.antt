@@ -4,6 +4,8 @@ use Rattle.pg_course.proofs.differing.differing_among.Given as goal
 
 abbrev pub invariant-loop-id : goal.invariant-loop-id
 invariant-loop-id g l = record {
+  old_stays : l.old_states ≡ l.old;
+  new_stays : l.new_states ≡ l.new;
   differing : l.found.items ≡ differing g.V.PartialEq.eq l.old l.new l.superstep (take l.id-index l.ids);
   told : AreTold g.V.PartialEq.eq l.old l.new l.superstep (take l.id-index l.ids);
 }

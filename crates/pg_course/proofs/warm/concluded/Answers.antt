@@ -1,6 +1,5 @@
 use Rattle.std.proofs.Common.{◌≡◌, ◌+◌, ◌≤◌, length, Some, ap, sym, ◌∙◌, subst, subst₂, arith, true}
 use Rattle.std.specs.List.{flat_map, slice_get}
-use Rattle.std.specs.Map.{keys_of}
 use Rattle.std.proofs.lemmas.List.{length-set}
 use Rattle.pg_inbox.specs.Logged.{slot_at}
 use Rattle.pg_map.specs.Entries.{with_changes}
@@ -30,6 +29,7 @@ returns-clause-concluded g c =
     let combining = g.C.MessageCombiner.combining c.args.combiner.now in
     let old = c.args.old in
     let old_logs = c.args.old_logs.now in
+    let moved = c.args.played.moved.items in
     let changes = c.args.played.changes.items in
     let n = c.course.inside.partitions in
     let p = c.course.inside.partition in
@@ -53,13 +53,13 @@ returns-clause-concluded g c =
       trace = c.in_ok-trace.trace;
       kept = Some old;
       differing = c.in_ok-differing.differing.items;
-      changed = c.in_ok-ids.ids.items;
+      changed = moved;
       beside_old = true;
     } in
     let trace = with_replaced s changes (reaching s c.course.inside.trace) in
     let next : c.new-place.result ≡ s + 1 = c.new-place.ensures ∙ ap (λ k. k + 1) c.number.ensures in
-    let ids : c.as_slice-3.result.now ≡ keys_of changes = c.as_slice-3.ensures.value ∙ (c.in_ok-ids.ensures ∙ ap keys_of c.as_slice.ensures.value) in
-    subst (λ h. IsConcluded value_eq g.M.PartialEq.eq combining h old old_logs changes after c.of.result) c.course.view_is
+    let ids : c.as_slice-2.result.now ≡ moved = c.as_slice-2.ensures.value in
+    subst (λ h. IsConcluded value_eq g.M.PartialEq.eq combining h old old_logs moved changes after c.of.result) c.course.view_is
     (record {
       part_is = λ i. record {
         partition = p;
@@ -69,13 +69,13 @@ returns-clause-concluded g c =
         trace = c.in_ok-trace.ensures i;
         kept = Some old;
         differing = (c.in_ok-differing.ensures.differing ∙ (λ i. differing value_eq old (c.in_ok-trace.ensures i) (next i) (ids i))) i;
-        changed = (c.in_ok-ids.ensures ∙ ap keys_of c.as_slice.ensures.value) i;
+        changed = moved;
         beside_old = true;
       };
       told = subst (AreTold value_eq old trace (s + 1)) ids
-          (subst₂ (λ t k. AreTold value_eq old t k c.as_slice-3.result.now) c.in_ok-trace.ensures next c.in_ok-differing.ensures.told);
+          (subst₂ (λ t k. AreTold value_eq old t k c.as_slice-2.result.now) c.in_ok-trace.ensures next c.in_ok-differing.ensures.told);
       to_each = ap length c.of.ensures ∙ c.in_ok-bundles.ensures.len;
       sends = λ q below.
           subst₂ (λ changes bundles. IsMended combining (items_to n q (flat_map (pairs_of old s) changes)) (items_to n q (flat_map sends_of changes))
-          (slot_at old_logs s p q) (slice_get bundles q)) c.as_slice-2.ensures.value (sym c.of.ensures) (c.in_ok-bundles.ensures.bundles q below);
+          (slot_at old_logs s p q) (slice_get bundles q)) c.as_slice.ensures.value (sym c.of.ensures) (c.in_ok-bundles.ensures.bundles q below);
     })

@@ -1,6 +1,5 @@
 use Rattle.std.proofs.Common.{false, ◌+◌, ◌≤◌, length, ap, sym, ◌∙◌, subst, subst₂, arith}
 use Rattle.std.specs.List.{flat_map, slice_get}
-use Rattle.std.specs.Map.{keys_of}
 use Rattle.std.proofs.lemmas.List.{length-set}
 use Rattle.pg_map.specs.Entries.{with_changes}
 use Rattle.pg_course.specs.Lists.{reaching}
@@ -50,11 +49,11 @@ returns-clause-stepped g c job kept rows n p s logs program combining holds past
       place = (c.new.ensures ∙ ap (λ k. k + 1) c.number.ensures) i;
       trace = c.in_ok-trace.ensures i;
       kept = c.self.inside.kept;
-      differing = (c.in_ok-differing.ensures ∙ ap (differing_past c.self.inside.kept c.self.inside.differing.items) (c.as_slice-4.ensures.value ∙ c.in_ok-changed.ensures ∙ ap keys_of c.as_slice-3.ensures.value)) i;
-      changed = (c.in_ok-changed.ensures ∙ ap keys_of c.as_slice-3.ensures.value) i;
+      differing = (c.in_ok-differing.ensures ∙ ap (differing_past c.self.inside.kept c.self.inside.differing.items) c.as_slice-3.ensures.value) i;
+      changed = c.in_ok-played.played.moved.items;
       beside_old = false;
     })
     (ap length c.of.ensures ∙ c.in_ok-bundles.ensures.len)
     (λ q below.
     subst₂ (λ changes bundles. IsFresh (g.C.MessageCombiner.combining c.args.combiner.now) (items_to c.self.inside.partitions q (flat_map sends_of changes)) (slice_get bundles q))
-    c.as_slice-5.ensures.value (sym c.of.ensures) (c.in_ok-bundles.ensures.bundles q below))
+    c.as_slice-4.ensures.value (sym c.of.ensures) (c.in_ok-bundles.ensures.bundles q below))

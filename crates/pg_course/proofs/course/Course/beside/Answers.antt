@@ -38,7 +38,7 @@ returns-in_ok-stepped-in-Some-clause-stepped g c job kept rows n p s program com
     (subst (λ k. IsReplayed value_eq message_eq combining' (record course { kept = k }) old c.args.old_logs.now program' c.args.logs.now c.args.old_view c.args.stage.view
     c.as_slice.result.now c.args.stage.meter played) c.take.ensures.after c.in_ok-played-in-Some.ensures)
     after sent
-    (subst (λ k. IsConcluded value_eq message_eq combining' (record course { kept = k }) old c.args.old_logs.now played.changes.items after sent) c.take.ensures.after
+    (subst (λ k. IsConcluded value_eq message_eq combining' (record course { kept = k }) old c.args.old_logs.now played.moved.items played.changes.items after sent) c.take.ensures.after
     c.in_ok-stepped-in-Some.ensures.concluded) in
     subst (HasStepped job value_eq message_eq kept rows n p s after sent c.args.stage.meter) (sym c.in_ok-stepped-in-Some.ensures.counted)
     (steps job kept rows n p s program combining (subst (Holds job kept rows n p s) (sym c.course.view_is) holds) within has (c.as_slice.ensures.value ∙ bundled) sees lent)
