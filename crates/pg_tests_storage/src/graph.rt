@@ -1,15 +1,13 @@
-ghost use Rattle.std.specs.Prelude.{◌≡◌, ◌<◌, IfOk};
+ghost use Rattle.std.specs.Prelude.{◌≡◌, ◌<◌};
 
 use pg_graph::{Batch, Edges, Edit, EditFault, Graph, Memory, Row, VertexId};
 use std::alloc::Global;
 use std::fmt::Write;
-use std::process::Abort;
-use std::test::Fail;
 
-fn id(number: u64) -> Result<VertexId, Fail>
-    ensures { IfOk result (λ id. id ≡ number) }
+fn id(number: u32) -> VertexId
+    ensures { result ≡ number }
 {
-    Ok(VertexId::new(number).ok_or("a number above 2^63 - 1")?)
+    VertexId::new(u64::from(number)).unwrap()
 }
 
 fn two_edges(alloc: Global, low: VertexId, high: VertexId) -> Result<Edges, Memory>
@@ -32,28 +30,47 @@ fn apply_all(alloc: Global, graph: &mut Graph, edits: &[Edit]) -> Result<(), Edi
     graph.apply(alloc, &batch)
 }
 
+// The place and the number of a fault, or 0 and 0 where there was none.
+fn fault_in(answer: Result<(), EditFault>) -> (u64, u8) {
+    match answer {
+        Ok(()) => (0, 0),
+        Err(fault) => (fault.position, fault.kind.number()),
+    }
+}
+
+// Each edge as `target=weight,`.
+fn write_edges(text: &mut String, edges: &Edges) -> Result<(), Memory> {
+    for (target, weight) in edges.as_slice() {
+        write!(text, "{target}={weight},")?;
+    }
+    Ok(())
+}
+
+fn write_row(text: &mut String, id: VertexId, row: &Row) -> Result<(), Memory> {
+    let input = row.input;
+    write!(text, "{id}:{input}[")?;
+    write_edges(text, &row.edges)?;
+    write!(text, "]")?;
+    Ok(())
+}
+
 // Each row as `id:input[target=weight,]`.
 fn text_of(alloc: Global, graph: &Graph) -> Result<String, Memory> {
     let mut text = String::new(alloc);
     for (id, row) in graph.iter() {
-        let input = row.input;
-        write!(text, "{id}:{input}[")?;
-        for (target, weight) in row.edges.as_slice() {
-            write!(text, "{target}={weight},")?;
-        }
-        write!(text, "]")?;
+        write_row(&mut text, *id, row)?;
     }
     Ok(text)
 }
 
 // The graph of 1 with edges to 2 and to itself, and of 2 with an edge to a missing 9.
-fn sample(alloc: Global) -> Result<Graph, Fail> {
-    let (one, two, nine) = (id(1)?, id(2)?, id(9)?);
+fn sample(alloc: Global) -> Result<Graph, EditFault> {
+    let (one, two) = (id(1), id(2));
     let edits = [
         Edit::AddVertex(two, -20),
         Edit::AddVertex(one, 10),
         Edit::AddEdge(one, two, 5),
-        Edit::AddEdge(two, nine, i64::MIN),
+        Edit::AddEdge(two, id(9), i64::MIN),
         Edit::AddEdge(one, one, 7),
     ];
     let mut graph = Graph::new(alloc);
@@ -61,14 +78,20 @@ fn sample(alloc: Global) -> Result<Graph, Fail> {
     Ok(graph)
 }
 
-#[test]
-fn makes_each_edit(rt: HostRuntime) -> Result<(), Fail> {
-    let (one, two, three) = (id(1)?, id(2)?, id(3)?);
-    let mut graph = sample(rt.alloc())?;
-    assert_eq!(rt;
-        text_of(rt.alloc(), &graph)?.as_str(),
-        "1:10[1=7,2=5,]2:-20[9=-9223372036854775808,]"
-    );
+// The graph still shows what it was made of.
+fn is_sample(alloc: Global, graph: &Graph) -> Result<bool, Memory> {
+    let text = text_of(alloc, graph)?;
+    Ok(text.as_str() == "1:10[1=7,2=5,]2:-20[9=-9223372036854775808,]")
+}
+
+// The graph has so many vertices and edges.
+fn counts(graph: &Graph, vertices: u64, edges: u64) -> bool {
+    graph.vertices() == vertices && graph.edges() == edges
+}
+
+// One edit of each kind, and two that add vertices.
+fn edit_each_way(alloc: Global, graph: &mut Graph) -> Result<(), EditFault> {
+    let (one, two, three) = (id(1), id(2), id(3));
     let edits = [
         Edit::AddVertex(three, 30),
         Edit::AddEdge(three, two, 1),
@@ -79,24 +102,33 @@ fn makes_each_edit(rt: HostRuntime) -> Result<(), Fail> {
         Edit::AddEdge(one, three, 8),
         Edit::AddVertex(two, 22),
     ];
-    apply_all(rt.alloc(), &mut graph, &edits)?;
-    assert_eq!(rt;
-        text_of(rt.alloc(), &graph)?.as_str(),
-        "1:11[2=6,3=8,]2:22[]3:30[2=1,]"
-    );
-    assert_eq!(rt; graph.vertices(), 3);
-    assert_eq!(rt; graph.edges(), 3);
-    Ok(())
+    apply_all(alloc, graph, &edits)
 }
 
 #[test]
-fn refused_batches_leave_the_graph(rt: HostRuntime) -> Result<(), Fail> {
-    let (one, two, eight, nine) = (id(1)?, id(2)?, id(8)?, id(9)?);
+fn makes_each_edit(rt: HostRuntime) -> Result<(), EditFault> {
     let mut graph = sample(rt.alloc())?;
-    let before = text_of(rt.alloc(), &graph)?;
-    let first = Edit::SetInput(one, 99);
+    assert!(rt; is_sample(rt.alloc(), &graph)?);
+    edit_each_way(rt.alloc(), &mut graph)?;
+    let text = text_of(rt.alloc(), &graph)?;
+    assert_eq!(rt; text.as_str(), "1:11[2=6,3=8,]2:22[]3:30[2=1,]");
+    assert!(rt; counts(&graph, 3, 3));
+    Ok(())
+}
+
+// The fault of a batch whose third edit is this one.
+fn fault_of(alloc: Global, graph: &mut Graph, edit: Edit) -> (u64, u8) {
+    let first = Edit::SetInput(id(1), 99);
+    let edits = [first, Edit::AddVertex(id(8), 0), edit, first];
+    fault_in(apply_all(alloc, graph, &edits))
+}
+
+#[test]
+fn refused_batches_leave_the_graph(rt: HostRuntime) -> Result<(), EditFault> {
+    let (one, two, nine) = (id(1), id(2), id(9));
+    let mut graph = sample(rt.alloc())?;
     let refused = [
-        (Edit::AddVertex(eight, 0), 2),
+        (Edit::AddVertex(id(8), 0), 2),
         (Edit::SetInput(nine, 0), 3),
         (Edit::RemoveVertex(nine), 3),
         (Edit::AddEdge(nine, one, 0), 3),
@@ -107,130 +139,158 @@ fn refused_batches_leave_the_graph(rt: HostRuntime) -> Result<(), Fail> {
         (Edit::RemoveEdge(two, one), 5),
     ];
     for (edit, number) in refused {
-        let edits = [first, Edit::AddVertex(eight, 0), edit, first];
-        let fault = apply_all(rt.alloc(), &mut graph, &edits).expect_err(&rt, "a fault");
-        assert_eq!(rt; fault.position, 3);
-        assert_eq!(rt; fault.kind.number(), number);
-        assert_eq!(rt; text_of(rt.alloc(), &graph)?.as_str(), before.as_str());
-        assert_eq!(rt; graph.edges(), 3);
+        assert_eq!(rt; fault_of(rt.alloc(), &mut graph, edit), (3, number));
+        assert!(rt; is_sample(rt.alloc(), &graph)?);
+        assert!(rt; counts(&graph, 2, 3));
     }
     Ok(())
 }
 
-#[test]
-fn limits_a_batch(rt: HostRuntime) -> Result<(), Fail> {
-    let one = id(1)?;
-    let mut graph = sample(rt.alloc())?;
-    let mut batch = Batch::new(rt.alloc());
+// A batch of 100,000 edits, of which the first can't be made in the sample.
+fn longest(alloc: Global) -> Result<Batch, Memory> {
+    let one = id(1);
+    let mut batch = Batch::new(alloc);
     batch.push(Edit::AddVertex(one, 1))?;
     for _ in 0..99_999 {
         batch.push(Edit::SetInput(one, 1))?;
     }
-    let fault = graph.apply(rt.alloc(), &batch).expect_err(&rt, "a fault");
-    assert_eq!(rt; fault.position, 1);
-    batch.push(Edit::SetInput(one, 2))?;
-    let fault = graph.apply(rt.alloc(), &batch).expect_err(&rt, "a fault");
-    assert_eq!(rt; fault.position, 100_001);
-    assert_eq!(rt; fault.kind.number(), 6);
-    Ok(())
-}
-
-// The copy keeps what the graph has lost.
-fn is_kept(rt: &impl Abort, alloc: Global, graph: &Graph, copy: &Graph) -> Result<(), Fail> {
-    assert!(rt; graph.row(id(1)?).is_none());
-    assert_eq!(rt; copy.edges(), 3);
-    assert_eq!(rt;
-        text_of(alloc, copy)?.as_str(),
-        "1:10[1=7,2=5,]2:-20[9=-9223372036854775808,]"
-    );
-    Ok(())
+    Ok(batch)
 }
 
 #[test]
-fn copies(rt: HostRuntime) -> Result<(), Fail> {
+fn limits_a_batch(rt: HostRuntime) -> Result<(), EditFault> {
+    let mut graph = sample(rt.alloc())?;
+    let mut batch = longest(rt.alloc())?;
+    assert_eq!(rt; fault_in(graph.apply(rt.alloc(), &batch)), (1, 2));
+    batch.push(Edit::SetInput(id(1), 2))?;
+    assert_eq!(rt; fault_in(graph.apply(rt.alloc(), &batch)), (100_001, 6));
+    Ok(())
+}
+
+// The copy keeps what the graph loses.
+#[test]
+fn copies(rt: HostRuntime) -> Result<(), EditFault> {
     let mut graph = sample(rt.alloc())?;
     let copy = graph.copy(rt.alloc())?;
-    apply_all(rt.alloc(), &mut graph, &[Edit::RemoveVertex(id(1)?)])?;
-    is_kept(&rt, rt.alloc(), &graph, &copy)
-}
-
-#[test]
-fn looks_up_rows(rt: HostRuntime) -> Result<(), Fail> {
-    let graph = sample(rt.alloc())?;
-    let row: Row = graph.row(id(1)?).ok_or("no row")?.copy()?;
-    assert_eq!(rt; row.input, 10);
-    assert_eq!(rt; row.edges.weight(id(2)?), Some(5));
-    assert_eq!(rt; row.edges.weight(id(9)?), None);
+    apply_all(rt.alloc(), &mut graph, &[Edit::RemoveVertex(id(1))])?;
+    assert!(rt; graph.row(id(1)).is_none());
+    assert!(rt; counts(&copy, 2, 3));
+    assert!(rt; is_sample(rt.alloc(), &copy)?);
     Ok(())
 }
 
-#[test]
-fn copies_edges(rt: HostRuntime) -> Result<(), Fail> {
-    let (one, nine) = (id(1)?, id(9)?);
-    let edges = two_edges(rt.alloc(), one, nine)?.copy()?;
-    assert_eq!(rt; edges.as_slice(), [(one, 3), (nine, -4)].as_slice());
-    assert_eq!(rt; edges.weight(nine), Some(-4));
-    Ok(())
+// The weight of an edge, or 0 where there is none.
+fn weight_to(edges: &Edges, target: u32) -> i64 {
+    edges.weight(id(target)).unwrap_or(0)
 }
 
-// A batch of vertices with edges, and one that puts others in their places.
-fn moves(alloc: Global) -> Result<(Batch, Batch), Fail> {
-    let mut first = Batch::new(alloc);
-    let mut second = Batch::new(alloc);
-    for number in 0..60 {
-        let (even, odd) = (id(2 * number)?, id(2 * number + 1)?);
-        first.push(Edit::AddVertex(even, 0))?;
-        first.push(Edit::AddEdge(even, odd, 1))?;
-        second.push(Edit::AddVertex(odd, 0))?;
-        second.push(Edit::AddEdge(odd, even, 1))?;
-        second.push(Edit::RemoveEdge(even, odd))?;
-        second.push(Edit::RemoveVertex(even))?;
+fn is_row_of_one(row: &Row) -> bool {
+    row.input == 10 && weight_to(&row.edges, 2) == 5 && row.edges.weight(id(9)).is_none()
+}
+
+// The sample has a row of 1, whose copy is right.
+fn has_row_of_one(graph: &Graph) -> Result<bool, Memory> {
+    match graph.row(id(1)) {
+        Some(row) => Ok(is_row_of_one(&row.copy()?)),
+        None => Ok(false),
     }
-    Ok((first, second))
 }
 
-// The graph has so many vertices and edges.
-fn counts(rt: &impl Abort, graph: &Graph, vertices: u64, edges: u64) {
-    assert_eq!(rt; graph.vertices(), vertices);
-    assert_eq!(rt; graph.edges(), edges);
-}
-
-// The graph after both batches.
-fn is_moved(rt: &impl Abort, graph: &Graph) -> Result<(), Fail> {
-    counts(rt, graph, 60, 60);
-    assert!(rt; graph.row(id(118)?).is_none());
-    let row = graph.row(id(119)?).ok_or("no row")?;
-    assert_eq!(rt; row.edges.weight(id(118)?), Some(1));
+#[test]
+fn looks_up_rows(rt: HostRuntime) -> Result<(), EditFault> {
+    let graph = sample(rt.alloc())?;
+    assert!(rt; has_row_of_one(&graph)?);
     Ok(())
 }
 
-// A refused batch is made once more.
-fn is_made_again(
-    rt: &impl Abort,
-    alloc: Global,
-    graph: &mut Graph,
-    fault: EditFault,
-    batch: &Batch,
-) -> Result<(), Fail> {
-    assert_eq!(rt; (fault.position, fault.kind.number()), (0, 1));
-    counts(rt, graph, 60, 60);
-    assert!(rt; graph.row(id(0)?).is_some());
-    graph.apply(alloc, batch)?;
+#[test]
+fn copies_edges(rt: HostRuntime) -> Result<(), Memory> {
+    let edges = two_edges(rt.alloc(), id(1), id(9))?.copy()?;
+    let mut text = String::new(rt.alloc());
+    write_edges(&mut text, &edges)?;
+    assert_eq!(rt; text.as_str(), "1=3,9=-4,");
+    assert_eq!(rt; weight_to(&edges, 9), -4);
     Ok(())
+}
+
+// Adds 60 even vertices, each with an edge to the next number.
+fn evens(alloc: Global) -> Result<Batch, Memory> {
+    let mut batch = Batch::new(alloc);
+    for number in 0..60u32 {
+        let (even, odd) = (id(2 * number), id(2 * number + 1));
+        batch.push(Edit::AddVertex(even, 0))?;
+        batch.push(Edit::AddEdge(even, odd, 1))?;
+    }
+    Ok(batch)
+}
+
+fn push_move(batch: &mut Batch, even: VertexId, odd: VertexId) -> Result<(), Memory> {
+    batch.push(Edit::AddVertex(odd, 0))?;
+    batch.push(Edit::AddEdge(odd, even, 1))?;
+    batch.push(Edit::RemoveEdge(even, odd))?;
+    batch.push(Edit::RemoveVertex(even))
+}
+
+// Puts odd vertices, each with an edge back, in the places of the even ones.
+fn moves(alloc: Global) -> Result<Batch, Memory> {
+    let mut batch = Batch::new(alloc);
+    for number in 0..60u32 {
+        push_move(&mut batch, id(2 * number), id(2 * number + 1))?;
+    }
+    Ok(batch)
+}
+
+// A vertex has an edge to the other, which is no vertex.
+fn points_to(graph: &Graph, source: u32, target: u32) -> bool {
+    match graph.row(id(source)) {
+        Some(row) => weight_to(&row.edges, target) == 1 && graph.row(id(target)).is_none(),
+        None => false,
+    }
+}
+
+// The graph has 60 vertices with an edge each: the even ones up to the next number, or the odd ones down.
+fn points(graph: &Graph, up: bool) -> bool {
+    for number in 0..60u32 {
+        let (even, odd) = (2 * number, 2 * number + 1);
+        let (source, target) = if up { (even, odd) } else { (odd, even) };
+        if !points_to(graph, source, target) {
+            return false;
+        }
+    }
+    counts(graph, 60, 60)
+}
+
+fn evens_made(alloc: Global) -> Result<Graph, EditFault> {
+    let mut graph = Graph::new(alloc);
+    let batch = evens(alloc)?;
+    graph.apply(alloc, &batch)?;
+    Ok(graph)
+}
+
+// A refusal is for want of memory, and leaves the even vertices.
+fn is_left(graph: &Graph, fault: EditFault) -> bool {
+    fault.position == 0 && fault.kind.number() == 1 && points(graph, true)
+}
+
+// Makes a batch, once more where it was refused. The answer is whether a refusal left the graph.
+fn make(alloc: Global, graph: &mut Graph, batch: &Batch) -> Result<bool, EditFault> {
+    match graph.apply(alloc, batch) {
+        Ok(()) => Ok(true),
+        Err(fault) => {
+            let left = is_left(graph, fault);
+            graph.apply(alloc, batch)?;
+            Ok(left)
+        }
+    }
 }
 
 // A batch that adds many vertices, moves edges, and removes vertices with theirs. Run with each
 // allocation failing in turn, it shows that a refused growth leaves the graph.
 #[test]
-fn a_refused_growth_leaves_the_graph(rt: HostRuntime) -> Result<(), Fail> {
-    let mut graph = Graph::new(rt.alloc());
-    let (first, second) = moves(rt.alloc())?;
-    graph.apply(rt.alloc(), &first)?;
-    let before = text_of(rt.alloc(), &graph)?;
-    if let Err(fault) = graph.apply(rt.alloc(), &second) {
-        let text = text_of(rt.alloc(), &graph)?;
-        assert_eq!(rt; text.as_str(), before.as_str());
-        is_made_again(&rt, rt.alloc(), &mut graph, fault, &second)?;
-    }
-    is_moved(&rt, &graph)
+fn a_refused_growth_leaves_the_graph(rt: HostRuntime) -> Result<(), EditFault> {
+    let mut graph = evens_made(rt.alloc())?;
+    let batch = moves(rt.alloc())?;
+    assert!(rt; make(rt.alloc(), &mut graph, &batch)?);
+    assert!(rt; points(&graph, false));
+    Ok(())
 }

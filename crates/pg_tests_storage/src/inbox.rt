@@ -1,195 +1,233 @@
-use pg_global::AnyCombiner;
-use pg_graph::{PartitionId, Superstep, VertexId};
-use pg_inbox::{Bundle, Logged, Logs, bundle, changed_targets, inbox, inboxes, patch};
-use pg_model::Sequence;
-use std::alloc::Global;
-use std::process::Abort;
-use std::test::Fail;
+ghost use Rattle.std.specs.Prelude.{◌≡◌};
 
-fn id(number: u64) -> Result<VertexId, Fail> {
-    Ok(VertexId::new(number).ok_or("a number above 2^63 - 1")?)
+use pg_global::AnyCombiner;
+use pg_graph::{Memory, PartitionId, Superstep, VertexId};
+use pg_inbox::{Bundle, Logged, Logs, bundle, changed_targets, inbox, patch};
+use std::alloc::Global;
+use std::fmt::Write;
+
+fn id(number: u32) -> VertexId
+    ensures { result ≡ number }
+{
+    VertexId::new(u64::from(number)).unwrap()
 }
 
-type Sends = Vec<(VertexId, VertexId, i64)>;
-
-fn sends(alloc: Global, sent: &[(u64, u64, i64)]) -> Result<Sends, Fail> {
+// The bundle of these, each as (sender, target, message).
+fn bundle_of(
+    alloc: Global,
+    sent: &[(u32, u32, i64)],
+    combiner: AnyCombiner,
+) -> Result<Bundle<i64>, Memory> {
     let mut list = Vec::new(alloc);
     for (sender, target, message) in sent {
-        list.push((id(*sender)?, id(*target)?, *message))?;
+        list.push((id(*sender), id(*target), *message))?;
     }
-    Ok(list)
+    bundle(alloc, list.as_slice(), &combiner)
 }
 
-fn inbox_of(
+fn three(alloc: Global, combiner: AnyCombiner) -> Result<Bundle<i64>, Memory> {
+    bundle_of(alloc, &[(1, 4, 3), (3, 4, 2), (3, 5, 7)], combiner)
+}
+
+fn two(alloc: Global, combiner: AnyCombiner) -> Result<Bundle<i64>, Memory> {
+    bundle_of(alloc, &[(3, 4, 2), (3, 5, 7)], combiner)
+}
+
+fn one(alloc: Global, message: i64, combiner: AnyCombiner) -> Result<Bundle<i64>, Memory> {
+    bundle_of(alloc, &[(2, 4, message)], combiner)
+}
+
+// What a target receives, each message with a comma.
+fn write_inbox(
     alloc: Global,
-    bundles: &[Bundle<i64>],
-    target: u64,
+    text: &mut String,
+    bundles: &[&Bundle<i64>],
+    target: u32,
     combiner: AnyCombiner,
-) -> Result<Vec<i64>, Fail> {
-    let mut lent = Vec::new(alloc);
-    for bundle in bundles {
-        lent.push(bundle)?;
+) -> Result<(), Memory> {
+    let messages = inbox(alloc, bundles, id(target), &combiner)?;
+    for message in messages.as_slice() {
+        write!(text, "{message},")?;
     }
-    Ok(inbox(alloc, lent.as_slice(), id(target)?, &combiner)?)
+    Ok(())
 }
 
-fn three(alloc: Global, combiner: AnyCombiner) -> Result<Bundle<i64>, Fail> {
-    let sent = sends(alloc, &[(1, 4, 3), (3, 4, 2), (3, 5, 7)])?;
-    Ok(bundle(alloc, sent.as_slice(), &combiner)?)
+// Of targets 3 to 5 how many messages go to each, and what they come to, as `target:count[message,]`.
+fn write_bundle(alloc: Global, text: &mut String, bundle: &Bundle<i64>) -> Result<(), Memory> {
+    for target in 3..6u32 {
+        let count = bundle.messages_to(id(target));
+        write!(text, "{target}:{count}[")?;
+        write_inbox(alloc, text, &[bundle], target, AnyCombiner::Min)?;
+        write!(text, "]")?;
+    }
+    Ok(())
 }
 
-fn two(alloc: Global, combiner: AnyCombiner) -> Result<Bundle<i64>, Fail> {
-    let sent = sends(alloc, &[(3, 4, 2), (3, 5, 7)])?;
-    Ok(bundle(alloc, sent.as_slice(), &combiner)?)
-}
-
-fn one(alloc: Global, message: i64, combiner: AnyCombiner) -> Result<Bundle<i64>, Fail> {
-    let sent = sends(alloc, &[(2, 4, message)])?;
-    Ok(bundle(alloc, sent.as_slice(), &combiner)?)
-}
-
-// How many messages go to a target, and what they come to.
-fn entry(
-    alloc: Global,
-    bundle: &Bundle<i64>,
-    target: u64,
-    combiner: AnyCombiner,
-) -> Result<(usize, Option<i64>), Fail> {
-    let target = id(target)?;
-    let mut messages = inbox(alloc, &[bundle], target, &combiner)?;
-    Ok((bundle.messages_to(target), messages.pop()))
+fn write_ids(text: &mut String, ids: &[VertexId]) -> Result<(), Memory> {
+    for id in ids {
+        write!(text, "{id},")?;
+    }
+    Ok(())
 }
 
 #[test]
-fn combined_at_the_sender(rt: HostRuntime) -> Result<(), Fail> {
+fn combined_at_the_sender(rt: HostRuntime) -> Result<(), Memory> {
     let made = three(rt.alloc(), AnyCombiner::Min)?;
-    assert!(rt; entry(rt.alloc(), &made, 4, AnyCombiner::Min)? == (2, Some(2)));
-    assert!(rt; entry(rt.alloc(), &made, 5, AnyCombiner::Min)? == (1, Some(7)));
-    assert!(rt; entry(rt.alloc(), &made, 3, AnyCombiner::Min)? == (0, None));
+    let mut text = String::new(rt.alloc());
+    write_bundle(rt.alloc(), &mut text, &made)?;
+    assert_eq!(rt; text.as_str(), "3:0[]4:2[2,]5:1[7,]");
     Ok(())
 }
 
-fn of_both(alloc: Global, combiner: AnyCombiner) -> Result<Vec<i64>, Fail> {
-    let made = three(alloc, combiner)?;
-    let both = vec![in alloc; made.share()?, one(alloc, 9, combiner)?]?;
-    inbox_of(alloc, both.as_slice(), 4, combiner)
+// What 4 receives of the copy of one bundle and of another.
+fn write_both(alloc: Global, text: &mut String, combiner: AnyCombiner) -> Result<(), Memory> {
+    let first = three(alloc, combiner)?.share()?;
+    let second = one(alloc, 9, combiner)?;
+    write_inbox(alloc, text, &[&first, &second], 4, combiner)
 }
 
 #[test]
-fn ordered_by_sender(rt: HostRuntime) -> Result<(), Fail> {
-    let found = of_both(rt.alloc(), AnyCombiner::NoCombiner)?;
-    assert_eq!(rt; found.as_slice(), [3, 9, 2].as_slice());
+fn ordered_by_sender(rt: HostRuntime) -> Result<(), Memory> {
+    let mut text = String::new(rt.alloc());
+    write_both(rt.alloc(), &mut text, AnyCombiner::NoCombiner)?;
+    assert_eq!(rt; text.as_str(), "3,9,2,");
     Ok(())
 }
 
 #[test]
-fn no_bundles(rt: HostRuntime) -> Result<(), Fail> {
-    let none = inbox_of(rt.alloc(), &[], 4, AnyCombiner::Min)?;
-    assert!(rt; none.is_empty());
+fn no_bundles(rt: HostRuntime) -> Result<(), Memory> {
+    let mut text = String::new(rt.alloc());
+    write_inbox(rt.alloc(), &mut text, &[], 4, AnyCombiner::Min)?;
+    assert!(rt; text.is_empty());
     Ok(())
 }
 
-fn changed(alloc: Global, combiner: AnyCombiner) -> Result<Vec<VertexId>, Fail> {
+fn write_changed(
+    alloc: Global,
+    text: &mut String,
+    old: &Bundle<i64>,
+    new: &Bundle<i64>,
+) -> Result<(), Memory> {
+    let ids = changed_targets(alloc, Some(old), Some(new))?;
+    write_ids(text, ids.as_slice())
+}
+
+// The targets at which a bundle with one message less differs.
+fn changed(alloc: Global, combiner: AnyCombiner) -> Result<String, Memory> {
     let old = three(alloc, combiner)?;
     let new = two(alloc, combiner)?;
-    Ok(changed_targets(alloc, Some(&old), Some(&new))?)
+    let mut text = String::new(alloc);
+    write_changed(alloc, &mut text, &old, &new)?;
+    Ok(text)
 }
 
 #[test]
-fn changed_at_one_target(rt: HostRuntime) -> Result<(), Fail> {
+fn changed_at_one_target(rt: HostRuntime) -> Result<(), Memory> {
     for combiner in [AnyCombiner::NoCombiner, AnyCombiner::Min] {
-        let ids = changed(rt.alloc(), combiner)?;
-        assert_eq!(rt; ids.as_slice(), [id(4)?].as_slice());
+        let text = changed(rt.alloc(), combiner)?;
+        assert_eq!(rt; text.as_str(), "4,");
     }
     Ok(())
 }
 
 #[test]
-fn unchanged(rt: HostRuntime) -> Result<(), Fail> {
-    let new = two(rt.alloc(), AnyCombiner::Min)?;
-    assert!(rt; changed_targets(rt.alloc(), Some(&new), Some(&new))?.is_empty());
+fn unchanged(rt: HostRuntime) -> Result<(), Memory> {
+    let made = two(rt.alloc(), AnyCombiner::Min)?;
+    let mut text = String::new(rt.alloc());
+    write_changed(rt.alloc(), &mut text, &made, &made)?;
+    assert!(rt; text.is_empty());
     Ok(())
 }
 
-fn put(
-    alloc: Global,
-    logs: &mut Logs<i64>,
-    place: (u32, u32, u32),
-    message: i64,
-) -> Result<(), Fail> {
+// The superstep, the sender and the receiver of a slot.
+type Place = (u32, u32, u32);
+
+fn put(alloc: Global, logs: &mut Logs<i64>, place: Place, message: i64) -> Result<(), Memory> {
     let logged = Logged {
         bundle: one(alloc, message, AnyCombiner::Min)?,
         changed: None,
     };
     let (s, p, q) = place;
-    Ok(logs.put(
+    logs.put(
         alloc,
         Superstep::new(s),
         PartitionId::new(p),
         PartitionId::new(q),
         logged,
-    )?)
+    )
 }
 
-fn message_in(
-    alloc: Global,
-    logs: &Logs<i64>,
-    place: (u32, u32, u32),
-) -> Result<Option<i64>, Fail> {
+// The message of a slot, or -1 where it is empty.
+fn message_in(alloc: Global, logs: &Logs<i64>, place: Place) -> Result<i64, Memory> {
     let (s, p, q) = place;
     match logs.get(Superstep::new(s), PartitionId::new(p), PartitionId::new(q)) {
-        Some(logged) => Ok(entry(alloc, &logged.bundle, 4, AnyCombiner::Min)?.1),
-        None => Ok(None),
+        Some(logged) => {
+            let mut messages = inbox(alloc, &[&logged.bundle], id(4), &AnyCombiner::Min)?;
+            Ok(messages.pop().unwrap_or(-1))
+        }
+        None => Ok(-1),
     }
 }
 
+// The slots of three supersteps and four partitions are numbered.
+fn place_of(number: u32) -> Place {
+    (number / 16, number / 4 % 4, number % 4)
+}
+
 // The slots of three supersteps and four partitions, each with its number.
-fn full(alloc: Global) -> Result<Logs<i64>, Fail> {
+fn full(alloc: Global) -> Result<Logs<i64>, Memory> {
     let mut logs = Logs::new(alloc);
     for number in 0..48u32 {
-        put(
-            alloc,
-            &mut logs,
-            (number / 16, number / 4 % 4, number % 4),
-            i64::from(number),
-        )?;
+        put(alloc, &mut logs, place_of(number), i64::from(number))?;
     }
     Ok(logs)
 }
 
 #[test]
-fn logs_keep(rt: HostRuntime) -> Result<(), Fail> {
+fn logs_keep(rt: HostRuntime) -> Result<(), Memory> {
     let mut logs = full(rt.alloc())?;
     put(rt.alloc(), &mut logs, (0, 0, 0), 99)?;
-    assert_eq!(rt; message_in(rt.alloc(), &logs, (0, 0, 0))?, Some(99));
+    assert_eq!(rt; message_in(rt.alloc(), &logs, (0, 0, 0))?, 99);
     for number in 1..48u32 {
-        let found = message_in(rt.alloc(), &logs, (number / 16, number / 4 % 4, number % 4))?;
-        assert_eq!(rt; found, Some(i64::from(number)));
+        let found = message_in(rt.alloc(), &logs, place_of(number))?;
+        assert_eq!(rt; found, i64::from(number));
     }
-    assert_eq!(rt; message_in(rt.alloc(), &logs, (9, 0, 0))?, None);
+    assert_eq!(rt; message_in(rt.alloc(), &logs, (9, 0, 0))?, -1);
     Ok(())
 }
 
 #[test]
-fn logs_forget(rt: HostRuntime) -> Result<(), Fail> {
+fn logs_forget(rt: HostRuntime) -> Result<(), Memory> {
     let mut logs = full(rt.alloc())?;
     logs.forget(PartitionId::new(1));
     for number in 0..48u32 {
-        let found = message_in(rt.alloc(), &logs, (number / 16, number / 4 % 4, number % 4))?;
-        assert_eq!(rt; found.is_none(), number / 4 % 4 == 1);
+        let found = message_in(rt.alloc(), &logs, place_of(number))?;
+        assert_eq!(rt; found == -1, number / 4 % 4 == 1);
+    }
+    Ok(())
+}
+
+// The bundle of three without two of its messages.
+fn withdrawn(alloc: Global) -> Result<Logged<i64>, Memory> {
+    let old = three(alloc, AnyCombiner::Min)?;
+    let withdrawn = [(id(1), id(4)), (id(3), id(5))];
+    patch(alloc, &old, &withdrawn, &[], &AnyCombiner::Min)
+}
+
+fn write_logged(alloc: Global, text: &mut String, logged: &Logged<i64>) -> Result<(), Memory> {
+    write_bundle(alloc, text, &logged.bundle)?;
+    if let Some(changed) = &logged.changed {
+        write!(text, " changed ")?;
+        write_ids(text, changed.as_slice())?;
     }
     Ok(())
 }
 
 #[test]
-fn withdrawn_from_one_target(rt: HostRuntime) -> Result<(), Fail> {
-    let alloc = rt.alloc();
-    let old = three(alloc, AnyCombiner::Min)?;
-    let withdrawn = [(id(1)?, id(4)?), (id(3)?, id(5)?)];
-    let patched = patch(alloc, &old, &withdrawn, &[], &AnyCombiner::Min)?;
-    assert!(rt; entry(alloc, &patched.bundle, 4, AnyCombiner::Min)? == (1, Some(2)));
-    assert!(rt; entry(alloc, &patched.bundle, 5, AnyCombiner::Min)? == (0, None));
-    let changed = patched.changed.ok_or("no targets are told")?;
-    assert_eq!(rt; changed.as_slice(), [id(4)?, id(5)?].as_slice());
+fn withdrawn_from_one_target(rt: HostRuntime) -> Result<(), Memory> {
+    let logged = withdrawn(rt.alloc())?;
+    let mut text = String::new(rt.alloc());
+    write_logged(rt.alloc(), &mut text, &logged)?;
+    assert_eq!(rt; text.as_str(), "3:0[]4:1[2,]5:0[] changed 4,5,");
     Ok(())
 }

@@ -1,18 +1,16 @@
-ghost use Rattle.std.specs.Prelude.{◌≡◌, ◌<◌, IfOk};
+ghost use Rattle.std.specs.Prelude.{◌≡◌, ◌<◌};
 
-use pg_map::{Map, Memory, Pack, Share, VertexId};
+use pg_map::{Iter, Map, Memory, Pack, Share, VertexId};
 use std::alloc::Global;
-use std::process::Abort;
-use std::test::Fail;
 
-fn id(number: u64) -> Result<VertexId, Fail>
-    ensures { IfOk result (λ id. id ≡ number) }
+fn id(number: u32) -> VertexId
+    ensures { result ≡ number }
 {
-    Ok(VertexId::new(number).ok_or("a number above 2^63 - 1")?)
+    VertexId::new(u64::from(number)).unwrap()
 }
 
 // A number whose entries are always laid anew.
-#[derive(Clone, Copy, Debug, PartialEq)]
+#[derive(Clone, Copy)]
 struct Number(i64);
 
 impl Share for Number {
@@ -32,24 +30,21 @@ impl Pack for Number {
 
 type Numbers = Map<Number>;
 
-fn set(
-    alloc: Global,
-    map: &mut Numbers,
-    id: VertexId,
-    value: Option<Number>,
-) -> Result<(), Memory> {
-    map.change(alloc, &[(id, value)])
+fn set(alloc: Global, map: &mut Numbers, number: u32, value: Option<Number>) -> Result<(), Memory> {
+    map.change(alloc, &[(id(number), value)])
 }
 
-fn set_two(
+// Takes what is at the lower id away, and puts a number at the higher.
+fn move_up(
     alloc: Global,
     map: &mut Numbers,
-    low: (VertexId, Option<Number>),
-    high: (VertexId, Option<Number>),
+    low: VertexId,
+    high: VertexId,
+    value: Number,
 ) -> Result<(), Memory>
-    requires { low.0 < high.0 }
+    requires { low < high }
 {
-    map.change(alloc, &[low, high])
+    map.change(alloc, &[(low, None), (high, Some(value))])
 }
 
 fn two_entries(alloc: Global, low: VertexId, high: VertexId) -> Result<Numbers, Memory>
@@ -59,129 +54,171 @@ fn two_entries(alloc: Global, low: VertexId, high: VertexId) -> Result<Numbers, 
     Map::from_rising(alloc, entries)
 }
 
+// The number at an id, or 0 where there is none.
+fn number_at(map: &Numbers, number: u32) -> i64 {
+    match map.get(id(number)) {
+        Some(value) => value.0,
+        None => 0,
+    }
+}
+
+fn is_empty(map: &Numbers) -> bool {
+    map.len() == 0 && map.iter().next().is_none()
+}
+
 // Sets each third number below 3,000 to itself, in an order that jumps.
-fn thousand(alloc: Global) -> Result<Numbers, Fail> {
+fn thousand(alloc: Global) -> Result<Numbers, Memory> {
     let mut map = Map::new();
-    for number in 0..1000u64 {
+    for number in 0..1000u32 {
         let mixed = number * 7919 % 1000 * 3;
-        set(alloc, &mut map, id(mixed)?, Some(Number(mixed as i64)))?;
+        set(alloc, &mut map, mixed, Some(Number(i64::from(mixed))))?;
     }
     Ok(map)
 }
 
-// The map has each third number below 3,000, and shows it in every way.
-fn is_thousand(rt: &impl Abort, map: &Numbers) -> Result<(), Fail> {
-    assert_eq!(rt; map.len(), 1000);
-    let mut ids = map.ids();
-    let mut number = 0;
-    for (key, value) in map.iter() {
-        assert_eq!(rt; key.number(), number);
-        assert_eq!(rt; value.0.unsigned_abs(), number);
-        assert_eq!(rt; ids.next().ok_or("an id")?.number(), number);
-        assert_eq!(rt; map.get(*key).copied(), Some(*value));
-        number = number.wrapping_add(3);
+// What was found at a number is right for the map of each third one.
+fn is_third(number: u32, found: Option<&Number>) -> bool {
+    match found {
+        Some(value) => number % 3 == 0 && value.0 == i64::from(number),
+        None => number % 3 != 0 || number >= 3000,
     }
-    assert!(rt; ids.next().is_none());
-    assert_eq!(rt; number, 3000);
-    for number in 0..1000u64 {
-        assert!(rt; map.get(id(number * 3 + 1)?).is_none());
-    }
-    Ok(())
 }
 
-#[test]
-fn holds_entries(rt: HostRuntime) -> Result<(), Fail> {
-    let map = thousand(rt.alloc())?;
-    is_thousand(&rt, &map)?;
-    let two = two_entries(rt.alloc(), id(4)?, id(9)?)?;
-    assert_eq!(rt; two.len(), 2);
-    assert_eq!(rt; two.get(id(4)?).copied(), Some(Number(5)));
-    assert_eq!(rt; two.get(id(9)?).copied(), Some(Number(-6)));
-    assert!(rt; two.get(id(5)?).is_none());
-    assert!(rt; Numbers::new().iter().next().is_none());
-    Ok(())
-}
-
-#[test]
-fn walks_from_an_id(rt: HostRuntime) -> Result<(), Fail> {
-    let map = thousand(rt.alloc())?;
-    for number in 0..3000u64 {
-        let mut expected = number.next_multiple_of(3);
-        let mut left = 0;
-        for (key, _) in map.iter_from(id(number)?) {
-            assert_eq!(rt; key.number(), expected);
-            expected = expected.wrapping_add(3);
-            left = u64::wrapping_add(left, 1);
+// These are each third number from one up to 3,000.
+fn are_thirds(entries: Iter<'_, Number>, first: u64) -> bool {
+    let mut expected = first;
+    for (key, value) in entries {
+        if key.number() != expected || value.0.unsigned_abs() != expected {
+            return false;
         }
-        assert_eq!(rt; left, (3000 - number) / 3);
+        expected = expected.wrapping_add(3);
+    }
+    expected == 3000
+}
+
+fn lists_thirds(map: &Numbers) -> bool {
+    let mut expected = 0u64;
+    for key in map.ids() {
+        if key.number() != expected {
+            return false;
+        }
+        expected = expected.wrapping_add(3);
+    }
+    expected == 3000
+}
+
+fn finds_thirds(map: &Numbers) -> bool {
+    for number in 0..3001u32 {
+        if !is_third(number, map.get(id(number))) {
+            return false;
+        }
+    }
+    true
+}
+
+// The map has each third number below 3,000, and shows it in every way.
+fn is_thousand(map: &Numbers) -> bool {
+    map.len() == 1000 && are_thirds(map.iter(), 0) && lists_thirds(map) && finds_thirds(map)
+}
+
+#[test]
+fn holds_entries(rt: HostRuntime) -> Result<(), Memory> {
+    let map = thousand(rt.alloc())?;
+    assert!(rt; is_thousand(&map));
+    assert!(rt; is_empty(&Numbers::new()));
+    Ok(())
+}
+
+// The map has 5 at 4, -6 at 9, and nothing else.
+fn holds_two(map: &Numbers) -> bool {
+    let ends = number_at(map, 4) == 5 && number_at(map, 9) == -6;
+    ends && map.get(id(5)).is_none() && map.len() == 2
+}
+
+#[test]
+fn holds_rising_entries(rt: HostRuntime) -> Result<(), Memory> {
+    let map = two_entries(rt.alloc(), id(4), id(9))?;
+    assert!(rt; holds_two(&map));
+    Ok(())
+}
+
+#[test]
+fn walks_from_an_id(rt: HostRuntime) -> Result<(), Memory> {
+    let map = thousand(rt.alloc())?;
+    for number in 0..3000u32 {
+        let first = u64::from(number).next_multiple_of(3);
+        assert!(rt; are_thirds(map.iter_from(id(number)), first));
+    }
+    Ok(())
+}
+
+// Takes all numbers below 3,000 away.
+fn clear(alloc: Global, map: &mut Numbers) -> Result<(), Memory> {
+    for number in 0..3000u32 {
+        set(alloc, map, number, None)?;
     }
     Ok(())
 }
 
 #[test]
-fn copies_stay(rt: HostRuntime) -> Result<(), Fail> {
+fn copies_stay(rt: HostRuntime) -> Result<(), Memory> {
     let mut map = thousand(rt.alloc())?;
     let copy = map.share()?;
-    set_two(
-        rt.alloc(),
-        &mut map,
-        (id(0)?, None),
-        (id(2998)?, Some(Number(7))),
-    )?;
-    assert!(rt; map.get(id(0)?).is_none());
-    assert_eq!(rt; map.get(id(2998)?).copied(), Some(Number(7)));
-    assert_eq!(rt; map.len(), 1000);
-    for number in 0..3000u64 {
-        set(rt.alloc(), &mut map, id(number)?, None)?;
-    }
-    assert_eq!(rt; map.len(), 0);
-    assert!(rt; map.iter().next().is_none());
-    is_thousand(&rt, &copy)
+    clear(rt.alloc(), &mut map)?;
+    assert!(rt; is_empty(&map));
+    assert!(rt; is_thousand(&copy));
+    Ok(())
 }
 
-#[test]
-fn a_refused_growth_leaves_the_map(rt: HostRuntime) -> Result<(), Fail> {
+fn six_hundred(alloc: Global) -> Result<Numbers, Memory> {
     let mut map = Map::new();
-    for number in 0..600u64 {
-        set(rt.alloc(), &mut map, id(number)?, Some(Number(1)))?;
+    for number in 0..600u32 {
+        set(alloc, &mut map, number, Some(Number(1)))?;
     }
+    Ok(map)
+}
+
+// The map has 600 numbers, with these at 3 and 700, or 0 for none.
+fn has_ends(map: &Numbers, low: i64, high: i64) -> bool {
+    map.len() == 600 && number_at(map, 3) == low && number_at(map, 700) == high
+}
+
+// Run with each allocation failing in turn, it shows that a refused growth leaves the map.
+#[test]
+fn a_refused_growth_leaves_the_map(rt: HostRuntime) -> Result<(), Memory> {
+    let mut map = six_hundred(rt.alloc())?;
     let before = map.share()?;
-    let low = (id(3)?, None);
-    let high = (id(700)?, Some(Number(2)));
-    if set_two(rt.alloc(), &mut map, low, high).is_err() {
-        assert_eq!(rt; map.len(), 600);
-        assert_eq!(rt; map.get(id(3)?).copied(), Some(Number(1)));
-        assert!(rt; map.get(id(700)?).is_none());
-        set_two(rt.alloc(), &mut map, low, high)?;
+    if move_up(rt.alloc(), &mut map, id(3), id(700), Number(2)).is_err() {
+        assert!(rt; has_ends(&map, 1, 0));
+        move_up(rt.alloc(), &mut map, id(3), id(700), Number(2))?;
     }
-    assert_eq!(rt; map.len(), 600);
-    assert_eq!(rt; map.get(id(700)?).copied(), Some(Number(2)));
-    assert_eq!(rt; before.get(id(3)?).copied(), Some(Number(1)));
+    assert!(rt; has_ends(&map, 0, 2));
+    assert!(rt; has_ends(&before, 1, 0));
     Ok(())
 }
 
 #[test]
-fn packing_changes_nothing(rt: HostRuntime) -> Result<(), Fail> {
+fn packing_changes_nothing(rt: HostRuntime) -> Result<(), Memory> {
     let mut map = thousand(rt.alloc())?;
     let copy = map.share()?;
     map.pack(rt.alloc());
-    is_thousand(&rt, &copy)?;
+    assert!(rt; is_thousand(&copy));
     drop(copy);
     map.pack(rt.alloc());
-    is_thousand(&rt, &map)
+    assert!(rt; is_thousand(&map));
+    Ok(())
 }
 
 #[test]
-fn a_finder_goes_both_ways(rt: HostRuntime) -> Result<(), Fail> {
+fn a_finder_goes_both_ways(rt: HostRuntime) -> Result<(), Memory> {
     let map = thousand(rt.alloc())?;
     let mut finder = map.finder();
-    for number in 0..3000u64 {
-        let near = id(number)?;
-        assert_eq!(rt; finder.get(near).copied(), map.get(near).copied());
+    for number in 0..3000u32 {
+        assert!(rt; is_third(number, finder.get(id(number))));
     }
-    for number in 0..3000u64 {
-        let far = id(number * 7919 % 3001)?;
-        assert_eq!(rt; finder.get(far).copied(), map.get(far).copied());
+    for number in 0..3000u32 {
+        let far = number * 7919 % 3001;
+        assert!(rt; is_third(far, finder.get(id(far))));
     }
     Ok(())
 }

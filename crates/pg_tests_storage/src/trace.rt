@@ -1,18 +1,17 @@
-ghost use Rattle.std.specs.Prelude.{◌≡◌, ◌<◌, length, IfOk};
+ghost use Rattle.std.specs.Prelude.{◌≡◌, ◌<◌};
 
 use pg_graph::{Edges, Memory, Superstep, VertexId};
 use pg_model::{Sequence, VertexState};
 use pg_trace::{Record, Trace};
 use std::alloc::Global;
-use std::process::Abort;
-use std::test::Fail;
+use std::fmt::Write;
 
 type Numbers = Trace<i64, i64>;
 
-fn id(number: u64) -> Result<VertexId, Fail>
-    ensures { IfOk result (λ id. id ≡ number) }
+fn id(number: u32) -> VertexId
+    ensures { result ≡ number }
 {
-    Ok(VertexId::new(number).ok_or("a number above 2^63 - 1")?)
+    VertexId::new(u64::from(number)).unwrap()
 }
 
 fn begun(id: VertexId, value: i64) -> VertexState<i64>
@@ -33,13 +32,6 @@ fn gave(alloc: Global, value: i64) -> Record<i64, i64> {
         halted: true,
         sent: Sequence::new(alloc),
         contributed: Sequence::new(alloc),
-    }
-}
-
-fn gave_if_any(alloc: Global, value: Option<i64>) -> Option<Record<i64, i64>> {
-    match value {
-        Some(value) => Some(gave(alloc, value)),
-        None => None,
     }
 }
 
@@ -66,95 +58,135 @@ fn push_two(
     trace.push_superstep(alloc, records)
 }
 
-fn replace_two(
-    alloc: Global,
-    trace: &mut Numbers,
-    superstep: Superstep,
-    low: (VertexId, Option<i64>),
-    high: (VertexId, Option<i64>),
-) -> Result<(), Memory>
-    requires rise { low.0 < high.0 }
-    requires within { superstep < length trace.old.records }
-{
-    let first = (low.0, gave_if_any(alloc, low.1));
-    let second = (high.0, gave_if_any(alloc, high.1));
-    let changes = vec![in alloc; first, second]?;
-    trace.replace(alloc, superstep, changes)
-}
-
-// A trace of ids 0 and 1, of which nothing ran yet.
-fn fresh(alloc: Global) -> Result<Numbers, Fail> {
-    let low = begun(id(0)?, 1000);
-    let high = begun(id(1)?, 2000);
-    Ok(begin(alloc, low, high)?)
-}
-
-fn value_at(trace: &Numbers, number: u64, place: u32) -> Result<Option<i64>, Fail> {
-    match trace.state_at(id(number)?, Superstep::new(place)) {
-        Some(state) => Ok(Some(*state.value())),
-        None => Ok(None),
-    }
-}
-
-fn given_at(trace: &Numbers, number: u64, place: u32) -> Result<Option<i64>, Fail> {
-    match trace.record_at(id(number)?, Superstep::new(place)) {
-        Some(given) => Ok(Some(given.value)),
-        None => Ok(None),
-    }
-}
-
-// The values of an id as three supersteps begin.
-fn values_at(trace: &Numbers, number: u64, places: [u32; 3]) -> Result<[Option<i64>; 3], Fail> {
-    let [first, second, third] = places;
-    let first = value_at(trace, number, first)?;
-    let second = value_at(trace, number, second)?;
-    let third = value_at(trace, number, third)?;
-    Ok([first, second, third])
-}
-
-// A trace in which 0 and 1 run, then 1 and 7, then 5 and 7.
-fn three_supersteps(alloc: Global) -> Result<Numbers, Fail> {
-    let mut trace = fresh(alloc)?;
-    push_two(alloc, &mut trace, id(0)?, id(1)?, 5)?;
-    push_two(alloc, &mut trace, id(1)?, id(7)?, 8)?;
-    push_two(alloc, &mut trace, id(5)?, id(7)?, 11)?;
+// A trace of ids 0 and 1, in which 0 and 1 run, then 1 and 7, then 5 and 7.
+fn three_supersteps(alloc: Global) -> Result<Numbers, Memory> {
+    let mut trace = begin(alloc, begun(id(0), 1000), begun(id(1), 2000))?;
+    push_two(alloc, &mut trace, id(0), id(1), 5)?;
+    push_two(alloc, &mut trace, id(1), id(7), 8)?;
+    push_two(alloc, &mut trace, id(5), id(7), 11)?;
     Ok(trace)
 }
 
+fn write_if_any(text: &mut String, value: Option<i64>) -> Result<(), Memory> {
+    match value {
+        Some(value) => write!(text, "{value},")?,
+        None => write!(text, "-,")?,
+    }
+    Ok(())
+}
+
+fn value_at(trace: &Numbers, id: VertexId, place: u32) -> Option<i64> {
+    let state = trace.state_at(id, Superstep::new(place))?;
+    Some(*state.value())
+}
+
+fn given_at(trace: &Numbers, id: VertexId, place: u32) -> Option<i64> {
+    let given = trace.record_at(id, Superstep::new(place))?;
+    Some(given.value)
+}
+
+// The values of an id as supersteps 0 to 3 begin.
+fn write_values(text: &mut String, trace: &Numbers, number: u32) -> Result<(), Memory> {
+    write!(text, "{number}:")?;
+    for place in 0..4u32 {
+        write_if_any(text, value_at(trace, id(number), place))?;
+    }
+    Ok(())
+}
+
+// The values of ids 0, 1, 3, 5 and 7 as supersteps 0 to 3 begin.
+fn values_in(alloc: Global, trace: &Numbers) -> Result<String, Memory> {
+    let mut text = String::new(alloc);
+    for number in [0, 1, 3, 5, 7] {
+        write_values(&mut text, trace, number)?;
+    }
+    Ok(text)
+}
+
+// The values that an id gave in supersteps 0 to 3.
+fn given_by(alloc: Global, trace: &Numbers, number: u32) -> Result<String, Memory> {
+    let mut text = String::new(alloc);
+    for place in 0..4u32 {
+        write_if_any(&mut text, given_at(trace, id(number), place))?;
+    }
+    Ok(text)
+}
+
+// How many records a superstep has.
+fn recorded_in(alloc: Global, trace: &Numbers, place: u32) -> Result<usize, Memory> {
+    Ok(trace.records(alloc, Superstep::new(place))?.len())
+}
+
 #[test]
-fn reads_states_between_records(rt: HostRuntime) -> Result<(), Fail> {
+fn reads_states_between_records(rt: HostRuntime) -> Result<(), Memory> {
     let trace = three_supersteps(rt.alloc())?;
-    assert!(rt; values_at(&trace, 0, [0, 1, 3])? == [Some(1000), Some(5), Some(5)]);
-    assert!(rt; values_at(&trace, 1, [1, 2, 3])? == [Some(6), Some(8), Some(8)]);
-    assert!(rt; values_at(&trace, 7, [1, 2, 3])? == [None, Some(9), Some(12)]);
-    assert!(rt; given_at(&trace, 0, 1)?.is_none());
-    assert!(rt; trace.records(rt.alloc(), Superstep::new(3))?.is_empty());
+    let text = values_in(rt.alloc(), &trace)?;
+    assert_eq!(rt;
+        text.as_str(),
+        "0:1000,5,5,5,1:2000,6,8,8,3:-,-,-,-,5:-,-,-,11,7:-,-,9,12,"
+    );
     Ok(())
 }
 
 #[test]
-fn shows_states(rt: HostRuntime) -> Result<(), Fail> {
+fn reads_records(rt: HostRuntime) -> Result<(), Memory> {
     let trace = three_supersteps(rt.alloc())?;
-    let first = trace.state_at(id(1)?, Superstep::new(0)).ok_or("a state")?;
-    assert!(rt; first.id().number() == 1 && !first.halted());
-    let later = trace.state_at(id(1)?, Superstep::new(1)).ok_or("a state")?;
-    assert!(rt; later.id().number() == 1 && later.halted());
-    assert!(rt; later.edges().as_slice().is_empty());
+    let text = given_by(rt.alloc(), &trace, 1)?;
+    assert_eq!(rt; text.as_str(), "6,8,-,-,");
+    assert_eq!(rt; recorded_in(rt.alloc(), &trace, 2)?, 2);
+    assert_eq!(rt; recorded_in(rt.alloc(), &trace, 3)?, 0);
+    Ok(())
+}
+
+// The state of 1 as a superstep begins has its id, no edges, and is halted or not.
+fn shows_one(trace: &Numbers, place: u32, halted: bool) -> bool {
+    match trace.state_at(id(1), Superstep::new(place)) {
+        Some(state) => {
+            state.id().number() == 1
+                && state.halted() == halted
+                && state.edges().as_slice().is_empty()
+        }
+        None => false,
+    }
+}
+
+#[test]
+fn shows_states(rt: HostRuntime) -> Result<(), Memory> {
+    let trace = three_supersteps(rt.alloc())?;
+    assert!(rt; shows_one(&trace, 0, false));
+    assert!(rt; shows_one(&trace, 1, true));
     Ok(())
 }
 
 #[test]
-fn copies_stay(rt: HostRuntime) -> Result<(), Fail> {
-    let alloc = rt.alloc();
-    let mut trace = three_supersteps(alloc)?;
-    let copy = trace.share(alloc)?;
-    trace.cut(alloc, Superstep::new(1))?;
+fn cuts(rt: HostRuntime) -> Result<(), Memory> {
+    let mut trace = three_supersteps(rt.alloc())?;
+    trace.cut(rt.alloc(), Superstep::new(1))?;
     assert_eq!(rt; trace.supersteps(), 1);
-    assert!(rt; values_at(&trace, 7, [1, 2, 3])? == [None; 3]);
-    assert!(rt; values_at(&trace, 1, [0, 1, 2])? == [Some(2000), Some(6), Some(6)]);
-    push_two(alloc, &mut trace, id(3)?, id(4)?, 20)?;
+    let text = values_in(rt.alloc(), &trace)?;
+    assert_eq!(rt;
+        text.as_str(),
+        "0:1000,5,5,5,1:2000,6,6,6,3:-,-,-,-,5:-,-,-,-,7:-,-,-,-,"
+    );
+    Ok(())
+}
+
+// Leaves one superstep of a trace, and adds one with 3 and 4.
+fn change(alloc: Global, trace: &mut Numbers) -> Result<(), Memory> {
+    trace.cut(alloc, Superstep::new(1))?;
+    push_two(alloc, trace, id(3), id(4), 20)
+}
+
+#[test]
+fn copies_stay(rt: HostRuntime) -> Result<(), Memory> {
+    let mut trace = three_supersteps(rt.alloc())?;
+    let copy = trace.share(rt.alloc())?;
+    change(rt.alloc(), &mut trace)?;
     assert_eq!(rt; copy.supersteps(), 3);
-    assert!(rt; values_at(&copy, 7, [1, 2, 3])? == [None, Some(9), Some(12)]);
-    assert!(rt; values_at(&copy, 3, [1, 2, 3])? == [None; 3]);
+    let text = values_in(rt.alloc(), &copy)?;
+    assert_eq!(rt;
+        text.as_str(),
+        "0:1000,5,5,5,1:2000,6,8,8,3:-,-,-,-,5:-,-,-,11,7:-,-,9,12,"
+    );
     Ok(())
 }

@@ -1,6 +1,6 @@
 use Rattle.std.specs.List.Sorted.{IsStrictlySortedBy}
 use Rattle.pg_map.proofs.Parts.{is_less}
-use Rattle.pg_tests_storage.proofs.map.set_two.Goals as goal
+use Rattle.pg_tests_storage.proofs.map.move_up.Goals as goal
 
 pub change-requires : goal.change-requires
 unfolding IsStrictlySortedBy
