@@ -105,14 +105,18 @@ fn edit_each_way(alloc: Global, graph: &mut Graph) -> Result<(), EditFault> {
     apply_all(alloc, graph, &edits)
 }
 
+fn edited_sample(alloc: Global) -> Result<Graph, EditFault> {
+    let mut graph = sample(alloc)?;
+    edit_each_way(alloc, &mut graph)?;
+    Ok(graph)
+}
+
 #[test]
 fn makes_each_edit(rt: HostRuntime) -> Result<(), EditFault> {
-    let mut graph = sample(rt.alloc())?;
-    assert!(rt; is_sample(rt.alloc(), &graph)?);
-    edit_each_way(rt.alloc(), &mut graph)?;
+    let graph = edited_sample(rt.alloc())?;
+    assert!(rt; counts(&graph, 3, 3));
     let text = text_of(rt.alloc(), &graph)?;
     assert_eq!(rt; text.as_str(), "1:11[2=6,3=8,]2:22[]3:30[2=1,]");
-    assert!(rt; counts(&graph, 3, 3));
     Ok(())
 }
 
@@ -123,11 +127,10 @@ fn fault_of(alloc: Global, graph: &mut Graph, edit: Edit) -> (u64, u8) {
     fault_in(apply_all(alloc, graph, &edits))
 }
 
-#[test]
-fn refused_batches_leave_the_graph(rt: HostRuntime) -> Result<(), EditFault> {
+// Edits that the sample refuses, each with the number of its fault.
+fn refused_edits() -> [(Edit, u8); 9] {
     let (one, two, nine) = (id(1), id(2), id(9));
-    let mut graph = sample(rt.alloc())?;
-    let refused = [
+    [
         (Edit::AddVertex(id(8), 0), 2),
         (Edit::SetInput(nine, 0), 3),
         (Edit::RemoveVertex(nine), 3),
@@ -137,11 +140,21 @@ fn refused_batches_leave_the_graph(rt: HostRuntime) -> Result<(), EditFault> {
         (Edit::AddEdge(one, two, 0), 4),
         (Edit::SetEdge(two, one, 0), 5),
         (Edit::RemoveEdge(two, one), 5),
-    ];
-    for (edit, number) in refused {
-        assert_eq!(rt; fault_of(rt.alloc(), &mut graph, edit), (3, number));
-        assert!(rt; is_sample(rt.alloc(), &graph)?);
-        assert!(rt; counts(&graph, 2, 3));
+    ]
+}
+
+// A batch is refused at its third edit, by the fault of this number, and leaves the sample.
+fn is_refused(alloc: Global, graph: &mut Graph, edit: Edit, number: u8) -> Result<bool, Memory> {
+    let (position, kind) = fault_of(alloc, graph, edit);
+    let is_left = counts(graph, 2, 3) && is_sample(alloc, graph)?;
+    Ok(is_left && position == 3 && kind == number)
+}
+
+#[test]
+fn refused_batches_leave_the_graph(rt: HostRuntime) -> Result<(), EditFault> {
+    let mut graph = sample(rt.alloc())?;
+    for (edit, number) in refused_edits() {
+        assert!(rt; is_refused(rt.alloc(), &mut graph, edit, number)?);
     }
     Ok(())
 }
@@ -157,25 +170,35 @@ fn longest(alloc: Global) -> Result<Batch, Memory> {
     Ok(batch)
 }
 
+// The place and the number of the fault of the longest batch, and of one with another edit.
+fn faults_of_long(alloc: Global) -> Result<((u64, u8), (u64, u8)), EditFault> {
+    let mut graph = sample(alloc)?;
+    let mut batch = longest(alloc)?;
+    let first = fault_in(graph.apply(alloc, &batch));
+    batch.push(Edit::SetInput(id(1), 2))?;
+    let second = fault_in(graph.apply(alloc, &batch));
+    Ok((first, second))
+}
+
 #[test]
 fn limits_a_batch(rt: HostRuntime) -> Result<(), EditFault> {
-    let mut graph = sample(rt.alloc())?;
-    let mut batch = longest(rt.alloc())?;
-    assert_eq!(rt; fault_in(graph.apply(rt.alloc(), &batch)), (1, 2));
-    batch.push(Edit::SetInput(id(1), 2))?;
-    assert_eq!(rt; fault_in(graph.apply(rt.alloc(), &batch)), (100_001, 6));
+    let (first, second) = faults_of_long(rt.alloc())?;
+    assert_eq!(rt; first, (1, 2));
+    assert_eq!(rt; second, (100_001, 6));
     Ok(())
 }
 
 // The copy keeps what the graph loses.
+fn copy_stays(alloc: Global) -> Result<bool, EditFault> {
+    let mut graph = sample(alloc)?;
+    let copy = graph.copy(alloc)?;
+    apply_all(alloc, &mut graph, &[Edit::RemoveVertex(id(1))])?;
+    Ok(graph.row(id(1)).is_none() && counts(&copy, 2, 3) && is_sample(alloc, &copy)?)
+}
+
 #[test]
 fn copies(rt: HostRuntime) -> Result<(), EditFault> {
-    let mut graph = sample(rt.alloc())?;
-    let copy = graph.copy(rt.alloc())?;
-    apply_all(rt.alloc(), &mut graph, &[Edit::RemoveVertex(id(1))])?;
-    assert!(rt; graph.row(id(1)).is_none());
-    assert!(rt; counts(&copy, 2, 3));
-    assert!(rt; is_sample(rt.alloc(), &copy)?);
+    assert!(rt; copy_stays(rt.alloc())?);
     Ok(())
 }
 
@@ -284,13 +307,17 @@ fn make(alloc: Global, graph: &mut Graph, batch: &Batch) -> Result<bool, EditFau
     }
 }
 
-// A batch that adds many vertices, moves edges, and removes vertices with theirs. Run with each
-// allocation failing in turn, it shows that a refused growth leaves the graph.
+// A batch that adds many vertices, moves edges, and removes vertices with theirs is made in the end.
+// The answer is whether the graph was right after it, and after a refusal.
+fn moves_all(alloc: Global) -> Result<bool, EditFault> {
+    let mut graph = evens_made(alloc)?;
+    let batch = moves(alloc)?;
+    Ok(make(alloc, &mut graph, &batch)? && points(&graph, false))
+}
+
+// Run with each allocation failing in turn, it shows that a refused growth leaves the graph.
 #[test]
 fn a_refused_growth_leaves_the_graph(rt: HostRuntime) -> Result<(), EditFault> {
-    let mut graph = evens_made(rt.alloc())?;
-    let batch = moves(rt.alloc())?;
-    assert!(rt; make(rt.alloc(), &mut graph, &batch)?);
-    assert!(rt; points(&graph, false));
+    assert!(rt; moves_all(rt.alloc())?);
     Ok(())
 }

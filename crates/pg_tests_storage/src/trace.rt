@@ -103,24 +103,30 @@ fn values_in(alloc: Global, trace: &Numbers) -> Result<String, Memory> {
     Ok(text)
 }
 
-// The values that an id gave in supersteps 0 to 3.
-fn given_by(alloc: Global, trace: &Numbers, number: u32) -> Result<String, Memory> {
+// How many records a superstep has.
+fn count_in(alloc: Global, trace: &Numbers, place: u32) -> Result<usize, Memory> {
+    Ok(trace.records(alloc, Superstep::new(place))?.len())
+}
+
+// Of supersteps 0 to 3 how many records each has, and the value that 1 gave in it.
+fn records_in(alloc: Global, trace: &Numbers) -> Result<String, Memory> {
     let mut text = String::new(alloc);
     for place in 0..4u32 {
-        write_if_any(&mut text, given_at(trace, id(number), place))?;
+        let count = count_in(alloc, trace, place)?;
+        write!(text, "{count}:")?;
+        write_if_any(&mut text, given_at(trace, id(1), place))?;
     }
     Ok(text)
 }
 
-// How many records a superstep has.
-fn recorded_in(alloc: Global, trace: &Numbers, place: u32) -> Result<usize, Memory> {
-    Ok(trace.records(alloc, Superstep::new(place))?.len())
+fn values_of_three(alloc: Global) -> Result<String, Memory> {
+    let trace = three_supersteps(alloc)?;
+    values_in(alloc, &trace)
 }
 
 #[test]
 fn reads_states_between_records(rt: HostRuntime) -> Result<(), Memory> {
-    let trace = three_supersteps(rt.alloc())?;
-    let text = values_in(rt.alloc(), &trace)?;
+    let text = values_of_three(rt.alloc())?;
     assert_eq!(rt;
         text.as_str(),
         "0:1000,5,5,5,1:2000,6,8,8,3:-,-,-,-,5:-,-,-,11,7:-,-,9,12,"
@@ -128,13 +134,15 @@ fn reads_states_between_records(rt: HostRuntime) -> Result<(), Memory> {
     Ok(())
 }
 
+fn records_of_three(alloc: Global) -> Result<String, Memory> {
+    let trace = three_supersteps(alloc)?;
+    records_in(alloc, &trace)
+}
+
 #[test]
 fn reads_records(rt: HostRuntime) -> Result<(), Memory> {
-    let trace = three_supersteps(rt.alloc())?;
-    let text = given_by(rt.alloc(), &trace, 1)?;
-    assert_eq!(rt; text.as_str(), "6,8,-,-,");
-    assert_eq!(rt; recorded_in(rt.alloc(), &trace, 2)?, 2);
-    assert_eq!(rt; recorded_in(rt.alloc(), &trace, 3)?, 0);
+    let text = records_of_three(rt.alloc())?;
+    assert_eq!(rt; text.as_str(), "2:6,2:8,2:-,0:-,");
     Ok(())
 }
 
@@ -150,11 +158,15 @@ fn shows_one(trace: &Numbers, place: u32, halted: bool) -> bool {
     }
 }
 
+// The first state of 1 isn't halted, and the one that it leaves is.
+fn shows_both(alloc: Global) -> Result<bool, Memory> {
+    let trace = three_supersteps(alloc)?;
+    Ok(shows_one(&trace, 0, false) && shows_one(&trace, 1, true))
+}
+
 #[test]
 fn shows_states(rt: HostRuntime) -> Result<(), Memory> {
-    let trace = three_supersteps(rt.alloc())?;
-    assert!(rt; shows_one(&trace, 0, false));
-    assert!(rt; shows_one(&trace, 1, true));
+    assert!(rt; shows_both(rt.alloc())?);
     Ok(())
 }
 
