@@ -120,11 +120,14 @@ fn makes_each_edit(rt: HostRuntime) -> Result<(), EditFault> {
     Ok(())
 }
 
-// The fault of a batch whose third edit is this one.
-fn fault_of(alloc: Global, graph: &mut Graph, edit: Edit) -> (u64, u8) {
-    let first = Edit::SetInput(id(1), 99);
-    let edits = [first, Edit::AddVertex(id(8), 0), edit, first];
-    fault_in(apply_all(alloc, graph, &edits))
+// A batch whose third edit is this one, and whose others can be made in the sample.
+fn batch_with(alloc: Global, third: Edit) -> Result<Batch, Memory> {
+    let mut batch = Batch::new(alloc);
+    batch.push(Edit::SetInput(id(1), 99))?;
+    batch.push(Edit::AddVertex(id(8), 0))?;
+    batch.push(third)?;
+    batch.push(Edit::SetInput(id(1), 99))?;
+    Ok(batch)
 }
 
 // Edits that the sample refuses, each with the number of its fault.
@@ -145,7 +148,8 @@ fn refused_edits() -> [(Edit, u8); 9] {
 
 // A batch is refused at its third edit, by the fault of this number, and leaves the sample.
 fn is_refused(alloc: Global, graph: &mut Graph, edit: Edit, number: u8) -> Result<bool, Memory> {
-    let (position, kind) = fault_of(alloc, graph, edit);
+    let batch = batch_with(alloc, edit)?;
+    let (position, kind) = fault_in(graph.apply(alloc, &batch));
     let is_left = counts(graph, 2, 3) && is_sample(alloc, graph)?;
     Ok(is_left && position == 3 && kind == number)
 }
