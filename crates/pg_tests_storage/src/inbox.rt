@@ -38,27 +38,37 @@ fn one(alloc: Global, message: i64, combiner: AnyCombiner) -> Result<Bundle<i64>
 }
 
 // What a target receives, each message with a comma.
-fn write_inbox(
+fn inbox_of(
     alloc: Global,
-    text: &mut String,
     bundles: &[&Bundle<i64>],
     target: u32,
     combiner: AnyCombiner,
-) -> Result<(), Memory> {
+) -> Result<String, Memory> {
     let messages = inbox(alloc, bundles, id(target), &combiner)?;
+    let mut text = String::new(alloc);
     for message in messages.as_slice() {
         write!(text, "{message},")?;
     }
+    Ok(text)
+}
+
+// How many messages go to a target, and what they come to, as `target:count[message,]`.
+fn write_target(
+    alloc: Global,
+    text: &mut String,
+    bundle: &Bundle<i64>,
+    target: u32,
+) -> Result<(), Memory> {
+    let count = bundle.messages_to(id(target));
+    let messages = inbox_of(alloc, &[bundle], target, AnyCombiner::Min)?;
+    write!(text, "{target}:{count}[{messages}]")?;
     Ok(())
 }
 
-// Of targets 3 to 5 how many messages go to each, and what they come to, as `target:count[message,]`.
+// The targets 3 to 5 of a bundle.
 fn write_bundle(alloc: Global, text: &mut String, bundle: &Bundle<i64>) -> Result<(), Memory> {
     for target in 3..6u32 {
-        let count = bundle.messages_to(id(target));
-        write!(text, "{target}:{count}[")?;
-        write_inbox(alloc, text, &[bundle], target, AnyCombiner::Min)?;
-        write!(text, "]")?;
+        write_target(alloc, text, bundle, target)?;
     }
     Ok(())
 }
@@ -70,72 +80,57 @@ fn write_ids(text: &mut String, ids: &[VertexId]) -> Result<(), Memory> {
     Ok(())
 }
 
-#[test]
-fn combined_at_the_sender(rt: HostRuntime) -> Result<(), Memory> {
-    let made = three(rt.alloc(), AnyCombiner::Min)?;
-    let mut text = String::new(rt.alloc());
-    write_bundle(rt.alloc(), &mut text, &made)?;
-    assert_eq!(rt; text.as_str(), "3:0[]4:2[2,]5:1[7,]");
-    Ok(())
-}
-
-// What 4 receives of the copy of one bundle and of another.
-fn write_both(alloc: Global, text: &mut String, combiner: AnyCombiner) -> Result<(), Memory> {
-    let first = three(alloc, combiner)?.share()?;
-    let second = one(alloc, 9, combiner)?;
-    write_inbox(alloc, text, &[&first, &second], 4, combiner)
-}
-
-#[test]
-fn ordered_by_sender(rt: HostRuntime) -> Result<(), Memory> {
-    let mut text = String::new(rt.alloc());
-    write_both(rt.alloc(), &mut text, AnyCombiner::NoCombiner)?;
-    assert_eq!(rt; text.as_str(), "3,9,2,");
-    Ok(())
-}
-
-#[test]
-fn no_bundles(rt: HostRuntime) -> Result<(), Memory> {
-    let mut text = String::new(rt.alloc());
-    write_inbox(rt.alloc(), &mut text, &[], 4, AnyCombiner::Min)?;
-    assert!(rt; text.is_empty());
-    Ok(())
-}
-
-fn write_changed(
-    alloc: Global,
-    text: &mut String,
-    old: &Bundle<i64>,
-    new: &Bundle<i64>,
-) -> Result<(), Memory> {
-    let ids = changed_targets(alloc, Some(old), Some(new))?;
-    write_ids(text, ids.as_slice())
-}
-
-// The targets at which a bundle with one message less differs.
-fn changed(alloc: Global, combiner: AnyCombiner) -> Result<String, Memory> {
-    let old = three(alloc, combiner)?;
-    let new = two(alloc, combiner)?;
+fn text_of_three(alloc: Global) -> Result<String, Memory> {
+    let made = three(alloc, AnyCombiner::Min)?;
     let mut text = String::new(alloc);
-    write_changed(alloc, &mut text, &old, &new)?;
+    write_bundle(alloc, &mut text, &made)?;
     Ok(text)
 }
 
 #[test]
-fn changed_at_one_target(rt: HostRuntime) -> Result<(), Memory> {
-    for combiner in [AnyCombiner::NoCombiner, AnyCombiner::Min] {
-        let text = changed(rt.alloc(), combiner)?;
-        assert_eq!(rt; text.as_str(), "4,");
-    }
+fn combined_at_the_sender(rt: HostRuntime) -> Result<(), Memory> {
+    let text = text_of_three(rt.alloc())?;
+    assert_eq!(rt; text.as_str(), "3:0[]4:2[2,]5:1[7,]");
     Ok(())
 }
 
+// What 4 receives of a copy of one bundle and of another.
+fn inbox_of_both(alloc: Global, combiner: AnyCombiner) -> Result<String, Memory> {
+    let first = three(alloc, combiner)?.share()?;
+    let second = one(alloc, 9, combiner)?;
+    inbox_of(alloc, &[&first, &second], 4, combiner)
+}
+
 #[test]
-fn unchanged(rt: HostRuntime) -> Result<(), Memory> {
-    let made = two(rt.alloc(), AnyCombiner::Min)?;
-    let mut text = String::new(rt.alloc());
-    write_changed(rt.alloc(), &mut text, &made, &made)?;
-    assert!(rt; text.is_empty());
+fn ordered_by_sender(rt: HostRuntime) -> Result<(), Memory> {
+    let text = inbox_of_both(rt.alloc(), AnyCombiner::NoCombiner)?;
+    assert_eq!(rt; text.as_str(), "3,9,2,");
+    Ok(())
+}
+
+// The targets at which bundles differ, each with a comma.
+fn changed(alloc: Global, old: &Bundle<i64>, new: &Bundle<i64>) -> Result<String, Memory> {
+    let ids = changed_targets(alloc, Some(old), Some(new))?;
+    let mut text = String::new(alloc);
+    write_ids(&mut text, ids.as_slice())?;
+    Ok(text)
+}
+
+fn changed_by_one_less(alloc: Global, combiner: AnyCombiner) -> Result<String, Memory> {
+    let old = three(alloc, combiner)?;
+    let new = two(alloc, combiner)?;
+    changed(alloc, &old, &new)
+}
+
+fn is_changed_at_four(alloc: Global, combiner: AnyCombiner) -> Result<bool, Memory> {
+    let text = changed_by_one_less(alloc, combiner)?;
+    Ok(text.as_str() == "4,")
+}
+
+#[test]
+fn changed_at_one_target(rt: HostRuntime) -> Result<(), Memory> {
+    assert!(rt; is_changed_at_four(rt.alloc(), AnyCombiner::NoCombiner)?);
+    assert!(rt; is_changed_at_four(rt.alloc(), AnyCombiner::Min)?);
     Ok(())
 }
 
@@ -193,11 +188,15 @@ fn are_kept(alloc: Global, logs: &Logs<i64>) -> Result<bool, Memory> {
     Ok(message_in(alloc, logs, (0, 0, 0))? == 99 && message_in(alloc, logs, (9, 0, 0))? == -1)
 }
 
+fn put_anew(alloc: Global) -> Result<bool, Memory> {
+    let mut logs = full(alloc)?;
+    put(alloc, &mut logs, (0, 0, 0), 99)?;
+    are_kept(alloc, &logs)
+}
+
 #[test]
 fn logs_keep(rt: HostRuntime) -> Result<(), Memory> {
-    let mut logs = full(rt.alloc())?;
-    put(rt.alloc(), &mut logs, (0, 0, 0), 99)?;
-    assert!(rt; are_kept(rt.alloc(), &logs)?);
+    assert!(rt; put_anew(rt.alloc())?);
     Ok(())
 }
 
@@ -213,11 +212,15 @@ fn are_forgotten(alloc: Global, logs: &Logs<i64>) -> Result<bool, Memory> {
     Ok(true)
 }
 
+fn forget_one(alloc: Global) -> Result<bool, Memory> {
+    let mut logs = full(alloc)?;
+    logs.forget(PartitionId::new(1));
+    are_forgotten(alloc, &logs)
+}
+
 #[test]
 fn logs_forget(rt: HostRuntime) -> Result<(), Memory> {
-    let mut logs = full(rt.alloc())?;
-    logs.forget(PartitionId::new(1));
-    assert!(rt; are_forgotten(rt.alloc(), &logs)?);
+    assert!(rt; forget_one(rt.alloc())?);
     Ok(())
 }
 
@@ -237,11 +240,16 @@ fn write_logged(alloc: Global, text: &mut String, logged: &Logged<i64>) -> Resul
     Ok(())
 }
 
+fn text_of_withdrawn(alloc: Global) -> Result<String, Memory> {
+    let logged = withdrawn(alloc)?;
+    let mut text = String::new(alloc);
+    write_logged(alloc, &mut text, &logged)?;
+    Ok(text)
+}
+
 #[test]
 fn withdrawn_from_one_target(rt: HostRuntime) -> Result<(), Memory> {
-    let logged = withdrawn(rt.alloc())?;
-    let mut text = String::new(rt.alloc());
-    write_logged(rt.alloc(), &mut text, &logged)?;
+    let text = text_of_withdrawn(rt.alloc())?;
     assert_eq!(rt; text.as_str(), "3:0[]4:1[2,]5:0[] changed 4,5,");
     Ok(())
 }

@@ -94,9 +94,11 @@ fn write_values(text: &mut String, trace: &Numbers, number: u32) -> Result<(), M
     Ok(())
 }
 
-// The values of ids 0, 1, 3, 5 and 7 as supersteps 0 to 3 begin.
+// How many supersteps there are, and the values of ids 0, 1, 3, 5 and 7 as supersteps 0 to 3 begin.
 fn values_in(alloc: Global, trace: &Numbers) -> Result<String, Memory> {
     let mut text = String::new(alloc);
+    let supersteps = trace.supersteps();
+    write!(text, "{supersteps} ")?;
     for number in [0, 1, 3, 5, 7] {
         write_values(&mut text, trace, number)?;
     }
@@ -129,7 +131,7 @@ fn reads_states_between_records(rt: HostRuntime) -> Result<(), Memory> {
     let text = values_of_three(rt.alloc())?;
     assert_eq!(rt;
         text.as_str(),
-        "0:1000,5,5,5,1:2000,6,8,8,3:-,-,-,-,5:-,-,-,11,7:-,-,9,12,"
+        "3 0:1000,5,5,5,1:2000,6,8,8,3:-,-,-,-,5:-,-,-,11,7:-,-,9,12,"
     );
     Ok(())
 }
@@ -170,15 +172,18 @@ fn shows_states(rt: HostRuntime) -> Result<(), Memory> {
     Ok(())
 }
 
+fn values_of_cut(alloc: Global) -> Result<String, Memory> {
+    let mut trace = three_supersteps(alloc)?;
+    trace.cut(alloc, Superstep::new(1))?;
+    values_in(alloc, &trace)
+}
+
 #[test]
 fn cuts(rt: HostRuntime) -> Result<(), Memory> {
-    let mut trace = three_supersteps(rt.alloc())?;
-    trace.cut(rt.alloc(), Superstep::new(1))?;
-    assert_eq!(rt; trace.supersteps(), 1);
-    let text = values_in(rt.alloc(), &trace)?;
+    let text = values_of_cut(rt.alloc())?;
     assert_eq!(rt;
         text.as_str(),
-        "0:1000,5,5,5,1:2000,6,6,6,3:-,-,-,-,5:-,-,-,-,7:-,-,-,-,"
+        "1 0:1000,5,5,5,1:2000,6,6,6,3:-,-,-,-,5:-,-,-,-,7:-,-,-,-,"
     );
     Ok(())
 }
@@ -189,16 +194,19 @@ fn change(alloc: Global, trace: &mut Numbers) -> Result<(), Memory> {
     push_two(alloc, trace, id(3), id(4), 20)
 }
 
+fn values_of_copy(alloc: Global) -> Result<String, Memory> {
+    let mut trace = three_supersteps(alloc)?;
+    let copy = trace.share(alloc)?;
+    change(alloc, &mut trace)?;
+    values_in(alloc, &copy)
+}
+
 #[test]
 fn copies_stay(rt: HostRuntime) -> Result<(), Memory> {
-    let mut trace = three_supersteps(rt.alloc())?;
-    let copy = trace.share(rt.alloc())?;
-    change(rt.alloc(), &mut trace)?;
-    assert_eq!(rt; copy.supersteps(), 3);
-    let text = values_in(rt.alloc(), &copy)?;
+    let text = values_of_copy(rt.alloc())?;
     assert_eq!(rt;
         text.as_str(),
-        "0:1000,5,5,5,1:2000,6,8,8,3:-,-,-,-,5:-,-,-,11,7:-,-,9,12,"
+        "3 0:1000,5,5,5,1:2000,6,8,8,3:-,-,-,-,5:-,-,-,11,7:-,-,9,12,"
     );
     Ok(())
 }
