@@ -1,5 +1,5 @@
 -- A step beside an old run takes a partition's share of the run one superstep further.
-use Rattle.std.proofs.Common.{◌≡◌, ℕ, suc, ◌+◌, ◌<◌, ◌≤◌, ◌==◌, ◌||◌, Bool, true, false, not, cond, List, [], ◌∷◌, ◌++◌, map, length, Option, None, Some, option_map, is_some, refl, sym, ap, ap₂, ◌∙◌, arith, subst, subst₂, true≢false, filter, flat_map, count_by, inl, inr, ◌⊎◌, le_refl}
+use Rattle.std.proofs.Common.{◌≡◌, ℕ, suc, ◌+◌, ◌<◌, ◌≤◌, ◌==◌, ◌||◌, Bool, true, false, not, cond, List, [], ◌∷◌, ◌++◌, map, length, Option, None, Some, option_map, is_some, refl, sym, ap, ap₂, ◌∙◌, arith, subst, true≢false, filter, flat_map, count_by, inl, inr, ◌⊎◌, le_refl}
 use Rattle.std.specs.List.{AllByRecursion, slice_get}
 use Rattle.std.specs.List.Sorted.{IsStrictlySortedBy}
 use Rattle.std.specs.Map.{keys_of}

@@ -1,5 +1,4 @@
-use Rattle.std.proofs.Common.{None, length, ap, sym, ◌∙◌, subst, refl, false}
-use Rattle.pg_course.specs.Course.{Holding, Holds}
+use Rattle.std.proofs.Common.{length, ap, sym, ◌∙◌, subst, refl}
 use Rattle.pg_course.proofs.Beginning.{begun_holds}
 use Rattle.pg_trace.specs.OfRun.{HoldsRun}
 use Rattle.pg_trace.specs.Trace.{begun}
