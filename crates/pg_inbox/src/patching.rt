@@ -107,8 +107,24 @@ fn targets_of<X>(alloc: Global, groups: &[(VertexId, X)]) -> Result<Vec<VertexId
     Ok(ids)
 }
 
-/// The old bundle with what becomes of the messages to these targets.
+/// The old bundle with what becomes of the messages to these targets; in its own memory where there are none.
 fn mended_bundle<M: Plain, C: MessageCombiner<M>>(
+    alloc: Global,
+    old: &Bundle<M>,
+    groups: &[(VertexId, Sequence<Mend<M>>)],
+    combiner: &C,
+) -> Result<Bundle<M>, Memory>
+    requires { HasRisingIds groups.now }
+    ensures { IfOk result (λ bundle. bundle ≡ with_changes (changes_of (C.combining combiner.now) old.now groups.now) old.now) }
+{
+    match groups.split_first() {
+        Some(_) => changed_bundle(alloc, old, groups, combiner),
+        None => old.share(),
+    }
+}
+
+/// The old bundle with what becomes of the messages to these targets, in which it isn't shared.
+fn changed_bundle<M: Plain, C: MessageCombiner<M>>(
     alloc: Global,
     old: &Bundle<M>,
     groups: &[(VertexId, Sequence<Mend<M>>)],

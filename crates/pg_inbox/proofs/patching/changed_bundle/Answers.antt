@@ -3,7 +3,7 @@ use Rattle.pg_map.specs.Entries.{ChangesRise, with_changes}
 use Rattle.pg_inbox.specs.Holding.{HoldAll}
 use Rattle.pg_inbox.proofs.Replacing.{changes_rise}
 use Rattle.pg_inbox.proofs.SameDelivery.{hold-changes}
-use Rattle.pg_inbox.proofs.patching.mended_bundle.Goals as goal
+use Rattle.pg_inbox.proofs.patching.changed_bundle.Goals as goal
 
 pub change-requires : goal.change-requires
 change-requires g c =
