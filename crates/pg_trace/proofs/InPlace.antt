@@ -1,7 +1,8 @@
 -- Notes that are made in place, one after another, and records that are put in the superstep that comes next.
-use Rattle.std.proofs.Common.{◌≡◌, ℕ, suc, ◌+◌, ◌<◌, ◌≤◌, ◌==◌, ◌≢◌, ◌⊎◌, inl, inr, Bool, true, false, cond, List, [], ◌∷◌, ◌++◌, length, get_or, set, take, drop, Option, None, Some, unwrap_or, option_map, refl, sym, ap, ◌∙◌, subst, ⊎_elim, append_assoc, arith, ltb, eq-eqb}
+use Rattle.std.proofs.Common.{◌≡◌, ℕ, suc, ◌+◌, ◌-◌, ◌<◌, ◌≤◌, ◌==◌, ◌≢◌, ◌⊎◌, inl, inr, Bool, true, false, cond, List, [], ◌∷◌, ◌++◌, length, get_or, set, take, drop, Option, None, Some, unwrap_or, option_map, refl, sym, ap, ◌∙◌, subst, ⊎_elim, append_assoc, arith, ltb, eq-eqb}
 use Rattle.std.specs.BTreeMap.{insert_entry, is_at}
 use Rattle.std.specs.List.{AllByRecursion, filter}
+use Rattle.std.specs.List.Sorted.{IsNonDecreasingBy}
 use Rattle.std.specs.Map.{keys_of}
 use Rattle.std.specs.Ordering.{nat_cmp}
 use Rattle.std.specs.declared.cmp.Ordering.TheVariants.{Less}
@@ -18,7 +19,7 @@ use Rattle.pg_trace.specs.Ran.{IsIndex, IsNoted, IsNotedOf, Ran, last_of, noted,
 use Rattle.pg_trace.specs.Trace.{Trace, put_at, reaching, with_replaced, with_superstep}
 use Rattle.pg_trace.proofs.Noting.{index-next, index-set}
 use Rattle.pg_trace.proofs.Somes.{nothing_rises}
-use Rattle.pg_trace.proofs.Supersteps.{lower, not_lower}
+use Rattle.pg_trace.proofs.Supersteps.{last_of_all, lower, not_lower}
 
 -- ---- a superstep after all others
 
@@ -31,9 +32,24 @@ all_below s (t ∷ steps) low =
       ap (λ c. cond c (t ∷ filter (λ t. ltb s t) steps) (filter (λ t. ltb s t) steps)) (not_lower s t (omega arith)) ∙ later.1,
     )
 
-last_of-push : (steps : List ℕ) (s : ℕ) → last_of (steps ++ s ∷ []) ≡ Some s
+pub last_of-push : (steps : List ℕ) (s : ℕ) → last_of (steps ++ s ∷ []) ≡ Some s
 last_of-push [] s = refl
 last_of-push (t ∷ steps) s = ap (λ o. Some (unwrap_or o t)) (last_of-push steps s)
+
+-- where the last of rising supersteps is below one, all are
+pub below_the_last : (s t : ℕ) (steps : List ℕ) → IsNonDecreasingBy (λ t. t) steps → Some t ≡ last_of steps → t < s
+    → (k : ℕ) → k < length steps → get_or steps k 0 < s
+below_the_last s t steps rises last low k within =
+    let m = length steps - 1 in
+    let some : suc m ≡ length steps = omega (arith) in
+    let at : t ≡ get_or steps m 0 = ap (λ o. unwrap_or o 0) (last ∙ sym (last_of_all steps m some)) in
+    let up : get_or steps k 0 ≤ get_or steps m 0 = rises k m 0 (omega arith) (omega arith) in
+    omega arith
+
+-- and it is the last of those below
+pub last_of_below : (s t : ℕ) (steps : List ℕ) → ((k : ℕ) → k < length steps → get_or steps k 0 < s) → Some t ≡ last_of steps
+    → Some t ≡ last_of (filter (λ t. ltb t s) steps)
+last_of_below s t steps low last = last ∙ sym (ap last_of (all_below s steps low).0)
 
 module _ {X : Type 0} where
   abbrev ran_at : List ℕ → (ℕ → Option X) → Option ℕ → Option (Ran X)

@@ -75,7 +75,7 @@ fn add_last<V: Drop, M: Drop>(
             if !steps.are_below(superstep) {
                 return Ok(false);
             }
-            steps.push(superstep, kept.share(alloc)?)?;
+            steps.push(alloc, superstep, kept.share(alloc)?)?;
             Ok(true)
         }
         None => Ok(false),

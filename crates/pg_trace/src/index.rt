@@ -6,10 +6,10 @@ ghost use Rattle.pg_trace.specs.Ran.{IsIndex, IsNoted};
 
 use crate::growing::note_growing;
 use crate::kept::Kept;
-use crate::ran::{Ran, note};
+use crate::ran::note;
 use crate::steps::Steps;
 use pg_graph::{Memory, VertexId};
-use pg_map::{Finder, Map};
+use pg_map::{Finder, Map, Share};
 use std::alloc::Global;
 use std::collections::BTreeMap;
 use std::marker::Model;
@@ -20,7 +20,7 @@ pub(crate) enum Form<V, M> {
     /// Changed in place.
     Growing(BTreeMap<VertexId, Steps<V, M>>),
     /// Its copies share.
-    Shared(Map<Ran<V, M>>),
+    Shared(Map<Steps<V, M>>),
 }
 
 /// In which supersteps each vertex ran, and its last record. It is changed in place as long as it grows, and shared by
@@ -48,7 +48,7 @@ pub(crate) enum Search<'a, V, M> {
     /// From the top for each id.
     Plain(&'a BTreeMap<VertexId, Steps<V, M>>),
     /// On from the id before.
-    Near(Finder<'a, Ran<V, M>>),
+    Near(Finder<'a, Steps<V, M>>),
 }
 
 /// Looks up ids in an index. Where it is shared and an id lies near the one before, it costs a search near that.
@@ -78,10 +78,7 @@ impl<'a, V: Drop, M: Drop> IndexFinder<'a, V, M> {
     {
         match &mut self.search {
             Search::Plain(ran) => ran.get(&id),
-            Search::Near(finder) => {
-                let ran = finder.get(id)?;
-                Some(ran.steps())
-            }
+            Search::Near(finder) => finder.get(id),
         }
     }
 }
@@ -97,7 +94,7 @@ impl<V: Drop, M: Drop> Index<V, M> {
     }
 
     /// This index, to be shared.
-    pub(crate) fn of(ran: Map<Ran<V, M>>) -> Index<V, M>
+    pub(crate) fn of(ran: Map<Steps<V, M>>) -> Index<V, M>
         ensures { result ≡ ran }
     {
         Index {
@@ -117,7 +114,7 @@ impl<V: Drop, M: Drop> Index<V, M> {
     }
 
     /// The same index, to be shared. Costs O(1) where it is already; where it still grows a copy.
-    pub(crate) fn shared(&self, alloc: Global) -> Result<Map<Ran<V, M>>, Memory>
+    pub(crate) fn shared(&self, alloc: Global) -> Result<Map<Steps<V, M>>, Memory>
         ensures { IfOk result (λ ran. ran ≡ self.now) }
     {
         match &self.form {
@@ -172,12 +169,12 @@ impl<V: Drop, M: Drop> Index<V, M> {
 fn copied<V: Drop, M: Drop>(
     alloc: Global,
     ran: &BTreeMap<VertexId, Steps<V, M>>,
-) -> Result<Map<Ran<V, M>>, Memory>
+) -> Result<Map<Steps<V, M>>, Memory>
     ensures { IfOk result (λ copy. copy ≡ ran.now.entries) }
 {
     let mut entries = Vec::with_capacity(alloc, ran.len())?;
     for (id, steps) in ran {
-        entries.push((*id, Ran::of(alloc, steps.copy(alloc)?)?))?;
+        entries.push((*id, steps.share(alloc)?))?;
     }
     Map::from_rising(alloc, entries)
 }
@@ -186,12 +183,12 @@ fn copied<V: Drop, M: Drop>(
 fn moved<V: Drop, M: Drop>(
     alloc: Global,
     ran: BTreeMap<VertexId, Steps<V, M>>,
-) -> Result<Map<Ran<V, M>>, Memory>
+) -> Result<Map<Steps<V, M>>, Memory>
     ensures { IfOk result (λ moved. moved ≡ ran.entries) }
 {
     let mut entries = Vec::with_capacity(alloc, ran.len())?;
     for (id, steps) in ran {
-        entries.push((id, Ran::of(alloc, steps)?))?;
+        entries.push((id, steps))?;
     }
     Map::from_rising(alloc, entries)
 }

@@ -1,8 +1,7 @@
-//! What an index has of a vertex, as copies share it, and notes in a shared index.
-ghost use Rattle.std.specs.Prelude.{◌≡◌, ◌++◌, [], take, Some, IfOk, IsTrue, OnOk, slice_index_or};
+//! What an index has of a vertex, and notes in a shared index.
+ghost use Rattle.std.specs.Prelude.{◌≡◌, ◌++◌, [], take, Some, IfOk, OnOk, slice_index_or};
 ghost use Rattle.std.specs.Option.{option_copied};
 ghost use Rattle.pg_map.specs.Entries.{ChangesRise, HasRisingIds, value_at};
-ghost use Rattle.std.specs.List.Sorted.{IsNonDecreasingBy};
 ghost use Rattle.pg_trace.specs.Ran.{IsNoted, last_of, noted, noting, ran_by, ran_in, steps_above, steps_below, steps_in, with_ran};
 ghost use Rattle.pg_trace.specs.Trace.{last_record};
 
@@ -12,50 +11,6 @@ use pg_graph::{Memory, VertexId};
 use pg_map::{Map, Share};
 use pg_model::Record;
 use std::alloc::Global;
-use std::marker::Model;
-use std::sync::Arc;
-
-/// The supersteps in which a vertex ran, rising, and the record of the last of them. Copies share them.
-#[derive(Drop)]
-pub(crate) struct Ran<V, M> {
-    shared: Arc<Steps<V, M>>,
-}
-
-impl<V, M> Model for Ran<V, M> {
-    ghost use Rattle.pg_model.specs.declared.record.Record.{Record};
-    ghost use Rattle.pg_trace.specs.Ran.{Ran};
-    ghost use Rattle.std.specs.Arc.{arc_value};
-
-    ghost Value = { Ran (Record V M) };
-
-    ghost view = { λ r. arc_value r.shared };
-}
-
-impl<V: Drop, M: Drop> Share for Ran<V, M> {
-    fn share(&self, _alloc: Global) -> Result<Ran<V, M>, Memory> {
-        Ok(Ran {
-            shared: Arc::try_clone(&self.shared)?,
-        })
-    }
-}
-
-impl<V: Drop, M: Drop> Ran<V, M> {
-    /// Keeps what there is of a vertex.
-    pub(crate) fn of(alloc: Global, steps: Steps<V, M>) -> Result<Ran<V, M>, Memory>
-        ensures { IfOk result (λ ran. ran ≡ steps) }
-    {
-        Ok(Ran {
-            shared: Arc::new(alloc, steps)?,
-        })
-    }
-
-    /// What there is of the vertex.
-    pub(crate) fn steps(&self) -> &Steps<V, M>
-        ensures { result.now ≡ self.now }
-    {
-        &self.shared
-    }
-}
 
 /// The last record of a vertex before a superstep, where an index has this of it. It is found by halving among the
 /// supersteps in which the vertex ran, and read from the index or by two binary searches.
@@ -69,8 +24,8 @@ pub(crate) fn last_before<'t, V: Drop, M: Drop>(
     ensures { option_copied result ≡ last_record id (take superstep supersteps.now) }
 {
     let ran = ran?;
-    let last = last_below(ran.supersteps(), superstep)?;
-    if is_last(last, ran.supersteps()) {
+    let last = ran.last_below(superstep)?;
+    if ran.is_latest(last) {
         return Some(ran.last().record());
     }
     let kept = kept_in(supersteps, id, last)?;
@@ -89,16 +44,6 @@ pub(crate) fn kept_in<'t, V: Drop, M: Drop>(
     records.get(id)
 }
 
-/// Whether a superstep is the last of these.
-fn is_last(superstep: usize, steps: &[usize]) -> bool
-    ensures { IsTrue result → Some superstep ≡ last_of steps.now }
-{
-    match last_of(steps) {
-        Some(last) => last == superstep,
-        None => false,
-    }
-}
-
 /// The last of supersteps.
 fn last_of(steps: &[usize]) -> Option<usize>
     ensures { result ≡ last_of steps.now }
@@ -109,23 +54,11 @@ fn last_of(steps: &[usize]) -> Option<usize>
     Some(steps[steps.len() - 1])
 }
 
-/// The last of rising supersteps that is below one, found by halving.
-fn last_below(steps: &[usize], superstep: usize) -> Option<usize>
-    requires { IsNonDecreasingBy (λ t. t) steps.now }
-    ensures { result ≡ last_of (steps_below superstep steps.now) }
-{
-    let after = steps.partition_point(|step| *step < superstep);
-    if after == 0 {
-        return None;
-    }
-    Some(steps[after - 1])
-}
-
 /// Notes of these vertices, by rising id, which record a superstep gave them, if any. The others of their records are
 /// among those of the supersteps.
 pub(crate) fn note<V: Drop, M: Drop>(
     alloc: Global,
-    ran: &mut Map<Ran<V, M>>,
+    ran: &mut Map<Steps<V, M>>,
     supersteps: &[Map<Kept<V, M>>],
     superstep: usize,
     given: &[(VertexId, Option<Kept<V, M>>)],
@@ -149,42 +82,21 @@ pub(crate) fn tell_rising<X>(map: &Map<X>)
 /// What each of these vertices has after the superstep is noted; none where it is nothing.
 fn changes_of<V: Drop, M: Drop>(
     alloc: Global,
-    ran: &Map<Ran<V, M>>,
+    ran: &Map<Steps<V, M>>,
     supersteps: &[Map<Kept<V, M>>],
     superstep: usize,
     given: &[(VertexId, Option<Kept<V, M>>)],
-) -> Result<Vec<(VertexId, Option<Ran<V, M>>)>, Memory>
+) -> Result<Vec<(VertexId, Option<Steps<V, M>>)>, Memory>
     ensures { IfOk result (λ changes. changes.items ≡ noting supersteps.now superstep given.now ran.now) }
 {
     let mut finder = ran.finder();
     let mut changes = Vec::with_capacity(alloc, given.len())?;
     for (id, given) in given {
-        let before = steps_of(finder.get(*id));
+        let before = finder.get(*id);
         let after = after(alloc, supersteps, *id, superstep, given.as_ref(), before)?;
-        changes.push((*id, ran_if_any(alloc, after)?))?;
+        changes.push((*id, after))?;
     }
     Ok(changes)
-}
-
-/// What there is of a vertex, if anything.
-fn steps_of<'t, V: Drop, M: Drop>(ran: Option<&'t Ran<V, M>>) -> Option<&'t Steps<V, M>>
-    ensures { option_copied result ≡ option_copied ran.entry }
-{
-    let ran = ran?;
-    Some(ran.steps())
-}
-
-/// Keeps what there is of a vertex, if anything.
-fn ran_if_any<V: Drop, M: Drop>(
-    alloc: Global,
-    steps: Option<Steps<V, M>>,
-) -> Result<Option<Ran<V, M>>, Memory>
-    ensures { IfOk result (λ ran. ran ≡ steps) }
-{
-    match steps {
-        Some(steps) => Ok(Some(Ran::of(alloc, steps)?)),
-        None => Ok(None),
-    }
 }
 
 /// What a vertex has after it is noted what a superstep gave it.
@@ -233,7 +145,7 @@ fn ran_by<V: Drop, M: Drop>(
         kept_in(supersteps, id, last)
     };
     match kept {
-        Some(kept) => Ok(Some(Steps::of(steps, kept.share(alloc)?))),
+        Some(kept) => Ok(Some(Steps::of(alloc, steps, last, kept.share(alloc)?)?)),
         None => Ok(None),
     }
 }

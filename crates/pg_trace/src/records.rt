@@ -5,7 +5,8 @@ ghost use Rattle.pg_trace.specs.Ran.{IsIndex};
 ghost use Rattle.pg_trace.specs.Trace.{lent, put_at};
 
 use crate::kept::Kept;
-use crate::ran::{Ran, note, tell_rising};
+use crate::ran::{note, tell_rising};
+use crate::steps::Steps;
 use pg_graph::{Memory, VertexId};
 use pg_map::{Map, Share};
 use pg_model::Record;
@@ -56,7 +57,7 @@ pub(crate) fn all_kept<V: Drop, M: Drop>(
 /// Forgets that vertices ran in these supersteps from a place on.
 pub(crate) fn forget<V: Drop, M: Drop>(
     alloc: Global,
-    ran: &mut Map<Ran<V, M>>,
+    ran: &mut Map<Steps<V, M>>,
     supersteps: &[Map<Kept<V, M>>],
     len: usize,
 ) -> Result<(), Memory>

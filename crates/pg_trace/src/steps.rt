@@ -1,35 +1,64 @@
 //! The supersteps in which one vertex ran, and its last record.
-ghost use Rattle.std.specs.Prelude.{◌≡◌, ◌++◌, ◌∷◌, [], ℕ, ◌<◌, length, slice_index, IfOk, OnOk, IsTrue};
+ghost use Rattle.std.specs.Prelude.{◌≡◌, ◌++◌, ◌∷◌, [], ℕ, ◌<◌, false, length, slice_index, Some, IfOk, OnErr, OnOk, IsTrue};
+ghost use Rattle.std.specs.Arc.{arc_value};
 ghost use Rattle.std.specs.List.Sorted.{IsNonDecreasingBy};
+ghost use Rattle.pg_trace.specs.Ran.{last_of, steps_below};
 
 use crate::kept::Kept;
 use pg_graph::Memory;
 use pg_map::Share;
 use std::alloc::Global;
 use std::marker::Model;
+use std::sync::Arc;
 
-/// The supersteps in which a vertex ran, rising, and the record of the last of them.
+/// The supersteps in which a vertex ran, rising, and the record of the last of them. Copies share both. The last one is
+/// noted beside their list, so that most look-ups don't read that.
 #[derive(Drop)]
 pub(crate) struct Steps<V, M> {
-    supersteps: Vec<usize>,
+    supersteps: Arc<Vec<usize>>,
+    latest: usize,
     last: Kept<V, M>,
 }
 
 impl<V, M> Model for Steps<V, M> {
+    ghost use Rattle.std.specs.Arc.{arc_value};
+    ghost use Rattle.std.specs.Prelude.{◌≡◌, Some};
     ghost use Rattle.pg_model.specs.declared.record.Record.{Record};
-    ghost use Rattle.pg_trace.specs.Ran.{Ran};
+    ghost use Rattle.pg_trace.specs.Ran.{Ran, last_of};
 
     ghost Value = { Ran (Record V M) };
 
-    ghost view = { λ s. record { steps = s.supersteps.items; last = s.last } };
+    ghost view = { λ s. record { steps = (arc_value s.supersteps).items; last = s.last } };
+
+    ghost invariant = { λ s. Some s.latest ≡ last_of (arc_value s.supersteps).items };
+}
+
+impl<V: Drop, M: Drop> Share for Steps<V, M> {
+    fn share(&self, alloc: Global) -> Result<Steps<V, M>, Memory> {
+        Ok(Steps {
+            supersteps: Arc::try_clone(&self.supersteps)?,
+            latest: self.latest,
+            last: self.last.share(alloc)?,
+        })
+    }
 }
 
 impl<V: Drop, M: Drop> Steps<V, M> {
-    /// These supersteps, and a record.
-    pub(crate) fn of(supersteps: Vec<usize>, last: Kept<V, M>) -> Steps<V, M>
-        ensures { result ≡ record { steps = supersteps.items; last = last } }
+    /// These supersteps, of which this is the last, and a record.
+    pub(crate) fn of(
+        alloc: Global,
+        supersteps: Vec<usize>,
+        latest: usize,
+        last: Kept<V, M>,
+    ) -> Result<Steps<V, M>, Memory>
+        requires { Some latest ≡ last_of supersteps.items }
+        ensures { IfOk result (λ steps. steps ≡ record { steps = supersteps.items; last = last }) }
     {
-        Steps { supersteps, last }
+        Ok(Steps {
+            supersteps: Arc::new(alloc, supersteps)?,
+            latest,
+            last,
+        })
     }
 
     /// The supersteps.
@@ -47,10 +76,16 @@ impl<V: Drop, M: Drop> Steps<V, M> {
     }
 
     /// Adds a superstep, whose record is the last one now.
-    pub(crate) fn push(&mut self, superstep: usize, last: Kept<V, M>) -> Result<(), Memory>
+    pub(crate) fn push(
+        &mut self,
+        alloc: Global,
+        superstep: usize,
+        last: Kept<V, M>,
+    ) -> Result<(), Memory>
         ensures { OnOk result (self.new ≡ record { steps = self.old.steps ++ superstep ∷ []; last = last }) }
     {
-        self.supersteps.push(superstep)?;
+        add_step(alloc, &mut self.supersteps, superstep)?;
+        self.latest = superstep;
         self.last = last;
         Ok(())
     }
@@ -60,27 +95,67 @@ impl<V: Drop, M: Drop> Steps<V, M> {
         requires { IsNonDecreasingBy (λ t. t) self.now.steps }
         ensures { IsTrue result → (k : ℕ) → k < length self.now.steps → slice_index self.now.steps k < superstep }
     {
-        are_below(self.supersteps.as_slice(), superstep)
+        self.latest < superstep
     }
 
-    /// A copy, which shares the record.
-    pub(crate) fn copy(&self, alloc: Global) -> Result<Steps<V, M>, Memory>
-        ensures { IfOk result (λ copy. copy ≡ self.now) }
+    /// The last of them that is below a superstep: the last of all, or found by halving.
+    pub(crate) fn last_below(&self, superstep: usize) -> Option<usize>
+        requires { IsNonDecreasingBy (λ t. t) self.now.steps }
+        ensures { result ≡ last_of (steps_below superstep self.now.steps) }
     {
-        Ok(Steps {
-            supersteps: Vec::from_slice(alloc, self.supersteps.as_slice())?,
-            last: self.last.share(alloc)?,
-        })
+        if self.are_below(superstep) {
+            return Some(self.latest);
+        }
+        last_below(self.supersteps(), superstep)
+    }
+
+    /// Whether a superstep is the last of them.
+    pub(crate) fn is_latest(&self, superstep: usize) -> bool
+        ensures { IsTrue result → Some superstep ≡ last_of self.now.steps }
+    {
+        superstep == self.latest
     }
 }
 
-/// Whether rising supersteps all come before one.
-fn are_below(steps: &[usize], superstep: usize) -> bool
-    requires { IsNonDecreasingBy (λ t. t) steps.now }
-    ensures { IsTrue result → (k : ℕ) → k < length steps.now → slice_index steps.now k < superstep }
+/// Adds a superstep to a list, which no copy shares then. Where memory is refused the list stays as it was.
+fn add_step(alloc: Global, list: &mut Arc<Vec<usize>>, superstep: usize) -> Result<(), Memory>
+    ensures ok { OnOk result ((arc_value list.new).items ≡ (arc_value list.old).items ++ superstep ∷ []) }
+    ensures err { OnErr result ((arc_value list.new).items ≡ (arc_value list.old).items) }
 {
-    if steps.is_empty() {
-        return true;
+    if add_in_place(list, superstep)? {
+        return Ok(());
     }
-    steps[steps.len() - 1] < superstep
+    let mut longer = Vec::from_slice(alloc, list.as_slice())?;
+    longer.push(superstep)?;
+    *list = Arc::new(alloc, longer)?;
+    Ok(())
+}
+
+/// The same where no copy shares the list. Else nothing changes, and it says so.
+fn add_in_place(list: &mut Arc<Vec<usize>>, superstep: usize) -> Result<bool, Memory>
+    ensures added { IfOk result (λ added. IsTrue added
+        → (arc_value list.new).items ≡ (arc_value list.old).items ++ superstep ∷ []) }
+    ensures same { IfOk result (λ added. added ≡ false
+        → (arc_value list.new).items ≡ (arc_value list.old).items) }
+    ensures err { OnErr result ((arc_value list.new).items ≡ (arc_value list.old).items) }
+{
+    match Arc::get_mut(list) {
+        Some(steps) => {
+            steps.push(superstep)?;
+            Ok(true)
+        }
+        None => Ok(false),
+    }
+}
+
+/// The last of rising supersteps that is below one, found by halving.
+fn last_below(steps: &[usize], superstep: usize) -> Option<usize>
+    requires { IsNonDecreasingBy (λ t. t) steps.now }
+    ensures { result ≡ last_of (steps_below superstep steps.now) }
+{
+    let after = steps.partition_point(|step| *step < superstep);
+    if after == 0 {
+        return None;
+    }
+    Some(steps[after - 1])
 }

@@ -2,7 +2,7 @@ use Rattle.std.proofs.Common.{◌≡◌, suc, ◌-◌, ltb, of_calls, rules, ari
 use Rattle.std.proofs.lemmas.Fn.{always_returns_same}
 use Rattle.std.proofs.lemmas.List.Sorted.{IsPartitionedBy-ltb}
 use Rattle.pg_trace.proofs.Supersteps.{last_below, none_below}
-use Rattle.pg_trace.proofs.ran.last_below.Goals as goal
+use Rattle.pg_trace.proofs.steps.last_below.Goals as goal
 
 pub returns-then-after-eq0 : goal.returns-then-after-eq0
 returns-then-after-eq0 c =
