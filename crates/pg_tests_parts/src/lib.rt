@@ -5,8 +5,6 @@
 #![tactic(auto)]
 
 #[cfg(test)]
-mod course;
-#[cfg(test)]
 mod orders;
 #[cfg(test)]
 mod runs;

@@ -12,7 +12,7 @@ use std::alloc::{AllocError, Global};
 use std::process::Abort;
 use std::test::Fail;
 
-pub(crate) fn id(number: u64) -> Result<VertexId, Fail> {
+fn id(number: u64) -> Result<VertexId, Fail> {
     Ok(VertexId::new(number).ok_or("a number above 2^63 - 1")?)
 }
 

@@ -2,7 +2,7 @@ ghost use Rattle.std.specs.Prelude.{◌≡◌, ◌≤◌, length, true, IfSome};
 ghost use Rattle.std.specs.Option.{option_copied};
 ghost use Rattle.pg_global.specs.Master.{has_places};
 
-use crate::runs::{graph_of, id};
+use crate::graphs::{graph_of, id};
 use pg_course::{Course, Partitioner, Sent};
 use pg_global::{AnyCombiner, MessageCombiner, Visible};
 use pg_graph::{Graph, Missing, PartitionId, Superstep, VertexId};
@@ -33,12 +33,14 @@ fn lent_if<X>(there: bool, value: &X) -> Option<&X>
     if there { Some(value) } else { None }
 }
 
-// A course one superstep further, and what it sends.
+// A course one superstep further, and what it sends; beside an old run with these logs, or not.
 fn stepped<P: Computation, C: MessageCombiner<P::Message>>(
     alloc: Global,
     course: Course<P::Value, P::Message>,
     logs: &Logs<P::Message>,
     visible: &Visible,
+    old_logs: &Logs<P::Message>,
+    beside: bool,
     program: &P,
     combiner: &C,
     meter: &mut Meter,
@@ -49,13 +51,12 @@ fn stepped<P: Computation, C: MessageCombiner<P::Message>>(
     if course.place().number() > 100 {
         return Err(Fail::from("a run without an end"));
     }
-    let none = Logs::new(alloc);
     let stepped = course.step(
         alloc,
         logs,
         visible,
-        lent_if(false, &none),
-        lent_if(false, visible),
+        lent_if(beside, old_logs),
+        lent_if(beside, visible),
         program,
         combiner,
         meter,
@@ -84,6 +85,8 @@ fn further<P: Computation, C: MessageCombiner<P::Message>>(
     alloc: Global,
     courses: Vec<Course<P::Value, P::Message>>,
     logs: &mut Logs<P::Message>,
+    old_logs: &Logs<P::Message>,
+    beside: bool,
     total_edges: u64,
     program: &P,
     combiner: &C,
@@ -95,19 +98,22 @@ fn further<P: Computation, C: MessageCombiner<P::Message>>(
     let mut all = Vec::new(alloc);
     for course in courses {
         let (partition, place) = (course.partition(), course.place());
-        let (course, sent) = stepped(alloc, course, logs, &visible, program, combiner, meter)?;
+        let (course, sent) = stepped(
+            alloc, course, logs, &visible, old_logs, beside, program, combiner, meter,
+        )?;
         log(alloc, logs, place, partition, sent)?;
         all.push(course)?;
     }
     Ok(all)
 }
 
-// A run that was made on courses, with how many supersteps it has.
+// A run that was made on courses, with what was sent and how many supersteps it has.
 #[derive(Drop)]
-struct Made<V: Plain, M: Plain> {
+pub(crate) struct Made<V: Plain, M: Plain> {
     courses: Vec<Course<V, M>>,
+    logs: Logs<M>,
     supersteps: u32,
-    meter: Meter,
+    pub(crate) meter: Meter,
 }
 
 // A partition as a run from scratch begins.
@@ -123,8 +129,37 @@ fn begun<P: Computation>(
     Ok(Course::begin(alloc, rows, Missing::Drop, states)?)
 }
 
+// A run on these courses of as many supersteps as there are totals of edges; beside an old run with these logs, or not.
+fn run_on<P: Computation, C: MessageCombiner<P::Message>>(
+    alloc: Global,
+    courses: Vec<Course<P::Value, P::Message>>,
+    old_logs: &Logs<P::Message>,
+    beside: bool,
+    totals: &[u64],
+    program: &P,
+    combiner: &C,
+) -> Result<Made<P::Value, P::Message>, Fail>
+    requires { has_places (P.program program.now).declared 0 ≡ true }
+{
+    let mut courses = courses;
+    let (mut logs, mut meter) = (Logs::new(alloc), Meter::new());
+    let mut supersteps = 0u32;
+    for total in totals {
+        courses = further(
+            alloc, courses, &mut logs, old_logs, beside, *total, program, combiner, &mut meter,
+        )?;
+        supersteps = supersteps.saturating_add(1);
+    }
+    Ok(Made {
+        courses,
+        logs,
+        supersteps,
+        meter,
+    })
+}
+
 // A run from scratch of as many supersteps as there are totals of edges, on so many partitions.
-fn cold_run<P: Computation, C: MessageCombiner<P::Message>>(
+pub(crate) fn cold_run<P: Computation, C: MessageCombiner<P::Message>>(
     alloc: Global,
     graph: &Graph,
     partitioner: Partitioner,
@@ -139,19 +174,44 @@ fn cold_run<P: Computation, C: MessageCombiner<P::Message>>(
         let partition = PartitionId::new(partition);
         courses.push(begun(alloc, graph, partitioner, partition, program)?)?;
     }
-    let (mut logs, mut meter) = (Logs::new(alloc), Meter::new());
-    let mut supersteps = 0u32;
-    for total in totals {
-        courses = further(
-            alloc, courses, &mut logs, *total, program, combiner, &mut meter,
-        )?;
-        supersteps = supersteps.saturating_add(1);
+    let none = Logs::new(alloc);
+    run_on(alloc, courses, &none, false, totals, program, combiner)
+}
+
+// The partitions of an old run as one beside it begins, where edits named these ids.
+fn begun_beside<P: Computation>(
+    alloc: Global,
+    graph: &Graph,
+    partitioner: Partitioner,
+    old: Vec<Course<P::Value, P::Message>>,
+    touched: &[VertexId],
+    program: &P,
+) -> Result<Vec<Course<P::Value, P::Message>>, Fail> {
+    let mut courses = Vec::new(alloc);
+    for course in old {
+        let rows = partitioner.rows(graph, course.partition());
+        let trace = course.into_trace();
+        courses.push(Course::begin_beside(alloc, rows, Missing::Drop, trace, touched, program)?)?;
     }
-    Ok(Made {
-        courses,
-        supersteps,
-        meter,
-    })
+    Ok(courses)
+}
+
+// A run beside an old one that has as many supersteps, where edits named these ids.
+pub(crate) fn warm_run<P: Computation, C: MessageCombiner<P::Message>>(
+    alloc: Global,
+    graph: &Graph,
+    partitioner: Partitioner,
+    old: Made<P::Value, P::Message>,
+    touched: &[VertexId],
+    totals: &[u64],
+    program: &P,
+    combiner: &C,
+) -> Result<Made<P::Value, P::Message>, Fail>
+    requires { has_places (P.program program.now).declared 0 ≡ true }
+{
+    let Made { courses, logs, .. } = old;
+    let courses = begun_beside(alloc, graph, partitioner, courses, touched, program)?;
+    run_on(alloc, courses, &logs, true, totals, program, combiner)
 }
 
 // The value of a vertex as a superstep begins, if it is there.
@@ -203,7 +263,7 @@ fn run_parts<P: Computation, C: MessageCombiner<P::Message>>(
     told(alloc, partitioner, &made)
 }
 
-static SIZES: [u32; 5] = [1, 2, 3, 5, 64];
+pub(crate) static SIZES: [u32; 5] = [1, 2, 3, 5, 64];
 
 // What the sample program finds in two supersteps on a graph with five edges.
 fn tallied(

@@ -1,0 +1,142 @@
+// Which vertices are called in a run beside an old one, by a program that notes its calls.
+use crate::course::{SIZES, cold_run, warm_run};
+use crate::graphs::{graph_of, id};
+use crate::noting::Noting;
+use pg_course::Partitioner;
+use pg_global::AnyCombiner;
+use pg_graph::{Graph, VertexId};
+use pg_program::Tally;
+use std::alloc::Global;
+use std::fmt::Write;
+use std::process::Abort;
+use std::test::Fail;
+
+static INPUTS: [(u64, i64); 5] = [(1, 10), (2, 20), (3, 30), (4, 40), (5, 50)];
+
+static EDGES: [(u64, u64); 5] = [(5, 3), (4, 3), (3, 1), (2, 3), (1, 3)];
+
+// What a program noted, and what the meter counted.
+fn noted(alloc: Global, program: &Noting<Tally>, count: u64) -> Result<String, Fail> {
+    let mut text = program.told(alloc)?;
+    write!(text, " calls {count}")?;
+    Ok(text)
+}
+
+// Which vertices a run from scratch calls in its two supersteps.
+fn called(alloc: Global, graph: &Graph, partitions: u32) -> Result<String, Fail> {
+    let partitioner = Partitioner::new(partitions).ok_or("no such number of partitions")?;
+    let program = Noting::of(alloc, Tally)?;
+    let made = cold_run(
+        alloc,
+        graph,
+        partitioner,
+        &[0, 0],
+        &program,
+        &AnyCombiner::NoCombiner,
+    )?;
+    noted(alloc, &program, made.meter.count())
+}
+
+// Which vertices a run calls beside one on another graph, where edits named these ids.
+fn called_beside(
+    alloc: Global,
+    before: &Graph,
+    after: &Graph,
+    touched: &[VertexId],
+    partitions: u32,
+) -> Result<String, Fail> {
+    let partitioner = Partitioner::new(partitions).ok_or("no such number of partitions")?;
+    let combiner = AnyCombiner::NoCombiner;
+    let first = Noting::of(alloc, Tally)?;
+    let old = cold_run(alloc, before, partitioner, &[0, 0], &first, &combiner)?;
+    let program = Noting::of(alloc, Tally)?;
+    let made = warm_run(
+        alloc,
+        after,
+        partitioner,
+        old,
+        touched,
+        &[0, 0],
+        &program,
+        &combiner,
+    )?;
+    noted(alloc, &program, made.meter.count())
+}
+
+// The same where the edges were those of the first graph, and the ids are told by their numbers.
+fn called_after(
+    alloc: Global,
+    edges: &[(u64, u64)],
+    touched: &[u64],
+    partitions: u32,
+) -> Result<String, Fail> {
+    let before = graph_of(alloc, &INPUTS, &EDGES)?;
+    let after = graph_of(alloc, &INPUTS, edges)?;
+    let mut ids = Vec::new(alloc);
+    for number in touched {
+        ids.push(id(*number)?)?;
+    }
+    called_beside(alloc, &before, &after, ids.as_slice(), partitions)
+}
+
+// From scratch each vertex is called in superstep 0, and in superstep 1 each that receives something.
+#[test]
+fn from_scratch_all_that_are_active_are_called(rt: HostRuntime) -> Result<(), Fail> {
+    let alloc = rt.alloc();
+    let graph = graph_of(alloc, &INPUTS, &EDGES)?;
+    for partitions in SIZES {
+        let told = called(alloc, &graph, partitions)?;
+        assert_eq!(rt;
+            told.as_str(),
+            "0:1 0:2 0:3 0:4 0:5 1:1 1:3 others 0 calls 7"
+        );
+    }
+    Ok(())
+}
+
+// Vertex 4 has one edge more, so it is called; vertex 2 hears of it, and vertex 3 hears what it heard before.
+#[test]
+fn an_edge_more_calls_its_source_and_its_target(rt: HostRuntime) -> Result<(), Fail> {
+    let alloc = rt.alloc();
+    let edges = [(5, 3), (4, 2), (4, 3), (3, 1), (2, 3), (1, 3)];
+    for partitions in SIZES {
+        let told = called_after(alloc, &edges, &[4, 2], partitions)?;
+        assert_eq!(rt; told.as_str(), "0:4 1:2 others 0 calls 2");
+    }
+    Ok(())
+}
+
+// Vertex 4 sends nothing any more: vertex 3 hears from three in place of four.
+#[test]
+fn an_edge_less_calls_its_source_and_its_target(rt: HostRuntime) -> Result<(), Fail> {
+    let alloc = rt.alloc();
+    let edges = [(5, 3), (3, 1), (2, 3), (1, 3)];
+    for partitions in SIZES {
+        let told = called_after(alloc, &edges, &[4, 3], partitions)?;
+        assert_eq!(rt; told.as_str(), "0:4 1:3 others 0 calls 2");
+    }
+    Ok(())
+}
+
+// Vertex 3 has an edge less in both supersteps. Vertex 1 hears nothing any more, so it isn't active in superstep 1.
+#[test]
+fn a_vertex_that_hears_nothing_now_is_not_called(rt: HostRuntime) -> Result<(), Fail> {
+    let alloc = rt.alloc();
+    let edges = [(5, 3), (4, 3), (2, 3), (1, 3)];
+    for partitions in SIZES {
+        let told = called_after(alloc, &edges, &[3, 1], partitions)?;
+        assert_eq!(rt; told.as_str(), "0:3 1:3 others 0 calls 2");
+    }
+    Ok(())
+}
+
+// Edits named all vertices, and left each as it was.
+#[test]
+fn vertices_that_are_restored_are_not_called(rt: HostRuntime) -> Result<(), Fail> {
+    let alloc = rt.alloc();
+    for partitions in SIZES {
+        let told = called_after(alloc, &EDGES, &[1, 2, 3, 4, 5], partitions)?;
+        assert_eq!(rt; told.as_str(), "others 0 calls 0");
+    }
+    Ok(())
+}

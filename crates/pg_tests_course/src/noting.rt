@@ -1,0 +1,122 @@
+//! A program that notes which vertices are called.
+
+use pg_graph::{Memory, Superstep, VertexId};
+use pg_model::Declared;
+use pg_program::{Computation, Cx, Vertex};
+use std::alloc::Global;
+use std::fmt::Write;
+use std::sync::atomic::{AtomicU64, Ordering};
+use std::test::Fail;
+
+/// The supersteps in which calls are told apart.
+const SUPERSTEPS: u32 = 3;
+
+/// The ids that are told apart, from 0 on.
+const IDS: u32 = 10;
+
+/// A program that does what another does, and counts how often each vertex is called in each superstep.
+#[derive(Drop)]
+pub(crate) struct Noting<P> {
+    inner: P,
+    calls: Vec<Vec<AtomicU64>>,
+    others: AtomicU64,
+}
+
+// So many counters at zero.
+fn counters(alloc: Global) -> Result<Vec<AtomicU64>, Memory> {
+    let mut row = Vec::new(alloc);
+    for _ in 0..IDS {
+        row.push(AtomicU64::new(0))?;
+    }
+    Ok(row)
+}
+
+impl<P> Noting<P> {
+    /// The program that does what this one does, without a call so far.
+    pub(crate) fn of(alloc: Global, inner: P) -> Result<Noting<P>, Memory>
+    where
+        P: Drop,
+    {
+        let mut calls = Vec::new(alloc);
+        for _ in 0..SUPERSTEPS {
+            calls.push(counters(alloc)?)?;
+        }
+        Ok(Noting {
+            inner,
+            calls,
+            others: AtomicU64::new(0),
+        })
+    }
+
+    // Counts a call. One that can't be told apart is counted too.
+    fn note(&self, superstep: Superstep, vertex: VertexId) {
+        let row = match self.calls.get(superstep.number() as usize) {
+            Some(row) => row.get(vertex.number() as usize),
+            None => None,
+        };
+        match row {
+            Some(count) => count.fetch_add(1, Ordering::SeqCst),
+            None => self.others.fetch_add(1, Ordering::SeqCst),
+        };
+    }
+
+    /// The calls as a text: each as superstep and vertex, with how many times where it isn't once.
+    pub(crate) fn told(&self, alloc: Global) -> Result<String, Fail> {
+        let mut text = String::new(alloc);
+        let mut superstep = 0u32;
+        for row in &self.calls {
+            tell_row(&mut text, superstep, row.as_slice())?;
+            superstep = superstep.saturating_add(1);
+        }
+        let others = self.others.load(Ordering::SeqCst);
+        write!(text, "others {others}")?;
+        Ok(text)
+    }
+}
+
+// Adds the calls of a superstep.
+fn tell_row(text: &mut String, superstep: u32, row: &[AtomicU64]) -> Result<(), Fail> {
+    let mut id = 0u32;
+    for count in row {
+        tell_count(text, superstep, id, count.load(Ordering::SeqCst))?;
+        id = id.saturating_add(1);
+    }
+    Ok(())
+}
+
+// Adds the calls of a vertex in a superstep, if there are any.
+fn tell_count(text: &mut String, superstep: u32, id: u32, count: u64) -> Result<(), Fail> {
+    if count == 1 {
+        write!(text, "{superstep}:{id} ")?;
+    } else if count > 1 {
+        write!(text, "{superstep}:{id}*{count} ")?;
+    }
+    Ok(())
+}
+
+impl<P: Computation> Computation for Noting<P> {
+    type Value = P::Value;
+
+    type Message = P::Message;
+
+    ghost program = { λ noting. P.program noting.inner };
+
+    fn declared(&self) -> Declared {
+        self.inner.declared()
+    }
+
+    fn initial(&self, alloc: Global, id: VertexId, input: i64) -> Result<P::Value, Memory> {
+        self.inner.initial(alloc, id, input)
+    }
+
+    fn compute(
+        &self,
+        alloc: Global,
+        vertex: &mut Vertex<P::Value>,
+        messages: &[P::Message],
+        cx: &mut Cx<P::Message>,
+    ) -> Result<(), Memory> {
+        self.note(cx.superstep(), vertex.id());
+        self.inner.compute(alloc, vertex, messages, cx)
+    }
+}
