@@ -13,7 +13,7 @@ use pg_graph::{Memory, Superstep};
 use pg_model::{Ending, Run};
 use pg_part::{Left, Part};
 use pg_program::{Computation, Plain};
-use pg_values::{copied_values, values_beside};
+use pg_values::values_beside;
 use std::alloc::Global;
 
 impl<'a, P: Computation, C: MessageCombiner<P::Message>, M: MasterCompute> Core<'a, P, C, M> {
@@ -49,14 +49,14 @@ impl<'a, P: Computation, C: MessageCombiner<P::Message>, M: MasterCompute> Core<
         let ended = ended_of(&kept);
         let parts_here = parts.as_slice();
         let values = values_beside(alloc, partitioner, missing, parts_here, ended, supersteps)?;
-        let again = copied_values(alloc, &values)?;
+        let listed = values.listed(alloc)?;
         let Tally {
             gathered,
             sent,
             dropped,
         } = tally;
         let run = Run {
-            values,
+            values: listed,
             aggregates: gathered,
             ending: ending.unwrap_or(Ending::LimitReached),
             supersteps: supersteps.number(),
@@ -68,7 +68,7 @@ impl<'a, P: Computation, C: MessageCombiner<P::Message>, M: MasterCompute> Core<
         let common = Common {
             logs,
             shown,
-            values: again,
+            values,
         };
         let traces = Traces {
             lefts,

@@ -2,15 +2,13 @@
 ghost use Rattle.std.specs.Prelude.{◌≡◌, ◌≤◌, length, Some, IfSome, option_map};
 ghost use Rattle.std.specs.Option.{option_copied};
 ghost use Rattle.pg_core.specs.Traces.{ended_by, logs_in, visible_in};
-ghost use Rattle.pg_map.specs.Entries.{HasRisingIds};
 
 use pg_global::Visible;
-use pg_graph::{Graph, Superstep, VertexId};
+use pg_graph::{Graph, Superstep};
 use pg_inbox::Logs;
-use pg_model::Sequence;
 use pg_part::Left;
 use pg_program::Plain;
-use pg_values::Ended;
+use pg_values::{Ended, Values};
 use std::marker::Model;
 
 /// What all partitions of a whole run have in common: what they sent, what the master showed in each superstep, and the
@@ -19,19 +17,18 @@ use std::marker::Model;
 pub(crate) struct Common<V, M: Plain> {
     pub(crate) logs: Logs<M>,
     pub(crate) shown: Vec<Visible>,
-    pub(crate) values: Sequence<(VertexId, V)>,
+    pub(crate) values: Values<V>,
 }
 
 impl<V, M: Plain> Model for Common<V, M> {
     ghost use Rattle.std.specs.Prelude.{All, length, ◌≤◌};
     ghost use Rattle.pg_core.specs.Traces.{Common};
-    ghost use Rattle.pg_map.specs.Entries.{HasRisingIds};
 
     ghost Value = { Common V M };
 
     ghost view = { λ k. record { logs = k.logs; shown = k.shown.items; values = k.values } };
 
-    ghost invariant = { λ k. All (λ v. length v.values ≤ 16) k.shown.items × HasRisingIds k.values };
+    ghost invariant = { λ k. All (λ v. length v.values ≤ 16) k.shown.items };
 }
 
 impl<V, M: Plain> Common<V, M> {
@@ -57,8 +54,7 @@ impl<V, M: Plain> Common<V, M> {
 
 /// How the kept run ended, if there is one.
 pub(crate) fn ended_of<V, M: Plain>(kept: &Option<Common<V, M>>) -> Option<Ended<'_, V>>
-    ensures ended { result ≡ option_map ended_by kept.now }
-    ensures rising { IfSome result (λ ended. HasRisingIds ended.values) }
+    ensures { result ≡ option_map ended_by kept.now }
 {
     match kept {
         Some(kept) => Some(Ended::new(&kept.values, kept.shown.len())),

@@ -29,7 +29,7 @@ use Rattle.pg_course.specs.Course.{AreAllChanged, AreTheOnly, HasStepped, Holdin
 use Rattle.pg_course.specs.Sending.{IsFresh, items_to, sends_of}
 use Rattle.pg_course.specs.declared.execution.Played.{Played}
 use Rattle.pg_course.specs.declared.found.Candidate.{Candidate}
-use Rattle.pg_course.proofs.Changing.{entries, entries-fewer, entries-hold, entries-rise, keys_of-entries, told_at}
+use Rattle.pg_course.proofs.Changing.{entries, entries-among, entries-rise, told_at}
 use Rattle.pg_inbox.proofs.Replacing.{unchanged_at}
 use Rattle.std.specs.Map.{keys_of}
 use Rattle.std.proofs.lemmas.Option.{none-some}
@@ -39,7 +39,7 @@ use Rattle.pg_course.proofs.Callees.{nothing_rises}
 use Rattle.pg_course.proofs.Sends.{sends_of_changes}
 use Rattle.pg_trace.proofs.Somes.{somes_are}
 use Rattle.pg_course.proofs.Stepping.{own_rise, reaching_next, stepped_holds}
-use Rattle.pg_course.proofs.Looking.{in_neither}
+use Rattle.pg_course.proofs.Looking.{in_neither, outside}
 use Rattle.pg_course.proofs.Sames.{at_rest_then}
 use Rattle.pg_model.specs.ByIds.{state_at}
 use Rattle.pg_trace.specs.Trace.{Trace, records_of, with_replaced}
@@ -78,14 +78,6 @@ module _ {V M : Type 0} (value_eq : V → V → Bool) (message_eq : M → M → 
 
   gives : Candidate V M → Option (Record V M)
   gives c = option_map job.program.step (reads view c.new)
-
-  -- each is listed, and has a change where it isn't at rest
-  moves : List (ℕ × Option (Record V M))
-  moves = entries (λ c. c.id) (λ c. false) gives cs
-
-  moved_are : played.moved.items ≡ keys_of moves
-  unfolding moves gives cs
-  moved_are = is.moved_are ∙ sym (keys_of-entries (λ c. c.id) (λ c. false) gives cs)
 
   rests : Candidate V M → Bool
   rests c = are_at_rest c.old c.new
@@ -155,8 +147,8 @@ module _ {V M : Type 0} (value_eq : V → V → Bool) (message_eq : M → M → 
       (somes_are played.changes.items rises ∙ (ap (λ l. with_changes l []) changed ∙ new_records))
 
   -- what the step changes: no other vertex has a record, and each other is as before
-  none_else : (id : ℕ) → has_id played.moved.items id ≡ false → value_at id (records_in job rows n p s) ≡ None
-  unfolding moves changes
+  none_else : (id : ℕ) → has_id played.looked_at.items id ≡ false → value_at id (records_in job rows n p s) ≡ None
+  unfolding changes cs
   none_else id other =
       ap (value_at id) (sym records_left)
       ∙ (unchanged_at played.changes.items (records_of s (reaching s course.trace)) id unchanged ∙ ap (value_at id) (reaching_next s course.trace long).0)
@@ -167,19 +159,18 @@ module _ {V M : Type 0} (value_eq : V → V → Bool) (message_eq : M → M → 
       unchanged : has_id (keys_of played.changes.items) id ≡ false
       unchanged =
           ap (λ l. has_id (keys_of l) id) changed
-          ∙ entries-fewer (λ c. c.id) (λ c. false) rests gives (λ c h. absurd (true≢false (sym h))) id cs (sym (ap (λ l. has_id l id) moved_are) ∙ other)
+          ∙ entries-among (λ c. c.id) rests gives id cs (sym (ap (λ l. has_id l id) is.looked_at_are) ∙ other)
 
   no_inputs : (o : Option (Inputs V M)) → option_map job.program.step o ≡ None → o ≡ None
   no_inputs None e = refl
   no_inputs (Some i) e = absurd (none-some (job.program.step i) (sym e))
 
-  only : AreTheOnly job rows n p s played.moved.items
-  unfolding moves
+  only : AreTheOnly job rows n p s played.looked_at.items
+  unfolding cs
   only = record {
-    rise = subst (IsStrictlySortedBy nat_cmp) (sym moved_are) (entries-rise (λ c. c.id) (λ c. false) gives cs rise);
-    mine = told_at (λ k. belongs n p k ≡ true) played.moved.items
-        (subst (AllByRecursion (λ k. belongs n p k ≡ true)) (sym moved_are)
-        (entries-hold (λ c. c.id) (λ c. false) gives (λ k. belongs n p k ≡ true) cs (all_weaker (IsRead job rows n p s) (λ c. belongs n p c.id ≡ true) (λ c r. r.mine) cs read)));
+    rise = subst (IsStrictlySortedBy nat_cmp) (sym is.looked_at_are) rise;
+    mine = told_at (λ k. belongs n p k ≡ true) played.looked_at.items
+        (subst (AllByRecursion (λ k. belongs n p k ≡ true)) (sym (is.looked_at_are ∙ is.ids_are)) (own_belong n p is.callees));
     records = none_else;
     states = λ id mine other.
         (IsIdleAt-from_inputs job rows s id within
@@ -187,7 +178,7 @@ module _ {V M : Type 0} (value_eq : V → V → Bool) (message_eq : M → M → 
   }
 
   pub stepped_alone : (after : Holding V M) (sent : List (Logged M))
-      → after ≡ record course { place = s + 1; trace = with_replaced s played.changes.items (reaching s course.trace); differing = differing_past course.kept course.differing played.moved.items; changed = played.moved.items; beside_old = false }
+      → after ≡ record course { place = s + 1; trace = with_replaced s played.changes.items (reaching s course.trace); restless = differing_past course.kept course.restless played.looked_at.items; changed = played.looked_at.items; beside_old = false }
       → length sent ≡ n
       → ((q : ℕ) → q < n → IsFresh job.combining (items_to n q (flat_map sends_of played.changes.items)) (slice_get sent q))
       → HasStepped job value_eq message_eq kept rows n p s after sent before played.stage.meter
@@ -215,7 +206,7 @@ module _ {V M : Type 0} (value_eq : V → V → Bool) (message_eq : M → M → 
       long = let e = holds.supersteps in omega (arith, past, e)
 
       next_part : Holding V M
-      next_part = record course { place = s + 1; trace = with_replaced s played.changes.items (reaching s course.trace); differing = differing_past course.kept course.differing played.moved.items; changed = played.moved.items; beside_old = false }
+      next_part = record course { place = s + 1; trace = with_replaced s played.changes.items (reaching s course.trace); restless = differing_past course.kept course.restless played.looked_at.items; changed = played.looked_at.items; beside_old = false }
 
       besides : (k : Option Rows) → kept_length job k ≤ s → IsBeside job k rows n p s course → IsBeside job k rows n p (s + 1) next_part
       besides None ends beside = beside
@@ -226,12 +217,14 @@ module _ {V M : Type 0} (value_eq : V → V → Bool) (message_eq : M → M → 
         later = λ t low high. absurd (omega (arith, low, high, ends));
         others = λ id mine other high. absurd (omega (arith, high, ends));
         as_ended = λ id mine other low.
-            let changed_ids = played.moved.items in
-            let both = differing_past course.kept course.differing changed_ids in
-            let is_both : both ≡ course.differing ++ changed_ids = ap (λ (o : Option (Trace V M)). differing_past o course.differing changed_ids) beside.is in
-            let apart = in_neither course.differing changed_ids both is_both id other in
-            beside.as_ended id mine apart.0 ends
+            let changed_ids = played.looked_at.items in
+            let all = differing_past course.kept course.restless changed_ids in
+            let are_all : all ≡ course.restless ++ changed_ids = ap (λ (o : Option (Trace V M)). differing_past o course.restless changed_ids) beside.is in
+            let parts = in_neither all course.resting _ refl id other in
+            let apart = in_neither course.restless changed_ids all are_all id parts.0 in
+            beside.as_ended id mine (outside course.restless course.resting id apart.0 parts.1) ends
             ∙ (sym (only.states id mine apart.1) ∙ ap (λ (k : ℕ). state_at job rows k id) (let e : suc s ≡ s + 1 = omega arith in e));
+        rest = λ id mine among high. absurd (omega (arith, high, ends));
       }
 
       tells : (k : Option Rows) → kept_length job k ≤ s → (q : ℕ) (logged : Logged M) → logged.changed ≡ None → TellsBeside job k n p q s logged
@@ -250,7 +243,7 @@ module _ {V M : Type 0} (value_eq : V → V → Bool) (message_eq : M → M → 
   pub alone_steps : (job : Job V M) (kept : Option Rows) (rows : Rows) (n p s : ℕ) (logs : Slots M) → job.program ≡ program → job.combining ≡ combining
       → 0 < course.partitions → Holds job kept rows n p s course → kept_length job kept ≤ s → s < run_length job rows → HasMessages job rows n p s logs
       → bundles ≡ bundles_before logs n p s → view ≡ view_at job rows s → (after : Holding V M) (sent : List (Logged M))
-      → after ≡ record course { place = course.place + 1; trace = with_replaced course.place played.changes.items (reaching course.place course.trace); differing = differing_past course.kept course.differing played.moved.items; changed = played.moved.items; beside_old = false }
+      → after ≡ record course { place = course.place + 1; trace = with_replaced course.place played.changes.items (reaching course.place course.trace); restless = differing_past course.kept course.restless played.looked_at.items; changed = played.looked_at.items; beside_old = false }
       → length sent ≡ course.partitions
       → ((q : ℕ) → q < course.partitions → IsFresh combining (items_to course.partitions q (flat_map sends_of played.changes.items)) (slice_get sent q))
       → HasStepped job value_eq message_eq kept rows n p s after sent before played.stage.meter
@@ -267,7 +260,7 @@ module _ {V M : Type 0} (value_eq : V → V → Bool) (message_eq : M → M → 
       (subst (λ k. IsPlayed value_eq message_eq job.program course.missing k view course.partitions course.partition course.place course.trace bundles None ids true false before played) (sym combining_is)
       (subst (λ k. IsPlayed value_eq message_eq k course.missing combining view course.partitions course.partition course.place course.trace bundles None ids true false before played) (sym program_is) is)))))))
       after sent
-      (further ∙ ap (λ k. record course { place = k + 1; trace = with_replaced k played.changes.items (reaching k course.trace); differing = differing_past course.kept course.differing played.moved.items; changed = played.moved.items; beside_old = false }) here)
+      (further ∙ ap (λ k. record course { place = k + 1; trace = with_replaced k played.changes.items (reaching k course.trace); restless = differing_past course.kept course.restless played.looked_at.items; changed = played.looked_at.items; beside_old = false }) here)
       (to_each ∙ all)
       (λ q below. subst (λ k. IsFresh k (items_to n q (flat_map sends_of played.changes.items)) (slice_get sent q)) (sym combining_is)
       (subst (λ k. IsFresh combining (items_to k q (flat_map sends_of played.changes.items)) (slice_get sent q)) all (fresh q (subst (λ k. q < k) (sym all) below))))

@@ -1,5 +1,5 @@
 -- A partition begins with its share of the states with which the run begins.
-use Rattle.std.proofs.Common.{◌≡◌, ℕ, ◌==◌, ◌&&◌, ◌||◌, Bool, true, false, cond, List, [], ◌∷◌, ◌++◌, map, length, Option, None, Some, option_map, refl, sym, ap, ap₂, ◌∙◌, arith, subst, filter}
+use Rattle.std.proofs.Common.{◌≡◌, ℕ, ◌==◌, ◌&&◌, ◌||◌, Bool, true, false, cond, List, [], ◌∷◌, ◌++◌, map, length, Option, None, Some, option_map, refl, sym, ap, ap₂, ◌∙◌, arith, subst, filter, true≢false}
 use Rattle.std.specs.BTreeMap.{is_at}
 use Rattle.std.specs.List.Sorted.{IsStrictlySortedBy}
 use Rattle.std.specs.List.{AllByRecursion}
@@ -24,9 +24,10 @@ use Rattle.pg_model.proofs.LawsPresent.{at_key}
 use Rattle.pg_model.specs.declared.configuration.Standing.{Standing}
 use Rattle.pg_model.specs.declared.configuration.VertexState.{VertexState}
 use Rattle.pg_course.specs.Candidates.{own}
-use Rattle.pg_course.specs.Course.{AreTouched, Holding, Holds, IsWhole}
+use Rattle.pg_course.specs.Course.{AreTouched, Holding, Holds, IsWhole, differing}
 use Rattle.pg_course.specs.Starting.{first_change, first_changes}
 use Rattle.pg_course.proofs.Coverage.{records_held}
+use Rattle.pg_course.proofs.Looking.{in_neither}
 use Rattle.pg_course.proofs.Stepping.{own_rise}
 use Rattle.pg_trace.specs.Beginning.{ChangesById, IsById, by_id, with_first}
 use Rattle.pg_trace.specs.OfRun.{HoldsRun}
@@ -230,9 +231,10 @@ pub holds_beside : {V M : Type 0} (job : Job V M) (kept rows : Rows) (n p : ℕ)
     → (missing : Missing) → missing ≡ job.missing → (old : Trace V M) → IsWhole job kept n p old → (touched : List ℕ) → IsStrictlySortedBy nat_cmp touched
     → AreTouched touched kept rows → (course : Holding V M)
     → course.partition ≡ p → course.partitions ≡ n → course.missing ≡ missing → course.place ≡ 0
-    → course.trace ≡ record old { initial = with_first (first_changes program rows n p touched) old.initial } → course.kept ≡ Some old → course.differing ≡ touched
+    → course.trace ≡ record old { initial = with_first (first_changes program rows n p touched) old.initial } → course.kept ≡ Some old
+    → course.restless ≡ touched → course.resting ≡ []
     → Holds job (Some kept) rows n p 0 course
-holds_beside job kept rows n p rise program is missing missing_is old whole touched ordered same course at_partition of_all at_missing here trace_is is_kept touched_are = record {
+holds_beside job kept rows n p rise program is missing missing_is old whole touched ordered same course at_partition of_all at_missing here trace_is is_kept touched_are none_rest = record {
   partition_is = at_partition;
   partitions_are = of_all;
   missing_is = at_missing ∙ missing_is;
@@ -247,11 +249,14 @@ holds_beside job kept rows n p rise program is missing missing_is old whole touc
     others = λ id mine other high. alike id other;
     as_ended = λ id mine other none.
         subst (λ k. state_at job kept k id ≡ state_at job rows 0 id) (let e : 0 ≡ run_length job kept = omega (arith, none) in e) (alike id other);
+    rest = λ id mine among _. absurd (true≢false (sym among ∙ ap (λ l. has_id l id) none_rest));
   };
 }
   where
-    alike : (id : ℕ) → has_id course.differing id ≡ false → state_at job kept 0 id ≡ state_at job rows 0 id
-    alike id other = (StandsAlike-first job kept rows id (same id (sym (ap (λ l. has_id l id) touched_are) ∙ other))).state
+    alike : (id : ℕ) → has_id (differing course) id ≡ false → state_at job kept 0 id ≡ state_at job rows 0 id
+    alike id other =
+        let apart = (in_neither course.restless course.resting _ refl id other).0 in
+        (StandsAlike-first job kept rows id (same id (sym (ap (λ l. has_id l id) touched_are) ∙ apart))).state
 
     fresh : HoldsRun job rows n p 0 (begun (map (λ r. state_first program r.0 r.1) (own n p rows)))
     fresh = begun_holds job rows n p rise program is

@@ -115,6 +115,19 @@ module _ {C X : Type 0} (id_of : C → ℕ) (skips more : C → Bool) (gives : C
           ap (λ (b : Bool). b || has_id (keys_of (entries id_of more gives cs)) id) g
           ∙ later (sym (ap (λ (b : Bool). b || has_id (keys_of (entries id_of skips gives cs)) id) g) ∙ h)
 
+-- entries stand at no other ids than those of what they are made of
+module _ {C X : Type 0} (id_of : C → ℕ) (skips : C → Bool) (gives : C → X) where
+  pub entries-among : (id : ℕ) (cs : List C) → has_id (map id_of cs) id ≡ false → has_id (keys_of (entries id_of skips gives cs)) id ≡ false
+  entries-among id [] h = refl
+  entries-among id (c ∷ cs) h = by (skips c) (id_of c == id) refl h (λ g. entries-among id cs g)
+    where
+      by : (b t : Bool) → (id_of c == id) ≡ t → (t || has_id (map id_of cs) id) ≡ false
+          → (has_id (map id_of cs) id ≡ false → has_id (keys_of (entries id_of skips gives cs)) id ≡ false)
+          → has_id (keys_of (cond b [] ((id_of c, gives c) ∷ []) ++ entries id_of skips gives cs)) id ≡ false
+      by b true e h later = absurd (true≢false h)
+      by true false e h later = later h
+      by false false e h later = ap (λ (b : Bool). b || has_id (keys_of (entries id_of skips gives cs)) id) e ∙ later h
+
 -- what holds of all ids holds of one of them
 pub told_at : (P : ℕ → Type 0) (ids : List ℕ) → AllByRecursion P ids → (id : ℕ) → has_id ids id ≡ true → P id
 told_at P [] h id there = absurd (true≢false (sym there))

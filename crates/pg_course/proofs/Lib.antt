@@ -13,6 +13,7 @@ pub mod Mending
 pub mod ReadVertices
 pub mod Recording
 pub mod Sames
+pub mod Searching
 pub mod Sends
 pub mod Splitting
 pub mod States

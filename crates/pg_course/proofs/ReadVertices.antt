@@ -15,7 +15,7 @@ use Rattle.pg_model.specs.Job.{Combining, Job, Program}
 use Rattle.pg_model.specs.Needed.{inputs_at, standing_at}
 use Rattle.pg_model.specs.Run.{present_at, run_length, view_at}
 use Rattle.pg_model.specs.Share.{belongs, records_in}
-use Rattle.pg_model.specs.Superstep.{has_id, is_active}
+use Rattle.pg_model.specs.Superstep.{has_id, inputs_of, is_active}
 use Rattle.pg_model.proofs.LawsInputs.{no_inputs_idle, no_inputs_missing}
 use Rattle.pg_model.proofs.LawsPresent.{inputs_within, standing_at-state}
 use Rattle.pg_model.proofs.LawsSharesAlike.{record_in_share}
@@ -23,6 +23,7 @@ use Rattle.pg_model.specs.declared.configuration.Standing.{Standing}
 use Rattle.pg_model.specs.declared.configuration.VertexState.{VertexState}
 use Rattle.pg_model.specs.declared.view.View.{View}
 use Rattle.pg_course.specs.Candidates.{AreCallees, awake_ids, found_at, own}
+use Rattle.pg_course.specs.Differing.{is_resting}
 use Rattle.pg_course.specs.Found.{IsFound, IsTold, are_same_reading, reads, vertex_of}
 use Rattle.pg_course.specs.Lent.{HasMessages, bundles_before}
 use Rattle.pg_course.specs.declared.found.Candidate.{Candidate}
@@ -71,6 +72,19 @@ module _ {X : Type 0} where
 
   not_nil : (x : X) (xs : List X) → x ∷ xs ≡ [] → ⊥
   not_nil x xs e = cc
+
+-- a vertex that is halted or isn't there, and to which nothing is sent, isn't executed
+pub no_inputs_at_rest : {V M : Type 0} (job : Job V M) (rows : Rows) (s id : ℕ) → s < run_length job rows → inbox_at job rows s id ≡ []
+    → is_resting (run_state_at job rows s id) ≡ true → inputs_at job rows s id ≡ None
+no_inputs_at_rest {V = V} {M = M} job rows s id within none rests =
+    inputs_within job rows s id within
+    ∙ (ap (reads (view_at job rows s)) (standing_at-state job rows s id ∙ ap (standing_with job.program id (run_state_at job rows s id)) none)
+    ∙ by (run_state_at job rows s id) rests)
+  where
+    by : (o : Option (VertexState V)) → is_resting o ≡ true → reads (view_at job rows s) (standing_with job.program id o []) ≡ None
+    by None h = refl
+    by (Some x) h =
+        ap (λ (b : Bool). cond (not b || false) (Some (inputs_of (view_at job rows s) (record { state = x; inbox = [] }))) None) h
 
 module _ {V M : Type 0} where
   -- each vertex is found by what is delivered to it

@@ -15,12 +15,9 @@ use Rattle.pg_model.specs.declared.configuration.Standing.{Standing}
 use Rattle.pg_model.specs.declared.view.View.{View}
 use Rattle.pg_course.specs.Found.{AreSameVertices, are_at_rest, are_same_reading, is_running, is_same_vertex, is_same_view, reads}
 use Rattle.pg_course.proofs.Coverage.{length_below}
+use Rattle.pg_course.proofs.Looking.{both}
 use Rattle.pg_trace.specs.OfRun.{HoldsRun}
 use Rattle.pg_trace.specs.Trace.{Trace}
-
-pub both : (a b : Bool) → (a && b) ≡ true → (a ≡ true) × (b ≡ true)
-both true b h = (refl, h)
-both false b h = absurd (true≢false (sym h))
 
 -- ---- one vertex in two runs
 

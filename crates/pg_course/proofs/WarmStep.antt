@@ -1,8 +1,7 @@
 -- A step beside an old run takes a partition's share of the run one superstep further.
-use Rattle.std.proofs.Common.{◌≡◌, ℕ, suc, ◌+◌, ◌<◌, ◌≤◌, ◌==◌, ◌||◌, Bool, true, false, not, cond, List, [], ◌∷◌, ◌++◌, map, length, Option, None, Some, option_map, is_some, refl, sym, ap, ap₂, ◌∙◌, arith, subst, true≢false, filter, flat_map, count_by, inl, inr, ◌⊎◌, le_refl}
+use Rattle.std.proofs.Common.{◌≡◌, ℕ, suc, ◌+◌, ◌<◌, ◌≤◌, ◌==◌, ◌&&◌, ◌||◌, Bool, true, false, not, cond, List, [], ◌∷◌, ◌++◌, map, length, Option, None, Some, option_map, refl, sym, ap, ap₂, ◌∙◌, arith, subst, true≢false, flat_map, count_by, inl, inr, ◌⊎◌, le_refl}
 use Rattle.std.specs.List.{AllByRecursion, slice_get}
 use Rattle.std.specs.List.Sorted.{IsStrictlySortedBy}
-use Rattle.std.specs.Map.{keys_of}
 use Rattle.std.specs.Ordering.{nat_cmp}
 use Rattle.std.proofs.lemmas.Bool.{cases_Bool, eqb-true}
 use Rattle.std.proofs.lemmas.List.{get_or-set_other, length-set}
@@ -15,24 +14,25 @@ use Rattle.pg_inbox.specs.Sends.{AreAllOf, Sends, sent_by}
 use Rattle.pg_inbox.specs.declared.logs.Logged.{Logged}
 use Rattle.pg_map.specs.Entries.{ChangesRise, value_at, with_changes}
 use Rattle.pg_map.proofs.Changing.{value_at-with_changes}
-use Rattle.pg_model.specs.Affected.{AreCandidates}
+use Rattle.pg_model.specs.Affected.{IsUnaffected}
 use Rattle.pg_model.specs.ByIds.{state_at}
-use Rattle.pg_model.specs.Job.{Combining, Inputs, Job, Program}
+use Rattle.pg_model.specs.Job.{Combining, Job, Program}
 use Rattle.pg_model.specs.Needed.{inputs_at, is_changed, is_needed, needed_in}
 use Rattle.pg_model.specs.Run.{present_at, run_length, view_at}
 use Rattle.pg_model.specs.Share.{belongs, records_in, sent_to}
 use Rattle.pg_model.specs.Superstep.{capped, has_id, view_of}
-use Rattle.pg_model.proofs.LawsAffected.{IsTakenOver-from_IsUnaffected, is_needed-IsUnaffected}
+use Rattle.pg_model.proofs.LawsAffected.{IsTakenOver-from_IsUnaffected, is_needed-IsUnaffected, same_inputs-IsUnaffected}
 use Rattle.pg_model.proofs.LawsDecides.{Decides-view_eq}
 use Rattle.pg_model.proofs.LawsInputs.{no_inputs_missing}
 use Rattle.pg_model.proofs.LawsLists.{all_weaker}
-use Rattle.pg_model.proofs.LawsPresent.{standing_at-none}
-use Rattle.pg_model.proofs.LawsSharesAlike.{record_in_share, same_record_in_share}
+use Rattle.pg_model.proofs.LawsPresent.{IsIdleAt-from_inputs, standing_at-none}
+use Rattle.pg_model.proofs.LawsRising.{has_id-filter}
+use Rattle.pg_model.proofs.LawsSharesAlike.{record_in_share}
 use Rattle.pg_model.specs.declared.record.Record.{Record}
 use Rattle.pg_model.specs.declared.view.View.{View}
 use Rattle.pg_model.specs.declared.view.Visible.{Visible}
 use Rattle.pg_course.specs.Candidates.{IsPlayed}
-use Rattle.pg_course.specs.Differing.{AreTold, differing, has_same_state}
+use Rattle.pg_course.specs.Differing.{AreTold, are_resting, has_same_state, resting_among, restless_among, without}
 use Rattle.pg_course.specs.Found.{IsTold, are_at_rest, is_left, is_run, is_same_view, is_taken_over, reads}
 use Rattle.pg_course.specs.Lent.{HasMessages, IsBesideOld, IsLentBeside, LendsLogs, as_sends, bundle_in, bundle_sent, bundles_before}
 use Rattle.pg_course.specs.Lists.{reaching}
@@ -41,9 +41,9 @@ use Rattle.pg_course.specs.Sending.{IsMended, items_to, pairs_of, sends_of}
 use Rattle.pg_course.specs.Warm.{IsConcluded, IsReplayed}
 use Rattle.pg_course.specs.declared.execution.Played.{Played}
 use Rattle.pg_course.specs.declared.found.Candidate.{Candidate}
-use Rattle.pg_course.proofs.BesideOld.{IsWarmStep, WasRead, all_are_read, all_were_read, are_candidates, candidates, candidates_rise, kept, kept_holds}
-use Rattle.pg_course.proofs.Callees.{not_key}
-use Rattle.pg_course.proofs.Changing.{IsEntry, entries, entries-fewer, entries-hold, entries-rise, entries-some, keys_of-entries, told_at}
+use Rattle.pg_course.proofs.BesideOld.{IsWarmStep, WasRead, all_are_read, all_mine, all_were_read, are_candidates, candidates, candidates_rise, is_restless, kept, kept_holds, old_reads_nothing, reads_nothing}
+use Rattle.pg_course.proofs.Changing.{entries, entries-among, entries-rise, told_at}
+use Rattle.pg_course.proofs.Looking.{both, failing, in_either, in_neither, passing}
 use Rattle.pg_inbox.proofs.Replacing.{unchanged_at}
 use Rattle.pg_course.proofs.Coverage.{records_held}
 use Rattle.pg_course.proofs.Delivery.{sent_rise}
@@ -51,27 +51,12 @@ use Rattle.pg_course.proofs.Finding.{state_in_run}
 use Rattle.pg_course.proofs.Mended.{sender_mended}
 use Rattle.pg_course.proofs.ReadVertices.{IsRead, gives_record, reads_inputs}
 use Rattle.pg_course.proofs.Recording.{IsCounted, IsRight, counted_are, no_other_record, records_are, records_rise}
-use Rattle.pg_course.proofs.Sames.{at_rest_then, both, is_active_then, reads_same, runs_if_changed, same_next_state}
+use Rattle.pg_course.proofs.Sames.{at_rest_then, reads_same, runs_if_changed}
 use Rattle.pg_course.proofs.Sends.{by_records, sends_by_records}
 use Rattle.pg_course.proofs.Stepping.{stepped_holds}
 use Rattle.pg_trace.specs.OfRun.{HoldsRun}
 use Rattle.pg_trace.specs.Trace.{Trace, records_of, state_at as trace_state_at, with_replaced, with_superstep}
 use Rattle.pg_trace.proofs.RunStates.{state_of_run}
-
--- among those that are found to differ
-not_differing : (test : ℕ → Bool) (ids : List ℕ) (id : ℕ) → has_id ids id ≡ true → has_id (filter (λ k. not (test k)) ids) id ≡ false → test id ≡ true
-not_differing test [] id there apart = absurd (true≢false (sym there))
-not_differing test (k ∷ ids) id there apart = by (k == id) refl (test k) refl there apart (λ h g. not_differing test ids id h g)
-  where
-    rest : List ℕ
-    rest = filter (λ k. not (test k)) ids
-
-    by : (e : Bool) → (k == id) ≡ e → (t : Bool) → test k ≡ t → (e || has_id ids id) ≡ true → has_id (cond (not t) (k ∷ rest) rest) id ≡ false
-        → (has_id ids id ≡ true → has_id rest id ≡ false → test id ≡ true) → test id ≡ true
-    by true e true f there apart later = ap test (sym (eqb-true k id e)) ∙ f
-    by true e false f there apart later = absurd (true≢false (sym (ap (λ (b : Bool). b || has_id rest id) e) ∙ apart))
-    by false e true f there apart later = later there apart
-    by false e false f there apart later = later there (sym (ap (λ (b : Bool). b || has_id rest id) e) ∙ apart)
 
 module _ {V M : Type 0} (value_eq : V → V → Bool) (message_eq : M → M → Bool) (job : Job V M) (old rows : Rows) (n p s : ℕ) (course : Holding V M) (logs old_logs : Slots M) (old_view view : View) (bundles : List (Parcels M)) (before : ℕ) (played : Played V M)
     (w : IsWarmStep value_eq message_eq job old rows n p s course logs old_logs old_view view bundles before played) where
@@ -109,8 +94,17 @@ module _ {V M : Type 0} (value_eq : V → V → Bool) (message_eq : M → M → 
       each [] a b c = tt
       each (x ∷ cs) a b c = (record { now = a.0; once = b.0; told = c.0 }, each cs a.1 b.1 c.1)
 
-  unaffected : AreCandidates job old rows (belongs n p) s (map (λ c. c.id) cs)
-  unaffected = are_candidates value_eq message_eq job old rows n p s course logs old_logs old_view view bundles before played w
+  unaffected : (id : ℕ) → belongs n p id ≡ true → has_id course.resting id ≡ false → has_id (map (λ c. c.id) cs) id ≡ false → IsUnaffected job old rows s id
+  unaffected id mine restless other =
+      (are_candidates value_eq message_eq job old rows n p s course logs old_logs old_view view bundles before played w).others id
+      (is_restless value_eq message_eq job old rows n p s course logs old_logs old_view view bundles before played w id mine restless) other
+
+  -- another vertex that rests in both runs isn't executed in either
+  old_idle : (id : ℕ) → belongs n p id ≡ true → has_id course.resting id ≡ true → has_id (map (λ c. c.id) cs) id ≡ false → inputs_at job old s id ≡ None
+  old_idle = old_reads_nothing value_eq message_eq job old rows n p s course logs old_logs old_view view bundles before played w
+
+  idle : (id : ℕ) → belongs n p id ≡ true → has_id course.resting id ≡ true → has_id (map (λ c. c.id) cs) id ≡ false → inputs_at job rows s id ≡ None
+  idle = reads_nothing value_eq message_eq job old rows n p s course logs old_logs old_view view bundles before played w
 
   abbrev taken : Candidate V M → Bool
   taken c = is_taken_over value_eq message_eq (is_same_view old_view view) c
@@ -168,18 +162,27 @@ module _ {V M : Type 0} (value_eq : V → V → Bool) (message_eq : M → M → 
   changes_rise : ChangesRise changes
   changes_rise = entries-rise (λ c. c.id) left gives cs rise
 
-  -- those that aren't taken over, at rest in both runs or not
-  abbrev moves : List (ℕ × Option (Record V M))
-  moves = entries (λ c. c.id) taken gives cs
+  abbrev looked_at : List ℕ
+  looked_at = played.looked_at.items
 
-  moved_are : played.moved.items ≡ keys_of moves
-  moved_are = w.is.moved_are ∙ sym (keys_of-entries (λ c. c.id) taken gives cs)
+  not_candidate : (id : ℕ) → has_id looked_at id ≡ false → has_id (map (λ c. c.id) cs) id ≡ false
+  not_candidate id other = sym (ap (λ l. has_id l id) w.is.looked_at_are) ∙ other
+
+  -- one that isn't a candidate reads the same in both runs
+  same_reading : (id : ℕ) → belongs n p id ≡ true → has_id (map (λ c. c.id) cs) id ≡ false → inputs_at job old s id ≡ inputs_at job rows s id
+  same_reading id mine other =
+      elim (cases_Bool (has_id course.resting id)) [
+        | inl rests ↦ old_idle id mine rests other ∙ sym (idle id mine rests other)
+        | inr restless ↦ same_inputs-IsUnaffected job old rows s id w.within (unaffected id mine restless other)
+      ]
 
   -- one that isn't a candidate, or of another partition, has the same record in both runs
   same_record : (id : ℕ) → has_id (map (λ c. c.id) cs) id ≡ false → value_at id (records_in job old n p s) ≡ value_at id (records_in job rows n p s)
   same_record id other =
       elim (cases_Bool (belongs n p id)) [
-        | inl mine ↦ same_record_in_share job old rows old_rising rising n p s there w.within id mine (unaffected.others id mine other)
+        | inl mine ↦
+            record_in_share job old n p s id old_rising there mine
+            ∙ (ap (option_map job.program.step) (same_reading id mine other) ∙ sym (record_in_share job rows n p s id rising w.within mine))
         | inr apart ↦ no_other_record job old n p s id apart ∙ sym (no_other_record job rows n p s id apart)
       ]
 
@@ -212,7 +215,10 @@ module _ {V M : Type 0} (value_eq : V → V → Bool) (message_eq : M → M → 
         same = runs_if_changed value_eq message_eq old_view view c.old c.new ∙ ap₂ (is_changed value_eq message_eq) (inputs_once c k) (inputs_now c k);
       }) cs known)
       (λ id gone. unneeded id (no_inputs_missing job rows s id (standing_at-none id (present_at job rows s) gone)))
-      (λ id mine other. is_needed-IsUnaffected job old rows value_eq message_eq w.values w.messages s id (unaffected.others id mine other))
+      (λ id mine other. elim (cases_Bool (has_id course.resting id)) [
+        | inl rests ↦ unneeded id (idle id mine rests other)
+        | inr restless ↦ is_needed-IsUnaffected job old rows value_eq message_eq w.values w.messages s id (unaffected id mine restless other)
+      ])
 
   -- ---- what is sent
 
@@ -279,77 +285,114 @@ module _ {V M : Type 0} (value_eq : V → V → Bool) (message_eq : M → M → 
       get_or-set_other (reaching s course.trace).records s t (with_changes played.changes.items (records_of s (reaching s course.trace))) [] (λ e. omega (arith, low, e))
       ∙ (ap (records_of t) reached ∙ w.holds.beside.later t (omega (arith, low)) high)
 
-  -- the state of an id as the next superstep begins, as the trace has it
-  state_then : (id : ℕ) → belongs n p id ≡ true → s + 1 ≤ run_length job old → AreTold value_eq trace next_trace (s + 1) played.moved.items
-      → has_id (differing value_eq trace next_trace (s + 1) played.moved.items) id ≡ false
-      → has_id played.moved.items id ≡ true → state_at job old (s + 1) id ≡ state_at job rows (s + 1) id
-  state_then id mine within told apart is_changed =
-      sym (state_of_run trace id (s + 1) job old n p (run_length job old) w.holds.beside.whole mine (omega (arith, within)))
-      ∙ (told_at (λ k. has_same_state value_eq trace next_trace (s + 1) k ≡ true → trace_state_at k (s + 1) trace ≡ trace_state_at k (s + 1) next_trace)
-      played.moved.items told id is_changed
-      (not_differing (has_same_state value_eq trace next_trace (s + 1)) played.moved.items id is_changed apart)
-      ∙ state_in_run job rows n p w.some next_trace logs id mine (s + 1) next_holds)
+  next : suc s ≡ s + 1
+  next = omega arith
 
-  -- one that is taken over is left the same state by the same inputs
-  state_taken : (c : Candidate V M) → IsKnown c → taken c ≡ true → state_at job old (suc s) c.id ≡ state_at job rows (suc s) c.id
-  state_taken c k h = by (inputs_at job rows s c.id) refl
-    where
-      active : is_some (reads view c.new) ≡ true
-      active = is_active_then value_eq message_eq view c.old c.new (both (is_same_view old_view view) _ h).1
+  -- the states of an id as the next superstep begins, as the traces have them
+  old_state_then : (id : ℕ) → belongs n p id ≡ true → trace_state_at id (s + 1) trace ≡ state_at job old (s + 1) id
+  old_state_then id mine = state_of_run trace id (s + 1) job old n p (run_length job old) w.holds.beside.whole mine (omega (arith, there))
 
-      by : (o : Option (Inputs V M)) → inputs_at job rows s c.id ≡ o → state_at job old (suc s) c.id ≡ state_at job rows (suc s) c.id
-      by None e = absurd (true≢false (sym active ∙ ap is_some (inputs_now c k ∙ e)))
-      by (Some i) e = same_next_state job old rows s c.id i (same_inputs c k h ∙ e) e
+  state_then : (id : ℕ) → belongs n p id ≡ true → trace_state_at id (s + 1) next_trace ≡ state_at job rows (s + 1) id
+  state_then id mine = state_in_run job rows n p w.some next_trace logs id mine (s + 1) next_holds
 
-  state_unchanged : (id : ℕ) → belongs n p id ≡ true → has_id played.moved.items id ≡ false → state_at job old (suc s) id ≡ state_at job rows (suc s) id
-  state_unchanged id mine same =
-      elim (cases_Bool (has_id (map (λ c. c.id) cs) id)) [
-        | inl one ↦ of_one (entries-some (λ c. c.id) taken gives IsKnown id cs rise known one)
-        | inr other ↦ (IsTakenOver-from_IsUnaffected job old rows s id w.within (unaffected.others id mine other) there).state
-      ]
-    where
-      none_at : value_at id moves ≡ None
-      none_at = not_key id moves (sym (ap (λ l. has_id l id) moved_are) ∙ same)
+  abbrev restless : List ℕ
+  restless = restless_among value_eq trace next_trace (s + 1) looked_at
 
-      of_one : IsEntry (λ c. c.id) taken gives IsKnown id cs → state_at job old (suc s) id ≡ state_at job rows (suc s) id
-      of_one e = by (taken e.one) refl
-        where
-          by : (b : Bool) → taken e.one ≡ b → state_at job old (suc s) id ≡ state_at job rows (suc s) id
-          by true h = subst (λ k. state_at job old (suc s) k ≡ state_at job rows (suc s) k) e.same (state_taken e.one e.holds h)
-          by false h = absurd (none-some (gives e.one) (sym none_at ∙ (e.at ∙ ap (λ (b : Bool). cond b None (Some (gives e.one))) h)))
+  abbrev resting : List ℕ
+  resting = resting_among value_eq trace next_trace (s + 1) looked_at
+
+  -- what isn't looked at
+  unseen : (id : ℕ) → belongs n p id ≡ true → has_id looked_at id ≡ false → has_id course.resting id ≡ false
+      → (state_at job old s id ≡ state_at job rows s id) × (state_at job old (suc s) id ≡ state_at job rows (suc s) id)
+  unseen id mine other off =
+      let alike = unaffected id mine off (not_candidate id other) in
+      ((alike.alike there).state, (IsTakenOver-from_IsUnaffected job old rows s id w.within alike there).state)
+
+  still : (id : ℕ) → belongs n p id ≡ true → has_id looked_at id ≡ false → has_id course.resting id ≡ true
+      → (state_at job old (suc s) id ≡ state_at job old s id) × (state_at job rows (suc s) id ≡ state_at job rows s id)
+  still id mine other rests = (
+    (IsIdleAt-from_inputs job old s id there (old_idle id mine rests (not_candidate id other))).state,
+    (IsIdleAt-from_inputs job rows s id w.within (idle id mine rests (not_candidate id other))).state,
+  )
 
   -- ---- the step
 
-  -- what the step may have changed: all else is as in the old run
-  only : AreTheOnlyBeside job old rows n p s played.moved.items
+  -- what the step may have changed: all else is moved as in the old run
+  only : AreTheOnlyBeside job old rows n p s looked_at
   only = record {
     there = there;
-    rise = subst (IsStrictlySortedBy nat_cmp) (sym moved_are) (entries-rise (λ c. c.id) taken gives cs rise);
-    mine = told_at (λ k. belongs n p k ≡ true) played.moved.items
-        (subst (AllByRecursion (λ k. belongs n p k ≡ true)) (sym moved_are)
-        (entries-hold (λ c. c.id) taken gives (λ k. belongs n p k ≡ true) cs (all_weaker IsKnown (λ c. belongs n p c.id ≡ true) (λ c k. k.now.mine) cs known)));
+    rise = subst (IsStrictlySortedBy nat_cmp) (sym w.is.looked_at_are) rise;
+    mine = told_at (λ k. belongs n p k ≡ true) looked_at
+        (subst (AllByRecursion (λ k. belongs n p k ≡ true)) (sym w.is.looked_at_are)
+        (all_mine value_eq message_eq job old rows n p s course logs old_logs old_view view bundles before played w));
     records = λ id other.
-        sym (unchanged_at changes (records_in job old n p s) id (unchanged id other)) ∙ ap (value_at id) new_records;
-    states = state_unchanged;
+        sym (unchanged_at changes (records_in job old n p s) id (entries-among (λ c. c.id) left gives id cs (not_candidate id other))) ∙ ap (value_at id) new_records;
+    states = λ id mine other. elim (cases_Bool (has_id course.resting id)) [
+      | inl rests ↦ inr (still id mine other rests)
+      | inr off ↦ inl (unseen id mine other off)
+    ];
   }
-    where
-      unchanged : (id : ℕ) → has_id played.moved.items id ≡ false → has_id (keys_of changes) id ≡ false
-      unchanged id other =
-          entries-fewer (λ c. c.id) taken left gives (λ c h. ap (λ (b : Bool). b || are_at_rest c.old c.new) h) id cs
-          (sym (ap (λ l. has_id l id) moved_are) ∙ other)
 
   -- one that isn't found to differ has the state of the old run
-  alike_then : (id : ℕ) → belongs n p id ≡ true → s + 1 ≤ run_length job old → AreTold value_eq trace next_trace (s + 1) played.moved.items
-      → has_id (differing value_eq trace next_trace (s + 1) played.moved.items) id ≡ false → state_at job old (s + 1) id ≡ state_at job rows (s + 1) id
-  alike_then id mine within told apart =
-      elim (cases_Bool (has_id played.moved.items id)) [
-        | inl is_changed ↦ state_then id mine within told apart is_changed
-        | inr same ↦ subst (λ k. state_at job old k id ≡ state_at job rows k id) (let e : suc s ≡ s + 1 = omega arith in e) (state_unchanged id mine same)
-      ]
+  alike_then : (id : ℕ) → belongs n p id ≡ true → AreTold value_eq trace next_trace (s + 1) looked_at
+      → has_id (restless ++ (without course.resting looked_at ++ resting)) id ≡ false → state_at job old (s + 1) id ≡ state_at job rows (s + 1) id
+  alike_then id mine told apart =
+      elim (cases_Bool (has_id looked_at id)) [ | inl seen ↦ compared seen | inr other ↦ elsewhere other ]
+    where
+      both_parts : (has_id restless id ≡ false) × (has_id (without course.resting looked_at ++ resting) id ≡ false)
+      both_parts = in_neither restless (without course.resting looked_at ++ resting) _ refl id apart
+
+      last_parts : (has_id (without course.resting looked_at) id ≡ false) × (has_id resting id ≡ false)
+      last_parts = in_neither (without course.resting looked_at) resting _ refl id both_parts.1
+
+      compared : has_id looked_at id ≡ true → state_at job old (s + 1) id ≡ state_at job rows (s + 1) id
+      compared seen =
+          sym (old_state_then id mine)
+          ∙ (told_at (λ k. has_same_state value_eq trace next_trace (s + 1) k ≡ true → trace_state_at k (s + 1) trace ≡ trace_state_at k (s + 1) next_trace)
+          looked_at told id seen
+          (by (has_same_state value_eq trace next_trace (s + 1) id) (are_resting (trace_state_at id (s + 1) trace) (trace_state_at id (s + 1) next_trace))
+          (failing _ looked_at id seen both_parts.0) (failing _ looked_at id seen last_parts.1))
+          ∙ state_then id mine)
+        where
+          by : (a b : Bool) → (not a && not b) ≡ false → (not a && b) ≡ false → a ≡ true
+          by true b e f = refl
+          by false true e f = sym f
+          by false false e f = sym e
+
+      elsewhere : has_id looked_at id ≡ false → state_at job old (s + 1) id ≡ state_at job rows (s + 1) id
+      elsewhere other =
+          subst (λ k. state_at job old k id ≡ state_at job rows k id) next (unseen id mine other (off (has_id course.resting id) refl)).1
+        where
+          off : (b : Bool) → has_id course.resting id ≡ b → has_id course.resting id ≡ false
+          off true e =
+              absurd (true≢false (sym (has_id-filter (λ k. not (has_id looked_at k)) course.resting id ∙ ap₂ (λ (a b : Bool). not a && b) other e) ∙ last_parts.0))
+          off false e = e
+
+  -- those that rest do so in both runs
+  rest_then : (id : ℕ) → belongs n p id ≡ true → has_id (without course.resting looked_at ++ resting) id ≡ true
+      → are_resting (state_at job old (s + 1) id) (state_at job rows (s + 1) id) ≡ true
+  rest_then id mine among =
+      elim (in_either (without course.resting looked_at) resting id among) [ | inl before ↦ as_before before | inr found ↦ as_found found ]
+    where
+      as_before : has_id (without course.resting looked_at) id ≡ true → are_resting (state_at job old (s + 1) id) (state_at job rows (s + 1) id) ≡ true
+      as_before before =
+          let parts = passing (λ k. not (has_id looked_at k)) course.resting id before in
+          let stays = still id mine (off (has_id looked_at id) parts.0) parts.1 in
+          subst (λ k. are_resting (state_at job old k id) (state_at job rows k id) ≡ true) next
+          (ap₂ are_resting stays.0 stays.1 ∙ w.holds.beside.rest id mine parts.1 there)
+        where
+          off : (b : Bool) → not b ≡ true → b ≡ false
+          off true h = absurd (true≢false (sym h))
+          off false h = refl
+
+      as_found : has_id resting id ≡ true → are_resting (state_at job old (s + 1) id) (state_at job rows (s + 1) id) ≡ true
+      as_found found =
+          sym (ap₂ are_resting (old_state_then id mine) (state_then id mine))
+          ∙ (both (not (has_same_state value_eq trace next_trace (s + 1) id)) _ (passing _ looked_at id found).0).1
 
   pub warm_step : (after : Holding V M) (sent : List (Logged M))
-      → after ≡ record course { place = s + 1; trace = next_trace; kept = Some trace; differing = differing value_eq trace next_trace (s + 1) played.moved.items; changed = played.moved.items; beside_old = true }
-      → AreTold value_eq trace next_trace (s + 1) played.moved.items
+      → after ≡ record course { place = s + 1; trace = next_trace; kept = Some trace; restless = restless; resting = without course.resting looked_at ++ resting; changed = looked_at; beside_old = true }
+      → AreTold value_eq trace next_trace (s + 1) looked_at
       → length sent ≡ n
       → ((q : ℕ) → q < n → IsMended job.combining (items_to n q (flat_map (pairs_of trace s) played.changes.items)) (items_to n q (flat_map sends_of played.changes.items))
       (slot_at old_logs s p q) (slice_get sent q))
@@ -371,11 +414,11 @@ module _ {V M : Type 0} (value_eq : V → V → Bool) (message_eq : M → M → 
         is = refl;
         whole = w.holds.beside.whole;
         later = later_records;
-        others = λ id mine apart within. alike_then id mine within told apart;
+        others = λ id mine apart within. alike_then id mine told apart;
         as_ended = λ id mine apart low.
-            let within : s + 1 ≤ run_length job old = omega (arith, w.lends.there) in
-            subst (λ k. state_at job old k id ≡ state_at job rows (s + 1) id) (let e : s + 1 ≡ run_length job old = omega (arith, low, within) in e)
-            (alike_then id mine within told apart);
+            subst (λ k. state_at job old k id ≡ state_at job rows (s + 1) id) (let e : s + 1 ≡ run_length job old = omega (arith, low, w.lends.there) in e)
+            (alike_then id mine told apart);
+        rest = λ id mine among _. rest_then id mine among;
       };
     });
     to_each = to_each;
@@ -393,7 +436,7 @@ module _ {V M : Type 0} (value_eq : V → V → Bool) (message_eq : M → M → 
     (bundles : List (Parcels M)) (before : ℕ) (played : Played V M) (some : 0 < course.partitions) (is_kept : course.kept ≡ Some trace)
     (replayed : IsReplayed value_eq message_eq combining (record course { kept = None }) trace old_logs program logs old_view view bundles before played)
     (after : Holding V M) (sent : List (Logged M))
-    (concluded : IsConcluded value_eq message_eq combining (record course { kept = None }) trace old_logs played.moved.items played.changes.items after sent) where
+    (concluded : IsConcluded value_eq message_eq combining (record course { kept = None }) trace old_logs played.looked_at.items played.changes.items after sent) where
   module _ (job : Job V M) (old rows : Rows) (program_is : job.program ≡ program) (combining_is : job.combining ≡ combining) where
     abbrev StepsAt : ℕ → ℕ → ℕ → Type 0
     StepsAt n p s =
@@ -418,10 +461,10 @@ module _ {V M : Type 0} (value_eq : V → V → Bool) (message_eq : M → M → 
             (subst (λ k. IsReplayed value_eq message_eq k emptied holds.beside.trace old_logs program logs old_view view bundles before played) (sym combining_is)
             (subst (λ k. IsReplayed value_eq message_eq combining emptied k old_logs program logs old_view view bundles before played) same replayed))
 
-        ending : IsConcluded value_eq message_eq job.combining emptied holds.beside.trace old_logs played.moved.items played.changes.items after sent
+        ending : IsConcluded value_eq message_eq job.combining emptied holds.beside.trace old_logs played.looked_at.items played.changes.items after sent
         ending =
-            subst (λ k. IsConcluded value_eq message_eq k emptied holds.beside.trace old_logs played.moved.items played.changes.items after sent) (sym combining_is)
-            (subst (λ k. IsConcluded value_eq message_eq combining emptied k old_logs played.moved.items played.changes.items after sent) same concluded)
+            subst (λ k. IsConcluded value_eq message_eq k emptied holds.beside.trace old_logs played.looked_at.items played.changes.items after sent) (sym combining_is)
+            (subst (λ k. IsConcluded value_eq message_eq combining emptied k old_logs played.looked_at.items played.changes.items after sent) same concluded)
 
         seen : Bool
         seen = is_same_view old_view view

@@ -14,7 +14,7 @@ use Rattle.pg_model.specs.Share.{belongs}
 use Rattle.pg_model.specs.Superstep.{capped, has_id}
 use Rattle.pg_model.specs.declared.configuration.Standing.{Standing}
 use Rattle.pg_model.specs.declared.view.View.{View}
-use Rattle.pg_course.specs.Found.{IsFound, IsTold, change_of, is_run, moved_of, vertex_of}
+use Rattle.pg_course.specs.Found.{IsFound, IsTold, change_of, is_run, vertex_of}
 use Rattle.pg_course.specs.Lent.{AreSameTo}
 use Rattle.pg_course.specs.Lists.{awake_after}
 use Rattle.pg_course.specs.declared.execution.Played.{Played}
@@ -58,14 +58,16 @@ pub record IsPlayed {V M : Type 0} (value_eq : V → V → Bool) (message_eq : M
   pub new_are : map (λ c. c.new) candidates ≡ map (found_at program missing s trace) (own n p callees)
   pub beside_are : AllByRecursion (λ c. IsFoundBeside program missing combining s beside c.id c.old) candidates
   pub told : AllByRecursion (IsTold value_eq message_eq) candidates
-  pub moved_are : played.moved.items ≡ flat_map (moved_of value_eq message_eq seen) candidates
+  pub looked_at_are : played.looked_at.items ≡ map (λ c. c.id) candidates
   pub changes_are : played.changes.items ≡ flat_map (change_of value_eq message_eq program view seen) candidates
   pub counted : played.stage.meter ≡ capped (before + count_by (is_run value_eq message_eq program view seen) candidates)
 
--- rising ids with all that a step beside an old run has to look at: where states may differ, where other messages may
--- come from, and where the old run saw something else all that aren't halted
-pub record AreLookedAt {V M : Type 0} (n p s : ℕ) (trace : Trace V M) (differing : List ℕ) (logs old_logs : Slots M) (seen : Bool) (ids : List ℕ) : Type 0 where
+-- rising ids with all that a step beside an old run has to look at: where states may differ, but for vertices that rest in
+-- both runs and to which nothing is delivered; where other messages may come from; and where the old run saw something else
+-- all that aren't halted
+pub record AreLookedAt {V M : Type 0} (combining : Option (Combining M)) (bundles : List (Parcels M)) (n p s : ℕ) (trace : Trace V M) (restless resting : List ℕ) (logs old_logs : Slots M) (seen : Bool) (ids : List ℕ) : Type 0 where
   pub rise : IsStrictlySortedBy nat_cmp ids
-  pub states : (id : ℕ) → has_id ids id ≡ false → has_id differing id ≡ false
+  pub states : (id : ℕ) → has_id ids id ≡ false → has_id restless id ≡ false
+  pub still : (id : ℕ) → has_id ids id ≡ false → has_id resting id ≡ true → Delivers combining id bundles []
   pub messages : (r q id : ℕ) → r + 1 ≡ s → q < n → has_id ids id ≡ false → AreSameTo id (slot_at old_logs r q p) (slot_at logs r q p)
   pub awake : seen ≡ false → (id : ℕ) → has_id ids id ≡ false → has_id (awake_ids s trace) id ≡ false

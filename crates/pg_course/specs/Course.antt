@@ -1,5 +1,5 @@
 -- One partition of a run at a superstep, and what a step makes of it.
-use Rattle.std.specs.Prelude.{◌≡◌, ℕ, suc, ◌+◌, ◌<◌, ◌≤◌, max, length, Bool, true, false, List, ◌++◌, Option, None, Some}
+use Rattle.std.specs.Prelude.{◌≡◌, ℕ, suc, ◌+◌, ◌<◌, ◌≤◌, ◌⊎◌, max, length, Bool, true, false, List, ◌++◌, Option, None, Some}
 use Rattle.std.specs.List.{slice_get}
 use Rattle.std.specs.List.Sorted.{IsStrictlySortedBy}
 use Rattle.std.specs.Ordering.{nat_cmp}
@@ -14,6 +14,7 @@ use Rattle.pg_model.specs.Needed.{needed_in}
 use Rattle.pg_model.specs.Run.{run_length}
 use Rattle.pg_model.specs.Share.{belongs, records_in}
 use Rattle.pg_model.specs.Superstep.{capped, has_id}
+use Rattle.pg_course.specs.Differing.{are_resting}
 use Rattle.pg_course.specs.Lent.{bundle_sent}
 use Rattle.pg_trace.specs.OfRun.{HoldsRun}
 use Rattle.pg_trace.specs.Trace.{Trace, records_of}
@@ -25,8 +26,8 @@ pub record PartRows : Type 0 where
   pub partitions : ℕ
 
 -- a partition at a superstep: which it is, and its trace so far; where it is warm also the trace of the old run, and the
--- ids at which the two may have other states; and the ids that the last step may have changed, beside the old run or beside
--- the superstep before
+-- ids at which the two may have other states, those that rest in both apart from the others; and the ids that the last step
+-- may have changed, beside the old run or beside the superstep before
 pub record Holding (V M : Type 0) : Type 0 where
   pub partition : ℕ
   pub partitions : ℕ
@@ -34,9 +35,14 @@ pub record Holding (V M : Type 0) : Type 0 where
   pub place : ℕ
   pub trace : Trace V M
   pub kept : Option (Trace V M)
-  pub differing : List ℕ
+  pub restless : List ℕ
+  pub resting : List ℕ
   pub changed : List ℕ
   pub beside_old : Bool
+
+-- the ids at which its run and the old one may have other states
+abbrev pub differing : {V M : Type 0} → Holding V M → List ℕ
+differing course = course.restless ++ course.resting
 
 -- at all other ids two graphs have the same rows
 abbrev pub AreTouched : List ℕ → Rows → Rows → Type 0
@@ -44,8 +50,8 @@ AreTouched ids old new = (id : ℕ) → has_id ids id ≡ false → row_at id ol
 
 -- the ids that may differ after a step past the end of the old run, if any: those that did before, and the changed ones
 abbrev pub differing_past : {V M : Type 0} → Option (Trace V M) → List ℕ → List ℕ → List ℕ
-differing_past None differing changed = differing
-differing_past (Some old) differing changed = differing ++ changed
+differing_past None ids changed = ids
+differing_past (Some old) ids changed = ids ++ changed
 
 module _ {V M : Type 0} (job : Job V M) where
   -- a partition's trace of a whole run
@@ -59,16 +65,19 @@ module _ {V M : Type 0} (job : Job V M) where
   kept_length (Some rows) = run_length job rows
 
   -- partition p of n, as superstep r begins, has the trace of the run on the old rows, in which its own goes on; outside
-  -- of the ids that may differ the two runs have the same states, and past the end of the old one those with which it ended
+  -- of the ids that may differ the two runs have the same states, and past the end of the old one those with which it
+  -- ended; and those that rest do so in both
   pub record IsWarm (old rows : Rows) (n p r : ℕ) (course : Holding V M) : Type 0 where
     pub trace : Trace V M
     pub is : course.kept ≡ Some trace
     pub whole : HoldsRun job old n p (run_length job old) trace
     pub later : (s : ℕ) → r ≤ s → s < run_length job old → records_of s course.trace ≡ records_in job old n p s
-    pub others : (id : ℕ) → belongs n p id ≡ true → has_id course.differing id ≡ false → r ≤ run_length job old
+    pub others : (id : ℕ) → belongs n p id ≡ true → has_id (differing course) id ≡ false → r ≤ run_length job old
         → state_at job old r id ≡ state_at job rows r id
-    pub as_ended : (id : ℕ) → belongs n p id ≡ true → has_id course.differing id ≡ false → run_length job old ≤ r
+    pub as_ended : (id : ℕ) → belongs n p id ≡ true → has_id (differing course) id ≡ false → run_length job old ≤ r
         → state_at job old (run_length job old) id ≡ state_at job rows r id
+    pub rest : (id : ℕ) → belongs n p id ≡ true → has_id course.resting id ≡ true → r < run_length job old
+        → are_resting (state_at job old r id) (state_at job rows r id) ≡ true
 
   -- a cold one has nothing of an old run
   abbrev pub IsBeside : Option Rows → Rows → ℕ → ℕ → ℕ → Holding V M → Type 0
@@ -102,13 +111,19 @@ module _ {V M : Type 0} (job : Job V M) where
     pub records : (id : ℕ) → has_id ids id ≡ false → value_at id (records_in job rows n p s) ≡ None
     pub states : (id : ℕ) → belongs n p id ≡ true → has_id ids id ≡ false → state_at job rows (suc s) id ≡ state_at job rows s id
 
-  -- or they have the records of the old run, which has the superstep, and its states after it
+  -- superstep s takes a vertex from the same state to the same in both runs, or leaves it as it was in each
+  abbrev pub IsMovedAlike : Rows → Rows → ℕ → ℕ → Type 0
+  IsMovedAlike old rows s id =
+      ((state_at job old s id ≡ state_at job rows s id) × (state_at job old (suc s) id ≡ state_at job rows (suc s) id))
+      ⊎ ((state_at job old (suc s) id ≡ state_at job old s id) × (state_at job rows (suc s) id ≡ state_at job rows s id))
+
+  -- or they have the records of the old run, which has the superstep, and are moved as they were in it
   pub record AreTheOnlyBeside (old rows : Rows) (n p s : ℕ) (ids : List ℕ) : Type 0 where
     pub there : s < run_length job old
     pub rise : IsStrictlySortedBy nat_cmp ids
     pub mine : (id : ℕ) → has_id ids id ≡ true → belongs n p id ≡ true
     pub records : (id : ℕ) → has_id ids id ≡ false → value_at id (records_in job old n p s) ≡ value_at id (records_in job rows n p s)
-    pub states : (id : ℕ) → belongs n p id ≡ true → has_id ids id ≡ false → state_at job old (suc s) id ≡ state_at job rows (suc s) id
+    pub states : (id : ℕ) → belongs n p id ≡ true → has_id ids id ≡ false → IsMovedAlike old rows s id
 
   abbrev pub AreAllChanged : Option Rows → Rows → ℕ → ℕ → ℕ → Bool → List ℕ → Type 0
   AreAllChanged kept rows n p s false ids = AreTheOnly rows n p s ids

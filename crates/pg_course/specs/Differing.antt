@@ -1,13 +1,26 @@
 -- The vertices whose states differ between two runs.
-use Rattle.std.specs.Prelude.{ℕ, ◌==◌, ◌&&◌, not, Bool, cond, ◌≡◌, true, List}
+use Rattle.std.specs.Prelude.{ℕ, ◌==◌, ◌&&◌, not, Bool, cond, ◌≡◌, true, List, Option, None, Some}
 use Rattle.std.specs.Cmp.Lexicographic.{pointwise}
 use Rattle.std.specs.List.{AllByRecursion, filter}
 use Rattle.std.specs.Option.{option_eq}
 use Rattle.std.specs.Ordering.{int_eq}
+use Rattle.pg_model.specs.Superstep.{has_id}
 use Rattle.pg_model.specs.declared.configuration.VertexState.{VertexState}
 use Rattle.pg_trace.specs.Trace.{Trace, state_at}
 
+-- those of some ids that aren't among others
+abbrev pub without : List ℕ → List ℕ → List ℕ
+without ids others = filter (λ id. not (has_id others id)) ids
+
 module _ {V : Type 0} where
+  -- a vertex that is halted, or isn't there
+  abbrev pub is_resting : Option (VertexState V) → Bool
+  is_resting None = true
+  is_resting (Some x) = x.halted
+
+  abbrev pub are_resting : Option (VertexState V) → Option (VertexState V) → Bool
+  are_resting old new = is_resting old && is_resting new
+
   -- two states with the same id, edges and vote
   abbrev pub has_same_rest : VertexState V → VertexState V → Bool
   has_same_rest x y =
@@ -22,9 +35,12 @@ module _ {V M : Type 0} (value_eq : V → V → Bool) where
   abbrev pub has_same_state : Trace V M → Trace V M → ℕ → ℕ → Bool
   has_same_state old new s id = option_eq (is_same_state value_eq) (state_at id s old) (state_at id s new)
 
-  -- those of some vertices of which they don't
-  abbrev pub differing : Trace V M → Trace V M → ℕ → List ℕ → List ℕ
-  differing old new s ids = filter (λ id. not (has_same_state old new s id)) ids
+  -- those of some vertices of which they don't, and which rest in both; and the others of which they don't
+  abbrev pub resting_among : Trace V M → Trace V M → ℕ → List ℕ → List ℕ
+  resting_among old new s ids = filter (λ id. not (has_same_state old new s id) && are_resting (state_at id s old) (state_at id s new)) ids
+
+  abbrev pub restless_among : Trace V M → Trace V M → ℕ → List ℕ → List ℕ
+  restless_among old new s ids = filter (λ id. not (has_same_state old new s id) && not (are_resting (state_at id s old) (state_at id s new))) ids
 
   -- where states are found the same, they are
   abbrev pub AreTold : Trace V M → Trace V M → ℕ → List ℕ → Type 0

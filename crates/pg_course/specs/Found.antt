@@ -82,10 +82,6 @@ module _ {V M : Type 0} where
     abbrev pub is_left : Bool → Candidate V M → Bool
     is_left seen c = is_taken_over seen c || are_at_rest c.old c.new
 
-    -- the ids of those that may be left another state than in the old run
-    abbrev pub moved_of : Bool → Candidate V M → List ℕ
-    moved_of seen c = cond (is_taken_over seen c) [] (c.id ∷ [])
-
     -- one that is found the same is
     abbrev pub IsTold : Candidate V M → Type 0
     IsTold c = are_same_reading c.old c.new ≡ true → AreSameVertices c.old c.new

@@ -1,5 +1,5 @@
 -- What a step beside an old run makes of a partition, by what it looked at.
-use Rattle.std.specs.Prelude.{◌≡◌, ℕ, ◌+◌, ◌<◌, not, true, length, Bool, List, Option, Some}
+use Rattle.std.specs.Prelude.{◌≡◌, ℕ, ◌+◌, ◌<◌, ◌++◌, not, true, length, Bool, List, Option, Some}
 use Rattle.std.specs.List.{flat_map, slice_get}
 use Rattle.pg_inbox.specs.Alike.{DeliverAlike}
 use Rattle.pg_inbox.specs.Bundles.{Parcels}
@@ -9,7 +9,7 @@ use Rattle.pg_model.specs.Job.{Combining, Program}
 use Rattle.pg_model.specs.declared.record.Record.{Record}
 use Rattle.pg_model.specs.declared.view.View.{View}
 use Rattle.pg_course.specs.Candidates.{AreLookedAt, IsPlayed}
-use Rattle.pg_course.specs.Differing.{AreTold, differing}
+use Rattle.pg_course.specs.Differing.{AreTold, resting_among, restless_among, without}
 use Rattle.pg_course.specs.Found.{is_same_view}
 use Rattle.pg_course.specs.Lent.{bundles_before}
 use Rattle.pg_course.specs.Lists.{reaching}
@@ -26,22 +26,26 @@ module _ {V M : Type 0} (value_eq : V → V → Bool) (message_eq : M → M → 
   -- all that had to be looked at was, and executed where the old run read something else
   pub record IsReplayed (program : Program V M) (logs : Slots M) (old_view view : View) (bundles : List (Parcels M)) (before : ℕ) (played : Played V M) : Type 0 where
     pub ids : List ℕ
-    pub looked : AreLookedAt course.partitions course.partition course.place course.trace course.differing logs old_logs (is_same_view old_view view) ids
+    pub looked : AreLookedAt combining bundles course.partitions course.partition course.place course.trace course.restless course.resting logs old_logs
+        (is_same_view old_view view) ids
     pub is : IsPlayed value_eq message_eq program course.missing combining view course.partitions course.partition course.place course.trace bundles
         (Some (old, old_bundles)) ids (not (is_same_view old_view view)) (is_same_view old_view view) before played
     pub alike : (id : ℕ) → DeliverAlike combining id old_bundles bundles
 
-  -- the trace has the changed records, what the old run sent is mended, and the states where they may differ are compared
-  pub record IsConcluded (moved : List ℕ) (changes : List (ℕ × Option (Record V M))) (after : Holding V M) (sent : List (Logged M)) : Type 0 where
+  -- the trace has the changed records, what the old run sent is mended, and the states of those that were looked at are
+  -- compared
+  pub record IsConcluded (looked_at : List ℕ) (changes : List (ℕ × Option (Record V M))) (after : Holding V M) (sent : List (Logged M)) : Type 0 where
     pub part_is : after ≡ record course {
       place = course.place + 1;
       trace = with_replaced course.place changes (reaching course.place course.trace);
       kept = Some old;
-      differing = differing value_eq old (with_replaced course.place changes (reaching course.place course.trace)) (course.place + 1) moved;
-      changed = moved;
+      restless = restless_among value_eq old (with_replaced course.place changes (reaching course.place course.trace)) (course.place + 1) looked_at;
+      resting = without course.resting looked_at
+          ++ resting_among value_eq old (with_replaced course.place changes (reaching course.place course.trace)) (course.place + 1) looked_at;
+      changed = looked_at;
       beside_old = true;
     }
-    pub told : AreTold value_eq old (with_replaced course.place changes (reaching course.place course.trace)) (course.place + 1) moved
+    pub told : AreTold value_eq old (with_replaced course.place changes (reaching course.place course.trace)) (course.place + 1) looked_at
     pub to_each : length sent ≡ course.partitions
     pub sends : (q : ℕ) → q < course.partitions → IsMended combining
         (items_to course.partitions q (flat_map (pairs_of old course.place) changes)) (items_to course.partitions q (flat_map sends_of changes))

@@ -1,8 +1,9 @@
 //! The vertices that a step beside an old run has to look at.
-ghost use Rattle.std.specs.Prelude.{◌≡◌, ℕ, ◌+◌, ◌<◌, ◌++◌, false, IfOk, OnOk};
+ghost use Rattle.std.specs.Prelude.{◌≡◌, ℕ, ◌+◌, ◌<◌, ◌++◌, [], map, true, false, IfOk, OnOk};
 ghost use Rattle.std.specs.List.Sorted.{IsStrictlySortedBy};
 ghost use Rattle.std.specs.Option.{option_copied};
 ghost use Rattle.std.specs.Ordering.{nat_cmp};
+ghost use Rattle.pg_inbox.specs.Inboxes.{Delivers};
 ghost use Rattle.pg_inbox.specs.Logged.{slot_at};
 ghost use Rattle.pg_model.specs.Superstep.{has_id};
 ghost use Rattle.pg_course.specs.Candidates.{AreLookedAt, awake_ids};
@@ -11,8 +12,11 @@ ghost use Rattle.pg_course.specs.Lent.{AreSameIn, AreSameTo, IsSameTold, bundle_
 
 use crate::Partitioner;
 use crate::candidates::awake_ids;
+use crate::differing::Differing;
+use crate::reading::lent_bundles;
+use pg_global::MessageCombiner;
 use pg_graph::{Memory, PartitionId, Superstep, VertexId};
-use pg_inbox::{Bundle, Logged, Logs, changed_targets};
+use pg_inbox::{Bundle, Logged, Logs, changed_targets, inbox};
 use pg_model::View;
 use pg_program::Plain;
 use pg_trace::Trace;
@@ -28,26 +32,67 @@ pub(crate) fn is_same_view(old: &View, new: &View) -> bool
         && old.total_edges == new.total_edges
 }
 
-/// The vertices whose states may differ from those of the old run, those to which something else may be sent, and
-/// where the old run saw something else all that aren't halted: by rising id.
-pub(crate) fn looked_at<V: Plain, M: Plain>(
+/// The vertices whose states may differ from those of the old run, but for those that rest in both and receive nothing;
+/// those to which something else may be sent; and where the old run saw something else all that aren't halted: by rising
+/// id.
+pub(crate) fn looked_at<V: Plain, M: Plain, C: MessageCombiner<M>>(
     alloc: Global,
     partitions: Partitioner,
     partition: PartitionId,
     superstep: Superstep,
     trace: &Trace<V, M>,
-    differing: &[VertexId],
+    differing: &Differing,
     logs: &Logs<M>,
     old_logs: &Logs<M>,
+    bundles: &[Bundle<M>],
+    combiner: &C,
     seen: bool,
 ) -> Result<Vec<VertexId>, Memory>
     ensures { IfOk result (λ ids.
-        AreLookedAt partitions partition superstep trace.now differing.now logs.now old_logs.now seen ids.items) }
+        AreLookedAt (C.combining combiner.now) bundles.now partitions partition superstep trace.now differing.now.restless.items
+        differing.now.resting.items logs.now old_logs.now seen ids.items) }
 {
     let mut ids = changed_before(alloc, partitions, partition, superstep, logs, old_logs)?;
-    add_all(&mut ids, differing)?;
+    add_all(&mut ids, differing.restless.as_slice())?;
+    let lent = lent_bundles(alloc, bundles)?;
+    add_receiving(alloc, &mut ids, differing.resting.as_slice(), lent.as_slice(), combiner)?;
     add_awake(alloc, &mut ids, superstep, trace, seen)?;
     Ok(rising(ids))
+}
+
+/// Adds those of these vertices that receive something. Costs a look into each bundle for each.
+fn add_receiving<M: Plain, C: MessageCombiner<M>>(
+    alloc: Global,
+    ids: &mut Vec<VertexId>,
+    resting: &[VertexId],
+    bundles: &[&Bundle<M>],
+    combiner: &C,
+) -> Result<(), Memory>
+    ensures { OnOk result ((id : ℕ) → has_id ids.new.items id ≡ false → (has_id ids.old.items id ≡ false)
+        × (has_id resting.now id ≡ true → Delivers (C.combining combiner.now) id (map (λ b. b.now) bundles.now) [])) }
+{
+    for id in resting {
+        add_if_receiving(alloc, ids, bundles, *id, combiner)?;
+    }
+    Ok(())
+}
+
+/// Adds a vertex that receives something.
+fn add_if_receiving<M: Plain, C: MessageCombiner<M>>(
+    alloc: Global,
+    ids: &mut Vec<VertexId>,
+    bundles: &[&Bundle<M>],
+    id: VertexId,
+    combiner: &C,
+) -> Result<(), Memory>
+    ensures { OnOk result ((q : ℕ) → has_id ids.new.items q ≡ false → (has_id ids.old.items q ≡ false)
+        × (q ≡ id → Delivers (C.combining combiner.now) q (map (λ b. b.now) bundles.now) [])) }
+{
+    let received = inbox(alloc, bundles, id, combiner)?;
+    if received.len() != 0 {
+        ids.push(id)?;
+    }
+    Ok(())
 }
 
 /// Adds the vertices that aren't halted, where the old run saw something else.

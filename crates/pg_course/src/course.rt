@@ -11,7 +11,7 @@ ghost use Rattle.pg_model.specs.Job.{Job};
 ghost use Rattle.pg_model.specs.Run.{run_length, view_at};
 ghost use Rattle.pg_model.specs.Superstep.{has_id};
 ghost use Rattle.pg_course.specs.Lent.{HasMessages, IsBesideOld, IsLent, IsLentBeside, bundles_before};
-ghost use Rattle.pg_course.specs.Course.{AreTouched, HasBegun, HasStepped, Holds, IsFurther, IsWhole, differing_past, kept_length};
+ghost use Rattle.pg_course.specs.Course.{AreTouched, HasBegun, HasStepped, Holds, IsFurther, IsWhole, differing, differing_past, kept_length};
 ghost use Rattle.pg_program.specs.Context.{ShowsDeclared};
 ghost use Rattle.pg_course.specs.Lists.{reaching};
 ghost use Rattle.pg_trace.specs.Trace.{StatesRise, with_replaced};
@@ -20,6 +20,7 @@ ghost use Rattle.pg_course.specs.Starting.{first_states};
 use crate::begin::first_changes;
 use crate::candidates::{awake_ids, play_alone};
 use crate::changed::rising;
+use crate::differing::Differing;
 use crate::execution::{Played, Stage};
 use crate::reading::bundles_before;
 use crate::sent::fresh_bundles;
@@ -45,7 +46,7 @@ pub struct Course<V, M> {
     pub(crate) place: Superstep,
     pub(crate) trace: Trace<V, M>,
     pub(crate) kept: Option<Trace<V, M>>,
-    pub(crate) differing: Vec<VertexId>,
+    pub(crate) differing: Differing,
     pub(crate) changed: Vec<VertexId>,
     pub(crate) beside_old: bool,
 }
@@ -63,7 +64,8 @@ impl<V, M> Model for Course<V, M> {
       place = p.place;
       trace = p.trace;
       kept = p.kept;
-      differing = p.differing.items;
+      restless = p.differing.restless.items;
+      resting = p.differing.resting.items;
       changed = p.changed.items;
       beside_old = p.beside_old;
     } };
@@ -121,13 +123,14 @@ impl<V: Plain, M: Plain> Course<V, M> {
 
     /// The vertices whose states may differ from those of the old run, or past its end from those with which it ended; by
     /// rising id as a run begins.
-    pub fn differing(&self) -> &[VertexId]
-        ensures { result.now ≡ self.now.differing }
+    pub fn differing(&self, alloc: Global) -> Result<Vec<VertexId>, Memory>
+        ensures { IfOk result (λ ids. ids.items ≡ differing self.now) }
     {
-        self.differing.as_slice()
+        let restless = copied(alloc, self.differing.restless.as_slice())?;
+        with_ids(restless, self.differing.resting.as_slice())
     }
 
-    /// The vertices that its last step may have changed, by rising id; none as a run begins.
+    /// The vertices that its last step may have changed otherwise than the old run did, by rising id; none as a run begins.
     pub fn changed(&self) -> &[VertexId]
         ensures { result.now ≡ self.now.changed }
     {
@@ -183,7 +186,7 @@ impl<V: Plain, M: Plain> Course<V, M> {
             place: Superstep::new(0),
             trace,
             kept: None,
-            differing: Vec::new(alloc),
+            differing: Differing::of(alloc, Vec::new(alloc)),
             changed: Vec::new(alloc),
             beside_old: false,
         })
@@ -201,8 +204,8 @@ impl<V: Plain, M: Plain> Course<V, M> {
         program: &P,
     ) -> Result<Course<V, M>, Memory>
         ensures begins { IfOk result (λ course. HasBegun rows.entry missing course) }
-        ensures rise { IfOk result (λ course. IsStrictlySortedBy nat_cmp course.differing) }
-        ensures differing { IfOk result (λ course. (id : ℕ) → has_id course.differing id ≡ has_id touched.now id) }
+        ensures rise { IfOk result (λ course. IsStrictlySortedBy nat_cmp (differing course)) }
+        ensures differing { IfOk result (λ course. (id : ℕ) → has_id (differing course) id ≡ has_id touched.now id) }
         ensures kept { IfOk result (λ course. course.kept ≡ Some old) }
         ensures holds { IfOk result (λ course. (job : Job V M) (kept : GraphRows)
             → job.program ≡ P.program program.now → job.missing ≡ missing
@@ -229,7 +232,7 @@ impl<V: Plain, M: Plain> Course<V, M> {
             place: Superstep::new(0),
             trace,
             kept: Some(old),
-            differing,
+            differing: Differing::of(alloc, differing),
             changed: Vec::new(alloc),
             beside_old: false,
         })
@@ -451,12 +454,13 @@ impl<V: Plain, M: Plain> Course<V, M> {
             stage,
         )?;
         let Played {
-            moved,
+            looked_at,
             changes,
             stage,
         } = played;
         let Stage { meter, .. } = stage;
-        let differing = differing_past(&kept, differing, moved.as_slice())?;
+        let Differing { restless, resting } = differing;
+        let restless = differing_past(&kept, restless, looked_at.as_slice())?;
         let bundles = fresh_bundles(alloc, partitions, changes.as_slice(), combiner)?;
         let trace = with_records(alloc, trace, place, changes)?;
         let course = Course {
@@ -466,8 +470,8 @@ impl<V: Plain, M: Plain> Course<V, M> {
             place: Superstep::new(place.number() + 1),
             trace,
             kept,
-            differing,
-            changed: moved,
+            differing: Differing { restless, resting },
+            changed: looked_at,
             beside_old: false,
         };
         Ok(Stepped {
@@ -478,7 +482,7 @@ impl<V: Plain, M: Plain> Course<V, M> {
     }
 }
 
-/// The vertices that may differ after a step past the end of an old run, if there is one: those that did before, and those
+/// These vertices that may differ after a step past the end of an old run, if there is one: those that did before, and those
 /// that the step changed.
 fn differing_past<V, M>(
     old: &Option<Trace<V, M>>,
@@ -494,7 +498,7 @@ fn differing_past<V, M>(
 }
 
 /// These ids, and more.
-fn with_ids(ids: Vec<VertexId>, more: &[VertexId]) -> Result<Vec<VertexId>, Memory>
+pub(crate) fn with_ids(ids: Vec<VertexId>, more: &[VertexId]) -> Result<Vec<VertexId>, Memory>
     ensures { IfOk result (λ all. all.items ≡ ids.items ++ more.now) }
 {
     let mut all = ids;

@@ -1,12 +1,36 @@
 //! The vertices whose states differ between two runs.
 ghost use Rattle.std.specs.Prelude.{◌≡◌, ◌++◌, [], ◌∷◌, true, IfOk, OnOk};
+ghost use Rattle.std.specs.List.Sorted.{IsStrictlySortedBy};
 ghost use Rattle.std.specs.Option.{option_eq};
-ghost use Rattle.pg_course.specs.Differing.{AreTold, differing, has_same_rest, is_same_state};
+ghost use Rattle.std.specs.Ordering.{nat_cmp};
+ghost use Rattle.pg_model.specs.Superstep.{has_id};
+ghost use Rattle.pg_course.specs.Differing.{AreTold, are_resting, has_same_rest, is_resting, is_same_state, resting_among, restless_among, without};
 
 use pg_graph::{Memory, Superstep, VertexId};
 use pg_program::Plain;
 use pg_trace::{StateRef, States, Trace};
 use std::alloc::Global;
+
+/// The vertices at which two runs may have other states as a superstep begins: those that are halted in both, or
+/// aren't there, and the others.
+#[derive(Drop)]
+pub(crate) struct Differing {
+    pub restless: Vec<VertexId>,
+    pub resting: Vec<VertexId>,
+}
+
+impl Differing {
+    /// These, of which none is known to rest.
+    pub(crate) fn of(alloc: Global, restless: Vec<VertexId>) -> Differing
+        ensures restless { result.restless.items ≡ restless.items }
+        ensures resting { result.resting.items ≡ [] }
+    {
+        Differing {
+            restless,
+            resting: Vec::new(alloc),
+        }
+    }
+}
 
 /// Those of these vertices whose states as a superstep begins differ between two traces.
 pub(crate) fn differing_among<V: Plain, M: Plain>(
@@ -15,13 +39,17 @@ pub(crate) fn differing_among<V: Plain, M: Plain>(
     new: &Trace<V, M>,
     superstep: Superstep,
     ids: &[VertexId],
-) -> Result<Vec<VertexId>, Memory>
-    ensures differing { IfOk result (λ found. found.items ≡ differing V.PartialEq.eq old.now new.now superstep ids.now) }
+) -> Result<Differing, Memory>
+    ensures restless { IfOk result (λ found. found.restless.items ≡ restless_among V.PartialEq.eq old.now new.now superstep ids.now) }
+    ensures resting { IfOk result (λ found. found.resting.items ≡ resting_among V.PartialEq.eq old.now new.now superstep ids.now) }
     ensures told { IfOk result (λ _. AreTold V.PartialEq.eq old.now new.now superstep ids.now) }
 {
     let mut old_states = old.states();
     let mut new_states = new.states();
-    let mut found = Vec::new(alloc);
+    let mut found = Differing {
+        restless: Vec::new(alloc),
+        resting: Vec::new(alloc),
+    };
     for id in ids {
         add_if_differing(&mut found, &mut old_states, &mut new_states, superstep, *id)?;
     }
@@ -30,21 +58,49 @@ pub(crate) fn differing_among<V: Plain, M: Plain>(
 
 /// Adds a vertex whose states differ.
 fn add_if_differing<V: Plain, M: Plain>(
-    found: &mut Vec<VertexId>,
+    found: &mut Differing,
     old: &mut States<'_, V, M>,
     new: &mut States<'_, V, M>,
     superstep: Superstep,
     id: VertexId,
 ) -> Result<(), Memory>
-    ensures differing { OnOk result (found.new.items ≡ found.old.items ++ differing V.PartialEq.eq old.old new.old superstep (id ∷ [])) }
+    ensures restless { OnOk result
+        (found.new.restless.items ≡ found.old.restless.items ++ restless_among V.PartialEq.eq old.old new.old superstep (id ∷ [])) }
+    ensures resting { OnOk result
+        (found.new.resting.items ≡ found.old.resting.items ++ resting_among V.PartialEq.eq old.old new.old superstep (id ∷ [])) }
     ensures told { AreTold V.PartialEq.eq old.old new.old superstep (id ∷ []) }
     ensures old_stays { old.new ≡ old.old }
     ensures new_stays { new.new ≡ new.old }
 {
-    if !is_same(old.state_at(id, superstep), new.state_at(id, superstep)) {
-        found.push(id)?;
+    let old = old.state_at(id, superstep);
+    let new = new.state_at(id, superstep);
+    let rests = are_resting(&old, &new);
+    if is_same(old, new) {
+        return Ok(());
+    }
+    if rests {
+        found.resting.push(id)?;
+    } else {
+        found.restless.push(id)?;
     }
     Ok(())
+}
+
+/// Whether a vertex is halted in both, or isn't there.
+fn are_resting<V>(old: &Option<StateRef<'_, V>>, new: &Option<StateRef<'_, V>>) -> bool
+    ensures { result ≡ are_resting old.now new.now }
+{
+    is_resting(old) && is_resting(new)
+}
+
+/// Whether a vertex is halted, or isn't there.
+fn is_resting<V>(state: &Option<StateRef<'_, V>>) -> bool
+    ensures { result ≡ is_resting state.now }
+{
+    match state {
+        Some(state) => state.halted(),
+        None => true,
+    }
 }
 
 /// Whether there is the same state, or none in both.
@@ -81,4 +137,33 @@ fn has_same_rest<V: Plain>(old: &StateRef<'_, V>, new: &StateRef<'_, V>) -> bool
     old.id() == new.id()
         && old.edges().as_slice() == new.edges().as_slice()
         && old.halted() == new.halted()
+}
+
+/// Those of these ids that aren't among others, which rise. Costs a binary search for each.
+pub(crate) fn without(
+    alloc: Global,
+    ids: &[VertexId],
+    others: &[VertexId],
+) -> Result<Vec<VertexId>, Memory>
+    requires { IsStrictlySortedBy nat_cmp others.now }
+    ensures { IfOk result (λ rest. rest.items ≡ without ids.now others.now) }
+{
+    let mut rest = Vec::new(alloc);
+    for id in ids {
+        if !is_among(others, *id) {
+            rest.push(*id)?;
+        }
+    }
+    Ok(rest)
+}
+
+/// Whether an id is among these, which rise.
+fn is_among(ids: &[VertexId], id: VertexId) -> bool
+    requires { IsStrictlySortedBy nat_cmp ids.now }
+    ensures { result ≡ has_id ids.now id }
+{
+    match ids.binary_search(&id) {
+        Ok(_) => true,
+        Err(_) => false,
+    }
 }

@@ -1,9 +1,9 @@
 //! The executions of a step.
-ghost use Rattle.std.specs.Prelude.{◌≡◌, ℕ, ◌+◌, ◌^◌, ◌<◌, cond, is_some, IfOk, OnOk, [], ◌∷◌, ◌++◌};
+ghost use Rattle.std.specs.Prelude.{◌≡◌, ℕ, ◌+◌, ◌^◌, ◌<◌, cond, is_some, map, IfOk, OnOk, [], ◌∷◌, ◌++◌};
 ghost use Rattle.std.specs.List.{count_by, flat_map};
 ghost use Rattle.std.specs.Option.{option_map};
 ghost use Rattle.pg_model.specs.Superstep.{capped, inputs_of};
-ghost use Rattle.pg_course.specs.Found.{are_at_rest, change_of, change_unless, is_run, moved_of, reads};
+ghost use Rattle.pg_course.specs.Found.{are_at_rest, change_of, change_unless, is_run, reads};
 ghost use Rattle.pg_program.specs.Context.{ShowsDeclared};
 
 use crate::found::{Candidate, are_at_rest, are_same_reading, is_active};
@@ -20,11 +20,11 @@ pub(crate) struct Stage {
     pub meter: Meter,
 }
 
-/// What a step makes of the vertices that it looks at: those that may be left another state than in the old run, what
-/// becomes of their records where it isn't what stands there, and the stage afterwards.
+/// What a step makes of the vertices that it looks at: which they are, what becomes of their records where it isn't what
+/// stands there, and the stage afterwards.
 #[derive(Drop)]
 pub(crate) struct Played<V, M> {
-    pub moved: Vec<VertexId>,
+    pub looked_at: Vec<VertexId>,
     pub changes: Vec<(VertexId, Option<Record<V, M>>)>,
     pub stage: Stage,
 }
@@ -40,8 +40,7 @@ pub(crate) fn play<P: Computation>(
 ) -> Result<Played<P::Value, P::Message>, Memory>
     requires shown { ShowsDeclared (P.program program.now).declared stage.view }
     requires fits { stage.meter < 2 ^ 64 }
-    ensures moved { IfOk result (λ p. p.moved.items
-        ≡ flat_map (moved_of P.Value.PartialEq.eq P.Message.PartialEq.eq seen) candidates.items) }
+    ensures looked_at { IfOk result (λ p. p.looked_at.items ≡ map (λ c. c.id) candidates.items) }
     ensures changes { IfOk result (λ p. p.changes.items
         ≡ flat_map (change_of P.Value.PartialEq.eq P.Message.PartialEq.eq (P.program program.now) stage.view seen) candidates.items) }
     ensures view { IfOk result (λ p. p.stage.view ≡ stage.view) }
@@ -49,7 +48,7 @@ pub(crate) fn play<P: Computation>(
         ≡ capped (stage.meter + count_by (is_run P.Value.PartialEq.eq P.Message.PartialEq.eq (P.program program.now) stage.view seen) candidates.items)) }
 {
     let mut played = Played {
-        moved: Vec::new(alloc),
+        looked_at: Vec::with_capacity(alloc, candidates.len())?,
         changes: Vec::new(alloc),
         stage,
     };
@@ -59,7 +58,7 @@ pub(crate) fn play<P: Computation>(
     Ok(played)
 }
 
-/// Executes a vertex, if it is active and doesn't read what it read in the old run.
+/// Lists a vertex, and executes it if it is active and doesn't read what it read in the old run.
 fn play_one<P: Computation>(
     alloc: Global,
     program: &P,
@@ -69,21 +68,22 @@ fn play_one<P: Computation>(
 ) -> Result<Played<P::Value, P::Message>, Memory>
     requires shown { ShowsDeclared (P.program program.now).declared played.stage.view }
     requires fits { played.stage.meter < 2 ^ 64 }
-    ensures moved { IfOk result (λ p. p.moved.items
-        ≡ played.moved.items ++ moved_of P.Value.PartialEq.eq P.Message.PartialEq.eq seen candidate) }
+    ensures looked_at { IfOk result (λ p. p.looked_at.items ≡ played.looked_at.items ++ candidate.id ∷ []) }
     ensures changes { IfOk result (λ p. p.changes.items
         ≡ played.changes.items ++ change_of P.Value.PartialEq.eq P.Message.PartialEq.eq (P.program program.now) played.stage.view seen candidate) }
     ensures view { IfOk result (λ p. p.stage.view ≡ played.stage.view) }
     ensures meter { IfOk result (λ p. p.stage.meter
         ≡ capped (played.stage.meter + cond (is_run P.Value.PartialEq.eq P.Message.PartialEq.eq (P.program program.now) played.stage.view seen candidate) 1 0)) }
 {
+    let mut played = played;
+    played.looked_at.push(candidate.id)?;
     if seen && are_same_reading(&candidate.old, &candidate.new) {
         return Ok(played);
     }
     play_other(alloc, program, candidate, played)
 }
 
-/// Lists a vertex, and executes it if it is active.
+/// Executes a vertex, if it is active.
 fn play_other<P: Computation>(
     alloc: Global,
     program: &P,
@@ -92,7 +92,7 @@ fn play_other<P: Computation>(
 ) -> Result<Played<P::Value, P::Message>, Memory>
     requires shown { ShowsDeclared (P.program program.now).declared played.stage.view }
     requires fits { played.stage.meter < 2 ^ 64 }
-    ensures moved { IfOk result (λ p. p.moved.items ≡ played.moved.items ++ candidate.id ∷ []) }
+    ensures looked_at { IfOk result (λ p. p.looked_at.items ≡ played.looked_at.items) }
     ensures changes { IfOk result (λ p. p.changes.items
         ≡ played.changes.items ++ change_unless (P.program program.now) played.stage.view (are_at_rest candidate.old candidate.new) candidate) }
     ensures view { IfOk result (λ p. p.stage.view ≡ played.stage.view) }
@@ -102,15 +102,14 @@ fn play_other<P: Computation>(
     let rests = are_at_rest(&candidate.old, &candidate.new);
     let Candidate { id, old: _, new } = candidate;
     let Played {
-        mut moved,
+        looked_at,
         mut changes,
         stage,
     } = played;
-    moved.push(id)?;
     let (given, stage) = given_by(alloc, program, new, stage)?;
     push_unless(&mut changes, rests, id, given)?;
     Ok(Played {
-        moved,
+        looked_at,
         changes,
         stage,
     })

@@ -1,19 +1,22 @@
 //! A step beside an old run: what stands there is taken over where nothing has changed.
-ghost use Rattle.std.specs.Prelude.{ℕ, ◌+◌, ◌^◌, ◌<◌, ◌≡◌, IfOk};
+ghost use Rattle.std.specs.Prelude.{ℕ, ◌+◌, ◌++◌, ◌^◌, ◌<◌, ◌≡◌, IfOk};
+ghost use Rattle.std.specs.List.Sorted.{IsStrictlySortedBy};
+ghost use Rattle.std.specs.Ordering.{nat_cmp};
 ghost use Rattle.pg_map.specs.Entries.{ChangesRise};
+ghost use Rattle.pg_course.specs.Differing.{AreTold, resting_among, restless_among, without};
 ghost use Rattle.pg_course.specs.Warm.{IsConcluded, IsReplayed};
 ghost use Rattle.pg_program.specs.Context.{ShowsDeclared};
 
 use crate::candidates::play_beside;
 use crate::changed::{is_same_view, looked_at};
-use crate::course::{Stepped, with_records};
-use crate::differing::differing_among;
+use crate::course::{Stepped, with_ids, with_records};
+use crate::differing::{Differing, differing_among, without};
 use crate::execution::{Played, Stage};
 use crate::reading::bundles_before;
 use crate::sent::mended_bundles;
 use crate::{Course, Sent, Share};
 use pg_global::MessageCombiner;
-use pg_graph::{Memory, Superstep};
+use pg_graph::{Memory, Superstep, VertexId};
 use pg_inbox::{Bundle, Logs, tell_alike};
 use pg_model::View;
 use pg_program::{Computation, Plain};
@@ -54,9 +57,11 @@ pub(crate) fn replayed<P: Computation, C: MessageCombiner<P::Message>>(
         course.partition,
         course.place,
         &course.trace,
-        course.differing.as_slice(),
+        &course.differing,
         logs,
         old_logs,
+        bundles,
+        combiner,
         seen,
     )?;
     let played = play_beside(
@@ -90,10 +95,11 @@ pub(crate) fn concluded<V: Plain, M: Plain, C: MessageCombiner<M>>(
     combiner: &C,
 ) -> Result<Stepped<V, M>, Memory>
     requires rise { ChangesRise played.changes.items }
+    requires looked_at_rise { IsStrictlySortedBy nat_cmp played.looked_at.items }
     requires counts { course.place + 1 < 2 ^ 32 }
     ensures concluded { IfOk result (λ stepped.
         IsConcluded V.PartialEq.eq M.PartialEq.eq (C.combining combiner.now) course old old_logs.now
-        played.moved.items played.changes.items stepped.course stepped.sent) }
+        played.looked_at.items played.changes.items stepped.course stepped.sent) }
     ensures counted { IfOk result (λ stepped. stepped.meter ≡ played.stage.meter) }
 {
     let Course {
@@ -102,10 +108,11 @@ pub(crate) fn concluded<V: Plain, M: Plain, C: MessageCombiner<M>>(
         missing,
         place,
         trace,
+        differing,
         ..
     } = course;
     let Played {
-        moved,
+        looked_at,
         changes,
         stage,
     } = played;
@@ -122,7 +129,7 @@ pub(crate) fn concluded<V: Plain, M: Plain, C: MessageCombiner<M>>(
     )?;
     let trace = with_records(alloc, trace, place, changes)?;
     let place = Superstep::new(place.number() + 1);
-    let differing = differing_among(alloc, &old, &trace, place, moved.as_slice())?;
+    let differing = differing_after(alloc, &old, &trace, place, looked_at.as_slice(), &differing)?;
     let course = Course {
         partition,
         partitions,
@@ -131,7 +138,7 @@ pub(crate) fn concluded<V: Plain, M: Plain, C: MessageCombiner<M>>(
         trace,
         kept: Some(old),
         differing,
-        changed: moved,
+        changed: looked_at,
         beside_old: true,
     };
     Ok(Stepped {
@@ -139,4 +146,26 @@ pub(crate) fn concluded<V: Plain, M: Plain, C: MessageCombiner<M>>(
         sent: Sent::of(bundles),
         meter,
     })
+}
+
+/// The vertices whose states may differ as a superstep begins: those that do of those that were looked at, and those that
+/// rested before and weren't.
+fn differing_after<V: Plain, M: Plain>(
+    alloc: Global,
+    old: &Trace<V, M>,
+    new: &Trace<V, M>,
+    superstep: Superstep,
+    looked_at: &[VertexId],
+    before: &Differing,
+) -> Result<Differing, Memory>
+    requires { IsStrictlySortedBy nat_cmp looked_at.now }
+    ensures restless { IfOk result (λ after. after.restless.items ≡ restless_among V.PartialEq.eq old.now new.now superstep looked_at.now) }
+    ensures resting { IfOk result (λ after. after.resting.items
+        ≡ without before.now.resting.items looked_at.now ++ resting_among V.PartialEq.eq old.now new.now superstep looked_at.now) }
+    ensures told { IfOk result (λ _. AreTold V.PartialEq.eq old.now new.now superstep looked_at.now) }
+{
+    let Differing { restless, resting } = differing_among(alloc, old, new, superstep, looked_at)?;
+    let still = without(alloc, before.resting.as_slice(), looked_at)?;
+    let resting = with_ids(still, resting.as_slice())?;
+    Ok(Differing { restless, resting })
 }

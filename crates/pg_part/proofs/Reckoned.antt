@@ -27,7 +27,7 @@ use Rattle.pg_model.specs.Share.{belongs, records_in, sent_to}
 use Rattle.pg_model.specs.Superstep.{has_id}
 use Rattle.pg_model.specs.declared.record.Record.{Record}
 use Rattle.pg_part.specs.Reckoned.{IsReckoned, IsReckonedBeside}
-use Rattle.pg_part.proofs.Shares.{all_among, census_is, found, states_in}
+use Rattle.pg_part.proofs.Shares.{all_among, census_beside_is, census_is, found, states_in}
 use Rattle.pg_recount.specs.Contributed.{are_same, contributed_by, contributes_alike, contributions_of}
 use Rattle.pg_recount.specs.Traffic.{AreMoved, IsRetold, IsTold, traffic_of}
 use Rattle.pg_recount.proofs.LawsOfRun.{bundle_to, contribute_the_same, gathered_of_run, same_contributions, traffic_of_run}
@@ -145,26 +145,31 @@ module _ {V M : Type 0} (job : Job V M) (rows : Rows) (n p : ℕ) (some : 0 < n)
         by None h = absurd h
         by (Some l) h = (ap parcels_in (logged q (subst (λ m. q < m) to_each below)), (h.0, h.1 there))
 
-    -- the old run has the superstep: by those that it had after it
-    pub beside_is : AreTheOnlyBeside job old rows n p s course.changed → (before after : PartitionStats) → before ≡ stats_at job old n p (s + 1)
-        → IsReckonedBeside registry rows moved trace old_logs course s sent before after → after ≡ stats_at job rows n p (s + 1)
-    beside_is only before after b h =
+    -- the old run has the superstep: by those that it had before and after it too
+    pub beside_is : AreTheOnlyBeside job old rows n p s course.changed → (before old_before old_after after : PartitionStats) → before ≡ stats_at job rows n p s
+        → old_before ≡ stats_at job old n p s → old_after ≡ stats_at job old n p (s + 1)
+        → IsReckonedBeside registry rows moved trace old_logs course s sent before old_before old_after after → after ≡ stats_at job rows n p (s + 1)
+    beside_is only before old_before old_after after b ob oa h =
         let mine : AllByRecursion (λ id. belongs n p id ≡ true) course.changed = all_among (λ id. belongs n p id ≡ true) course.changed only.mine in
         let there : s < run_length job old = only.there in
         stats_are job rows n p s after
-        (census_is job n p old rows whole.rise holds.rise trace course.trace (s + 1) (s + 1) course.changed only.rise
+        (census_beside_is job n p old rows whole.rise holds.rise trace course.trace s course.changed only.rise
+        (found job n p old (run_length job old) trace whole s (omega (arith, there)) course.changed mine)
         (found job n p old (run_length job old) trace whole (s + 1) (omega (arith, there)) course.changed mine)
+        (found job n p rows (s + 1) course.trace holds s (omega arith) course.changed mine)
         (found job n p rows (s + 1) course.trace holds (s + 1) (omega arith) course.changed mine)
-        (λ id belongs others. ap (λ (k : ℕ). state_at job old k id) (add-one s) ∙ (only.states id belongs others ∙ ap (λ (k : ℕ). state_at job rows k id) (sym (add-one s))))
-        before.census after.census (ap (λ (x : PartitionStats). x.census) b ∙ census_of_stats job old n p (s + 1)) h.census)
+        only.states before.census old_before.census old_after.census after.census
+        (ap (λ (x : PartitionStats). x.census) b ∙ census_of_stats job rows n p s)
+        (ap (λ (x : PartitionStats). x.census) ob ∙ census_of_stats job old n p s)
+        (ap (λ (x : PartitionStats). x.census) oa ∙ census_of_stats job old n p (s + 1)) h.census)
         (traffic ∙ sym (traffic_of_run job rows n p some s holds.rise))
         (by (list_all (contributes_alike trace course.trace s) course.changed) refl)
       where
-        traffic_before : before.traffic ≡ traffic_in job old n p s
-        traffic_before = ap (λ (x : PartitionStats). x.traffic) b ∙ traffic_after job old n p s
+        old_traffic : old_after.traffic ≡ traffic_in job old n p s
+        old_traffic = ap (λ (x : PartitionStats). x.traffic) oa ∙ traffic_after job old n p s
 
-        gathered_before : before.gathered ≡ gathered_in job old n p s
-        gathered_before = ap (λ (x : PartitionStats). x.gathered) b ∙ gathered_after job old n p s
+        old_gathered : old_after.gathered ≡ gathered_in job old n p s
+        old_gathered = ap (λ (x : PartitionStats). x.gathered) oa ∙ gathered_after job old n p s
 
         traffic : after.traffic ≡ traffic_of job.missing rows (map (bundle_to job rows n p some s) (range_with_len 0 n))
         traffic =
@@ -172,11 +177,11 @@ module _ {V M : Type 0} (job : Job V M) (rows : Rows) (n p : ℕ) (some : 0 < n)
             (traffic_is (bundle_to job old n p some s) (bundle_to job rows n p some s) old_logs s p sent
             (λ q. rises-bundle_of job.combining (map (λ (t : Sending M). (t.sender, t.target, t.message)) (sent_to job old n p q s)))
             (λ q. rises-bundle_of job.combining (map (λ (t : Sending M). (t.sender, t.target, t.message)) (sent_to job rows n p q s))) (told only.there)
-            job.missing old rows moved are_moved before.traffic after.traffic
-            (traffic_before ∙ (traffic_of_run job old n p some s whole.rise
+            job.missing old rows moved are_moved old_after.traffic after.traffic
+            (old_traffic ∙ (traffic_of_run job old n p some s whole.rise
             ∙ ap (λ (m : ℕ). traffic_of job.missing old (map (bundle_to job old n p some s) (range_with_len 0 m))) (sym to_each)))
-            (subst (λ m. IsRetold m rows moved old_logs s p sent before.traffic after.traffic) missing
-            (subst (λ k. IsRetold course.missing rows moved old_logs s k sent before.traffic after.traffic) of h.traffic)))
+            (subst (λ m. IsRetold m rows moved old_logs s p sent old_after.traffic after.traffic) missing
+            (subst (λ k. IsRetold course.missing rows moved old_logs s k sent old_after.traffic after.traffic) of h.traffic)))
 
         old_records : records_of s trace ≡ records_in job old n p s
         old_records = records_held job old n p trace s (run_length job old) whole only.there
@@ -197,7 +202,7 @@ module _ {V M : Type 0} (job : Job V M) (rows : Rows) (n p : ℕ) (some : 0 < n)
 
         by : (t : Bool) → list_all (contributes_alike trace course.trace s) course.changed ≡ t → after.gathered ≡ gathered_in job rows n p s
         by true e =
-            h.alike e ∙ (gathered_before ∙ (gathered_of_run job old n p some s
+            h.alike e ∙ (old_gathered ∙ (gathered_of_run job old n p some s
             ∙ (ap (gathered_afresh 0 job.aggregators)
             (contribute_the_same (records_in job old n p s) (records_in job rows n p s) (records_rise job old n p s whole.rise) (records_rise job rows n p s holds.rise) (alike_at e))
             ∙ sym (gathered_of_run job rows n p some s))))

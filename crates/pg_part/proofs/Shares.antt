@@ -1,13 +1,14 @@
 -- The states of a partition's vertices, as its trace has them.
-use Rattle.std.proofs.Common.{◌≡◌, ℕ, ◌+◌, ◌≤◌, ◌==◌, ◌||◌, Bool, true, false, cond, List, [], ◌∷◌, ◌++◌, map, filter, Option, None, Some, option_map, refl, ap, ap₂, sym, ◌∙◌, subst, arith, true≢false}
+use Rattle.std.proofs.Common.{◌≡◌, ℕ, suc, ◌+◌, ◌≤◌, ◌==◌, ◌||◌, Bool, true, false, cond, List, [], ◌∷◌, ◌++◌, map, filter, Option, None, Some, option_map, refl, ap, ap₂, sym, ◌∙◌, subst, subst₂, arith, true≢false, inl, inr, ◌⊎◌}
 use Rattle.std.specs.List.{AllByRecursion}
 use Rattle.std.specs.List.Sorted.{IsStrictlySortedBy}
 use Rattle.std.specs.Option.{option_to_list}
 use Rattle.std.specs.Ordering.{nat_cmp}
-use Rattle.std.proofs.lemmas.Bool.{eqb-true}
+use Rattle.std.proofs.lemmas.Bool.{cases_Bool, eqb-true}
 use Rattle.std.proofs.lemmas.Bool.Decides.{nat_tests}
 use Rattle.std.proofs.lemmas.List.Kept.{IsStrictlySortedBy-filter}
 use Rattle.std.proofs.lemmas.Simd.{map-map}
+use Rattle.pg_course.specs.Course.{IsMovedAlike}
 use Rattle.pg_graph.specs.Rows.{HasRisingIds, Rows}
 use Rattle.pg_model.specs.ByIds.{state_at}
 use Rattle.pg_model.specs.Job.{Job}
@@ -18,9 +19,9 @@ use Rattle.pg_model.specs.declared.configuration.Standing.{Standing}
 use Rattle.pg_model.specs.declared.configuration.VertexState.{VertexState}
 use Rattle.pg_model.proofs.LawsIds.{in_order}
 use Rattle.pg_model.proofs.LawsLists.{filter-map}
-use Rattle.pg_part.specs.Reckoned.{IsRecensus}
-use Rattle.pg_recount.specs.Census.{states_among}
-use Rattle.pg_recount.proofs.LawsCensus.{recounted_is, some_of}
+use Rattle.pg_part.specs.Reckoned.{IsCountedBeside, IsRecensus}
+use Rattle.pg_recount.specs.Census.{IsRecounted, states_among}
+use Rattle.pg_recount.proofs.LawsCensus.{counted_beside_is, recounted_is, some_of}
 use Rattle.pg_stats.specs.Stats.{census_of}
 use Rattle.pg_stats.specs.declared.stats.Census.{Census}
 use Rattle.pg_trace.specs.OfRun.{HoldsRun}
@@ -87,19 +88,22 @@ module _ {V M : Type 0} (job : Job V M) (n p : ℕ) where
   unfolding share
   found_first rows r trace holds ids = ap (λ states. some_of ids states) holds.initial
 
+  -- the state of one of its ids among its states; of another there is none
+  state_among : (rows : Rows) (s id : ℕ) → belongs n p id ≡ true → state_of id (states_in rows s) ≡ state_at job rows s id
+  state_among rows s id mine = found_in_share n p id mine (configuration job rows s).standings
+
+  no_state : (rows : Rows) (s id : ℕ) → belongs n p id ≡ false → state_of id (states_in rows s) ≡ None
+  no_state rows s id other = not_in_share n p id other (configuration job rows s).standings
+
   -- where two runs have the same states at all of its other ids, its states are the same at all others
   same_states : (old rows : Rows) (s t : ℕ) (ids : List ℕ)
       → ((id : ℕ) → belongs n p id ≡ true → has_id ids id ≡ false → state_at job old s id ≡ state_at job rows t id)
       → (id : ℕ) → has_id ids id ≡ false → state_of id (states_in old s) ≡ state_of id (states_in rows t)
-  same_states old rows s t ids same id outside = by (belongs n p id) refl
-    where
-      by : (b : Bool) → belongs n p id ≡ b → state_of id (states_in old s) ≡ state_of id (states_in rows t)
-      by true mine =
-          found_in_share n p id mine (configuration job old s).standings
-          ∙ (same id mine outside ∙ sym (found_in_share n p id mine (configuration job rows t).standings))
-      by false other =
-          not_in_share n p id other (configuration job old s).standings
-          ∙ sym (not_in_share n p id other (configuration job rows t).standings)
+  same_states old rows s t ids same id outside =
+      elim (cases_Bool (belongs n p id)) [
+        | inl mine ↦ state_among old s id mine ∙ (same id mine outside ∙ sym (state_among rows t id mine))
+        | inr other ↦ no_state old s id other ∙ sym (no_state rows t id other)
+      ]
 
   -- a census that was recounted at these ids is that of the run
   pub census_is : (old rows : Rows) → HasRisingIds old → HasRisingIds rows → (before_trace trace : Trace V M) (s t : ℕ) (ids : List ℕ) → IsStrictlySortedBy nat_cmp ids
@@ -109,3 +113,38 @@ module _ {V M : Type 0} (job : Job V M) (n p : ℕ) where
   census_is old rows old_rise new_rise before_trace trace s t ids rise found_old found_new same before after b h =
       recounted_is (states_in old s) (states_in rows t) ids (states_rise old old_rise s) (states_rise rows new_rise t) rise (same_states old rows s t ids same)
       before (census_of (states_among s ids before_trace)) (census_of (states_among t ids trace)) after b (ap census_of found_old) (ap census_of found_new) h
+
+  -- one that was counted beside an old run is, where all others were moved alike
+  pub census_beside_is : (old rows : Rows) → HasRisingIds old → HasRisingIds rows → (old_trace trace : Trace V M) (s : ℕ) (ids : List ℕ) → IsStrictlySortedBy nat_cmp ids
+      → states_among s ids old_trace ≡ some_of ids (states_in old s) → states_among (s + 1) ids old_trace ≡ some_of ids (states_in old (s + 1))
+      → states_among s ids trace ≡ some_of ids (states_in rows s) → states_among (s + 1) ids trace ≡ some_of ids (states_in rows (s + 1))
+      → ((id : ℕ) → belongs n p id ≡ true → has_id ids id ≡ false → IsMovedAlike job old rows s id)
+      → (before old_before old_after after : Census) → before ≡ census_of (states_in rows s) → old_before ≡ census_of (states_in old s)
+      → old_after ≡ census_of (states_in old (s + 1)) → IsCountedBeside old_trace trace s ids before old_before old_after after → after ≡ census_of (states_in rows (s + 1))
+  census_beside_is old rows old_rise new_rise old_trace trace s ids rise old_then old_next new_then new_next alike before old_before old_after after b ob oa h =
+      counted_beside_is (states_in old s) (states_in old (s + 1)) (states_in rows s) (states_in rows (s + 1)) ids
+      (states_rise old old_rise s) (states_rise old old_rise (s + 1)) (states_rise rows new_rise s) (states_rise rows new_rise (s + 1)) rise
+      (λ id outside. elim (cases_Bool (belongs n p id)) [
+        | inl mine ↦ moved id mine (alike id mine outside)
+        | inr other ↦
+            inl (no_state old s id other ∙ sym (no_state rows s id other), no_state old (s + 1) id other ∙ sym (no_state rows (s + 1) id other))
+      ])
+      before old_before old_after h.turned h.old_turned after b ob oa
+      (subst₂ (λ (x y : List (VertexState V)). IsRecounted before (census_of x) (census_of y) h.turned) new_then new_next h.is_turned)
+      (subst₂ (λ (x y : List (VertexState V)). IsRecounted old_before (census_of x) (census_of y) h.old_turned) old_then old_next h.was_turned) h.rest
+    where
+      next : suc s ≡ s + 1
+      next = omega arith
+
+      moved : (id : ℕ) → belongs n p id ≡ true → IsMovedAlike job old rows s id
+          → ((state_of id (states_in old s) ≡ state_of id (states_in rows s)) × (state_of id (states_in old (s + 1)) ≡ state_of id (states_in rows (s + 1))))
+          ⊎ ((state_of id (states_in old (s + 1)) ≡ state_of id (states_in old s)) × (state_of id (states_in rows (s + 1)) ≡ state_of id (states_in rows s)))
+      moved id mine (inl same) = inl (
+        state_among old s id mine ∙ (same.0 ∙ sym (state_among rows s id mine)),
+        state_among old (s + 1) id mine
+            ∙ (subst (λ (k : ℕ). state_at job old k id ≡ state_at job rows k id) next same.1 ∙ sym (state_among rows (s + 1) id mine)),
+      )
+      moved id mine (inr still) = inr (
+        state_among old (s + 1) id mine ∙ (subst (λ (k : ℕ). state_at job old k id ≡ state_at job old s id) next still.0 ∙ sym (state_among old s id mine)),
+        state_among rows (s + 1) id mine ∙ (subst (λ (k : ℕ). state_at job rows k id ≡ state_at job rows s id) next still.1 ∙ sym (state_among rows s id mine)),
+      )

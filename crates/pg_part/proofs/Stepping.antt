@@ -62,15 +62,20 @@ module _ {V M : Type 0} (job : Job V M) where
     beside old has holds only sends None old_visible lent is_beside is = absurd (omega (arith, lent, only.there))
     beside old has holds only sends (Some old_logs) None lent is_beside is = absurd (omega (arith, lent, only.there))
     beside old has holds only sends (Some old_logs) (Some old_visible) lent is_beside is =
-        let earlier : PartitionStats = stats_at job old n p (r + 1) in
-        let at : slice_get before.old_stats (r + 1) ≡ Some earlier =
+        let earlier : PartitionStats = stats_at job rows n p r in
+        let old_earlier : PartitionStats = stats_at job old n p r in
+        let old_later : PartitionStats = stats_at job old n p (r + 1) in
+        let at : slice_get before.stats r ≡ Some earlier = stats_of rows n p r r before.stats has.stats_are (let e : r ≤ r = omega arith in e) in
+        let old_at : slice_get before.old_stats r ≡ Some old_earlier =
+        stats_of old n p (run_length job old) r before.old_stats has.beside.0 (omega (arith, only.there)) in
+        let old_then : slice_get before.old_stats (r + 1) ≡ Some old_later =
         stats_of old n p (run_length job old) (r + 1) before.old_stats has.beside.0 (omega (arith, only.there)) in
-        let reckoned : IsReckonedBeside registry before.graph before.moved holds.beside.trace old_logs course r sent earlier next =
-        is.beside is_beside holds.beside.trace old_logs earlier holds.beside.is refl at in
+        let reckoned : IsReckonedBeside registry before.graph before.moved holds.beside.trace old_logs course r sent earlier old_earlier old_later next =
+        is.beside is_beside holds.beside.trace old_logs earlier old_earlier old_later holds.beside.is refl at old_at old_then in
         beside_is job rows n p some registry same r course holds.missing_is holds.run (Some old) sent to_each sends
         old before.moved has.beside.1 refl holds.partition_is holds.beside.trace holds.beside.whole old_logs lent.0.sent
-        only earlier next refl
-        (subst (λ (g : Rows). IsReckonedBeside registry g before.moved holds.beside.trace old_logs course r sent earlier next) has.graph_is reckoned)
+        only earlier old_earlier old_later next refl refl refl
+        (subst (λ (g : Rows). IsReckonedBeside registry g before.moved holds.beside.trace old_logs course r sent earlier old_earlier old_later next) has.graph_is reckoned)
 
     -- any other step
     alone : (kept : Option Rows) → HasStats job kept rows n p r before → Holds job kept rows n p (r + 1) course

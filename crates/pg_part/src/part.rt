@@ -2,7 +2,7 @@
 ghost use Rattle.std.specs.Prelude.{◌≡◌, ℕ, ◌+◌, ◌<◌, ◌≤◌, ◌^◌, ◌++◌, ◌∷◌, [], true, length, Option, None, Some, Ok, IfErr, IfOk, IfSome};
 ghost use Rattle.std.specs.Option.{option_copied};
 ghost use Rattle.std.specs.List.{slice_get};
-ghost use Rattle.pg_course.specs.Course.{AreTouched, HasBegun, IsFurther};
+ghost use Rattle.pg_course.specs.Course.{AreTouched, HasBegun, IsFurther, differing};
 ghost use Rattle.pg_course.specs.Lent.{IsLent, IsLentBeside};
 ghost use Rattle.pg_global.specs.Master.{has_places};
 ghost use Rattle.pg_graph.specs.Rows.{Rows as GraphRows};
@@ -94,10 +94,10 @@ impl<V: Plain, M: Plain> Part<V, M> {
     }
 
     /// The vertices whose states may differ from those of the old run, or past its end from those with which it ended.
-    pub fn differing(&self) -> &[VertexId]
-        ensures { result.now ≡ self.now.course.differing }
+    pub fn differing(&self, alloc: Global) -> Result<Vec<VertexId>, Memory>
+        ensures { IfOk result (λ ids. ids.items ≡ differing self.now.course) }
     {
-        self.course.differing()
+        self.course.differing(alloc)
     }
 
     /// What it has come to as its superstep begins.

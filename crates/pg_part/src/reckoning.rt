@@ -2,7 +2,7 @@
 ghost use Rattle.std.specs.Prelude.{◌≡◌, ◌+◌, ◌<◌, ◌≤◌, ◌^◌, true, false, length, IfOk, IsSome, Some};
 ghost use Rattle.std.specs.List.{list_all, slice_get};
 ghost use Rattle.std.specs.Option.{option_copied};
-ghost use Rattle.pg_part.specs.Reckoned.{HasBegunBeside, IsNextStats, IsReckoned, IsReckonedBeside, IsRecensus, begun_with, gathered_of};
+ghost use Rattle.pg_part.specs.Reckoned.{HasBegunBeside, IsCountedBeside, IsNextStats, IsReckoned, IsReckonedBeside, IsRecensus, begun_with, gathered_of};
 ghost use Rattle.pg_recount.specs.Contributed.{contributes_alike};
 ghost use Rattle.pg_trace.specs.Trace.{Trace as TraceOf};
 
@@ -55,7 +55,8 @@ pub(crate) fn first_stats_beside<V: Plain, M: Plain>(
     let kept = course.kept().unwrap();
     let before = old_stats[0].census;
     let trace = course.trace();
-    let census = recensus(before, kept, start, trace, start, course.differing())?;
+    let ids = course.differing(alloc)?;
+    let census = recensus(before, kept, start, trace, start, ids.as_slice())?;
     let stats = first_stats(alloc, registry, census)?;
     Ok(stats)
 }
@@ -75,6 +76,26 @@ pub(crate) fn recensus<V: Plain, M: Plain>(
     let gone = census_among(old, from, ids)?;
     let come = census_among(new, to, ids)?;
     recounted(before, gone, come)
+}
+
+/// The census after a superstep, by that before it and by those of the old run before and after it, where all other
+/// vertices were moved as in the old run, or not at all. Costs four look-ups for each of these.
+fn census_beside<V: Plain, M: Plain>(
+    old: &Trace<V, M>,
+    new: &Trace<V, M>,
+    superstep: Superstep,
+    ids: &[VertexId],
+    before: Census,
+    old_before: Census,
+    old_after: Census,
+) -> Result<Census, Memory>
+    requires { superstep + 1 < 2 ^ 32 }
+    ensures { IfOk result (λ after. IsCountedBeside old.now new.now superstep ids.now before old_before old_after after) }
+{
+    let next = Superstep::new(superstep.number() + 1);
+    let turned = recensus(before, new, superstep, new, next, ids)?;
+    let old_turned = recensus(old_before, old, superstep, old, next, ids)?;
+    recounted(turned, old_turned, old_after)
 }
 
 /// What the vertices contribute in a superstep comes to.
@@ -113,7 +134,7 @@ fn stats_after<V: Plain, M: Plain>(
     })
 }
 
-/// The same by those that the old run had after it.
+/// The same beside the old run, by those that it had before and after it too.
 fn stats_beside<V: Plain, M: Plain>(
     alloc: Global,
     registry: &Registry,
@@ -125,18 +146,27 @@ fn stats_beside<V: Plain, M: Plain>(
     superstep: Superstep,
     bundles: &[Logged<M>],
     before: &PartitionStats,
+    old_before: &PartitionStats,
+    old_after: &PartitionStats,
 ) -> Result<PartitionStats, Memory>
     requires counts { superstep + 1 < 2 ^ 32 }
     requires few { length bundles.now ≤ 64 }
     ensures { IfOk result (λ after. IsReckonedBeside registry.now graph.now moved.now old.now old_logs.now course.now
-        superstep bundles.now before.now after) }
+        superstep bundles.now before.now old_before.now old_after.now after) }
 {
     let trace = course.trace();
-    let next = Superstep::new(superstep.number() + 1);
     let changed = course.changed();
-    let census = recensus(before.census, old, next, trace, next, changed)?;
+    let census = census_beside(
+        old,
+        trace,
+        superstep,
+        changed,
+        before.census,
+        old_before.census,
+        old_after.census,
+    )?;
     let traffic = traffic_beside(
-        before.traffic,
+        old_after.traffic,
         old_logs,
         superstep,
         course.partition(),
@@ -152,7 +182,7 @@ fn stats_beside<V: Plain, M: Plain>(
         trace,
         superstep,
         changed,
-        &before.gathered,
+        &old_after.gathered,
     )?;
     Ok(PartitionStats {
         census,
@@ -190,8 +220,8 @@ fn copied(alloc: Global, values: &Sequence<i64>) -> Result<Sequence<i64>, Memory
     Ok(Sequence::from_vec(Vec::from_slice(alloc, values.as_slice())?))
 }
 
-/// The stats after a superstep that a partition has made: by those of the old run where it made it beside that, and
-/// else by those before it.
+/// The stats after a superstep that a partition has made: by those before it, and by those of the old run too where it
+/// made it beside that.
 ///
 /// Costs look-ups for each vertex that the superstep may have changed and for each target that the bundles name as
 /// changed; and a walk over the superstep's records where something else is contributed than in the old run, and over
@@ -215,21 +245,18 @@ pub(crate) fn next_stats<V: Plain, M: Plain>(
         (option_copied old_logs.entry) course.now superstep bundles.now after) }
 {
     let place = superstep.number() as usize;
+    let before = &stats[place];
     if course.beside_old() {
-        let found = (course.kept(), old_logs, old_stats.get(place + 1));
-        if let (Some(old), Some(old_logs), Some(before)) = found {
+        let kept = (course.kept(), old_logs);
+        let then = (old_stats.get(place), old_stats.get(place + 1));
+        if let ((Some(old), Some(old_logs)), (Some(old_before), Some(old_after))) = (kept, then) {
             return stats_beside(
                 alloc, registry, graph, moved, old, old_logs, course, superstep, bundles, before,
+                old_before, old_after,
             );
         }
     }
     stats_after(
-        alloc,
-        registry,
-        graph,
-        course,
-        superstep,
-        bundles,
-        &stats[place],
+        alloc, registry, graph, course, superstep, bundles, before,
     )
 }

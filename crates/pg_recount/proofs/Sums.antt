@@ -154,6 +154,55 @@ module _ {X Y : Type 0} (key : X → ℕ) (weight : X → ℕ) (key' : Y → ℕ
       by k true e = omega arith
       by k false e = ap (λ n. n + 0) (same k e)
 
+-- two pairs of lists that together come to the same at all but these ids
+module _ {X : Type 0} (key : X → ℕ) (weight : X → ℕ) where
+  pub same_pairs_but_at : (xs xs' ys ys' : List X) (ids : List ℕ) → IsStrictlySortedBy nat_cmp ids
+      → ((k : ℕ) → has_id ids k ≡ false → at key weight k xs + at key weight k ys' ≡ at key weight k xs' + at key weight k ys)
+      → (sum_by weight xs + sum_by weight ys') + (sum_by (λ id. at key weight id xs') ids + sum_by (λ id. at key weight id ys) ids)
+      ≡ (sum_by weight xs' + sum_by weight ys) + (sum_by (λ id. at key weight id xs) ids + sum_by (λ id. at key weight id ys') ids)
+  same_pairs_but_at xs xs' ys ys' ids r same =
+      ap₂ ◌+◌ (ap₂ ◌+◌ (all xs (omega arith)) (all ys' (omega arith))) (ap₂ ◌+◌ (among xs' (omega arith)) (among ys (omega arith)))
+      ∙ (both (λ k. at_key k xs) (λ k. at_key k ys') (λ k. among_key k xs') (λ k. among_key k ys)
+      ∙ (below-same b _ _ (λ k. by k (has_id ids k) refl)
+      ∙ (sym (both (λ k. at_key k xs') (λ k. at_key k ys) (λ k. among_key k xs) (λ k. among_key k ys'))
+      ∙ sym (ap₂ ◌+◌ (ap₂ ◌+◌ (all xs' (omega arith)) (all ys (omega arith))) (ap₂ ◌+◌ (among xs (omega arith)) (among ys' (omega arith)))))))
+    where
+      at_key : ℕ → List X → ℕ
+      at_key k l = at key weight k l
+
+      among_key : ℕ → List X → ℕ
+      among_key k l = cond (has_id ids k) (at key weight k l) 0
+
+      high : List X → ℕ
+      high l = bound key weight l + bound (λ id. id) (λ k. at key weight k l) ids
+
+      b : ℕ
+      b = (high xs + high xs') + (high ys + high ys')
+
+      all : (l : List X) → bound key weight l ≤ b → sum_by weight l ≡ sum_below b (λ k. at_key k l)
+      all l h = by_keys key weight b l (below_bound key weight b l h)
+
+      among : (l : List X) → bound (λ id. id) (λ k. at key weight k l) ids ≤ b → sum_by (λ id. at key weight id l) ids ≡ sum_below b (λ k. among_key k l)
+      among l h =
+          by_keys (λ id. id) (λ k. at key weight k l) b ids (below_bound (λ id. id) (λ k. at key weight k l) b ids h)
+          ∙ below-same b _ _ (λ k. at-ids (λ k. at key weight k l) k ids r)
+
+      both : (f g h i : ℕ → ℕ) → (sum_below b f + sum_below b g) + (sum_below b h + sum_below b i) ≡ sum_below b (λ k. (f k + g k) + (h k + i k))
+      both f g h i =
+          ap₂ ◌+◌ (sym (below-both b f g)) (sym (below-both b h i)) ∙ sym (below-both b (λ k. f k + g k) (λ k. h k + i k))
+
+      by : (k : ℕ) (t : Bool) → has_id ids k ≡ t
+          → (at_key k xs + at_key k ys') + (among_key k xs' + among_key k ys) ≡ (at_key k xs' + at_key k ys) + (among_key k xs + among_key k ys')
+      by k t e = ap (λ (t : Bool). (at key weight k xs + at key weight k ys') + (cond t (at key weight k xs') 0 + cond t (at key weight k ys) 0)) e
+          ∙ (turn t e
+          ∙ sym (ap (λ (t : Bool). (at key weight k xs' + at key weight k ys) + (cond t (at key weight k xs) 0 + cond t (at key weight k ys') 0)) e))
+        where
+          turn : (t : Bool) → has_id ids k ≡ t
+              → (at key weight k xs + at key weight k ys') + (cond t (at key weight k xs') 0 + cond t (at key weight k ys) 0)
+              ≡ (at key weight k xs' + at key weight k ys) + (cond t (at key weight k xs) 0 + cond t (at key weight k ys') 0)
+          turn true e = omega arith
+          turn false e = ap (λ n. n + (0 + 0)) (same k e)
+
 -- sums of the same
 pub same_sums : (k f : ℕ → ℕ) (ids : List ℕ) → ((id : ℕ) → k id ≡ f id) → sum_by k ids ≡ sum_by f ids
 same_sums k f [] e = refl

@@ -11,6 +11,7 @@ use Rattle.std.proofs.lemmas.Bool.{cases_lt, eq-eqb, eqb-true}
 use Rattle.pg_values.specs.Values.{Ended, HasEnded, HasShare, HaveEnded, HaveShares, KeepsEnd, apart_in, new_values, ran_between, state_by, state_in, traces_of}
 use Rattle.pg_values.proofs.ReadValues.{neither, none_at, none_in_range, none_valued, rows_rise, same_state, state_is}
 use Rattle.pg_course.proofs.Looking.{in_neither}
+use Rattle.pg_course.specs.Course.{differing}
 use Rattle.pg_graph.specs.Rows.{Rows}
 use Rattle.pg_map.specs.Entries.{ChangesRise, HasRisingIds, value_at, with_changes}
 use Rattle.pg_map.proofs.Changing.{rises-changes, value_at-with_changes}
@@ -86,8 +87,8 @@ module _ {V M : Type 0} (job : Job V M) (old rows : Rows) (n p id : ℕ) (mine :
   abbrev end : ℕ
   end = run_length job old
 
-  apart : (has_id part.course.differing id ≡ false) × (has_id (ran_between s end part.course.trace) id ≡ false)
-  apart = in_neither part.course.differing (ran_between s end part.course.trace) (apart_in s end (Some part)) refl id other
+  apart : (has_id (differing part.course) id ≡ false) × (has_id (ran_between s end part.course.trace) id ≡ false)
+  apart = in_neither (differing part.course) (ran_between s end part.course.trace) (apart_in s end (Some part)) refl id other
 
   -- it ended as in the old run
   ended_alike : state_at job old end id ≡ state_at job rows s id

@@ -3,6 +3,7 @@ use Rattle.std.specs.Prelude.{◌≡◌, ℕ, ◌<◌, ◌%◌, ◌-◌, List, [
 use Rattle.std.specs.List.{flat_map, range_with_len}
 use Rattle.std.specs.Map.{keys_of}
 use Rattle.std.specs.Option.{option_and_then, option_map}
+use Rattle.pg_course.specs.Course.{differing}
 use Rattle.pg_graph.specs.Rows.{Rows}
 use Rattle.pg_graph.specs.declared.missing.Missing.{Missing}
 use Rattle.pg_graph.specs.declared.missing.Missing.TheVariants.{Drop, Create}
@@ -51,7 +52,7 @@ module _ {V M : Type 0} where
   -- as `old`: those that may differ and, where the old run went on, those that ran there
   abbrev pub apart_in : ℕ → ℕ → Option (PartState V M) → List ℕ
   apart_in s old None = []
-  apart_in s old (Some part) = part.course.differing ++ ran_between s old part.course.trace
+  apart_in s old (Some part) = differing part.course ++ ran_between s old part.course.trace
 
   -- the changes that these ids make of values: each has that of its state, or none
   abbrev pub new_values : ℕ → ℕ → List (Option (Trace V M)) → List ℕ → List (ℕ × Option V)

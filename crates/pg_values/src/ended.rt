@@ -1,14 +1,13 @@
 //! How an old run ended.
 ghost use Rattle.std.specs.Prelude.{◌≡◌};
 
-use pg_graph::VertexId;
-use pg_model::Sequence;
+use crate::Values;
 use std::marker::Model;
 
 /// The values with which the vertices of an old run ended, by rising id, and how many supersteps it had.
 #[derive(Drop)]
 pub struct Ended<'a, V> {
-    values: &'a Sequence<(VertexId, V)>,
+    values: &'a Values<V>,
     supersteps: usize,
 }
 
@@ -22,16 +21,16 @@ impl<'a, V> Model for Ended<'a, V> {
 
 impl<'a, V> Ended<'a, V> {
     /// A run that ended with these values after so many supersteps.
-    pub fn new(values: &'a Sequence<(VertexId, V)>, supersteps: usize) -> Ended<'a, V>
+    pub fn new(values: &'a Values<V>, supersteps: usize) -> Ended<'a, V>
         ensures { result ≡ record { values = values.now; supersteps = supersteps } }
     {
         Ended { values, supersteps }
     }
 
-    pub(crate) fn values(&self) -> &'a [(VertexId, V)]
+    pub(crate) fn values(&self) -> &'a Values<V>
         ensures { result.now ≡ self.now.values }
     {
-        self.values.as_slice()
+        self.values
     }
 
     pub(crate) fn supersteps(&self) -> usize

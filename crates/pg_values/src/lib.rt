@@ -2,9 +2,11 @@
 #![tactic(auto)]
 
 mod ended;
+mod kept;
 mod patching;
 mod values;
 
 pub use ended::Ended;
-pub use patching::{copied_values, values_beside};
+pub use kept::Values;
+pub use patching::values_beside;
 pub use pg_graph::Memory;

@@ -1,18 +1,17 @@
 //! The values of a run's vertices, made of those with which the kept run ended.
-ghost use Rattle.std.specs.Prelude.{◌≡◌, ◌++◌, Option, Some, IfOk, IfSome, OnOk};
+ghost use Rattle.std.specs.Prelude.{◌≡◌, ◌++◌, Option, Some, IfOk, OnOk};
 ghost use Rattle.std.specs.List.{flat_map};
 ghost use Rattle.std.specs.Option.{option_map};
 ghost use Rattle.pg_values.specs.Values.{HaveEnded, KeepsEnd, apart_in, new_values, traces_of};
 ghost use Rattle.pg_graph.specs.Rows.{Rows};
-ghost use Rattle.pg_map.specs.Entries.{ChangesRise, HasRisingIds, with_changes};
 ghost use Rattle.pg_model.specs.Job.{Job};
 ghost use Rattle.pg_model.specs.Run.{configuration, values_of};
 
-use crate::Ended;
+use crate::kept::Held;
 use crate::values::{add_all, add_ran, all_states, state_by, values_at};
+use crate::{Ended, Values};
 use pg_course::rising;
 use pg_graph::{Memory, Missing, Superstep, VertexId};
-use pg_model::Sequence;
 use pg_part::{Part, Partitioner};
 use pg_program::Plain;
 use pg_trace::StateRef;
@@ -20,9 +19,9 @@ use std::alloc::{AllocError, Global};
 
 /// The values of the vertices as a run of so many supersteps ends, by rising id.
 ///
-/// Beside a kept run it costs a copy of that run's values, and a look-up for each vertex that may have ended otherwise: the
-/// parts tell which. Else it costs a sort of the vertices' ids and a look-up for each; where messages make vertices, of the
-/// ids of all executions.
+/// Beside a kept run it costs a look-up for each vertex that may have ended otherwise, which the parts tell, and a copy of
+/// those of that run's values that lie near them; the others are shared. Else it costs a sort of the vertices' ids and a
+/// look-up for each; where messages make vertices, of the ids of all executions.
 pub fn values_beside<V: Plain, M: Plain>(
     alloc: Global,
     partitioner: Partitioner,
@@ -30,13 +29,11 @@ pub fn values_beside<V: Plain, M: Plain>(
     parts: &[Option<Part<V, M>>],
     kept: Option<Ended<'_, V>>,
     superstep: Superstep,
-) -> Result<Sequence<(VertexId, V)>, Memory>
-    requires { IfSome kept (λ ended. HasRisingIds ended.values) }
-    ensures values { IfOk result (λ values. (job : Job V M) (old : Option Rows) (rows : Rows) → job.missing ≡ missing
+) -> Result<Values<V>, Memory>
+    ensures { IfOk result (λ values. (job : Job V M) (old : Option Rows) (rows : Rows) → job.missing ≡ missing
         → HaveEnded job old rows partitioner superstep parts.now
         → KeepsEnd job old kept.entry
         → values ≡ values_of job rows (configuration job rows superstep)) }
-    ensures rising { IfOk result (λ values. HasRisingIds values) }
 {
     match kept {
         None => values_at(alloc, partitioner, missing, parts, superstep),
@@ -51,18 +48,16 @@ fn values_patched<V: Plain, M: Plain>(
     parts: &[Option<Part<V, M>>],
     kept: Ended<'_, V>,
     superstep: Superstep,
-) -> Result<Sequence<(VertexId, V)>, Memory>
-    requires { HasRisingIds kept.values }
-    ensures values { IfOk result (λ values. (job : Job V M) (old : Option Rows) (rows : Rows)
+) -> Result<Values<V>, Memory>
+    ensures { IfOk result (λ values. (job : Job V M) (old : Option Rows) (rows : Rows)
         → HaveEnded job old rows partitioner superstep parts.now
         → KeepsEnd job old (Some kept.entry)
         → values ≡ values_of job rows (configuration job rows superstep)) }
-    ensures rising { IfOk result (λ values. HasRisingIds values) }
 {
     let ids = rising(apart_ids(alloc, parts, superstep, kept.supersteps())?);
     let changes = changes_at(alloc, partitioner, parts, ids.as_slice(), superstep)?;
-    let values = patched(alloc, kept.values(), changes.as_slice())?;
-    Ok(Sequence::from_vec(values))
+    let values = kept.values().changed(alloc, changes.as_slice())?;
+    Ok(values)
 }
 
 /// Ids outside of which all vertices ended as in an old run of so many supersteps.
@@ -104,7 +99,8 @@ fn add_apart<V: Plain, M: Plain>(
 ) -> Result<(), Memory>
     ensures { OnOk result (ids.new.items ≡ ids.old.items ++ apart_in superstep old (Some part.now)) }
 {
-    add_all(ids, part.differing())?;
+    let differing = part.differing(alloc)?;
+    add_all(ids, differing.as_slice())?;
     add_ran(alloc, ids, part.trace(), superstep.number(), old)?;
     Ok(())
 }
@@ -116,7 +112,7 @@ fn changes_at<V: Plain, M: Plain>(
     parts: &[Option<Part<V, M>>],
     ids: &[VertexId],
     superstep: Superstep,
-) -> Result<Vec<(VertexId, Option<V>)>, Memory>
+) -> Result<Vec<(VertexId, Option<Held<V>>)>, Memory>
     ensures { IfOk result (λ changes. changes.items ≡ new_values partitioner superstep (traces_of parts.now) ids.now) }
 {
     let mut states = all_states(alloc, parts)?;
@@ -129,68 +125,16 @@ fn changes_at<V: Plain, M: Plain>(
 }
 
 /// A copy of the value of a state, if there is one.
-fn value_of<V: Plain>(alloc: Global, state: Option<StateRef<'_, V>>) -> Result<Option<V>, Memory>
+fn value_of<V: Plain>(
+    alloc: Global,
+    state: Option<StateRef<'_, V>>,
+) -> Result<Option<Held<V>>, Memory>
     ensures { IfOk result (λ value. value ≡ option_map (λ x. x.value) state.entry) }
 {
     match state {
-        Some(state) => Ok(Some(state.value().copy(alloc)?)),
+        Some(state) => Ok(Some(Held {
+            value: state.value().copy(alloc)?,
+        })),
         None => Ok(None),
     }
-}
-
-/// These values, with changes. Costs a copy of each.
-fn patched<V: Plain>(
-    alloc: Global,
-    values: &[(VertexId, V)],
-    changes: &[(VertexId, Option<V>)],
-) -> Result<Vec<(VertexId, V)>, Memory>
-    requires changes_rise { ChangesRise changes.now }
-    requires values_rise { HasRisingIds values.now }
-    ensures { IfOk result (λ made. made.items ≡ with_changes changes.now values.now) }
-{
-    let mut made = Vec::with_capacity(alloc, values.len())?;
-    let (mut todo, mut left) = (changes, values);
-    while let Some((change, later)) = todo.split_first() {
-        match left.split_first() {
-            Some((value, others)) if value.0 < change.0 => {
-                made.push((value.0, value.1.copy(alloc)?))?;
-                left = others;
-            }
-            Some((value, others)) if value.0 == change.0 => left = others,
-            _ => {
-                if let Some(value) = &change.1 {
-                    made.push((change.0, value.copy(alloc)?))?;
-                }
-                todo = later;
-            }
-        }
-    }
-    add_copies(alloc, &mut made, left)?;
-    Ok(made)
-}
-
-/// Adds copies of values.
-fn add_copies<V: Plain>(
-    alloc: Global,
-    made: &mut Vec<(VertexId, V)>,
-    values: &[(VertexId, V)],
-) -> Result<(), Memory>
-    ensures { OnOk result (made.new.items ≡ made.old.items ++ values.now) }
-{
-    for (id, value) in values {
-        made.push((*id, value.copy(alloc)?))?;
-    }
-    Ok(())
-}
-
-/// The same values again.
-pub fn copied_values<V: Plain>(
-    alloc: Global,
-    values: &Sequence<(VertexId, V)>,
-) -> Result<Sequence<(VertexId, V)>, Memory>
-    ensures { IfOk result (λ copy. copy ≡ values.now) }
-{
-    let mut copy = Vec::with_capacity(alloc, values.as_slice().len())?;
-    add_copies(alloc, &mut copy, values.as_slice())?;
-    Ok(Sequence::from_vec(copy))
 }

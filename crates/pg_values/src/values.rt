@@ -7,12 +7,13 @@ ghost use Rattle.pg_values.specs.Values.{HaveShares, ids_before, ids_of_part, ra
 ghost use Rattle.pg_graph.specs.Rows.{Rows};
 ghost use Rattle.pg_model.specs.Job.{Job};
 ghost use Rattle.pg_model.specs.Run.{configuration, values_of};
-ghost use Rattle.pg_map.specs.Entries.{HasRisingIds};
 ghost use Rattle.pg_trace.specs.Trace.{lent};
 
+use crate::Values;
+use crate::kept::Held;
 use pg_course::rising;
 use pg_graph::{Memory, Missing, Superstep, VertexId};
-use pg_model::{Record, Sequence};
+use pg_model::Record;
 use pg_part::{Part, Partitioner};
 use pg_program::Plain;
 use pg_trace::{StateRef, States, Trace};
@@ -26,15 +27,15 @@ pub(crate) fn values_at<V: Plain, M: Plain>(
     missing: Missing,
     parts: &[Option<Part<V, M>>],
     superstep: Superstep,
-) -> Result<Sequence<(VertexId, V)>, Memory>
-    ensures values { IfOk result (λ values. (job : Job V M) (rows : Rows) → job.missing ≡ missing
+) -> Result<Values<V>, Memory>
+    ensures { IfOk result (λ values. (job : Job V M) (rows : Rows) → job.missing ≡ missing
         → HaveShares job rows partitioner superstep parts.now
         → values ≡ values_of job rows (configuration job rows superstep)) }
-    ensures rising { IfOk result (λ values. HasRisingIds values) }
 {
     let ids = rising(all_ids(alloc, missing, parts, superstep)?);
-    let values = values_of_ids(alloc, partitioner, parts, ids.as_slice(), superstep)?;
-    Ok(Sequence::from_vec(values))
+    let held = values_of_ids(alloc, partitioner, parts, ids.as_slice(), superstep)?;
+    let values = Values::of(alloc, held)?;
+    Ok(values)
 }
 
 /// The values of those of these ids that have a state.
@@ -44,7 +45,7 @@ fn values_of_ids<V: Plain, M: Plain>(
     parts: &[Option<Part<V, M>>],
     ids: &[VertexId],
     superstep: Superstep,
-) -> Result<Vec<(VertexId, V)>, Memory>
+) -> Result<Vec<(VertexId, Held<V>)>, Memory>
     ensures { IfOk result (λ values. values.items
         ≡ flat_map (λ id. valued id (state_by partitioner superstep (traces_of parts.now) id)) ids.now) }
 {
@@ -83,7 +84,7 @@ fn states_of<'t, V: Plain, M: Plain>(part: &'t Option<Part<V, M>>) -> Option<Sta
 /// Adds the value of an id, if it has a state.
 fn add_value<'t, V: Plain, M: Plain>(
     alloc: Global,
-    values: &mut Vec<(VertexId, V)>,
+    values: &mut Vec<(VertexId, Held<V>)>,
     partitioner: Partitioner,
     states: &mut Vec<Option<States<'t, V, M>>>,
     id: VertexId,
@@ -94,7 +95,8 @@ fn add_value<'t, V: Plain, M: Plain>(
     ensures same { states.new.items ≡ states.old.items }
 {
     if let Some(state) = state_by(partitioner, states, id, superstep) {
-        values.push((id, state.value().copy(alloc)?))?;
+        let value = state.value().copy(alloc)?;
+        values.push((id, Held { value }))?;
     }
     Ok(())
 }

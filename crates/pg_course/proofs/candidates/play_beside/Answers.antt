@@ -20,7 +20,7 @@ returns g c =
       beside_are = subst (λ bundles. AllByRecursion (λ k. IsFound program c.args.missing combining c.args.old.now c.args.superstep bundles k.id k.old) c.in_ok-candidates.candidates.items)
           (ap (map (λ b. b.now)) c.as_slice-2.ensures.value ∙ c.in_ok-old_lent.ensures) c.in_ok-candidates.ensures.old;
       told = c.in_ok-candidates.ensures.told;
-      moved_are = c.in_ok-played.ensures.moved;
+      looked_at_are = c.in_ok-played.ensures.looked_at;
       changes_are = c.in_ok-played.ensures.changes;
       counted = c.in_ok-played.ensures.meter;
     }

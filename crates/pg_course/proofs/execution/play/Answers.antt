@@ -1,9 +1,9 @@
-use Rattle.std.proofs.Common.{◌≡◌, ◌+◌, ◌++◌, cond, [], ◌∷◌, append_assoc, rules, ap, ap₂, sym, ◌∙◌}
+use Rattle.std.proofs.Common.{◌≡◌, ◌+◌, ◌++◌, cond, [], ◌∷◌, append_assoc, map, rules, ap, ap₂, sym, ◌∙◌}
 use Rattle.std.specs.List.{count_by, flat_map}
 use Rattle.pg_model.specs.Superstep.{capped}
 use Rattle.pg_model.specs.declared.view.View.{View}
-use Rattle.pg_course.specs.Found.{change_of, is_run, moved_of}
-use Rattle.std.proofs.lemmas.List.{nil_from_length}
+use Rattle.pg_course.specs.Found.{change_of, is_run}
+use Rattle.std.proofs.lemmas.List.{map-append, nil_from_length}
 use Rattle.pg_course.proofs.Listing.{all_yielded, count_by-push, flat_map-push, more_calls}
 use Rattle.pg_course.proofs.execution.play.Goals as goal
 
@@ -11,15 +11,14 @@ pub loop-candidate-preserved : goal.loop-candidate-preserved
 loop-candidate-preserved g c =
     let program = g.P.Computation.program c.args.program.now in
     let changes : View → _ = λ v. change_of g.P.Value.PartialEq.eq g.P.Message.PartialEq.eq program v c.args.seen in
-    let moves = moved_of g.P.Value.PartialEq.eq g.P.Message.PartialEq.eq c.args.seen in
     let runs : View → _ = λ v. is_run g.P.Value.PartialEq.eq g.P.Message.PartialEq.eq program v c.args.seen in
     let before = c.loop-candidate.yielded in
     let one = c.in-Some.candidate in
     let same = c.loop-candidate.invariant.view in
     record {
-      moved = c.in_ok-played.ensures.moved
-          ∙ ap (λ l. l ++ moves one) c.loop-candidate.invariant.moved
-          ∙ sym (flat_map-push moves before one);
+      looked_at = c.in_ok-played.ensures.looked_at
+          ∙ ap (λ l. l ++ one.id ∷ []) c.loop-candidate.invariant.looked_at
+          ∙ sym (map-append (λ c. c.id) before (one ∷ []));
       changes = c.in_ok-played.ensures.changes
           ∙ ap₂ ◌++◌ c.loop-candidate.invariant.changes (ap (λ v. changes v one) same)
           ∙ sym (flat_map-push (changes c.args.stage.view) before one);
@@ -31,14 +30,13 @@ loop-candidate-preserved g c =
       whole = append_assoc before (one ∷ []) c.next.new.self.rest.items ∙ (ap (λ l. before ++ l) (sym c.in-Some.ensures.steps.0) ∙ c.loop-candidate.invariant.whole);
     }
 
-pub returns-clause-moved : goal.returns-clause-moved
-returns-clause-moved g c =
+pub returns-clause-looked_at : goal.returns-clause-looked_at
+returns-clause-looked_at g c =
     let before = c.loop-candidate.yielded in
     let rest = c.loop-candidate.candidate-iterator.rest in
     let none : rest.items ≡ [] = nil_from_length rest.items (search rules) in
-    c.loop-candidate.invariant.moved
-    ∙ ap (flat_map (moved_of g.P.Value.PartialEq.eq g.P.Message.PartialEq.eq c.args.seen))
-    (all_yielded before rest.items c.args.candidates.items c.loop-candidate.invariant.whole none)
+    c.loop-candidate.invariant.looked_at
+    ∙ ap (map (λ c. c.id)) (all_yielded before rest.items c.args.candidates.items c.loop-candidate.invariant.whole none)
 
 pub returns-clause-changes : goal.returns-clause-changes
 returns-clause-changes g c =

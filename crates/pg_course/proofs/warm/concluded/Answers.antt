@@ -1,9 +1,9 @@
-use Rattle.std.proofs.Common.{◌≡◌, ◌+◌, ◌≤◌, length, Some, ap, sym, ◌∙◌, subst, subst₂, arith, true}
+use Rattle.std.proofs.Common.{◌≡◌, ◌+◌, ◌≤◌, ◌++◌, length, Some, ap, sym, ◌∙◌, subst, subst₂, arith, true}
 use Rattle.std.specs.List.{flat_map, slice_get}
 use Rattle.std.proofs.lemmas.List.{length-set}
 use Rattle.pg_inbox.specs.Logged.{slot_at}
 use Rattle.pg_map.specs.Entries.{with_changes}
-use Rattle.pg_course.specs.Differing.{AreTold, differing}
+use Rattle.pg_course.specs.Differing.{AreTold, resting_among, restless_among, without}
 use Rattle.pg_course.specs.Lists.{reaching}
 use Rattle.pg_course.specs.Course.{Holding}
 use Rattle.pg_course.specs.Sending.{IsMended, items_to, pairs_of, sends_of}
@@ -29,7 +29,7 @@ returns-clause-concluded g c =
     let combining = g.C.MessageCombiner.combining c.args.combiner.now in
     let old = c.args.old in
     let old_logs = c.args.old_logs.now in
-    let moved = c.args.played.moved.items in
+    let looked_at = c.args.played.looked_at.items in
     let changes = c.args.played.changes.items in
     let n = c.course.inside.partitions in
     let p = c.course.inside.partition in
@@ -41,7 +41,8 @@ returns-clause-concluded g c =
       place = s;
       trace = c.course.inside.trace;
       kept = c.course.inside.kept;
-      differing = c.course.inside.differing.items;
+      restless = c.course.inside.differing.restless.items;
+      resting = c.course.inside.differing.resting.items;
       changed = c.course.inside.changed.items;
       beside_old = c.course.inside.beside_old;
     } in
@@ -52,14 +53,16 @@ returns-clause-concluded g c =
       place = c.new-place.result;
       trace = c.in_ok-trace.trace;
       kept = Some old;
-      differing = c.in_ok-differing.differing.items;
-      changed = moved;
+      restless = c.in_ok-differing.differing.restless.items;
+      resting = c.in_ok-differing.differing.resting.items;
+      changed = looked_at;
       beside_old = true;
     } in
     let trace = with_replaced s changes (reaching s c.course.inside.trace) in
     let next : c.new-place.result ≡ s + 1 = c.new-place.ensures ∙ ap (λ k. k + 1) c.number.ensures in
-    let ids : c.as_slice-2.result.now ≡ moved = c.as_slice-2.ensures.value in
-    subst (λ h. IsConcluded value_eq g.M.PartialEq.eq combining h old old_logs moved changes after c.of.result) c.course.view_is
+    let ids : c.as_slice-2.result.now ≡ looked_at = c.as_slice-2.ensures.value in
+    let rested = c.course.inside.differing.resting.items in
+    subst (λ h. IsConcluded value_eq g.M.PartialEq.eq combining h old old_logs looked_at changes after c.of.result) c.course.view_is
     (record {
       part_is = λ i. record {
         partition = p;
@@ -68,8 +71,10 @@ returns-clause-concluded g c =
         place = next i;
         trace = c.in_ok-trace.ensures i;
         kept = Some old;
-        differing = (c.in_ok-differing.ensures.differing ∙ (λ i. differing value_eq old (c.in_ok-trace.ensures i) (next i) (ids i))) i;
-        changed = moved;
+        restless = (c.in_ok-differing.ensures.restless ∙ (λ i. restless_among value_eq old (c.in_ok-trace.ensures i) (next i) (ids i))) i;
+        resting = (c.in_ok-differing.ensures.resting
+            ∙ (λ i. without rested (ids i) ++ resting_among value_eq old (c.in_ok-trace.ensures i) (next i) (ids i))) i;
+        changed = looked_at;
         beside_old = true;
       };
       told = subst (AreTold value_eq old trace (s + 1)) ids

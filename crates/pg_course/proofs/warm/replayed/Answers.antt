@@ -27,7 +27,8 @@ returns g c =
       place = c.course.inside.place;
       trace = c.course.inside.trace;
       kept = c.course.inside.kept;
-      differing = c.course.inside.differing.items;
+      restless = c.course.inside.differing.restless.items;
+      resting = c.course.inside.differing.resting.items;
       changed = c.course.inside.changed.items;
       beside_old = c.course.inside.beside_old;
     } in
@@ -35,11 +36,11 @@ returns g c =
     subst (λ h. IsReplayed value_eq message_eq combining h old old_logs program logs c.args.old_view.now view bundles meter played) c.course.view_is
     (record {
       ids = ids;
-      looked = subst₂ (λ d b. AreLookedAt course.partitions course.partition course.place course.trace d logs old_logs b ids)
-          c.as_slice-2.ensures.value c.is_same_view-seen.ensures c.in_ok-ids.ensures;
+      looked = subst (λ b. AreLookedAt combining bundles course.partitions course.partition course.place course.trace course.restless course.resting logs old_logs b ids)
+          c.is_same_view-seen.ensures c.in_ok-ids.ensures;
       is = subst (λ b. IsPlayed value_eq message_eq program course.missing combining view course.partitions course.partition course.place course.trace bundles
           (Some (old, bundles_before old_logs course.partitions course.partition course.place)) ids (not b) b meter played) c.is_same_view-seen.ensures
           (subst₂ (λ x y. IsPlayed value_eq message_eq program course.missing combining view course.partitions course.partition course.place course.trace bundles
-          (Some (old, x)) y (not seen) seen meter played) (c.as_slice-3.ensures.value ∙ c.in_ok-old_bundles.ensures) c.as_slice-4.ensures.value c.in_ok-played.ensures);
+          (Some (old, x)) y (not seen) seen meter played) (c.as_slice-2.ensures.value ∙ c.in_ok-old_bundles.ensures) c.as_slice-3.ensures.value c.in_ok-played.ensures);
       alike = λ id. subst (λ l. DeliverAlike combining id l bundles) (c.as_slice.ensures.value ∙ c.in_ok-old_bundles.ensures) (c.tell_alike.ensures id);
     })

@@ -6,29 +6,23 @@ use Rattle.pg_map.proofs.Changing.{rises-changes}
 use Rattle.pg_model.specs.Superstep.{has_id}
 use Rattle.pg_values.proofs.patching.values_patched.Goals as goal
 
-pub patched-requires-clause-changes_rise : goal.patched-requires-clause-changes_rise
-patched-requires-clause-changes_rise g c κs within =
+pub changed-requires : goal.changed-requires
+changed-requires g c =
     let n = c.args.partitioner in
     let s = c.args.superstep in
     let traces = traces_of c.args.parts.now in
     let changes = c.as_slice-2.ensures.value ∙ (c.in_ok-changes.ensures ∙ ap (new_values n s traces) c.as_slice.ensures.value) in
     subst ChangesRise (sym changes) (new_values_rise n s traces c.rising-ids.result.items c.rising-ids.ensures.rise)
 
-pub returns-clause-values : goal.returns-clause-values
-returns-clause-values g c job old rows ended keeps =
+pub returns : goal.returns
+returns g c job old rows ended keeps =
     let n = c.args.partitioner in
     let s = c.args.superstep in
     let parts = c.args.parts.now in
     let ids = c.rising-ids.result.items in
     let changes = c.as_slice-2.ensures.value ∙ (c.in_ok-changes.ensures ∙ ap (new_values n s (traces_of parts)) c.as_slice.ensures.value) in
     let listed = c.in_ok-apart_ids.ensures ∙ ap (λ k. flat_map (apart_in s k) parts) c.supersteps.ensures in
-    c.from_vec.ensures
-    ∙ (c.in_ok-values.ensures
+    c.in_ok-values.ensures
     ∙ (ap₂ with_changes changes c.values.ensures
     ∙ patched_beside job rows n s parts c.args.kept old ended keeps ids c.rising-ids.ensures.rise
-    (λ id. c.rising-ids.ensures.same id ∙ ap (λ l. has_id l id) listed)))
-
-pub returns-clause-rising : goal.returns-clause-rising
-returns-clause-rising g c =
-    subst HasRisingIds (sym (c.from_vec.ensures ∙ c.in_ok-values.ensures))
-    (rises-changes c.as_slice-2.result.now c.values.result.now (subst HasRisingIds (sym c.values.ensures) c.requires))
+    (λ id. c.rising-ids.ensures.same id ∙ ap (λ l. has_id l id) listed))

@@ -5,23 +5,23 @@ use Rattle.pg_map.specs.Entries.{HasRisingIds}
 use Rattle.pg_model.specs.Superstep.{has_id}
 use Rattle.pg_values.proofs.values.values_at.Goals as goal
 
-pub returns-clause-values : goal.returns-clause-values
-returns-clause-values g c job rows missing shares =
+pub returns : goal.returns
+returns g c job rows missing shares =
     let n = c.args.partitioner in
     let s = c.args.superstep in
     let parts = c.args.parts.now in
     let ids = c.rising-ids.result.items in
-    c.from_vec.ensures
-    ∙ (c.in_ok-values.ensures
+    c.in_ok-values.ensures
+    ∙ (c.in_ok-held.ensures
     ∙ (ap (flat_map (λ id. valued id (state_by n s (traces_of parts) id))) c.as_slice.ensures.value
     ∙ (same_values n s parts ids ∙ values_are job rows n s parts shares ids c.rising-ids.ensures.rise
     (λ id. c.rising-ids.ensures.same id ∙ (ap (λ l. has_id l id) c.in_ok-all_ids.ensures ∙ ap (λ m. has_id (flat_map (ids_of_part m s) parts) id) (sym missing))))))
 
-pub returns-clause-rising : goal.returns-clause-rising
-returns-clause-rising g c =
+pub of-requires : goal.of-requires
+of-requires g c =
     let n = c.args.partitioner in
     let s = c.args.superstep in
     let states = state_by n s (traces_of c.args.parts.now) in
     subst HasRisingIds
-    (sym (c.from_vec.ensures ∙ (c.in_ok-values.ensures ∙ ap (flat_map (λ id. valued id (states id))) c.as_slice.ensures.value)))
+    (sym (c.in_ok-held.ensures ∙ ap (flat_map (λ id. valued id (states id))) c.as_slice.ensures.value))
     (valued_rise states c.rising-ids.result.items c.rising-ids.ensures.rise)

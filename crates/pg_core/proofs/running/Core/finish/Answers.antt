@@ -7,7 +7,6 @@ use Rattle.pg_core.specs.Traces.{HaveLeft, ended_by}
 use Rattle.pg_values.specs.Values.{HaveEnded, KeepsEnd}
 use Rattle.pg_core.proofs.Events.{place_at_end}
 use Rattle.pg_core.proofs.Left.{answer_is, ending_last, have_all_ended, keeps_end, left_as, tally_last}
-use Rattle.pg_map.specs.Entries.{HasRisingIds}
 use Rattle.pg_model.specs.Run.{configuration, values_of}
 use Rattle.pg_model.specs.declared.run.Ending.TheVariants.{LimitReached}
 use Rattle.pg_core.proofs.running.Core.finish.Goals as goal
@@ -22,11 +21,9 @@ lefts_of-requires-clause-here g c =
 
 pub invariant_of-common : goal.invariant_of-common
 invariant_of-common g c =
-    let registered = (g.M.MasterCompute.master c.self.inside.master.now).registrations in (
-      All-weaker (λ v. length v.values ≡ length registered) (λ v. length v.values ≤ 16) (λ v same. subst (λ (n : ℕ). n ≤ 16) (sym same) c.self.invariant.few)
-          c.self.inside.shown.items c.self.invariant.shown_places,
-      subst HasRisingIds (sym c.in_ok-again.ensures) c.in_ok-values.ensures.rising,
-    )
+    let registered = (g.M.MasterCompute.master c.self.inside.master.now).registrations in
+    All-weaker (λ v. length v.values ≡ length registered) (λ v. length v.values ≤ 16) (λ v same. subst (λ (n : ℕ). n ≤ 16) (sym same) c.self.invariant.few)
+    c.self.inside.shown.items c.self.invariant.shown_places
 
 pub returns : goal.returns
 returns g c kept right =
@@ -49,15 +46,15 @@ returns g c kept right =
     let all_ended = subst (λ (n : ℕ). HaveEnded job kept rows n c.new-supersteps.result c.as_slice-parts_here.result.now) (sym partitions_are)
     (subst (λ (s : ℕ). HaveEnded job kept rows n s c.as_slice-parts_here.result.now) (sym many)
     (subst (HaveEnded job kept rows n (core.state.current + 1)) (sym parts_are) have)) in
-    let keeps = subst (KeepsEnd job kept) (sym (c.ended_of-ended.ensures.ended ∙ ap (λ core. option_map ended_by core.kept) c.self.view_is)) (keeps_end job kept n core.kept right.beside) in
+    let keeps = subst (KeepsEnd job kept) (sym (c.ended_of-ended.ensures ∙ ap (λ core. option_map ended_by core.kept) c.self.view_is)) (keeps_end job kept n core.kept right.beside) in
     let policy = ap (λ core. core.limits.missing) (sym c.self.view_is) ∙ sym c.missing-missing.ensures in
-    let values = c.in_ok-values.ensures.values job kept rows policy all_ended keeps ∙ ap (λ (k : ℕ). values_of job rows (configuration job rows k)) many in
+    let values = c.in_ok-values.ensures job kept rows policy all_ended keeps ∙ ap (λ (k : ℕ). values_of job rows (configuration job rows k)) many in
     let counts = ap (λ core. core.tally) c.self.view_is ∙ tally_last job kept core right ended places here each some in
     let ends = c.unwrap_or.ensures ∙ (ap (λ core. unwrap_or core.ending LimitReached) c.self.view_is ∙ ap (λ e. unwrap_or e LimitReached) (ending_last job kept core right ended places here each some)) in
     let left = subst (λ (m : ℕ). HaveLeft (core.state.current + 1) core.parts m c.in_ok-lefts.lefts.items) each
     (subst₂ (λ (s : ℕ) parts. HaveLeft s parts (length parts) c.in_ok-lefts.lefts.items) many (ap (λ core. core.parts) c.self.view_is) c.in_ok-lefts.ensures.left) in
     let lefts_each = c.in_ok-lefts.ensures.each ∙ (ap (λ core. length core.parts) c.self.view_is ∙ each) in
     record {
-      answers = answer_is job rows core.state.current (right.at_end ended) c.in_ok-values.values inside.tally c.unwrap_or.result c.number-2.result values counts ends (c.number-2.ensures ∙ many);
-      leaves = left_as job kept core right ended places here each some c.in_ok-lefts.lefts.items c.in_ok-graph.graph _ _ c.in_ok-again.again lefts_each left (c.in_ok-graph.ensures ∙ ap (λ core. core.graph) c.self.view_is) (ap (λ core. core.logs) c.self.view_is) (ap (λ core. core.shown) c.self.view_is) (c.in_ok-again.ensures ∙ values);
+      answers = answer_is job rows core.state.current (right.at_end ended) c.in_ok-listed.listed inside.tally c.unwrap_or.result c.number-2.result (c.in_ok-listed.ensures.listed ∙ values) counts ends (c.number-2.ensures ∙ many);
+      leaves = left_as job kept core right ended places here each some c.in_ok-lefts.lefts.items c.in_ok-graph.graph _ _ c.in_ok-values.values lefts_each left (c.in_ok-graph.ensures ∙ ap (λ core. core.graph) c.self.view_is) (ap (λ core. core.logs) c.self.view_is) (ap (λ core. core.shown) c.self.view_is) values;
     }

@@ -33,7 +33,8 @@ returns-clause-stepped g c job kept rows n p s logs program combining holds past
       place = c.self.inside.place;
       trace = c.self.inside.trace;
       kept = c.self.inside.kept;
-      differing = c.self.inside.differing.items;
+      restless = c.self.inside.differing.restless.items;
+      resting = c.self.inside.differing.resting.items;
       changed = c.self.inside.changed.items;
       beside_old = c.self.inside.beside_old;
     } in
@@ -49,8 +50,9 @@ returns-clause-stepped g c job kept rows n p s logs program combining holds past
       place = (c.new.ensures ∙ ap (λ k. k + 1) c.number.ensures) i;
       trace = c.in_ok-trace.ensures i;
       kept = c.self.inside.kept;
-      differing = (c.in_ok-differing.ensures ∙ ap (differing_past c.self.inside.kept c.self.inside.differing.items) c.as_slice-3.ensures.value) i;
-      changed = c.in_ok-played.played.moved.items;
+      restless = (c.in_ok-restless.ensures ∙ ap (differing_past c.self.inside.kept c.self.inside.differing.restless.items) c.as_slice-3.ensures.value) i;
+      resting = c.self.inside.differing.resting.items;
+      changed = c.in_ok-played.played.looked_at.items;
       beside_old = false;
     })
     (ap length c.of.ensures ∙ c.in_ok-bundles.ensures.len)

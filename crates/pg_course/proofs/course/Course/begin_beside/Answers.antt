@@ -1,4 +1,6 @@
-use Rattle.std.proofs.Common.{Some, ap, sym, ◌∙◌, subst, refl, false}
+use Rattle.std.proofs.Common.{Some, ◌++◌, append-nil, ap, ap₂, sym, ◌∙◌, subst, refl, false}
+use Rattle.std.specs.List.Sorted.{IsStrictlySortedBy}
+use Rattle.std.specs.Ordering.{nat_cmp}
 use Rattle.pg_map.specs.Entries.{ChangesRise}
 use Rattle.pg_model.specs.Superstep.{has_id}
 use Rattle.pg_course.specs.Course.{AreTouched, Holding, Holds, IsWhole}
@@ -20,7 +22,13 @@ restarted-requires-clause-by_id g c =
     (changes_by_id (g.P.Computation.program c.args.program.now) c.rows.inside.partitions c.rows.inside.partition c.rows.inside.graph.now c.as_slice.result.now)
 
 pub returns-clause-differing : goal.returns-clause-differing
-returns-clause-differing g c id = c.rising-differing.ensures.same id ∙ ap (λ l. has_id l id) c.in_ok-copied.ensures
+returns-clause-differing g c id =
+    ap (λ l. has_id l id) (ap₂ ◌++◌ c.of.ensures.restless c.of.ensures.resting ∙ append-nil c.rising-differing.result.items)
+    ∙ (c.rising-differing.ensures.same id ∙ ap (λ l. has_id l id) c.in_ok-copied.ensures)
+
+pub returns-clause-rise : goal.returns-clause-rise
+returns-clause-rise g c =
+    subst (IsStrictlySortedBy nat_cmp) (sym (ap₂ ◌++◌ c.of.ensures.restless c.of.ensures.resting ∙ append-nil c.rising-differing.result.items)) c.rising-differing.ensures.rise
 
 pub returns-clause-holds : goal.returns-clause-holds
 returns-clause-holds g c job kept program missing whole touched =
@@ -36,7 +44,8 @@ returns-clause-holds g c job kept program missing whole touched =
       place = c.new.result;
       trace = c.in_ok-trace.trace;
       kept = Some c.args.old;
-      differing = ids;
+      restless = c.of.result.restless.items;
+      resting = c.of.result.resting.items;
       changed = c.new-2.result.items;
       beside_old = false;
     } in
@@ -47,4 +56,4 @@ returns-clause-holds g c job kept program missing whole touched =
     (λ id other. same id (sym (ap (λ l. has_id l id) c.in_ok-copied.ensures) ∙ (sym (c.rising-differing.ensures.same id) ∙ other)))
     course refl refl refl c.new.ensures
     (c.in_ok-trace.ensures ∙ ap (λ l. record c.args.old { initial = with_first l c.args.old.initial })
-    (c.in_ok-changes.ensures.changes ∙ ap (first_changes program' graph n p) c.as_slice.ensures.value)) refl refl)
+    (c.in_ok-changes.ensures.changes ∙ ap (first_changes program' graph n p) c.as_slice.ensures.value)) refl c.of.ensures.restless c.of.ensures.resting)

@@ -1,13 +1,17 @@
 use Rattle.std.proofs.Common.{◌≡◌, None, sym, ◌∙◌, subst}
 use Rattle.pg_course.specs.Course.{HasStepped, Holding, Holds}
 use Rattle.pg_course.specs.Warm.{IsConcluded, IsReplayed}
-use Rattle.pg_course.proofs.Stepping.{played_rise}
+use Rattle.pg_course.proofs.Stepping.{looked_at_rise, played_rise}
 use Rattle.pg_course.proofs.WarmStep.{beside_steps, nothing_kept}
 use Rattle.pg_course.proofs.course.Course.beside.Goals as goal
 
 pub concluded-requires-clause-rise : goal.concluded-requires-clause-rise
 concluded-requires-clause-rise g c κs within =
     played_rise g.V.PartialEq.eq g.M.PartialEq.eq _ _ _ _ _ _ _ _ _ _ _ _ _ _ _ c.in_ok-played-in-Some.ensures.is
+
+pub concluded-requires-clause-looked_at_rise : goal.concluded-requires-clause-looked_at_rise
+concluded-requires-clause-looked_at_rise g c κs within =
+    looked_at_rise g.V.PartialEq.eq g.M.PartialEq.eq _ _ _ _ _ _ _ _ _ _ _ _ _ _ _ c.in_ok-played-in-Some.ensures.is
 
 pub returns-in_ok-stepped-in-Some-clause-stepped : goal.returns-in_ok-stepped-in-Some-clause-stepped
 returns-in_ok-stepped-in-Some-clause-stepped g c job kept rows n p s program combining holds within has bundled sees lent =
@@ -28,7 +32,8 @@ returns-in_ok-stepped-in-Some-clause-stepped g c job kept rows n p s program com
       place = c.course.inside.place;
       trace = c.course.inside.trace;
       kept = c.course.inside.kept;
-      differing = c.course.inside.differing.items;
+      restless = c.course.inside.differing.restless.items;
+      resting = c.course.inside.differing.resting.items;
       changed = c.course.inside.changed.items;
       beside_old = c.course.inside.beside_old;
     } in
@@ -38,7 +43,7 @@ returns-in_ok-stepped-in-Some-clause-stepped g c job kept rows n p s program com
     (subst (λ k. IsReplayed value_eq message_eq combining' (record course { kept = k }) old c.args.old_logs.now program' c.args.logs.now c.args.old_view c.args.stage.view
     c.as_slice.result.now c.args.stage.meter played) c.take.ensures.after c.in_ok-played-in-Some.ensures)
     after sent
-    (subst (λ k. IsConcluded value_eq message_eq combining' (record course { kept = k }) old c.args.old_logs.now played.moved.items played.changes.items after sent) c.take.ensures.after
+    (subst (λ k. IsConcluded value_eq message_eq combining' (record course { kept = k }) old c.args.old_logs.now played.looked_at.items played.changes.items after sent) c.take.ensures.after
     c.in_ok-stepped-in-Some.ensures.concluded) in
     subst (HasStepped job value_eq message_eq kept rows n p s after sent c.args.stage.meter) (sym c.in_ok-stepped-in-Some.ensures.counted)
     (steps job kept rows n p s program combining (subst (Holds job kept rows n p s) (sym c.course.view_is) holds) within has (c.as_slice.ensures.value ∙ bundled) sees lent)
@@ -52,7 +57,8 @@ returns-in_ok-stepped-in-None-clause-stepped g c job kept rows n p s program com
       place = c.course.inside.place;
       trace = c.course.inside.trace;
       kept = c.course.inside.kept;
-      differing = c.course.inside.differing.items;
+      restless = c.course.inside.differing.restless.items;
+      resting = c.course.inside.differing.resting.items;
       changed = c.course.inside.changed.items;
       beside_old = c.course.inside.beside_old;
     } in

@@ -1,6 +1,6 @@
 use Rattle.std.proofs.Common.{◌≡◌, ap, sym, ◌∙◌, ◌∷◌, ◌++◌, [], subst, refl, arith, ◌≤◌, Some}
 use Rattle.std.specs.List.{slice_get}
-use Rattle.pg_course.specs.Course.{Holds, IsWhole}
+use Rattle.pg_course.specs.Course.{Holds, IsWhole, differing}
 use Rattle.pg_model.specs.Run.{run_length}
 use Rattle.pg_part.proofs.Beginning.{begun_stats, recensus_is}
 use Rattle.pg_part.proofs.Stepping.{stats_of}
@@ -24,7 +24,7 @@ returns-clause-holds g c job kept program missing same left touched moved =
     let at = stats_of job kept n p (run_length job kept) 0 old.stats.items stats_are (let least : 0 ≤ run_length job kept = omega arith in least) in
     let first = c.in_ok-first.first in
     let begun = c.in_ok-first.ensures old.trace earlier begins.kept (ap (λ l. slice_get l 0) c.as_slice.ensures.value ∙ at) in
-    let counted = recensus_is job kept graph n p old.trace course.trace whole.run holds.run c.args.touched.now course.differing begins.rise begins.differing touched
+    let counted = recensus_is job kept graph n p old.trace course.trace whole.run holds.run c.args.touched.now (differing course) begins.rise begins.differing touched
     old.stats.items stats_are earlier at first.census begun.census in
     let pushed = c.in_ok-push.ensures.items ∙ (ap (λ l. l ++ first ∷ []) c.new-stats.ensures.items ∙ ap (λ x. x ∷ []) begun.rest) in
     record {

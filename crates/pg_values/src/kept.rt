@@ -1,0 +1,86 @@
+//! The values of a run's vertices, in memory that a run beside it shares.
+ghost use Rattle.std.specs.Prelude.{◌≡◌, IfOk};
+ghost use Rattle.pg_map.specs.Entries.{ChangesRise, HasRisingIds, with_changes};
+
+use pg_graph::{Memory, VertexId};
+use pg_map::{Map, Share};
+use pg_model::Sequence;
+use pg_program::Plain;
+use std::alloc::Global;
+use std::marker::Model;
+
+/// The value of a vertex.
+#[derive(Drop)]
+pub(crate) struct Held<V> {
+    pub(crate) value: V,
+}
+
+impl<V> Model for Held<V> {
+    ghost Value = { V };
+
+    ghost view = { λ h. h.value };
+}
+
+impl<V: Plain> Share for Held<V> {
+    fn share(&self, alloc: Global) -> Result<Held<V>, Memory> {
+        let value = self.value.copy(alloc)?;
+        Ok(Held { value })
+    }
+}
+
+/// The values of vertices. A contract sees the list of (id, value) by rising id.
+#[derive(Drop)]
+pub struct Values<V> {
+    map: Map<Held<V>>,
+}
+
+impl<V> Model for Values<V> {
+    ghost use Rattle.std.specs.Prelude.{ℕ, List};
+    ghost use Rattle.pg_map.specs.Entries.{HasRisingIds};
+
+    ghost Value = { List (ℕ × V) };
+
+    ghost view = { λ v. v.map };
+
+    ghost invariant = { λ v. HasRisingIds v.map };
+}
+
+impl<V: Plain> Values<V> {
+    /// These values, which stand by rising id.
+    pub(crate) fn of(alloc: Global, values: Vec<(VertexId, Held<V>)>) -> Result<Values<V>, Memory>
+        requires { HasRisingIds values.items }
+        ensures { IfOk result (λ made. made ≡ values.items) }
+    {
+        let map = Map::from_rising(alloc, values)?;
+        Ok(Values { map })
+    }
+
+    /// These values with changes, by rising id: each of these vertices has its new value, or none. Costs a copy of the
+    /// values that lie near a change.
+    pub(crate) fn changed(
+        &self,
+        alloc: Global,
+        changes: &[(VertexId, Option<Held<V>>)],
+    ) -> Result<Values<V>, Memory>
+        requires { ChangesRise changes.now }
+        ensures { IfOk result (λ made. made ≡ with_changes changes.now self.now) }
+    {
+        let mut map = self.map.share()?;
+        map.change(alloc, changes)?;
+        // Tells the prover that ids rise.
+        map.len();
+        Ok(Values { map })
+    }
+
+    /// The list of them. Costs a copy of each.
+    pub fn listed(&self, alloc: Global) -> Result<Sequence<(VertexId, V)>, Memory>
+        ensures listed { IfOk result (λ list. list ≡ self.now) }
+        ensures rising { HasRisingIds self.now }
+    {
+        let mut list = Vec::with_capacity(alloc, self.map.len())?;
+        for (id, held) in self.map.iter() {
+            list.push((*id, held.value.copy(alloc)?))?;
+        }
+        Ok(Sequence::from_vec(list))
+    }
+}
