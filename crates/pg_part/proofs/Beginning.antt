@@ -1,19 +1,18 @@
 -- The stats as a run begins.
-use Rattle.std.proofs.Common.{◌≡◌, ℕ, zero, suc, ◌+◌, ◌<◌, false, List, [], ◌∷◌, map, Some, option_map, refl, ap, ap₂, sym, ◌∙◌, arith, add-one}
-use Rattle.std.specs.List.{fold, range_with_len, slice_get}
+use Rattle.std.proofs.Common.{◌≡◌, ℕ, ◌+◌, List, [], ◌∷◌, map, Some, option_map, refl, ap, sym, ◌∙◌, add-one}
+use Rattle.std.specs.List.{range_with_len, slice_get}
 use Rattle.std.specs.List.Sorted.{IsStrictlySortedBy}
 use Rattle.std.specs.Ordering.{nat_cmp}
-use Rattle.pg_course.specs.Course.{AreTouched, IsWhole}
+use Rattle.pg_course.specs.Course.{AreTouched}
 use Rattle.pg_course.specs.Starting.{first_states}
 use Rattle.pg_course.proofs.Beginning.{begun_holds}
 use Rattle.pg_global.specs.Registry.{Registered}
-use Rattle.pg_graph.specs.Rows.{HasRisingIds, Rows, row_at}
-use Rattle.pg_model.specs.ByIds.{state_at, state_first}
+use Rattle.pg_graph.specs.Rows.{HasRisingIds, Rows}
+use Rattle.pg_model.specs.ByIds.{state_first}
 use Rattle.pg_model.specs.Job.{Aggregating, Job}
 use Rattle.pg_model.specs.Run.{run_length}
-use Rattle.pg_model.specs.Share.{belongs, share}
-use Rattle.pg_model.specs.Superstep.{at_place, has_id}
-use Rattle.pg_model.specs.declared.configuration.VertexState.{VertexState}
+use Rattle.pg_model.specs.Share.{share}
+use Rattle.pg_model.specs.Superstep.{has_id}
 use Rattle.pg_model.proofs.LawsPresent.{state_at-first}
 use Rattle.pg_part.specs.Part.{stats_to}
 use Rattle.pg_part.specs.Reckoned.{IsRecensus, begun_with}

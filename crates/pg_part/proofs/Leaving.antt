@@ -1,11 +1,11 @@
 -- What a partition leaves of a whole run.
-use Rattle.std.proofs.Common.{◌≡◌, ℕ, ◌≤◌, List, length, take, Option, arith, ◌∙◌, sym, ap, subst}
+use Rattle.std.proofs.Common.{◌≡◌, ℕ, ◌≤◌, List, length, Option, arith, ◌∙◌, sym, ap, subst}
 use Rattle.std.proofs.lemmas.List.{length-take-le, take-take}
 use Rattle.pg_course.specs.Course.{Holding, Holds, IsWhole}
 use Rattle.pg_graph.specs.Rows.{Rows}
 use Rattle.pg_model.specs.Job.{Job}
 use Rattle.pg_model.specs.Run.{run_length}
-use Rattle.pg_part.specs.Part.{HoldsShare, IsLeft, LeftOf, PartState}
+use Rattle.pg_part.specs.Part.{HoldsShare, IsLeft, PartState}
 use Rattle.pg_stats.specs.declared.stats.PartitionStats.{PartitionStats}
 use Rattle.pg_trace.specs.Trace.{Trace, first_supersteps}
 

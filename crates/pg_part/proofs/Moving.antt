@@ -8,7 +8,7 @@ use Rattle.pg_course.specs.Course.{AreTouched}
 use Rattle.pg_graph.specs.Rows.{Rows}
 use Rattle.pg_model.specs.Superstep.{has_id}
 use Rattle.pg_part.specs.Moved.{moved_among, moves}
-use Rattle.pg_recount.specs.Traffic.{AreMoved, is_nobody, is_vertex}
+use Rattle.pg_recount.specs.Traffic.{AreMoved, is_vertex}
 
 -- an id is among those that a test picks where it is among all and passes
 has_id-filter : (test : ℕ → Bool) (ids : List ℕ) (id : ℕ) → has_id (filter test ids) id ≡ (has_id ids id && test id)

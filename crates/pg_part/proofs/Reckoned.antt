@@ -1,9 +1,6 @@
 -- The stats of a run as a superstep begins: by those before it, and by those of an old run.
-use Rattle.std.proofs.Common.{◌≡◌, ℕ, zero, suc, ◌+◌, ◌<◌, ◌≤◌, ◌==◌, ◌&&◌, ◌||◌, true≢false, Bool, true, false, cond, List, [], ◌∷◌, map, length, ℤ, Option, None, Some, option_map, refl, ap, ap₂, sym, ◌∙◌, subst, arith, add-one}
+use Rattle.std.proofs.Common.{◌≡◌, ℕ, zero, suc, ◌+◌, ◌<◌, ◌==◌, ◌&&◌, ◌||◌, true≢false, Bool, true, false, List, [], ◌∷◌, map, length, Option, None, Some, option_map, refl, ap, ap₂, sym, ◌∙◌, subst, arith, add-one}
 use Rattle.std.specs.List.{AllByRecursion, list_all, range_with_len, slice_get}
-use Rattle.std.specs.List.Sorted.{IsStrictlySortedBy}
-use Rattle.std.specs.Option.{option_to_list}
-use Rattle.std.specs.Ordering.{nat_cmp}
 use Rattle.std.proofs.lemmas.Bool.{eqb-true}
 use Rattle.std.proofs.lemmas.List.{length-map}
 use Rattle.std.proofs.lemmas.Option.{slice_get-map}
@@ -12,10 +9,9 @@ use Rattle.pg_course.specs.Lent.{bundle_in, bundle_sent}
 use Rattle.pg_course.proofs.Coverage.{records_held}
 use Rattle.pg_course.proofs.Recording.{records_rise}
 use Rattle.pg_global.specs.Registry.{Registered}
-use Rattle.pg_graph.specs.Rows.{HasRisingIds, Rows}
-use Rattle.pg_inbox.specs.Bundles.{Parcels, bundle_of, parcels_in}
+use Rattle.pg_graph.specs.Rows.{Rows}
+use Rattle.pg_inbox.specs.Bundles.{Parcels, parcels_in}
 use Rattle.pg_inbox.specs.Logged.{Slots, slot_at}
-use Rattle.pg_inbox.specs.Patched.{TellsChanges}
 use Rattle.pg_inbox.specs.declared.logs.Logged.{Logged}
 use Rattle.pg_inbox.proofs.Bundling.{rises-bundle_of}
 use Rattle.pg_map.specs.Entries.{value_at}
@@ -28,15 +24,13 @@ use Rattle.pg_model.specs.Superstep.{has_id}
 use Rattle.pg_model.specs.declared.record.Record.{Record}
 use Rattle.pg_part.specs.Reckoned.{IsReckoned, IsReckonedBeside}
 use Rattle.pg_part.proofs.Shares.{all_among, census_beside_is, census_is, found, states_in}
-use Rattle.pg_recount.specs.Contributed.{are_same, contributed_by, contributes_alike, contributions_of}
+use Rattle.pg_recount.specs.Contributed.{contributed_by, contributes_alike, contributions_of}
 use Rattle.pg_recount.specs.Traffic.{AreMoved, IsRetold, IsTold, traffic_of}
 use Rattle.pg_recount.proofs.LawsOfRun.{bundle_to, contribute_the_same, gathered_of_run, same_contributions, traffic_of_run}
 use Rattle.pg_recount.proofs.LawsTraffic.{traffic_is}
 use Rattle.pg_stats.specs.GlobalStats.{aggregators_of}
 use Rattle.pg_stats.specs.Stats.{census_at, census_of, gathered_afresh, gathered_in, stats_at, traffic_in}
-use Rattle.pg_stats.specs.declared.stats.Census.{Census}
 use Rattle.pg_stats.specs.declared.stats.PartitionStats.{PartitionStats}
-use Rattle.pg_stats.specs.declared.stats.Traffic.{Traffic}
 use Rattle.pg_trace.specs.OfRun.{HoldsRun}
 use Rattle.pg_trace.specs.Trace.{Trace, record_at, records_of}
 

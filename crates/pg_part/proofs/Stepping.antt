@@ -11,14 +11,13 @@ use Rattle.pg_inbox.specs.declared.logs.Logged.{Logged}
 use Rattle.pg_model.specs.Job.{Job}
 use Rattle.pg_model.specs.Run.{run_length}
 use Rattle.pg_model.specs.declared.view.Visible.{Visible}
-use Rattle.pg_part.specs.Part.{HasOldStats, HasStats, HoldsShare, PartState, stats_to}
+use Rattle.pg_part.specs.Part.{HasOldStats, HasStats, PartState, stats_to}
 use Rattle.pg_part.specs.Reckoned.{IsNextStats, IsReckoned, IsReckonedBeside}
 use Rattle.pg_part.proofs.Reckoned.{after_is, beside_is}
 use Rattle.pg_recount.specs.Traffic.{AreMoved}
 use Rattle.pg_stats.specs.GlobalStats.{aggregators_of}
 use Rattle.pg_stats.specs.Stats.{stats_at}
 use Rattle.pg_stats.specs.declared.stats.PartitionStats.{PartitionStats}
-use Rattle.pg_trace.specs.Trace.{Trace}
 
 -- what holds of a result that is Ok holds of what it has
 pub ok_of : {X E : Type 0} (Q : X → Type 0) (r : Result X E) (x : X) → r ≡ Ok x → IfOk r Q → Q x

@@ -245,18 +245,24 @@ pub(crate) fn next_stats<V: Plain, M: Plain>(
         (option_copied old_logs.entry) course.now superstep bundles.now after) }
 {
     let place = superstep.number() as usize;
-    let before = &stats[place];
     if course.beside_old() {
-        let kept = (course.kept(), old_logs);
-        let then = (old_stats.get(place), old_stats.get(place + 1));
-        if let ((Some(old), Some(old_logs)), (Some(old_before), Some(old_after))) = (kept, then) {
-            return stats_beside(
+        let found = (course.kept(), old_logs, old_stats.get(place + 1));
+        if let (Some(old), Some(old_logs), Some(old_after)) = found {
+            let (before, old_before) = (&stats[place], &old_stats[place]);
+            let after = stats_beside(
                 alloc, registry, graph, moved, old, old_logs, course, superstep, bundles, before,
                 old_before, old_after,
-            );
+            )?;
+            return Ok(after);
         }
     }
     stats_after(
-        alloc, registry, graph, course, superstep, bundles, before,
+        alloc,
+        registry,
+        graph,
+        course,
+        superstep,
+        bundles,
+        &stats[place],
     )
 }

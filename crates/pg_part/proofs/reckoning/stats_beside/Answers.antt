@@ -1,4 +1,4 @@
-use Rattle.std.proofs.Common.{◌≡◌, ◌+◌, true, false, ap, sym, ◌∙◌, subst₂}
+use Rattle.std.proofs.Common.{◌≡◌, true, false, ap, sym, ◌∙◌, subst₂}
 use Rattle.std.specs.List.{list_all}
 use Rattle.pg_part.specs.Reckoned.{gathered_of}
 use Rattle.pg_part.proofs.Looked.{counted_at, retold_at}

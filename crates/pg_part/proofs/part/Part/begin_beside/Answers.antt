@@ -1,4 +1,4 @@
-use Rattle.std.proofs.Common.{◌≡◌, ap, sym, ◌∙◌, ◌∷◌, ◌++◌, [], subst, refl, arith, ◌≤◌, Some}
+use Rattle.std.proofs.Common.{ap, sym, ◌∙◌, ◌∷◌, ◌++◌, [], subst, arith, ◌≤◌, Some}
 use Rattle.std.specs.List.{slice_get}
 use Rattle.pg_course.specs.Course.{Holds, IsWhole, differing}
 use Rattle.pg_model.specs.Run.{run_length}
