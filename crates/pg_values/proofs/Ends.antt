@@ -1,15 +1,14 @@
 -- The values with which a run ended, by those of the run beside which it ran.
-use Rattle.std.proofs.Common.{◌≡◌, ℕ, zero, suc, ◌+◌, ◌-◌, ◌<◌, ◌≤◌, ◌%◌, Bool, true, false, cond, ◌||◌, List, [], ◌∷◌, ◌++◌, map, get_or, Option, None, Some, option_map, refl, ap, sym, ◌∙◌, subst, arith, inl, inr, flat_map, unwrap_or}
+use Rattle.std.proofs.Common.{◌≡◌, ℕ, zero, suc, ◌+◌, ◌-◌, ◌<◌, ◌≤◌, ◌%◌, Bool, true, false, cond, ◌||◌, List, [], ◌∷◌, map, get_or, Option, None, Some, option_map, refl, ap, sym, ◌∙◌, subst, arith, inl, inr, flat_map, unwrap_or}
 use Rattle.std.specs.Prelude.{◌==◌}
-use Rattle.std.specs.List.{range_with_len}
 use Rattle.std.specs.List.Sorted.{IsStrictlySortedBy}
 use Rattle.std.specs.Map.{keys_of}
 use Rattle.std.specs.Ordering.{nat_cmp}
 use Rattle.std.proofs.Math.Nat.{mod-lt}
 use Rattle.std.proofs.lemmas.Option.{none-some}
 use Rattle.std.proofs.lemmas.Bool.{cases_lt, eq-eqb, eqb-true}
-use Rattle.pg_values.specs.Values.{Ended, HasEnded, HasShare, HaveEnded, HaveShares, KeepsEnd, apart_in, new_values, ran_between, state_by, state_in, traces_of}
-use Rattle.pg_values.proofs.ReadValues.{neither, none_at, none_in_range, none_valued, rows_rise, same_state, state_is}
+use Rattle.pg_values.specs.Values.{Ended, HasEnded, HasShare, HaveEnded, HaveShares, KeepsEnd, apart_in, new_values, ran_between, state_by, traces_of}
+use Rattle.pg_values.proofs.ReadValues.{none_at, none_in_range, none_valued, rows_rise, same_state, state_is}
 use Rattle.pg_course.proofs.Looking.{in_neither}
 use Rattle.pg_course.specs.Course.{differing}
 use Rattle.pg_graph.specs.Rows.{Rows}
@@ -23,12 +22,10 @@ use Rattle.pg_model.specs.Run.{configuration, run_length, values_of}
 use Rattle.pg_model.specs.Share.{belongs, records_in}
 use Rattle.pg_model.specs.Superstep.{has_id, ids}
 use Rattle.pg_model.specs.declared.configuration.Standing.{Standing}
-use Rattle.pg_model.specs.declared.configuration.VertexState.{VertexState}
 use Rattle.pg_model.proofs.LawsIds.{in_order}
 use Rattle.pg_model.proofs.LawsPresent.{IsIdleAt-from_inputs, at_key}
 use Rattle.pg_model.proofs.LawsSharesAlike.{record_in_share}
 use Rattle.pg_part.specs.Part.{HoldsShare, PartState}
-use Rattle.pg_trace.specs.OfRun.{run_state}
 use Rattle.pg_trace.specs.Trace.{Trace, records_of}
 
 -- ---- look-ups

@@ -48,7 +48,7 @@ impl<V> Model for Values<V> {
 impl<V: Plain> Values<V> {
     /// These values, which stand by rising id.
     pub(crate) fn of(alloc: Global, values: Vec<(VertexId, Held<V>)>) -> Result<Values<V>, Memory>
-        requires { HasRisingIds values.items }
+        requires rise { HasRisingIds values.items }
         ensures { IfOk result (λ made. made ≡ values.items) }
     {
         let map = Map::from_rising(alloc, values)?;
@@ -62,7 +62,7 @@ impl<V: Plain> Values<V> {
         alloc: Global,
         changes: &[(VertexId, Option<Held<V>>)],
     ) -> Result<Values<V>, Memory>
-        requires { ChangesRise changes.now }
+        requires changes_rise { ChangesRise changes.now }
         ensures { IfOk result (λ made. made ≡ with_changes changes.now self.now) }
     {
         let mut map = self.map.share()?;

@@ -1,13 +1,12 @@
 use Rattle.std.proofs.Common.{ap, ap₂, sym, ◌∙◌, subst, flat_map}
 use Rattle.pg_values.specs.Values.{apart_in, new_values, traces_of}
 use Rattle.pg_values.proofs.Ends.{new_values_rise, patched_beside}
-use Rattle.pg_map.specs.Entries.{ChangesRise, HasRisingIds, with_changes}
-use Rattle.pg_map.proofs.Changing.{rises-changes}
+use Rattle.pg_map.specs.Entries.{ChangesRise, with_changes}
 use Rattle.pg_model.specs.Superstep.{has_id}
 use Rattle.pg_values.proofs.patching.values_patched.Goals as goal
 
-pub changed-requires : goal.changed-requires
-changed-requires g c =
+pub changed-requires-clause-changes_rise : goal.changed-requires-clause-changes_rise
+changed-requires-clause-changes_rise g c κs within =
     let n = c.args.partitioner in
     let s = c.args.superstep in
     let traces = traces_of c.args.parts.now in

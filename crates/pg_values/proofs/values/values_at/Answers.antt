@@ -17,8 +17,8 @@ returns g c job rows missing shares =
     ∙ (same_values n s parts ids ∙ values_are job rows n s parts shares ids c.rising-ids.ensures.rise
     (λ id. c.rising-ids.ensures.same id ∙ (ap (λ l. has_id l id) c.in_ok-all_ids.ensures ∙ ap (λ m. has_id (flat_map (ids_of_part m s) parts) id) (sym missing))))))
 
-pub of-requires : goal.of-requires
-of-requires g c =
+pub of-requires-clause-rise : goal.of-requires-clause-rise
+of-requires-clause-rise g c κs within =
     let n = c.args.partitioner in
     let s = c.args.superstep in
     let states = state_by n s (traces_of c.args.parts.now) in
