@@ -79,7 +79,7 @@ impl<V: Drop, M: Drop> Index<V, M> {
     }
 
     /// An index with no notes.
-    pub(crate) fn of(alloc: Global, ran: Map<Steps<V, M>>) -> Index<V, M>
+    fn of(alloc: Global, ran: Map<Steps<V, M>>) -> Index<V, M>
         ensures { result ≡ ran }
     {
         Index::over(ran, BTreeMap::new(alloc))
@@ -104,7 +104,8 @@ impl<V: Drop, M: Drop> Index<V, M> {
         }
     }
 
-    /// The same index with no notes. Where this has none it costs O(1), and else a copy of the chunks that they change.
+    /// The same index beside this one, with the notes put into its map. Where there are none it costs O(1), and else a copy
+    /// of what they change.
     pub(crate) fn share(&self, alloc: Global) -> Result<Index<V, M>, Memory>
         ensures { IfOk result (λ index. index ≡ self.now) }
     {
@@ -114,7 +115,8 @@ impl<V: Drop, M: Drop> Index<V, M> {
         Ok(Index::of(alloc, ran))
     }
 
-    /// The same. Where the map has no entries it costs O(1) a note.
+    /// The same index, with the notes put into its map. Where there are none it costs O(1), where the map has no entries
+    /// O(1) a note, and else a copy of the chunks that they change.
     pub(crate) fn settled(self, alloc: Global) -> Result<Index<V, M>, Memory>
         ensures { IfOk result (λ index. index ≡ self) }
     {
@@ -142,8 +144,7 @@ impl<V: Drop, M: Drop> Index<V, M> {
         Ok(Index::over(base, notes))
     }
 
-    /// The same beside this index, with no notes of its own. It costs what `noted` does, and a copy of the chunks with
-    /// these vertices.
+    /// The same beside this index, with all notes put into its map. It costs what `share`, `noted` and `settled` do.
     pub(crate) fn noted_beside(
         &self,
         alloc: Global,

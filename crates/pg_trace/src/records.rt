@@ -4,7 +4,7 @@ ghost use Rattle.pg_map.specs.Entries.{ChangesRise, HasRisingIds};
 ghost use Rattle.pg_trace.specs.Ran.{IsIndex};
 ghost use Rattle.pg_trace.specs.Trace.{lent, put_at};
 
-use crate::changes::{fresh, tell_rising};
+use crate::changes::{changed, fresh, tell_rising};
 use crate::index::Index;
 use crate::kept::Kept;
 use pg_graph::{Memory, VertexId};
@@ -152,12 +152,8 @@ pub(crate) fn put_records<V: Drop, M: Drop>(
         supersteps.push(fresh(alloc, changes)?)?;
         return Ok(supersteps);
     }
-    let mut records = supersteps[place].share()?;
+    let records = supersteps[place].share()?;
     tell_rising(&records);
-    if changes.is_empty() {
-        return Ok(supersteps);
-    }
-    records.change(alloc, changes.as_slice())?;
-    supersteps[place] = records;
+    supersteps[place] = changed(alloc, records, changes)?;
     Ok(supersteps)
 }
