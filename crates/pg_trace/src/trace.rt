@@ -163,9 +163,9 @@ impl<V: Drop, M: Drop> Trace<V, M> {
     /// The trace with these changes of the records of a superstep, which it has or which comes next: each of these
     /// vertices, by rising id, has its new record there, or none. The trace is gone where memory is refused.
     ///
-    /// Whether the trace is new or restarted, the changes cost a look-up each in the index, and no chunk of that is copied.
-    /// A vertex that is recorded for the first time since also costs a copy of the numbers of its supersteps; and a
-    /// superstep that the trace has a copy of its chunks with these vertices.
+    /// Whether the trace is new or restarted, the changes cost a look-up each in the index, and nothing is copied that isn't
+    /// changed: of a vertex for which nothing was recorded since the trace was new or restarted the numbers of its
+    /// supersteps, and of a superstep that the trace has the chunks with these vertices.
     pub fn recorded(
         self,
         alloc: Global,
