@@ -4,7 +4,7 @@ use Rattle.std.specs.List.{filter}
 use Rattle.std.specs.List.Sorted.{IsNonDecreasingBy}
 use Rattle.std.specs.Option.{option_and_then}
 use Rattle.pg_map.specs.Entries.{value_at}
-use Rattle.pg_trace.specs.Ran.{Ran, last_of, ran_from, ran_in, steps_in}
+use Rattle.pg_trace.specs.Ran.{IsIndex, Ran, StepsRise, last_of, ran_from, ran_in, steps_in}
 use Rattle.pg_trace.specs.Trace.{last_record}
 use Rattle.pg_trace.proofs.Supersteps.{last_before, last_record_is, ran_rises}
 use Rattle.pg_trace.proofs.Noting.{steps_of_ran}
@@ -39,3 +39,6 @@ module _ {X : Type 0} (id : ℕ) (rs : List (List (ℕ × X))) where
     newest_at step last =
         ap newest is ∙ newest_is ∙ (last_record_is id rs).0
         ∙ sym (ap (option_and_then (λ t. value_at id (get_or rs t []))) (last ∙ ap last_of (ap steps_in is ∙ steps_of_ran id rs)))
+
+pub index_rises : {X : Type 0} (rs : List (List (ℕ × X))) (index : List (ℕ × Ran X)) → IsIndex rs index → StepsRise index
+index_rises rs index is id = steps_rise id rs (value_at id index) (is id)

@@ -10,7 +10,7 @@ use Rattle.std.proofs.lemmas.Bool.Decides.{eqb_tells, nat_tests}
 use Rattle.std.proofs.lemmas.List.{get_or-set_other, get_or-set_same, get_or_default, length-take, take_more}
 use Rattle.pg_map.specs.Entries.{ChangesRise, HasRisingIds, value_at, with_changes}
 use Rattle.pg_map.proofs.Changing.{value_at-with_changes}
-use Rattle.pg_trace.specs.Ran.{IsIndex, IsNoted, Ran, last_of, noted, noting, ran_by, ran_from, ran_in, steps_in, with_ran}
+use Rattle.pg_trace.specs.Ran.{IsIndex, IsNoted, Ran, last_of, noted, ran_by, ran_from, ran_in, steps_in, with_ran}
 use Rattle.pg_trace.specs.Trace.{last_record}
 use Rattle.pg_trace.proofs.Supersteps.{Agrees, last_record_is, ran-less, ran-push, ran-set, steps_noted}
 
@@ -33,20 +33,6 @@ module _ {Y Z : Type 0} where
   keys_map g (e ∷ es) = ap (λ l. e.0 ∷ l) (keys_map g es)
 
 module _ {X : Type 0} where
-  -- changes by which an index has a superstep noted
-  pub noted_by : (records : List (List (ℕ × X))) (s : ℕ) (given : List (ℕ × Option X)) (ran ran' : List (ℕ × Ran X)) (changes : List (ℕ × Option (Ran X)))
-      → ChangesRise given → HasRisingIds ran → changes ≡ noting records s given ran → ran' ≡ with_changes changes ran → IsNoted records s given ran ran'
-  noted_by records s given ran ran' changes rise rising are made id =
-      let change : ℕ → Option X → Option (Ran X) = λ k g. noted k records s (Some g) (value_at k ran) in
-      let changes_rise : ChangesRise changes = subst (IsStrictlySortedBy nat_cmp) (sym (ap keys_of are ∙ keys_map (λ c. change c.0 c.1) given)) rise in
-      ap (value_at id) made ∙ value_at-with_changes changes ran id changes_rise rising
-      ∙ ap (λ o. unwrap_or o (value_at id ran)) (ap (value_at id) are ∙ at_map change id given) ∙ by (value_at id given)
-    where
-      by : (o : Option (Option X)) → unwrap_or (option_map (λ g. noted id records s (Some g) (value_at id ran)) o) (value_at id ran)
-          ≡ noted id records s o (value_at id ran)
-      by None = refl
-      by (Some g) = refl
-
   -- what was noted of an id tells in which supersteps it ran
   pub steps_of_ran : (id : ℕ) (rs : List (List (ℕ × X))) → steps_in (ran_in id rs) ≡ ran_from id 0 rs
   steps_of_ran id rs = by (last_record id rs) (ran_from id 0 rs) (last_record_is id rs).1

@@ -1,7 +1,8 @@
 -- What an index has of each id: in which supersteps it ran, and its last record.
-use Rattle.std.specs.Prelude.{◌≡◌, ℕ, ◌+◌, ◌==◌, nat_lt, map, Bool, cond, List, [], ◌∷◌, ◌++◌, Option, None, Some, is_some, slice_index_or, unwrap_or}
+use Rattle.std.specs.Prelude.{◌≡◌, ℕ, ◌+◌, ◌==◌, nat_lt, Bool, cond, List, [], ◌∷◌, ◌++◌, Option, None, Some, is_some, slice_index_or, unwrap_or}
 use Rattle.std.specs.BTreeMap.{is_at}
 use Rattle.std.specs.List.{filter}
+use Rattle.std.specs.List.Sorted.{IsNonDecreasingBy}
 use Rattle.std.specs.Option.{option_map}
 use Rattle.std.specs.Ordering.{nat_cmp}
 use Rattle.pg_map.specs.Entries.{value_at}
@@ -48,6 +49,10 @@ module _ {X : Type 0} where
   steps_in None = []
   steps_in (Some ran) = ran.steps
 
+  -- those of each id rise
+  abbrev pub StepsRise : List (ℕ × Ran X) → Type 0
+  StepsRise index = (id : ℕ) → IsNonDecreasingBy (λ t. t) (steps_in (value_at id index))
+
   -- what an id has that ran in these supersteps, where superstep s gave it this and the others are among the records
   abbrev pub ran_by : ℕ → List (List (ℕ × X)) → ℕ → Option X → List ℕ → Option (Ran X)
   ran_by id records s given steps =
@@ -66,7 +71,3 @@ module _ {X : Type 0} where
   abbrev pub IsNotedOf : ℕ → List (List (ℕ × X)) → ℕ → Option X → List (ℕ × Ran X) → List (ℕ × Ran X) → Type 0
   IsNotedOf id records s given before after =
       (q : ℕ) → value_at q after ≡ cond (is_at (nat_cmp id) q) (noted id records s (Some given) (value_at id before)) (value_at q before)
-
-  -- the changes of an index that these notes are
-  abbrev pub noting : List (List (ℕ × X)) → ℕ → List (ℕ × Option X) → List (ℕ × Ran X) → List (ℕ × Option (Ran X))
-  noting records s changes index = map (λ c. (c.0, noted c.0 records s (Some c.1) (value_at c.0 index))) changes

@@ -1,73 +1,59 @@
 //! The index of a trace: in which supersteps each vertex ran, and its last record.
-ghost use Rattle.std.specs.Prelude.{◌≡◌, [], ◌++◌, IfOk};
+ghost use Rattle.std.specs.Prelude.{◌≡◌, [], IfOk};
 ghost use Rattle.std.specs.Option.{option_copied};
-ghost use Rattle.pg_map.specs.Entries.{ChangesRise, HasRisingIds, value_at};
-ghost use Rattle.pg_trace.specs.Ran.{IsIndex, IsNoted};
+ghost use Rattle.pg_map.specs.Entries.{ChangesRise, HasRisingIds, value_at, with_changes};
+ghost use Rattle.pg_trace.specs.Ran.{IsNoted, StepsRise};
 
-use crate::growing::note_growing;
+use crate::changes::{changed, tell_rising};
 use crate::kept::Kept;
-use crate::ran::note;
+use crate::notes::{Notes, copied, moved, note_over};
 use crate::steps::Steps;
 use pg_graph::{Memory, VertexId};
-use pg_map::{Finder, Map, Share};
+use pg_map::{Finder, Map};
 use std::alloc::Global;
 use std::collections::BTreeMap;
 use std::marker::Model;
 
-/// An index as it lies in memory.
-#[derive(Drop)]
-pub(crate) enum Form<V, M> {
-    /// Changed in place.
-    Growing(BTreeMap<VertexId, Steps<V, M>>),
-    /// Its copies share.
-    Shared(Map<Steps<V, M>>),
-}
-
-/// In which supersteps each vertex ran, and its last record. It is changed in place as long as it grows, and shared by
-/// copies from then on. A contract sees the same list of both, by rising id.
+/// In which supersteps each vertex ran, and its last record: a map that copies share, and notes over it, which are made
+/// in place. A contract sees the entries of the map with the notes put over them.
 #[derive(Drop)]
 pub(crate) struct Index<V, M> {
-    form: Form<V, M>,
+    base: Map<Steps<V, M>>,
+    notes: Notes<V, M>,
 }
 
 impl<V, M> Model for Index<V, M> {
     ghost use Rattle.std.specs.Prelude.{ℕ, List};
+    ghost use Rattle.pg_map.specs.Entries.{ChangesRise, HasRisingIds, with_changes};
     ghost use Rattle.pg_model.specs.declared.record.Record.{Record};
     ghost use Rattle.pg_trace.specs.Ran.{Ran};
 
     ghost Value = { List (ℕ × Ran (Record V M)) };
 
-    ghost use Rattle.pg_trace.specs.Index.{entries_in};
+    ghost view = { λ i. with_changes i.notes.entries i.base };
 
-    ghost view = { λ i. entries_in i.form };
+    ghost invariant = { λ i. HasRisingIds i.base × ChangesRise i.notes.entries };
 }
 
-/// A look-up as it goes through memory.
-#[derive(Drop)]
-pub(crate) enum Search<'a, V, M> {
-    /// From the top for each id.
-    Plain(&'a BTreeMap<VertexId, Steps<V, M>>),
-    /// On from the id before.
-    Near(Finder<'a, Steps<V, M>>),
-}
-
-/// Looks up ids in an index. Where it is shared and an id lies near the one before, it costs a search near that.
-/// A contract sees the index.
+/// Looks up ids in an index: among the notes, and then in the map, where an id near the one before costs a search near
+/// that. A contract sees the index.
 #[derive(Drop)]
 pub(crate) struct IndexFinder<'a, V, M> {
-    search: Search<'a, V, M>,
+    base: Finder<'a, Steps<V, M>>,
+    notes: &'a Notes<V, M>,
 }
 
 impl<'a, V, M> Model for IndexFinder<'a, V, M> {
     ghost use Rattle.std.specs.Prelude.{ℕ, List};
+    ghost use Rattle.pg_map.specs.Entries.{ChangesRise, HasRisingIds, with_changes};
     ghost use Rattle.pg_model.specs.declared.record.Record.{Record};
     ghost use Rattle.pg_trace.specs.Ran.{Ran};
 
     ghost Value = { List (ℕ × Ran (Record V M)) };
 
-    ghost use Rattle.pg_trace.specs.Index.{entries_sought};
+    ghost view = { λ f. with_changes f.notes.now.entries f.base };
 
-    ghost view = { λ f. entries_sought f.search };
+    ghost invariant = { λ f. HasRisingIds f.base × ChangesRise f.notes.now.entries };
 }
 
 impl<'a, V: Drop, M: Drop> IndexFinder<'a, V, M> {
@@ -76,66 +62,72 @@ impl<'a, V: Drop, M: Drop> IndexFinder<'a, V, M> {
         ensures value { option_copied result ≡ value_at id self.old }
         ensures same { self.new ≡ self.old }
     {
-        match &mut self.search {
-            Search::Plain(ran) => ran.get(&id),
-            Search::Near(finder) => finder.get(id),
+        let notes = self.notes;
+        match notes.get(&id) {
+            Some(steps) => steps.as_ref(),
+            None => self.base.get(id),
         }
     }
 }
 
 impl<V: Drop, M: Drop> Index<V, M> {
-    /// An index of no supersteps, which grows.
-    pub(crate) fn growing(alloc: Global) -> Index<V, M>
+    /// An index of no supersteps.
+    pub(crate) fn new(alloc: Global) -> Index<V, M>
         ensures { result ≡ [] }
     {
-        Index {
-            form: Form::Growing(BTreeMap::new(alloc)),
-        }
+        Index::of(alloc, Map::new())
     }
 
-    /// This index, to be shared.
-    pub(crate) fn of(ran: Map<Steps<V, M>>) -> Index<V, M>
+    /// An index with no notes.
+    fn of(alloc: Global, ran: Map<Steps<V, M>>) -> Index<V, M>
         ensures { result ≡ ran }
     {
-        Index {
-            form: Form::Shared(ran),
-        }
+        Index::over(ran, BTreeMap::new(alloc))
+    }
+
+    /// An index of notes over a map.
+    fn over(base: Map<Steps<V, M>>, notes: Notes<V, M>) -> Index<V, M>
+        ensures { result ≡ with_changes notes.entries base }
+    {
+        tell_rising(&base);
+        let _count = notes.len();
+        Index { base, notes }
     }
 
     /// Look-ups.
     pub(crate) fn finder(&self) -> IndexFinder<'_, V, M>
         ensures { result ≡ self.now }
     {
-        let search = match &self.form {
-            Form::Growing(ran) => Search::Plain(ran),
-            Form::Shared(ran) => Search::Near(ran.finder()),
-        };
-        IndexFinder { search }
-    }
-
-    /// The same index, to be shared. Costs O(1) where it is already; where it still grows a copy.
-    pub(crate) fn shared(&self, alloc: Global) -> Result<Map<Steps<V, M>>, Memory>
-        ensures { IfOk result (λ ran. ran ≡ self.now) }
-    {
-        match &self.form {
-            Form::Growing(ran) => copied(alloc, ran),
-            Form::Shared(ran) => ran.share(),
+        IndexFinder {
+            base: self.base.finder(),
+            notes: &self.notes,
         }
     }
 
-    /// The same index, to be shared from now on. Costs O(1) where it is already, and else O(1) a vertex.
+    /// The same index beside this one, with the notes put into its map. Where there are none it costs O(1), and else a copy
+    /// of what they change.
+    pub(crate) fn share(&self, alloc: Global) -> Result<Index<V, M>, Memory>
+        ensures { IfOk result (λ index. index ≡ self.now) }
+    {
+        let base = self.base.share()?;
+        let changes = copied(alloc, &self.notes)?;
+        let ran = changed(alloc, base, changes)?;
+        Ok(Index::of(alloc, ran))
+    }
+
+    /// The same index, with the notes put into its map. Where there are none it costs O(1), where the map has no entries
+    /// O(1) a note, and else a copy of the chunks that they change.
     pub(crate) fn settled(self, alloc: Global) -> Result<Index<V, M>, Memory>
         ensures { IfOk result (λ index. index ≡ self) }
     {
-        let ran = match self.form {
-            Form::Growing(ran) => moved(alloc, ran)?,
-            Form::Shared(ran) => ran,
-        };
-        Ok(Index::of(ran))
+        let Index { base, notes } = self;
+        let changes = moved(alloc, notes)?;
+        let ran = changed(alloc, base, changes)?;
+        Ok(Index::of(alloc, ran))
     }
 
     /// The index with notes of these vertices, by rising id, which record a superstep gave them, if any. The others of
-    /// their records are among those of the supersteps. With none it costs nothing.
+    /// their records are among those of the supersteps. It costs look-ups, as `note_over` says, and copies no chunk.
     pub(crate) fn noted(
         self,
         alloc: Global,
@@ -144,51 +136,28 @@ impl<V: Drop, M: Drop> Index<V, M> {
         given: &[(VertexId, Option<Kept<V, M>>)],
     ) -> Result<Index<V, M>, Memory>
         requires rise { ChangesRise given.now }
-        requires index { IsIndex supersteps.now self }
+        requires steps { StepsRise self }
         ensures { IfOk result (λ after. IsNoted supersteps.now superstep given.now self after) }
     {
-        if given.is_empty() {
-            return Ok(self);
-        }
-        match self.form {
-            Form::Growing(mut ran) => {
-                note_growing(alloc, &mut ran, supersteps, superstep, given)?;
-                Ok(Index {
-                    form: Form::Growing(ran),
-                })
-            }
-            Form::Shared(mut ran) => {
-                note(alloc, &mut ran, supersteps, superstep, given)?;
-                Ok(Index::of(ran))
-            }
-        }
+        let Index { base, mut notes } = self;
+        note_over(alloc, &mut notes, &base, supersteps, superstep, given)?;
+        Ok(Index::over(base, notes))
     }
-}
 
-/// A copy of an index that grows, to be shared.
-fn copied<V: Drop, M: Drop>(
-    alloc: Global,
-    ran: &BTreeMap<VertexId, Steps<V, M>>,
-) -> Result<Map<Steps<V, M>>, Memory>
-    ensures { IfOk result (λ copy. copy ≡ ran.now.entries) }
-{
-    let mut entries = Vec::with_capacity(alloc, ran.len())?;
-    for (id, steps) in ran {
-        entries.push((*id, steps.share(alloc)?))?;
+    /// The same beside this index, with all notes put into its map. It costs what `share`, `noted` and `settled` do.
+    pub(crate) fn noted_beside(
+        &self,
+        alloc: Global,
+        supersteps: &[Map<Kept<V, M>>],
+        superstep: usize,
+        given: &[(VertexId, Option<Kept<V, M>>)],
+    ) -> Result<Index<V, M>, Memory>
+        requires rise { ChangesRise given.now }
+        requires steps { StepsRise self.now }
+        ensures { IfOk result (λ after. IsNoted supersteps.now superstep given.now self.now after) }
+    {
+        let copy = self.share(alloc)?;
+        let noted = copy.noted(alloc, supersteps, superstep, given)?;
+        noted.settled(alloc)
     }
-    Map::from_rising(alloc, entries)
-}
-
-/// An index that grew, to be shared.
-fn moved<V: Drop, M: Drop>(
-    alloc: Global,
-    ran: BTreeMap<VertexId, Steps<V, M>>,
-) -> Result<Map<Steps<V, M>>, Memory>
-    ensures { IfOk result (λ moved. moved ≡ ran.entries) }
-{
-    let mut entries = Vec::with_capacity(alloc, ran.len())?;
-    for (id, steps) in ran {
-        entries.push((id, steps))?;
-    }
-    Map::from_rising(alloc, entries)
 }

@@ -2,9 +2,10 @@
 #![tactic(auto)]
 
 mod beginnings;
-mod growing;
+mod changes;
 mod index;
 mod kept;
+mod notes;
 mod ran;
 mod records;
 mod state;

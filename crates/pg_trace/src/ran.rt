@@ -1,8 +1,8 @@
-//! What an index has of a vertex, and notes in a shared index.
+//! What an index has of a vertex, and what it has after a note.
 ghost use Rattle.std.specs.Prelude.{◌≡◌, ◌++◌, [], take, Some, IfOk, OnOk, slice_index_or};
 ghost use Rattle.std.specs.Option.{option_copied};
-ghost use Rattle.pg_map.specs.Entries.{ChangesRise, HasRisingIds, value_at};
-ghost use Rattle.pg_trace.specs.Ran.{IsNoted, last_of, noted, noting, ran_by, ran_in, steps_above, steps_below, steps_in, with_ran};
+ghost use Rattle.pg_map.specs.Entries.{value_at};
+ghost use Rattle.pg_trace.specs.Ran.{last_of, noted, ran_by, ran_in, steps_above, steps_below, steps_in, with_ran};
 ghost use Rattle.pg_trace.specs.Trace.{last_record};
 
 use crate::kept::Kept;
@@ -52,51 +52,6 @@ fn last_of(steps: &[usize]) -> Option<usize>
         return None;
     }
     Some(steps[steps.len() - 1])
-}
-
-/// Notes of these vertices, by rising id, which record a superstep gave them, if any. The others of their records are
-/// among those of the supersteps.
-pub(crate) fn note<V: Drop, M: Drop>(
-    alloc: Global,
-    ran: &mut Map<Steps<V, M>>,
-    supersteps: &[Map<Kept<V, M>>],
-    superstep: usize,
-    given: &[(VertexId, Option<Kept<V, M>>)],
-) -> Result<(), Memory>
-    requires { ChangesRise given.now }
-    ensures { OnOk result (IsNoted supersteps.now superstep given.now ran.old ran.new) }
-{
-    let changes = changes_of(alloc, ran, supersteps, superstep, given)?;
-    tell_rising(ran);
-    ran.change(alloc, changes.as_slice())?;
-    Ok(())
-}
-
-/// Tells the prover that a map's ids rise.
-pub(crate) fn tell_rising<X>(map: &Map<X>)
-    ensures { HasRisingIds map.now }
-{
-    let _count = map.len();
-}
-
-/// What each of these vertices has after the superstep is noted; none where it is nothing.
-fn changes_of<V: Drop, M: Drop>(
-    alloc: Global,
-    ran: &Map<Steps<V, M>>,
-    supersteps: &[Map<Kept<V, M>>],
-    superstep: usize,
-    given: &[(VertexId, Option<Kept<V, M>>)],
-) -> Result<Vec<(VertexId, Option<Steps<V, M>>)>, Memory>
-    ensures { IfOk result (λ changes. changes.items ≡ noting supersteps.now superstep given.now ran.now) }
-{
-    let mut finder = ran.finder();
-    let mut changes = Vec::with_capacity(alloc, given.len())?;
-    for (id, given) in given {
-        let before = finder.get(*id);
-        let after = after(alloc, supersteps, *id, superstep, given.as_ref(), before)?;
-        changes.push((*id, after))?;
-    }
-    Ok(changes)
 }
 
 /// What a vertex has after it is noted what a superstep gave it.

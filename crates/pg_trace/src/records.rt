@@ -1,12 +1,12 @@
 //! The records of supersteps, one superstep or many at a time.
-ghost use Rattle.std.specs.Prelude.{◌≡◌, [], length, map, take, ◌≤◌, None, Some, IfOk, OnOk, slice_index_or};
-ghost use Rattle.pg_map.specs.Entries.{ChangesRise, HasRisingIds, with_changes};
+ghost use Rattle.std.specs.Prelude.{◌≡◌, [], length, map, take, ◌≤◌, None, Some, IfOk, slice_index_or};
+ghost use Rattle.pg_map.specs.Entries.{ChangesRise, HasRisingIds};
 ghost use Rattle.pg_trace.specs.Ran.{IsIndex};
 ghost use Rattle.pg_trace.specs.Trace.{lent, put_at};
 
+use crate::changes::{changed, fresh, tell_rising};
+use crate::index::Index;
 use crate::kept::Kept;
-use crate::ran::{note, tell_rising};
-use crate::steps::Steps;
 use pg_graph::{Memory, VertexId};
 use pg_map::{Map, Share};
 use pg_model::Record;
@@ -54,25 +54,26 @@ pub(crate) fn all_kept<V: Drop, M: Drop>(
     Ok(all)
 }
 
-/// Forgets that vertices ran in these supersteps from a place on.
-pub(crate) fn forget<V: Drop, M: Drop>(
+/// The index of the first of these supersteps, so many, by one of all. It has no notes.
+pub(crate) fn cut_index<V: Drop, M: Drop>(
     alloc: Global,
-    ran: &mut Map<Steps<V, M>>,
+    ran: &Index<V, M>,
     supersteps: &[Map<Kept<V, M>>],
     len: usize,
-) -> Result<(), Memory>
-    requires index { IsIndex supersteps.now ran.old }
+) -> Result<Index<V, M>, Memory>
+    requires index { IsIndex supersteps.now ran.now }
     requires within { len ≤ length supersteps.now }
-    ensures { OnOk result (IsIndex (take len supersteps.now) ran.new) }
+    ensures { IfOk result (λ first. IsIndex (take len supersteps.now) first) }
 {
+    let mut first = ran.share(alloc)?;
     let mut left = supersteps.len();
     while left > len {
         left -= 1;
         let none = none_given(alloc, &supersteps[left])?;
         let (before, _) = supersteps.split_at(left);
-        note(alloc, ran, before, left, none.as_slice())?;
+        first = first.noted(alloc, before, left, none.as_slice())?;
     }
-    Ok(())
+    first.settled(alloc)
 }
 
 /// No record for the ids of a superstep's records.
@@ -151,29 +152,8 @@ pub(crate) fn put_records<V: Drop, M: Drop>(
         supersteps.push(fresh(alloc, changes)?)?;
         return Ok(supersteps);
     }
-    let mut records = supersteps[place].share()?;
+    let records = supersteps[place].share()?;
     tell_rising(&records);
-    if changes.is_empty() {
-        return Ok(supersteps);
-    }
-    records.change(alloc, changes.as_slice())?;
-    supersteps[place] = records;
+    supersteps[place] = changed(alloc, records, changes)?;
     Ok(supersteps)
-}
-
-/// The records of a superstep that comes next.
-fn fresh<V: Drop, M: Drop>(
-    alloc: Global,
-    changes: Vec<(VertexId, Option<Kept<V, M>>)>,
-) -> Result<Map<Kept<V, M>>, Memory>
-    requires { ChangesRise changes.items }
-    ensures { IfOk result (λ records. records ≡ with_changes changes.items []) }
-{
-    let mut there = Vec::with_capacity(alloc, changes.len())?;
-    for (id, change) in changes {
-        if let Some(kept) = change {
-            there.push((id, kept))?;
-        }
-    }
-    Map::from_rising(alloc, there)
 }

@@ -8,10 +8,11 @@ ghost use Rattle.pg_trace.specs.Trace.{StatesRise, begun, lent, record_at, recor
 
 use crate::StateRef;
 use crate::beginnings::Beginnings;
+use crate::changes::tell_rising;
 use crate::index::Index;
 use crate::kept::Kept;
-use crate::ran::{kept_in, note, tell_rising};
-use crate::records::{all_given, all_kept, changes_kept, forget, listed, put_records, shared};
+use crate::ran::kept_in;
+use crate::records::{all_given, all_kept, changes_kept, cut_index, listed, put_records, shared};
 use crate::states::States;
 use pg_graph::{Memory, Superstep, VertexId};
 use pg_map::Map;
@@ -23,8 +24,8 @@ use std::marker::Model;
 /// the records of the vertices that ran. A contract sees both as lists by rising id.
 ///
 /// No other state is kept: that of a vertex as a superstep begins is what its last record before it
-/// left. An index says of each vertex in which supersteps it ran, and has its last record. A new trace grows: `recorded`
-/// changes its index in place. Once it is settled copies share its memory.
+/// left. An index says of each vertex in which supersteps it ran, and has its last record. What `recorded` notes in it
+/// lies beside the memory that copies share, and is put into that once, where the trace is settled.
 #[derive(Drop)]
 pub struct Trace<V, M> {
     initial: Beginnings<V>,
@@ -54,12 +55,12 @@ impl<V: Drop, M: Drop> Trace<V, M> {
         Ok(Trace {
             initial,
             supersteps: Vec::new(alloc),
-            ran: Index::growing(alloc),
+            ran: Index::new(alloc),
         })
     }
 
     /// A trace of the same records, with other first states of these vertices, by rising id, or none. Copies the chunks
-    /// with these ids, and shares all else.
+    /// with these ids, and shares all else, as `share` does.
     pub fn restarted(
         &self,
         alloc: Global,
@@ -125,14 +126,14 @@ impl<V: Drop, M: Drop> Trace<V, M> {
         States::of(&self.initial, &self.ran, self.supersteps.as_slice())
     }
 
-    /// The same trace, in the same memory. Costs one count a superstep; where the trace still grows, also a copy of the
-    /// index.
+    /// The same trace, in the same memory. Costs one count a superstep; where the trace isn't settled, also a copy of what
+    /// was noted since, and of the chunks of the index with these vertices.
     pub fn share(&self, alloc: Global) -> Result<Trace<V, M>, Memory>
         ensures { IfOk result (λ trace. trace ≡ self.now) }
     {
         let initial = self.initial.share()?;
         let supersteps = shared(alloc, self.supersteps.as_slice())?;
-        let ran = Index::of(self.ran.shared(alloc)?);
+        let ran = self.ran.share(alloc)?;
         Ok(Trace {
             initial,
             supersteps,
@@ -140,8 +141,9 @@ impl<V: Drop, M: Drop> Trace<V, M> {
         })
     }
 
-    /// The same trace, whose copies share all its memory from now on. Costs O(1) where it doesn't grow, and else O(1) a
-    /// vertex that ran.
+    /// The same trace, whose copies share all its memory from now on. Costs O(1) where nothing was recorded since it was
+    /// settled or restarted; else one change of the index, of the chunks with the vertices that were recorded. For a new
+    /// trace that is O(1) a vertex that ran.
     pub fn settled(self, alloc: Global) -> Result<Trace<V, M>, Memory>
         ensures { IfOk result (λ trace. trace ≡ self) }
     {
@@ -161,8 +163,9 @@ impl<V: Drop, M: Drop> Trace<V, M> {
     /// The trace with these changes of the records of a superstep, which it has or which comes next: each of these
     /// vertices, by rising id, has its new record there, or none. The trace is gone where memory is refused.
     ///
-    /// Where the trace still grows, the changes cost a look-up each, and nothing is copied that isn't changed; else as
-    /// `replace`.
+    /// Whether the trace is new or restarted, the changes cost a look-up each in the index, and nothing is copied that isn't
+    /// changed: of a vertex for which nothing was recorded since the trace was new or restarted the numbers of its
+    /// supersteps, and of a superstep that the trace has the chunks with these vertices.
     pub fn recorded(
         self,
         alloc: Global,
@@ -210,8 +213,8 @@ impl<V: Drop, M: Drop> Trace<V, M> {
     /// changes where memory is refused.
     ///
     /// For k records it costs k look-ups, a copy of the numbers of the supersteps in which these
-    /// vertices ran, and a change of the index: of the chunks with these vertices. A trace that grows is settled
-    /// first, by a copy of the index.
+    /// vertices ran, and a change of the index: of the chunks with these vertices. Where the trace isn't settled, its
+    /// index is settled first.
     pub fn push_superstep(
         &mut self,
         alloc: Global,
@@ -224,21 +227,18 @@ impl<V: Drop, M: Drop> Trace<V, M> {
         let records = Map::from_rising(alloc, all_kept(alloc, records)?)?;
         let given = all_given(alloc, &records)?;
         let supersteps = self.supersteps.as_slice();
-        let mut ran = self.ran.shared(alloc)?;
-        note(
-            alloc,
-            &mut ran,
-            supersteps,
-            supersteps.len(),
-            given.as_slice(),
-        )?;
+        let ran = self
+            .ran
+            .noted_beside(alloc, supersteps, supersteps.len(), given.as_slice())?;
         self.supersteps.push(records)?;
-        self.ran = Index::of(ran);
+        self.ran = ran;
         Ok(())
     }
 
     /// Keeps the first supersteps, so many, or all where there are fewer. Nothing changes where
-    /// memory is refused. For each superstep that goes it costs what pushing it did.
+    /// memory is refused. For each record that goes it costs a look-up and a copy of the numbers of the supersteps in which
+    /// its vertex ran; and in all one change of the index, of the chunks with these vertices. Where the trace isn't settled,
+    /// its index is settled first.
     pub fn cut(&mut self, alloc: Global, supersteps: Superstep) -> Result<(), Memory>
         ensures ok { OnOk result (self.new ≡ first_supersteps supersteps self.old) }
         ensures err { OnErr result (self.new ≡ self.old) }
@@ -247,10 +247,9 @@ impl<V: Drop, M: Drop> Trace<V, M> {
         if len >= self.supersteps() {
             return Ok(());
         }
-        let mut ran = self.ran.shared(alloc)?;
-        forget(alloc, &mut ran, self.supersteps.as_slice(), len)?;
+        let ran = cut_index(alloc, &self.ran, self.supersteps.as_slice(), len)?;
         self.supersteps.truncate(len);
-        self.ran = Index::of(ran);
+        self.ran = ran;
         Ok(())
     }
 
@@ -259,7 +258,7 @@ impl<V: Drop, M: Drop> Trace<V, M> {
     ///
     /// With no change it costs nothing. For k changes it costs k look-ups, a copy of the numbers of the supersteps in
     /// which these vertices ran, and a change of the index and of the superstep: of the chunks with these vertices. The
-    /// others stay unread. A trace that grows is settled first, by a copy of the index.
+    /// others stay unread. Where the trace isn't settled, its index is settled first.
     pub fn replace(
         &mut self,
         alloc: Global,
@@ -277,13 +276,14 @@ impl<V: Drop, M: Drop> Trace<V, M> {
         let place = superstep.number() as usize;
         let changes = changes_kept(alloc, changes)?;
         let supersteps = self.supersteps.as_slice();
-        let mut ran = self.ran.shared(alloc)?;
-        note(alloc, &mut ran, supersteps, place, changes.as_slice())?;
+        let ran = self
+            .ran
+            .noted_beside(alloc, supersteps, place, changes.as_slice())?;
         let mut records = supersteps[place].share()?;
         tell_rising(&records);
         records.change(alloc, changes.as_slice())?;
         self.supersteps[place] = records;
-        self.ran = Index::of(ran);
+        self.ran = ran;
         Ok(())
     }
 }

@@ -2,7 +2,11 @@ use Rattle.std.proofs.Common.{◌≤◌, length, sym, ap, ◌∙◌, subst, arit
 use Rattle.pg_map.specs.Entries.{ChangesRise, value_at}
 use Rattle.pg_trace.specs.Ran.{IsIndex, IsNoted, noted}
 use Rattle.pg_trace.proofs.InPlace.{index-put}
+use Rattle.pg_trace.proofs.Last.{index_rises}
 use Rattle.pg_trace.proofs.trace.Trace.recorded.Goals as goal
+
+pub noted-requires-clause-steps : goal.noted-requires-clause-steps
+noted-requires-clause-steps g c = index_rises c.self.inside.supersteps.items c.self.inside.ran c.self.invariant
 
 pub invariant_of-result : goal.invariant_of-result
 invariant_of-result g c =

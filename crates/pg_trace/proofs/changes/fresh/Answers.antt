@@ -3,13 +3,13 @@ use Rattle.std.proofs.lemmas.Grind.{common_steps}
 use Rattle.std.proofs.lemmas.List.{append-nil}
 use Rattle.pg_map.specs.Entries.{HasRisingIds}
 use Rattle.pg_trace.proofs.Somes.{somes, somes_are, somes_rise}
-use Rattle.pg_trace.proofs.records.fresh.Goals as goal
+use Rattle.pg_trace.proofs.changes.fresh.Goals as goal
 
 pub loop-id-preserved-in-Continue-branch-2 : goal.loop-id-preserved-in-Continue-branch-2
 loop-id-preserved-in-Continue-branch-2 g c =
     let there = c.loop-id.there.items in
     let left = c.next.new.self.rest.items in
-    ap (λ l. l ++ somes left) c.in_ok-push.ensures.items ∙ append_assoc there ((c.in-Some.id, c.in-Some-change.kept) ∷ []) (somes left)
+    ap (λ l. l ++ somes left) c.in_ok-push.ensures.items ∙ append_assoc there ((c.in-Some.id, c.in-Some-change.value) ∷ []) (somes left)
     ∙ ap (λ o. there ++ somes ((c.in-Some.id, o) ∷ left)) (sym c.in-Some-change.is)
     ∙ ap (λ l. there ++ somes l) (sym c.in-Some.ensures.steps.0) ∙ c.loop-id.invariant
 

@@ -3,13 +3,17 @@ use Rattle.std.specs.List.Sorted.{IsStrictlySortedBy}
 use Rattle.std.specs.Map.{keys_of}
 use Rattle.std.specs.Ordering.{nat_cmp}
 use Rattle.pg_trace.specs.Ran.{IsIndex, IsNoted}
+use Rattle.pg_trace.proofs.Last.{index_rises}
 use Rattle.pg_trace.proofs.Noting.{index-less, keys_map}
-use Rattle.pg_trace.proofs.records.forget.Goals as goal
+use Rattle.pg_trace.proofs.records.cut_index.Goals as goal
 
-pub note-requires : goal.note-requires
-note-requires g c =
+pub noted-requires-clause-rise : goal.noted-requires-clause-rise
+noted-requires-clause-rise g c =
     subst (IsStrictlySortedBy nat_cmp) (sym (ap keys_of (c.as_slice.ensures.value ∙ c.in_ok-none.ensures.none)
     ∙ keys_map (λ e. None) c.index-supersteps-left.result)) c.in_ok-none.ensures.rising
+
+pub noted-requires-clause-steps : goal.noted-requires-clause-steps
+noted-requires-clause-steps g c = index_rises (take c.loop-left.left c.args.supersteps.now) c.loop-left.first c.loop-left.invariant.index
 
 pub loop-left-preserved : goal.loop-left-preserved
 loop-left-preserved g c =
@@ -20,8 +24,8 @@ loop-left-preserved g c =
     record {
       low = omega (arith, c.loop-left-test.true);
       high = omega (arith, within);
-      index = index-less ss (left - 1) c.index-supersteps-left.result c.as_slice.result.now c.loop-left.ran c.note.new.ran within c.index-supersteps-left.is
-          (subst (λ n. IsIndex (take n ss) c.loop-left.ran) one c.loop-left.invariant.index)
+      index = index-less ss (left - 1) c.index-supersteps-left.result c.as_slice.result.now c.loop-left.first c.in_ok-first-2.first within c.index-supersteps-left.is
+          (subst (λ n. IsIndex (take n ss) c.loop-left.first) one c.loop-left.invariant.index)
           (c.as_slice.ensures.value ∙ c.in_ok-none.ensures.none)
-          (subst (λ l. IsNoted l (left - 1) c.as_slice.result.now c.loop-left.ran c.note.new.ran) c.split_at.ensures.front c.in_ok-note.ensures);
+          (subst (λ l. IsNoted l (left - 1) c.as_slice.result.now c.loop-left.first c.in_ok-first-2.first) c.split_at.ensures.front c.in_ok-first-2.ensures);
     }
