@@ -2,11 +2,13 @@
 ghost use Rattle.std.specs.Prelude.{◌≡◌, [], ◌∷◌, ◌++◌, ◌+◌, ◌≤◌, length, IfOk, OnOk};
 ghost use Rattle.pg_map.specs.Chunks.{AreChunks, AreGroups, IsPart, all_of, chunks_in, entries_of, grouped, listed};
 
-use crate::group::{Grouping, take_front};
+use crate::group::Grouping;
+use crate::list::parted;
 use crate::part::{Chunk, Group, chunk_of};
 use crate::{Memory, Share, VertexId};
 use std::alloc::Global;
 use std::marker::Model;
+use std::mem;
 
 /// A chunk is cut off a piece that has so many entries,
 const FULL: usize = 256;
@@ -150,6 +152,7 @@ fn cut_chunk<V: Share>(
     if count == 0 {
         return Ok(());
     }
-    let front = take_front(piece, count)?;
+    let (front, later) = parted(alloc, mem::replace(piece, Vec::new(alloc)), count)?;
+    *piece = later;
     made.push(alloc, chunk_of(alloc, front)?)
 }

@@ -1,8 +1,9 @@
 //! Chunks gathered into groups, one after another.
-ghost use Rattle.std.specs.Prelude.{◌≡◌, [], ◌++◌, ◌+◌, ◌≤◌, length, take, drop, IfOk, OnOk, OnErr};
+ghost use Rattle.std.specs.Prelude.{◌≡◌, [], ◌++◌, ◌+◌, ◌≤◌, length, IfOk, OnOk};
 ghost use Rattle.pg_map.specs.Chunks.{AreChunks, AreGroups, IsPart, all_of, chunks_in, entries_of, grouped, listed};
 
 use crate::Memory;
+use crate::list::parted;
 use crate::part::{Chunk, Group, group_of};
 use std::alloc::Global;
 use std::marker::Model;
@@ -109,20 +110,8 @@ fn cut_group<V: Drop>(
     if count == 0 {
         return Ok(());
     }
-    let front = take_front(chunks, count)?;
+    let (front, later) = parted(alloc, mem::replace(chunks, Vec::new(alloc)), count)?;
+    *chunks = later;
     made.push(group_of(alloc, front)?)?;
     Ok(())
-}
-
-/// Takes the first so many out of a list.
-pub(crate) fn take_front<T: Drop>(list: &mut Vec<T>, count: usize) -> Result<Vec<T>, Memory>
-    requires { count ≤ length list.old.items }
-    ensures front { IfOk result (λ front. front.items ≡ take count list.old.items) }
-    ensures left { OnOk result (list.new.items ≡ drop count list.old.items) }
-    ensures err { OnErr result (list.new.items ≡ list.old.items) }
-{
-    let later = list.split_off(count)?;
-    let mut front = mem::replace(list, later);
-    front.shrink_to_fit();
-    Ok(front)
 }

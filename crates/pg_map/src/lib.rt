@@ -4,6 +4,7 @@
 mod find;
 mod gather;
 mod group;
+mod list;
 mod merge;
 mod number;
 mod pack;
