@@ -2,7 +2,7 @@
 ghost use Rattle.std.specs.Prelude.{◌≡◌, [], ◌∷◌, ◌++◌, ◌+◌, ◌≤◌, length, IfOk, OnOk};
 ghost use Rattle.pg_map.specs.Chunks.{AreChunks, AreGroups, IsPart, all_of, chunks_in, entries_of, grouped, listed};
 
-use crate::group::Grouping;
+use crate::group::{FEW, Grouping};
 use crate::list::parted;
 use crate::part::{Chunk, Group, chunk_of};
 use crate::{Memory, Share, VertexId};
@@ -109,18 +109,27 @@ impl<V: Share> Gathering<V> {
         Ok(())
     }
 
-    /// Adds a group, in its own memory unless what stands before it in none is small.
+    /// Adds a group, in its own memory unless what stands in none before it is little.
     pub(crate) fn add_group(&mut self, alloc: Global, group: &Group<V>) -> Result<(), Memory>
         requires part { IsPart group.now.first group.now.count (grouped group.now) }
         requires chunks { AreChunks (chunks_in group.now) }
         ensures { OnOk result (self.new ≡ self.old ++ grouped group.now) }
     {
-        let entries = self.piece.len();
-        if self.made.is_small() || (entries > 0 && entries < SMALL) {
+        if self.waits_for_more() {
             return self.add_chunks(alloc, group.items.as_slice());
         }
+        let entries = self.piece.len();
         cut_chunk(alloc, &mut self.made, &mut self.piece, entries)?;
         self.made.add(alloc, group.share()?)
+    }
+
+    /// Whether what stands in no group yet is too little for one.
+    fn waits_for_more(&self) -> bool {
+        let (entries, chunks) = (self.piece.len(), self.made.waiting());
+        if entries == 0 {
+            return chunks > 0 && chunks < FEW;
+        }
+        entries < SMALL || chunks < FEW
     }
 
     /// All groups.

@@ -16,7 +16,7 @@ const FULL: usize = 64;
 const GROUP: usize = 32;
 
 /// Fewer take in the chunks of the next group, so that removals leave no tiny groups behind.
-const SMALL: usize = 8;
+pub(crate) const FEW: usize = 8;
 
 /// Groups, and chunks that become the next one. A contract sees the entries of all.
 #[derive(Drop)]
@@ -48,9 +48,9 @@ impl<V: Drop> Grouping<V> {
         }
     }
 
-    /// Whether there are chunks in no group yet, but few.
-    pub(crate) fn is_small(&self) -> bool {
-        !self.chunks.is_empty() && self.chunks.len() < SMALL
+    /// How many chunks stand in no group yet.
+    pub(crate) fn waiting(&self) -> usize {
+        self.chunks.len()
     }
 
     /// Adds a chunk.
