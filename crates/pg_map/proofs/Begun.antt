@@ -1,29 +1,26 @@
--- How many chunks begin at an id or below it, told by two of them.
+-- How many parts begin at an id or below it, told by two of them.
 use Rattle.std.proofs.Common.{◌≡◌, ℕ, ◌+◌, ◌<◌, ◌≤◌, List, length, get_or, Bool, true, false, not, IsTrue, leb, refl, sym, ap, ◌∙◌, arith}
-use Rattle.std.specs.List.Sorted.{IsPartitionPoint}
+use Rattle.std.specs.List.Sorted.{IsNonDecreasingBy, IsPartitionPoint}
 use Rattle.std.proofs.lemmas.Bool.Decides.{nat_tests}
 use Rattle.std.proofs.lemmas.List.{get_or_default}
-use Rattle.pg_map.specs.Chunks.{HaveFirsts, entries_of}
-use Rattle.pg_map.specs.Entries.{HasRisingIds}
-use Rattle.pg_map.specs.declared.chunk.Chunk.{Chunk}
-use Rattle.pg_map.proofs.Chunked.{firsts_rise}
+use Rattle.pg_map.specs.declared.part.Part.{Part}
 
 pub no_by : (b : Bool) → IsTrue (not b) → b ≡ false
 no_by true h = sym h
 no_by false h = refl
 
-module _ {X : Type 0} (cs : List (Chunk X)) (firsts : HaveFirsts cs) (rising : HasRisingIds (entries_of cs)) (id n m : ℕ) (last : m + 1 ≡ n)
-    (within : n < length cs) (c d : Chunk X) (c_is : c ≡ get_or cs m c) (d_is : d ≡ get_or cs n d) where
-  below : c.first ≤ id → (k : ℕ) (x : Chunk X) → k < n → leb (get_or cs k x).first id ≡ true
+module _ {T : Type 0} (cs : List (Part T)) (rise : IsNonDecreasingBy (λ p. p.first) cs) (id n m : ℕ) (last : m + 1 ≡ n)
+    (within : n < length cs) (c d : Part T) (c_is : c ≡ get_or cs m c) (d_is : d ≡ get_or cs n d) where
+  below : c.first ≤ id → (k : ℕ) (x : Part T) → k < n → leb (get_or cs k x).first id ≡ true
   below low k x h =
-      let bound = firsts_rise cs firsts rising k m x (omega arith) (omega arith) in
+      let bound = rise k m x (omega arith) (omega arith) in
       let same : (get_or cs m x).first ≡ c.first = ap (λ y. y.first) (get_or_default cs m x c (omega arith) ∙ sym c_is) in
       let fits : (get_or cs k x).first ≤ id = omega arith in
       grind (arith, nat_tests)
 
-  above : id < d.first → (k : ℕ) (x : Chunk X) → n ≤ k → k < length cs → leb (get_or cs k x).first id ≡ false
+  above : id < d.first → (k : ℕ) (x : Part T) → n ≤ k → k < length cs → leb (get_or cs k x).first id ≡ false
   above high k x h g =
-      let bound = firsts_rise cs firsts rising n k x h g in
+      let bound = rise n k x h g in
       let same : (get_or cs n x).first ≡ d.first = ap (λ y. y.first) (get_or_default cs n x d within ∙ sym d_is) in
       let past : id < (get_or cs k x).first = omega arith in
       grind (arith, nat_tests)

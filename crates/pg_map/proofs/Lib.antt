@@ -1,6 +1,7 @@
 pub mod Begun
 pub mod Changing
-pub mod Chunked
+pub mod InGroups
+pub mod InParts
 pub mod Parts
 pub mod Replaced
 pub mod Rising

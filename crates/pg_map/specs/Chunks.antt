@@ -1,35 +1,56 @@
--- How a map lies in memory: its entries cut into chunks, each with its first id.
+-- How a map lies in memory: its entries cut into chunks, and these into groups.
 use Rattle.std.specs.Prelude.{◌≡◌, ℕ, ◌<◌, ◌≤◌, Option, List, [], ◌∷◌, length, None, Some}
 use Rattle.std.specs.Arc.{arc_value}
 use Rattle.std.specs.List.{AllByRecursion, flat_map}
 use Rattle.pg_map.specs.Entries.{HasRisingIds}
-use Rattle.pg_map.specs.declared.chunk.Chunk.{Chunk}
-use Rattle.pg_map.specs.declared.chunk.Spine.{Spine}
+use Rattle.pg_map.specs.declared.part.Part.{Part}
+use Rattle.pg_map.specs.declared.spine.Spine.{Spine}
 
-abbrev pub listed : {V : Type 0} → Chunk V → List (ℕ × V)
-listed chunk = (arc_value chunk.entries).items
+-- the entries of a chunk
+abbrev pub listed : {V : Type 0} → Part (ℕ × V) → List (ℕ × V)
+listed chunk = (arc_value chunk.items).items
 
-abbrev pub entries_of : {V : Type 0} → List (Chunk V) → List (ℕ × V)
+abbrev pub entries_of : {V : Type 0} → List (Part (ℕ × V)) → List (ℕ × V)
 entries_of chunks = flat_map listed chunks
 
-abbrev pub chunks_of : {V : Type 0} → Spine V → List (Chunk V)
-chunks_of spine = elim spine.shared [ None ↦ [] | Some shared ↦ (arc_value shared).items ]
+abbrev pub chunks_in : {V : Type 0} → Part (Part (ℕ × V)) → List (Part (ℕ × V))
+chunks_in group = (arc_value group.items).items
+
+-- the entries of a group
+abbrev pub grouped : {V : Type 0} → Part (Part (ℕ × V)) → List (ℕ × V)
+grouped group = entries_of (chunks_in group)
+
+abbrev pub all_of : {V : Type 0} → List (Part (Part (ℕ × V))) → List (ℕ × V)
+all_of groups = flat_map grouped groups
+
+abbrev pub groups_of : {V : Type 0} → Spine V → List (Part (Part (ℕ × V)))
+groups_of spine = elim spine.shared [ None ↦ [] | Some shared ↦ (arc_value shared).items ]
 
 -- there is a first entry, at this id
 abbrev pub StartsAt : {V : Type 0} → ℕ → List (ℕ × V) → Type 0
 StartsAt id [] = ⊥
 StartsAt id (e ∷ entries) = id ≡ e.0
 
--- each chunk has a first entry, and knows its id
-abbrev pub HaveFirsts : {V : Type 0} → List (Chunk V) → Type 0
-HaveFirsts chunks = AllByRecursion (λ chunk. StartsAt chunk.first (listed chunk)) chunks
+-- there is a first entry, at this id, and so many in all
+abbrev pub IsPart : {V : Type 0} → ℕ → ℕ → List (ℕ × V) → Type 0
+IsPart first count entries = StartsAt first entries × (count ≡ length entries)
 
-pub record AreSound {V : Type 0} (chunks : List (Chunk V)) (len : ℕ) : Type 0 where
-  pub rise : HasRisingIds (entries_of chunks)
-  pub firsts : HaveFirsts chunks
-  pub counted : len ≡ length (entries_of chunks)
+-- each part has a first entry, and knows its id and how many there are
+abbrev pub AreParts : {V T : Type 0} → (Part T → List (ℕ × V)) → List (Part T) → Type 0
+AreParts entries parts = AllByRecursion (λ part. IsPart part.first part.count (entries part)) parts
 
--- these changes fall before the first of these chunks, and those don't
-abbrev pub AreCut : {X : Type 0} → List (Chunk X) → List (ℕ × Option X) → List (ℕ × Option X) → Type 0
+abbrev pub AreChunks : {V : Type 0} → List (Part (ℕ × V)) → Type 0
+AreChunks chunks = AreParts listed chunks
+
+abbrev pub AreGroups : {V : Type 0} → List (Part (Part (ℕ × V))) → Type 0
+AreGroups groups = AreParts grouped groups × AllByRecursion (λ group. AreChunks (chunks_in group)) groups
+
+pub record AreSound {V : Type 0} (groups : List (Part (Part (ℕ × V)))) (len : ℕ) : Type 0 where
+  pub rise : HasRisingIds (all_of groups)
+  pub groups_are : AreGroups groups
+  pub counted : len ≡ length (all_of groups)
+
+-- these changes fall before the first of these parts, and those don't
+abbrev pub AreCut : {T X : Type 0} → List (Part T) → List (ℕ × Option X) → List (ℕ × Option X) → Type 0
 AreCut [] here later = later ≡ []
-AreCut (c ∷ cs) here later = AllByRecursion (λ x. x.0 < c.first) here × AllByRecursion (λ x. c.first ≤ x.0) later
+AreCut (p ∷ ps) here later = AllByRecursion (λ x. x.0 < p.first) here × AllByRecursion (λ x. p.first ≤ x.0) later

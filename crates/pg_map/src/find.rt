@@ -1,20 +1,21 @@
 //! Look-ups that come near one another.
 ghost use Rattle.std.specs.Prelude.{◌≡◌, ◌≤◌, true, false, nat_le, length, IsTrue};
-ghost use Rattle.std.specs.List.Sorted.{IsPartitionPoint};
+ghost use Rattle.std.specs.List.Sorted.{IsNonDecreasingBy, IsPartitionPoint};
 ghost use Rattle.std.specs.Option.{option_copied};
-ghost use Rattle.pg_map.specs.Chunks.{HaveFirsts, entries_of};
+ghost use Rattle.pg_map.specs.Chunks.{AreChunks, AreGroups, all_of, entries_of};
 ghost use Rattle.pg_map.specs.Entries.{HasRisingIds, value_at};
 
 use crate::VertexId;
-use crate::chunk::{Chunk, is_at_most};
+use crate::part::{Chunk, Group, Part, is_at_most};
 use std::marker::Model;
 
 /// Looks up ids in a map. Where an id lies near the one before, it costs a search in one chunk alone.
 /// A contract sees the entries of the map.
 #[derive(Drop)]
 pub struct Finder<'a, V> {
-    chunks: &'a [Chunk<V>],
-    begun: usize,
+    groups: &'a [Group<V>],
+    groups_begun: usize,
+    chunks_begun: usize,
 }
 
 impl<'a, V> Model for Finder<'a, V> {
@@ -22,22 +23,26 @@ impl<'a, V> Model for Finder<'a, V> {
 
     ghost Value = { List (ℕ × V) };
 
-    ghost use Rattle.pg_map.specs.Chunks.{HaveFirsts, entries_of};
+    ghost use Rattle.pg_map.specs.Chunks.{AreGroups, all_of};
     ghost use Rattle.pg_map.specs.Entries.{HasRisingIds};
 
-    ghost view = { λ f. entries_of f.chunks.now };
+    ghost view = { λ f. all_of f.groups.now };
 
-    ghost invariant = { λ f. HaveFirsts f.chunks.now × HasRisingIds (entries_of f.chunks.now) };
+    ghost invariant = { λ f. AreGroups f.groups.now × HasRisingIds (all_of f.groups.now) };
 }
 
 impl<'a, V> Finder<'a, V> {
-    /// Look-ups among these chunks.
-    pub(crate) fn of(chunks: &'a [Chunk<V>]) -> Finder<'a, V>
-        requires firsts { HaveFirsts chunks.now }
-        requires rise { HasRisingIds (entries_of chunks.now) }
-        ensures { result ≡ entries_of chunks.now }
+    /// Look-ups among these groups.
+    pub(crate) fn of(groups: &'a [Group<V>]) -> Finder<'a, V>
+        requires groups { AreGroups groups.now }
+        requires rise { HasRisingIds (all_of groups.now) }
+        ensures { result ≡ all_of groups.now }
     {
-        Finder { chunks, begun: 0 }
+        Finder {
+            groups,
+            groups_begun: 0,
+            chunks_begun: 0,
+        }
     }
 
     /// The value at an id.
@@ -45,41 +50,44 @@ impl<'a, V> Finder<'a, V> {
         ensures value { option_copied result ≡ value_at id self.old }
         ensures same { self.new ≡ self.old }
     {
-        let chunks = self.chunks;
-        self.begun = begun(chunks, self.begun, id);
-        value_in(chunks, self.begun, id)
+        let groups = self.groups;
+        self.groups_begun = begun(groups, self.groups_begun, id);
+        if self.groups_begun == 0 {
+            return None;
+        }
+        let chunks = groups[self.groups_begun - 1].items.as_slice();
+        self.chunks_begun = begun(chunks, self.chunks_begun, id);
+        value_in(chunks, self.chunks_begun, id)
     }
 }
 
-/// How many chunks begin at an id or below it, which may be as many as before.
-pub(crate) fn begun<V>(chunks: &[Chunk<V>], before: usize, id: VertexId) -> usize
-    requires firsts { HaveFirsts chunks.now }
-    requires rise { HasRisingIds (entries_of chunks.now) }
-    ensures bound { result ≤ length chunks.now }
-    ensures parts { IsPartitionPoint (λ c. nat_le c.first id ≡ true) (λ c. nat_le c.first id ≡ false) chunks.now result }
+/// How many of these parts begin at an id or below it, which may be as many as before.
+pub(crate) fn begun<T>(parts: &[Part<T>], before: usize, id: VertexId) -> usize
+    requires { IsNonDecreasingBy (λ part. part.first) parts.now }
+    ensures bound { result ≤ length parts.now }
+    ensures parts { IsPartitionPoint (λ p. nat_le p.first id ≡ true) (λ p. nat_le p.first id ≡ false) parts.now result }
 {
-    if have_begun(chunks, before, id) {
+    if have_begun(parts, before, id) {
         return before;
     }
-    chunks.partition_point(|chunk| is_at_most(chunk.first, id))
+    parts.partition_point(|part| is_at_most(part.first, id))
 }
 
-/// Whether just so many chunks begin at an id or below it. It may say no where they do.
-fn have_begun<V>(chunks: &[Chunk<V>], count: usize, id: VertexId) -> bool
-    requires firsts { HaveFirsts chunks.now }
-    requires rise { HasRisingIds (entries_of chunks.now) }
-    ensures bound { IsTrue result → count ≤ length chunks.now }
-    ensures parts { IsTrue result → IsPartitionPoint (λ c. nat_le c.first id ≡ true) (λ c. nat_le c.first id ≡ false) chunks.now count }
+/// Whether just so many of these parts begin at an id or below it. It may say no where they do.
+fn have_begun<T>(parts: &[Part<T>], count: usize, id: VertexId) -> bool
+    requires { IsNonDecreasingBy (λ part. part.first) parts.now }
+    ensures bound { IsTrue result → count ≤ length parts.now }
+    ensures parts { IsTrue result → IsPartitionPoint (λ p. nat_le p.first id ≡ true) (λ p. nat_le p.first id ≡ false) parts.now count }
 {
-    if count == 0 || count >= chunks.len() {
+    if count == 0 || count >= parts.len() {
         return false;
     }
-    is_at_most(chunks[count - 1].first, id) && !is_at_most(chunks[count].first, id)
+    is_at_most(parts[count - 1].first, id) && !is_at_most(parts[count].first, id)
 }
 
 /// The value at an id, where so many chunks begin at it or below it.
-pub(crate) fn value_in<V>(chunks: &[Chunk<V>], begun: usize, id: VertexId) -> Option<&V>
-    requires firsts { HaveFirsts chunks.now }
+fn value_in<V>(chunks: &[Chunk<V>], begun: usize, id: VertexId) -> Option<&V>
+    requires chunks { AreChunks chunks.now }
     requires rise { HasRisingIds (entries_of chunks.now) }
     requires bound { begun ≤ length chunks.now }
     requires parts { IsPartitionPoint (λ c. nat_le c.first id ≡ true) (λ c. nat_le c.first id ≡ false) chunks.now begun }
@@ -88,7 +96,7 @@ pub(crate) fn value_in<V>(chunks: &[Chunk<V>], begun: usize, id: VertexId) -> Op
     if begun == 0 {
         return None;
     }
-    let entries = chunks[begun - 1].entries.as_slice();
+    let entries = chunks[begun - 1].items.as_slice();
     match entries.binary_search_by_key(&id, |entry| entry.0) {
         Ok(place) => Some(&entries[place].1),
         Err(_) => None,

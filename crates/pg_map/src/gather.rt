@@ -1,8 +1,10 @@
 //! Entries gathered into chunks, one after another.
-ghost use Rattle.std.specs.Prelude.{◌≡◌, [], ◌∷◌, ◌++◌, ◌<◌, length, IfOk, OnOk};
-ghost use Rattle.pg_map.specs.Chunks.{HaveFirsts, StartsAt, entries_of, listed};
+ghost use Rattle.std.specs.Prelude.{◌≡◌, [], ◌∷◌, ◌++◌, ◌+◌, ◌≤◌, length, IfOk, OnOk};
+ghost use Rattle.pg_map.specs.Chunks.{AreChunks, AreGroups, IsPart, all_of, chunks_in, entries_of, grouped, listed};
 
-use crate::chunk::Chunk;
+use crate::group::{FEW, Grouping};
+use crate::list::parted;
+use crate::part::{Chunk, Group, chunk_of};
 use crate::{Memory, Share, VertexId};
 use std::alloc::Global;
 use std::marker::Model;
@@ -17,10 +19,10 @@ const CHUNK: usize = 128;
 /// A piece with fewer takes in the next chunk, so that removals leave no tiny ones behind.
 const SMALL: usize = 32;
 
-/// Chunks, and a piece that becomes the next one. A contract sees all entries so far.
+/// Chunks in groups, and a piece that becomes the next chunk. A contract sees all entries so far.
 #[derive(Drop)]
 pub(crate) struct Gathering<V> {
-    made: Vec<Chunk<V>>,
+    made: Grouping<V>,
     piece: Vec<(VertexId, V)>,
 }
 
@@ -29,11 +31,7 @@ impl<V> Model for Gathering<V> {
 
     ghost Value = { List (ℕ × V) };
 
-    ghost use Rattle.pg_map.specs.Chunks.{HaveFirsts, entries_of};
-
-    ghost view = { λ g. entries_of g.made.items ++ g.piece.items };
-
-    ghost invariant = { λ g. HaveFirsts g.made.items };
+    ghost view = { λ g. g.made ++ g.piece.items };
 }
 
 impl<V: Share> Gathering<V> {
@@ -42,7 +40,7 @@ impl<V: Share> Gathering<V> {
         ensures { result ≡ [] }
     {
         Gathering {
-            made: Vec::new(alloc),
+            made: Grouping::new(alloc),
             piece: Vec::new(alloc),
         }
     }
@@ -52,7 +50,7 @@ impl<V: Share> Gathering<V> {
         ensures { OnOk result (self.new ≡ self.old ++ (id, value) ∷ []) }
     {
         if self.piece.len() >= FULL {
-            self.cut(alloc)?;
+            cut_chunk(alloc, &mut self.made, &mut self.piece, CHUNK)?;
         }
         self.piece.push((id, value))?;
         Ok(())
@@ -70,10 +68,11 @@ impl<V: Share> Gathering<V> {
     pub(crate) fn end_chunk(&mut self, alloc: Global) -> Result<(), Memory>
         ensures { OnOk result (self.new ≡ self.old) }
     {
-        if self.piece.len() < CHUNK {
+        let entries = self.piece.len();
+        if entries < CHUNK {
             return Ok(());
         }
-        close(alloc, &mut self.made, &mut self.piece)
+        cut_chunk(alloc, &mut self.made, &mut self.piece, entries)
     }
 
     /// Adds copies of these entries.
@@ -87,62 +86,82 @@ impl<V: Share> Gathering<V> {
     }
 
     /// Adds a chunk, in its own memory unless the piece before it is small.
-    pub(crate) fn add(&mut self, alloc: Global, chunk: &Chunk<V>) -> Result<(), Memory>
-        requires { StartsAt chunk.now.first (listed chunk.now) }
+    pub(crate) fn add_chunk(&mut self, alloc: Global, chunk: &Chunk<V>) -> Result<(), Memory>
+        requires { IsPart chunk.now.first chunk.now.count (listed chunk.now) }
         ensures { OnOk result (self.new ≡ self.old ++ listed chunk.now) }
     {
-        if !self.piece.is_empty() && self.piece.len() < SMALL {
-            return self.extend(alloc, chunk.entries.as_slice());
+        let entries = self.piece.len();
+        if entries > 0 && entries < SMALL {
+            return self.extend(alloc, chunk.items.as_slice());
         }
-        close(alloc, &mut self.made, &mut self.piece)?;
-        self.made.push(chunk.share()?)?;
+        cut_chunk(alloc, &mut self.made, &mut self.piece, entries)?;
+        self.made.push(alloc, chunk.share()?)
+    }
+
+    /// Adds chunks.
+    fn add_chunks(&mut self, alloc: Global, chunks: &[Chunk<V>]) -> Result<(), Memory>
+        requires { AreChunks chunks.now }
+        ensures { OnOk result (self.new ≡ self.old ++ entries_of chunks.now) }
+    {
+        for chunk in chunks {
+            self.add_chunk(alloc, chunk)?;
+        }
         Ok(())
     }
 
-    /// All chunks.
-    pub(crate) fn finish(self, alloc: Global) -> Result<Vec<Chunk<V>>, Memory>
-        ensures entries { IfOk result (λ chunks. entries_of chunks.items ≡ self) }
-        ensures firsts { IfOk result (λ chunks. HaveFirsts chunks.items) }
+    /// Adds a group, in its own memory unless what stands in none before it is little.
+    pub(crate) fn add_group(&mut self, alloc: Global, group: &Group<V>) -> Result<(), Memory>
+        requires part { IsPart group.now.first group.now.count (grouped group.now) }
+        requires chunks { AreChunks (chunks_in group.now) }
+        ensures { OnOk result (self.new ≡ self.old ++ grouped group.now) }
+    {
+        if self.waits_for_more() {
+            return self.add_chunks(alloc, group.items.as_slice());
+        }
+        let entries = self.piece.len();
+        cut_chunk(alloc, &mut self.made, &mut self.piece, entries)?;
+        self.made.add(alloc, group.share()?)
+    }
+
+    /// Whether what stands in no group yet is too little for one.
+    fn waits_for_more(&self) -> bool {
+        let (entries, chunks) = (self.piece.len(), self.made.waiting());
+        if entries == 0 {
+            return chunks > 0 && chunks < FEW;
+        }
+        entries < SMALL || chunks < FEW
+    }
+
+    /// All groups.
+    pub(crate) fn finish(self, alloc: Global) -> Result<Vec<Group<V>>, Memory>
+        ensures entries { IfOk result (λ groups. all_of groups.items ≡ self) }
+        ensures groups { IfOk result (λ groups. AreGroups groups.items) }
     {
         let Gathering {
             mut made,
             mut piece,
         } = self;
-        close(alloc, &mut made, &mut piece)?;
-        Ok(made)
-    }
-
-    /// Cuts a chunk off a full piece.
-    fn cut(&mut self, alloc: Global) -> Result<(), Memory>
-        ensures { OnOk result (self.new ≡ self.old) }
-    {
-        if self.piece.len() < FULL {
-            return Ok(());
-        }
-        let later = self.piece.split_off(CHUNK)?;
-        let mut full = mem::replace(&mut self.piece, later);
-        full.shrink_to_fit();
-        self.made.push(Chunk::of(alloc, full)?)?;
-        Ok(())
+        let entries = piece.len();
+        cut_chunk(alloc, &mut made, &mut piece, entries)?;
+        made.finish(alloc)
     }
 }
 
-/// Makes a chunk of a piece, if there is any.
-fn close<V: Share>(
+/// Makes a chunk of the first so many entries of a piece, if any.
+fn cut_chunk<V: Share>(
     alloc: Global,
-    made: &mut Vec<Chunk<V>>,
+    made: &mut Grouping<V>,
     piece: &mut Vec<(VertexId, V)>,
+    count: usize,
 ) -> Result<(), Memory>
-    requires { HaveFirsts made.old.items }
-    ensures firsts { HaveFirsts made.new.items }
-    ensures entries { OnOk result (entries_of made.new.items ≡ entries_of made.old.items ++ piece.old.items) }
-    ensures closed { OnOk result (piece.new.items ≡ []) }
+    requires { count ≤ length piece.old.items }
+    ensures entries { OnOk result (made.new ++ piece.new.items ≡ made.old ++ piece.old.items) }
+    ensures left { OnOk result (length piece.new.items + count ≡ length piece.old.items) }
 {
-    if piece.is_empty() {
+    if count == 0 {
         return Ok(());
     }
-    let mut full = mem::replace(piece, Vec::new(alloc));
-    full.shrink_to_fit();
-    made.push(Chunk::of(alloc, full)?)?;
-    Ok(())
+    let (front, later) = parted(alloc, mem::replace(piece, Vec::new(alloc)), count)?;
+    *piece = later;
+    made.push(alloc, chunk_of(alloc, front)?)
 }

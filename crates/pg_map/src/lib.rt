@@ -1,13 +1,16 @@
 //! The ordered map from vertex ids whose copies share, and the numbers that name things.
 #![tactic(auto)]
 
-mod chunk;
 mod find;
 mod gather;
+mod group;
+mod list;
 mod merge;
 mod number;
 mod pack;
+mod part;
 mod shared;
+mod spine;
 mod walk;
 
 pub use find::Finder;

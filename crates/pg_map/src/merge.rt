@@ -1,10 +1,10 @@
-//! Changes made of chunks, beside them.
+//! Changes made of groups, beside them.
 ghost use Rattle.std.specs.Prelude.{◌≡◌, ◌++◌, ◌≤◌, length, take, drop, IfOk, OnOk};
-ghost use Rattle.pg_map.specs.Chunks.{AreCut, HaveFirsts, StartsAt, entries_of, listed};
+ghost use Rattle.pg_map.specs.Chunks.{AreChunks, AreCut, AreGroups, IsPart, all_of, chunks_in, entries_of, grouped, listed};
 ghost use Rattle.pg_map.specs.Entries.{ChangesRise, HasRisingIds, with_changes};
 
-use crate::chunk::{Chunk, is_below};
 use crate::gather::Gathering;
+use crate::part::{Chunk, Group, Part, is_below};
 use crate::{Memory, Share, VertexId};
 use std::alloc::Global;
 
@@ -49,36 +49,78 @@ impl<V: Share> Gathering<V> {
     ) -> Result<(), Memory>
         requires changes_rise { ChangesRise changes.now }
         requires entries_rise { HasRisingIds (listed chunk.now) }
-        requires first { StartsAt chunk.now.first (listed chunk.now) }
+        requires part { IsPart chunk.now.first chunk.now.count (listed chunk.now) }
         ensures { OnOk result (self.new ≡ self.old ++ with_changes changes.now (listed chunk.now)) }
     {
         if changes.is_empty() {
-            return self.add(alloc, chunk);
+            return self.add_chunk(alloc, chunk);
         }
-        let entries = chunk.entries.as_slice();
+        let entries = chunk.items.as_slice();
         self.make_room(entries.len().saturating_add(changes.len()))?;
         self.merge(alloc, changes, entries)?;
         self.end_chunk(alloc)
     }
+
+    /// Adds chunks with changes of them.
+    fn merge_chunks(
+        &mut self,
+        alloc: Global,
+        changes: &[(VertexId, Option<V>)],
+        chunks: &[Chunk<V>],
+    ) -> Result<(), Memory>
+        requires changes_rise { ChangesRise changes.now }
+        requires entries_rise { HasRisingIds (entries_of chunks.now) }
+        requires chunks { AreChunks chunks.now }
+        ensures { OnOk result (self.new ≡ self.old ++ with_changes changes.now (entries_of chunks.now)) }
+    {
+        let (mut todo, mut left) = (changes, chunks);
+        while let Some((chunk, others)) = left.split_first() {
+            let (here, later) = todo.split_at(cut_of(todo, others));
+            self.merge_chunk(alloc, here, chunk)?;
+            todo = later;
+            left = others;
+        }
+        let none = Vec::new(alloc);
+        self.merge(alloc, todo, none.as_slice())
+    }
+
+    /// Adds a group with changes of it. One with none stays in its own memory.
+    fn merge_group(
+        &mut self,
+        alloc: Global,
+        changes: &[(VertexId, Option<V>)],
+        group: &Group<V>,
+    ) -> Result<(), Memory>
+        requires changes_rise { ChangesRise changes.now }
+        requires entries_rise { HasRisingIds (grouped group.now) }
+        requires part { IsPart group.now.first group.now.count (grouped group.now) }
+        requires chunks { AreChunks (chunks_in group.now) }
+        ensures { OnOk result (self.new ≡ self.old ++ with_changes changes.now (grouped group.now)) }
+    {
+        if changes.is_empty() {
+            return self.add_group(alloc, group);
+        }
+        self.merge_chunks(alloc, changes, group.items.as_slice())
+    }
 }
 
-/// The chunks with all changes.
+/// The groups with all changes.
 pub(crate) fn changed<V: Share>(
     alloc: Global,
-    chunks: &[Chunk<V>],
+    groups: &[Group<V>],
     changes: &[(VertexId, Option<V>)],
-) -> Result<Vec<Chunk<V>>, Memory>
-    requires rise { HasRisingIds (entries_of chunks.now) }
-    requires firsts { HaveFirsts chunks.now }
+) -> Result<Vec<Group<V>>, Memory>
+    requires rise { HasRisingIds (all_of groups.now) }
+    requires groups { AreGroups groups.now }
     requires changes_rise { ChangesRise changes.now }
-    ensures entries { IfOk result (λ made. entries_of made.items ≡ with_changes changes.now (entries_of chunks.now)) }
-    ensures firsts { IfOk result (λ made. HaveFirsts made.items) }
+    ensures entries { IfOk result (λ made. all_of made.items ≡ with_changes changes.now (all_of groups.now)) }
+    ensures groups { IfOk result (λ made. AreGroups made.items) }
 {
     let mut gathering = Gathering::new(alloc);
-    let (mut todo, mut left) = (changes, chunks);
-    while let Some((chunk, others)) = left.split_first() {
+    let (mut todo, mut left) = (changes, groups);
+    while let Some((group, others)) = left.split_first() {
         let (here, later) = todo.split_at(cut_of(todo, others));
-        gathering.merge_chunk(alloc, here, chunk)?;
+        gathering.merge_group(alloc, here, group)?;
         todo = later;
         left = others;
     }
@@ -87,13 +129,13 @@ pub(crate) fn changed<V: Share>(
     gathering.finish(alloc)
 }
 
-/// How many of the changes fall before these chunks.
-fn cut_of<V>(changes: &[(VertexId, Option<V>)], chunks: &[Chunk<V>]) -> usize
+/// How many of the changes fall before these parts.
+fn cut_of<T, V>(changes: &[(VertexId, Option<V>)], parts: &[Part<T>]) -> usize
     requires { ChangesRise changes.now }
     ensures bound { result ≤ length changes.now }
-    ensures cut { AreCut chunks.now (take result changes.now) (drop result changes.now) }
+    ensures cut { AreCut parts.now (take result changes.now) (drop result changes.now) }
 {
-    match chunks.split_first() {
+    match parts.split_first() {
         Some((next, _)) => changes.partition_point(|change| is_below(change.0, next.first)),
         None => changes.len(),
     }

@@ -1,8 +1,9 @@
 //! Entries laid anew in memory.
-ghost use Rattle.std.specs.Prelude.{◌≡◌, ◌≤◌, IfOk, IfSome};
-ghost use Rattle.pg_map.specs.Chunks.{AreSound, HaveFirsts, chunks_of, entries_of, listed};
+ghost use Rattle.std.specs.Prelude.{◌≡◌, IfOk, IfSome};
+ghost use Rattle.pg_map.specs.Chunks.{AreChunks, AreGroups, all_of, chunks_in, entries_of, grouped, groups_of, listed};
 
-use crate::chunk::{Chunk, Spine};
+use crate::part::{Chunk, Group, Part};
+use crate::spine::Spine;
 use crate::{Memory, Share, VertexId};
 use std::alloc::Global;
 use std::sync::Arc;
@@ -17,22 +18,44 @@ pub trait Pack: Share {
         ensures { IfOk result (λ made. IfSome made (λ packed. packed.items ≡ entries.now)) };
 }
 
-/// Lays the entries of each chunk anew. Chunks that a copy shares stay as they are.
+/// Lays the entries of each chunk anew. Groups that a copy shares stay as they are.
 pub(crate) fn pack_spine<V: Pack>(alloc: Global, spine: &mut Spine<V>)
-    requires { HaveFirsts (chunks_of spine.old) }
-    ensures firsts { HaveFirsts (chunks_of spine.new) }
-    ensures entries { entries_of (chunks_of spine.new) ≡ entries_of (chunks_of spine.old) }
+    requires { AreGroups (groups_of spine.old) }
+    ensures groups { AreGroups (groups_of spine.new) }
+    ensures entries { all_of (groups_of spine.new) ≡ all_of (groups_of spine.old) }
 {
     if let Some(shared) = &mut spine.shared {
-        if let Some(chunks) = Arc::get_mut(shared) {
-            pack_chunks(alloc, chunks);
+        if let Some(groups) = Arc::get_mut(shared) {
+            pack_groups(alloc, groups);
         }
     }
 }
 
+fn pack_groups<V: Pack>(alloc: Global, groups: &mut Vec<Group<V>>)
+    requires { AreGroups groups.old.items }
+    ensures groups { AreGroups groups.new.items }
+    ensures entries { all_of groups.new.items ≡ all_of groups.old.items }
+{
+    for place in 0..groups.len() {
+        pack_group(alloc, &mut groups[place]);
+    }
+}
+
+fn pack_group<V: Pack>(alloc: Global, group: &mut Group<V>)
+    requires { AreChunks (chunks_in group.old) }
+    ensures chunks { AreChunks (chunks_in group.new) }
+    ensures entries { grouped group.new ≡ grouped group.old }
+    ensures first { group.new.first ≡ group.old.first }
+    ensures count { group.new.count ≡ group.old.count }
+{
+    if let Some(chunks) = Arc::get_mut(&mut group.items) {
+        pack_chunks(alloc, chunks);
+    }
+}
+
 fn pack_chunks<V: Pack>(alloc: Global, chunks: &mut Vec<Chunk<V>>)
-    requires { HaveFirsts chunks.old.items }
-    ensures firsts { HaveFirsts chunks.new.items }
+    requires { AreChunks chunks.old.items }
+    ensures chunks { AreChunks chunks.new.items }
     ensures entries { entries_of chunks.new.items ≡ entries_of chunks.old.items }
 {
     for place in 0..chunks.len() {
@@ -46,15 +69,17 @@ fn pack_chunks<V: Pack>(alloc: Global, chunks: &mut Vec<Chunk<V>>)
 fn packed_chunk<V: Pack>(alloc: Global, chunk: &Chunk<V>) -> Option<Chunk<V>>
     ensures entries { IfSome result (λ packed. listed packed ≡ listed chunk.now) }
     ensures first { IfSome result (λ packed. packed.first ≡ chunk.now.first) }
+    ensures count { IfSome result (λ packed. packed.count ≡ chunk.now.count) }
 {
-    let Ok(Some(entries)) = V::packed(alloc, chunk.entries.as_slice()) else {
+    let Ok(Some(entries)) = V::packed(alloc, chunk.items.as_slice()) else {
         return None;
     };
-    let Ok(entries) = Arc::new(alloc, entries) else {
+    let Ok(items) = Arc::new(alloc, entries) else {
         return None;
     };
-    Some(Chunk {
+    Some(Part {
         first: chunk.first,
-        entries,
+        count: chunk.count,
+        items,
     })
 }

@@ -4,11 +4,13 @@ ghost use Rattle.std.specs.Option.{option_copied};
 ghost use Rattle.std.specs.Map.{keys_of};
 ghost use Rattle.std.specs.Map.Iter.{ShowsInOrder, deref, deref_pair};
 
-use crate::chunk::{Spine, counted, is_at_most, is_below};
-use crate::find::{begun, value_in};
+use crate::find::begun;
 use crate::gather::Gathering;
 use crate::merge::changed;
 use crate::pack::pack_spine;
+use crate::part::counted;
+use crate::spine::Spine;
+use crate::walk::chunks_from;
 use crate::{Finder, Ids, Iter, Memory, Pack, VertexId};
 use std::alloc::Global;
 use std::marker::Model;
@@ -28,11 +30,11 @@ impl Share for i64 {
 
 /// A map from vertex ids. A contract sees the list of (id, value) by rising id.
 ///
-/// The entries lie in chunks that copies share: a copy costs O(1), and a change rebuilds the chunks
-/// that it falls into, beside the others.
+/// The entries lie in chunks, and these in groups, all of which copies share: a copy costs O(1), and a
+/// change makes anew the chunks and the groups that it falls into, beside the others.
 #[derive(Drop)]
 pub struct Map<V> {
-    chunks: Spine<V>,
+    groups: Spine<V>,
     count: usize,
 }
 
@@ -41,11 +43,11 @@ impl<V> Model for Map<V> {
 
     ghost Value = { List (ℕ × V) };
 
-    ghost use Rattle.pg_map.specs.Chunks.{AreSound, chunks_of, entries_of};
+    ghost use Rattle.pg_map.specs.Chunks.{AreSound, all_of, groups_of};
 
-    ghost view = { λ m. entries_of (chunks_of m.chunks) };
+    ghost view = { λ m. all_of (groups_of m.groups) };
 
-    ghost invariant = { λ m. AreSound (chunks_of m.chunks) m.count };
+    ghost invariant = { λ m. AreSound (groups_of m.groups) m.count };
 }
 
 impl<V> Map<V> {
@@ -56,7 +58,7 @@ impl<V> Map<V> {
         ensures { result ≡ [] }
     {
         Map {
-            chunks: Spine::new(),
+            groups: Spine::new(),
             count: 0,
         }
     }
@@ -69,19 +71,20 @@ impl<V> Map<V> {
         self.count
     }
 
-    /// The value at an id, found by two binary searches: among the chunks, and in one of them.
+    /// The value at an id, found by three binary searches: among the groups, in one of them, and in one of
+    /// its chunks.
     pub fn get(&self, id: VertexId) -> Option<&V>
         ensures { option_copied result ≡ value_at id self.now }
     {
-        let chunks = self.chunks.as_slice();
-        value_in(chunks, begun(chunks, 0, id), id)
+        let mut finder = self.finder();
+        finder.get(id)
     }
 
     /// Look-ups that come near one another.
     pub fn finder(&self) -> Finder<'_, V>
         ensures { result ≡ self.now }
     {
-        Finder::of(self.chunks.as_slice())
+        Finder::of(self.groups.as_slice())
     }
 
     /// The entries, by rising id.
@@ -92,7 +95,8 @@ impl<V> Map<V> {
     {
         Iter {
             entries: &[],
-            chunks: self.chunks.as_slice(),
+            chunks: &[],
+            groups: self.groups.as_slice(),
         }
     }
 
@@ -112,25 +116,27 @@ impl<V> Map<V> {
         ensures rest { result ≡ entries_from id self.now }
         ensures runs { ShowsInOrder (deref_pair {K = ℕ} {X = V}) }
     {
-        let chunks = self.chunks.as_slice();
-        let after = chunks.partition_point(|chunk| is_at_most(chunk.first, id));
+        let groups = self.groups.as_slice();
+        let after = begun(groups, 0, id);
         if after == 0 {
             return self.iter();
         }
-        let entries = chunks[after - 1].entries.as_slice();
-        let place = entries.partition_point(|entry| is_below(entry.0, id));
-        let (_, entries) = entries.split_at(place);
-        let (_, chunks) = chunks.split_at(after);
-        Iter { entries, chunks }
+        let (entries, chunks) = chunks_from(groups[after - 1].items.as_slice(), id);
+        let (_, groups) = groups.split_at(after);
+        Iter {
+            entries,
+            chunks,
+            groups,
+        }
     }
 
     /// The same map, in the same memory. Costs O(1).
     pub fn share(&self) -> Result<Map<V>, Memory>
         ensures { IfOk result (λ map. map ≡ self.now) }
     {
-        let chunks = self.chunks.share()?;
+        let groups = self.groups.share()?;
         Ok(Map {
-            chunks,
+            groups,
             count: self.count,
         })
     }
@@ -150,34 +156,34 @@ impl<V: Share> Map<V> {
         }
         let made = gathering.finish(alloc)?;
         let count = counted(made.as_slice())?;
-        let chunks = Spine::of(alloc, made)?;
-        Ok(Map { chunks, count })
+        let groups = Spine::of(alloc, made)?;
+        Ok(Map { groups, count })
     }
 
     /// Makes all changes, by rising id, or none where memory is refused: each id gets its value, or
     /// loses the one that it has.
     ///
-    /// With n entries and k changes it costs O(n / 128) and a copy of each chunk that a change falls
-    /// into, of at most 256 entries.
+    /// With n entries it costs O(n / 4096), a copy of the list of each group that a change falls into, of at
+    /// most 64 chunks, and a copy of each chunk that one falls into, of at most 256 entries.
     pub fn change(&mut self, alloc: Global, changes: &[(VertexId, Option<V>)]) -> Result<(), Memory>
         requires { ChangesRise changes.now }
         ensures ok { OnOk result (self.new ≡ with_changes changes.now self.old) }
         ensures err { OnErr result (self.new ≡ self.old) }
     {
-        let made = changed(alloc, self.chunks.as_slice(), changes)?;
+        let made = changed(alloc, self.groups.as_slice(), changes)?;
         let count = counted(made.as_slice())?;
-        self.chunks = Spine::of(alloc, made)?;
+        self.groups = Spine::of(alloc, made)?;
         self.count = count;
         Ok(())
     }
 }
 
 impl<V: Pack> Map<V> {
-    /// Lays the values anew, chunk by chunk, as `V` says and as far as there is memory for it. Where a
-    /// copy shares the map's memory, all stays as it is.
+    /// Lays the values anew, chunk by chunk, as `V` says and as far as there is memory for it. What a copy
+    /// shares of the map's memory stays as it is.
     pub fn pack(&mut self, alloc: Global)
         ensures { self.new ≡ self.old }
     {
-        pack_spine(alloc, &mut self.chunks);
+        pack_spine(alloc, &mut self.groups);
     }
 }

@@ -1,10 +1,13 @@
 //! Walks over a map by rising id.
-ghost use Rattle.std.specs.Prelude.{◌≡◌, length};
+ghost use Rattle.std.specs.Prelude.{◌≡◌, [], ◌++◌, length};
 ghost use Rattle.std.specs.Iterator.{at_most};
 ghost use Rattle.std.specs.Map.Iter.{TakesFirst, deref, deref_pair};
+ghost use Rattle.pg_map.specs.Chunks.{AreChunks, AreGroups, all_of, entries_of};
+ghost use Rattle.pg_map.specs.Entries.{HasRisingIds, entries_from};
 
 use crate::VertexId;
-use crate::chunk::Chunk;
+use crate::find::begun;
+use crate::part::{Chunk, Group, is_below};
 use std::marker::Model;
 
 /// The entries of a map that are left on a walk. A contract sees the list of them.
@@ -12,6 +15,7 @@ use std::marker::Model;
 pub struct Iter<'a, V> {
     pub(crate) entries: &'a [(VertexId, V)],
     pub(crate) chunks: &'a [Chunk<V>],
+    pub(crate) groups: &'a [Group<V>],
 }
 
 impl<'a, V> Model for Iter<'a, V> {
@@ -19,11 +23,11 @@ impl<'a, V> Model for Iter<'a, V> {
 
     ghost Value = { List (ℕ × V) };
 
-    ghost use Rattle.pg_map.specs.Chunks.{HaveFirsts, entries_of};
+    ghost use Rattle.pg_map.specs.Chunks.{AreChunks, AreGroups, all_of, entries_of};
 
-    ghost view = { λ it. it.entries.now ++ entries_of it.chunks.now };
+    ghost view = { λ it. it.entries.now ++ (entries_of it.chunks.now ++ all_of it.groups.now) };
 
-    ghost invariant = { λ it. HaveFirsts it.chunks.now };
+    ghost invariant = { λ it. AreChunks it.chunks.now × AreGroups it.groups.now };
 }
 
 impl<'a, V> Iterator for Iter<'a, V> {
@@ -35,14 +39,51 @@ impl<'a, V> Iterator for Iter<'a, V> {
 
     fn next(&mut self) -> Option<(&'a VertexId, &'a V)> {
         if self.entries.is_empty() {
-            let (chunk, later) = self.chunks.split_first()?;
-            self.entries = chunk.entries.as_slice();
+            let (chunks, groups) = opened(self.chunks, self.groups);
+            let (chunk, later) = chunks.split_first()?;
+            self.entries = chunk.items.as_slice();
             self.chunks = later;
+            self.groups = groups;
         }
         let (entry, later) = self.entries.split_first()?;
         self.entries = later;
         Some((&entry.0, &entry.1))
     }
+}
+
+/// These chunks and groups, or where there are no chunks, those of the first group and the later groups.
+fn opened<'a, V>(chunks: &'a [Chunk<V>], groups: &'a [Group<V>]) -> (&'a [Chunk<V>], &'a [Group<V>])
+    requires chunks { AreChunks chunks.now }
+    requires groups { AreGroups groups.now }
+    ensures entries { entries_of result.0.now ++ all_of result.1.now ≡ entries_of chunks.now ++ all_of groups.now }
+    ensures chunks { AreChunks result.0.now }
+    ensures groups { AreGroups result.1.now }
+    ensures none { result.0.now ≡ [] → result.1.now ≡ [] }
+{
+    if chunks.is_empty() {
+        if let Some((group, later)) = groups.split_first() {
+            return (group.items.as_slice(), later);
+        }
+    }
+    (chunks, groups)
+}
+
+/// The entries of these chunks from an id on: what is left of one chunk, and the chunks after it.
+pub(crate) fn chunks_from<V>(chunks: &[Chunk<V>], id: VertexId) -> (&[(VertexId, V)], &[Chunk<V>])
+    requires chunks { AreChunks chunks.now }
+    requires rise { HasRisingIds (entries_of chunks.now) }
+    ensures entries { result.0.now ++ entries_of result.1.now ≡ entries_from id (entries_of chunks.now) }
+    ensures chunks { AreChunks result.1.now }
+{
+    let after = begun(chunks, 0, id);
+    if after == 0 {
+        return (&[], chunks);
+    }
+    let entries = chunks[after - 1].items.as_slice();
+    let place = entries.partition_point(|entry| is_below(entry.0, id));
+    let (_, entries) = entries.split_at(place);
+    let (_, chunks) = chunks.split_at(after);
+    (entries, chunks)
 }
 
 /// The ids of a map that are left on a walk. A contract sees the list of them.

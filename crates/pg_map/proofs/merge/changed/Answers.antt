@@ -1,31 +1,32 @@
 use Rattle.std.proofs.Common.{◌∙◌, subst}
-use Rattle.pg_map.specs.Chunks.{HaveFirsts, entries_of, listed}
+use Rattle.pg_map.specs.Chunks.{AreGroups, all_of, grouped}
 use Rattle.pg_map.specs.Entries.{ChangesRise, HasRisingIds}
-use Rattle.pg_map.proofs.Chunked.{chunk_turn}
+use Rattle.pg_map.proofs.InParts.{part_turn}
 use Rattle.pg_map.proofs.Parts.{rises_left, rises_right}
 use Rattle.pg_map.proofs.merge.changed.Goals as goal
 
-pub merge_chunk-requires-clause-changes_rise : goal.merge_chunk-requires-clause-changes_rise
-merge_chunk-requires-clause-changes_rise g c =
-    rises_left c.split_at.result.0.now c.split_at.result.1.now (subst ChangesRise c.split_at.ensures.by_index.0 c.loop-chunk.invariant.changes_rise)
+pub merge_group-requires-clause-changes_rise : goal.merge_group-requires-clause-changes_rise
+merge_group-requires-clause-changes_rise g c =
+    rises_left c.split_at.result.0.now c.split_at.result.1.now (subst ChangesRise c.split_at.ensures.by_index.0 c.loop-group.invariant.changes_rise)
 
-pub merge_chunk-requires-clause-entries_rise : goal.merge_chunk-requires-clause-entries_rise
-merge_chunk-requires-clause-entries_rise g c =
-    rises_left (listed c.in-Some.chunk.now) (entries_of c.in-Some.others.now)
-    (subst (λ l. HasRisingIds (entries_of l)) c.in-Some.ensures.cases.0 c.loop-chunk.invariant.entries_rise)
+pub merge_group-requires-clause-entries_rise : goal.merge_group-requires-clause-entries_rise
+merge_group-requires-clause-entries_rise g c =
+    rises_left (grouped c.in-Some.group.now) (all_of c.in-Some.others.now)
+    (subst (λ l. HasRisingIds (all_of l)) c.in-Some.ensures.cases.0 c.loop-group.invariant.entries_rise)
 
-pub loop-chunk-preserved : goal.loop-chunk-preserved
-loop-chunk-preserved g c =
-    let now = c.loop-chunk in
+pub loop-group-preserved : goal.loop-group-preserved
+loop-group-preserved g c =
+    let now = c.loop-group in
     let at = c.in-Some.ensures.cases.0 in
     let here = c.split_at.result.0.now in
     let later = c.split_at.result.1.now in
     let parts = c.split_at.ensures.by_index.0 in
+    let groups = subst AreGroups at now.invariant.groups in
     record {
-      made = chunk_turn now.gathering _ now.left.now c.in-Some.others.now c.in-Some.chunk.now now.todo.now here later c.cut_of.result at parts c.split_at.ensures.front c.split_at.ensures.back now.invariant.firsts now.invariant.entries_rise c.cut_of.ensures.cut c.in_ok-merge_chunk.ensures
+      made = part_turn grouped now.gathering _ now.left.now c.in-Some.others.now c.in-Some.group.now now.todo.now here later c.cut_of.result at parts c.split_at.ensures.front c.split_at.ensures.back now.invariant.groups.0 now.invariant.entries_rise c.cut_of.ensures.cut c.in_ok-merge_group.ensures
           ∙ now.invariant.made;
-      firsts = (subst HaveFirsts at now.invariant.firsts).1;
-      entries_rise = rises_right (listed c.in-Some.chunk.now) (entries_of c.in-Some.others.now)
-          (subst (λ l. HasRisingIds (entries_of l)) at now.invariant.entries_rise);
+      groups = (groups.0.1, groups.1.1);
+      entries_rise = rises_right (grouped c.in-Some.group.now) (all_of c.in-Some.others.now)
+          (subst (λ l. HasRisingIds (all_of l)) at now.invariant.entries_rise);
       changes_rise = rises_right here later (subst ChangesRise parts now.invariant.changes_rise);
     }

@@ -1,15 +1,15 @@
 use Rattle.std.proofs.Common.{◌≡◌, ◌++◌, length}
-use Rattle.pg_map.specs.Chunks.{HaveFirsts, entries_of}
+use Rattle.pg_map.specs.Chunks.{AreGroups, all_of}
 use Rattle.pg_map.specs.Entries.{ChangesRise, HasRisingIds, with_changes}
 use Rattle.pg_map.proofs.merge.changed.Given as goal
 
-abbrev pub invariant-loop-chunk : goal.invariant-loop-chunk
-invariant-loop-chunk g l = record {
-  made : l.gathering ++ with_changes l.todo (entries_of l.left) ≡ with_changes l.changes (entries_of l.chunks);
-  firsts : HaveFirsts l.left;
-  entries_rise : HasRisingIds (entries_of l.left);
+abbrev pub invariant-loop-group : goal.invariant-loop-group
+invariant-loop-group g l = record {
+  made : l.gathering ++ with_changes l.todo (all_of l.left) ≡ with_changes l.changes (all_of l.groups);
+  groups : AreGroups l.left;
+  entries_rise : HasRisingIds (all_of l.left);
   changes_rise : ChangesRise l.todo;
 }
 
-abbrev pub decreases-loop-chunk : goal.decreases-loop-chunk
-decreases-loop-chunk g l = length l.left
+abbrev pub decreases-loop-group : goal.decreases-loop-group
+decreases-loop-group g l = length l.left

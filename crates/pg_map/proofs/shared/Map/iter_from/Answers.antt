@@ -1,50 +1,53 @@
-use Rattle.std.proofs.Common.{of_calls, leb, ltb, length, drop, rules, arith, sym, ap, ◌++◌, ◌∙◌, ◌+◌, ◌-◌, ◌≡◌, subst}
-use Rattle.std.proofs.lemmas.Fn.{always_returns_same}
-use Rattle.std.proofs.lemmas.List.Sorted.{IsPartitionedBy-leb, IsPartitionedBy-ltb}
+use Rattle.std.proofs.Common.{length, arith, sym, ap, append_assoc, ◌++◌, ◌∙◌, ◌+◌, ◌-◌, ◌≡◌, subst}
 use Rattle.std.proofs.iter.runs.Sources.{from_front}
 use Rattle.std.specs.Map.Iter.{TakesFirst, deref_pair}
-use Rattle.pg_map.specs.Chunks.{HaveFirsts, entries_of, listed}
+use Rattle.pg_map.specs.Chunks.{AreGroups, all_of, chunks_in, entries_of, grouped}
 use Rattle.pg_map.specs.Entries.{HasRisingIds, entries_from}
-use Rattle.pg_map.proofs.Chunked.{firsts_rise, from_before, from_in, from_parts, rises_in}
-use Rattle.pg_map.proofs.Search.{rises}
+use Rattle.pg_map.proofs.InGroups.{from_there, rises_there}
+use Rattle.pg_map.proofs.InParts.{firsts_rise, from_before}
 use Rattle.pg_map.proofs.shared.Map.iter_from.Goals as goal
 
 pub returns-clause-runs : goal.returns-clause-runs
 returns-clause-runs g c = from_front (TakesFirst deref_pair) deref_pair (λ s. s) (λ s t h. ap length h.0) (λ s x t h. h)
 
+pub begun-after-requires : goal.begun-after-requires
+begun-after-requires g c =
+    let are = subst AreGroups (sym c.as_slice-groups.ensures) c.self.invariant.groups_are in
+    firsts_rise grouped c.as_slice-groups.result.now are.0
+    (subst (λ l. HasRisingIds (all_of l)) (sym c.as_slice-groups.ensures) c.self.invariant.rise)
+
 pub returns-then-after-eq0-clause-rest : goal.returns-then-after-eq0-clause-rest
 returns-then-after-eq0-clause-rest g c =
     let id = c.args.id in
-    let chunks = c.as_slice-chunks.result.now in
-    let firsts = subst HaveFirsts (sym c.as_slice-chunks.ensures) c.self.invariant.firsts in
-    let rising = subst (λ l. HasRisingIds (entries_of l)) (sym c.as_slice-chunks.ensures) c.self.invariant.rise in
-    let parts = c.partition_point-after.ensures.partitioned (λ y. leb y.first id) (always_returns_same _ _ _ (λ a r f k. search (rules, of_calls)))
-    (IsPartitionedBy-leb (λ y. y.first) chunks id (firsts_rise chunks firsts rising)) in
-    let view = ap entries_of c.as_slice-chunks.ensures ∙ c.self.view_is in
-    c.iter.ensures.rest ∙ sym view ∙ sym (from_before id chunks c.partition_point-after.result firsts rising parts c.if-after-eq0.true)
+    let groups = c.as_slice-groups.result.now in
+    let are = subst AreGroups (sym c.as_slice-groups.ensures) c.self.invariant.groups_are in
+    let rising = subst (λ l. HasRisingIds (all_of l)) (sym c.as_slice-groups.ensures) c.self.invariant.rise in
+    let view = ap all_of c.as_slice-groups.ensures ∙ c.self.view_is in
+    c.iter.ensures.rest ∙ sym view
+    ∙ sym (from_before grouped id groups c.begun-after.result are.0 rising c.begun-after.ensures.parts c.if-after-eq0.true)
     ∙ ap (entries_from id) view
+
+pub chunks_from-requires-clause-rise : goal.chunks_from-requires-clause-rise
+chunks_from-requires-clause-rise g c =
+    let after = c.begun-after.result in
+    let last : after - 1 + 1 ≡ after = omega (arith, c.if-after-eq0.false) in
+    let is = c.as_slice.ensures.value ∙ ap (λ v. v.items) c.deref.ensures ∙ sym (ap chunks_in c.index-groups-after.is) in
+    rises_there c.as_slice-groups.result.now (subst AreGroups (sym c.as_slice-groups.ensures) c.self.invariant.groups_are)
+    (subst (λ l. HasRisingIds (all_of l)) (sym c.as_slice-groups.ensures) c.self.invariant.rise) c.args.id after c.begun-after.ensures.parts (after - 1) last
+    c.begun-after.ensures.bound c.index-groups-after.result c.index-groups-after.is c.as_slice.result.now is
 
 pub returns-clause-rest : goal.returns-clause-rest
 returns-clause-rest g c =
     let id = c.args.id in
-    let chunks = c.as_slice-chunks.result.now in
-    let firsts = subst HaveFirsts (sym c.as_slice-chunks.ensures) c.self.invariant.firsts in
-    let rising = subst (λ l. HasRisingIds (entries_of l)) (sym c.as_slice-chunks.ensures) c.self.invariant.rise in
-    let parts = c.partition_point-after.ensures.partitioned (λ y. leb y.first id) (always_returns_same _ _ _ (λ a r f k. search (rules, of_calls)))
-    (IsPartitionedBy-leb (λ y. y.first) chunks id (firsts_rise chunks firsts rising)) in
-    let after = c.partition_point-after.result in
-    let chunk = c.index-chunks-after.result in
+    let after = c.begun-after.result in
     let last : after - 1 + 1 ≡ after = omega (arith, c.if-after-eq0.false) in
-    let entries = c.as_slice-entries.result.now in
-    let listed_is = c.as_slice-entries.ensures.value ∙ ap (λ v. v.items) c.deref.ensures ∙ sym (ap listed c.index-chunks-after.is) in
-    let rising' = subst HasRisingIds (sym listed_is)
-    (rises_in id chunks after firsts rising parts (after - 1) last c.partition_point-after.ensures.bound chunk c.index-chunks-after.is) in
-    let place = c.partition_point-place.result in
-    let parts' = c.partition_point-place.ensures.partitioned (λ y. ltb y.0 id) (always_returns_same _ _ _ (λ a r f k. search (rules, of_calls)))
-    (IsPartitionedBy-ltb (λ y. y.0) entries id (λ i j d h w. rises entries i j d rising' h w)) in
-    let view = ap entries_of c.as_slice-chunks.ensures ∙ c.self.view_is in
-    let same = from_in id chunks after firsts rising parts (after - 1) last c.partition_point-after.ensures.bound chunk c.index-chunks-after.is in
-    let cut = from_parts id entries place c.partition_point-place.ensures.bound parts' in
-    ap (λ l. l ++ entries_of c.split_at-2.result.1.now) c.split_at.ensures.back
-    ∙ ap (λ l. drop place entries ++ entries_of l) c.split_at-2.ensures.back
-    ∙ ap (λ l. l ++ entries_of (drop after chunks)) (cut ∙ ap (entries_from id) listed_is) ∙ sym same ∙ ap (entries_from id) view
+    let is = c.as_slice.ensures.value ∙ ap (λ v. v.items) c.deref.ensures ∙ sym (ap chunks_in c.index-groups-after.is) in
+    let there = from_there c.as_slice-groups.result.now (subst AreGroups (sym c.as_slice-groups.ensures) c.self.invariant.groups_are)
+    (subst (λ l. HasRisingIds (all_of l)) (sym c.as_slice-groups.ensures) c.self.invariant.rise) id after c.begun-after.ensures.parts (after - 1) last
+    c.begun-after.ensures.bound c.index-groups-after.result c.index-groups-after.is c.as_slice.result.now is in
+    let chunks = c.chunks_from.result.1.now in
+    let later = c.split_at.result.1.now in
+    sym (append_assoc c.chunks_from.result.0.now (entries_of chunks) (all_of later))
+    ∙ ap (λ l. l ++ all_of later) c.chunks_from.ensures.entries
+    ∙ ap (λ l. entries_from id (entries_of c.as_slice.result.now) ++ all_of l) c.split_at.ensures.back
+    ∙ sym there ∙ ap (entries_from id) (ap all_of c.as_slice-groups.ensures ∙ c.self.view_is)

@@ -1,4 +1,4 @@
-use Rattle.pg_map.proofs.Chunked.{none_sound}
+use Rattle.pg_map.proofs.InParts.{none_sound}
 use Rattle.pg_map.proofs.shared.Map.new.Goals as goal
 
 pub invariant_of-result : goal.invariant_of-result
