@@ -273,7 +273,8 @@ impl<V: Plain, M: Plain> Part<V, M> {
     }
 
     /// What it leaves of a run of so many supersteps, at the end of which it stands. Costs what is cut where the old run
-    /// was longer, and O(1) a vertex that ran where there was none.
+    /// was longer, and O(1) a vertex that ran where there was none; beside an old run it copies the chunks of the trace's
+    /// index with the vertices whose records are others.
     pub fn leave(self, alloc: Global, supersteps: Superstep) -> Result<Left<V, M>, Memory>
         ensures { IfOk result (λ left. (job : Job V M) (kept : Option GraphRows) (rows : GraphRows) (n p : ℕ)
             → supersteps ≡ run_length job rows → HoldsShare job kept rows n p supersteps self
