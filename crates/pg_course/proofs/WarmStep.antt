@@ -337,7 +337,7 @@ module _ {V M : Type 0} (value_eq : V → V → Bool) (message_eq : M → M → 
   alike_then : (id : ℕ) → belongs n p id ≡ true → AreTold value_eq trace next_trace (s + 1) looked_at
       → has_id (restless ++ (without course.resting looked_at ++ resting)) id ≡ false → state_at job old (s + 1) id ≡ state_at job rows (s + 1) id
   alike_then id mine told apart =
-      elim (cases_Bool (has_id looked_at id)) [ | inl seen ↦ compared seen | inr other ↦ elsewhere other ]
+      elim (cases_Bool (has_id looked_at id)) [ inl seen ↦ compared seen | inr other ↦ elsewhere other ]
     where
       both_parts : (has_id restless id ≡ false) × (has_id (without course.resting looked_at ++ resting) id ≡ false)
       both_parts = in_neither restless (without course.resting looked_at ++ resting) _ refl id apart
@@ -372,7 +372,7 @@ module _ {V M : Type 0} (value_eq : V → V → Bool) (message_eq : M → M → 
   rest_then : (id : ℕ) → belongs n p id ≡ true → has_id (without course.resting looked_at ++ resting) id ≡ true
       → are_resting (state_at job old (s + 1) id) (state_at job rows (s + 1) id) ≡ true
   rest_then id mine among =
-      elim (in_either (without course.resting looked_at) resting id among) [ | inl before ↦ as_before before | inr found ↦ as_found found ]
+      elim (in_either (without course.resting looked_at) resting id among) [ inl before ↦ as_before before | inr found ↦ as_found found ]
     where
       as_before : has_id (without course.resting looked_at) id ≡ true → are_resting (state_at job old (s + 1) id) (state_at job rows (s + 1) id) ≡ true
       as_before before =

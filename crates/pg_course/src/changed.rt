@@ -55,7 +55,13 @@ pub(crate) fn looked_at<V: Plain, M: Plain, C: MessageCombiner<M>>(
     let mut ids = changed_before(alloc, partitions, partition, superstep, logs, old_logs)?;
     add_all(&mut ids, differing.restless.as_slice())?;
     let lent = lent_bundles(alloc, bundles)?;
-    add_receiving(alloc, &mut ids, differing.resting.as_slice(), lent.as_slice(), combiner)?;
+    add_receiving(
+        alloc,
+        &mut ids,
+        differing.resting.as_slice(),
+        lent.as_slice(),
+        combiner,
+    )?;
     add_awake(alloc, &mut ids, superstep, trace, seen)?;
     Ok(rising(ids))
 }

@@ -13,7 +13,7 @@ returns g c =
     let lent : (id : ℕ) → has_id c.rising.result.items id ≡ false → has_id c.add_receiving.new.ids.items id ≡ false =
     λ id other. (c.in_ok-add_awake.ensures id (before id other)).0 in
     let received : (id : ℕ) → has_id c.rising.result.items id ≡ false → (has_id c.add_all.new.ids.items id ≡ false)
-        × (has_id c.as_slice-2.result.now id ≡ true → Delivers combining id (map (λ b. b.now) c.as_slice-3.result.now) []) =
+    × (has_id c.as_slice-2.result.now id ≡ true → Delivers combining id (map (λ b. b.now) c.as_slice-3.result.now) []) =
     λ id other. c.in_ok-add_receiving.ensures id (lent id other) in
     let parts : (id : ℕ) → has_id c.rising.result.items id ≡ false → (has_id c.in_ok-ids.ids.items id ≡ false) × (has_id restless id ≡ false) =
     λ id other. in_neither c.in_ok-ids.ids.items restless c.add_all.new.ids.items (c.in_ok-add_all.ensures ∙ ap (λ l. c.in_ok-ids.ids.items ++ l) c.as_slice.ensures.value) id
