@@ -27,3 +27,18 @@ invariant_of-self-2 g c =
     (subst (λ shown. IsLawful limits declared registered inside.registry (after inside.state (Close Next)) (inside.history.items ++ Close Next ∷ []) parts shown tally) (sym c.in_ok-push.ensures.items)
     (IsLawful-next limits declared registered inside.registry inside.state inside.history.items parts shown inside.tally
     (IsLawful-shown limits declared registered inside.registry inside.state inside.history.items parts inside.shown.items inside.tally c.self.invariant visible seen) allowed tally places within more)))
+
+pub invariant_of-self-in_err-push-2 : goal.invariant_of-self-in_err-push-2
+invariant_of-self-in_err-push-2 g c =
+    let inside = c.self.inside in
+    let limits = inside.limits in
+    let declared = (g.P.Computation.program inside.program.now).declared in
+    let registered = (g.M.MasterCompute.master inside.master.now).registrations in
+    let parts = inside.parts.items in
+    let visible = c.in_ok-visible.visible in
+    let tally = c.args.tally in
+    let places = subst (λ core. length tally.gathered ≡ length (g.M.MasterCompute.master core.master).registrations) (sym c.self.view_is) c.requires.places in
+    let seen = c.in_ok-visible.ensures.places ∙ (ap length c.in_ok-seen.ensures ∙ places) in
+    subst (λ events. IsLawful limits declared registered inside.registry inside.state events parts c.push.new.self.items inside.tally) (sym c.in_err-push-2.ensures.items)
+    (subst (λ shown. IsLawful limits declared registered inside.registry inside.state inside.history.items parts shown inside.tally) (sym c.in_ok-push.ensures.items)
+    (IsLawful-shown limits declared registered inside.registry inside.state inside.history.items parts inside.shown.items inside.tally c.self.invariant visible seen))
