@@ -1,8 +1,9 @@
 #!/usr/bin/env bash
 # Times pregeld beside baseline.rs, a Pregel written by hand in plain Rust, on the same sessions.
 # usage: bench/compare.sh [small|full] [TURNS]        needs rustc and python3
-# For each shape: the import alone, the first refresh (the whole session less the import), the ratios, and
-# whether both wrote the same answers. Times are the least of TURNS turns (5), in seconds.
+# For each shape: the import alone, the first refresh (the whole session less the import), that of a program by hand
+# that keeps what pregeld keeps, the ratios, and whether all wrote the same answers. Times are the least of TURNS turns (5),
+# in seconds.
 # PREGELD names a built program in place of crates/pregeld_main/out/pregeld_main.
 set -eu
 bench=$(cd "$(dirname "$0")" && pwd)
@@ -22,6 +23,7 @@ from timing import least
 work, pregeld, turns = sys.argv[1], sys.argv[2], int(sys.argv[3])
 programs = {
     "by hand": [work + "/baseline"],
+    "keeping": [work + "/baseline", "--keep"],
     "pregeld": [pregeld, "--program", "sssp", "--limit", "10000"],
 }
 for shape in "random", "grid":
@@ -34,12 +36,12 @@ for shape in "random", "grid":
         turns,
     )
     seconds = {name: taken for name, (taken, _) in times.items()}
-    same = times["by hand", "whole"][1] == times["pregeld", "whole"][1]
-    for part in "import", "refresh":
+    same = len({times[who, "whole"][1] for who in programs}) == 1
+    for part, whom in ("import", "by hand"), ("refresh", "by hand"), ("refresh", "keeping"):
         hand, ours = (
             seconds[who, "import"] if part == "import" else seconds[who, "whole"] - seconds[who, "import"]
-            for who in ("by hand", "pregeld")
+            for who in (whom, "pregeld")
         )
-        print(f"{shape:7} {part:8} by hand {hand:6.3f} s, pregeld {ours:6.3f} s, ratio {ours / max(hand, 1e-3):.2f}")
+        print(f"{shape:7} {part:8} {whom} {hand:6.3f} s, pregeld {ours:6.3f} s, ratio {ours / max(hand, 1e-3):.2f}")
     print(f"{shape:7} answers  {'the same' if same else 'DIFFERENT'}")
 P

@@ -77,6 +77,19 @@ module _ {M : Type 0} where
       by false e true = refl
       by false e false = find-insert_other es k [] id (other_key id k e)
 
+  -- all that receive something
+  pub are_receivers : (combining : Option (Combining M)) (bundles : List (Parcels M)) (inboxes : List (ℕ × List M)) → AreInboxes combining bundles inboxes
+      → AreCallees combining bundles [] true inboxes
+  are_receivers combining bundles inboxes are = record {
+    rise = are.rise;
+    delivered = all_from_lookups (λ c. Delivers combining c.0 bundles c.1) inboxes are.rise (λ id inbox e. told id (Some inbox) e);
+    have = λ id h. absurd (true≢false (sym h));
+    others = λ _ id h. told id None (not_key id inboxes h);
+  }
+    where
+      told : (id : ℕ) (o : Option (List M)) → value_at id inboxes ≡ o → Delivers combining id bundles (elim o [ None ↦ [] | Some inbox ↦ inbox ])
+      told id o e = subst (λ (o : Option (List M)). Delivers combining id bundles (elim o [ None ↦ [] | Some inbox ↦ inbox ])) e (are.told id)
+
   module _ (combining : Option (Combining M)) (bundles : List (Parcels M)) (ids : List ℕ) (inboxes : List (ℕ × List M)) (are : AreInboxes combining bundles inboxes) where
     all : List (ℕ × List M)
     all = with_empty ids inboxes

@@ -95,7 +95,8 @@ fn callees<M: Plain, C: MessageCombiner<M>>(
     Ok(callees)
 }
 
-/// These vertices and all that receive something.
+/// These vertices and all that receive something. Where no vertex is given it costs what the inboxes do, and else a
+/// look-up among all of them for each besides.
 fn all_callees<M: Plain, C: MessageCombiner<M>>(
     alloc: Global,
     bundles: &[&Bundle<M>],
@@ -106,6 +107,9 @@ fn all_callees<M: Plain, C: MessageCombiner<M>>(
         AreCallees (C.combining combiner.now) (map (λ b. b.now) bundles.now) ids.now true callees.items) }
 {
     let inboxes = inboxes(alloc, bundles, combiner)?;
+    if ids.is_empty() {
+        return Ok(inboxes);
+    }
     let callees = with_empty(alloc, ids, inboxes)?;
     Ok(callees)
 }
