@@ -14,6 +14,7 @@ use pg_model::Sequence;
 use pg_program::Plain;
 use pg_recount::{
     census_among, contribute_alike, contributions, gathered, recounted, traffic, traffic_beside,
+    turned_among,
 };
 use pg_stats::{Census, PartitionStats, Traffic};
 use pg_trace::Trace;
@@ -78,8 +79,22 @@ pub(crate) fn recensus<V: Plain, M: Plain>(
     recounted(before, gone, come)
 }
 
+/// The census after a superstep, by that before it, where all other vertices have the same states before and after it.
+/// Costs a look-up for each of these.
+fn census_after<V: Plain, M: Plain>(
+    before: Census,
+    trace: &Trace<V, M>,
+    superstep: Superstep,
+    ids: &[VertexId],
+) -> Result<Census, Memory>
+    ensures { IfOk result (λ after. IsRecensus trace.now superstep trace.now (superstep + 1) ids.now before after) }
+{
+    let turned = turned_among(trace, superstep, ids)?;
+    recounted(before, turned.gone, turned.come)
+}
+
 /// The census after a superstep, by that before it and by those of the old run before and after it, where all other
-/// vertices were moved as in the old run, or not at all. Costs four look-ups for each of these.
+/// vertices were moved as in the old run, or not at all. Costs two look-ups for each of these.
 fn census_beside<V: Plain, M: Plain>(
     old: &Trace<V, M>,
     new: &Trace<V, M>,
@@ -89,12 +104,10 @@ fn census_beside<V: Plain, M: Plain>(
     old_before: Census,
     old_after: Census,
 ) -> Result<Census, Memory>
-    requires { superstep + 1 < 2 ^ 32 }
     ensures { IfOk result (λ after. IsCountedBeside old.now new.now superstep ids.now before old_before old_after after) }
 {
-    let next = Superstep::new(superstep.number() + 1);
-    let turned = recensus(before, new, superstep, new, next, ids)?;
-    let old_turned = recensus(old_before, old, superstep, old, next, ids)?;
+    let turned = census_after(before, new, superstep, ids)?;
+    let old_turned = census_after(old_before, old, superstep, ids)?;
     recounted(turned, old_turned, old_after)
 }
 
@@ -121,14 +134,12 @@ fn stats_after<V: Plain, M: Plain>(
     bundles: &[Logged<M>],
     before: &PartitionStats,
 ) -> Result<PartitionStats, Memory>
-    requires { superstep + 1 < 2 ^ 32 }
     ensures { IfOk result (λ after. IsReckoned registry.now graph.now course.now superstep bundles.now before.now after) }
 {
     let trace = course.trace();
-    let next = Superstep::new(superstep.number() + 1);
     let changed = course.changed();
     Ok(PartitionStats {
-        census: recensus(before.census, trace, superstep, trace, next, changed)?,
+        census: census_after(before.census, trace, superstep, changed)?,
         traffic: traffic(bundles, graph, course.missing())?,
         gathered: gathered_in(alloc, registry, trace, superstep)?,
     })
@@ -149,8 +160,7 @@ fn stats_beside<V: Plain, M: Plain>(
     old_before: &PartitionStats,
     old_after: &PartitionStats,
 ) -> Result<PartitionStats, Memory>
-    requires counts { superstep + 1 < 2 ^ 32 }
-    requires few { length bundles.now ≤ 64 }
+    requires { length bundles.now ≤ 64 }
     ensures { IfOk result (λ after. IsReckonedBeside registry.now graph.now moved.now old.now old_logs.now course.now
         superstep bundles.now before.now old_before.now old_after.now after) }
 {

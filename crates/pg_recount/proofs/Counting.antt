@@ -1,6 +1,6 @@
 -- Censuses of more vertices.
-use Rattle.std.proofs.Common.{◌≡◌, ℕ, cond, not, Bool, true, false, List, [], ◌∷◌, ◌++◌, length, refl, ap, subst, sym, ◌∙◌, zero-add, sum_by}
-use Rattle.std.proofs.lemmas.List.{length-append}
+use Rattle.std.proofs.Common.{◌≡◌, ℕ, cond, not, Bool, true, false, List, [], ◌∷◌, ◌++◌, length, refl, ap, subst, sym, ◌∙◌, zero-add, sum_by, Option}
+use Rattle.std.proofs.lemmas.List.{append-nil, length-append}
 use Rattle.std.proofs.lemmas.Grind.{flat_map-append}
 use Rattle.std.proofs.lemmas.List.Sums.{sum_by-append}
 use Rattle.std.specs.Option.{option_to_list}
@@ -52,3 +52,10 @@ module _ {V : Type 0} where
         same_sum (census_of (states_among s ids trace)) (census_of (states_among s (id ∷ []) trace)) after _ h
         (census-append (states_among s ids trace) (states_among s (id ∷ []) trace))
         ∙ ap census_of (sym more)
+
+    -- the same where that state was found
+    pub with_push : (ids : List ℕ) (id : ℕ) (found : Option (VertexState V)) (after : Census) → found ≡ state_at id s trace
+        → IsSum (census_of (states_among s ids trace)) (census_of (option_to_list found)) after → after ≡ census_of (states_among s (ids ++ id ∷ []) trace)
+    with_push ids id found after is h =
+        among_push ids id after
+        (subst (λ l. IsSum (census_of (states_among s ids trace)) (census_of l) after) (ap option_to_list is ∙ sym (append-nil (option_to_list (state_at id s trace)))) h)

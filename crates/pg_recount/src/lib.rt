@@ -8,4 +8,4 @@ mod vertices;
 pub use gathering::{contribute_alike, contributions, gathered};
 pub use messages::{traffic, traffic_beside};
 pub use pg_graph::Memory;
-pub use vertices::{census, census_among, recounted};
+pub use vertices::{Turned, census, census_among, recounted, turned_among};

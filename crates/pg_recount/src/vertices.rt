@@ -1,5 +1,6 @@
 //! How many vertices there are, from how many there were.
 ghost use Rattle.std.specs.Prelude.{◌≡◌, [], ◌∷◌, ◌+◌, not, length, cond, IfOk};
+ghost use Rattle.std.specs.Option.{option_to_list};
 ghost use Rattle.pg_recount.specs.Census.{IsRecounted, IsSum, of_none, of_one, states_among};
 ghost use Rattle.pg_stats.specs.Stats.{census_of};
 
@@ -7,7 +8,7 @@ use pg_graph::{Memory, Superstep, VertexId};
 use pg_model::VertexState;
 use pg_program::Plain;
 use pg_stats::Census;
-use pg_trace::{States, Trace};
+use pg_trace::{StateRef, States, Trace};
 use std::alloc::AllocError;
 
 /// The census of these vertices.
@@ -37,6 +38,37 @@ pub fn census_among<V: Plain, M: Plain>(
         census = with_vertex_at(census, &mut states, superstep, *id)?;
     }
     Ok(census)
+}
+
+/// The censuses of some vertices before and after a superstep.
+#[derive(Clone, Copy, Debug, PartialEq, Eq)]
+pub struct Turned {
+    /// Of those that have a state as the superstep begins.
+    pub gone: Census,
+    /// Of those that have a state as the next one begins.
+    pub come: Census,
+}
+
+/// The censuses of those of these vertices that have a state as a superstep begins, and as the next one begins. Costs one
+/// look-up for each.
+#[tactic(auto, using(crate::proofs::Counting::with_push))]
+pub fn turned_among<V: Plain, M: Plain>(
+    trace: &Trace<V, M>,
+    superstep: Superstep,
+    ids: &[VertexId],
+) -> Result<Turned, Memory>
+    ensures gone { IfOk result (λ turned. turned.gone ≡ census_of (states_among superstep ids.now trace.now)) }
+    ensures come { IfOk result (λ turned. turned.come ≡ census_of (states_among (superstep + 1) ids.now trace.now)) }
+{
+    let mut states = trace.states();
+    let mut gone = nobody();
+    let mut come = nobody();
+    for id in ids {
+        let turn = states.turn_at(*id, superstep);
+        gone = with_state(gone, turn.before)?;
+        come = with_state(come, turn.after)?;
+    }
+    Ok(Turned { gone, come })
 }
 
 /// The census of before, without those that are gone and with those that have come.
@@ -78,6 +110,16 @@ fn with_vertex(census: Census, degree: usize, halted: bool) -> Result<Census, Me
         edges: census.edges.checked_add(degree as u64).ok_or(AllocError)?,
         awake: census.awake.checked_add(one_if(!halted)).ok_or(AllocError)?,
     })
+}
+
+/// With the vertex that has this state more, if there is one.
+fn with_state<V: Plain>(census: Census, state: Option<StateRef<'_, V>>) -> Result<Census, Memory>
+    ensures { IfOk result (λ after. IsSum census (census_of (option_to_list state)) after) }
+{
+    match state {
+        Some(state) => with_vertex(census, state.edges().as_slice().len(), state.halted()),
+        None => Ok(census),
+    }
 }
 
 /// With one vertex more, where it has a state.

@@ -2,7 +2,7 @@
 use Rattle.std.proofs.Common.{◌≡◌, ℕ, zero, suc, ◌+◌, ◌<◌, ◌≤◌, ◌-◌, ◌==◌, Bool, true, false, cond, List, [], ◌∷◌, ◌++◌, length, get_or, set, take, Option, None, Some, is_some, unwrap_or, refl, sym, ap, ◌∙◌, arith, ltb, true≢false}
 use Rattle.std.specs.List.{filter}
 use Rattle.std.specs.List.Sorted.{IsNonDecreasingBy, IsPartitionPoint}
-use Rattle.std.specs.Option.{option_and_then, option_or}
+use Rattle.std.specs.Option.{option_and_then, option_eq, option_or}
 use Rattle.std.proofs.lemmas.Bool.{ltb-true, ltb-false}
 use Rattle.std.proofs.lemmas.Bool.Decides.{nat_tests}
 use Rattle.std.proofs.lemmas.List.{get_or-take, length-take}
@@ -253,3 +253,13 @@ last_of_all xs m last = sym (ap last_of (take_all xs) ∙ ap (λ k. last_of (tak
 
 pub one_at_least : (n : ℕ) → false ≡ (n == 0) → suc (n - 1) ≡ n
 one_at_least n h = grind (arith, nat_tests)
+
+same_number : (a b : ℕ) → true ≡ (a == b) → a ≡ b
+same_number a b h = grind (arith, nat_tests)
+
+-- two supersteps, or none, that are found equal
+pub same_step : (a b : Option ℕ) → true ≡ option_eq ◌==◌ a b → a ≡ b
+same_step None None h = refl
+same_step None (Some b) h = absurd (true≢false h)
+same_step (Some a) None h = absurd (true≢false h)
+same_step (Some a) (Some b) h = ap Some (same_number a b h)

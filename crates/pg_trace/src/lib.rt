@@ -15,6 +15,6 @@ mod trace;
 
 pub use pg_graph::Memory;
 pub use pg_model::Record;
-pub use state::StateRef;
+pub use state::{StateRef, Turn};
 pub use states::States;
 pub use trace::Trace;

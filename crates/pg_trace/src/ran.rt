@@ -1,6 +1,7 @@
 //! What an index has of a vertex, and what it has after a note.
-ghost use Rattle.std.specs.Prelude.{◌≡◌, ◌++◌, [], take, Some, IfOk, OnOk, slice_index_or};
-ghost use Rattle.std.specs.Option.{option_copied};
+ghost use Rattle.std.specs.Prelude.{◌≡◌, ◌++◌, ◌+◌, ◌<◌, ◌^◌, [], take, Some, IfOk, OnOk, slice_index_or};
+ghost use Rattle.std.specs.List.Sorted.{IsNonDecreasingBy};
+ghost use Rattle.std.specs.Option.{option_and_then, option_copied};
 ghost use Rattle.pg_map.specs.Entries.{value_at};
 ghost use Rattle.pg_trace.specs.Ran.{last_of, noted, ran_by, ran_in, steps_above, steps_below, steps_in, with_ran};
 ghost use Rattle.pg_trace.specs.Trace.{last_record};
@@ -23,12 +24,73 @@ pub(crate) fn last_before<'t, V: Drop, M: Drop>(
     requires { option_copied ran ≡ ran_in id supersteps.now }
     ensures { option_copied result ≡ last_record id (take superstep supersteps.now) }
 {
-    let ran = ran?;
-    let last = ran.last_below(superstep)?;
-    if ran.is_latest(last) {
-        return Some(ran.last().record());
+    let step = step_before(ran, superstep);
+    record_of(supersteps, ran, id, step)
+}
+
+/// The last records of a vertex before a superstep and before the next one. They are one where the vertex didn't run in
+/// the superstep.
+#[derive(Drop)]
+pub(crate) struct LastRecords<'t, V, M> {
+    pub(crate) before: Option<&'t Record<V, M>>,
+    pub(crate) after: Option<&'t Record<V, M>>,
+}
+
+/// The last records of a vertex before a superstep and before the next one, where an index has this of it. It costs what
+/// `last_before` does, twice where the vertex ran in the superstep.
+pub(crate) fn last_around<'t, V: Drop, M: Drop>(
+    supersteps: &'t [Map<Kept<V, M>>],
+    ran: Option<&'t Steps<V, M>>,
+    id: VertexId,
+    superstep: usize,
+) -> LastRecords<'t, V, M>
+    requires index { option_copied ran ≡ ran_in id supersteps.now }
+    requires counts { superstep + 1 < 2 ^ 64 }
+    ensures before { option_copied result.before ≡ last_record id (take superstep supersteps.now) }
+    ensures after { option_copied result.after ≡ last_record id (take (superstep + 1) supersteps.now) }
+{
+    let last = step_before(ran, superstep + 1);
+    let earlier = step_before(ran, superstep);
+    let after = record_of(supersteps, ran, id, last);
+    if earlier == last {
+        return LastRecords {
+            before: after,
+            after,
+        };
     }
-    let kept = kept_in(supersteps, id, last)?;
+    let before = record_of(supersteps, ran, id, earlier);
+    LastRecords { before, after }
+}
+
+/// The last superstep before this one in which a vertex ran, where an index has this of it.
+fn step_before<V: Drop, M: Drop>(ran: Option<&Steps<V, M>>, superstep: usize) -> Option<usize>
+    requires { IsNonDecreasingBy (λ t. t) (steps_in (option_copied ran)) }
+    ensures { result ≡ last_of (steps_below superstep (steps_in (option_copied ran.entry))) }
+{
+    match ran {
+        Some(ran) => ran.last_below(superstep),
+        None => None,
+    }
+}
+
+/// The record of a vertex in a superstep, if there is one, where an index has this of it. It is read from the index, or
+/// by two binary searches.
+fn record_of<'t, V: Drop, M: Drop>(
+    supersteps: &'t [Map<Kept<V, M>>],
+    ran: Option<&'t Steps<V, M>>,
+    id: VertexId,
+    step: Option<usize>,
+) -> Option<&'t Record<V, M>>
+    requires { option_copied ran ≡ ran_in id supersteps.now }
+    ensures { option_copied result ≡ option_and_then (λ t. value_at id (slice_index_or supersteps.now t [])) step }
+{
+    let step = step?;
+    if let Some(ran) = ran {
+        if ran.is_latest(step) {
+            return Some(ran.last().record());
+        }
+    }
+    let kept = kept_in(supersteps, id, step)?;
     Some(kept.record())
 }
 

@@ -76,3 +76,12 @@ impl<'a, V> StateRef<'a, V> {
         self.halted
     }
 }
+
+/// What a superstep makes of a vertex: its state as that begins, and as the next one begins.
+#[derive(Drop)]
+pub struct Turn<'a, V> {
+    /// The state as the superstep begins, if there is one.
+    pub before: Option<StateRef<'a, V>>,
+    /// The state as the next one begins, if there is one.
+    pub after: Option<StateRef<'a, V>>,
+}

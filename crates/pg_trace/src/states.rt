@@ -1,18 +1,18 @@
 //! Look-ups of states that come near one another.
-ghost use Rattle.std.specs.Prelude.{◌≡◌, take};
-ghost use Rattle.std.specs.Option.{option_copied};
+ghost use Rattle.std.specs.Prelude.{◌≡◌, ◌+◌, take};
+ghost use Rattle.std.specs.Option.{option_copied, option_map, option_or};
 ghost use Rattle.pg_trace.specs.OfRun.{IsOfRun};
 ghost use Rattle.pg_trace.specs.Ran.{IsIndex};
-ghost use Rattle.pg_trace.specs.Trace.{last_record, state_at};
+ghost use Rattle.pg_trace.specs.Trace.{last_record, left_by, state_at};
 
-use crate::StateRef;
 use crate::beginnings::{Beginnings, BegunFinder};
 use crate::index::{Index, IndexFinder};
 use crate::kept::Kept;
-use crate::ran::last_before;
+use crate::ran::{LastRecords, last_around, last_before};
+use crate::{StateRef, Turn};
 use pg_graph::{Superstep, VertexId};
 use pg_map::Map;
-use pg_model::Record;
+use pg_model::{Record, VertexState};
 use std::marker::Model;
 
 /// Looks up the states of vertices in a trace. Where an id lies near the one before, it costs a search near that.
@@ -65,6 +65,34 @@ impl<'a, V: Drop, M: Drop> States<'a, V, M> {
         self.state_before(id, superstep.number() as usize)
     }
 
+    /// The states of a vertex as a superstep begins and as the next one begins: those that `state_at` finds, by one look-up
+    /// of the vertex. Where it didn't run in the superstep both are one state, which is found once.
+    pub fn turn_at(&mut self, id: VertexId, superstep: Superstep) -> Turn<'a, V>
+        ensures before { result.before ≡ state_at id superstep self.old }
+        ensures after { result.after ≡ state_at id (superstep + 1) self.old }
+        ensures same { self.new ≡ self.old }
+    {
+        let supersteps = self.supersteps;
+        let ran = self.ran.get(id);
+        let LastRecords { before, after } = last_around(
+            supersteps,
+            ran,
+            id,
+            superstep.number() as usize,
+        );
+        if let (Some(before), Some(after)) = (before, after) {
+            return Turn {
+                before: Some(StateRef::of_record(id, before)),
+                after: Some(StateRef::of_record(id, after)),
+            };
+        }
+        let begun = self.initial.get(id);
+        Turn {
+            before: state_left(id, before, begun),
+            after: state_left(id, after, begun),
+        }
+    }
+
     /// The state of a vertex as a superstep begins.
     fn state_before(&mut self, id: VertexId, place: usize) -> Option<StateRef<'a, V>>
         ensures value { result ≡ state_at id place self.old }
@@ -87,5 +115,19 @@ impl<'a, V: Drop, M: Drop> States<'a, V, M> {
         let supersteps = self.supersteps;
         let ran = self.ran.get(id);
         last_before(supersteps, ran, id, place)
+    }
+}
+
+/// The state that a record leaves, or where there is none the one with which the vertex began.
+fn state_left<'a, V, M>(
+    id: VertexId,
+    left: Option<&'a Record<V, M>>,
+    begun: Option<&'a VertexState<V>>,
+) -> Option<StateRef<'a, V>>
+    ensures { result ≡ option_or (option_map (left_by id) (option_copied left.entry)) (option_copied begun.entry) }
+{
+    match left {
+        Some(left) => Some(StateRef::of_record(id, left)),
+        None => Some(StateRef::of_state(begun?)),
     }
 }
