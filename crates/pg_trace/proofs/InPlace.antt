@@ -1,5 +1,5 @@
 -- Notes that are made in place, one after another, and records that are put in the superstep that comes next.
-use Rattle.std.proofs.Common.{◌≡◌, ℕ, suc, ◌+◌, ◌-◌, ◌<◌, ◌≤◌, ◌==◌, ◌≢◌, ◌⊎◌, inl, inr, Bool, true, false, cond, List, [], ◌∷◌, ◌++◌, length, get_or, set, take, drop, Option, None, Some, unwrap_or, option_map, refl, sym, ap, ◌∙◌, subst, ⊎_elim, append_assoc, arith, ltb, eq-eqb}
+use Rattle.std.proofs.Common.{◌≡◌, ℕ, suc, ◌+◌, ◌-◌, ◌<◌, ◌≤◌, ◌==◌, ◌≢◌, ◌⊎◌, inl, inr, Bool, true, false, cond, List, [], ◌∷◌, ◌++◌, length, get_or, set, take, drop, Option, None, Some, is_some, true≢false, unwrap_or, option_map, refl, sym, ap, ◌∙◌, subst, ⊎_elim, append_assoc, arith, ltb, eq-eqb}
 use Rattle.std.specs.BTreeMap.{insert_entry, is_at}
 use Rattle.std.specs.List.{AllByRecursion, filter}
 use Rattle.std.specs.List.Sorted.{IsNonDecreasingBy}
@@ -15,7 +15,7 @@ use Rattle.pg_map.specs.Entries.{ChangesRise, HasRisingIds, value_at, with_chang
 use Rattle.pg_map.proofs.Changing.{value_at-with_changes}
 use Rattle.pg_map.proofs.Rising.{at_other, at_same, find-insert_other, find-insert_same, insert_entry-take}
 use Rattle.pg_model.specs.declared.record.Record.{Record}
-use Rattle.pg_trace.specs.Ran.{IsIndex, IsNoted, IsNotedOf, Ran, last_of, noted, ran_by, with_ran}
+use Rattle.pg_trace.specs.Ran.{IsIndex, IsNoted, IsNotedOf, Ran, last_of, noted, ran_by, remembered, with_ran}
 use Rattle.pg_trace.specs.Trace.{Trace, put_at, reaching, with_replaced, with_superstep}
 use Rattle.pg_trace.proofs.Noting.{index-next, index-set}
 use Rattle.pg_trace.proofs.Somes.{nothing_rises}
@@ -51,26 +51,47 @@ pub last_of_below : (s t : ℕ) (steps : List ℕ) → ((k : ℕ) → k < length
     → Some t ≡ last_of (filter (λ t. ltb t s) steps)
 last_of_below s t steps low last = last ∙ sym (ap last_of (all_below s steps low).0)
 
+last_low : (s t : ℕ) (steps : List ℕ) → ((k : ℕ) → k < length steps → get_or steps k 0 < s) → last_of steps ≡ Some t → t < s
+last_low s t [] low last = absurd (true≢false (sym (ap is_some last)))
+last_low s t (u ∷ steps) low last =
+    let at : t ≡ get_or (u ∷ steps) (length steps) 0 = ap (λ o. unwrap_or o 0) (sym last ∙ sym (last_of_all (u ∷ steps) (length steps) refl)) in
+    let below = low (length steps) (omega arith) in
+    omega (arith, at, below)
+
 module _ {X : Type 0} where
-  abbrev ran_at : List ℕ → (ℕ → Option X) → Option ℕ → Option (Ran X)
-  ran_at steps f None = None
-  ran_at steps f (Some t) = option_map {U = Ran X} (λ last. record { steps = steps; last = last }) (f t)
+  abbrev ran_at : List ℕ → Option (ℕ × X) → (ℕ → Option X) → Option ℕ → Option (Ran X)
+  ran_at steps e f None = None
+  ran_at steps e f (Some t) = option_map {U = Ran X} (λ last. record { steps = steps; last = last; earlier = e }) (f t)
+
+  -- where all supersteps are below one, the last of them is remembered
+  recalled : (s : ℕ) (ran : Ran X) → ((k : ℕ) → k < length ran.steps → get_or ran.steps k 0 < s)
+      → remembered s true (Some ran) ≡ option_map {U = ℕ × X} (λ t. (t, ran.last)) (last_of ran.steps)
+  recalled s ran low = by (last_of ran.steps) refl
+    where
+      by : (o : Option ℕ) → last_of ran.steps ≡ o
+          → elim o [ None ↦ None | Some t ↦ cond (ltb t s) (Some (t, ran.last)) None ] ≡ option_map {U = ℕ × X} (λ t. (t, ran.last)) o
+      by None last = refl
+      by (Some t) last = ap (λ b. cond b (Some (t, ran.last)) None) (lower t s (last_low s t ran.steps low last))
 
   noted_last : (id : ℕ) (records : List (List (ℕ × X))) (s : ℕ) (x : X) (ran : Ran X) → ((k : ℕ) → k < length ran.steps → get_or ran.steps k 0 < s)
-      → noted id records s (Some (Some x)) (Some ran) ≡ Some (record { steps = ran.steps ++ s ∷ []; last = x })
+      → noted id records s (Some (Some x)) (Some ran)
+      ≡ Some (record { steps = ran.steps ++ s ∷ []; last = x; earlier = option_map {U = ℕ × X} (λ t. (t, ran.last)) (last_of ran.steps) })
   noted_last id records s x ran low =
       let below = all_below s ran.steps low in
       let all = ran.steps ++ s ∷ [] in
+      let e = option_map {U = ℕ × X} (λ t. (t, ran.last)) (last_of ran.steps) in
       let steps : with_ran s true ran.steps ≡ all =
       ap (λ l. l ++ s ∷ [] ++ filter (λ t. ltb s t) ran.steps) below.0 ∙ ap (λ l. ran.steps ++ s ∷ [] ++ l) below.1 ∙ append-nil all in
-      ap (ran_by id records s (Some x)) steps
-      ∙ ap (ran_at all (λ t. cond (t == s) (Some x) (value_at id (get_or records t [])))) (last_of-push ran.steps s)
-      ∙ ap (λ b. option_map {U = Ran X} (λ last. record { steps = all; last = last }) (cond b (Some x) (value_at id (get_or records s [])))) (eq-eqb s s refl)
+      ap (λ e. ran_by id records s (Some x) e (with_ran s true ran.steps)) (recalled s ran low)
+      ∙ ap (ran_by id records s (Some x) e) steps
+      ∙ ap (ran_at all e (λ t. cond (t == s) (Some x) (value_at id (get_or records t [])))) (last_of-push ran.steps s)
+      ∙ ap (λ b. option_map {U = Ran X} (λ last. record { steps = all; last = last; earlier = e }) (cond b (Some x) (value_at id (get_or records s [])))) (eq-eqb s s refl)
 
   pub noted_pushed : (id : ℕ) (records : List (List (ℕ × X))) (s : ℕ) (x y : X) (ran ran' : Ran X) → ((k : ℕ) → k < length ran.steps → get_or ran.steps k 0 < s)
-      → ran' ≡ record { steps = ran.steps ++ s ∷ []; last = y } → y ≡ x → Some ran' ≡ noted id records s (Some (Some x)) (Some ran)
+      → ran' ≡ record { steps = ran.steps ++ s ∷ []; last = y; earlier = option_map {U = ℕ × X} (λ t. (t, ran.last)) (last_of ran.steps) } → y ≡ x
+      → Some ran' ≡ noted id records s (Some (Some x)) (Some ran)
   noted_pushed id records s x y ran ran' low pushed same =
-      let with_last : X → Ran X = λ k. record { steps = ran.steps ++ s ∷ []; last = k } in
+      let with_last : X → Ran X = λ k. record { steps = ran.steps ++ s ∷ []; last = k; earlier = option_map {U = ℕ × X} (λ t. (t, ran.last)) (last_of ran.steps) } in
       ap Some (pushed ∙ ap with_last same) ∙ sym (noted_last id records s x ran low)
 
 -- ---- one note after another

@@ -1,24 +1,31 @@
 //! The supersteps in which one vertex ran, and its last record.
-ghost use Rattle.std.specs.Prelude.{◌≡◌, ◌++◌, ◌∷◌, [], ℕ, ◌<◌, false, length, slice_index, Some, IfOk, OnErr, OnOk, IsTrue};
+ghost use Rattle.std.specs.Prelude.{◌≡◌, ◌++◌, ◌∷◌, [], ℕ, ◌<◌, false, length, slice_index, Some, IfOk, IfSome, OnErr, OnOk, IsTrue};
 ghost use Rattle.std.specs.Arc.{arc_value};
 ghost use Rattle.std.specs.List.Sorted.{IsNonDecreasingBy};
-ghost use Rattle.pg_trace.specs.Ran.{last_of, steps_below};
+ghost use Rattle.std.specs.Option.{option_map};
+ghost use Rattle.pg_trace.specs.Ran.{last_if_below, last_of, steps_below};
 
 use crate::kept::Kept;
 use pg_graph::Memory;
 use pg_map::Share;
 use std::alloc::Global;
 use std::marker::Model;
+use std::mem::replace;
 use std::sync::Arc;
 
 /// The supersteps in which a vertex ran, rising, and the record of the last of them. Copies share both. The last one is
-/// noted beside their list, so that most look-ups don't read that.
+/// noted beside their list, so that most look-ups don't read that. Of an earlier one the record may be remembered: of the
+/// last but one, where the last was added after it.
 #[derive(Drop)]
 pub(crate) struct Steps<V, M> {
     supersteps: Arc<Vec<usize>>,
     latest: usize,
     last: Kept<V, M>,
+    earlier: Earlier<V, M>,
 }
+
+/// A superstep with its record, if one is remembered.
+pub(crate) type Earlier<V, M> = Option<(usize, Kept<V, M>)>;
 
 impl<V, M> Model for Steps<V, M> {
     ghost use Rattle.std.specs.Arc.{arc_value};
@@ -28,7 +35,7 @@ impl<V, M> Model for Steps<V, M> {
 
     ghost Value = { Ran (Record V M) };
 
-    ghost view = { λ s. record { steps = (arc_value s.supersteps).items; last = s.last } };
+    ghost view = { λ s. record { steps = (arc_value s.supersteps).items; last = s.last; earlier = s.earlier } };
 
     ghost invariant = { λ s. Some s.latest ≡ last_of (arc_value s.supersteps).items };
 }
@@ -39,25 +46,38 @@ impl<V: Drop, M: Drop> Share for Steps<V, M> {
             supersteps: Arc::try_clone(&self.supersteps)?,
             latest: self.latest,
             last: self.last.share(alloc)?,
+            earlier: shared(alloc, &self.earlier)?,
         })
     }
 }
 
+/// What is remembered, shared.
+fn shared<V: Drop, M: Drop>(alloc: Global, earlier: &Earlier<V, M>) -> Result<Earlier<V, M>, Memory>
+    ensures { IfOk result (λ copy. copy ≡ earlier.now) }
+{
+    match earlier {
+        Some((step, kept)) => Ok(Some((*step, kept.share(alloc)?))),
+        None => Ok(None),
+    }
+}
+
 impl<V: Drop, M: Drop> Steps<V, M> {
-    /// These supersteps, of which this is the last, and a record.
+    /// These supersteps, of which this is the last, with a record and what is remembered.
     pub(crate) fn of(
         alloc: Global,
         supersteps: Vec<usize>,
         latest: usize,
         last: Kept<V, M>,
+        earlier: Earlier<V, M>,
     ) -> Result<Steps<V, M>, Memory>
         requires { Some latest ≡ last_of supersteps.items }
-        ensures { IfOk result (λ steps. steps ≡ record { steps = supersteps.items; last = last }) }
+        ensures { IfOk result (λ steps. steps ≡ record { steps = supersteps.items; last = last; earlier = earlier }) }
     {
         Ok(Steps {
             supersteps: Arc::new(alloc, supersteps)?,
             latest,
             last,
+            earlier,
         })
     }
 
@@ -75,18 +95,47 @@ impl<V: Drop, M: Drop> Steps<V, M> {
         &self.last
     }
 
-    /// Adds a superstep, whose record is the last one now.
+    /// The last superstep with its record, where it comes before this one.
+    pub(crate) fn last_if_below(
+        &self,
+        alloc: Global,
+        superstep: usize,
+    ) -> Result<Earlier<V, M>, Memory>
+        ensures { IfOk result (λ earlier. earlier ≡ last_if_below superstep self.now) }
+    {
+        if self.latest < superstep {
+            return Ok(Some((self.latest, self.last.share(alloc)?)));
+        }
+        Ok(None)
+    }
+
+    /// The record of a superstep, where it is remembered.
+    pub(crate) fn earlier(&self, superstep: usize) -> Option<&Kept<V, M>>
+        ensures { IfSome result (λ kept. self.now.earlier ≡ Some (superstep, kept.now)) }
+    {
+        match &self.earlier {
+            Some((step, kept)) => { if *step == superstep { Some(kept) } else { None } }
+            None => None,
+        }
+    }
+
+    /// Adds a superstep, whose record is the last one now. The one before is remembered.
     pub(crate) fn push(
         &mut self,
         alloc: Global,
         superstep: usize,
         last: Kept<V, M>,
     ) -> Result<(), Memory>
-        ensures { OnOk result (self.new ≡ record { steps = self.old.steps ++ superstep ∷ []; last = last }) }
+        ensures { OnOk result (self.new ≡ record {
+          steps = self.old.steps ++ superstep ∷ [];
+          last = last;
+          earlier = option_map (λ t. (t, self.old.last)) (last_of self.old.steps);
+        }) }
     {
         add_step(alloc, &mut self.supersteps, superstep)?;
+        let before = replace(&mut self.last, last);
+        self.earlier = Some((self.latest, before));
         self.latest = superstep;
-        self.last = last;
         Ok(())
     }
 
