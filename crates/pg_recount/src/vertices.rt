@@ -114,7 +114,7 @@ fn with_vertex(census: Census, degree: usize, halted: bool) -> Result<Census, Me
 
 /// With the vertex that has this state more, if there is one.
 fn with_state<V: Plain>(census: Census, state: Option<StateRef<'_, V>>) -> Result<Census, Memory>
-    ensures { IfOk result (λ after. IsSum census (census_of (option_to_list state)) after) }
+    ensures { IfOk result (λ after. IsSum census (census_of (option_to_list state.entry)) after) }
 {
     match state {
         Some(state) => with_vertex(census, state.edges().as_slice().len(), state.halted()),
