@@ -187,11 +187,17 @@ fn drawn(state: u64) -> (u64, u64) {
 fn tree_of(alloc: Global, count: u64) -> Result<BTreeMap<VertexId, i64>, Memory> {
     let mut tree = BTreeMap::new(alloc);
     for place in 0..count {
-        if let Some(id) = VertexId::new(place.wrapping_mul(3)) {
-            let _before = tree.insert(id, place.cast_signed())?;
-        }
+        add_entry(&mut tree, place)?;
     }
     Ok(tree)
+}
+
+/// Adds the entry at a place.
+fn add_entry(tree: &mut BTreeMap<VertexId, i64>, place: u64) -> Result<(), Memory> {
+    if let Some(id) = VertexId::new(place.wrapping_mul(3)) {
+        let _before = tree.insert(id, place.cast_signed())?;
+    }
+    Ok(())
 }
 
 /// So many ids of entries, drawn at random. One may be drawn more than once.

@@ -1,4 +1,4 @@
-use pg_graph::{Batch, Edit, Graph};
+use pg_graph::{Batch, Edit, Graph, Memory, Row, VertexId};
 use pg_import::{
     ImportFault, Line, Words, bare_line, into_batch, read_csv, read_id, read_list, read_weight,
 };
@@ -29,16 +29,27 @@ fn has_fault(rt: &impl Abort, answer: Result<Vec<Line>, ImportFault>, fault: (u6
     }
 }
 
+// Each edge as `target=weight,`.
+fn write_edges(text: &mut String, edges: &[(VertexId, i64)]) -> Result<(), Memory> {
+    for (target, weight) in edges {
+        write!(text, "{target}={weight},")?;
+    }
+    Ok(())
+}
+
+fn write_row(text: &mut String, id: VertexId, row: &Row) -> Result<(), Memory> {
+    let input = row.input;
+    write!(text, "{id}:{input}[")?;
+    write_edges(text, row.edges.as_slice())?;
+    write!(text, "]")?;
+    Ok(())
+}
+
 // Each row as `id:input[target=weight,]`.
-fn text_of(alloc: Global, graph: &Graph) -> Result<String, Fail> {
+fn text_of(alloc: Global, graph: &Graph) -> Result<String, Memory> {
     let mut text = String::new(alloc);
     for (id, row) in graph.iter() {
-        let input = row.input;
-        write!(text, "{id}:{input}[")?;
-        for (target, weight) in row.edges.as_slice() {
-            write!(text, "{target}={weight},")?;
-        }
-        write!(text, "]")?;
+        write_row(&mut text, *id, row)?;
     }
     Ok(text)
 }
@@ -164,16 +175,21 @@ fn comma_faults(rt: HostRuntime) {
     }
 }
 
-#[test]
-fn batches(rt: HostRuntime) -> Result<(), Fail> {
-    let text = b"1 2\n1 2 7\n3 1 -4\n5 5\n5 5 2";
-    let lines = read_list(rt.alloc(), text)?;
-    let batch = into_batch(rt.alloc(), lines.as_slice(), &Graph::new(rt.alloc()))?;
-    let one = read_id(b"1").expect(&rt, "an id");
-    let two = read_id(b"2").expect(&rt, "an id");
-    let three = read_id(b"3").expect(&rt, "an id");
-    let five = read_id(b"5").expect(&rt, "an id");
-    let edits = [
+fn id(rt: &impl Abort, word: &[u8]) -> VertexId {
+    read_id(word).expect(rt, "an id")
+}
+
+// The batch of a list, for a graph.
+fn batch_of(alloc: Global, text: &[u8], graph: &Graph) -> Result<Batch, Fail> {
+    let lines = read_list(alloc, text)?;
+    Ok(into_batch(alloc, lines.as_slice(), graph)?)
+}
+
+// What a list of edges between 1, 2, 3 and 5 makes where nothing is there.
+fn edits_of_all(rt: &impl Abort) -> [Edit; 9] {
+    let (one, two, three) = (id(rt, b"1"), id(rt, b"2"), id(rt, b"3"));
+    let five = id(rt, b"5");
+    [
         Edit::AddVertex(one, 0),
         Edit::AddVertex(two, 0),
         Edit::AddEdge(one, two, 1),
@@ -183,97 +199,160 @@ fn batches(rt: HostRuntime) -> Result<(), Fail> {
         Edit::AddVertex(five, 0),
         Edit::AddEdge(five, five, 1),
         Edit::SetEdge(five, five, 2),
-    ];
-    assert_eq!(rt; batch.as_slice(), edits.as_slice());
+    ]
+}
+
+#[test]
+fn batches(rt: HostRuntime) -> Result<(), Fail> {
+    let alloc = rt.alloc();
+    let text = b"1 2\n1 2 7\n3 1 -4\n5 5\n5 5 2";
+    let batch = batch_of(alloc, text, &Graph::new(alloc))?;
+    assert_eq!(rt; batch.as_slice(), edits_of_all(&rt).as_slice());
     Ok(())
 }
 
 // 1 and 3 are there, and so is the edge from 1 to 2, whose target isn't.
-#[test]
-fn adds_only_what_the_graph_lacks(rt: HostRuntime) -> Result<(), Fail> {
-    let alloc = rt.alloc();
-    let one = read_id(b"1").expect(&rt, "an id");
-    let two = read_id(b"2").expect(&rt, "an id");
-    let three = read_id(b"3").expect(&rt, "an id");
-    let nine = read_id(b"9").expect(&rt, "an id");
-    let mut before = Batch::new(alloc);
-    for edit in [
+fn edits_before(rt: &impl Abort) -> [Edit; 4] {
+    let (one, three) = (id(rt, b"1"), id(rt, b"3"));
+    [
         Edit::AddVertex(one, 10),
-        Edit::AddEdge(one, two, 5),
+        Edit::AddEdge(one, id(rt, b"2"), 5),
         Edit::AddVertex(three, 30),
-        Edit::AddEdge(three, nine, 2),
-    ] {
-        before.push(edit)?;
+        Edit::AddEdge(three, id(rt, b"9"), 2),
+    ]
+}
+
+fn graph_before(rt: &impl Abort, alloc: Global) -> Result<Graph, Fail> {
+    let mut batch = Batch::new(alloc);
+    for edit in edits_before(rt) {
+        batch.push(edit)?;
     }
     let mut graph = Graph::new(alloc);
-    graph.apply(alloc, &before)?;
-    let lines = read_list(alloc, b"1 2 7\n3 1 -4\n3 1 6\n2 3")?;
-    let batch = into_batch(alloc, lines.as_slice(), &graph)?;
-    let edits = [
+    graph.apply(alloc, &batch)?;
+    Ok(graph)
+}
+
+// What a list makes beside what is there.
+fn edits_beside(rt: &impl Abort) -> [Edit; 5] {
+    let (one, two, three) = (id(rt, b"1"), id(rt, b"2"), id(rt, b"3"));
+    [
         Edit::AddVertex(two, 0),
         Edit::SetEdge(one, two, 7),
         Edit::AddEdge(three, one, -4),
         Edit::SetEdge(three, one, 6),
         Edit::AddEdge(two, three, 1),
-    ];
-    assert_eq!(rt; batch.as_slice(), edits.as_slice());
-    graph.apply(alloc, &batch)?;
-    assert_eq!(rt;
-        text_of(alloc, &graph)?.as_str(),
-        "1:10[2=7,]2:0[3=1,]3:30[1=6,9=2,]"
-    );
-    assert_eq!(rt; (graph.vertices(), graph.edges()), (3, 4));
+    ]
+}
+
+// The graph has these rows.
+fn has_rows(rt: &impl Abort, alloc: Global, graph: &Graph, rows: &str) -> Result<(), Fail> {
+    assert_eq!(rt; text_of(alloc, graph)?.as_str(), rows);
     Ok(())
 }
 
 #[test]
+fn adds_only_what_the_graph_lacks(rt: HostRuntime) -> Result<(), Fail> {
+    let alloc = rt.alloc();
+    let mut graph = graph_before(&rt, alloc)?;
+    let batch = batch_of(alloc, b"1 2 7\n3 1 -4\n3 1 6\n2 3", &graph)?;
+    assert_eq!(rt; batch.as_slice(), edits_beside(&rt).as_slice());
+    graph.apply(alloc, &batch)?;
+    has_rows(&rt, alloc, &graph, "1:10[2=7,]2:0[3=1,]3:30[1=6,9=2,]")?;
+    assert_eq!(rt; (graph.vertices(), graph.edges()), (3, 4));
+    Ok(())
+}
+
+// A list of so many edges, none of which shares a vertex with another.
+fn edges_apart(alloc: Global, count: u64) -> Result<String, Fail> {
+    let mut text = String::new(alloc);
+    for line in 0..count {
+        let source = line.saturating_mul(2).saturating_add(1);
+        let target = source.saturating_add(1);
+        writeln!(text, "{source} {target}")?;
+    }
+    Ok(text)
+}
+
+#[test]
 fn long_batches(rt: HostRuntime) -> Result<(), Fail> {
+    let alloc = rt.alloc();
     for (count, edits) in [(33_333u64, 99_999), (33_334, 100_002)] {
-        let mut text = String::new(rt.alloc());
-        for line in 0..count {
-            writeln!(text, "{} {}", line * 2 + 1, line * 2 + 2)?;
-        }
-        let lines = read_list(rt.alloc(), text.as_bytes())?;
-        let batch = into_batch(rt.alloc(), lines.as_slice(), &Graph::new(rt.alloc()))?;
+        let text = edges_apart(alloc, count)?;
+        let batch = batch_of(alloc, text.as_bytes(), &Graph::new(alloc))?;
         assert_eq!(rt; batch.as_slice().len(), edits);
     }
     Ok(())
 }
 
+fn is_next(rt: &impl Abort, words: &mut Words<'_>, word: &[u8]) {
+    assert_eq!(rt; words.next(), Some(word));
+}
+
 #[test]
 fn words(rt: HostRuntime) {
     let mut words = Words::new(bare_line(b"\t edge 1\t 2  \r\n"));
-    assert_eq!(rt; words.next(), Some(b"edge".as_slice()));
-    assert_eq!(rt; words.next(), Some(b"1".as_slice()));
-    assert_eq!(rt; words.next(), Some(b"2".as_slice()));
+    is_next(&rt, &mut words, b"edge");
+    is_next(&rt, &mut words, b"1");
+    is_next(&rt, &mut words, b"2");
     assert!(rt; words.next().is_none());
     assert!(rt; words.next().is_none());
+}
+
+#[test]
+fn weights(rt: HostRuntime) {
     assert_eq!(rt; read_weight(b"-12"), Ok(-12));
     assert_eq!(rt; read_weight(b"").map_err(|kind| kind.number()), Err(2));
+}
+
+fn is_of_memory(fault: ImportFault) -> bool {
+    (fault.line, fault.kind.number()) == (0, 1)
+}
+
+// Five lines, or want of memory.
+fn has_five(rt: &impl Abort, answer: Result<Vec<Line>, ImportFault>) {
+    match answer {
+        Ok(lines) => assert_eq!(rt; lines.len(), 5),
+        Err(fault) => assert!(rt; is_of_memory(fault)),
+    }
+}
+
+// A fault by its line and the number of its kind, or want of memory.
+fn is_refused(rt: &impl Abort, answer: Result<Vec<Line>, ImportFault>, wanted: (u64, u8)) {
+    match answer {
+        Ok(lines) => assert_eq!(rt; lines.len(), usize::MAX, "no fault"),
+        Err(fault) => {
+            assert!(rt; is_of_memory(fault) || (fault.line, fault.kind.number()) == wanted);
+        }
+    }
+}
+
+// Of a list that is read the batch has eleven edits, or memory is wanted.
+fn has_eleven_edits(rt: &impl Abort, alloc: Global, text: &[u8]) {
+    if let Ok(lines) = read_list(alloc, text) {
+        let batch = into_batch(alloc, lines.as_slice(), &Graph::new(alloc));
+        assert!(rt; batch.is_err() || batch.is_ok_and(|edits| edits.as_slice().len() == 11));
+    }
 }
 
 // A growth that is refused gives want of memory at line 0, and no other change of the answer.
 #[test]
 fn refused_growth(rt: HostRuntime) {
-    let memory = |fault: ImportFault| (fault.line, fault.kind.number()) == (0, 1);
-    match read_list(rt.alloc(), b"1 2\n2 3 5\n3 4\n4 5\n5 6\n") {
-        Ok(lines) => {
-            assert_eq!(rt; lines.len(), 5);
-            let batch = into_batch(rt.alloc(), lines.as_slice(), &Graph::new(rt.alloc()));
-            assert!(rt; batch.is_err() || batch.is_ok_and(|edits| edits.as_slice().len() == 11));
-        }
-        Err(fault) => assert!(rt; memory(fault)),
-    }
-    match read_list(rt.alloc(), b"1 2\n2 3 5\n3 4\n4 5\n5 x\n") {
-        Ok(lines) => assert_eq!(rt; lines.len(), 0),
-        Err(fault) => assert!(rt; memory(fault) || (fault.line, fault.kind.number()) == (5, 2)),
-    }
-    match read_csv(rt.alloc(), b"a,b\n1,2\n\"2\",3,5\n3,4\n4,5\n5,6\n") {
-        Ok(lines) => assert_eq!(rt; lines.len(), 5),
-        Err(fault) => assert!(rt; memory(fault)),
-    }
-    match read_csv(rt.alloc(), b"a,b\n1,2\n\"2\",3,5\n3,4\n4,5\n5\n") {
-        Ok(lines) => assert_eq!(rt; lines.len(), 0),
-        Err(fault) => assert!(rt; memory(fault) || (fault.line, fault.kind.number()) == (6, 4)),
-    }
+    let alloc = rt.alloc();
+    let list = b"1 2\n2 3 5\n3 4\n4 5\n5 6\n";
+    has_five(&rt, read_list(alloc, list));
+    has_eleven_edits(&rt, alloc, list);
+    is_refused(
+        &rt,
+        read_list(alloc, b"1 2\n2 3 5\n3 4\n4 5\n5 x\n"),
+        (5, 2),
+    );
+    has_five(
+        &rt,
+        read_csv(alloc, b"a,b\n1,2\n\"2\",3,5\n3,4\n4,5\n5,6\n"),
+    );
+    is_refused(
+        &rt,
+        read_csv(alloc, b"a,b\n1,2\n\"2\",3,5\n3,4\n4,5\n5\n"),
+        (6, 4),
+    );
 }

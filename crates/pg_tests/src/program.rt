@@ -1,4 +1,4 @@
-ghost use Rattle.std.specs.Prelude.{◌≡◌, ◌++◌, ◌∷◌, [], map, true, pos, slice_get, unwrap_or, Some, None, IfOk};
+ghost use Rattle.std.specs.Prelude.{◌≡◌, ◌++◌, ◌∷◌, [], map, true, false, pos, slice_get, unwrap_or, Some, None, IfOk};
 ghost use Rattle.pg_graph.specs.EdgeList.{with_edge};
 ghost use Rattle.pg_program.specs.Context.{ShowsDeclared};
 
@@ -6,6 +6,7 @@ use pg_graph::{Edges, Memory, Superstep, VertexId};
 use pg_model::{Declared, Place, Sequence, VertexState, View};
 use pg_program::{Computation, Cx, EdgeRoom, Meter, Plain, Tally, Vertex};
 use std::alloc::Global;
+use std::fmt::Write;
 use std::process::Abort;
 use std::test::Fail;
 
@@ -81,29 +82,48 @@ fn context(alloc: Global) -> Result<Cx<i64>, Memory>
     Ok(Cx::new(alloc, view, Echo.declared(), Meter::new()))
 }
 
-fn id(rt: &impl Abort, number: u64) -> VertexId {
-    VertexId::new(number).expect(rt, "an id")
+fn id(number: u64) -> Result<VertexId, Fail> {
+    Ok(VertexId::new(number).ok_or("a number above 2^63 - 1")?)
+}
+
+// Appends a value.
+fn show<T: Plain>(value: &T, text: &mut String) -> Result<(), Memory> {
+    value.show(text)
+}
+
+// The same value.
+fn copy_of<T: Plain>(alloc: Global, value: &T) -> Result<T, Memory> {
+    value.copy(alloc)
 }
 
 // The text that a value appends.
 fn text_of<T: Plain>(alloc: Global, value: &T) -> Result<String, Memory> {
     let mut text = String::from_str(alloc, "of ")?;
-    value.copy(alloc)?.show(&mut text)?;
+    show(&copy_of(alloc, value)?, &mut text)?;
     Ok(text)
+}
+
+// A value is equal to its copy.
+fn is_copied<T: Plain>(alloc: Global, value: &T) -> Result<bool, Memory> {
+    value.fits();
+    Ok(*value == copy_of(alloc, value)?)
+}
+
+// A value appends this.
+fn shows<T: Plain>(rt: &impl Abort, alloc: Global, value: &T, wanted: &str) -> Result<(), Fail> {
+    assert_eq!(rt; text_of(alloc, value)?.as_str(), wanted);
+    Ok(())
 }
 
 #[test]
 fn shows_numbers(rt: HostRuntime) -> Result<(), Fail> {
     let alloc = rt.alloc();
+    shows(&rt, alloc, &u64::MAX, "of 18446744073709551615")?;
+    shows(&rt, alloc, &true, "of true")?;
+    shows(&rt, alloc, &false, "of false")?;
     let mut text = text_of(alloc, &i64::MIN)?;
-    0i64.show(&mut text)?;
+    show(&0i64, &mut text)?;
     assert_eq!(rt; text.as_str(), "of -92233720368547758080");
-    assert_eq!(rt;
-        text_of(alloc, &u64::MAX)?.as_str(),
-        "of 18446744073709551615"
-    );
-    assert_eq!(rt; text_of(alloc, &true)?.as_str(), "of true");
-    assert_eq!(rt; text_of(alloc, &false)?.as_str(), "of false");
     Ok(())
 }
 
@@ -111,94 +131,234 @@ fn shows_numbers(rt: HostRuntime) -> Result<(), Fail> {
 fn shows_pairs_and_lists(rt: HostRuntime) -> Result<(), Fail> {
     let alloc = rt.alloc();
     let none = (7i64, Sequence::<i64>::new(alloc));
-    assert_eq!(rt; text_of(alloc, &none)?.as_str(), "of (7 [])");
+    shows(&rt, alloc, &none, "of (7 [])")?;
     let one = Sequence::from_vec(vec![in alloc; (true, 5u64)]?);
-    assert_eq!(rt; text_of(alloc, &one)?.as_str(), "of [(true 5)]");
+    shows(&rt, alloc, &one, "of [(true 5)]")?;
     let three = Sequence::from_vec(vec![in alloc; 1i64, -2, 3]?);
-    assert_eq!(rt; text_of(alloc, &three)?.as_str(), "of [1 -2 3]");
+    shows(&rt, alloc, &three, "of [1 -2 3]")
+}
+
+#[test]
+fn lists_are_compared(rt: HostRuntime) -> Result<(), Fail> {
+    let alloc = rt.alloc();
+    let three = Sequence::from_vec(vec![in alloc; 1i64, -2, 3]?);
+    assert!(rt; is_copied(alloc, &three)?);
     let shorter = Sequence::from_vec(vec![in alloc; 1i64, -2]?);
-    assert!(rt; three == three.copy(alloc)? && three != shorter);
-    three.fits();
+    assert!(rt; three != shorter);
     Ok(())
 }
 
-// What one execution of `Tally` at vertex 5, of input 30 with an edge to 2, leaves: the text of the value,
-// how many messages it sends, and how many calls it counts.
-fn tally(
-    rt: &impl Abort,
+// Each edge as ` target=weight`.
+fn write_edges(text: &mut String, edges: &[(VertexId, i64)]) -> Result<(), Memory> {
+    for (target, weight) in edges {
+        write!(text, " {target}={weight}")?;
+    }
+    Ok(())
+}
+
+// Each message as ` target=message`.
+fn write_sent<M: Plain>(text: &mut String, sent: &[(VertexId, M)]) -> Result<(), Memory> {
+    for (target, message) in sent {
+        write!(text, " {target}=")?;
+        show(message, text)?;
+    }
+    Ok(())
+}
+
+// Each contribution as ` place=value`.
+fn write_contributed(text: &mut String, contributed: &[(Place, i64)]) -> Result<(), Memory> {
+    for (place, value) in contributed {
+        let place = place.number();
+        write!(text, " {place}={value}")?;
+    }
+    Ok(())
+}
+
+// What was sent and contributed in a context, and how many calls it has counted.
+fn write_context<M: Plain>(text: &mut String, cx: Cx<M>) -> Result<(), Memory> {
+    let (_view, sent, contributed, meter) = cx.into_parts();
+    write!(text, " sent")?;
+    write_sent(text, sent.as_slice())?;
+    write!(text, " contributed")?;
+    write_contributed(text, contributed.as_slice())?;
+    let calls = meter.count();
+    write!(text, " calls {calls}")?;
+    Ok(())
+}
+
+// A vertex with this value and an edge to 2.
+fn begun<V: Plain>(alloc: Global, value: V) -> Result<Vertex<V>, Fail>
+    ensures { IfOk result (λ vertex. vertex.halted ≡ false) }
+{
+    let mut vertex = Vertex::new(id(5)?, value, Edges::new(), EdgeRoom::new(alloc))?;
+    vertex.add_edge(id(2)?, 20)?;
+    Ok(vertex)
+}
+
+// The value and the edges of a vertex, and what was sent and contributed.
+fn told<V: Plain, M: Plain>(alloc: Global, vertex: &Vertex<V>, cx: Cx<M>) -> Result<String, Fail> {
+    let mut text = text_of(alloc, vertex.value())?;
+    write!(text, " edges")?;
+    write_edges(&mut text, vertex.edges())?;
+    write_context(&mut text, cx)?;
+    Ok(text)
+}
+
+// Executes a program, of which the prover needs to know nothing more.
+fn execute<P: Computation>(
     alloc: Global,
-    superstep: u32,
-    messages: &[i64],
-) -> Result<(String, usize, u64), Fail> {
-    let value = Tally.initial(alloc, id(rt, 5), 30)?;
-    let mut vertex = Vertex::new(id(rt, 5), value, Edges::new(), EdgeRoom::new(alloc))?;
-    vertex.add_edge(id(rt, 2), 20)?;
+    program: &P,
+    vertex: &mut Vertex<P::Value>,
+    messages: &[P::Message],
+    cx: &mut Cx<P::Message>,
+) -> Result<(), Memory>
+    requires votes { vertex.old.halted ≡ false }
+    requires shown { ShowsDeclared (P.program program.now).declared cx.old.view }
+    requires writes { cx.old.writes ≡ (P.program program.now).declared.writes }
+{
+    program.compute(alloc, vertex, messages, cx)
+}
+
+// What one execution of a program leaves at vertex 5, of this input with an edge to 2: the value, the edges, and what
+// it added to a context.
+fn executed<P: Computation>(
+    alloc: Global,
+    program: &P,
+    input: i64,
+    messages: &[P::Message],
+    mut cx: Cx<P::Message>,
+) -> Result<String, Fail>
+    requires shown { ShowsDeclared (P.program program.now).declared cx.view }
+    requires writes { cx.writes ≡ (P.program program.now).declared.writes }
+{
+    let value = program.initial(alloc, id(5)?, input)?;
+    let mut vertex = begun(alloc, value)?;
+    execute(alloc, program, &mut vertex, messages, &mut cx)?;
+    told(alloc, &vertex, cx)
+}
+
+// What one execution of `Tally` leaves at vertex 5, of input 30 with an edge to 2.
+fn tally(alloc: Global, superstep: u32, messages: &[i64]) -> Result<String, Fail> {
     let view = View {
         superstep: Superstep::new(superstep),
         aggregates: Sequence::new(alloc),
         total_vertices: None,
         total_edges: None,
     };
-    let mut cx = Cx::new(alloc, view, Tally.declared(), Meter::new());
-    Tally.compute(alloc, &mut vertex, messages, &mut cx)?;
-    let (_view, sent, _contributed, meter) = cx.into_parts();
-    Ok((text_of(alloc, vertex.value())?, sent.len(), meter.count()))
+    let cx = Cx::new(alloc, view, Tally.declared(), Meter::new());
+    executed(alloc, &Tally, 30, messages, cx)
 }
 
 #[test]
 fn tallies(rt: HostRuntime) -> Result<(), Fail> {
-    let (text, sent, calls) = tally(&rt, rt.alloc(), 0, &[])?;
-    assert_eq!(rt; (text.as_str(), sent, calls), ("of (30 [])", 1, 1));
-    let (text, sent, calls) = tally(&rt, rt.alloc(), 1, &[4, -4])?;
-    assert_eq!(rt; (text.as_str(), sent, calls), ("of (2 [4 -4])", 0, 1));
+    let text = tally(rt.alloc(), 0, &[])?;
+    assert_eq!(rt;
+        text.as_str(),
+        "of (30 []) edges 2=20 sent 2=30 contributed calls 1"
+    );
+    let text = tally(rt.alloc(), 1, &[4, -4])?;
+    assert_eq!(rt;
+        text.as_str(),
+        "of (2 [4 -4]) edges 2=20 sent contributed calls 1"
+    );
+    Ok(())
+}
+
+fn add_edge(vertex: &mut Vertex<i64>, target: u64, weight: i64) -> Result<(), Fail> {
+    vertex.add_edge(id(target)?, weight)?;
+    Ok(())
+}
+
+// Vertex 5 with edges to 7, 2 and 9. The one to 2 is added twice.
+fn three_edges(alloc: Global) -> Result<Vertex<i64>, Fail> {
+    let mut vertex = Vertex::new(id(5)?, 10i64, Edges::new(), EdgeRoom::new(alloc))?;
+    add_edge(&mut vertex, 7, 70)?;
+    add_edge(&mut vertex, 2, 20)?;
+    add_edge(&mut vertex, 9, 90)?;
+    add_edge(&mut vertex, 2, 25)?;
+    Ok(vertex)
+}
+
+// The vertex in its next execution, a copy of the edges that the first one left, and whether that voted to halt.
+fn in_next_execution(
+    alloc: Global,
+    vertex: Vertex<i64>,
+) -> Result<(Vertex<i64>, Edges, bool), Memory> {
+    let (state, room) = vertex.into_parts(alloc)?;
+    let VertexState {
+        id,
+        value,
+        edges,
+        halted,
+    } = state;
+    let shared = edges.copy()?;
+    Ok((Vertex::new(id, value, edges, room)?, shared, halted))
+}
+
+// Changes of edges that are there and of some that aren't. The answers are those of the changes of weights.
+fn change_edges(vertex: &mut Vertex<i64>) -> Result<(bool, bool), Fail> {
+    let is_set = vertex.set_edge_value(id(7)?, -7);
+    let is_other_set = vertex.set_edge_value(id(8)?, 80);
+    vertex.remove_edges(id(2)?);
+    vertex.remove_edges(id(3)?);
+    vertex.add_edge(id(1)?, 11)?;
+    Ok((is_set, is_other_set))
+}
+
+// The edges as a text.
+fn edges_of(alloc: Global, edges: &[(VertexId, i64)]) -> Result<String, Memory> {
+    let mut text = String::new(alloc);
+    write_edges(&mut text, edges)?;
+    Ok(text)
+}
+
+// Vertex 5 in its second execution, after changes, and a copy of the edges that the first one left.
+fn changed(rt: &impl Abort, alloc: Global) -> Result<(Vertex<i64>, Edges), Fail> {
+    let (mut vertex, shared, halted) = in_next_execution(alloc, three_edges(alloc)?)?;
+    assert!(rt; !halted);
+    assert_eq!(rt; change_edges(&mut vertex)?, (true, false));
+    vertex.set_value(12);
+    vertex.vote_to_halt();
+    Ok((vertex, shared))
+}
+
+// The vertex shows what it was changed to.
+fn is_changed(rt: &impl Abort, vertex: &Vertex<i64>) -> Result<(), Fail> {
+    assert_eq!(rt;
+        (vertex.id().number(), *vertex.value(), vertex.num_edges()),
+        (5, 12, 3)
+    );
+    let weights = (vertex.edge_value(id(7)?), vertex.edge_value(id(8)?));
+    assert_eq!(rt; weights, (Some(-7), None));
+    Ok(())
+}
+
+// The edges are these.
+fn are_edges(
+    rt: &impl Abort,
+    alloc: Global,
+    edges: &[(VertexId, i64)],
+    wanted: &str,
+) -> Result<(), Fail> {
+    assert_eq!(rt; edges_of(alloc, edges)?.as_str(), wanted);
     Ok(())
 }
 
 #[test]
 fn changes_edges(rt: HostRuntime) -> Result<(), Fail> {
     let alloc = rt.alloc();
-    let mut vertex = Vertex::new(id(&rt, 5), 10i64, Edges::new(), EdgeRoom::new(alloc))?;
-    for (target, weight) in [(7, 70), (2, 20), (9, 90), (2, 25)] {
-        vertex.add_edge(id(&rt, target), weight)?;
-    }
-    let (state, room) = vertex.into_parts(alloc)?;
-    let shared = state.edges.copy()?;
-    let VertexState {
-        id: own,
-        value,
-        edges,
-        halted,
-    } = state;
-    assert!(rt; !halted);
-    let mut vertex = Vertex::new(own, value, edges, room)?;
-    assert!(rt; vertex.set_edge_value(id(&rt, 7), -7));
-    assert!(rt; !vertex.set_edge_value(id(&rt, 8), 80));
-    vertex.remove_edges(id(&rt, 2));
-    vertex.remove_edges(id(&rt, 3));
-    vertex.add_edge(id(&rt, 1), 11)?;
-    vertex.set_value(12);
-    vertex.vote_to_halt();
-    assert_eq!(rt;
-        (vertex.id().number(), *vertex.value(), vertex.num_edges()),
-        (5, 12, 3)
-    );
-    assert_eq!(rt; vertex.edge_value(id(&rt, 7)), Some(-7));
-    assert_eq!(rt; vertex.edge_value(id(&rt, 8)), None);
-    let changed = [(id(&rt, 1), 11), (id(&rt, 7), -7), (id(&rt, 9), 90)];
-    assert_eq!(rt; vertex.edges(), changed.as_slice());
-    let (state, _room) = vertex.into_parts(alloc)?;
-    assert_eq!(rt; state.edges.as_slice(), changed.as_slice());
-    assert!(rt; state.halted);
-    let unchanged = [(id(&rt, 2), 25), (id(&rt, 7), 70), (id(&rt, 9), 90)];
-    assert_eq!(rt; shared.as_slice(), unchanged.as_slice());
-    Ok(())
+    let (vertex, shared) = changed(&rt, alloc)?;
+    is_changed(&rt, &vertex)?;
+    are_edges(&rt, alloc, vertex.edges(), " 1=11 7=-7 9=90")?;
+    let (_, left, halted) = in_next_execution(alloc, vertex)?;
+    assert!(rt; halted);
+    are_edges(&rt, alloc, left.as_slice(), " 1=11 7=-7 9=90")?;
+    are_edges(&rt, alloc, shared.as_slice(), " 2=25 7=70 9=90")
 }
 
 #[test]
 fn executes(rt: HostRuntime) -> Result<(), Fail> {
     let alloc = rt.alloc();
-    let mut vertex = Vertex::new(id(&rt, 5), 10i64, Edges::new(), EdgeRoom::new(alloc))?;
-    vertex.add_edge(id(&rt, 2), 20)?;
     let mut cx = context(alloc)?;
     assert_eq!(rt;
         (
@@ -208,22 +368,11 @@ fn executes(rt: HostRuntime) -> Result<(), Fail> {
         ),
         (3, 6, 8)
     );
-    cx.send(id(&rt, 1), 40)?;
-    Echo.compute(alloc, &mut vertex, &[], &mut cx)?;
-    let (_view, sent, contributed, meter) = cx.into_parts();
-    let expected = [
-        (id(&rt, 1), 40),
-        (id(&rt, 2), -4),
-        (id(&rt, 5), -4),
-        (id(&rt, 5), -4),
-    ];
-    assert_eq!(rt; sent.as_slice(), expected.as_slice());
-    assert_eq!(rt; contributed.as_slice(), [(Place::new(0), -4)].as_slice());
-    assert_eq!(rt; meter.count(), 1);
-    assert_eq!(rt; *vertex.value(), -4);
+    cx.send(id(1)?, 40)?;
+    let text = executed(alloc, &Echo, 10, &[], cx)?;
     assert_eq!(rt;
-        vertex.edges(),
-        [(id(&rt, 2), 20), (id(&rt, 5), -4)].as_slice()
+        text.as_str(),
+        "of -4 edges 2=20 5=-4 sent 1=40 2=-4 5=-4 5=-4 contributed 0=-4 calls 1"
     );
     Ok(())
 }
