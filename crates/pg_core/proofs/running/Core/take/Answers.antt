@@ -21,6 +21,17 @@ invariant_of-self g c =
     (λ i. set inside.parts.items (sym c.number.ensures i) (sym c.take.ensures.after i))
     (IsLawful-take inside.limits declared registered inside.registry inside.state inside.history.items inside.parts.items inside.shown.items inside.tally c.self.invariant p allowed)
 
+pub returns-clause-part : goal.returns-clause-part
+returns-clause-part g c =
+    let inside = c.self.inside in
+    let parts = inside.parts.items in
+    let p = c.args.partition in
+    let ready = subst (λ core. is_ready core p ≡ true) (sym c.self.view_is) c.requires in
+    let some = (and_parts (is_allowed inside.state (Step p)) _ ready).1 in
+    subst (λ core. part_at p core ≡ Some c.unwrap.result) c.self.view_is
+    (here_is parts p c.index_mut.result.now c.unwrap.result some (c.index_mut.ensures.value ∙ ap (λ (p : ℕ). get_or parts p c.index_mut.result.now) c.number.ensures)
+    (sym c.take.ensures.value ∙ c.unwrap.ensures))
+
 pub returns-clause-at : goal.returns-clause-at
 returns-clause-at g c =
     let inside = c.self.inside in
