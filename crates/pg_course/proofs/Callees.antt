@@ -1,5 +1,5 @@
 -- Vertices with what is delivered to each: which they are.
-use Rattle.std.proofs.Common.{◌≡◌, ℕ, ◌==◌, ◌||◌, Bool, true, false, cond, List, [], ◌∷◌, length, suc, map, Option, None, Some, is_some, refl, sym, ap, ◌∙◌, true≢false, subst, arith}
+use Rattle.std.proofs.Common.{◌≡◌, ℕ, ◌==◌, ◌||◌, Bool, true, false, cond, List, [], ◌∷◌, map, Option, None, Some, is_some, refl, sym, ap, ◌∙◌, true≢false, subst}
 use Rattle.std.specs.BTreeMap.{insert_entry, is_at}
 use Rattle.std.specs.List.Sorted.{IsStrictlySortedBy}
 use Rattle.std.specs.Map.{keys_of}
@@ -25,11 +25,6 @@ other_key id k e same = true≢false (sym (eq-eqb k id (sym same)) ∙ e)
 pub nothing_rises : (X : Type 0) → HasRisingIds {V = X} []
 unfolding IsStrictlySortedBy
 nothing_rises X = tt
-
--- a list of no length
-pub none : (ids : List ℕ) → (length ids == 0) ≡ true → ids ≡ []
-none [] h = refl
-none (id ∷ ids) h = let long : suc (length ids) ≡ 0 = eqb-true (suc (length ids)) 0 h in absurd (omega (arith, long))
 
 module _ {X : Type 0} where
   -- an id is among the keys where something is found at it

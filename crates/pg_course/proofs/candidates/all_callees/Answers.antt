@@ -1,13 +1,17 @@
-use Rattle.std.proofs.Common.{map, true, sym, subst, ◌∙◌}
+use Rattle.std.proofs.Common.{length, map, true, sym, subst, ◌∙◌}
+use Rattle.std.proofs.lemmas.Bool.{eqb-true}
+use Rattle.std.proofs.lemmas.List.{nil_from_length}
 use Rattle.pg_course.specs.Candidates.{AreCallees}
-use Rattle.pg_course.proofs.Callees.{are_callees, are_receivers, none}
+use Rattle.pg_course.proofs.Callees.{are_callees, are_receivers}
 use Rattle.pg_course.proofs.candidates.all_callees.Goals as goal
 
 pub returns-then-is_empty : goal.returns-then-is_empty
 returns-then-is_empty g c =
     let combining = g.C.MessageCombiner.combining c.args.combiner.now in
     let bundles = map (λ b. b.now) c.args.bundles.now in
-    subst (λ ids. AreCallees combining bundles ids true c.in_ok-inboxes.inboxes.items) (sym (none c.args.ids.now (sym c.is_empty.ensures ∙ c.if-is_empty.true)))
+    let ids = c.args.ids.now in
+    let none = nil_from_length ids (eqb-true (length ids) 0 (sym c.is_empty.ensures ∙ c.if-is_empty.true)) in
+    subst (λ ids. AreCallees combining bundles ids true c.in_ok-inboxes.inboxes.items) (sym none)
     (are_receivers combining bundles c.in_ok-inboxes.inboxes.items c.in_ok-inboxes.ensures)
 
 pub returns : goal.returns
