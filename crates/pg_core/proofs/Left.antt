@@ -17,7 +17,7 @@ use Rattle.pg_model.specs.Run.{answer, configuration, ending_after, run_length, 
 use Rattle.pg_model.specs.declared.run.Ending.{Ending}
 use Rattle.pg_model.specs.declared.run.Ending.TheVariants.{LimitReached}
 use Rattle.pg_model.specs.declared.view.Visible.{Visible}
-use Rattle.pg_course.specs.Lent.{bundle_in, bundle_sent}
+use Rattle.pg_routing.specs.Routes.{bundle_in, bundle_sent}
 use Rattle.pg_course.specs.Course.{IsSentTo}
 use Rattle.pg_part.specs.Part.{HoldsShare, IsLeft, LeftOf, PartState}
 use Rattle.pg_core.proofs.Putting.{slice_get_before, slice_get_pushed}

@@ -26,7 +26,8 @@ use Rattle.pg_model.specs.Job.{Job}
 use Rattle.pg_model.specs.Run.{run_length, visible_at}
 use Rattle.pg_model.specs.declared.view.Declared.{Declared}
 use Rattle.pg_model.specs.declared.view.Visible.{Visible}
-use Rattle.pg_course.specs.Lent.{HasMessages, IsLent, IsLentBeside, LendsLogs, TellsAt, TellsFrom, bundle_in, bundle_sent}
+use Rattle.pg_routing.specs.Routes.{HasMessages, TellsAt, TellsFrom, bundle_in, bundle_sent}
+use Rattle.pg_course.specs.Lent.{IsLent, IsLentBeside, LendsLogs}
 use Rattle.pg_course.specs.Course.{IsFurther, IsSentTo}
 use Rattle.pg_part.specs.Part as parts_of
 use Rattle.pg_part.specs.Part.{HoldsShare, PartState}

@@ -6,7 +6,7 @@ use Rattle.pg_inbox.specs.Logged.{Slots, slot_at}
 use Rattle.pg_model.specs.Job.{Job}
 use Rattle.pg_model.specs.Run.{configuration, run_length, values_of, visible_at}
 use Rattle.pg_model.specs.declared.view.Visible.{Visible}
-use Rattle.pg_course.specs.Lent.{bundle_in, bundle_sent}
+use Rattle.pg_routing.specs.Routes.{bundle_in, bundle_sent}
 use Rattle.pg_course.specs.Course.{AreTouched}
 use Rattle.pg_part.specs.Part.{IsLeft, LeftOf, PartState}
 use Rattle.pg_values.specs.Values.{Ended, HasEnded}

@@ -21,28 +21,29 @@ use Rattle.pg_model.proofs.LawsPresent.{IsIdleAt-from_inputs, standing_at-none}
 use Rattle.pg_model.proofs.LawsSharesAlike.{record_in_share}
 use Rattle.pg_model.specs.declared.record.Record.{Record}
 use Rattle.pg_model.specs.declared.view.View.{View}
-use Rattle.pg_course.specs.Candidates.{AreCallees, IsPlayed, awake_ids, own}
-use Rattle.pg_course.specs.Found.{are_at_rest, is_run, reads}
-use Rattle.pg_course.specs.Lent.{HasMessages, as_sends, bundles_before}
-use Rattle.pg_course.specs.Lists.{reaching}
+use Rattle.pg_compute.specs.Candidates.{AreCallees, IsPlayed, awake_ids}
+use Rattle.pg_routing.specs.Starting.{own}
+use Rattle.pg_compute.specs.Found.{are_at_rest, is_run, reads}
+use Rattle.pg_routing.specs.Routes.{HasMessages, as_sends, bundles_before}
+use Rattle.pg_trace.specs.Trace.{reaching, Trace, records_of, with_replaced}
 use Rattle.pg_course.specs.Course.{AreAllChanged, AreTheOnly, HasStepped, Holding, Holds, IsBeside, IsSentTo, TellsBeside, differing_past, kept_length}
-use Rattle.pg_course.specs.Sending.{IsFresh, items_to, sends_of}
-use Rattle.pg_course.specs.declared.execution.Played.{Played}
-use Rattle.pg_course.specs.declared.found.Candidate.{Candidate}
-use Rattle.pg_course.proofs.Changing.{entries, entries-among, entries-rise, told_at}
+use Rattle.pg_routing.specs.Sending.{IsFresh, items_to, sends_of}
+use Rattle.pg_compute.specs.declared.execution.Played.{Played}
+use Rattle.pg_compute.specs.declared.found.Candidate.{Candidate}
+use Rattle.pg_compute.proofs.Changing.{entries, entries-among, entries-rise, told_at}
 use Rattle.pg_inbox.proofs.Replacing.{unchanged_at}
 use Rattle.std.specs.Map.{keys_of}
 use Rattle.std.proofs.lemmas.Option.{none-some}
-use Rattle.pg_course.proofs.ReadVertices.{IsRead, active_among, all_found, all_own, all_read, gives_record, no_inputs_if_inactive, own_belong, reads_inputs}
-use Rattle.pg_course.proofs.Recording.{IsCounted, IsRight, counted_are, no_other_record, records_are, records_rise}
-use Rattle.pg_course.proofs.Callees.{nothing_rises}
-use Rattle.pg_course.proofs.Sends.{sends_of_changes}
+use Rattle.pg_compute.proofs.ReadVertices.{IsRead, active_among, all_found, all_own, all_read, gives_record, no_inputs_if_inactive, own_belong, reads_inputs}
+use Rattle.pg_compute.proofs.Recording.{IsCounted, IsRight, counted_are, no_other_record, records_are, records_rise}
+use Rattle.pg_compute.proofs.Callees.{nothing_rises}
+use Rattle.pg_routing.proofs.Sends.{sends_of_changes}
 use Rattle.pg_trace.proofs.Somes.{somes_are}
-use Rattle.pg_course.proofs.Stepping.{own_rise, reaching_next, stepped_holds}
-use Rattle.pg_course.proofs.Looking.{in_neither, outside}
-use Rattle.pg_course.proofs.Sames.{at_rest_then}
+use Rattle.pg_routing.proofs.Beginning.{own_rise}
+use Rattle.pg_course.proofs.Stepping.{reaching_next, stepped_holds}
+use Rattle.pg_compute.proofs.Looking.{in_neither, outside}
+use Rattle.pg_compute.proofs.Sames.{at_rest_then}
 use Rattle.pg_model.specs.ByIds.{state_at}
-use Rattle.pg_trace.specs.Trace.{Trace, records_of, with_replaced}
 
 module _ {V M : Type 0} (value_eq : V → V → Bool) (message_eq : M → M → Bool) (job : Job V M) (kept : Option Rows) (rows : Rows) (n p s : ℕ)
     (some : 0 < n) (course : Holding V M) (holds : Holds job kept rows n p s course) (past : kept_length job kept ≤ s) (within : s < run_length job rows)

@@ -21,19 +21,21 @@ use Rattle.pg_model.proofs.LawsAffected.{AreCandidates-from, same_inbox-next}
 use Rattle.pg_model.proofs.LawsDecides.{Decides-view_eq}
 use Rattle.pg_model.proofs.LawsPresent.{inbox_at-first, inbox_at-next}
 use Rattle.pg_model.specs.declared.view.View.{View}
-use Rattle.pg_course.specs.Candidates.{AreCallees, AreLookedAt, IsPlayed, own}
-use Rattle.pg_course.specs.Differing.{are_resting, is_resting}
-use Rattle.pg_course.specs.Found.{IsFound, is_same_view}
-use Rattle.pg_course.specs.Lent.{AreSameIn, HasMessages, LendsLogs, as_sends, bundle_sent, bundles_at, bundles_before}
+use Rattle.pg_compute.specs.Candidates.{AreCallees, AreLookedAt, IsPlayed}
+use Rattle.pg_routing.specs.Starting.{own}
+use Rattle.pg_compute.specs.Differing.{are_resting, is_resting}
+use Rattle.pg_compute.specs.Found.{IsFound, is_same_view}
+use Rattle.pg_routing.specs.Routes.{AreSameIn, HasMessages, as_sends, bundle_sent, bundles_at, bundles_before}
+use Rattle.pg_course.specs.Lent.{LendsLogs}
 use Rattle.pg_course.specs.Course.{Holding, Holds}
-use Rattle.pg_course.specs.declared.execution.Played.{Played}
-use Rattle.pg_course.specs.declared.found.Candidate.{Candidate}
-use Rattle.pg_course.proofs.Delivery.{are_all, bundles_are, delivers_in_part, lists, of_lists, to_id, to_part}
-use Rattle.pg_course.proofs.Finding.{arrives_in_run, arrives_nothing, found_in_run}
-use Rattle.pg_course.proofs.Looking.{both, outside}
-use Rattle.pg_course.proofs.ReadVertices.{IsRead, active_among, all_found, all_own, all_read, has_own, no_inputs_at_rest, own_belong}
-use Rattle.pg_course.proofs.Sames.{holds_shorter}
-use Rattle.pg_course.proofs.Stepping.{own_rise}
+use Rattle.pg_compute.specs.declared.execution.Played.{Played}
+use Rattle.pg_compute.specs.declared.found.Candidate.{Candidate}
+use Rattle.pg_routing.proofs.Delivery.{are_all, bundles_are, delivers_in_part, lists, of_lists, to_id, to_part}
+use Rattle.pg_compute.proofs.Finding.{arrives_in_run, arrives_nothing, found_in_run}
+use Rattle.pg_compute.proofs.Looking.{both, outside}
+use Rattle.pg_compute.proofs.ReadVertices.{IsRead, active_among, all_found, all_own, all_read, has_own, no_inputs_at_rest, own_belong}
+use Rattle.pg_compute.proofs.Sames.{holds_shorter}
+use Rattle.pg_routing.proofs.Beginning.{own_rise}
 use Rattle.pg_trace.specs.OfRun.{HoldsRun}
 use Rattle.pg_trace.specs.Trace.{Trace}
 

@@ -1,27 +1,14 @@
 -- A trace that holds a run up to a superstep holds it one further with that superstep's records.
-use Rattle.std.proofs.Common.{◌≡◌, ℕ, ◌+◌, ◌<◌, ◌≤◌, ◌==◌, Bool, true, false, cond, List, [], ◌∷◌, ◌++◌, length, slice_set, Option, option_map, refl, sym, ap, ap₂, ◌∙◌, arith, le_refl, subst, suc}
-use Rattle.std.specs.List.{AllByRecursion}
-use Rattle.std.specs.List.Sorted.{IsStrictlySortedBy}
-use Rattle.std.specs.Map.{keys_of}
-use Rattle.std.specs.Ordering.{nat_cmp}
-use Rattle.std.specs.declared.cmp.Ordering.TheVariants.{Less}
+use Rattle.std.proofs.Common.{◌≡◌, ℕ, ◌+◌, ◌<◌, ◌≤◌, ◌==◌, Bool, true, false, cond, List, [], ◌∷◌, ◌++◌, length, slice_set, Option, refl, sym, ap, ap₂, ◌∙◌, arith, le_refl, suc}
 use Rattle.std.proofs.lemmas.Bool.{eq-eqb}
 use Rattle.std.proofs.lemmas.List.{get_or-set_same, get_or_push, length-append, length-set, take-append-le, take-set-le, take_more}
 use Rattle.pg_graph.specs.Rows.{Rows}
-use Rattle.pg_graph.specs.declared.missing.Missing.{Missing}
-use Rattle.pg_inbox.specs.Bundles.{Parcels}
-use Rattle.pg_map.specs.Entries.{ChangesRise, with_changes, HasRisingIds as Rises}
-use Rattle.pg_model.specs.Job.{Combining, Job, Program}
-use Rattle.pg_model.specs.Share.{belongs, records_below, records_in}
+use Rattle.pg_map.specs.Entries.{with_changes}
+use Rattle.pg_model.specs.Job.{Job}
+use Rattle.pg_model.specs.Share.{records_below, records_in}
 use Rattle.pg_model.specs.declared.record.Record.{Record}
-use Rattle.pg_model.specs.declared.view.View.{View}
-use Rattle.pg_course.specs.Candidates.{IsPlayed, own}
-use Rattle.pg_course.specs.Found.{is_left, reads}
-use Rattle.pg_course.specs.Lists.{reaching}
-use Rattle.pg_course.specs.declared.execution.Played.{Played}
-use Rattle.pg_course.proofs.Changing.{entries-rise}
+use Rattle.pg_trace.specs.Trace.{reaching, Trace, records_of, with_replaced, with_superstep}
 use Rattle.pg_trace.specs.OfRun.{HoldsRun}
-use Rattle.pg_trace.specs.Trace.{Trace, records_of, with_replaced, with_superstep}
 
 module _ {V M : Type 0} (s : ℕ) where
   nothing : List (List (ℕ × Record V M))
@@ -82,39 +69,3 @@ module _ {V M : Type 0} (job : Job V M) (rows : Rows) (n p s : ℕ) where
       → HoldsRun job rows n p (s + 1) (with_replaced s changes (reaching s trace))
   stepped_holds trace changes holds within are =
       replaced_holds (reaching s trace) changes (reaching_holds trace holds within) (length-reaching s trace within) are
-
--- ---- those of a partition, by rising id
-
-module _ {X : Type 0} (n p : ℕ) where
-  own_above : (k : ℕ) (xs : List (ℕ × X)) → AllByRecursion (λ i. nat_cmp k i ≡ Less) (keys_of xs) → AllByRecursion (λ i. nat_cmp k i ≡ Less) (keys_of (own n p xs))
-  own_above k [] h = tt
-  own_above k (x ∷ xs) h = by (belongs n p x.0) (own_above k xs h.1)
-    where
-      by : (b : Bool) → AllByRecursion (λ i. nat_cmp k i ≡ Less) (keys_of (own n p xs)) → AllByRecursion (λ i. nat_cmp k i ≡ Less) (keys_of (cond b (x ∷ own n p xs) (own n p xs)))
-      by true rest = (h.0, rest)
-      by false rest = rest
-
-  pub own_rise : (xs : List (ℕ × X)) → Rises xs → Rises (own n p xs)
-  unfolding IsStrictlySortedBy
-  own_rise [] h = tt
-  own_rise (x ∷ xs) h = by (belongs n p x.0) (own_rise xs h.1) (own_above x.0 xs h.0)
-    where
-      by : (b : Bool) → Rises (own n p xs) → AllByRecursion (λ i. nat_cmp x.0 i ≡ Less) (keys_of (own n p xs)) → Rises (cond b (x ∷ own n p xs) (own n p xs))
-      by true rest above = (above, rest)
-      by false rest above = rest
-
--- what is played changes records by rising id
-pub played_rise : {V M : Type 0} (value_eq : V → V → Bool) (message_eq : M → M → Bool) (program : Program V M) (missing : Missing) (combining : Option (Combining M)) (view : View)
-    (n p s : ℕ) (trace : Trace V M) (bundles : List (Parcels M)) (beside : Option (Trace V M × List (Parcels M))) (ids : List ℕ) (all seen : Bool) (before : ℕ) (played : Played V M)
-    → IsPlayed value_eq message_eq program missing combining view n p s trace bundles beside ids all seen before played → ChangesRise played.changes.items
-played_rise value_eq message_eq program missing combining view n p s trace bundles beside ids all seen before played is =
-    subst ChangesRise (sym is.changes_are)
-    (entries-rise (λ c. c.id) (is_left value_eq message_eq seen) (λ c. option_map program.step (reads view c.new)) is.candidates
-    (subst (IsStrictlySortedBy nat_cmp) (sym is.ids_are) (own_rise n p is.callees is.are.rise)))
-
--- and looks at vertices by rising id
-pub looked_at_rise : {V M : Type 0} (value_eq : V → V → Bool) (message_eq : M → M → Bool) (program : Program V M) (missing : Missing) (combining : Option (Combining M)) (view : View)
-    (n p s : ℕ) (trace : Trace V M) (bundles : List (Parcels M)) (beside : Option (Trace V M × List (Parcels M))) (ids : List ℕ) (all seen : Bool) (before : ℕ) (played : Played V M)
-    → IsPlayed value_eq message_eq program missing combining view n p s trace bundles beside ids all seen before played → IsStrictlySortedBy nat_cmp played.looked_at.items
-looked_at_rise value_eq message_eq program missing combining view n p s trace bundles beside ids all seen before played is =
-    subst (IsStrictlySortedBy nat_cmp) (sym (is.looked_at_are ∙ is.ids_are)) (own_rise n p is.callees is.are.rise)

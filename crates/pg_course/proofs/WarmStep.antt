@@ -31,31 +31,31 @@ use Rattle.pg_model.proofs.LawsSharesAlike.{record_in_share}
 use Rattle.pg_model.specs.declared.record.Record.{Record}
 use Rattle.pg_model.specs.declared.view.View.{View}
 use Rattle.pg_model.specs.declared.view.Visible.{Visible}
-use Rattle.pg_course.specs.Candidates.{IsPlayed}
-use Rattle.pg_course.specs.Differing.{AreTold, are_resting, has_same_state, resting_among, restless_among, without}
-use Rattle.pg_course.specs.Found.{IsTold, are_at_rest, is_left, is_run, is_same_view, is_taken_over, reads}
-use Rattle.pg_course.specs.Lent.{HasMessages, IsBesideOld, IsLentBeside, LendsLogs, as_sends, bundle_in, bundle_sent, bundles_before}
-use Rattle.pg_course.specs.Lists.{reaching}
+use Rattle.pg_compute.specs.Candidates.{IsPlayed}
+use Rattle.pg_compute.specs.Differing.{AreTold, are_resting, has_same_state, resting_among, restless_among, without}
+use Rattle.pg_compute.specs.Found.{IsTold, are_at_rest, is_left, is_run, is_same_view, is_taken_over, reads}
+use Rattle.pg_routing.specs.Routes.{HasMessages, as_sends, bundle_in, bundle_sent, bundles_before}
+use Rattle.pg_course.specs.Lent.{IsBesideOld, IsLentBeside, LendsLogs}
+use Rattle.pg_trace.specs.Trace.{reaching, Trace, records_of, state_at as trace_state_at, with_replaced, with_superstep}
 use Rattle.pg_course.specs.Course.{AreAllChanged, AreTheOnlyBeside, HasStepped, Holding, Holds, IsSentTo, kept_length}
-use Rattle.pg_course.specs.Sending.{IsMended, items_to, pairs_of, sends_of}
+use Rattle.pg_routing.specs.Sending.{IsMended, items_to, pairs_of, sends_of}
 use Rattle.pg_course.specs.Warm.{IsConcluded, IsReplayed}
-use Rattle.pg_course.specs.declared.execution.Played.{Played}
-use Rattle.pg_course.specs.declared.found.Candidate.{Candidate}
+use Rattle.pg_compute.specs.declared.execution.Played.{Played}
+use Rattle.pg_compute.specs.declared.found.Candidate.{Candidate}
 use Rattle.pg_course.proofs.BesideOld.{IsWarmStep, WasRead, all_are_read, all_mine, all_were_read, are_candidates, candidates, candidates_rise, is_restless, kept, kept_holds, old_reads_nothing, reads_nothing}
-use Rattle.pg_course.proofs.Changing.{entries, entries-among, entries-rise, told_at}
-use Rattle.pg_course.proofs.Looking.{both, failing, in_either, in_neither, passing}
+use Rattle.pg_compute.proofs.Changing.{entries, entries-among, entries-rise, told_at}
+use Rattle.pg_compute.proofs.Looking.{both, failing, in_either, in_neither, passing}
 use Rattle.pg_inbox.proofs.Replacing.{unchanged_at}
-use Rattle.pg_course.proofs.Coverage.{records_held}
-use Rattle.pg_course.proofs.Delivery.{sent_rise}
-use Rattle.pg_course.proofs.Finding.{state_in_run}
-use Rattle.pg_course.proofs.Mended.{sender_mended}
-use Rattle.pg_course.proofs.ReadVertices.{IsRead, gives_record, reads_inputs}
-use Rattle.pg_course.proofs.Recording.{IsCounted, IsRight, counted_are, no_other_record, records_are, records_rise}
-use Rattle.pg_course.proofs.Sames.{at_rest_then, reads_same, runs_if_changed}
-use Rattle.pg_course.proofs.Sends.{by_records, sends_by_records}
+use Rattle.pg_compute.proofs.Coverage.{records_held}
+use Rattle.pg_routing.proofs.Delivery.{sent_rise}
+use Rattle.pg_compute.proofs.Finding.{state_in_run}
+use Rattle.pg_routing.proofs.Mended.{sender_mended}
+use Rattle.pg_compute.proofs.ReadVertices.{IsRead, gives_record, reads_inputs}
+use Rattle.pg_compute.proofs.Recording.{IsCounted, IsRight, counted_are, no_other_record, records_are, records_rise}
+use Rattle.pg_compute.proofs.Sames.{at_rest_then, reads_same, runs_if_changed}
+use Rattle.pg_routing.proofs.Sends.{by_records, sends_by_records}
 use Rattle.pg_course.proofs.Stepping.{stepped_holds}
 use Rattle.pg_trace.specs.OfRun.{HoldsRun}
-use Rattle.pg_trace.specs.Trace.{Trace, records_of, state_at as trace_state_at, with_replaced, with_superstep}
 use Rattle.pg_trace.proofs.RunStates.{state_of_run}
 
 module _ {V M : Type 0} (value_eq : V → V → Bool) (message_eq : M → M → Bool) (job : Job V M) (old rows : Rows) (n p s : ℕ) (course : Holding V M) (logs old_logs : Slots M) (old_view view : View) (bundles : List (Parcels M)) (before : ℕ) (played : Played V M)

@@ -14,16 +14,10 @@ use Rattle.pg_model.specs.Needed.{needed_in}
 use Rattle.pg_model.specs.Run.{run_length}
 use Rattle.pg_model.specs.Share.{belongs, records_in}
 use Rattle.pg_model.specs.Superstep.{capped, has_id}
-use Rattle.pg_course.specs.Differing.{are_resting}
-use Rattle.pg_course.specs.Lent.{bundle_sent}
+use Rattle.pg_compute.specs.Differing.{are_resting}
+use Rattle.pg_routing.specs.Routes.{bundle_sent}
 use Rattle.pg_trace.specs.OfRun.{HoldsRun}
 use Rattle.pg_trace.specs.Trace.{Trace, records_of}
-
--- the rows of a graph, and which partition of how many is meant
-pub record PartRows : Type 0 where
-  pub graph : Rows
-  pub partition : ℕ
-  pub partitions : ℕ
 
 -- a partition at a superstep: which it is, and its trace so far; where it is warm also the trace of the old run, and the
 -- ids at which the two may have other states, those that rest in both apart from the others; and the ids that the last step

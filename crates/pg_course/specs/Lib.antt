@@ -1,9 +1,3 @@
-pub mod Candidates
-pub mod Differing
-pub mod Found
-pub mod Lent
-pub mod Lists
 pub mod Course
-pub mod Sending
-pub mod Starting
+pub mod Lent
 pub mod Warm

@@ -8,15 +8,14 @@ use Rattle.pg_inbox.specs.declared.logs.Logged.{Logged}
 use Rattle.pg_model.specs.Job.{Combining, Program}
 use Rattle.pg_model.specs.declared.record.Record.{Record}
 use Rattle.pg_model.specs.declared.view.View.{View}
-use Rattle.pg_course.specs.Candidates.{AreLookedAt, IsPlayed}
-use Rattle.pg_course.specs.Differing.{AreTold, resting_among, restless_among, without}
-use Rattle.pg_course.specs.Found.{is_same_view}
-use Rattle.pg_course.specs.Lent.{bundles_before}
-use Rattle.pg_course.specs.Lists.{reaching}
+use Rattle.pg_compute.specs.Candidates.{AreLookedAt, IsPlayed}
+use Rattle.pg_compute.specs.Differing.{AreTold, resting_among, restless_among, without}
+use Rattle.pg_compute.specs.Found.{is_same_view}
+use Rattle.pg_routing.specs.Routes.{bundles_before}
+use Rattle.pg_trace.specs.Trace.{reaching, Trace, with_replaced}
 use Rattle.pg_course.specs.Course.{Holding}
-use Rattle.pg_course.specs.Sending.{IsMended, items_to, pairs_of, sends_of}
-use Rattle.pg_course.specs.declared.execution.Played.{Played}
-use Rattle.pg_trace.specs.Trace.{Trace, with_replaced}
+use Rattle.pg_routing.specs.Sending.{IsMended, items_to, pairs_of, sends_of}
+use Rattle.pg_compute.specs.declared.execution.Played.{Played}
 
 module _ {V M : Type 0} (value_eq : V → V → Bool) (message_eq : M → M → Bool) (combining : Option (Combining M)) (course : Holding V M) (old : Trace V M) (old_logs : Slots M) where
   -- the bundles to the partition in the old run

@@ -10,12 +10,12 @@ ghost use Rattle.pg_map.specs.Entries.{ChangesRise, HasRisingIds};
 ghost use Rattle.pg_model.specs.Job.{Job};
 ghost use Rattle.pg_model.specs.Run.{run_length, view_at};
 ghost use Rattle.pg_model.specs.Superstep.{has_id};
-ghost use Rattle.pg_course.specs.Lent.{HasMessages, IsBesideOld, IsLent, IsLentBeside, bundles_before};
+ghost use Rattle.pg_routing.specs.Routes.{HasMessages, bundles_before};
+ghost use Rattle.pg_course.specs.Lent.{IsBesideOld, IsLent, IsLentBeside};
 ghost use Rattle.pg_course.specs.Course.{AreTouched, HasBegun, HasStepped, Holds, IsFurther, IsWhole, differing, differing_past, kept_length};
 ghost use Rattle.pg_program.specs.Context.{ShowsDeclared};
-ghost use Rattle.pg_course.specs.Lists.{reaching};
-ghost use Rattle.pg_trace.specs.Trace.{StatesRise, with_replaced};
-ghost use Rattle.pg_course.specs.Starting.{first_states};
+ghost use Rattle.pg_trace.specs.Trace.{reaching, StatesRise, with_replaced};
+ghost use Rattle.pg_routing.specs.Starting.{first_states};
 
 use crate::begin::first_changes;
 use crate::candidates::{awake_ids, play_alone};
@@ -495,28 +495,6 @@ fn differing_past<V, M>(
         None => Ok(differing),
         Some(_) => with_ids(differing, changed),
     }
-}
-
-/// These ids, and more.
-pub(crate) fn with_ids(ids: Vec<VertexId>, more: &[VertexId]) -> Result<Vec<VertexId>, Memory>
-    ensures { IfOk result (λ all. all.items ≡ ids.items ++ more.now) }
-{
-    let mut all = ids;
-    for id in more {
-        all.push(*id)?;
-    }
-    Ok(all)
-}
-
-/// A copy of these ids.
-fn copied(alloc: Global, ids: &[VertexId]) -> Result<Vec<VertexId>, Memory>
-    ensures { IfOk result (λ copy. copy.items ≡ ids.now) }
-{
-    let mut copy = Vec::with_capacity(alloc, ids.len())?;
-    for id in ids {
-        copy.push(*id)?;
-    }
-    Ok(copy)
 }
 
 /// A trace with these changes of the records of a superstep, which it has or which comes next.

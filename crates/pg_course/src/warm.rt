@@ -3,7 +3,7 @@ ghost use Rattle.std.specs.Prelude.{ℕ, ◌+◌, ◌++◌, ◌^◌, ◌<◌, �
 ghost use Rattle.std.specs.List.Sorted.{IsStrictlySortedBy};
 ghost use Rattle.std.specs.Ordering.{nat_cmp};
 ghost use Rattle.pg_map.specs.Entries.{ChangesRise};
-ghost use Rattle.pg_course.specs.Differing.{AreTold, resting_among, restless_among, without};
+ghost use Rattle.pg_compute.specs.Differing.{AreTold, resting_among, restless_among, without};
 ghost use Rattle.pg_course.specs.Warm.{IsConcluded, IsReplayed};
 ghost use Rattle.pg_program.specs.Context.{ShowsDeclared};
 
@@ -146,26 +146,4 @@ pub(crate) fn concluded<V: Plain, M: Plain, C: MessageCombiner<M>>(
         sent: Sent::of(bundles),
         meter,
     })
-}
-
-/// The vertices whose states may differ as a superstep begins: those that do of those that were looked at, and those that
-/// rested before and weren't.
-fn differing_after<V: Plain, M: Plain>(
-    alloc: Global,
-    old: &Trace<V, M>,
-    new: &Trace<V, M>,
-    superstep: Superstep,
-    looked_at: &[VertexId],
-    before: &Differing,
-) -> Result<Differing, Memory>
-    requires { IsStrictlySortedBy nat_cmp looked_at.now }
-    ensures restless { IfOk result (λ after. after.restless.items ≡ restless_among V.PartialEq.eq old.now new.now superstep looked_at.now) }
-    ensures resting { IfOk result (λ after. after.resting.items
-        ≡ without before.now.resting.items looked_at.now ++ resting_among V.PartialEq.eq old.now new.now superstep looked_at.now) }
-    ensures told { IfOk result (λ _. AreTold V.PartialEq.eq old.now new.now superstep looked_at.now) }
-{
-    let Differing { restless, resting } = differing_among(alloc, old, new, superstep, looked_at)?;
-    let still = without(alloc, before.resting.as_slice(), looked_at)?;
-    let resting = with_ids(still, resting.as_slice())?;
-    Ok(Differing { restless, resting })
 }

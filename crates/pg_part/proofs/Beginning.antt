@@ -4,8 +4,8 @@ use Rattle.std.specs.List.{range_with_len, slice_get}
 use Rattle.std.specs.List.Sorted.{IsStrictlySortedBy}
 use Rattle.std.specs.Ordering.{nat_cmp}
 use Rattle.pg_course.specs.Course.{AreTouched}
-use Rattle.pg_course.specs.Starting.{first_states}
-use Rattle.pg_course.proofs.Beginning.{begun_holds}
+use Rattle.pg_routing.specs.Starting.{first_states}
+use Rattle.pg_routing.proofs.Beginning.{begun_holds}
 use Rattle.pg_global.specs.Registry.{Registered}
 use Rattle.pg_graph.specs.Rows.{HasRisingIds, Rows}
 use Rattle.pg_model.specs.ByIds.{state_first}

@@ -5,9 +5,9 @@ use Rattle.std.proofs.lemmas.Bool.{eqb-true}
 use Rattle.std.proofs.lemmas.List.{length-map}
 use Rattle.std.proofs.lemmas.Option.{slice_get-map}
 use Rattle.pg_course.specs.Course.{AreTheOnly, AreTheOnlyBeside, Holding, IsSentTo}
-use Rattle.pg_course.specs.Lent.{bundle_in, bundle_sent}
-use Rattle.pg_course.proofs.Coverage.{records_held}
-use Rattle.pg_course.proofs.Recording.{records_rise}
+use Rattle.pg_routing.specs.Routes.{bundle_in, bundle_sent}
+use Rattle.pg_compute.proofs.Coverage.{records_held}
+use Rattle.pg_compute.proofs.Recording.{records_rise}
 use Rattle.pg_global.specs.Registry.{Registered}
 use Rattle.pg_graph.specs.Rows.{Rows}
 use Rattle.pg_inbox.specs.Bundles.{Parcels, parcels_in}

@@ -1,7 +1,7 @@
 use Rattle.std.proofs.Common.{◌≡◌, ℕ, ◌+◌, List, [], ◌∷◌, ◌++◌, length, None, ap, ◌∙◌, subst, arith}
 use Rattle.std.proofs.lemmas.List.{length_push}
 use Rattle.pg_core.proofs.Opening.{begun_more}
-use Rattle.pg_course.specs.Course.{PartRows}
+use Rattle.pg_routing.specs.Starting.{PartRows}
 use Rattle.pg_part.specs.Part.{HoldsShare}
 use Rattle.pg_core.proofs.beginning.begun_parts.Goals as goal
 

@@ -3,7 +3,8 @@ use Rattle.std.specs.List.{slice_get}
 use Rattle.std.proofs.lemmas.List.{length-append, length_push}
 use Rattle.pg_core.proofs.Opening.{begun_more, slice_get-between}
 use Rattle.pg_core.specs.Traces.{HasLeft}
-use Rattle.pg_course.specs.Course.{AreTouched, PartRows}
+use Rattle.pg_course.specs.Course.{AreTouched}
+use Rattle.pg_routing.specs.Starting.{PartRows}
 use Rattle.pg_part.specs.Part.{HoldsShare, IsLeft}
 use Rattle.pg_recount.specs.Traffic.{AreMoved}
 use Rattle.pg_core.proofs.beginning.begun_parts_beside.Goals as goal

@@ -3,13 +3,12 @@ use Rattle.std.specs.List.{flat_map, slice_get}
 use Rattle.std.proofs.lemmas.List.{length-set}
 use Rattle.pg_inbox.specs.Logged.{slot_at}
 use Rattle.pg_map.specs.Entries.{with_changes}
-use Rattle.pg_course.specs.Differing.{AreTold, resting_among, restless_among, without}
-use Rattle.pg_course.specs.Lists.{reaching}
+use Rattle.pg_compute.specs.Differing.{AreTold, resting_among, restless_among, without}
+use Rattle.pg_trace.specs.Trace.{reaching, records_of, with_replaced}
 use Rattle.pg_course.specs.Course.{Holding}
-use Rattle.pg_course.specs.Sending.{IsMended, items_to, pairs_of, sends_of}
+use Rattle.pg_routing.specs.Sending.{IsMended, items_to, pairs_of, sends_of}
 use Rattle.pg_course.specs.Warm.{IsConcluded}
 use Rattle.pg_course.proofs.Stepping.{length-reaching}
-use Rattle.pg_trace.specs.Trace.{records_of, with_replaced}
 use Rattle.pg_course.proofs.warm.concluded.Goals as goal
 
 pub invariant_of-course : goal.invariant_of-course

@@ -1,7 +1,7 @@
 use Rattle.std.proofs.Common.{Some, not, ◌∙◌, subst, subst₂}
 use Rattle.pg_inbox.specs.Alike.{DeliverAlike}
-use Rattle.pg_course.specs.Candidates.{AreLookedAt, IsPlayed}
-use Rattle.pg_course.specs.Lent.{bundles_before}
+use Rattle.pg_compute.specs.Candidates.{AreLookedAt, IsPlayed}
+use Rattle.pg_routing.specs.Routes.{bundles_before}
 use Rattle.pg_course.specs.Course.{Holding}
 use Rattle.pg_course.specs.Warm.{IsReplayed}
 use Rattle.pg_course.proofs.warm.replayed.Goals as goal

@@ -1,7 +1,7 @@
 use Rattle.std.proofs.Common.{◌≡◌, ℕ, List, ◌+◌, ◌-◌, ◌≤◌, ◌++◌, ap, ap₂, sym, ◌∙◌, append_assoc, flat_map, arith}
 use Rattle.std.specs.List.{range_with_len}
 use Rattle.std.specs.Map.{keys_of}
-use Rattle.pg_course.proofs.Listing.{flat_map-range_from}
+use Rattle.pg_routing.proofs.Listing.{flat_map-range_from}
 use Rattle.pg_values.specs.Values.{ran_between}
 use Rattle.pg_trace.specs.Trace.{lent, records_of}
 use Rattle.pg_values.proofs.values.add_ran.Goals as goal

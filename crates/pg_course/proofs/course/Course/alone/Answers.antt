@@ -2,12 +2,12 @@ use Rattle.std.proofs.Common.{false, ◌+◌, ◌≤◌, length, ap, sym, ◌∙
 use Rattle.std.specs.List.{flat_map, slice_get}
 use Rattle.std.proofs.lemmas.List.{length-set}
 use Rattle.pg_map.specs.Entries.{with_changes}
-use Rattle.pg_course.specs.Lists.{reaching}
+use Rattle.pg_trace.specs.Trace.{reaching, records_of}
 use Rattle.pg_course.specs.Course.{Holding, Holds, differing_past}
-use Rattle.pg_course.specs.Sending.{IsFresh, items_to, sends_of}
+use Rattle.pg_routing.specs.Sending.{IsFresh, items_to, sends_of}
 use Rattle.pg_course.proofs.Alone.{alone_steps}
-use Rattle.pg_course.proofs.Stepping.{length-reaching, played_rise}
-use Rattle.pg_trace.specs.Trace.{records_of}
+use Rattle.pg_course.proofs.Stepping.{length-reaching}
+use Rattle.pg_compute.proofs.Playing.{played_rise}
 use Rattle.pg_course.proofs.course.Course.alone.Goals as goal
 
 pub with_records-requires-clause-rise : goal.with_records-requires-clause-rise

@@ -1,5 +1,5 @@
 use Rattle.std.proofs.Common.{length, ap, sym, ◌∙◌, subst, refl}
-use Rattle.pg_course.proofs.Beginning.{begun_holds}
+use Rattle.pg_routing.proofs.Beginning.{begun_holds}
 use Rattle.pg_trace.specs.OfRun.{HoldsRun}
 use Rattle.pg_trace.specs.Trace.{begun}
 use Rattle.pg_course.proofs.course.Course.begin.Goals as goal

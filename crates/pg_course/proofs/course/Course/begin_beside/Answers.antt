@@ -4,8 +4,9 @@ use Rattle.std.specs.Ordering.{nat_cmp}
 use Rattle.pg_map.specs.Entries.{ChangesRise}
 use Rattle.pg_model.specs.Superstep.{has_id}
 use Rattle.pg_course.specs.Course.{AreTouched, Holding, Holds, IsWhole}
-use Rattle.pg_course.specs.Starting.{first_changes}
-use Rattle.pg_course.proofs.Beginning.{changes_by_id, changes_rise, holds_beside}
+use Rattle.pg_routing.specs.Starting.{first_changes}
+use Rattle.pg_routing.proofs.Beginning.{changes_by_id, changes_rise}
+use Rattle.pg_course.proofs.Beginning.{holds_beside}
 use Rattle.pg_trace.specs.Beginning.{ChangesById, with_first}
 use Rattle.pg_course.proofs.course.Course.begin_beside.Goals as goal
 

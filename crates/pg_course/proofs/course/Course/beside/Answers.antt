@@ -1,7 +1,7 @@
 use Rattle.std.proofs.Common.{◌≡◌, None, sym, ◌∙◌, subst}
 use Rattle.pg_course.specs.Course.{HasStepped, Holding, Holds}
 use Rattle.pg_course.specs.Warm.{IsConcluded, IsReplayed}
-use Rattle.pg_course.proofs.Stepping.{looked_at_rise, played_rise}
+use Rattle.pg_compute.proofs.Playing.{looked_at_rise, played_rise}
 use Rattle.pg_course.proofs.WarmStep.{beside_steps, nothing_kept}
 use Rattle.pg_course.proofs.course.Course.beside.Goals as goal
 

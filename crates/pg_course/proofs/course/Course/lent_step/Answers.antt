@@ -2,7 +2,7 @@ use Rattle.std.proofs.Common.{length, inl, inr, ap, sym, ◌∙◌, subst, refl}
 use Rattle.std.specs.Option.{option_copied}
 use Rattle.pg_global.proofs.Shown.{shows_declared}
 use Rattle.pg_model.specs.Superstep.{view_of}
-use Rattle.pg_course.specs.Lent.{bundles_before}
+use Rattle.pg_routing.specs.Routes.{bundles_before}
 use Rattle.pg_program.specs.Context.{ShowsDeclared}
 use Rattle.pg_course.proofs.WarmStep.{past_without, seen_beside}
 use Rattle.pg_course.proofs.course.Course.lent_step.Goals as goal

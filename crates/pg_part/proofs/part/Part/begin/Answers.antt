@@ -1,5 +1,5 @@
 use Rattle.std.proofs.Common.{ap, sym, ◌∙◌, ◌∷◌, ◌++◌, []}
-use Rattle.pg_course.specs.Starting.{first_states}
+use Rattle.pg_routing.specs.Starting.{first_states}
 use Rattle.pg_part.proofs.Beginning.{begun_stats, first_are}
 use Rattle.pg_stats.specs.Stats.{census_of}
 use Rattle.pg_part.proofs.part.Part.begin.Goals as goal

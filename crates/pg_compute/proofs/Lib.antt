@@ -1,0 +1,11 @@
+pub mod Callees
+pub mod Changing
+pub mod Coverage
+pub mod Finding
+pub mod Looking
+pub mod Playing
+pub mod ReadVertices
+pub mod Recording
+pub mod Sames
+pub mod Searching
+pub mod States

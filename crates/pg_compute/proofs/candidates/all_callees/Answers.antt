@@ -1,0 +1,22 @@
+use Rattle.std.proofs.Common.{length, map, true, sym, subst, ◌∙◌}
+use Rattle.std.proofs.lemmas.Bool.{eqb-true}
+use Rattle.std.proofs.lemmas.List.{nil_from_length}
+use Rattle.pg_compute.specs.Candidates.{AreCallees}
+use Rattle.pg_compute.proofs.Callees.{are_callees, are_receivers}
+use Rattle.pg_compute.proofs.candidates.all_callees.Goals as goal
+
+pub returns-then-is_empty : goal.returns-then-is_empty
+returns-then-is_empty g c =
+    let combining = g.C.MessageCombiner.combining c.args.combiner.now in
+    let bundles = map (λ b. b.now) c.args.bundles.now in
+    let ids = c.args.ids.now in
+    let none = nil_from_length ids (eqb-true (length ids) 0 (sym c.is_empty.ensures ∙ c.if-is_empty.true)) in
+    subst (λ ids. AreCallees combining bundles ids true c.in_ok-inboxes.inboxes.items) (sym none)
+    (are_receivers combining bundles c.in_ok-inboxes.inboxes.items c.in_ok-inboxes.ensures)
+
+pub returns : goal.returns
+returns g c =
+    let combining = g.C.MessageCombiner.combining c.args.combiner.now in
+    let bundles = map (λ b. b.now) c.args.bundles.now in
+    subst (AreCallees combining bundles c.args.ids.now true) (sym c.in_ok-callees.ensures)
+    (are_callees combining bundles c.args.ids.now c.in_ok-inboxes.inboxes.items c.in_ok-inboxes.ensures)

@@ -1,0 +1,16 @@
+use Rattle.std.proofs.Common.{◌≡◌, ◌++◌, None, map}
+use Rattle.std.specs.List.{AllByRecursion}
+use Rattle.std.specs.Map.{keys_of}
+use Rattle.pg_compute.specs.Candidates.{found_at}
+use Rattle.pg_compute.proofs.candidates.candidates_alone.Given as goal
+
+abbrev pub invariant-loop-id : goal.invariant-loop-id
+invariant-loop-id g l =
+    let program = g.P.Computation.program l.program in
+    record {
+      ids : map (λ c. c.id) l.candidates.items ≡ keys_of l.yielded;
+      new : map (λ c. c.new) l.candidates.items ≡ map (found_at program l.missing l.superstep l.trace) l.yielded;
+      old : AllByRecursion (λ c. c.old ≡ None) l.candidates.items;
+      states : l.states ≡ l.trace;
+      whole : l.yielded ++ l.id-iterator.rest.items ≡ l.fn.callees.items;
+    }

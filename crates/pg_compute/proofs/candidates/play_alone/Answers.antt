@@ -1,0 +1,23 @@
+use Rattle.std.proofs.Common.{true, map, ap, ◌∙◌, subst}
+use Rattle.std.specs.Map.{keys_of}
+use Rattle.pg_compute.specs.Candidates.{AreCallees, found_at}
+use Rattle.pg_compute.proofs.ReadVertices.{untold}
+use Rattle.pg_compute.proofs.candidates.play_alone.Goals as goal
+
+pub returns : goal.returns
+returns g c =
+    let program = g.P.Computation.program c.args.program.now in
+    let own = c.in_ok-callees-2.ensures in
+    record {
+      callees = c.in_ok-callees.callees.items;
+      are = subst (λ bundles. AreCallees (g.C.MessageCombiner.combining c.args.combiner.now) bundles c.args.ids.now true c.in_ok-callees.callees.items)
+          (ap (map (λ b. b.now)) c.as_slice.ensures.value ∙ c.in_ok-lent.ensures) c.in_ok-callees.ensures;
+      candidates = c.in_ok-candidates.candidates.items;
+      ids_are = c.in_ok-candidates.ensures.ids ∙ ap keys_of own;
+      new_are = c.in_ok-candidates.ensures.new ∙ ap (map (found_at program c.args.missing c.args.superstep c.args.trace.now)) own;
+      beside_are = c.in_ok-candidates.ensures.old;
+      told = untold g.P.Value.PartialEq.eq g.P.Message.PartialEq.eq c.in_ok-candidates.candidates.items c.in_ok-candidates.ensures.old;
+      looked_at_are = c.in_ok-played.ensures.looked_at;
+      changes_are = c.in_ok-played.ensures.changes;
+      counted = c.in_ok-played.ensures.meter;
+    }

@@ -1,0 +1,59 @@
+use Rattle.std.proofs.Common.{◌≡◌, ◌+◌, ◌++◌, cond, [], ◌∷◌, append_assoc, map, rules, ap, ap₂, sym, ◌∙◌}
+use Rattle.std.specs.List.{count_by, flat_map}
+use Rattle.pg_model.specs.Superstep.{capped}
+use Rattle.pg_model.specs.declared.view.View.{View}
+use Rattle.pg_compute.specs.Found.{change_of, is_run}
+use Rattle.std.proofs.lemmas.List.{map-append, nil_from_length}
+use Rattle.pg_routing.proofs.Listing.{all_yielded, count_by-push, flat_map-push, more_calls}
+use Rattle.pg_compute.proofs.execution.play.Goals as goal
+
+pub loop-candidate-preserved : goal.loop-candidate-preserved
+loop-candidate-preserved g c =
+    let program = g.P.Computation.program c.args.program.now in
+    let changes : View → _ = λ v. change_of g.P.Value.PartialEq.eq g.P.Message.PartialEq.eq program v c.args.seen in
+    let runs : View → _ = λ v. is_run g.P.Value.PartialEq.eq g.P.Message.PartialEq.eq program v c.args.seen in
+    let before = c.loop-candidate.yielded in
+    let one = c.in-Some.candidate in
+    let same = c.loop-candidate.invariant.view in
+    record {
+      looked_at = c.in_ok-played.ensures.looked_at
+          ∙ ap (λ l. l ++ one.id ∷ []) c.loop-candidate.invariant.looked_at
+          ∙ sym (map-append (λ c. c.id) before (one ∷ []));
+      changes = c.in_ok-played.ensures.changes
+          ∙ ap₂ ◌++◌ c.loop-candidate.invariant.changes (ap (λ v. changes v one) same)
+          ∙ sym (flat_map-push (changes c.args.stage.view) before one);
+      view = c.in_ok-played.ensures.view ∙ same;
+      meter = c.in_ok-played.ensures.meter
+          ∙ ap₂ (λ m v. capped (m + cond (runs v one) 1 0)) c.loop-candidate.invariant.meter same
+          ∙ more_calls c.args.stage.meter (count_by (runs c.args.stage.view) before) (cond (runs c.args.stage.view one) 1 0)
+          ∙ ap (λ n. capped (c.args.stage.meter + n)) (sym (count_by-push (runs c.args.stage.view) before one));
+      whole = append_assoc before (one ∷ []) c.next.new.self.rest.items ∙ (ap (λ l. before ++ l) (sym c.in-Some.ensures.steps.0) ∙ c.loop-candidate.invariant.whole);
+    }
+
+pub returns-clause-looked_at : goal.returns-clause-looked_at
+returns-clause-looked_at g c =
+    let before = c.loop-candidate.yielded in
+    let rest = c.loop-candidate.candidate-iterator.rest in
+    let none : rest.items ≡ [] = nil_from_length rest.items (search rules) in
+    c.loop-candidate.invariant.looked_at
+    ∙ ap (map (λ c. c.id)) (all_yielded before rest.items c.args.candidates.items c.loop-candidate.invariant.whole none)
+
+pub returns-clause-changes : goal.returns-clause-changes
+returns-clause-changes g c =
+    let before = c.loop-candidate.yielded in
+    let rest = c.loop-candidate.candidate-iterator.rest in
+    let none : rest.items ≡ [] = nil_from_length rest.items (search rules) in
+    let program = g.P.Computation.program c.args.program.now in
+    c.loop-candidate.invariant.changes
+    ∙ ap (flat_map (change_of g.P.Value.PartialEq.eq g.P.Message.PartialEq.eq program c.args.stage.view c.args.seen))
+    (all_yielded before rest.items c.args.candidates.items c.loop-candidate.invariant.whole none)
+
+pub returns-clause-meter : goal.returns-clause-meter
+returns-clause-meter g c =
+    let before = c.loop-candidate.yielded in
+    let rest = c.loop-candidate.candidate-iterator.rest in
+    let none : rest.items ≡ [] = nil_from_length rest.items (search rules) in
+    let program = g.P.Computation.program c.args.program.now in
+    let runs = is_run g.P.Value.PartialEq.eq g.P.Message.PartialEq.eq program c.args.stage.view c.args.seen in
+    c.loop-candidate.invariant.meter
+    ∙ ap (λ l. capped (c.args.stage.meter + count_by runs l)) (all_yielded before rest.items c.args.candidates.items c.loop-candidate.invariant.whole none)

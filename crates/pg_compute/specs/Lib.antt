@@ -1,0 +1,4 @@
+pub mod Candidates
+pub mod Differing
+pub mod Found
+pub mod Lists

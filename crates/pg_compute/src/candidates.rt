@@ -1,0 +1,299 @@
+//! The vertices that a step looks at: which they are, and how it finds them.
+ghost use Rattle.std.specs.Prelude.{◌≡◌, ◌++◌, ◌<◌, ◌^◌, map, [], ◌∷◌, None, Some, true, false, not, IfOk, OnOk};
+ghost use Rattle.std.specs.List.Sorted.{IsStrictlySortedBy};
+ghost use Rattle.std.specs.Ordering.{nat_cmp};
+ghost use Rattle.std.specs.List.{AllByRecursion};
+ghost use Rattle.std.specs.Map.{keys_of};
+ghost use Rattle.pg_compute.specs.Candidates.{AreCallees, IsPlayed, awake_ids, found_at};
+ghost use Rattle.pg_routing.specs.Starting.{own};
+ghost use Rattle.pg_compute.specs.Found.{IsFound, IsTold};
+ghost use Rattle.pg_program.specs.Context.{ShowsDeclared};
+
+use crate::execution::{Played, Stage, play};
+use crate::found::{Candidate, tell_same, vertex_at};
+use crate::reading::{awake_after, inboxes_at, lent_bundles, with_empty};
+use pg_global::MessageCombiner;
+use pg_graph::{Memory, Missing, Superstep, VertexId};
+use pg_inbox::{Bundle, inbox, inboxes};
+use pg_model::{Sequence, Standing};
+use pg_program::{Computation, Plain};
+use pg_routing::Share;
+use pg_trace::{States, Trace};
+use std::alloc::Global;
+
+/// The vertices that aren't halted as a superstep begins, by rising id.
+pub(crate) fn awake_ids<V: Drop, M: Drop>(
+    alloc: Global,
+    trace: &Trace<V, M>,
+    superstep: Superstep,
+) -> Result<Vec<VertexId>, Memory>
+    ensures { IfOk result (λ ids. ids.items ≡ awake_ids superstep trace.now) }
+{
+    match superstep.number().checked_sub(1) {
+        Some(before) => {
+            let records = trace.records(alloc, Superstep::new(before))?;
+            let ids = awake_after(alloc, records.as_slice())?;
+            Ok(ids)
+        }
+        None => {
+            let ids = trace.initial_ids(alloc)?;
+            Ok(ids)
+        }
+    }
+}
+
+/// Those that belong to a partition.
+fn own<M: Plain>(
+    alloc: Global,
+    share: &Share,
+    callees: Vec<(VertexId, Sequence<M>)>,
+) -> Result<Vec<(VertexId, Sequence<M>)>, Memory>
+    ensures { IfOk result
+        (λ found. found.items ≡ own share.now.partitions share.now.partition callees.items) }
+{
+    let mut found = Vec::with_capacity(alloc, callees.len())?;
+    for callee in callees {
+        add_own(&mut found, share, callee)?;
+    }
+    Ok(found)
+}
+
+/// Adds a vertex that belongs to a partition.
+fn add_own<M: Plain>(
+    found: &mut Vec<(VertexId, Sequence<M>)>,
+    share: &Share,
+    callee: (VertexId, Sequence<M>),
+) -> Result<(), Memory>
+    ensures { OnOk result (found.new.items
+        ≡ found.old.items ++ own share.now.partitions share.now.partition (callee ∷ [])) }
+{
+    if !share.has(callee.0) {
+        return Ok(());
+    }
+    found.push(callee)?;
+    Ok(())
+}
+
+/// These vertices, by rising id, with what is delivered to each; and where all are asked for, each that receives
+/// something.
+fn callees<M: Plain, C: MessageCombiner<M>>(
+    alloc: Global,
+    bundles: &[&Bundle<M>],
+    ids: &[VertexId],
+    all: bool,
+    combiner: &C,
+) -> Result<Vec<(VertexId, Sequence<M>)>, Memory>
+    requires { all ≡ false → IsStrictlySortedBy nat_cmp ids.now }
+    ensures { IfOk result (λ callees.
+        AreCallees (C.combining combiner.now) (map (λ b. b.now) bundles.now) ids.now all callees.items) }
+{
+    if all {
+        let callees = all_callees(alloc, bundles, ids, combiner)?;
+        return Ok(callees);
+    }
+    let callees = inboxes_at(alloc, bundles, ids, combiner)?;
+    Ok(callees)
+}
+
+/// These vertices and all that receive something. Where no vertex is given it costs what the inboxes do, and else a
+/// look-up among all of them for each besides.
+fn all_callees<M: Plain, C: MessageCombiner<M>>(
+    alloc: Global,
+    bundles: &[&Bundle<M>],
+    ids: &[VertexId],
+    combiner: &C,
+) -> Result<Vec<(VertexId, Sequence<M>)>, Memory>
+    ensures { IfOk result (λ callees.
+        AreCallees (C.combining combiner.now) (map (λ b. b.now) bundles.now) ids.now true callees.items) }
+{
+    let inboxes = inboxes(alloc, bundles, combiner)?;
+    if ids.is_empty() {
+        return Ok(inboxes);
+    }
+    let callees = with_empty(alloc, ids, inboxes)?;
+    Ok(callees)
+}
+
+/// Looks at these vertices and at all that receive something, and executes those that are active.
+pub fn play_alone<P: Computation, C: MessageCombiner<P::Message>>(
+    alloc: Global,
+    program: &P,
+    combiner: &C,
+    missing: Missing,
+    share: Share,
+    superstep: Superstep,
+    trace: &Trace<P::Value, P::Message>,
+    bundles: &[Bundle<P::Message>],
+    ids: &[VertexId],
+    stage: Stage,
+) -> Result<Played<P::Value, P::Message>, Memory>
+    requires shown { ShowsDeclared (P.program program.now).declared stage.view }
+    requires fits { stage.meter < 2 ^ 64 }
+    ensures { IfOk result (λ played.
+        IsPlayed P.Value.PartialEq.eq P.Message.PartialEq.eq (P.program program.now) missing
+        (C.combining combiner.now) stage.view share.partitions share.partition superstep trace.now
+        bundles.now None ids.now true false stage.meter played) }
+{
+    let lent = lent_bundles(alloc, bundles)?;
+    let callees = callees(alloc, lent.as_slice(), ids, true, combiner)?;
+    let callees = own(alloc, &share, callees)?;
+    let candidates = candidates_alone(alloc, program, missing, superstep, trace, callees)?;
+    let played = play(alloc, program, candidates, false, stage)?;
+    Ok(played)
+}
+
+/// Looks at these vertices, in the new run and in the old one, and executes those that are active and don't read
+/// what they read there. Where the old run saw something else, it looks at all that receive something too.
+pub fn play_beside<P: Computation, C: MessageCombiner<P::Message>>(
+    alloc: Global,
+    program: &P,
+    combiner: &C,
+    missing: Missing,
+    share: Share,
+    superstep: Superstep,
+    trace: &Trace<P::Value, P::Message>,
+    bundles: &[Bundle<P::Message>],
+    old: &Trace<P::Value, P::Message>,
+    old_bundles: &[Bundle<P::Message>],
+    ids: &[VertexId],
+    seen: bool,
+    stage: Stage,
+) -> Result<Played<P::Value, P::Message>, Memory>
+    requires rise { IsStrictlySortedBy nat_cmp ids.now }
+    requires shown { ShowsDeclared (P.program program.now).declared stage.view }
+    requires fits { stage.meter < 2 ^ 64 }
+    ensures { IfOk result (λ played.
+        IsPlayed P.Value.PartialEq.eq P.Message.PartialEq.eq (P.program program.now) missing
+        (C.combining combiner.now) stage.view share.partitions share.partition superstep trace.now
+        bundles.now (Some (old.now, old_bundles.now)) ids.now (not seen) seen stage.meter played) }
+{
+    let lent = lent_bundles(alloc, bundles)?;
+    let callees = callees(alloc, lent.as_slice(), ids, !seen, combiner)?;
+    let callees = own(alloc, &share, callees)?;
+    let old_lent = lent_bundles(alloc, old_bundles)?;
+    let candidates = candidates_beside(
+        alloc,
+        program,
+        combiner,
+        missing,
+        superstep,
+        trace,
+        old,
+        old_lent.as_slice(),
+        callees,
+    )?;
+    let played = play(alloc, program, candidates, seen, stage)?;
+    Ok(played)
+}
+
+/// These vertices, with what is delivered to each, as they stand in the run and in the old one.
+fn candidates_beside<P: Computation, C: MessageCombiner<P::Message>>(
+    alloc: Global,
+    program: &P,
+    combiner: &C,
+    missing: Missing,
+    superstep: Superstep,
+    trace: &Trace<P::Value, P::Message>,
+    old: &Trace<P::Value, P::Message>,
+    old_bundles: &[&Bundle<P::Message>],
+    callees: Vec<(VertexId, Sequence<P::Message>)>,
+) -> Result<Vec<Candidate<P::Value, P::Message>>, Memory>
+    ensures ids { IfOk result
+        (λ candidates. map (λ c. c.id) candidates.items ≡ keys_of callees.items) }
+    ensures new { IfOk result (λ candidates. map (λ c. c.new) candidates.items
+        ≡ map (found_at (P.program program.now) missing superstep trace.now) callees.items) }
+    ensures old { IfOk result (λ candidates.
+        AllByRecursion (λ c. IsFound (P.program program.now) missing (C.combining combiner.now) old.now superstep
+        (map (λ b. b.now) old_bundles.now) c.id c.old) candidates.items) }
+    ensures told { IfOk result (λ candidates.
+        AllByRecursion (IsTold P.Value.PartialEq.eq P.Message.PartialEq.eq) candidates.items) }
+{
+    let mut states = trace.states();
+    let mut old_states = old.states();
+    let mut candidates = Vec::with_capacity(alloc, callees.len())?;
+    for (id, delivered) in callees {
+        let new = vertex_at(
+            alloc,
+            program,
+            missing,
+            &mut states,
+            superstep,
+            id,
+            delivered,
+        )?;
+        let old = found(
+            alloc,
+            program,
+            combiner,
+            missing,
+            superstep,
+            &mut old_states,
+            old_bundles,
+            id,
+        )?;
+        tell_same(&old, &new);
+        candidates.push(Candidate { id, old, new })?;
+    }
+    Ok(candidates)
+}
+
+/// A vertex as it stands in a run.
+fn found<P: Computation, C: MessageCombiner<P::Message>>(
+    alloc: Global,
+    program: &P,
+    combiner: &C,
+    missing: Missing,
+    superstep: Superstep,
+    states: &mut States<'_, P::Value, P::Message>,
+    bundles: &[&Bundle<P::Message>],
+    id: VertexId,
+) -> Result<Option<Standing<P::Value, P::Message>>, Memory>
+    ensures found { IfOk result (λ x. IsFound (P.program program.now) missing (C.combining combiner.now) states.old superstep
+        (map (λ b. b.now) bundles.now) id x) }
+    ensures same { states.new ≡ states.old }
+{
+    let delivered = inbox(alloc, bundles, id, combiner)?;
+    let vertex = vertex_at(
+        alloc,
+        program,
+        missing,
+        states,
+        superstep,
+        id,
+        Sequence::from_vec(delivered),
+    )?;
+    Ok(vertex)
+}
+
+/// These vertices, with what is delivered to each, as they stand in the run.
+fn candidates_alone<P: Computation>(
+    alloc: Global,
+    program: &P,
+    missing: Missing,
+    superstep: Superstep,
+    trace: &Trace<P::Value, P::Message>,
+    callees: Vec<(VertexId, Sequence<P::Message>)>,
+) -> Result<Vec<Candidate<P::Value, P::Message>>, Memory>
+    ensures ids { IfOk result
+        (λ candidates. map (λ c. c.id) candidates.items ≡ keys_of callees.items) }
+    ensures new { IfOk result (λ candidates. map (λ c. c.new) candidates.items
+        ≡ map (found_at (P.program program.now) missing superstep trace.now) callees.items) }
+    ensures old { IfOk result (λ candidates. AllByRecursion (λ c. c.old ≡ None) candidates.items) }
+{
+    let mut states = trace.states();
+    let mut candidates = Vec::with_capacity(alloc, callees.len())?;
+    for (id, delivered) in callees {
+        let new = vertex_at(
+            alloc,
+            program,
+            missing,
+            &mut states,
+            superstep,
+            id,
+            delivered,
+        )?;
+        let old = None;
+        candidates.push(Candidate { id, old, new })?;
+    }
+    Ok(candidates)
+}

@@ -1,0 +1,189 @@
+//! The executions of a step.
+ghost use Rattle.std.specs.Prelude.{◌≡◌, ◌+◌, ◌^◌, ◌<◌, cond, is_some, map, IfOk, OnOk, [], ◌∷◌, ◌++◌};
+ghost use Rattle.std.specs.List.{count_by, flat_map};
+ghost use Rattle.std.specs.Option.{option_map};
+ghost use Rattle.pg_model.specs.Superstep.{capped, inputs_of};
+ghost use Rattle.pg_compute.specs.Found.{are_at_rest, change_of, change_unless, is_run, reads};
+ghost use Rattle.pg_program.specs.Context.{ShowsDeclared};
+
+use crate::found::{Candidate, are_at_rest, are_same_reading, is_active};
+use pg_graph::{Memory, VertexId};
+use pg_model::{Record, Standing, View};
+use pg_program::{Computation, Cx, EdgeRoom, Meter, Plain, Vertex};
+use std::alloc::Global;
+
+/// What the executions of a superstep share: what they see, room for changed edges, and the meter.
+#[derive(Drop)]
+pub struct Stage {
+    pub view: View,
+    pub room: EdgeRoom,
+    pub meter: Meter,
+}
+
+/// What a step makes of the vertices that it looks at: which they are, what becomes of their records where it isn't what
+/// stands there, and the stage afterwards.
+#[derive(Drop)]
+pub struct Played<V, M> {
+    pub looked_at: Vec<VertexId>,
+    pub changes: Vec<(VertexId, Option<Record<V, M>>)>,
+    pub stage: Stage,
+}
+
+/// Executes each vertex that is active, but for those that read what they read in the old run, where the
+/// view is seen again.
+pub(crate) fn play<P: Computation>(
+    alloc: Global,
+    program: &P,
+    candidates: Vec<Candidate<P::Value, P::Message>>,
+    seen: bool,
+    stage: Stage,
+) -> Result<Played<P::Value, P::Message>, Memory>
+    requires shown { ShowsDeclared (P.program program.now).declared stage.view }
+    requires fits { stage.meter < 2 ^ 64 }
+    ensures looked_at { IfOk result (λ p. p.looked_at.items ≡ map (λ c. c.id) candidates.items) }
+    ensures changes { IfOk result (λ p. p.changes.items
+        ≡ flat_map (change_of P.Value.PartialEq.eq P.Message.PartialEq.eq (P.program program.now) stage.view seen) candidates.items) }
+    ensures view { IfOk result (λ p. p.stage.view ≡ stage.view) }
+    ensures meter { IfOk result (λ p. p.stage.meter
+        ≡ capped (stage.meter + count_by (is_run P.Value.PartialEq.eq P.Message.PartialEq.eq (P.program program.now) stage.view seen) candidates.items)) }
+{
+    let mut played = Played {
+        looked_at: Vec::with_capacity(alloc, candidates.len())?,
+        changes: Vec::new(alloc),
+        stage,
+    };
+    for candidate in candidates {
+        played = play_one(alloc, program, candidate, seen, played)?;
+    }
+    Ok(played)
+}
+
+/// Lists a vertex, and executes it if it is active and doesn't read what it read in the old run.
+fn play_one<P: Computation>(
+    alloc: Global,
+    program: &P,
+    candidate: Candidate<P::Value, P::Message>,
+    seen: bool,
+    played: Played<P::Value, P::Message>,
+) -> Result<Played<P::Value, P::Message>, Memory>
+    requires shown { ShowsDeclared (P.program program.now).declared played.stage.view }
+    requires fits { played.stage.meter < 2 ^ 64 }
+    ensures looked_at { IfOk result (λ p. p.looked_at.items ≡ played.looked_at.items ++ candidate.id ∷ []) }
+    ensures changes { IfOk result (λ p. p.changes.items
+        ≡ played.changes.items ++ change_of P.Value.PartialEq.eq P.Message.PartialEq.eq (P.program program.now) played.stage.view seen candidate) }
+    ensures view { IfOk result (λ p. p.stage.view ≡ played.stage.view) }
+    ensures meter { IfOk result (λ p. p.stage.meter
+        ≡ capped (played.stage.meter + cond (is_run P.Value.PartialEq.eq P.Message.PartialEq.eq (P.program program.now) played.stage.view seen candidate) 1 0)) }
+{
+    let mut played = played;
+    played.looked_at.push(candidate.id)?;
+    if seen && are_same_reading(&candidate.old, &candidate.new) {
+        return Ok(played);
+    }
+    play_other(alloc, program, candidate, played)
+}
+
+/// Executes a vertex, if it is active.
+fn play_other<P: Computation>(
+    alloc: Global,
+    program: &P,
+    candidate: Candidate<P::Value, P::Message>,
+    played: Played<P::Value, P::Message>,
+) -> Result<Played<P::Value, P::Message>, Memory>
+    requires shown { ShowsDeclared (P.program program.now).declared played.stage.view }
+    requires fits { played.stage.meter < 2 ^ 64 }
+    ensures looked_at { IfOk result (λ p. p.looked_at.items ≡ played.looked_at.items) }
+    ensures changes { IfOk result (λ p. p.changes.items
+        ≡ played.changes.items ++ change_unless (P.program program.now) played.stage.view (are_at_rest candidate.old candidate.new) candidate) }
+    ensures view { IfOk result (λ p. p.stage.view ≡ played.stage.view) }
+    ensures meter { IfOk result (λ p. p.stage.meter
+        ≡ capped (played.stage.meter + cond (is_some (reads played.stage.view candidate.new)) 1 0)) }
+{
+    let rests = are_at_rest(&candidate.old, &candidate.new);
+    let Candidate { id, old: _, new } = candidate;
+    let Played {
+        looked_at,
+        mut changes,
+        stage,
+    } = played;
+    let (given, stage) = given_by(alloc, program, new, stage)?;
+    push_unless(&mut changes, rests, id, given)?;
+    Ok(Played {
+        looked_at,
+        changes,
+        stage,
+    })
+}
+
+/// Adds what becomes of a record, unless nothing becomes of it.
+fn push_unless<V: Plain, M: Plain>(
+    changes: &mut Vec<(VertexId, Option<Record<V, M>>)>,
+    rests: bool,
+    id: VertexId,
+    given: Option<Record<V, M>>,
+) -> Result<(), Memory>
+    ensures { OnOk result (changes.new.items ≡ changes.old.items ++ cond rests [] ((id, given) ∷ [])) }
+{
+    if rests {
+        return Ok(());
+    }
+    changes.push((id, given))?;
+    Ok(())
+}
+
+/// What the execution of a vertex gives, if it is there and active.
+fn given_by<P: Computation>(
+    alloc: Global,
+    program: &P,
+    vertex: Option<Standing<P::Value, P::Message>>,
+    stage: Stage,
+) -> Result<(Option<Record<P::Value, P::Message>>, Stage), Memory>
+    requires shown { ShowsDeclared (P.program program.now).declared stage.view }
+    requires fits { stage.meter < 2 ^ 64 }
+    ensures given { IfOk result
+        (λ r. r.0 ≡ option_map (P.program program.now).step (reads stage.view vertex)) }
+    ensures view { IfOk result (λ r. r.1.view ≡ stage.view) }
+    ensures meter { IfOk result
+        (λ r. r.1.meter ≡ capped (stage.meter + cond (is_some (reads stage.view vertex)) 1 0)) }
+{
+    match vertex {
+        Some(vertex) => {
+            if !is_active(&vertex) {
+                return Ok((None, stage));
+            }
+            let (given, stage) = execute(alloc, program, vertex, stage)?;
+            Ok((Some(given), stage))
+        }
+        None => Ok((None, stage)),
+    }
+}
+
+/// Executes a vertex.
+fn execute<P: Computation>(
+    alloc: Global,
+    program: &P,
+    vertex: Standing<P::Value, P::Message>,
+    stage: Stage,
+) -> Result<(Record<P::Value, P::Message>, Stage), Memory>
+    requires shown { ShowsDeclared (P.program program.now).declared stage.view }
+    ensures given { IfOk result
+        (λ r. r.0 ≡ (P.program program.now).step (inputs_of stage.view vertex)) }
+    ensures view { IfOk result (λ r. r.1.view ≡ stage.view) }
+    ensures meter { IfOk result (λ r. r.1.meter ≡ capped (stage.meter + 1)) }
+{
+    let Stage { view, room, meter } = stage;
+    let Standing { state, inbox } = vertex;
+    let mut cx = Cx::new(alloc, view, program.declared(), meter);
+    let mut vertex = Vertex::new(state.id, state.value, state.edges, room)?;
+    program.compute(alloc, &mut vertex, inbox.as_slice(), &mut cx)?;
+    let (state, room) = vertex.into_parts(alloc)?;
+    let (view, sent, contributed, meter) = cx.into_parts();
+    let given = Record {
+        value: state.value,
+        edges: state.edges,
+        halted: state.halted,
+        sent,
+        contributed,
+    };
+    Ok((given, Stage { view, room, meter }))
+}

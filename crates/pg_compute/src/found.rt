@@ -1,0 +1,175 @@
+//! The vertices that a step looks at.
+ghost use Rattle.std.specs.Prelude.{◌≡◌, [], IfOk, true};
+ghost use Rattle.std.specs.Cmp.Lexicographic.{pointwise};
+ghost use Rattle.std.specs.List.{AllByRecursion};
+ghost use Rattle.pg_model.specs.Superstep.{is_active};
+ghost use Rattle.pg_compute.specs.Found.{AreSameVertices, IsSameVertex, are_at_rest, are_same_reading, is_running, is_same_vertex, vertex_of};
+ghost use Rattle.pg_trace.specs.Trace.{state_at};
+
+use pg_graph::{Edges, Memory, Missing, Superstep, VertexId};
+use pg_model::{Sequence, Standing, VertexState};
+use pg_program::{Computation, Plain};
+use pg_trace::{StateRef, States};
+use std::alloc::Global;
+
+/// A vertex that a step looks at, as it finds it in the old run and in the new one, if it is there.
+#[derive(Drop)]
+pub struct Candidate<V, M> {
+    pub id: VertexId,
+    pub old: Option<Standing<V, M>>,
+    pub new: Option<Standing<V, M>>,
+}
+
+/// The vertex with an id as a superstep begins, with what is delivered to it. Without a state it is
+/// there where messages make it.
+pub(crate) fn vertex_at<P: Computation>(
+    alloc: Global,
+    program: &P,
+    missing: Missing,
+    states: &mut States<'_, P::Value, P::Message>,
+    superstep: Superstep,
+    id: VertexId,
+    delivered: Sequence<P::Message>,
+) -> Result<Option<Standing<P::Value, P::Message>>, Memory>
+    ensures found { IfOk result
+        (λ x. x ≡ vertex_of (P.program program.now) missing id (state_at id superstep states.old) delivered) }
+    ensures same { states.new ≡ states.old }
+{
+    match states.state_at(id, superstep) {
+        Some(state) => {
+            let state = copied(alloc, &state)?;
+            Ok(Some(Standing {
+                state,
+                inbox: delivered,
+            }))
+        }
+        None => made_by(alloc, program, missing, id, delivered),
+    }
+}
+
+/// A copy of a state, which shares its edges.
+fn copied<V: Plain>(alloc: Global, state: &StateRef<'_, V>) -> Result<VertexState<V>, Memory>
+    ensures { IfOk result (λ copy. copy ≡ state.now) }
+{
+    Ok(VertexState {
+        id: state.id(),
+        value: state.value().copy(alloc)?,
+        edges: state.edges().copy()?,
+        halted: state.halted(),
+    })
+}
+
+/// The vertex that messages make of an id without a state, if any do.
+fn made_by<P: Computation>(
+    alloc: Global,
+    program: &P,
+    missing: Missing,
+    id: VertexId,
+    delivered: Sequence<P::Message>,
+) -> Result<Option<Standing<P::Value, P::Message>>, Memory>
+    ensures { IfOk result (λ x. x ≡ vertex_of (P.program program.now) missing id None delivered) }
+{
+    if missing == Missing::Drop || delivered.len() == 0 {
+        return Ok(None);
+    }
+    let state = VertexState {
+        id,
+        value: program.initial(alloc, id, 0)?,
+        edges: Edges::new(),
+        halted: false,
+    };
+    Ok(Some(Standing {
+        state,
+        inbox: delivered,
+    }))
+}
+
+/// Whether a vertex is executed.
+pub(crate) fn is_active<V, M>(vertex: &Standing<V, M>) -> bool
+    ensures { result ≡ is_active vertex.now }
+{
+    !vertex.state.halted || vertex.inbox.len() != 0
+}
+
+/// Whether a vertex is there and active in both runs, and the same.
+pub(crate) fn are_same_reading<V: Plain, M: Plain>(
+    old: &Option<Standing<V, M>>,
+    new: &Option<Standing<V, M>>,
+) -> bool
+    ensures value { result ≡ are_same_reading V.PartialEq.eq M.PartialEq.eq old.now new.now }
+{
+    match (old, new) {
+        (Some(old), Some(new)) => is_active(old) && is_active(new) && is_same_vertex(old, new),
+        _ => false,
+    }
+}
+
+/// Whether a vertex is executed in neither of two runs.
+pub(crate) fn are_at_rest<V, M>(old: &Option<Standing<V, M>>, new: &Option<Standing<V, M>>) -> bool
+    ensures { result ≡ are_at_rest old.now new.now }
+{
+    !is_running(old) && !is_running(new)
+}
+
+/// Whether a vertex is there and executed.
+fn is_running<V, M>(vertex: &Option<Standing<V, M>>) -> bool
+    ensures { result ≡ is_running vertex.now }
+{
+    match vertex {
+        Some(vertex) => is_active(vertex),
+        None => false,
+    }
+}
+
+/// Whether two vertices have the same id, value, edges and messages.
+fn is_same_vertex<V: Plain, M: Plain>(old: &Standing<V, M>, new: &Standing<V, M>) -> bool
+    ensures value { result ≡ is_same_vertex V.PartialEq.eq M.PartialEq.eq old.now new.now }
+{
+    old.state.id == new.state.id
+        && old.state.value == new.state.value
+        && old.state.edges.as_slice() == new.state.edges.as_slice()
+        && old.inbox.as_slice() == new.inbox.as_slice()
+}
+
+/// Tells the prover that a vertex that is found the same in both runs is the same.
+pub(crate) fn tell_same<V: Plain, M: Plain>(
+    old: &Option<Standing<V, M>>,
+    new: &Option<Standing<V, M>>,
+)
+    ensures { are_same_reading V.PartialEq.eq M.PartialEq.eq old.now new.now ≡ true → AreSameVertices old.now new.now }
+{
+    if let (Some(old), Some(new)) = (old, new) {
+        tell_same_vertex(old, new);
+    }
+}
+
+/// The same of two vertices.
+fn tell_same_vertex<V: Plain, M: Plain>(old: &Standing<V, M>, new: &Standing<V, M>)
+    ensures { is_same_vertex V.PartialEq.eq M.PartialEq.eq old.now new.now ≡ true → IsSameVertex old.now new.now }
+{
+    tell_same_value(&old.state.value, &new.state.value);
+    tell_same_messages(old.inbox.as_slice(), new.inbox.as_slice());
+}
+
+fn tell_same_value<X: Plain>(old: &X, new: &X)
+    ensures { X.PartialEq.eq old.now new.now ≡ true → old.now ≡ new.now }
+{
+    old.fits();
+    new.fits();
+}
+
+fn tell_same_messages<M: Plain>(old: &[M], new: &[M])
+    ensures { pointwise M.PartialEq.eq old.now new.now ≡ true → old.now ≡ new.now }
+{
+    tell_messages(old);
+    tell_messages(new);
+}
+
+/// Tells the prover that these messages are values of their type.
+fn tell_messages<M: Plain>(messages: &[M])
+    ensures { AllByRecursion M.is_value messages.now }
+{
+    for message in messages {
+        message.fits();
+    }
+}

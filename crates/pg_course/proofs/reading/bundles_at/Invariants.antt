@@ -1,6 +1,0 @@
-use Rattle.std.proofs.Common.{◌≡◌}
-use Rattle.pg_course.specs.Lent.{bundles_at}
-use Rattle.pg_course.proofs.reading.bundles_at.Given as goal
-
-abbrev pub invariant-loop-from : goal.invariant-loop-from
-invariant-loop-from g l = l.bundles.items ≡ bundles_at l.logs l.from l.to l.superstep

@@ -1,7 +1,0 @@
-use Rattle.std.proofs.Common.{◌≡◌, take}
-use Rattle.std.specs.List.{flat_map}
-use Rattle.pg_course.specs.Sending.{sends_of}
-use Rattle.pg_course.proofs.sending.sends_of.Given as goal
-
-abbrev pub invariant-loop-change : goal.invariant-loop-change
-invariant-loop-change g l = l.sends.items ≡ flat_map sends_of (take l.change-index l.changes)

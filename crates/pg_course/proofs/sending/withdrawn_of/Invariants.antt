@@ -1,7 +1,0 @@
-use Rattle.std.proofs.Common.{◌≡◌, take}
-use Rattle.std.specs.List.{flat_map}
-use Rattle.pg_course.specs.Sending.{pairs_of}
-use Rattle.pg_course.proofs.sending.withdrawn_of.Given as goal
-
-abbrev pub invariant-loop-change : goal.invariant-loop-change
-invariant-loop-change g l = l.pairs.items ≡ flat_map (pairs_of l.old l.superstep) (take l.change-index l.changes)

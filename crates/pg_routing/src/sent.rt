@@ -1,0 +1,183 @@
+//! The bundles that a step sends.
+ghost use Rattle.std.specs.Prelude.{◌≡◌, ℕ, ◌<◌, [], length, slice_get, slice_index_or, Some, IfOk};
+ghost use Rattle.std.specs.List.{flat_map};
+ghost use Rattle.std.specs.Option.{option_copied};
+ghost use Rattle.pg_inbox.specs.Logged.{slot_at};
+ghost use Rattle.pg_routing.specs.Sending.{IsFresh, IsMended, items_to, pairs_of, sends_of};
+
+use crate::Partitioner;
+use crate::sending::{by_partition, sends_of, withdrawn_of};
+use pg_global::MessageCombiner;
+use pg_graph::{Memory, PartitionId, Superstep, VertexId};
+use pg_inbox::{Logged, Logs, bundle, patch};
+use pg_model::{Record, Sequence};
+use pg_program::Plain;
+use pg_trace::Trace;
+use std::alloc::Global;
+use std::marker::Model;
+
+/// What a step sends: its bundle to each partition, with the targets at which that differs from the old run's
+/// where it has the superstep.
+#[derive(Drop)]
+pub struct Sent<M: Plain> {
+    bundles: Vec<Logged<M>>,
+}
+
+impl<M: Plain> Model for Sent<M> {
+    ghost use Rattle.std.specs.Prelude.{List};
+    ghost use Rattle.pg_inbox.specs.declared.logs.Logged.{Logged};
+
+    ghost Value = { List (Logged M) };
+
+    ghost view = { λ s. s.bundles.items };
+}
+
+impl<M: Plain> Sent<M> {
+    /// The bundles, by the partition that receives them.
+    pub fn bundles(&self) -> &[Logged<M>]
+        ensures { result.now ≡ self.now }
+    {
+        self.bundles.as_slice()
+    }
+
+    /// The same to keep.
+    pub fn into_bundles(self) -> Vec<Logged<M>>
+        ensures { result.items ≡ self }
+    {
+        let Sent { bundles } = self;
+        bundles
+    }
+
+    /// These bundles, by the partition that receives them.
+    pub fn of(bundles: Vec<Logged<M>>) -> Sent<M>
+        ensures { result ≡ bundles.items }
+    {
+        Sent { bundles }
+    }
+}
+
+/// The bundles of what these changes of records send, to each partition. Costs a sort of what is sent.
+pub fn fresh_bundles<V: Plain, M: Plain, C: MessageCombiner<M>>(
+    alloc: Global,
+    partitions: Partitioner,
+    changes: &[(VertexId, Option<Record<V, M>>)],
+    combiner: &C,
+) -> Result<Vec<Logged<M>>, Memory>
+    ensures len { IfOk result (λ bundles. length bundles.items ≡ partitions) }
+    ensures bundles { IfOk result (λ bundles. (q : ℕ) → q < partitions
+        → IsFresh (C.combining combiner.now) (items_to partitions q (flat_map sends_of changes.now)) (slice_get bundles.items q)) }
+{
+    let sends = sends_of(alloc, changes)?;
+    let parts = by_partition(alloc, partitions, sends)?;
+    let bundles = each_fresh(alloc, parts.as_slice(), combiner)?;
+    Ok(bundles)
+}
+
+/// The bundles of the sends to each partition.
+fn each_fresh<M: Plain, C: MessageCombiner<M>>(
+    alloc: Global,
+    parts: &[Sequence<(VertexId, VertexId, M)>],
+    combiner: &C,
+) -> Result<Vec<Logged<M>>, Memory>
+    ensures len { IfOk result (λ bundles. length bundles.items ≡ length parts.now) }
+    ensures bundles { IfOk result (λ bundles. (q : ℕ) → q < length parts.now
+        → IsFresh (C.combining combiner.now) (slice_index_or parts.now q []) (slice_get bundles.items q)) }
+{
+    let mut bundles = Vec::with_capacity(alloc, parts.len())?;
+    for course in parts {
+        bundles.push(fresh(alloc, course.as_slice(), combiner)?)?;
+    }
+    Ok(bundles)
+}
+
+/// A bundle of which nothing is known but what is in it.
+fn fresh<M: Plain, C: MessageCombiner<M>>(
+    alloc: Global,
+    sends: &[(VertexId, VertexId, M)],
+    combiner: &C,
+) -> Result<Logged<M>, Memory>
+    ensures { IfOk result (λ logged. IsFresh (C.combining combiner.now) sends.now (Some logged)) }
+{
+    Ok(Logged {
+        bundle: bundle(alloc, sends, combiner)?,
+        changed: None,
+    })
+}
+
+/// The old run's bundles with what its vertices sent by their old records replaced by what these changes send. Costs a sort
+/// of that, and of what is sent now; the rest of a bundle is shared.
+pub fn mended_bundles<V: Plain, M: Plain, C: MessageCombiner<M>>(
+    alloc: Global,
+    partitions: Partitioner,
+    from: PartitionId,
+    superstep: Superstep,
+    changes: &[(VertexId, Option<Record<V, M>>)],
+    old: &Trace<V, M>,
+    logs: &Logs<M>,
+    combiner: &C,
+) -> Result<Vec<Logged<M>>, Memory>
+    ensures len { IfOk result (λ bundles. length bundles.items ≡ partitions) }
+    ensures bundles { IfOk result (λ bundles. (q : ℕ) → q < partitions
+        → IsMended (C.combining combiner.now) (items_to partitions q (flat_map (pairs_of old.now superstep) changes.now))
+        (items_to partitions q (flat_map sends_of changes.now)) (slot_at logs.now superstep from q) (slice_get bundles.items q)) }
+{
+    let withdrawn = withdrawn_of(alloc, old, superstep, changes)?;
+    let withdrawn = by_partition(alloc, partitions, withdrawn)?;
+    let added = sends_of(alloc, changes)?;
+    let added = by_partition(alloc, partitions, added)?;
+    let bundles = each_mended(
+        alloc,
+        partitions,
+        from,
+        superstep,
+        withdrawn.as_slice(),
+        added.as_slice(),
+        logs,
+        combiner,
+    )?;
+    Ok(bundles)
+}
+
+/// The old bundle to each partition with these messages withdrawn and added.
+fn each_mended<M: Plain, C: MessageCombiner<M>>(
+    alloc: Global,
+    partitions: Partitioner,
+    from: PartitionId,
+    superstep: Superstep,
+    withdrawn: &[Sequence<(VertexId, VertexId)>],
+    added: &[Sequence<(VertexId, VertexId, M)>],
+    logs: &Logs<M>,
+    combiner: &C,
+) -> Result<Vec<Logged<M>>, Memory>
+    requires withdrawn { length withdrawn.now ≡ partitions }
+    requires added { length added.now ≡ partitions }
+    ensures len { IfOk result (λ bundles. length bundles.items ≡ partitions) }
+    ensures bundles { IfOk result (λ bundles. (q : ℕ) → q < partitions
+        → IsMended (C.combining combiner.now) (slice_index_or withdrawn.now q []) (slice_index_or added.now q [])
+        (slot_at logs.now superstep from q) (slice_get bundles.items q)) }
+{
+    let mut bundles = Vec::with_capacity(alloc, added.len())?;
+    for to in 0..partitions.partitions() {
+        let before = logs.get(superstep, from, PartitionId::new(to));
+        let withdrawn = withdrawn[to as usize].as_slice();
+        let added = added[to as usize].as_slice();
+        bundles.push(mended(alloc, before, withdrawn, added, combiner)?)?;
+    }
+    Ok(bundles)
+}
+
+/// The old bundle with these messages withdrawn and added, or a fresh one where there is none.
+fn mended<M: Plain, C: MessageCombiner<M>>(
+    alloc: Global,
+    before: Option<&Logged<M>>,
+    withdrawn: &[(VertexId, VertexId)],
+    added: &[(VertexId, VertexId, M)],
+    combiner: &C,
+) -> Result<Logged<M>, Memory>
+    ensures { IfOk result (λ logged. IsMended (C.combining combiner.now) withdrawn.now added.now (option_copied before.entry) (Some logged)) }
+{
+    match before {
+        Some(before) => patch(alloc, &before.bundle, withdrawn, added, combiner),
+        None => fresh(alloc, added, combiner),
+    }
+}
