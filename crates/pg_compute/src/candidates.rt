@@ -21,7 +21,8 @@ use pg_routing::Share;
 use pg_trace::{States, Trace};
 use std::alloc::Global;
 
-/// The vertices that aren't halted as a superstep begins, by rising id.
+/// The vertices that aren't halted as a superstep begins, by rising id. Costs a walk over the records of the superstep
+/// before.
 pub(crate) fn awake_ids<V: Drop, M: Drop>(
     alloc: Global,
     trace: &Trace<V, M>,
@@ -114,7 +115,8 @@ fn all_callees<M: Plain, C: MessageCombiner<M>>(
     Ok(callees)
 }
 
-/// Looks at these vertices and at all that receive something, and executes those that are active.
+/// Looks at the vertices that aren't halted and at all that receive something, and executes those that are active. Costs
+/// what the executions and the inboxes do, and a walk over the records of the superstep before.
 pub fn play_alone<P: Computation, C: MessageCombiner<P::Message>>(
     alloc: Global,
     program: &P,
@@ -124,7 +126,6 @@ pub fn play_alone<P: Computation, C: MessageCombiner<P::Message>>(
     superstep: Superstep,
     trace: &Trace<P::Value, P::Message>,
     bundles: &[Bundle<P::Message>],
-    ids: &[VertexId],
     stage: Stage,
 ) -> Result<Played<P::Value, P::Message>, Memory>
     requires shown { ShowsDeclared (P.program program.now).declared stage.view }
@@ -132,10 +133,11 @@ pub fn play_alone<P: Computation, C: MessageCombiner<P::Message>>(
     ensures { IfOk result (λ played.
         IsPlayed P.Value.PartialEq.eq P.Message.PartialEq.eq (P.program program.now) missing
         (C.combining combiner.now) stage.view share.partitions share.partition superstep trace.now
-        bundles.now None ids.now true false stage.meter played) }
+        bundles.now None (awake_ids superstep trace.now) true false stage.meter played) }
 {
+    let ids = awake_ids(alloc, trace, superstep)?;
     let lent = lent_bundles(alloc, bundles)?;
-    let callees = callees(alloc, lent.as_slice(), ids, true, combiner)?;
+    let callees = callees(alloc, lent.as_slice(), ids.as_slice(), true, combiner)?;
     let callees = own(alloc, &share, callees)?;
     let candidates = candidates_alone(alloc, program, missing, superstep, trace, callees)?;
     let played = play(alloc, program, candidates, false, stage)?;
@@ -143,7 +145,8 @@ pub fn play_alone<P: Computation, C: MessageCombiner<P::Message>>(
 }
 
 /// Looks at these vertices, in the new run and in the old one, and executes those that are active and don't read
-/// what they read there. Where the old run saw something else, it looks at all that receive something too.
+/// what they read there. Where the old run saw something else, it looks at all that receive something too. Costs what the
+/// executions and the inboxes do, and two look-ups for each vertex.
 pub fn play_beside<P: Computation, C: MessageCombiner<P::Message>>(
     alloc: Global,
     program: &P,

@@ -33,7 +33,7 @@ pub fn is_same_view(old: &View, new: &View) -> bool
 
 /// The vertices whose states may differ from those of the old run, but for those that rest in both and receive nothing;
 /// those to which something else may be sent; and where the old run saw something else all that aren't halted: by rising
-/// id.
+/// id. Costs a sort of them, a look at each bundle, and a look into each for a vertex that rests.
 pub fn looked_at<V: Plain, M: Plain, C: MessageCombiner<M>>(
     alloc: Global,
     partitions: Partitioner,

@@ -33,7 +33,8 @@ impl Differing {
 }
 
 /// The vertices whose states may differ as a superstep begins: those that do of those that were looked at, and those that
-/// rested before and weren't.
+/// rested before and weren't. Costs two look-ups for each that was looked at, and a search among these for each that
+/// rested.
 pub fn differing_after<V: Plain, M: Plain>(
     alloc: Global,
     old: &Trace<V, M>,

@@ -1,13 +1,15 @@
 //! The executions of a step.
-ghost use Rattle.std.specs.Prelude.{◌≡◌, ◌+◌, ◌^◌, ◌<◌, cond, is_some, map, IfOk, OnOk, [], ◌∷◌, ◌++◌};
+ghost use Rattle.std.specs.Prelude.{◌≡◌, ◌+◌, ◌^◌, ◌<◌, ◌≤◌, true, length, cond, is_some, map, IfOk, OnOk, [], ◌∷◌, ◌++◌};
 ghost use Rattle.std.specs.List.{count_by, flat_map};
 ghost use Rattle.std.specs.Option.{option_map};
-ghost use Rattle.pg_model.specs.Superstep.{capped, inputs_of};
+ghost use Rattle.pg_global.specs.Master.{has_places};
+ghost use Rattle.pg_model.specs.Superstep.{capped, inputs_of, view_of};
 ghost use Rattle.pg_compute.specs.Found.{are_at_rest, change_of, change_unless, is_run, reads};
 ghost use Rattle.pg_program.specs.Context.{ShowsDeclared};
 
 use crate::found::{Candidate, are_at_rest, are_same_reading, is_active};
-use pg_graph::{Memory, VertexId};
+use pg_global::{Visible, view_of};
+use pg_graph::{Memory, Superstep, VertexId};
 use pg_model::{Record, Standing, View};
 use pg_program::{Computation, Cx, EdgeRoom, Meter, Plain, Vertex};
 use std::alloc::Global;
@@ -18,6 +20,33 @@ pub struct Stage {
     pub view: View,
     pub room: EdgeRoom,
     pub meter: Meter,
+}
+
+impl Stage {
+    /// What the executions of a superstep see, as the master shows it, with a meter that goes on.
+    pub fn new<P: Computation>(
+        alloc: Global,
+        program: &P,
+        superstep: Superstep,
+        visible: &Visible,
+        meter: Meter,
+    ) -> Result<Stage, Memory>
+        requires few { length visible.now.values ≤ 16 }
+        requires declared { has_places (P.program program.now).declared (length visible.now.values) ≡ true }
+        ensures view { IfOk result (λ stage. stage.view ≡ view_of (P.program program.now).declared superstep visible.now) }
+        ensures shown { IfOk result (λ stage. ShowsDeclared (P.program program.now).declared stage.view) }
+        ensures meter { IfOk result (λ stage. stage.meter ≡ meter) }
+        ensures fits { IfOk result (λ stage. stage.meter < 2 ^ 64) }
+    {
+        // Tells the prover that the count fits.
+        meter.count();
+        let view = view_of(alloc, program.declared(), superstep, visible)?;
+        Ok(Stage {
+            view,
+            room: EdgeRoom::new(alloc),
+            meter,
+        })
+    }
 }
 
 /// What a step makes of the vertices that it looks at: which they are, what becomes of their records where it isn't what

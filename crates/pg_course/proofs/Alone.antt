@@ -26,7 +26,8 @@ use Rattle.pg_routing.specs.Starting.{own}
 use Rattle.pg_compute.specs.Found.{are_at_rest, is_run, reads}
 use Rattle.pg_routing.specs.Routes.{HasMessages, as_sends, bundles_before}
 use Rattle.pg_trace.specs.Trace.{reaching, Trace, records_of, with_replaced}
-use Rattle.pg_course.specs.Course.{AreAllChanged, AreTheOnly, HasStepped, Holding, Holds, IsBeside, IsSentTo, TellsBeside, differing_past, kept_length}
+use Rattle.pg_course.specs.Course.{AreAllChanged, AreTheOnly, HasStepped, Holding, Holds, IsBeside, IsSentTo, TellsBeside, kept_length}
+use Rattle.pg_course.specs.Alone.{IsConcludedAlone, differing_past}
 use Rattle.pg_routing.specs.Sending.{IsFresh, items_to, sends_of}
 use Rattle.pg_compute.specs.declared.execution.Played.{Played}
 use Rattle.pg_compute.specs.declared.found.Candidate.{Candidate}
@@ -239,29 +240,25 @@ module _ {V M : Type 0} (value_eq : V → V → Bool) (message_eq : M → M → 
 -- ---- the same by what the call was handed
 
 module _ {V M : Type 0} (value_eq : V → V → Bool) (message_eq : M → M → Bool) (course : Holding V M) (program : Program V M) (combining : Option (Combining M))
-    (view : View) (before : ℕ) (bundles : List (Parcels M)) (ids : List ℕ) (awake : ids ≡ awake_ids course.place course.trace) (played : Played V M)
-    (is : IsPlayed value_eq message_eq program course.missing combining view course.partitions course.partition course.place course.trace bundles None ids true false before played) where
+    (view : View) (before : ℕ) (bundles : List (Parcels M)) (played : Played V M)
+    (is : IsPlayed value_eq message_eq program course.missing combining view course.partitions course.partition course.place course.trace bundles None (awake_ids course.place course.trace) true false before played)
+    (some : 0 < course.partitions) (after : Holding V M) (sent : List (Logged M))
+    (concluded : IsConcludedAlone course played.looked_at.items played.changes.items combining after sent) where
   pub alone_steps : (job : Job V M) (kept : Option Rows) (rows : Rows) (n p s : ℕ) (logs : Slots M) → job.program ≡ program → job.combining ≡ combining
-      → 0 < course.partitions → Holds job kept rows n p s course → kept_length job kept ≤ s → s < run_length job rows → HasMessages job rows n p s logs
-      → bundles ≡ bundles_before logs n p s → view ≡ view_at job rows s → (after : Holding V M) (sent : List (Logged M))
-      → after ≡ record course { place = course.place + 1; trace = with_replaced course.place played.changes.items (reaching course.place course.trace); restless = differing_past course.kept course.restless played.looked_at.items; changed = played.looked_at.items; beside_old = false }
-      → length sent ≡ course.partitions
-      → ((q : ℕ) → q < course.partitions → IsFresh combining (items_to course.partitions q (flat_map sends_of played.changes.items)) (slice_get sent q))
-      → HasStepped job value_eq message_eq kept rows n p s after sent before played.stage.meter
-  alone_steps job kept rows n p s logs program_is combining_is some holds past within has bundled sees after sent further to_each fresh =
+      → Holds job kept rows n p s course → kept_length job kept ≤ s → s < run_length job rows → HasMessages job rows n p s logs
+      → bundles ≡ bundles_before logs n p s → view ≡ view_at job rows s → HasStepped job value_eq message_eq kept rows n p s after sent before played.stage.meter
+  alone_steps job kept rows n p s logs program_is combining_is holds past within has bundled sees =
       let here = holds.place_is in
       let all = holds.partitions_are in
       stepped_alone value_eq message_eq job kept rows n p s (subst (λ k. 0 < k) all some) course holds past within logs has view sees before bundles bundled played
-      (subst (λ k. IsPlayed value_eq message_eq job.program job.missing job.combining view n p s course.trace bundles None k true false before played)
-      (awake ∙ ap (λ k. awake_ids k course.trace) here)
-      (subst (λ k. IsPlayed value_eq message_eq job.program job.missing job.combining view n p k course.trace bundles None ids true false before played) here
-      (subst (λ k. IsPlayed value_eq message_eq job.program job.missing job.combining view n k course.place course.trace bundles None ids true false before played) holds.partition_is
-      (subst (λ k. IsPlayed value_eq message_eq job.program job.missing job.combining view k course.partition course.place course.trace bundles None ids true false before played) all
-      (subst (λ k. IsPlayed value_eq message_eq job.program k job.combining view course.partitions course.partition course.place course.trace bundles None ids true false before played) holds.missing_is
-      (subst (λ k. IsPlayed value_eq message_eq job.program course.missing k view course.partitions course.partition course.place course.trace bundles None ids true false before played) (sym combining_is)
-      (subst (λ k. IsPlayed value_eq message_eq k course.missing combining view course.partitions course.partition course.place course.trace bundles None ids true false before played) (sym program_is) is)))))))
+      (subst (λ k. IsPlayed value_eq message_eq job.program job.missing job.combining view n p k course.trace bundles None (awake_ids k course.trace) true false before played) here
+      (subst (λ k. IsPlayed value_eq message_eq job.program job.missing job.combining view n k course.place course.trace bundles None (awake_ids course.place course.trace) true false before played) holds.partition_is
+      (subst (λ k. IsPlayed value_eq message_eq job.program job.missing job.combining view k course.partition course.place course.trace bundles None (awake_ids course.place course.trace) true false before played) all
+      (subst (λ k. IsPlayed value_eq message_eq job.program k job.combining view course.partitions course.partition course.place course.trace bundles None (awake_ids course.place course.trace) true false before played) holds.missing_is
+      (subst (λ k. IsPlayed value_eq message_eq job.program course.missing k view course.partitions course.partition course.place course.trace bundles None (awake_ids course.place course.trace) true false before played) (sym combining_is)
+      (subst (λ k. IsPlayed value_eq message_eq k course.missing combining view course.partitions course.partition course.place course.trace bundles None (awake_ids course.place course.trace) true false before played) (sym program_is) is))))))
       after sent
-      (further ∙ ap (λ k. record course { place = k + 1; trace = with_replaced k played.changes.items (reaching k course.trace); restless = differing_past course.kept course.restless played.looked_at.items; changed = played.looked_at.items; beside_old = false }) here)
-      (to_each ∙ all)
+      (concluded.further ∙ ap (λ k. record course { place = k + 1; trace = with_replaced k played.changes.items (reaching k course.trace); restless = differing_past course.kept course.restless played.looked_at.items; changed = played.looked_at.items; beside_old = false }) here)
+      (concluded.to_each ∙ all)
       (λ q below. subst (λ k. IsFresh k (items_to n q (flat_map sends_of played.changes.items)) (slice_get sent q)) (sym combining_is)
-      (subst (λ k. IsFresh combining (items_to k q (flat_map sends_of played.changes.items)) (slice_get sent q)) all (fresh q (subst (λ k. q < k) (sym all) below))))
+      (subst (λ k. IsFresh combining (items_to k q (flat_map sends_of played.changes.items)) (slice_get sent q)) all (concluded.sends q (subst (λ k. q < k) (sym all) below))))

@@ -1,5 +1,6 @@
 pub mod Alone
 pub mod Beginning
 pub mod BesideOld
+pub mod Both
 pub mod Stepping
 pub mod WarmStep

@@ -450,7 +450,7 @@ module _ {V M : Type 0} (value_eq : V → V → Bool) (message_eq : M → M → 
     steps_here : StepsAt course.partitions course.partition course.place
     steps_here holds within has bundled sees lends saw =
         warm_step value_eq message_eq job old rows course.partitions course.partition course.place course logs old_logs old_view view bundles before played w
-        after sent ending.part_is ending.told ending.to_each ending.sends
+        after sent ending.part_is ending.told ending.sent_is.to_each ending.sent_is.sends
       where
         same : trace ≡ holds.beside.trace
         same = same_Some trace holds.beside.trace (sym is_kept ∙ holds.beside.is)

@@ -42,11 +42,6 @@ differing course = course.restless ++ course.resting
 abbrev pub AreTouched : List ℕ → Rows → Rows → Type 0
 AreTouched ids old new = (id : ℕ) → has_id ids id ≡ false → row_at id old ≡ row_at id new
 
--- the ids that may differ after a step past the end of the old run, if any: those that did before, and the changed ones
-abbrev pub differing_past : {V M : Type 0} → Option (Trace V M) → List ℕ → List ℕ → List ℕ
-differing_past None ids changed = ids
-differing_past (Some old) ids changed = ids ++ changed
-
 module _ {V M : Type 0} (job : Job V M) where
   -- a partition's trace of a whole run
   pub record IsWhole (rows : Rows) (n p : ℕ) (trace : Trace V M) : Type 0 where

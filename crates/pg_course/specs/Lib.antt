@@ -1,3 +1,4 @@
+pub mod Alone
 pub mod Course
 pub mod Lent
 pub mod Warm

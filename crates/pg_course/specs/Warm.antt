@@ -17,6 +17,34 @@ use Rattle.pg_course.specs.Course.{Holding}
 use Rattle.pg_routing.specs.Sending.{IsMended, items_to, pairs_of, sends_of}
 use Rattle.pg_compute.specs.declared.execution.Played.{Played}
 
+module _ {V M : Type 0} (value_eq : V → V → Bool) (course : Holding V M) (old : Trace V M) (looked_at : List ℕ) (changes : List (ℕ × Option (Record V M))) where
+  -- the course's trace with the changed records
+  abbrev pub trace_after : Trace V M
+  trace_after = with_replaced course.place changes (reaching course.place course.trace)
+
+  -- the course one superstep further: the states of the vertices that were looked at are compared
+  abbrev pub further : Holding V M
+  further = record course {
+    place = course.place + 1;
+    trace = trace_after;
+    kept = Some old;
+    restless = restless_among value_eq old trace_after (course.place + 1) looked_at;
+    resting = without course.resting looked_at ++ resting_among value_eq old trace_after (course.place + 1) looked_at;
+    changed = looked_at;
+    beside_old = true;
+  }
+
+  -- and where they are found the same, they are
+  abbrev pub AreCompared : Type 0
+  AreCompared = AreTold value_eq old trace_after (course.place + 1) looked_at
+
+-- what the old run sent is mended by changes of records
+pub record IsSentBeside {V M : Type 0} (combining : Option (Combining M)) (course : Holding V M) (old : Trace V M) (old_logs : Slots M) (changes : List (ℕ × Option (Record V M))) (sent : List (Logged M)) : Type 0 where
+  pub to_each : length sent ≡ course.partitions
+  pub sends : (q : ℕ) → q < course.partitions → IsMended combining
+      (items_to course.partitions q (flat_map (pairs_of old course.place) changes)) (items_to course.partitions q (flat_map sends_of changes))
+      (slot_at old_logs course.place course.partition q) (slice_get sent q)
+
 module _ {V M : Type 0} (value_eq : V → V → Bool) (message_eq : M → M → Bool) (combining : Option (Combining M)) (course : Holding V M) (old : Trace V M) (old_logs : Slots M) where
   -- the bundles to the partition in the old run
   abbrev pub old_bundles : List (Parcels M)
@@ -31,21 +59,8 @@ module _ {V M : Type 0} (value_eq : V → V → Bool) (message_eq : M → M → 
         (Some (old, old_bundles)) ids (not (is_same_view old_view view)) (is_same_view old_view view) before played
     pub alike : (id : ℕ) → DeliverAlike combining id old_bundles bundles
 
-  -- the trace has the changed records, what the old run sent is mended, and the states of those that were looked at are
-  -- compared
+  -- the course with the changed records, and what it sends
   pub record IsConcluded (looked_at : List ℕ) (changes : List (ℕ × Option (Record V M))) (after : Holding V M) (sent : List (Logged M)) : Type 0 where
-    pub part_is : after ≡ record course {
-      place = course.place + 1;
-      trace = with_replaced course.place changes (reaching course.place course.trace);
-      kept = Some old;
-      restless = restless_among value_eq old (with_replaced course.place changes (reaching course.place course.trace)) (course.place + 1) looked_at;
-      resting = without course.resting looked_at
-          ++ resting_among value_eq old (with_replaced course.place changes (reaching course.place course.trace)) (course.place + 1) looked_at;
-      changed = looked_at;
-      beside_old = true;
-    }
-    pub told : AreTold value_eq old (with_replaced course.place changes (reaching course.place course.trace)) (course.place + 1) looked_at
-    pub to_each : length sent ≡ course.partitions
-    pub sends : (q : ℕ) → q < course.partitions → IsMended combining
-        (items_to course.partitions q (flat_map (pairs_of old course.place) changes)) (items_to course.partitions q (flat_map sends_of changes))
-        (slot_at old_logs course.place course.partition q) (slice_get sent q)
+    pub part_is : after ≡ further value_eq course old looked_at changes
+    pub told : AreCompared value_eq course old looked_at changes
+    pub sent_is : IsSentBeside combining course old old_logs changes sent

@@ -12,25 +12,20 @@ ghost use Rattle.pg_model.specs.Run.{run_length, view_at};
 ghost use Rattle.pg_model.specs.Superstep.{has_id};
 ghost use Rattle.pg_routing.specs.Routes.{HasMessages, bundles_before};
 ghost use Rattle.pg_course.specs.Lent.{IsBesideOld, IsLent, IsLentBeside};
-ghost use Rattle.pg_course.specs.Course.{AreTouched, HasBegun, HasStepped, Holds, IsFurther, IsWhole, differing, differing_past, kept_length};
+ghost use Rattle.pg_course.specs.Course.{AreTouched, HasBegun, HasStepped, Holds, IsFurther, IsWhole, differing, kept_length};
 ghost use Rattle.pg_program.specs.Context.{ShowsDeclared};
-ghost use Rattle.pg_trace.specs.Trace.{reaching, StatesRise, with_replaced};
 ghost use Rattle.pg_routing.specs.Starting.{first_states};
+ghost use Rattle.pg_trace.specs.Trace.{StatesRise, reaching, with_replaced};
 
-use crate::begin::first_changes;
-use crate::candidates::{awake_ids, play_alone};
-use crate::changed::rising;
-use crate::differing::Differing;
-use crate::execution::{Played, Stage};
-use crate::reading::bundles_before;
-use crate::sent::fresh_bundles;
+use crate::alone::{concluded_alone, played};
 use crate::warm::{concluded, replayed};
-use crate::{Partitioner, Rows, Sent, Share};
+use pg_compute::{Differing, Stage, copied, rising, with_ids};
 use pg_global::{MessageCombiner, Visible, view_of};
 use pg_graph::{Memory, Missing, PartitionId, Superstep, VertexId};
 use pg_inbox::{Bundle, Logs};
 use pg_model::{Record, VertexState, View};
-use pg_program::{Computation, EdgeRoom, Meter, Plain};
+use pg_program::{Computation, Meter, Plain};
+use pg_routing::{Partitioner, Rows, Sent, Share, bundles_before, first_changes};
 use pg_trace::Trace;
 use std::alloc::Global;
 use std::marker::Model;
@@ -320,34 +315,40 @@ impl<V: Plain, M: Plain> Course<V, M> {
             → IsLentBeside job kept n p r logs.now (option_copied old_logs.entry) (option_copied old_visible.entry)
             → HasStepped job V.PartialEq.eq M.PartialEq.eq kept rows n p r stepped.course stepped.sent meter stepped.meter) }
     {
-        // Tells the prover that the count fits.
-        meter.count();
-        let view = view_of(alloc, program.declared(), self.place, visible)?;
-        let bundles = bundles_before(alloc, logs, self.partitions, self.partition, self.place)?;
-        let stage = Stage {
-            view,
-            room: EdgeRoom::new(alloc),
-            meter,
-        };
-        match old_logs {
-            Some(old_logs) => match old_visible {
-                Some(old_visible) => {
-                    let old_view = view_of(alloc, program.declared(), self.place, old_visible)?;
-                    let stepped = self.beside(
-                        alloc, bundles, logs, old_logs, old_view, program, combiner, stage,
-                    )?;
-                    Ok(stepped)
-                }
-                None => {
-                    let stepped = self.alone(alloc, bundles, program, combiner, stage)?;
-                    Ok(stepped)
-                }
-            },
+        let stage = Stage::new(alloc, program, self.place(), visible, meter)?;
+        let bundles = self.received(alloc, logs)?;
+        match old_logs.zip(old_visible) {
+            Some((old_logs, old_visible)) => {
+                let old_view = view_of(alloc, program.declared(), self.place(), old_visible)?;
+                let stepped = self.beside(
+                    alloc, bundles, logs, old_logs, old_view, program, combiner, stage,
+                )?;
+                Ok(stepped)
+            }
             None => {
                 let stepped = self.alone(alloc, bundles, program, combiner, stage)?;
                 Ok(stepped)
             }
         }
+    }
+
+    /// The bundles that it receives.
+    fn received(&self, alloc: Global, logs: &Logs<M>) -> Result<Vec<Bundle<M>>, Memory>
+        ensures { IfOk result (λ bundles. bundles.items
+            ≡ bundles_before logs.now self.now.partitions self.now.partition self.now.place) }
+    {
+        let bundles = bundles_before(alloc, logs, self.partitions, self.partition, self.place)?;
+        Ok(bundles)
+    }
+
+    /// Its trace of the old run, and the rest of it.
+    fn parted(self) -> (Course<V, M>, Option<Trace<V, M>>)
+        ensures rest { result.0 ≡ record self { kept = None } }
+        ensures kept { result.1 ≡ self.kept }
+    {
+        let mut course = self;
+        let kept = course.kept.take();
+        (course, kept)
     }
 
     /// A step beside an old run that has the superstep.
@@ -376,10 +377,8 @@ impl<V: Plain, M: Plain> Course<V, M> {
             → IsBesideOld job kept n p s logs.now old_logs.now old_view
             → HasStepped job V.PartialEq.eq M.PartialEq.eq kept rows n p s stepped.course stepped.sent stage.meter stepped.meter) }
     {
-        let mut course = self;
-        // Tells the prover that there is a partition.
-        course.partitions.partitions();
-        match course.kept.take() {
+        let (course, kept) = self.parted();
+        match kept {
             Some(old) => {
                 let played = replayed(
                     alloc,
@@ -425,75 +424,9 @@ impl<V: Plain, M: Plain> Course<V, M> {
             → stage.view ≡ view_at job rows s
             → HasStepped job V.PartialEq.eq M.PartialEq.eq kept rows n p s stepped.course stepped.sent stage.meter stepped.meter) }
     {
-        let Course {
-            partition,
-            partitions,
-            missing,
-            place,
-            trace,
-            kept,
-            differing,
-            ..
-        } = self;
-        // Tells the prover that there is a partition.
-        partitions.partitions();
-        let ids = awake_ids(alloc, &trace, place)?;
-        let played = play_alone(
-            alloc,
-            program,
-            combiner,
-            missing,
-            Share {
-                partition,
-                partitions,
-            },
-            place,
-            &trace,
-            bundles.as_slice(),
-            ids.as_slice(),
-            stage,
-        )?;
-        let Played {
-            looked_at,
-            changes,
-            stage,
-        } = played;
-        let Stage { meter, .. } = stage;
-        let Differing { restless, resting } = differing;
-        let restless = differing_past(&kept, restless, looked_at.as_slice())?;
-        let bundles = fresh_bundles(alloc, partitions, changes.as_slice(), combiner)?;
-        let trace = with_records(alloc, trace, place, changes)?;
-        let course = Course {
-            partition,
-            partitions,
-            missing,
-            place: Superstep::new(place.number() + 1),
-            trace,
-            kept,
-            differing: Differing { restless, resting },
-            changed: looked_at,
-            beside_old: false,
-        };
-        Ok(Stepped {
-            course,
-            sent: Sent::of(bundles),
-            meter,
-        })
-    }
-}
-
-/// These vertices that may differ after a step past the end of an old run, if there is one: those that did before, and those
-/// that the step changed.
-fn differing_past<V, M>(
-    old: &Option<Trace<V, M>>,
-    differing: Vec<VertexId>,
-    changed: &[VertexId],
-) -> Result<Vec<VertexId>, Memory>
-    ensures { IfOk result (λ all. all.items ≡ differing_past old.now differing.items changed.now) }
-{
-    match old {
-        None => Ok(differing),
-        Some(_) => with_ids(differing, changed),
+        let played = played(alloc, &self, bundles.as_slice(), program, combiner, stage)?;
+        let stepped = concluded_alone(alloc, self, played, combiner)?;
+        Ok(stepped)
     }
 }
 

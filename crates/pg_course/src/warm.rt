@@ -3,23 +3,18 @@ ghost use Rattle.std.specs.Prelude.{ℕ, ◌+◌, ◌++◌, ◌^◌, ◌<◌, �
 ghost use Rattle.std.specs.List.Sorted.{IsStrictlySortedBy};
 ghost use Rattle.std.specs.Ordering.{nat_cmp};
 ghost use Rattle.pg_map.specs.Entries.{ChangesRise};
-ghost use Rattle.pg_compute.specs.Differing.{AreTold, resting_among, restless_among, without};
-ghost use Rattle.pg_course.specs.Warm.{IsConcluded, IsReplayed};
+ghost use Rattle.pg_course.specs.Warm.{AreCompared, IsConcluded, IsReplayed, IsSentBeside, further};
 ghost use Rattle.pg_program.specs.Context.{ShowsDeclared};
 
-use crate::candidates::play_beside;
-use crate::changed::{is_same_view, looked_at};
-use crate::course::{Stepped, with_ids, with_records};
-use crate::differing::{Differing, differing_among, without};
-use crate::execution::{Played, Stage};
-use crate::reading::bundles_before;
-use crate::sent::mended_bundles;
-use crate::{Course, Sent, Share};
+use crate::Course;
+use crate::course::{Stepped, with_records};
+use pg_compute::{Played, Stage, differing_after, is_same_view, looked_at, play_beside};
 use pg_global::MessageCombiner;
 use pg_graph::{Memory, Superstep, VertexId};
 use pg_inbox::{Bundle, Logs, tell_alike};
-use pg_model::View;
+use pg_model::{Record, View};
 use pg_program::{Computation, Plain};
+use pg_routing::{Sent, Share, bundles_before, mended_bundles};
 use pg_trace::Trace;
 use std::alloc::Global;
 
@@ -38,10 +33,13 @@ pub(crate) fn replayed<P: Computation, C: MessageCombiner<P::Message>>(
 ) -> Result<Played<P::Value, P::Message>, Memory>
     requires shown { ShowsDeclared (P.program program.now).declared stage.view }
     requires fits { stage.meter < 2 ^ 64 }
-    ensures { IfOk result (λ played.
+    ensures replayed { IfOk result (λ played.
         IsReplayed P.Value.PartialEq.eq P.Message.PartialEq.eq (C.combining combiner.now) course.now old.now old_logs.now
         (P.program program.now) logs.now old_view.now stage.view bundles.now stage.meter played) }
+    ensures some { IfOk result (λ _. 0 < course.now.partitions) }
 {
+    // Tells the prover that there is a partition.
+    course.partitions.partitions();
     let old_bundles = bundles_before(
         alloc,
         old_logs,
@@ -102,6 +100,55 @@ pub(crate) fn concluded<V: Plain, M: Plain, C: MessageCombiner<M>>(
         played.looked_at.items played.changes.items stepped.course stepped.sent) }
     ensures counted { IfOk result (λ stepped. stepped.meter ≡ played.stage.meter) }
 {
+    let Played {
+        looked_at,
+        changes,
+        stage,
+    } = played;
+    let Stage { meter, .. } = stage;
+    let sent = mended(alloc, &course, &old, changes.as_slice(), old_logs, combiner)?;
+    let course = further(alloc, course, old, looked_at, changes)?;
+    Ok(Stepped { course, sent, meter })
+}
+
+/// What the course sends: what the old run sent, mended by these changes of records.
+fn mended<V: Plain, M: Plain, C: MessageCombiner<M>>(
+    alloc: Global,
+    course: &Course<V, M>,
+    old: &Trace<V, M>,
+    changes: &[(VertexId, Option<Record<V, M>>)],
+    old_logs: &Logs<M>,
+    combiner: &C,
+) -> Result<Sent<M>, Memory>
+    ensures { IfOk result (λ sent. IsSentBeside (C.combining combiner.now) course.now old.now old_logs.now changes.now sent) }
+{
+    let sent = mended_bundles(
+        alloc,
+        course.partitions,
+        course.partition,
+        course.place,
+        changes,
+        old,
+        old_logs,
+        combiner,
+    )?;
+    Ok(sent)
+}
+
+/// The course one superstep further, with these changes of records, and with the trace of the old run.
+fn further<V: Plain, M: Plain>(
+    alloc: Global,
+    course: Course<V, M>,
+    old: Trace<V, M>,
+    looked_at: Vec<VertexId>,
+    changes: Vec<(VertexId, Option<Record<V, M>>)>,
+) -> Result<Course<V, M>, Memory>
+    requires rise { ChangesRise changes.items }
+    requires looked_at_rise { IsStrictlySortedBy nat_cmp looked_at.items }
+    requires counts { course.place + 1 < 2 ^ 32 }
+    ensures further { IfOk result (λ after. after ≡ further V.PartialEq.eq course old looked_at.items changes.items) }
+    ensures told { IfOk result (λ _. AreCompared V.PartialEq.eq course old looked_at.items changes.items) }
+{
     let Course {
         partition,
         partitions,
@@ -111,26 +158,10 @@ pub(crate) fn concluded<V: Plain, M: Plain, C: MessageCombiner<M>>(
         differing,
         ..
     } = course;
-    let Played {
-        looked_at,
-        changes,
-        stage,
-    } = played;
-    let Stage { meter, .. } = stage;
-    let bundles = mended_bundles(
-        alloc,
-        partitions,
-        partition,
-        place,
-        changes.as_slice(),
-        &old,
-        old_logs,
-        combiner,
-    )?;
     let trace = with_records(alloc, trace, place, changes)?;
     let place = Superstep::new(place.number() + 1);
     let differing = differing_after(alloc, &old, &trace, place, looked_at.as_slice(), &differing)?;
-    let course = Course {
+    Ok(Course {
         partition,
         partitions,
         missing,
@@ -140,10 +171,5 @@ pub(crate) fn concluded<V: Plain, M: Plain, C: MessageCombiner<M>>(
         differing,
         changed: looked_at,
         beside_old: true,
-    };
-    Ok(Stepped {
-        course,
-        sent: Sent::of(bundles),
-        meter,
     })
 }

@@ -48,8 +48,7 @@ impl<M: Plain> Sent<M> {
         bundles
     }
 
-    /// These bundles, by the partition that receives them.
-    pub fn of(bundles: Vec<Logged<M>>) -> Sent<M>
+    fn of(bundles: Vec<Logged<M>>) -> Sent<M>
         ensures { result ≡ bundles.items }
     {
         Sent { bundles }
@@ -62,15 +61,15 @@ pub fn fresh_bundles<V: Plain, M: Plain, C: MessageCombiner<M>>(
     partitions: Partitioner,
     changes: &[(VertexId, Option<Record<V, M>>)],
     combiner: &C,
-) -> Result<Vec<Logged<M>>, Memory>
-    ensures len { IfOk result (λ bundles. length bundles.items ≡ partitions) }
-    ensures bundles { IfOk result (λ bundles. (q : ℕ) → q < partitions
-        → IsFresh (C.combining combiner.now) (items_to partitions q (flat_map sends_of changes.now)) (slice_get bundles.items q)) }
+) -> Result<Sent<M>, Memory>
+    ensures to_each { IfOk result (λ sent. length sent ≡ partitions) }
+    ensures sends { IfOk result (λ sent. (q : ℕ) → q < partitions
+        → IsFresh (C.combining combiner.now) (items_to partitions q (flat_map sends_of changes.now)) (slice_get sent q)) }
 {
     let sends = sends_of(alloc, changes)?;
     let parts = by_partition(alloc, partitions, sends)?;
     let bundles = each_fresh(alloc, parts.as_slice(), combiner)?;
-    Ok(bundles)
+    Ok(Sent::of(bundles))
 }
 
 /// The bundles of the sends to each partition.
@@ -115,11 +114,11 @@ pub fn mended_bundles<V: Plain, M: Plain, C: MessageCombiner<M>>(
     old: &Trace<V, M>,
     logs: &Logs<M>,
     combiner: &C,
-) -> Result<Vec<Logged<M>>, Memory>
-    ensures len { IfOk result (λ bundles. length bundles.items ≡ partitions) }
-    ensures bundles { IfOk result (λ bundles. (q : ℕ) → q < partitions
+) -> Result<Sent<M>, Memory>
+    ensures to_each { IfOk result (λ sent. length sent ≡ partitions) }
+    ensures sends { IfOk result (λ sent. (q : ℕ) → q < partitions
         → IsMended (C.combining combiner.now) (items_to partitions q (flat_map (pairs_of old.now superstep) changes.now))
-        (items_to partitions q (flat_map sends_of changes.now)) (slot_at logs.now superstep from q) (slice_get bundles.items q)) }
+        (items_to partitions q (flat_map sends_of changes.now)) (slot_at logs.now superstep from q) (slice_get sent q)) }
 {
     let withdrawn = withdrawn_of(alloc, old, superstep, changes)?;
     let withdrawn = by_partition(alloc, partitions, withdrawn)?;
@@ -135,7 +134,7 @@ pub fn mended_bundles<V: Plain, M: Plain, C: MessageCombiner<M>>(
         logs,
         combiner,
     )?;
-    Ok(bundles)
+    Ok(Sent::of(bundles))
 }
 
 /// The old bundle to each partition with these messages withdrawn and added.

@@ -1,4 +1,4 @@
-use Rattle.std.proofs.Common.{true, map, ap, ◌∙◌, subst}
+use Rattle.std.proofs.Common.{true, map, ap, ◌∙◌, subst, subst₂}
 use Rattle.std.specs.Map.{keys_of}
 use Rattle.pg_compute.specs.Candidates.{AreCallees, found_at}
 use Rattle.pg_compute.proofs.ReadVertices.{untold}
@@ -10,8 +10,8 @@ returns g c =
     let own = c.in_ok-callees-2.ensures in
     record {
       callees = c.in_ok-callees.callees.items;
-      are = subst (λ bundles. AreCallees (g.C.MessageCombiner.combining c.args.combiner.now) bundles c.args.ids.now true c.in_ok-callees.callees.items)
-          (ap (map (λ b. b.now)) c.as_slice.ensures.value ∙ c.in_ok-lent.ensures) c.in_ok-callees.ensures;
+      are = subst₂ (λ bundles ids. AreCallees (g.C.MessageCombiner.combining c.args.combiner.now) bundles ids true c.in_ok-callees.callees.items)
+          (ap (map (λ b. b.now)) c.as_slice.ensures.value ∙ c.in_ok-lent.ensures) (c.as_slice-2.ensures.value ∙ c.in_ok-ids.ensures) c.in_ok-callees.ensures;
       candidates = c.in_ok-candidates.candidates.items;
       ids_are = c.in_ok-candidates.ensures.ids ∙ ap keys_of own;
       new_are = c.in_ok-candidates.ensures.new ∙ ap (map (found_at program c.args.missing c.args.superstep c.args.trace.now)) own;

@@ -6,8 +6,8 @@ use Rattle.pg_course.specs.Course.{Holding}
 use Rattle.pg_course.specs.Warm.{IsReplayed}
 use Rattle.pg_course.proofs.warm.replayed.Goals as goal
 
-pub returns : goal.returns
-returns g c =
+pub returns-clause-replayed : goal.returns-clause-replayed
+returns-clause-replayed g c =
     let value_eq = g.P.Value.PartialEq.eq in
     let message_eq = g.P.Message.PartialEq.eq in
     let combining = g.C.MessageCombiner.combining c.args.combiner.now in

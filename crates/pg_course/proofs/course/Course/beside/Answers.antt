@@ -1,17 +1,17 @@
-use Rattle.std.proofs.Common.{◌≡◌, None, sym, ◌∙◌, subst}
+use Rattle.std.proofs.Common.{◌≡◌, ◌<◌, None, ap, sym, ◌∙◌, subst}
+use Rattle.pg_compute.proofs.Playing.{looked_at_rise, played_rise}
 use Rattle.pg_course.specs.Course.{HasStepped, Holding, Holds}
 use Rattle.pg_course.specs.Warm.{IsConcluded, IsReplayed}
-use Rattle.pg_compute.proofs.Playing.{looked_at_rise, played_rise}
 use Rattle.pg_course.proofs.WarmStep.{beside_steps, nothing_kept}
 use Rattle.pg_course.proofs.course.Course.beside.Goals as goal
 
 pub concluded-requires-clause-rise : goal.concluded-requires-clause-rise
 concluded-requires-clause-rise g c κs within =
-    played_rise g.V.PartialEq.eq g.M.PartialEq.eq _ _ _ _ _ _ _ _ _ _ _ _ _ _ _ c.in_ok-played-in-Some.ensures.is
+    played_rise g.V.PartialEq.eq g.M.PartialEq.eq _ _ _ _ _ _ _ _ _ _ _ _ _ _ _ c.in_ok-played-in-Some.ensures.replayed.is
 
 pub concluded-requires-clause-looked_at_rise : goal.concluded-requires-clause-looked_at_rise
 concluded-requires-clause-looked_at_rise g c κs within =
-    looked_at_rise g.V.PartialEq.eq g.M.PartialEq.eq _ _ _ _ _ _ _ _ _ _ _ _ _ _ _ c.in_ok-played-in-Some.ensures.is
+    looked_at_rise g.V.PartialEq.eq g.M.PartialEq.eq _ _ _ _ _ _ _ _ _ _ _ _ _ _ _ c.in_ok-played-in-Some.ensures.replayed.is
 
 pub returns-in_ok-stepped-in-Some-clause-stepped : goal.returns-in_ok-stepped-in-Some-clause-stepped
 returns-in_ok-stepped-in-Some-clause-stepped g c job kept rows n p s program combining holds within has bundled sees lent =
@@ -25,45 +25,23 @@ returns-in_ok-stepped-in-Some-clause-stepped g c job kept rows n p s program com
     let played = c.in_ok-played-in-Some.played in
     let after = c.in_ok-stepped-in-Some.stepped.course in
     let sent = c.in_ok-stepped-in-Some.stepped.sent in
-    let course : Holding g.row.V.Denot g.row.M.Denot = record {
-      partition = c.course.inside.partition;
-      partitions = c.course.inside.partitions;
-      missing = c.course.inside.missing;
-      place = c.course.inside.place;
-      trace = c.course.inside.trace;
-      kept = c.course.inside.kept;
-      restless = c.course.inside.differing.restless.items;
-      resting = c.course.inside.differing.resting.items;
-      changed = c.course.inside.changed.items;
-      beside_old = c.course.inside.beside_old;
-    } in
-    let steps = beside_steps value_eq message_eq values.laws.refl messages.laws.refl course old combining' program' c.args.logs.now c.args.old_logs.now c.args.old_view c.args.stage.view
-    c.as_slice.result.now c.args.stage.meter played c.partitions.ensures.some
-    (sym c.take.ensures.value ∙ c.in-Some.is)
-    (subst (λ k. IsReplayed value_eq message_eq combining' (record course { kept = k }) old c.args.old_logs.now program' c.args.logs.now c.args.old_view c.args.stage.view
-    c.as_slice.result.now c.args.stage.meter played) c.take.ensures.after c.in_ok-played-in-Some.ensures)
+    let rest = c.parted.ensures.rest in
+    let steps = beside_steps value_eq message_eq values.laws.refl messages.laws.refl c.args.self old combining' program' c.args.logs.now c.args.old_logs.now
+    c.args.old_view c.args.stage.view c.as_slice.result.now c.args.stage.meter played
+    (subst (λ h. 0 < h.partitions) rest c.in_ok-played-in-Some.ensures.some)
+    (sym c.parted.ensures.kept ∙ c.in-Some.is)
+    (subst (λ h. IsReplayed value_eq message_eq combining' h old c.args.old_logs.now program' c.args.logs.now c.args.old_view c.args.stage.view
+    c.as_slice.result.now c.args.stage.meter played) rest c.in_ok-played-in-Some.ensures.replayed)
     after sent
-    (subst (λ k. IsConcluded value_eq message_eq combining' (record course { kept = k }) old c.args.old_logs.now played.looked_at.items played.changes.items after sent) c.take.ensures.after
+    (subst (λ h. IsConcluded value_eq message_eq combining' h old c.args.old_logs.now played.looked_at.items played.changes.items after sent) rest
     c.in_ok-stepped-in-Some.ensures.concluded) in
     subst (HasStepped job value_eq message_eq kept rows n p s after sent c.args.stage.meter) (sym c.in_ok-stepped-in-Some.ensures.counted)
-    (steps job kept rows n p s program combining (subst (Holds job kept rows n p s) (sym c.course.view_is) holds) within has (c.as_slice.ensures.value ∙ bundled) sees lent)
+    (steps job kept rows n p s program combining holds within has (c.as_slice.ensures.value ∙ bundled) sees lent)
 
 pub returns-in_ok-stepped-in-None-clause-stepped : goal.returns-in_ok-stepped-in-None-clause-stepped
 returns-in_ok-stepped-in-None-clause-stepped g c job kept rows n p s program combining holds within has bundled sees lent =
-    let course : Holding g.row.V.Denot g.row.M.Denot = record {
-      partition = c.course.inside.partition;
-      partitions = c.course.inside.partitions;
-      missing = c.course.inside.missing;
-      place = c.course.inside.place;
-      trace = c.course.inside.trace;
-      kept = c.course.inside.kept;
-      restless = c.course.inside.differing.restless.items;
-      resting = c.course.inside.differing.resting.items;
-      changed = c.course.inside.changed.items;
-      beside_old = c.course.inside.beside_old;
-    } in
-    let here : Holds job kept rows n p s course = subst (Holds job kept rows n p s) (sym c.course.view_is) holds in
-    let none : course.kept ≡ None = sym c.take.ensures.value ∙ c.in-None.is in
+    let course : Holding g.row.V.Denot g.row.M.Denot = c.args.self in
+    let none : course.kept ≡ None = sym c.parted.ensures.kept ∙ c.in-None.is in
+    let rest : course ≡ c.parted.result.0 = (λ i. record course { kept = none i }) ∙ sym c.parted.ensures.rest in
     c.in_ok-stepped-in-None.ensures.stepped job kept rows n p s c.args.logs.now program combining
-    (subst (Holds job kept rows n p s) (λ i. record course { kept = (none ∙ sym c.take.ensures.after) i }) here)
-    (nothing_kept job kept rows n p s course here none) within has bundled sees
+    (subst (Holds job kept rows n p s) rest holds) (nothing_kept job kept rows n p s course holds none) within has bundled sees

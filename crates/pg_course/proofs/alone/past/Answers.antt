@@ -1,0 +1,46 @@
+use Rattle.std.proofs.Common.{◌≡◌, ◌+◌, ◌≤◌, length, ap, ◌∙◌, subst, arith, false}
+use Rattle.std.proofs.lemmas.List.{length-set}
+use Rattle.pg_map.specs.Entries.{with_changes}
+use Rattle.pg_course.specs.Alone.{differing_past, past}
+use Rattle.pg_course.specs.Course.{Holding}
+use Rattle.pg_course.proofs.Stepping.{length-reaching}
+use Rattle.pg_trace.specs.Trace.{reaching, records_of}
+use Rattle.pg_course.proofs.alone.past.Goals as goal
+
+pub invariant_of : goal.invariant_of
+invariant_of g c =
+    let place = c.course.inside.place in
+    let trace = reaching place c.course.inside.trace in
+    let reached = length-reaching place c.course.inside.trace c.course.invariant in
+    let long = ap (λ t. length t.records) c.in_ok-trace.ensures ∙ length-set trace.records place (with_changes c.args.changes.items (records_of place trace)) in
+    let next = c.new.ensures ∙ ap (λ k. k + 1) c.number.ensures in
+    let fact : c.new.result ≤ length c.in_ok-trace.trace.records = omega (arith, next, long, reached) in
+    fact
+
+pub returns : goal.returns
+returns g c =
+    let after : Holding g.row.V.Denot g.row.M.Denot = record {
+      partition = c.course.inside.partition;
+      partitions = c.course.inside.partitions;
+      missing = c.course.inside.missing;
+      place = c.new.result;
+      trace = c.in_ok-trace.trace;
+      kept = c.course.inside.kept;
+      restless = c.in_ok-restless.restless.items;
+      resting = c.course.inside.differing.resting.items;
+      changed = c.args.looked_at.items;
+      beside_old = false;
+    } in
+    subst (λ h. after ≡ past h c.args.looked_at.items c.args.changes.items) c.course.view_is
+    (λ i. record {
+      partition = c.course.inside.partition;
+      partitions = c.course.inside.partitions;
+      missing = c.course.inside.missing;
+      place = (c.new.ensures ∙ ap (λ k. k + 1) c.number.ensures) i;
+      trace = c.in_ok-trace.ensures i;
+      kept = c.course.inside.kept;
+      restless = (c.in_ok-restless.ensures ∙ ap (differing_past c.course.inside.kept c.course.inside.differing.restless.items) c.as_slice.ensures.value) i;
+      resting = c.course.inside.differing.resting.items;
+      changed = c.args.looked_at.items;
+      beside_old = false;
+    })
