@@ -17,7 +17,7 @@ ghost use Rattle.pg_program.specs.Context.{ShowsDeclared};
 ghost use Rattle.pg_routing.specs.Starting.{first_states};
 ghost use Rattle.pg_trace.specs.Trace.{StatesRise, reaching, with_replaced};
 
-use crate::alone::{concluded_alone, played};
+use crate::cold::{concluded_alone, played};
 use crate::warm::{concluded, replayed};
 use pg_compute::{Differing, Stage, copied, rising, with_ids};
 use pg_global::{MessageCombiner, Visible, view_of};

@@ -1,7 +1,7 @@
 //! One partition of a run: what it holds as a superstep begins, and what a step makes of it.
 #![tactic(auto)]
 
-mod alone;
+mod cold;
 mod course;
 mod warm;
 

@@ -108,7 +108,11 @@ pub(crate) fn concluded<V: Plain, M: Plain, C: MessageCombiner<M>>(
     let Stage { meter, .. } = stage;
     let sent = mended(alloc, &course, &old, changes.as_slice(), old_logs, combiner)?;
     let course = further(alloc, course, old, looked_at, changes)?;
-    Ok(Stepped { course, sent, meter })
+    Ok(Stepped {
+        course,
+        sent,
+        meter,
+    })
 }
 
 /// What the course sends: what the old run sent, mended by these changes of records.

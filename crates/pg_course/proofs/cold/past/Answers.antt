@@ -5,7 +5,7 @@ use Rattle.pg_course.specs.Alone.{differing_past, past}
 use Rattle.pg_course.specs.Course.{Holding}
 use Rattle.pg_course.proofs.Stepping.{length-reaching}
 use Rattle.pg_trace.specs.Trace.{reaching, records_of}
-use Rattle.pg_course.proofs.alone.past.Goals as goal
+use Rattle.pg_course.proofs.cold.past.Goals as goal
 
 pub invariant_of : goal.invariant_of
 invariant_of g c =

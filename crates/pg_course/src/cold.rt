@@ -76,7 +76,11 @@ pub(crate) fn concluded_alone<V: Plain, M: Plain, C: MessageCombiner<M>>(
     let Stage { meter, .. } = stage;
     let sent = fresh_bundles(alloc, course.partitions(), changes.as_slice(), combiner)?;
     let course = past(alloc, course, looked_at, changes)?;
-    Ok(Stepped { course, sent, meter })
+    Ok(Stepped {
+        course,
+        sent,
+        meter,
+    })
 }
 
 /// The course one superstep further, with these changes of records.

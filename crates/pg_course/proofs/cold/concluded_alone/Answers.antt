@@ -1,7 +1,7 @@
 use Rattle.std.proofs.Common.{◌<◌, sym, ◌∙◌, subst, subst₂}
 use Rattle.std.specs.List.{flat_map, slice_get}
 use Rattle.pg_routing.specs.Sending.{IsFresh, items_to, sends_of}
-use Rattle.pg_course.proofs.alone.concluded_alone.Goals as goal
+use Rattle.pg_course.proofs.cold.concluded_alone.Goals as goal
 
 pub returns-clause-concluded : goal.returns-clause-concluded
 returns-clause-concluded g c =

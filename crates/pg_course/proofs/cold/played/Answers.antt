@@ -1,6 +1,6 @@
 use Rattle.std.proofs.Common.{◌<◌, None, true, false, subst}
 use Rattle.pg_compute.specs.Candidates.{IsPlayed, awake_ids}
-use Rattle.pg_course.proofs.alone.played.Goals as goal
+use Rattle.pg_course.proofs.cold.played.Goals as goal
 
 pub returns-clause-played : goal.returns-clause-played
 returns-clause-played g c =
