@@ -1,6 +1,6 @@
 -- Which vertices a step looks at, and how it finds them.
 use Rattle.std.specs.Prelude.{◌≡◌, ℕ, zero, suc, true, false, Bool, ◌+◌, ◌<◌, List, [], map, Option, None, Some}
-use Rattle.std.specs.List.{AllByRecursion, count_by, filter, flat_map}
+use Rattle.std.specs.List.{AllByRecursion, count_by, flat_map}
 use Rattle.std.specs.List.Sorted.{IsStrictlySortedBy}
 use Rattle.std.specs.Map.{keys_of}
 use Rattle.std.specs.Ordering.{nat_cmp}
@@ -10,12 +10,12 @@ use Rattle.pg_inbox.specs.Inboxes.{Delivers}
 use Rattle.pg_inbox.specs.Logged.{Slots, slot_at}
 use Rattle.pg_map.specs.Entries.{HasRisingIds}
 use Rattle.pg_model.specs.Job.{Combining, Program}
-use Rattle.pg_model.specs.Share.{belongs}
 use Rattle.pg_model.specs.Superstep.{capped, has_id}
 use Rattle.pg_model.specs.declared.configuration.Standing.{Standing}
 use Rattle.pg_model.specs.declared.view.View.{View}
 use Rattle.pg_compute.specs.Found.{IsFound, IsTold, change_of, is_run, vertex_of}
 use Rattle.pg_routing.specs.Routes.{AreSameTo}
+use Rattle.pg_routing.specs.Starting.{own}
 use Rattle.pg_compute.specs.Lists.{awake_after}
 use Rattle.pg_compute.specs.declared.execution.Played.{Played}
 use Rattle.pg_compute.specs.declared.found.Candidate.{Candidate}
