@@ -16,6 +16,7 @@ use Rattle.pg_model.specs.Share.{belongs, records_in}
 use Rattle.pg_model.specs.Superstep.{capped, has_id}
 use Rattle.pg_compute.specs.Differing.{are_resting}
 use Rattle.pg_routing.specs.Routes.{bundle_sent}
+use Rattle.pg_routing.specs.Starting.{PartRows}
 use Rattle.pg_trace.specs.OfRun.{HoldsRun}
 use Rattle.pg_trace.specs.Trace.{Trace, records_of}
 

@@ -12,15 +12,15 @@ module _ {V M : Type 0} (job : Job V M) (rows : Rows) where
   -- a step from r is lent what it reads of the run
   pub record IsLent (n p r : ℕ) (logs : Slots M) (visible : Visible) : Type 0 where
     pub within : r < run_length job rows
-    pub messages : HasMessages n p r logs
+    pub messages : HasMessages job rows n p r logs
     pub sees : visible ≡ visible_at job rows r
 
   -- the run on the old rows, which has superstep r, lends its logs to a step from r: what was sent to the partition before,
   -- and what it sent in r. What is new tells, if anything, at which targets it differs
   pub record LendsLogs (n p r : ℕ) (logs old_logs : Slots M) : Type 0 where
     pub there : r < run_length job rows
-    pub received : HasMessages n p r old_logs
-    pub sent : (q : ℕ) → q < n → bundle_in (slot_at old_logs r p q) ≡ Some (bundle_sent n p q r)
+    pub received : HasMessages job rows n p r old_logs
+    pub sent : (q : ℕ) → q < n → bundle_in (slot_at old_logs r p q) ≡ Some (bundle_sent job rows n p q r)
     pub told : (s q : ℕ) → s + 1 ≡ r → q < n → TellsAt (slot_at old_logs s q p) (slot_at logs s q p)
 
 module _ {V M : Type 0} (job : Job V M) where

@@ -8,8 +8,8 @@ use Rattle.pg_course.proofs.Stepping.{length-reaching}
 use Rattle.pg_trace.specs.Trace.{reaching, records_of, with_replaced}
 use Rattle.pg_course.proofs.warm.further.Goals as goal
 
-pub invariant_of : goal.invariant_of
-invariant_of g c =
+pub invariant_of-result : goal.invariant_of-result
+invariant_of-result g c =
     let place = c.course.inside.place in
     let trace = reaching place c.course.inside.trace in
     let reached = length-reaching place c.course.inside.trace c.course.invariant in

@@ -25,11 +25,11 @@ returns-in_ok-stepped-in-Some-clause-stepped g c job kept rows n p s program com
     let played = c.in_ok-played-in-Some.played in
     let after = c.in_ok-stepped-in-Some.stepped.course in
     let sent = c.in_ok-stepped-in-Some.stepped.sent in
-    let rest = c.parted.ensures.rest in
+    let rest = c.parted-course.ensures.rest in
     let steps = beside_steps value_eq message_eq values.laws.refl messages.laws.refl c.args.self old combining' program' c.args.logs.now c.args.old_logs.now
     c.args.old_view c.args.stage.view c.as_slice.result.now c.args.stage.meter played
     (subst (λ h. 0 < h.partitions) rest c.in_ok-played-in-Some.ensures.some)
-    (sym c.parted.ensures.kept ∙ c.in-Some.is)
+    (sym c.parted-course.ensures.kept ∙ c.in-Some.is)
     (subst (λ h. IsReplayed value_eq message_eq combining' h old c.args.old_logs.now program' c.args.logs.now c.args.old_view c.args.stage.view
     c.as_slice.result.now c.args.stage.meter played) rest c.in_ok-played-in-Some.ensures.replayed)
     after sent
@@ -41,7 +41,7 @@ returns-in_ok-stepped-in-Some-clause-stepped g c job kept rows n p s program com
 pub returns-in_ok-stepped-in-None-clause-stepped : goal.returns-in_ok-stepped-in-None-clause-stepped
 returns-in_ok-stepped-in-None-clause-stepped g c job kept rows n p s program combining holds within has bundled sees lent =
     let course : Holding g.row.V.Denot g.row.M.Denot = c.args.self in
-    let none : course.kept ≡ None = sym c.parted.ensures.kept ∙ c.in-None.is in
-    let rest : course ≡ c.parted.result.0 = (λ i. record course { kept = none i }) ∙ sym c.parted.ensures.rest in
+    let none : course.kept ≡ None = sym c.parted-course.ensures.kept ∙ c.in-None.is in
+    let rest : course ≡ c.parted-course.result.0 = (λ i. record course { kept = none i }) ∙ sym c.parted-course.ensures.rest in
     c.in_ok-stepped-in-None.ensures.stepped job kept rows n p s c.args.logs.now program combining
     (subst (Holds job kept rows n p s) rest holds) (nothing_kept job kept rows n p s course holds none) within has bundled sees

@@ -1,4 +1,4 @@
-use Rattle.std.proofs.Common.{inl, inr, ap, sym, ◌∙◌}
+use Rattle.std.proofs.Common.{◌≡◌, ◌⊎◌, None, inl, inr, ap, sym, ◌∙◌}
 use Rattle.std.specs.Option.{option_copied}
 use Rattle.pg_model.specs.Superstep.{view_of}
 use Rattle.pg_routing.specs.Routes.{bundles_before}
@@ -13,7 +13,7 @@ returns-in_ok-stepped-in-Some-clause-stepped g c job kept rows n p r program com
     let bundled = c.in_ok-bundles.ensures ∙ (λ i. bundles_before logs (holds.partitions_are i) (holds.partition_is i) (holds.place_is i)) in
     let sees = c.in_ok-stage.ensures.view ∙ (λ i. view_of (declared i) ((c.place.ensures ∙ holds.place_is) i) (lent.sees i)) in
     let saw = c.in_ok-old_view-in-Some.ensures
-    ∙ (λ i. view_of ((c.declared-in-Some.ensures ∙ declared) i) ((c.place-in-Some.ensures ∙ holds.place_is) i) c.in-Some.old_visible.now) in
+    ∙ (λ i. view_of ((c.declared.ensures ∙ declared) i) ((c.place-in-Some.ensures ∙ holds.place_is) i) c.in-Some.old_visible.now) in
     let there = both_there c.args.old_logs c.args.old_visible c.in-Some.old_logs c.in-Some.old_visible (sym c.zip.ensures ∙ c.in-Some.is) in
     c.in_ok-stepped-in-Some.ensures.stepped job kept rows n p r program combining holds lent.within lent.messages bundled sees
     (seen_beside job kept n p r logs (option_copied c.args.old_logs) (option_copied c.args.old_visible) c.in-Some.old_logs.now c.in-Some.old_visible.now
@@ -25,7 +25,7 @@ returns-in_ok-stepped-in-None-clause-stepped g c job kept rows n p r program com
     let declared = ap (λ q. q.declared) (sym program) in
     let bundled = c.in_ok-bundles.ensures ∙ (λ i. bundles_before logs (holds.partitions_are i) (holds.partition_is i) (holds.place_is i)) in
     let sees = c.in_ok-stage.ensures.view ∙ (λ i. view_of (declared i) ((c.place.ensures ∙ holds.place_is) i) (lent.sees i)) in
-    let missing = elim (one_missing c.args.old_logs c.args.old_visible (sym c.zip.ensures ∙ c.in-None.is)) [
+    let missing : (option_copied c.args.old_logs ≡ None) ⊎ (option_copied c.args.old_visible ≡ None) = elim (one_missing c.args.old_logs c.args.old_visible (sym c.zip.ensures ∙ c.in-None.is)) [
       | inl e ↦ inl (ap option_copied e)
       | inr e ↦ inr (ap option_copied e)
     ] in
