@@ -56,7 +56,7 @@ pub record IsPlayed {V M : Type 0} (value_eq : V → V → Bool) (message_eq : M
   pub told : AllByRecursion (IsTold value_eq message_eq) candidates
   pub looked_at_are : played.looked_at.items ≡ map (λ c. c.id) candidates
   pub changes_are : played.changes.items ≡ flat_map (change_of value_eq message_eq program view seen) candidates
-  pub counted : played.stage.meter ≡ capped (before + count_by (is_run value_eq message_eq program view seen) candidates)
+  pub counted : played.meter ≡ capped (before + count_by (is_run value_eq message_eq program view seen) candidates)
 
 -- rising ids with all that a step beside an old run has to look at: where states may differ, but for vertices that rest in
 -- both runs and to which nothing is delivered; where other messages may come from; and where the old run saw something else

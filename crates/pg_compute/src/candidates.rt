@@ -9,7 +9,7 @@ ghost use Rattle.pg_routing.specs.Starting.{own};
 ghost use Rattle.pg_compute.specs.Found.{IsFound, IsTold};
 ghost use Rattle.pg_program.specs.Context.{ShowsDeclared};
 
-use crate::execution::{Played, Stage, play};
+use crate::execution::{Played, Stage, ended, play};
 use crate::found::{Candidate, tell_same, vertex_at};
 use crate::reading::{awake_after, inboxes_at, lent_bundles, with_empty};
 use pg_global::MessageCombiner;
@@ -140,8 +140,8 @@ pub fn play_alone<P: Computation, C: MessageCombiner<P::Message>>(
     let callees = callees(alloc, lent.as_slice(), ids.as_slice(), true, combiner)?;
     let callees = own(alloc, &share, callees)?;
     let candidates = candidates_alone(alloc, program, missing, superstep, trace, callees)?;
-    let played = play(alloc, program, candidates, false, stage)?;
-    Ok(played)
+    let playing = play(alloc, program, candidates, false, stage)?;
+    Ok(ended(playing))
 }
 
 /// Looks at these vertices, in the new run and in the old one, and executes those that are active and don't read
@@ -185,8 +185,8 @@ pub fn play_beside<P: Computation, C: MessageCombiner<P::Message>>(
         old_lent.as_slice(),
         callees,
     )?;
-    let played = play(alloc, program, candidates, seen, stage)?;
-    Ok(played)
+    let playing = play(alloc, program, candidates, seen, stage)?;
+    Ok(ended(playing))
 }
 
 /// These vertices, with what is delivered to each, as they stand in the run and in the old one.

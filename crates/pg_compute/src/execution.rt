@@ -50,12 +50,39 @@ impl Stage {
 }
 
 /// What a step makes of the vertices that it looks at: which they are, what becomes of their records where it isn't what
-/// stands there, and the stage afterwards.
+/// stands there, and the meter afterwards.
 #[derive(Drop)]
 pub struct Played<V, M> {
     pub looked_at: Vec<VertexId>,
     pub changes: Vec<(VertexId, Option<Record<V, M>>)>,
+    pub meter: Meter,
+}
+
+/// The same while vertices are executed, with what the executions share.
+#[derive(Drop)]
+pub(crate) struct Playing<V, M> {
+    pub looked_at: Vec<VertexId>,
+    pub changes: Vec<(VertexId, Option<Record<V, M>>)>,
     pub stage: Stage,
+}
+
+/// What a step has made of its vertices once all are executed.
+pub(crate) fn ended<V, M>(playing: Playing<V, M>) -> Played<V, M>
+    ensures looked_at { result.looked_at.items ≡ playing.looked_at.items }
+    ensures changes { result.changes.items ≡ playing.changes.items }
+    ensures meter { result.meter ≡ playing.stage.meter }
+{
+    let Playing {
+        looked_at,
+        changes,
+        stage,
+    } = playing;
+    let Stage { meter, .. } = stage;
+    Played {
+        looked_at,
+        changes,
+        meter,
+    }
 }
 
 /// Executes each vertex that is active, but for those that read what they read in the old run, where the
@@ -66,7 +93,7 @@ pub(crate) fn play<P: Computation>(
     candidates: Vec<Candidate<P::Value, P::Message>>,
     seen: bool,
     stage: Stage,
-) -> Result<Played<P::Value, P::Message>, Memory>
+) -> Result<Playing<P::Value, P::Message>, Memory>
     requires shown { ShowsDeclared (P.program program.now).declared stage.view }
     requires fits { stage.meter < 2 ^ 64 }
     ensures looked_at { IfOk result (λ p. p.looked_at.items ≡ map (λ c. c.id) candidates.items) }
@@ -76,7 +103,7 @@ pub(crate) fn play<P: Computation>(
     ensures meter { IfOk result (λ p. p.stage.meter
         ≡ capped (stage.meter + count_by (is_run P.Value.PartialEq.eq P.Message.PartialEq.eq (P.program program.now) stage.view seen) candidates.items)) }
 {
-    let mut played = Played {
+    let mut played = Playing {
         looked_at: Vec::with_capacity(alloc, candidates.len())?,
         changes: Vec::new(alloc),
         stage,
@@ -93,8 +120,8 @@ fn play_one<P: Computation>(
     program: &P,
     candidate: Candidate<P::Value, P::Message>,
     seen: bool,
-    played: Played<P::Value, P::Message>,
-) -> Result<Played<P::Value, P::Message>, Memory>
+    played: Playing<P::Value, P::Message>,
+) -> Result<Playing<P::Value, P::Message>, Memory>
     requires shown { ShowsDeclared (P.program program.now).declared played.stage.view }
     requires fits { played.stage.meter < 2 ^ 64 }
     ensures looked_at { IfOk result (λ p. p.looked_at.items ≡ played.looked_at.items ++ candidate.id ∷ []) }
@@ -117,8 +144,8 @@ fn play_other<P: Computation>(
     alloc: Global,
     program: &P,
     candidate: Candidate<P::Value, P::Message>,
-    played: Played<P::Value, P::Message>,
-) -> Result<Played<P::Value, P::Message>, Memory>
+    played: Playing<P::Value, P::Message>,
+) -> Result<Playing<P::Value, P::Message>, Memory>
     requires shown { ShowsDeclared (P.program program.now).declared played.stage.view }
     requires fits { played.stage.meter < 2 ^ 64 }
     ensures looked_at { IfOk result (λ p. p.looked_at.items ≡ played.looked_at.items) }
@@ -130,14 +157,14 @@ fn play_other<P: Computation>(
 {
     let rests = are_at_rest(&candidate.old, &candidate.new);
     let Candidate { id, old: _, new } = candidate;
-    let Played {
+    let Playing {
         looked_at,
         mut changes,
         stage,
     } = played;
     let (given, stage) = given_by(alloc, program, new, stage)?;
     push_unless(&mut changes, rests, id, given)?;
-    Ok(Played {
+    Ok(Playing {
         looked_at,
         changes,
         stage,

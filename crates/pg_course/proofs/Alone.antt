@@ -183,7 +183,7 @@ module _ {V M : Type 0} (value_eq : V → V → Bool) (message_eq : M → M → 
       → after ≡ record course { place = s + 1; trace = with_replaced s played.changes.items (reaching s course.trace); restless = differing_past course.kept course.restless played.looked_at.items; changed = played.looked_at.items; beside_old = false }
       → length sent ≡ n
       → ((q : ℕ) → q < n → IsFresh job.combining (items_to n q (flat_map sends_of played.changes.items)) (slice_get sent q))
-      → HasStepped job value_eq message_eq kept rows n p s after sent before played.stage.meter
+      → HasStepped job value_eq message_eq kept rows n p s after sent before played.meter
   unfolding cs
   stepped_alone after sent further to_each fresh = record {
     holds = subst (Holds job kept rows n p (s + 1)) (sym further) (record {
@@ -246,7 +246,7 @@ module _ {V M : Type 0} (value_eq : V → V → Bool) (message_eq : M → M → 
     (concluded : IsConcludedAlone course played.looked_at.items played.changes.items combining after sent) where
   pub alone_steps : (job : Job V M) (kept : Option Rows) (rows : Rows) (n p s : ℕ) (logs : Slots M) → job.program ≡ program → job.combining ≡ combining
       → Holds job kept rows n p s course → kept_length job kept ≤ s → s < run_length job rows → HasMessages job rows n p s logs
-      → bundles ≡ bundles_before logs n p s → view ≡ view_at job rows s → HasStepped job value_eq message_eq kept rows n p s after sent before played.stage.meter
+      → bundles ≡ bundles_before logs n p s → view ≡ view_at job rows s → HasStepped job value_eq message_eq kept rows n p s after sent before played.meter
   alone_steps job kept rows n p s logs program_is combining_is holds past within has bundled sees =
       let here = holds.place_is in
       let all = holds.partitions_are in

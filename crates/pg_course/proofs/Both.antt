@@ -1,6 +1,7 @@
--- Two that are there, or of which one is missing.
+-- Two of which both are there, or one is missing; and two facts of one result.
 use Rattle.std.proofs.Common.{◌≡◌, Option, None, Some, ap, refl, sym, inl, inr, ◌⊎◌}
 use Rattle.std.specs.Option.{option_zip}
+use Rattle.std.specs.Prelude.{Result, Ok, Err, IfOk}
 use Rattle.std.proofs.lemmas.Option.{none-some, same_Some}
 
 module _ {A B : Type 0} where
@@ -13,3 +14,7 @@ module _ {A B : Type 0} where
   one_missing None b e = inl refl
   one_missing (Some u) None e = inr refl
   one_missing (Some u) (Some v) e = absurd (none-some (u, v) (sym e))
+
+pub if_ok_both : {T E : Type 0} (r : Result T E) (P Q R : T → Type 0) → ((x : T) → P x → Q x → R x) → IfOk r P → IfOk r Q → IfOk r R
+if_ok_both (Ok x) P Q R f p q = f x p q
+if_ok_both (Err e) P Q R f p q = tt

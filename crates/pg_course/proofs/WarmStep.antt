@@ -396,7 +396,7 @@ module _ {V M : Type 0} (value_eq : V → V → Bool) (message_eq : M → M → 
       → length sent ≡ n
       → ((q : ℕ) → q < n → IsMended job.combining (items_to n q (flat_map (pairs_of trace s) played.changes.items)) (items_to n q (flat_map sends_of played.changes.items))
       (slot_at old_logs s p q) (slice_get sent q))
-      → HasStepped job value_eq message_eq (Some old) rows n p s after sent before played.stage.meter
+      → HasStepped job value_eq message_eq (Some old) rows n p s after sent before played.meter
   warm_step after sent further told to_each mended = record {
     holds = subst (Holds job (Some old) rows n p (s + 1)) (sym further) (record {
       partition_is = w.holds.partition_is;
@@ -442,7 +442,7 @@ module _ {V M : Type 0} (value_eq : V → V → Bool) (message_eq : M → M → 
     StepsAt n p s =
         Holds job (Some old) rows n p s course → s < run_length job rows → HasMessages job rows n p s logs → bundles ≡ bundles_before logs n p s
         → view ≡ view_at job rows s → LendsLogs job old n p s logs old_logs → old_view ≡ view_at job old s
-        → HasStepped job value_eq message_eq (Some old) rows n p s after sent before played.stage.meter
+        → HasStepped job value_eq message_eq (Some old) rows n p s after sent before played.meter
 
     abbrev emptied : Holding V M
     emptied = record course { kept = None }
@@ -497,7 +497,7 @@ module _ {V M : Type 0} (value_eq : V → V → Bool) (message_eq : M → M → 
   pub beside_steps : (job : Job V M) (kept : Option Rows) (rows : Rows) (n p s : ℕ) → job.program ≡ program → job.combining ≡ combining
       → Holds job kept rows n p s course → s < run_length job rows → HasMessages job rows n p s logs → bundles ≡ bundles_before logs n p s
       → view ≡ view_at job rows s → IsBesideOld job kept n p s logs old_logs old_view
-      → HasStepped job value_eq message_eq kept rows n p s after sent before played.stage.meter
+      → HasStepped job value_eq message_eq kept rows n p s after sent before played.meter
   beside_steps job None rows n p s program_is combining_is holds within has bundled sees lent = absurd (none-some trace (sym holds.beside ∙ is_kept))
   beside_steps job (Some old) rows n p s program_is combining_is holds within has bundled sees lent =
       steps_there job old rows program_is combining_is n p s holds within has bundled sees lent.0 lent.1
@@ -510,21 +510,21 @@ nothing_kept job (Some old) rows n p s course holds none = absurd (none-some hol
 
 -- where a step is lent nothing of the old run, it is past its end
 pub past_without : {V M : Type 0} (job : Job V M) (kept : Option Rows) (n p r : ℕ) (logs : Slots M) (old_logs : Option (Slots M)) (old_visible : Option Visible)
-    → (old_logs ≡ None) ⊎ (old_visible ≡ None) → IsLentBeside job kept n p r logs old_logs old_visible → kept_length job kept ≤ r
+    → (old_logs ≡ None) ⊎ (option_map (view_of job.program.declared r) old_visible ≡ None) → IsLentBeside job kept n p r logs old_logs old_visible → kept_length job kept ≤ r
 past_without job None n p r logs old_logs old_visible none lent = omega arith
 past_without job (Some old) n p r logs None old_visible none lent = lent
 past_without job (Some old) n p r logs (Some l) None none lent = lent
 past_without job (Some old) n p r logs (Some l) (Some v) (inl none) lent = absurd (none-some l (sym none))
-past_without job (Some old) n p r logs (Some l) (Some v) (inr none) lent = absurd (none-some v (sym none))
+past_without job (Some old) n p r logs (Some l) (Some v) (inr none) lent = absurd (none-some (view_of job.program.declared r v) (sym none))
 
 -- what it is lent of what was visible is lent of what was seen
 pub seen_beside : {V M : Type 0} (job : Job V M) (kept : Option Rows) (n p r : ℕ) (logs : Slots M) (old_logs : Option (Slots M)) (old_visible : Option Visible)
-    (l : Slots M) (v : Visible) (view : View) → old_logs ≡ Some l → old_visible ≡ Some v → view ≡ view_of job.program.declared r v
+    (l : Slots M) (view : View) → old_logs ≡ Some l → option_map (view_of job.program.declared r) old_visible ≡ Some view
     → IsLentBeside job kept n p r logs old_logs old_visible → IsBesideOld job kept n p r logs l view
-seen_beside job None n p r logs old_logs old_visible l v view is_l is_v seen lent = tt
-seen_beside job (Some old) n p r logs None old_visible l v view is_l is_v seen lent = absurd (none-some l is_l)
-seen_beside job (Some old) n p r logs (Some l') None l v view is_l is_v seen lent = absurd (none-some v is_v)
-seen_beside job (Some old) n p r logs (Some l') (Some v') l v view is_l is_v seen lent = (
+seen_beside job None n p r logs old_logs old_visible l view is_l seen lent = tt
+seen_beside job (Some old) n p r logs None old_visible l view is_l seen lent = absurd (none-some l is_l)
+seen_beside job (Some old) n p r logs (Some l') None l view is_l seen lent = absurd (none-some view seen)
+seen_beside job (Some old) n p r logs (Some l') (Some v) l view is_l seen lent = (
   subst (LendsLogs job old n p r logs) (same_Some l' l is_l) lent.0,
-  seen ∙ ap (view_of job.program.declared r) (sym (same_Some v' v is_v) ∙ lent.1),
+  sym (same_Some (view_of job.program.declared r v) view seen) ∙ ap (view_of job.program.declared r) lent.1,
 )

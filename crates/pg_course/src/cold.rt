@@ -66,14 +66,13 @@ pub(crate) fn concluded_alone<V: Plain, M: Plain, C: MessageCombiner<M>>(
     requires counts { course.place + 1 < 2 ^ 32 }
     ensures concluded { IfOk result (λ stepped.
         IsConcludedAlone course played.looked_at.items played.changes.items (C.combining combiner.now) stepped.course stepped.sent) }
-    ensures counted { IfOk result (λ stepped. stepped.meter ≡ played.stage.meter) }
+    ensures counted { IfOk result (λ stepped. stepped.meter ≡ played.meter) }
 {
     let Played {
         looked_at,
         changes,
-        stage,
+        meter,
     } = played;
-    let Stage { meter, .. } = stage;
     let sent = fresh_bundles(alloc, course.partitions(), changes.as_slice(), combiner)?;
     let course = past(alloc, course, looked_at, changes)?;
     Ok(Stepped {

@@ -1,7 +1,7 @@
 //! One partition of a run, and its steps.
 ghost use Rattle.std.specs.Prelude.{◌≡◌, ℕ, ◌+◌, ◌++◌, ◌<◌, ◌≤◌, ◌^◌, true, length, Option, None, Some, IfOk, IfSome};
 ghost use Rattle.std.specs.List.Sorted.{IsStrictlySortedBy};
-ghost use Rattle.std.specs.Option.{option_copied};
+ghost use Rattle.std.specs.Option.{option_copied, option_map};
 ghost use Rattle.std.specs.Ordering.{nat_cmp};
 ghost use Rattle.pg_global.specs.Master.{has_places};
 ghost use Rattle.pg_graph.specs.Rows.{Rows as GraphRows};
@@ -9,7 +9,8 @@ ghost use Rattle.pg_inbox.specs.Logged.{Slots};
 ghost use Rattle.pg_map.specs.Entries.{ChangesRise, HasRisingIds};
 ghost use Rattle.pg_model.specs.Job.{Job};
 ghost use Rattle.pg_model.specs.Run.{run_length, view_at};
-ghost use Rattle.pg_model.specs.Superstep.{has_id};
+ghost use Rattle.pg_model.specs.Superstep.{has_id, view_of as shown_view};
+ghost use Rattle.pg_model.specs.declared.view.Visible.{Visible as Seen};
 ghost use Rattle.pg_routing.specs.Routes.{HasMessages, bundles_before};
 ghost use Rattle.pg_course.specs.Lent.{IsBesideOld, IsLent, IsLentBeside};
 ghost use Rattle.pg_course.specs.Course.{AreTouched, HasBegun, HasStepped, Holds, IsFurther, IsWhole, differing, kept_length};
@@ -78,6 +79,14 @@ pub(crate) struct Stepped<V, M: Plain> {
     pub course: Course<V, M>,
     pub sent: Sent<M>,
     pub meter: Meter,
+}
+
+/// What a step reads: what its executions share, what the old run saw where that is lent, and the bundles that it receives.
+#[derive(Drop)]
+struct Lent<M: Plain> {
+    stage: Stage,
+    old_view: Option<View>,
+    bundles: Vec<Bundle<M>>,
 }
 
 impl<V: Plain, M: Plain> Course<V, M> {
@@ -315,20 +324,83 @@ impl<V: Plain, M: Plain> Course<V, M> {
             → IsLentBeside job kept n p r logs.now (option_copied old_logs.entry) (option_copied old_visible.entry)
             → HasStepped job V.PartialEq.eq M.PartialEq.eq kept rows n p r stepped.course stepped.sent meter stepped.meter) }
     {
+        let lent = self.lent(alloc, logs, visible, old_visible, program, meter)?;
+        self.step_with(alloc, logs, old_logs, lent, program, combiner)
+    }
+
+    /// What a step reads.
+    fn lent<P: Computation<Value = V, Message = M>>(
+        &self,
+        alloc: Global,
+        logs: &Logs<M>,
+        visible: &Visible,
+        old_visible: Option<&Visible>,
+        program: &P,
+        meter: Meter,
+    ) -> Result<Lent<M>, Memory>
+        requires few { length visible.now.values ≤ 16 }
+        requires few_old { IfSome (option_copied old_visible) (λ v. length v.values ≤ 16) }
+        requires declared { has_places (P.program program.now).declared (length visible.now.values) ≡ true }
+        ensures shown { IfOk result (λ lent. ShowsDeclared (P.program program.now).declared lent.stage.view) }
+        ensures fits { IfOk result (λ lent. lent.stage.meter < 2 ^ 64) }
+        ensures meter { IfOk result (λ lent. lent.stage.meter ≡ meter) }
+        ensures view { IfOk result (λ lent. lent.stage.view ≡ shown_view (P.program program.now).declared self.now.place visible.now) }
+        ensures old_view { IfOk result (λ lent. lent.old_view
+            ≡ option_map (shown_view (P.program program.now).declared self.now.place) (option_copied old_visible.entry)) }
+        ensures bundles { IfOk result (λ lent. lent.bundles.items
+            ≡ bundles_before logs.now self.now.partitions self.now.partition self.now.place) }
+    {
         let stage = Stage::new(alloc, program, self.place(), visible, meter)?;
+        let old_view = old_view(alloc, program, self.place(), old_visible)?;
         let bundles = self.received(alloc, logs)?;
-        match old_logs.zip(old_visible) {
-            Some((old_logs, old_visible)) => {
-                let old_view = view_of(alloc, program.declared(), self.place(), old_visible)?;
-                let stepped = self.beside(
-                    alloc, bundles, logs, old_logs, old_view, program, combiner, stage,
-                )?;
-                Ok(stepped)
-            }
-            None => {
-                let stepped = self.alone(alloc, bundles, program, combiner, stage)?;
-                Ok(stepped)
-            }
+        Ok(Lent {
+            stage,
+            old_view,
+            bundles,
+        })
+    }
+
+    /// A step with what it reads: beside the old run where that lends both its logs and what it saw.
+    fn step_with<P: Computation<Value = V, Message = M>, C: MessageCombiner<M>>(
+        self,
+        alloc: Global,
+        logs: &Logs<M>,
+        old_logs: Option<&Logs<M>>,
+        lent: Lent<M>,
+        program: &P,
+        combiner: &C,
+    ) -> Result<Stepped<V, M>, Memory>
+        requires shown { ShowsDeclared (P.program program.now).declared lent.stage.view }
+        requires fits { lent.stage.meter < 2 ^ 64 }
+        requires counts { self.place + 1 < 2 ^ 32 }
+        ensures further { IfOk result (λ stepped. IsFurther self stepped.course) }
+        ensures to_each { IfOk result (λ stepped. length stepped.sent ≡ self.partitions) }
+        ensures stepped { IfOk result
+            (λ stepped. (job : Job V M) (kept : Option GraphRows) (rows : GraphRows) (n p s : ℕ) (old_visible : Option Seen)
+            → job.program ≡ P.program program.now → job.combining ≡ C.combining combiner.now
+            → Holds job kept rows n p s self → s < run_length job rows
+            → HasMessages job rows n p s logs.now → lent.bundles.items ≡ bundles_before logs.now n p s
+            → lent.stage.view ≡ view_at job rows s → lent.old_view ≡ option_map (shown_view job.program.declared s) old_visible
+            → IsLentBeside job kept n p s logs.now (option_copied old_logs.entry) old_visible
+            → HasStepped job V.PartialEq.eq M.PartialEq.eq kept rows n p s stepped.course stepped.sent lent.stage.meter stepped.meter) }
+    {
+        let Lent {
+            stage,
+            old_view,
+            bundles,
+        } = lent;
+        match old_logs.zip(old_view) {
+            Some((old_logs, old_view)) => self.beside(
+                alloc,
+                bundles.as_slice(),
+                logs,
+                old_logs,
+                &old_view,
+                program,
+                combiner,
+                stage,
+            ),
+            None => self.alone(alloc, bundles.as_slice(), program, combiner, stage),
         }
     }
 
@@ -355,10 +427,10 @@ impl<V: Plain, M: Plain> Course<V, M> {
     fn beside<P: Computation<Value = V, Message = M>, C: MessageCombiner<M>>(
         self,
         alloc: Global,
-        bundles: Vec<Bundle<M>>,
+        bundles: &[Bundle<M>],
         logs: &Logs<M>,
         old_logs: &Logs<M>,
-        old_view: View,
+        old_view: &View,
         program: &P,
         combiner: &C,
         stage: Stage,
@@ -372,33 +444,21 @@ impl<V: Plain, M: Plain> Course<V, M> {
             (λ stepped. (job : Job V M) (kept : Option GraphRows) (rows : GraphRows) (n p s : ℕ)
             → job.program ≡ P.program program.now → job.combining ≡ C.combining combiner.now
             → Holds job kept rows n p s self → s < run_length job rows
-            → HasMessages job rows n p s logs.now → bundles.items ≡ bundles_before logs.now n p s
+            → HasMessages job rows n p s logs.now → bundles.now ≡ bundles_before logs.now n p s
             → stage.view ≡ view_at job rows s
-            → IsBesideOld job kept n p s logs.now old_logs.now old_view
+            → IsBesideOld job kept n p s logs.now old_logs.now old_view.now
             → HasStepped job V.PartialEq.eq M.PartialEq.eq kept rows n p s stepped.course stepped.sent stage.meter stepped.meter) }
     {
         let (course, kept) = self.parted();
         match kept {
             Some(old) => {
                 let played = replayed(
-                    alloc,
-                    &course,
-                    &old,
-                    logs,
-                    old_logs,
-                    bundles.as_slice(),
-                    &old_view,
-                    program,
-                    combiner,
+                    alloc, &course, &old, logs, old_logs, bundles, old_view, program, combiner,
                     stage,
                 )?;
-                let stepped = concluded(alloc, course, old, played, old_logs, combiner)?;
-                Ok(stepped)
+                concluded(alloc, course, old, played, old_logs, combiner)
             }
-            None => {
-                let stepped = course.alone(alloc, bundles, program, combiner, stage)?;
-                Ok(stepped)
-            }
+            None => course.alone(alloc, bundles, program, combiner, stage),
         }
     }
 
@@ -406,7 +466,7 @@ impl<V: Plain, M: Plain> Course<V, M> {
     fn alone<P: Computation<Value = V, Message = M>, C: MessageCombiner<M>>(
         self,
         alloc: Global,
-        bundles: Vec<Bundle<M>>,
+        bundles: &[Bundle<M>],
         program: &P,
         combiner: &C,
         stage: Stage,
@@ -420,13 +480,29 @@ impl<V: Plain, M: Plain> Course<V, M> {
             (λ stepped. (job : Job V M) (kept : Option GraphRows) (rows : GraphRows) (n p s : ℕ) (logs : Slots M)
             → job.program ≡ P.program program.now → job.combining ≡ C.combining combiner.now
             → Holds job kept rows n p s self → kept_length job kept ≤ s → s < run_length job rows
-            → HasMessages job rows n p s logs → bundles.items ≡ bundles_before logs n p s
+            → HasMessages job rows n p s logs → bundles.now ≡ bundles_before logs n p s
             → stage.view ≡ view_at job rows s
             → HasStepped job V.PartialEq.eq M.PartialEq.eq kept rows n p s stepped.course stepped.sent stage.meter stepped.meter) }
     {
-        let played = played(alloc, &self, bundles.as_slice(), program, combiner, stage)?;
-        let stepped = concluded_alone(alloc, self, played, combiner)?;
-        Ok(stepped)
+        let played = played(alloc, &self, bundles, program, combiner, stage)?;
+        concluded_alone(alloc, self, played, combiner)
+    }
+}
+
+/// What the old run saw, where that is lent.
+fn old_view<P: Computation>(
+    alloc: Global,
+    program: &P,
+    superstep: Superstep,
+    visible: Option<&Visible>,
+) -> Result<Option<View>, Memory>
+    requires { IfSome (option_copied visible) (λ v. length v.values ≤ 16) }
+    ensures { IfOk result (λ view. view
+        ≡ option_map (shown_view (P.program program.now).declared superstep) (option_copied visible.entry)) }
+{
+    match visible {
+        Some(visible) => Ok(Some(view_of(alloc, program.declared(), superstep, visible)?)),
+        None => Ok(None),
     }
 }
 

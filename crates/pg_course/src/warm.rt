@@ -98,14 +98,13 @@ pub(crate) fn concluded<V: Plain, M: Plain, C: MessageCombiner<M>>(
     ensures concluded { IfOk result (λ stepped.
         IsConcluded V.PartialEq.eq M.PartialEq.eq (C.combining combiner.now) course old old_logs.now
         played.looked_at.items played.changes.items stepped.course stepped.sent) }
-    ensures counted { IfOk result (λ stepped. stepped.meter ≡ played.stage.meter) }
+    ensures counted { IfOk result (λ stepped. stepped.meter ≡ played.meter) }
 {
     let Played {
         looked_at,
         changes,
-        stage,
+        meter,
     } = played;
-    let Stage { meter, .. } = stage;
     let sent = mended(alloc, &course, &old, changes.as_slice(), old_logs, combiner)?;
     let course = further(alloc, course, old, looked_at, changes)?;
     Ok(Stepped {

@@ -17,7 +17,7 @@ returns g c =
       new_are = c.in_ok-candidates.ensures.new ∙ ap (map (found_at program c.args.missing c.args.superstep c.args.trace.now)) own;
       beside_are = c.in_ok-candidates.ensures.old;
       told = untold g.P.Value.PartialEq.eq g.P.Message.PartialEq.eq c.in_ok-candidates.candidates.items c.in_ok-candidates.ensures.old;
-      looked_at_are = c.in_ok-played.ensures.looked_at;
-      changes_are = c.in_ok-played.ensures.changes;
-      counted = c.in_ok-played.ensures.meter;
+      looked_at_are = c.ended.ensures.looked_at ∙ c.in_ok-playing.ensures.looked_at;
+      changes_are = c.ended.ensures.changes ∙ c.in_ok-playing.ensures.changes;
+      counted = c.ended.ensures.meter ∙ c.in_ok-playing.ensures.meter;
     }

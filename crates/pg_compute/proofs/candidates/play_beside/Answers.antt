@@ -20,7 +20,7 @@ returns g c =
       beside_are = subst (λ bundles. AllByRecursion (λ k. IsFound program c.args.missing combining c.args.old.now c.args.superstep bundles k.id k.old) c.in_ok-candidates.candidates.items)
           (ap (map (λ b. b.now)) c.as_slice-2.ensures.value ∙ c.in_ok-old_lent.ensures) c.in_ok-candidates.ensures.old;
       told = c.in_ok-candidates.ensures.told;
-      looked_at_are = c.in_ok-played.ensures.looked_at;
-      changes_are = c.in_ok-played.ensures.changes;
-      counted = c.in_ok-played.ensures.meter;
+      looked_at_are = c.ended.ensures.looked_at ∙ c.in_ok-playing.ensures.looked_at;
+      changes_are = c.ended.ensures.changes ∙ c.in_ok-playing.ensures.changes;
+      counted = c.ended.ensures.meter ∙ c.in_ok-playing.ensures.meter;
     }

@@ -1,0 +1,29 @@
+use Rattle.std.proofs.Common.{◌≡◌, ◌⊎◌, None, inl, inr, ap, sym, ◌∙◌}
+use Rattle.std.specs.Option.{option_copied, option_map}
+use Rattle.std.proofs.lemmas.Result.{IfOk-weaker}
+use Rattle.pg_model.specs.Superstep.{view_of}
+use Rattle.pg_course.proofs.Both.{both_there, one_missing}
+use Rattle.pg_course.proofs.WarmStep.{past_without, seen_beside}
+use Rattle.pg_course.proofs.course.Course.step_with.Goals as goal
+
+pub returns-in-Some-clause-stepped : goal.returns-in-Some-clause-stepped
+returns-in-Some-clause-stepped g c =
+    let there = both_there c.args.old_logs c.args.lent.old_view c.in-Some.old_logs c.in-Some.old_view (sym c.zip.ensures ∙ c.in-Some.is) in
+    IfOk-weaker c.beside.result _ _
+    (λ stepped h job kept rows n p s old_visible program combining holds within has bundled sees saw old.
+    h job kept rows n p s program combining holds within has (c.as_slice.ensures.value ∙ bundled) sees
+    (seen_beside job kept n p s c.args.logs.now (option_copied c.args.old_logs) old_visible c.in-Some.old_logs.now c.in-Some.old_view
+    (ap option_copied there.0) (sym saw ∙ there.1) old)) c.beside.ensures.stepped
+
+pub returns-in-None-clause-stepped : goal.returns-in-None-clause-stepped
+returns-in-None-clause-stepped g c =
+    IfOk-weaker c.alone.result _ _
+    (λ stepped h job kept rows n p s old_visible program combining holds within has bundled sees saw old.
+    let missing : (option_copied c.args.old_logs ≡ None) ⊎ (option_map (view_of job.program.declared s) old_visible ≡ None) = elim
+    (one_missing c.args.old_logs c.args.lent.old_view (sym c.zip.ensures ∙ c.in-None.is)) [
+      | inl e ↦ inl (ap option_copied e)
+      | inr e ↦ inr (sym saw ∙ e)
+    ] in
+    h job kept rows n p s c.args.logs.now program combining holds
+    (past_without job kept n p s c.args.logs.now (option_copied c.args.old_logs) old_visible missing old) within has (c.as_slice.ensures.value ∙ bundled) sees)
+    c.alone.ensures.stepped
