@@ -15,8 +15,8 @@ pub concluded-requires-clause-looked_at_rise : goal.concluded-requires-clause-lo
 concluded-requires-clause-looked_at_rise g c κs within =
     looked_at_rise g.V.PartialEq.eq g.M.PartialEq.eq _ _ _ _ _ _ _ _ _ _ _ _ _ _ _ c.in_ok-played-in-Some.ensures.replayed.is
 
-pub returns-in-Some-clause-further : goal.returns-in-Some-clause-further
-returns-in-Some-clause-further g c =
+pub returns-in_ok-played-in-Some-clause-further : goal.returns-in_ok-played-in-Some-clause-further
+returns-in_ok-played-in-Some-clause-further g c =
     let played = c.in_ok-played-in-Some.played in
     let rest = c.parted-course.ensures.rest in
     IfOk-weaker c.concluded.result _ _
@@ -29,13 +29,13 @@ returns-in-Some-clause-further g c =
       place_is = ap (λ h. h.place) is;
     }) c.concluded.ensures.concluded
 
-pub returns-in-Some-clause-to_each : goal.returns-in-Some-clause-to_each
-returns-in-Some-clause-to_each g c =
+pub returns-in_ok-played-in-Some-clause-to_each : goal.returns-in_ok-played-in-Some-clause-to_each
+returns-in_ok-played-in-Some-clause-to_each g c =
     IfOk-weaker c.concluded.result _ _ (λ stepped concluded. concluded.sent_is.to_each ∙ ap (λ h. h.partitions) c.parted-course.ensures.rest)
     c.concluded.ensures.concluded
 
-pub returns-in-Some-clause-stepped : goal.returns-in-Some-clause-stepped
-returns-in-Some-clause-stepped g c =
+pub returns-in_ok-played-in-Some-clause-stepped : goal.returns-in_ok-played-in-Some-clause-stepped
+returns-in_ok-played-in-Some-clause-stepped g c =
     let values = g.met.V.Eq g.world.𝓛 g.world.𝓜 g.world.𝓡 ((λ s x. x), (λ x. x), (λ x. x), λ x. x) in
     let messages = g.met.M.Eq g.world.𝓛 g.world.𝓜 g.world.𝓡 ((λ s x. x), (λ x. x), (λ x. x), λ x. x) in
     let value_eq = g.V.PartialEq.eq in

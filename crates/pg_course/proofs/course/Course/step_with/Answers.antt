@@ -15,8 +15,8 @@ returns-in-Some-clause-stepped g c =
     (seen_beside job kept n p s c.args.logs.now (option_copied c.args.old_logs) old_visible c.in-Some.old_logs.now c.in-Some.old_view
     (ap option_copied there.0) (sym saw ∙ there.1) old)) c.beside.ensures.stepped
 
-pub returns-in-None-clause-stepped : goal.returns-in-None-clause-stepped
-returns-in-None-clause-stepped g c =
+pub returns-clause-stepped : goal.returns-clause-stepped
+returns-clause-stepped g c =
     IfOk-weaker c.alone.result _ _
     (λ stepped h job kept rows n p s old_visible program combining holds within has bundled sees saw old.
     let missing : (option_copied c.args.old_logs ≡ None) ⊎ (option_map (view_of job.program.declared s) old_visible ≡ None) = elim
@@ -25,5 +25,5 @@ returns-in-None-clause-stepped g c =
       | inr e ↦ inr (sym saw ∙ e)
     ] in
     h job kept rows n p s c.args.logs.now program combining holds
-    (past_without job kept n p s c.args.logs.now (option_copied c.args.old_logs) old_visible missing old) within has (c.as_slice.ensures.value ∙ bundled) sees)
+    (past_without job kept n p s c.args.logs.now (option_copied c.args.old_logs) old_visible missing old) within has (c.as_slice-in-None.ensures.value ∙ bundled) sees)
     c.alone.ensures.stepped
