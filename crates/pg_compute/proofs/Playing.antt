@@ -1,5 +1,5 @@
 -- A step plays vertices by rising id.
-use Rattle.std.proofs.Common.{ℕ, Bool, List, [], Option, option_map, sym, ◌∙◌, subst}
+use Rattle.std.proofs.Common.{ℕ, Bool, List, Option, option_map, sym, ◌∙◌, subst}
 use Rattle.std.specs.List.Sorted.{IsStrictlySortedBy}
 use Rattle.std.specs.Ordering.{nat_cmp}
 use Rattle.pg_graph.specs.declared.missing.Missing.{Missing}

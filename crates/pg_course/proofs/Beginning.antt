@@ -1,5 +1,5 @@
 -- A partition begins beside an old run with its share of the run.
-use Rattle.std.proofs.Common.{◌≡◌, ℕ, true, false, List, [], map, length, Some, refl, sym, ap, ◌∙◌, arith, subst, true≢false}
+use Rattle.std.proofs.Common.{◌≡◌, ℕ, false, List, [], map, length, Some, refl, sym, ap, ◌∙◌, arith, subst, true≢false}
 use Rattle.std.specs.List.Sorted.{IsStrictlySortedBy}
 use Rattle.std.specs.Ordering.{nat_cmp}
 use Rattle.pg_graph.specs.Rows.{HasRisingIds, Rows}
@@ -7,7 +7,6 @@ use Rattle.pg_graph.specs.declared.missing.Missing.{Missing}
 use Rattle.pg_model.specs.ByIds.{state_at, state_first}
 use Rattle.pg_model.specs.Job.{Job, Program}
 use Rattle.pg_model.specs.Run.{run_length}
-use Rattle.pg_model.specs.Share.{share}
 use Rattle.pg_model.specs.Superstep.{has_id}
 use Rattle.pg_model.proofs.LawsAffected.{StandsAlike-first}
 use Rattle.pg_routing.specs.Starting.{own, first_changes}

@@ -1,4 +1,4 @@
-use Rattle.std.proofs.Common.{true, map, ap, ◌∙◌, subst, subst₂}
+use Rattle.std.proofs.Common.{true, map, ap, ◌∙◌, subst₂}
 use Rattle.std.specs.Map.{keys_of}
 use Rattle.pg_compute.specs.Candidates.{AreCallees, found_at}
 use Rattle.pg_compute.proofs.ReadVertices.{untold}
