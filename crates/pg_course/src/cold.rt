@@ -1,6 +1,5 @@
 //! A step beside nothing, or past the end of an old run: each active vertex is executed.
-ghost use Rattle.std.specs.Prelude.{◌+◌, ◌++◌, ◌^◌, ◌<◌, ◌≡◌, None, true, false, length, IfOk};
-ghost use Rattle.std.specs.Option.{option_copied};
+ghost use Rattle.std.specs.Prelude.{◌+◌, ◌^◌, ◌<◌, ◌≡◌, None, true, false, IfOk};
 ghost use Rattle.pg_map.specs.Entries.{ChangesRise};
 ghost use Rattle.pg_compute.specs.Candidates.{IsPlayed, awake_ids};
 ghost use Rattle.pg_course.specs.Alone.{IsConcludedAlone, differing_past, past};
