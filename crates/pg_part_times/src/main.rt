@@ -123,9 +123,8 @@ fn nanos(took: Duration) -> u64 {
     u64::try_from(took.as_nanos()).unwrap_or(u64::MAX)
 }
 
-/// Makes the step of superstep 0, and takes the time in nanoseconds.
-fn timed_step<P: Computation, C: MessageCombiner<P::Message>, R: Clock>(
-    rt: &R,
+/// Makes the step of superstep 0; nothing, where the part stands elsewhere or memory is refused.
+fn stepped<P: Computation, C: MessageCombiner<P::Message>>(
     alloc: Global,
     part: Part<P::Value, P::Message>,
     visible: &Visible,
@@ -135,16 +134,15 @@ fn timed_step<P: Computation, C: MessageCombiner<P::Message>, R: Clock>(
     program: &P,
     combiner: &C,
     meter: &mut Meter,
-) -> io::Result<(Part<P::Value, P::Message>, Sent<P::Message>, u64)>
+) -> Option<(Part<P::Value, P::Message>, Sent<P::Message>)>
     requires declared { has_places (P.program program.now).declared 0 ≡ true }
     requires shown { length visible.now.values ≡ 0 }
     requires shown_before { IfSome (option_copied old_visible) (λ v. length v.values ≡ 0) }
 {
     if part.place().number() > 0 {
-        return Err(AllocError.into());
+        return None;
     }
     let logs = Logs::new(alloc);
-    let started = Instant::now(rt)?;
     let stepped = part.step(
         alloc,
         &logs,
@@ -156,9 +154,47 @@ fn timed_step<P: Computation, C: MessageCombiner<P::Message>, R: Clock>(
         combiner,
         meter,
     );
-    let took = started.elapsed(rt)?;
-    let (part, sent) = stepped.map_err(|_| AllocError)?;
-    Ok((part, sent, nanos(took)))
+    stepped.ok()
+}
+
+/// The nanoseconds since then; without a clock the most.
+fn nanos_since<R: Clock>(rt: &R, started: Option<Instant>) -> u64 {
+    match started.and_then(|started| started.elapsed(rt).ok()) {
+        Some(took) => nanos(took),
+        None => u64::MAX,
+    }
+}
+
+/// The same, with the time that it takes in nanoseconds.
+fn timed_step<P: Computation, C: MessageCombiner<P::Message>, R: Clock>(
+    rt: &R,
+    alloc: Global,
+    part: Part<P::Value, P::Message>,
+    visible: &Visible,
+    old_logs: Option<&Logs<P::Message>>,
+    old_visible: Option<&Visible>,
+    registry: &Registry,
+    program: &P,
+    combiner: &C,
+    meter: &mut Meter,
+) -> (Option<(Part<P::Value, P::Message>, Sent<P::Message>)>, u64)
+    requires declared { has_places (P.program program.now).declared 0 ≡ true }
+    requires shown { length visible.now.values ≡ 0 }
+    requires shown_before { IfSome (option_copied old_visible) (λ v. length v.values ≡ 0) }
+{
+    let started = Instant::now(rt).ok();
+    let stepped = stepped(
+        alloc,
+        part,
+        visible,
+        old_logs,
+        old_visible,
+        registry,
+        program,
+        combiner,
+        meter,
+    );
+    (stepped, nanos_since(rt, started))
 }
 
 /// The logs of superstep 0, in which the only partition sent this.
@@ -171,9 +207,20 @@ fn logs_of<M: Plain>(alloc: Global, sent: Sent<M>) -> Result<Logs<M>, Memory> {
     Ok(logs)
 }
 
-/// What a partition leaves of a run of one superstep.
-fn left_of<V: Plain, M: Plain>(alloc: Global, part: Part<V, M>) -> Result<Left<V, M>, Memory> {
-    part.leave(alloc, Superstep::new(1))
+/// What a run of one superstep leaves, that sent this.
+fn left_of<V: Plain, M: Plain>(
+    alloc: Global,
+    part: Part<V, M>,
+    sent: Sent<M>,
+    nanos: u64,
+    calls: u64,
+) -> Result<Ran<V, M>, Memory> {
+    Ok(Ran {
+        logs: logs_of(alloc, sent)?,
+        left: part.leave(alloc, Superstep::new(1))?,
+        nanos,
+        calls,
+    })
 }
 
 /// Makes the step of superstep 0, beside what an old run sent in it where that is lent.
@@ -191,7 +238,7 @@ fn step<P: Computation, C: MessageCombiner<P::Message>, R: Clock>(
 {
     let visible = showing(alloc);
     let mut meter = Meter::new();
-    let (part, sent, nanos) = timed_step(
+    let (stepped, nanos) = timed_step(
         rt,
         alloc,
         part,
@@ -202,13 +249,9 @@ fn step<P: Computation, C: MessageCombiner<P::Message>, R: Clock>(
         program,
         combiner,
         &mut meter,
-    )?;
-    Ok(Ran {
-        left: left_of(alloc, part)?,
-        logs: logs_of(alloc, sent)?,
-        nanos,
-        calls: meter.count(),
-    })
+    );
+    let (part, sent) = stepped.ok_or(AllocError)?;
+    Ok(left_of(alloc, part, sent, nanos, meter.count())?)
 }
 
 /// The only partition of a graph, as a run from scratch begins.
@@ -325,7 +368,7 @@ fn plain_run<P: Computation, C: MessageCombiner<P::Message>, R: Clock>(
     combiner: &C,
 ) -> io::Result<u64> {
     let mut meter = Meter::new();
-    let started = Instant::now(rt)?;
+    let started = Instant::now(rt).ok();
     let ran = run(
         alloc,
         graph,
@@ -336,12 +379,44 @@ fn plain_run<P: Computation, C: MessageCombiner<P::Message>, R: Clock>(
         1,
         &mut meter,
     );
-    let took = started.elapsed(rt)?;
+    let nanos = nanos_since(rt, started);
     ran.map_err(|_| AllocError)?;
-    Ok(nanos(took))
+    Ok(nanos)
 }
 
-/// The nanoseconds of the fastest step of a part that calls all vertices, and of the fastest run by the plain runner.
+/// The nanoseconds of a step of a part that calls all vertices.
+fn first_step<P: Computation, C: MessageCombiner<P::Message>, R: Clock>(
+    rt: &R,
+    alloc: Global,
+    partitioner: Partitioner,
+    graph: &Graph,
+    registry: &Registry,
+    program: &P,
+    combiner: &C,
+) -> io::Result<u64>
+    requires { has_places (P.program program.now).declared 0 ≡ true }
+{
+    let ran = first_run(rt, alloc, partitioner, graph, registry, program, combiner)?;
+    Ok(ran.nanos)
+}
+
+/// The same, and of a run by the plain runner.
+fn both_runs<P: Computation, C: MessageCombiner<P::Message>, R: Clock>(
+    rt: &R,
+    alloc: Global,
+    partitioner: Partitioner,
+    graph: &Graph,
+    registry: &Registry,
+    program: &P,
+    combiner: &C,
+) -> io::Result<(u64, u64)>
+    requires { has_places (P.program program.now).declared 0 ≡ true }
+{
+    let step = first_step(rt, alloc, partitioner, graph, registry, program, combiner)?;
+    Ok((step, plain_run(rt, alloc, graph, program, combiner)?))
+}
+
+/// The same of the fastest step and the fastest run.
 fn fastest_of_all<P: Computation, C: MessageCombiner<P::Message>, R: Clock>(
     rt: &R,
     alloc: Global,
@@ -355,9 +430,8 @@ fn fastest_of_all<P: Computation, C: MessageCombiner<P::Message>, R: Clock>(
 {
     let (mut step, mut run) = (u64::MAX, u64::MAX);
     for _ in 0..TURNS {
-        let ran = first_run(rt, alloc, partitioner, graph, registry, program, combiner)?;
-        step = step.min(ran.nanos);
-        run = run.min(plain_run(rt, alloc, graph, program, combiner)?);
+        let (stepped, ran) = both_runs(rt, alloc, partitioner, graph, registry, program, combiner)?;
+        (step, run) = (step.min(stepped), run.min(ran));
     }
     Ok((step, run))
 }

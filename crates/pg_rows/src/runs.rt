@@ -32,37 +32,32 @@ pub(crate) fn served<R: BufRead, W: Write>(
     serve(alloc, reader, writer, service)
 }
 
-// What the program is given, and what it has to answer.
-#[derive(Clone, Copy)]
-pub(crate) struct Session<'a> {
-    pub(crate) words: &'a [&'a str],
-    pub(crate) input: &'a [u8],
-    pub(crate) status: u8,
-    pub(crate) output: &'a str,
-    pub(crate) errors: &'a str,
+// What a run of the program came to.
+#[derive(Drop)]
+struct Ended {
+    status: u8,
+    output: Vec<u8>,
+    errors: Vec<u8>,
 }
 
-// The program on its words and its input answers this.
-pub(crate) fn answers(rt: &impl Abort, alloc: Global, session: &Session<'_>) {
-    let mut reader = session.input;
-    let mut writer = Vec::new(alloc);
+// The program with these words on this input.
+fn run(alloc: Global, words: &[&str], input: &[u8]) -> Ended {
+    let mut reader = input;
+    let mut output = Vec::new(alloc);
     let mut errors = Vec::new(alloc);
-    let status = started(alloc, session.words, &mut reader, &mut writer, &mut errors);
-    assert_eq!(rt; status, session.status);
-    assert_eq!(rt; writer.as_slice(), session.output.as_bytes());
-    assert_eq!(rt; errors.as_slice(), session.errors.as_bytes());
+    let status = started(alloc, words, &mut reader, &mut output, &mut errors);
+    Ended {
+        status,
+        output,
+        errors,
+    }
 }
 
 // Shortest paths from 1 on these lines print this.
-pub(crate) fn prints(rt: &impl Abort, alloc: Global, input: &[u8], output: &str) {
-    let session = Session {
-        words: &["pregeld", "--program", "sssp"],
-        input,
-        status: 0,
-        output,
-        errors: "",
-    };
-    answers(rt, alloc, &session);
+pub(crate) fn prints(rt: &impl Abort, alloc: Global, input: &[u8], output: &[u8]) {
+    let ended = run(alloc, &["pregeld", "--program", "sssp"], input);
+    assert!(rt; ended.status == 0 && ended.errors.is_empty());
+    assert_eq!(rt; ended.output.as_slice(), output);
 }
 
 // A list of so many edges, none of which shares a vertex with another.
@@ -81,9 +76,14 @@ fn edges_apart(alloc: Global, count: u64) -> Result<Vec<u8>, Fail> {
 fn the_longest_batch(rt: HostRuntime) -> Result<(), Fail> {
     let alloc = rt.alloc();
     let longest = edges_apart(alloc, 33_333)?;
-    prints(&rt, alloc, longest.as_slice(), "edition 1\n");
+    prints(&rt, alloc, longest.as_slice(), b"edition 1\n");
     let longer = edges_apart(alloc, 33_334)?;
-    prints(&rt, alloc, longer.as_slice(), "refused 6 position 100001\n");
+    prints(
+        &rt,
+        alloc,
+        longer.as_slice(),
+        b"refused 6 position 100001\n",
+    );
     Ok(())
 }
 
@@ -100,62 +100,16 @@ fn a_number_of_a_megabyte(rt: HostRuntime) -> Result<(), Fail> {
         &rt,
         alloc,
         text.as_slice(),
-        "import refused 3 line 1\nunpublished\n",
+        b"import refused 3 line 1\nunpublished\n",
     );
     Ok(())
 }
 
-// The words are at fault, and nothing is read or written but the message.
-fn is_fault_of_arguments(rt: &impl Abort, alloc: Global, words: &[&str]) {
-    let session = Session {
-        words,
-        input: TWO_HOPS,
-        status: 2,
-        output: "",
-        errors: "pregeld: arguments\n",
-    };
-    answers(rt, alloc, &session);
-}
-
-#[test]
-fn arguments(rt: HostRuntime) {
-    let alloc = rt.alloc();
-    is_fault_of_arguments(&rt, alloc, &["pregeld"]);
-    is_fault_of_arguments(&rt, alloc, &["pregeld", "--program", "flood"]);
-    is_fault_of_arguments(
-        &rt,
-        alloc,
-        &["pregeld", "--program", "sssp", "--limit", "0"],
-    );
-    is_fault_of_arguments(
-        &rt,
-        alloc,
-        &["pregeld", "--program", "sssp", "--workers", "2"],
-    );
-    is_fault_of_arguments(
-        &rt,
-        alloc,
-        &[
-            "pregeld",
-            "--program",
-            "sssp",
-            "--source",
-            "9223372036854775808",
-        ],
-    );
-}
-
 // The text of help, with the name under which the program was started.
 fn help_of(rt: &impl Abort, alloc: Global, name: &str) -> Vec<u8> {
-    let mut reader: &[u8] = TWO_HOPS;
-    let mut writer = Vec::new(alloc);
-    let mut errors = Vec::new(alloc);
-    let words = [name, "--help"];
-    let status = started(alloc, &words, &mut reader, &mut writer, &mut errors);
-    assert_eq!(rt; status, 0);
-    assert_eq!(rt; reader, TWO_HOPS);
-    assert!(rt; errors.is_empty());
-    writer
+    let ended = run(alloc, &[name, "--help"], TWO_HOPS);
+    assert!(rt; ended.status == 0 && ended.errors.is_empty());
+    ended.output
 }
 
 // Help names the program, whatever its file is called.
@@ -187,16 +141,42 @@ pub(crate) fn shortest_paths(alloc: Global) -> Result<ReadyService, Fail> {
     Ok(service)
 }
 
-#[test]
-fn a_writer_that_is_full(rt: HostRuntime) -> Result<(), Fail> {
-    let alloc = rt.alloc();
+// What a session came to.
+#[derive(Drop)]
+pub(crate) struct Session {
+    pub(crate) served: Result<(), ServeFault>,
+    pub(crate) written: Vec<u8>,
+    pub(crate) reached: Reached,
+}
+
+// How far a session has come: the edition of the graph, and that of what is published.
+#[derive(Clone, Copy, Debug, PartialEq, Eq)]
+pub(crate) struct Reached {
+    pub(crate) graph: u64,
+    pub(crate) published: Option<u64>,
+}
+
+pub(crate) fn reached_by(service: &ReadyService) -> Reached {
+    Reached {
+        graph: service.edition().number(),
+        published: service.answers().map(|answers| answers.edition().number()),
+    }
+}
+
+// How shortest paths end whose writer has room for four bytes, and how far they have come.
+fn with_four_bytes(alloc: Global) -> Result<(Result<(), ServeFault>, Reached), Fail> {
     let mut service = shortest_paths(alloc)?;
     let mut reader: &[u8] = TWO_HOPS;
     let mut room = [0_u8; 4];
     let mut writer = room.as_mut_slice();
     let served = served(alloc, &mut reader, &mut writer, &mut service);
+    Ok((served, reached_by(&service)))
+}
+
+#[test]
+fn a_writer_that_is_full(rt: HostRuntime) -> Result<(), Fail> {
+    let (served, reached) = with_four_bytes(rt.alloc())?;
     assert_eq!(&rt; served, Err(ServeFault::Write));
-    assert_eq!(&rt; service.graph().vertices(), 3);
-    assert!(&rt; service.answers().is_none());
+    assert!(&rt; reached.graph == 1 && reached.published.is_none());
     Ok(())
 }

@@ -5,84 +5,61 @@ use std::io::Write;
 use std::process::Abort;
 use std::test::Fail;
 
+// Adds so many edits of a vertex, and the commit.
+fn add_edits(text: &mut Vec<u8>, edits: u32) -> Result<(), Fail> {
+    for edit in 0..edits {
+        writeln!(text, "input 1 {edit}")?;
+    }
+    writeln!(text, "commit")?;
+    Ok(())
+}
+
 // A batch may have 100,000 edits; of one that has more the edits are given up.
 #[test]
 fn too_many_edits(rt: HostRuntime) -> Result<(), Fail> {
     let alloc = rt.alloc();
     let mut text = Vec::new(alloc);
     writeln!(&mut text, "vertex 1")?;
-    for edit in 1..100_000 {
-        writeln!(&mut text, "input 1 {edit}")?;
-    }
-    writeln!(&mut text, "commit")?;
-    for edit in 0..100_003 {
-        writeln!(&mut text, "input 1 {edit}")?;
-    }
-    writeln!(&mut text, "commit\ncommit")?;
+    add_edits(&mut text, 99_999)?;
+    add_edits(&mut text, 100_003)?;
+    add_edits(&mut text, 0)?;
     prints(
         &rt,
         alloc,
         text.as_slice(),
-        "edition 1\nrefused 6 position 100001\nedition 2\n",
+        b"edition 1\nrefused 6 position 100001\nedition 2\n",
     );
     Ok(())
 }
 
-// What stands before and after each number of each command.
-const PLACES: [(&str, &str); 18] = [
-    ("vertex ", ""),
-    ("vertex 1 ", ""),
-    ("input ", " 1"),
-    ("input 1 ", ""),
-    ("unvertex ", ""),
-    ("edge ", " 1"),
-    ("edge 1 ", ""),
-    ("edge ", " 1 1"),
-    ("edge 1 ", " 1"),
-    ("edge 1 1 ", ""),
-    ("reweigh ", " 1 1"),
-    ("reweigh 1 ", " 1"),
-    ("reweigh 1 1 ", ""),
-    ("unedge ", " 1"),
-    ("unedge 1 ", ""),
-    ("get ", ""),
-    ("import list ", ""),
-    ("import csv ", ""),
-];
+// Each command that has a number, with a mark for it.
+const COMMANDS: &[u8] =
+    b"vertex #\nvertex 1 #\ninput # 1\ninput 1 #\nunvertex #\nedge # 1\nedge 1 #\nedge # 1 1\nedge 1 # 1\nedge 1 1 #\nreweigh # 1 1\nreweigh 1 # 1\nreweigh 1 1 #\nunedge # 1\nunedge 1 #\nget #\nimport list #\nimport csv #\n";
 
-// A word that is a fault of its line in each of these places.
-fn is_no_number(rt: &impl Abort, alloc: Global, word: &[u8]) -> Result<(), Fail> {
-    let mut wanted = Vec::new(alloc);
+// How many they are.
+const COMMANDS_COUNT: u64 = 18;
+
+// These lines with a word for each mark.
+fn with_word(alloc: Global, lines: &[u8], word: &[u8]) -> Result<Vec<u8>, Fail> {
     let mut input = Vec::new(alloc);
-    let mut line = 0_u64;
-    for (front, back) in PLACES {
-        line = line.saturating_add(1);
-        input.extend_from_slice(front.as_bytes())?;
-        input.extend_from_slice(word)?;
-        writeln!(&mut input, "{back}")?;
-        writeln!(&mut wanted, "error 3 line {line}")?;
+    for byte in lines {
+        if *byte == b'#' {
+            input.extend_from_slice(word)?;
+        } else {
+            input.push(*byte)?;
+        }
     }
-    let output = String::from_utf8(wanted).map_err(|_| "an output that is no text")?;
-    prints(rt, alloc, input.as_slice(), output.as_str());
-    Ok(())
+    Ok(input)
 }
 
-#[test]
-fn no_numbers(rt: HostRuntime) -> Result<(), Fail> {
-    for word in [
-        "x",
-        "-",
-        "+1",
-        "--1",
-        "1.5",
-        "0x1",
-        "9223372036854775808",
-        "-9223372036854775809",
-        "18446744073709551617",
-    ] {
-        is_no_number(&rt, rt.alloc(), word.as_bytes())?;
+// What is said of so many lines that have no number where one has to be.
+fn faults_of_lines(alloc: Global, count: u64) -> Result<Vec<u8>, Fail> {
+    let mut text = Vec::new(alloc);
+    for line in 0..count {
+        let line = line.saturating_add(1);
+        writeln!(&mut text, "error 3 line {line}")?;
     }
-    Ok(())
+    Ok(text)
 }
 
 // So many of one byte.
@@ -98,34 +75,27 @@ fn repeated(alloc: Global, byte: u8, count: usize) -> Result<Vec<u8>, Fail> {
 fn no_numbers_of_a_megabyte(rt: HostRuntime) -> Result<(), Fail> {
     let alloc = rt.alloc();
     let nines = repeated(alloc, b'9', 1_048_576)?;
-    is_no_number(&rt, alloc, nines.as_slice())?;
+    let input = with_word(alloc, COMMANDS, nines.as_slice())?;
+    let output = faults_of_lines(alloc, COMMANDS_COUNT)?;
+    prints(&rt, alloc, input.as_slice(), output.as_slice());
     Ok(())
 }
+
+// Edits, an empty list and a question, with a mark before a number of each.
+const ZEROS: &[u8] =
+    b"vertex #7\nedge 7 #8\nreweigh 7 8 -#2\nimport list #0\ncommit\nrefresh\nreport\nget #7\n";
 
 // A number may have a megabyte of leading zeros.
 #[test]
 fn a_megabyte_of_zeros(rt: HostRuntime) -> Result<(), Fail> {
     let alloc = rt.alloc();
     let zeros = repeated(alloc, b'0', 1_048_576)?;
-    let mut input = Vec::new(alloc);
-    for (front, back) in [
-        ("vertex ", "7"),
-        ("edge 7 ", "8"),
-        ("reweigh 7 8 -", "2"),
-        ("import list ", "0"),
-    ] {
-        input.extend_from_slice(front.as_bytes())?;
-        input.extend_from_slice(zeros.as_slice())?;
-        writeln!(&mut input, "{back}")?;
-    }
-    write!(&mut input, "commit\nrefresh\nreport\nget ")?;
-    input.extend_from_slice(zeros.as_slice())?;
-    writeln!(&mut input, "7")?;
+    let input = with_word(alloc, ZEROS, zeros.as_slice())?;
     prints(
         &rt,
         alloc,
         input.as_slice(),
-        "error 5 line 4\nedition 1\nrefreshed edition 1 supersteps 1 ending finished calls 1 losses 0\n{\"calls\":1,\"dropped\":0,\"edition\":1,\"ending\":\"finished\",\"losses\":0,\"sent\":0,\"supersteps\":1}\nvalue 7 9223372036854775807\n",
+        b"error 5 line 4\nedition 1\nrefreshed edition 1 supersteps 1 ending finished calls 1 losses 0\n{\"calls\":1,\"dropped\":0,\"edition\":1,\"ending\":\"finished\",\"losses\":0,\"sent\":0,\"supersteps\":1}\nvalue 7 9223372036854775807\n",
     );
     Ok(())
 }

@@ -1,6 +1,6 @@
 // Sessions whose reader or writer fails in mid-stream.
-use crate::runs::{served, shortest_paths};
-use pregeld::{ReadyService, ServeFault};
+use crate::runs::{Reached, Session, reached_by, served, shortest_paths};
+use pregeld::ServeFault;
 use std::alloc::Global;
 use std::io;
 use std::io::{BufReader, Read, Write};
@@ -69,20 +69,6 @@ fn lines_of(text: &[u8]) -> usize {
     text.iter().filter(|byte| **byte == b'\n').count()
 }
 
-// What a session has come to: the edition of the graph, and that of what is published.
-#[derive(Clone, Copy, Debug, PartialEq, Eq)]
-struct Reached {
-    graph: u64,
-    published: Option<u64>,
-}
-
-fn reached_by(service: &ReadyService) -> Reached {
-    Reached {
-        graph: service.edition().number(),
-        published: service.answers().map(|answers| answers.edition().number()),
-    }
-}
-
 // What a session has come to with so many lines of the output.
 fn reached_after(lines: usize) -> Reached {
     let (graph, published) = match lines {
@@ -96,29 +82,45 @@ fn reached_after(lines: usize) -> Reached {
     Reached { graph, published }
 }
 
-// A session whose nth read fails has answered just the commands whose lines were read until then, each
-// of them whole.
-fn read_fails_at(rt: &impl Abort, alloc: Global, calls: usize) -> Result<bool, Fail> {
+// A session whose nth read fails.
+fn with_broken_reader(alloc: Global, calls: usize) -> Result<Session, Fail> {
     let mut service = shortest_paths(alloc)?;
     let broken = NthReader {
         text: INPUT,
         calls_left: calls,
     };
     let mut reader = BufReader::with_capacity(alloc, 16, broken)?;
-    let mut writer = Vec::new(alloc);
-    let served = served(alloc, &mut reader, &mut writer, &mut service);
+    let mut written = Vec::new(alloc);
+    let served = served(alloc, &mut reader, &mut written, &mut service);
+    Ok(Session {
+        served,
+        written,
+        reached: reached_by(&service),
+    })
+}
+
+// How many lines answer what is read in so many calls.
+fn answered_in(calls: usize) -> usize {
     let read = INPUT.get(..calls).unwrap_or(INPUT);
-    let lines = ANSWERED[lines_of(read).min(17)];
-    assert!(rt; OUTPUT.starts_with(writer.as_slice()));
-    assert_eq!(rt; lines_of(writer.as_slice()), lines);
-    assert!(rt; writer.is_empty() || writer.last() == Some(&b'\n'));
-    assert_eq!(rt; reached_by(&service), reached_after(lines));
-    if served == Ok(()) {
-        assert_eq!(rt; writer.as_slice(), OUTPUT);
-        return Ok(true);
+    ANSWERED[lines_of(read).min(17)]
+}
+
+// It has answered just the commands whose lines were read until then, each of them whole.
+fn has_answered_all_read(session: &Session, calls: usize) -> bool {
+    let written = session.written.as_slice();
+    let lines = answered_in(calls);
+    OUTPUT.starts_with(written)
+        && lines_of(written) == lines
+        && (written.is_empty() || written.last() == Some(&b'\n'))
+        && session.reached == reached_after(lines)
+}
+
+// Whether its reader failed, or else it answered all.
+fn ends_by_read(session: &Session) -> bool {
+    match session.served {
+        Ok(()) => session.written.as_slice() == OUTPUT,
+        Err(fault) => fault == ServeFault::Read,
     }
-    assert_eq!(rt; served, Err(ServeFault::Read));
-    Ok(false)
 }
 
 #[test]
@@ -126,17 +128,17 @@ fn each_read_fails_in_turn(rt: HostRuntime) -> Result<(), Fail> {
     let alloc = rt.alloc();
     let mut whole = 0_usize;
     for calls in 0..INPUT.len() + 2 {
-        if read_fails_at(&rt, alloc, calls)? {
-            whole = whole.saturating_add(1);
-        }
+        let session = with_broken_reader(alloc, calls)?;
+        assert!(&rt; has_answered_all_read(&session, calls));
+        assert!(&rt; ends_by_read(&session));
+        whole = whole.saturating_add(usize::from(session.served.is_ok()));
     }
     assert_eq!(&rt; whole, 1);
     Ok(())
 }
 
-// A session whose nth write fails has carried out the command whose answer couldn't be written, as far as
-// the editions of the graph and of what is published tell, and none after it that changes them.
-fn write_fails_at(rt: &impl Abort, alloc: Global, calls: usize) -> Result<bool, Fail> {
+// A session whose nth write fails.
+fn with_broken_writer(alloc: Global, calls: usize) -> Result<Session, Fail> {
     let mut service = shortest_paths(alloc)?;
     let mut reader = INPUT;
     let mut writer = NthWriter {
@@ -144,16 +146,26 @@ fn write_fails_at(rt: &impl Abort, alloc: Global, calls: usize) -> Result<bool, 
         calls_left: calls,
     };
     let served = served(alloc, &mut reader, &mut writer, &mut service);
-    let written = writer.written.as_slice();
-    assert!(rt; OUTPUT.starts_with(written));
-    if served == Ok(()) {
-        assert_eq!(rt; written, OUTPUT);
-        return Ok(true);
-    }
-    assert_eq!(rt; served, Err(ServeFault::Write));
+    Ok(Session {
+        served,
+        written: writer.written,
+        reached: reached_by(&service),
+    })
+}
+
+// It has carried out the command whose answer couldn't be written, as far as the editions of the graph and of what is
+// published tell, and none after it that changes them; or else it has answered all.
+fn has_carried_out_one_more(session: &Session) -> bool {
+    let written = session.written.as_slice();
     let lines = lines_of(written).saturating_add(1);
-    assert_eq!(rt; reached_by(&service), reached_after(lines));
-    Ok(false)
+    match session.served {
+        Ok(()) => written == OUTPUT,
+        Err(fault) => {
+            fault == ServeFault::Write
+                && OUTPUT.starts_with(written)
+                && session.reached == reached_after(lines)
+        }
+    }
 }
 
 // Each of the twelve answers is at least one write.
@@ -162,7 +174,9 @@ fn each_write_fails_in_turn(rt: HostRuntime) -> Result<(), Fail> {
     let alloc = rt.alloc();
     let mut failed = 0_usize;
     for calls in 0..1000 {
-        if write_fails_at(&rt, alloc, calls)? {
+        let session = with_broken_writer(alloc, calls)?;
+        assert!(&rt; has_carried_out_one_more(&session));
+        if session.served.is_ok() {
             break;
         }
         failed = failed.saturating_add(1);

@@ -1,6 +1,7 @@
 //! Tests of the libraries, by their public calls: what no contract says.
 //!
-//! They stand in a crate of their own because a crate with tests is proved twice, once with them.
+//! They stand in a crate of their own because a crate with tests is proved twice, once with them. Those of programs and
+//! of the runner stand in `pg_tests_runs`, so that neither is long in one process.
 #![tactic(auto)]
 
 #[cfg(test)]
@@ -10,10 +11,6 @@ mod import;
 #[cfg(test)]
 mod model;
 #[cfg(test)]
-mod program;
-#[cfg(test)]
 mod publish;
 #[cfg(test)]
 mod publish_threads;
-#[cfg(test)]
-mod scratch;

@@ -5,7 +5,7 @@ ghost use Rattle.pg_global.specs.Registry.{first_refusal};
 
 use pg_core::{Core, Event, Limits};
 use pg_global::{AnyCombiner, MasterCompute, MessageCombiner, NoMaster};
-use pg_graph::{Batch, Edit, Graph, Memory, Missing, PartitionId, Superstep, VertexId, WorkerId};
+use pg_graph::{Batch, Edit, Graph, Memory, Missing, PartitionId, Superstep, VertexId};
 use pg_model::Run;
 use pg_program::{Computation, Meter, Tally};
 use std::alloc::{AllocError, Global};
@@ -68,41 +68,60 @@ fn opened<'a>(
     Ok(core)
 }
 
+// The graph of vertices 1 to 3, in which 1 and 2 lead to 3.
+fn three_vertices(alloc: Global) -> Result<Graph, Fail> {
+    graph_of(alloc, &[(1, 10), (2, 20), (3, 0)], &[(1, 3), (2, 3)])
+}
+
+// Which worker has which partition that is ready, as numbers.
+fn ready_in(
+    alloc: Global,
+    core: &Core<'_, Tally, AnyCombiner, NoMaster>,
+) -> Result<Vec<(u32, u32)>, Fail> {
+    let mut numbers = Vec::new(alloc);
+    for (worker, partition) in core.ready(alloc)?.as_slice() {
+        numbers.push((worker.number(), partition.number()))?;
+    }
+    Ok(numbers)
+}
+
 #[test]
 fn a_core_opens_with_all_partitions_ready(rt: HostRuntime) -> Result<(), Fail> {
     let alloc = rt.alloc();
-    let graph = graph_of(alloc, &[(1, 10), (2, 20), (3, 0)], &[(1, 3), (2, 3)])?;
+    let graph = three_vertices(alloc)?;
     let core = opened(alloc, &graph, 3)?;
-    let ready = core.ready(alloc)?;
-    let (zero, one) = (WorkerId::new(0), WorkerId::new(1));
-    let (first, second, third) = (
-        PartitionId::new(0),
-        PartitionId::new(1),
-        PartitionId::new(2),
-    );
-    assert_eq!(rt;
-        ready.as_slice(),
-        [(zero, first), (one, second), (zero, third)].as_slice()
-    );
-    assert_eq!(rt; core.visible(Superstep::new(0)).total_edges, 2);
+    let edges = core.visible(Superstep::new(0)).total_edges;
+    let ready = ready_in(alloc, &core)?;
+    assert_eq!(rt; ready.as_slice(), [(0, 0), (1, 1), (0, 2)].as_slice());
+    assert_eq!(rt; edges, 2);
     Ok(())
+}
+
+// A run whose second partition steps first: whether this is ready afterwards, and how many calls both steps take.
+fn second_first(
+    alloc: Global,
+    core: &mut Core<'_, Tally, AnyCombiner, NoMaster>,
+) -> Result<(bool, u64), Memory> {
+    let mut meter = Meter::new();
+    let (first, second) = (PartitionId::new(0), PartitionId::new(1));
+    step_once(alloc, core, second, &mut meter)?;
+    let ready = core.is_ready(second);
+    step_once(alloc, core, first, &mut meter)?;
+    Ok((ready, meter.count()))
 }
 
 #[test]
 fn partitions_step_in_any_order(rt: HostRuntime) -> Result<(), Fail> {
     let alloc = rt.alloc();
-    let graph = graph_of(alloc, &[(1, 10), (2, 20), (3, 0)], &[(1, 3), (2, 3)])?;
+    let graph = three_vertices(alloc)?;
     let mut core = opened(alloc, &graph, 2)?;
-    let mut meter = Meter::new();
-    let (first, second) = (PartitionId::new(0), PartitionId::new(1));
-    step_once(alloc, &mut core, second, &mut meter)?;
-    assert!(rt; !core.is_ready(second));
-    step_once(alloc, &mut core, first, &mut meter)?;
-    assert_eq!(rt;
-        core.history(),
-        [Event::Step(second), Event::Step(first)].as_slice()
-    );
-    assert_eq!(rt; meter.count(), 3);
+    let stepped = second_first(alloc, &mut core)?;
+    assert_eq!(rt; stepped, (false, 3));
+    let steps = [
+        Event::Step(PartitionId::new(1)),
+        Event::Step(PartitionId::new(0)),
+    ];
+    assert_eq!(rt; core.history(), steps.as_slice());
     Ok(())
 }
 
@@ -123,7 +142,7 @@ fn whole(alloc: Global, graph: &Graph, partitions: u32) -> Result<(Vec<(u64, i64
 #[test]
 fn however_many_partitions_run_to_the_same_end(rt: HostRuntime) -> Result<(), Fail> {
     let alloc = rt.alloc();
-    let graph = graph_of(alloc, &[(1, 10), (2, 20), (3, 0)], &[(1, 3), (2, 3)])?;
+    let graph = three_vertices(alloc)?;
     for partitions in 1..4 {
         let (values, calls) = whole(alloc, &graph, partitions)?;
         assert_eq!(rt; values.as_slice(), [(1, 10), (2, 20), (3, 2)].as_slice());
@@ -190,7 +209,7 @@ fn tally_again(
 #[test]
 fn beside_itself_a_run_calls_nothing(rt: HostRuntime) -> Result<(), Fail> {
     let alloc = rt.alloc();
-    let graph = graph_of(alloc, &[(1, 10), (2, 20), (3, 0)], &[(1, 3), (2, 3)])?;
+    let graph = three_vertices(alloc)?;
     let (values, calls) = tally_again(alloc, &graph, 2)?;
     assert_eq!(rt; values.as_slice(), [(1, 10), (2, 20), (3, 2)].as_slice());
     assert_eq!(rt; calls, 0);

@@ -7,7 +7,7 @@ use pg_graph::{Batch, Edit, EditKind, Graph, Missing, VertexId};
 use pg_program::{Computation, Meter, Plain};
 use pg_ready::{ReadyMaster, ReadyProgram, Sssp};
 use pg_scratch::run;
-use pg_service::{Service, same};
+use pg_service::{Report, Service, same};
 use std::alloc::Global;
 use std::fmt::Write;
 use std::test::Fail;
@@ -122,16 +122,7 @@ pub(crate) fn two_hops(alloc: Global, partitions: u32, missing: Missing) -> Resu
     Ok(service)
 }
 
-// How many calls of compute a refresh takes.
-pub(crate) fn refresh<P: Computation, C: MessageCombiner<P::Message>, M: MasterCompute>(
-    alloc: Global,
-    service: &mut Service<P, C, M>,
-) -> Result<u64, Fail> {
-    let report = service.refresh(alloc)?;
-    Ok(report.calls)
-}
-
-// The same, where the refresh may be refused.
+// How many calls of compute a refresh takes that may be refused.
 pub(crate) fn attempted<P: Computation, C: MessageCombiner<P::Message>, M: MasterCompute>(
     alloc: Global,
     service: &mut Service<P, C, M>,
@@ -142,26 +133,66 @@ pub(crate) fn attempted<P: Computation, C: MessageCombiner<P::Message>, M: Maste
     }
 }
 
-// What a refresh tells and publishes: calls of compute, supersteps, the steps of each partition, and the values by
-// rising id.
-fn tell_refresh<P: Computation, C: MessageCombiner<P::Message>, M: MasterCompute>(
+// The same of one that isn't refused.
+pub(crate) fn refresh<P: Computation, C: MessageCombiner<P::Message>, M: MasterCompute>(
     alloc: Global,
     service: &mut Service<P, C, M>,
-    text: &mut String,
-) -> Result<(), Fail> {
-    let report = service.refresh(alloc)?;
-    let (calls, supersteps, steps) = (report.calls, report.supersteps, report.steps.len());
-    write!(text, "calls {calls} supersteps {supersteps} steps")?;
+) -> Result<u64, Fail> {
+    Ok(attempted(alloc, service).ok_or("a refresh that is refused")?)
+}
+
+// What a report tells: calls of compute, supersteps, of how many partitions it has the steps, and how many of these made
+// another number of steps.
+#[derive(Drop)]
+struct Counts {
+    calls: u64,
+    supersteps: u32,
+    partitions: usize,
+    others: usize,
+}
+
+fn counts_in(report: &Report) -> Counts {
     let mut others = 0_usize;
     for made in report.steps.as_slice() {
-        if *made != supersteps {
+        if *made != report.supersteps {
             others = others.saturating_add(1);
         }
     }
-    write!(text, " {steps} others {others}")?;
+    Counts {
+        calls: report.calls,
+        supersteps: report.supersteps,
+        partitions: report.steps.len(),
+        others,
+    }
+}
+
+// What a refresh tells, if it isn't refused.
+fn refreshed<P: Computation, C: MessageCombiner<P::Message>, M: MasterCompute>(
+    alloc: Global,
+    service: &mut Service<P, C, M>,
+) -> Option<Counts> {
+    match service.refresh(alloc) {
+        Ok(report) => Some(counts_in(&report)),
+        Err(_) => None,
+    }
+}
+
+// The same as text.
+fn tell_refresh(counts: &Counts, text: &mut String) -> Result<(), Fail> {
+    write!(
+        text,
+        "calls {} supersteps {}",
+        counts.calls, counts.supersteps
+    )?;
+    write!(
+        text,
+        " steps {} others {}",
+        counts.partitions, counts.others
+    )?;
     Ok(())
 }
 
+// What is published: the values by rising id.
 fn tell_values<P: Computation, C: MessageCombiner<P::Message>, M: MasterCompute>(
     service: &Service<P, C, M>,
     text: &mut String,
@@ -175,7 +206,7 @@ fn tell_values<P: Computation, C: MessageCombiner<P::Message>, M: MasterCompute>
     Ok(())
 }
 
-// The same of shortest paths, after a batch of these lines.
+// What a refresh of shortest paths tells and publishes, after a batch of these lines.
 fn tell_after(
     alloc: Global,
     service: &mut Paths,
@@ -184,22 +215,34 @@ fn tell_after(
 ) -> Result<(), Fail> {
     let batch = batch_of(alloc, lines)?;
     edit(alloc, service, &batch).map_err(|_| "a batch that is refused")?;
-    tell_refresh(alloc, service, text)?;
+    let counts = refreshed(alloc, service).ok_or("a refresh that is refused")?;
+    tell_refresh(&counts, text)?;
     tell_values(service, text)
 }
 
-// What the refreshes of a service tell, each after a batch of these lines.
+// The same of refreshes, each after a batch.
+fn tell_all(
+    alloc: Global,
+    service: &mut Paths,
+    batches: &[&[Line]],
+    text: &mut String,
+) -> Result<(), Fail> {
+    for lines in batches {
+        tell_after(alloc, service, lines, text)?;
+    }
+    Ok(())
+}
+
+// The same of a service on so many partitions.
 pub(crate) fn told(
     alloc: Global,
     partitions: u32,
     missing: Missing,
     batches: &[&[Line]],
 ) -> Result<String, Fail> {
-    let mut service = empty(alloc, partitions, missing)?;
     let mut text = String::new(alloc);
-    for lines in batches {
-        tell_after(alloc, &mut service, lines, &mut text)?;
-    }
+    let mut service = empty(alloc, partitions, missing)?;
+    tell_all(alloc, &mut service, batches, &mut text)?;
     Ok(text)
 }
 

@@ -1,6 +1,7 @@
 // What a service has published, beside runs from scratch. All was found by hand.
-use crate::hops::{Line, TWO_HOPS, attempted, commit, is_run_of, refresh, told, two_hops};
+use crate::hops::{Line, Paths, TWO_HOPS, attempted, commit, is_run_of, refresh, told, two_hops};
 use pg_graph::Missing;
+use std::alloc::Global;
 use std::process::Abort;
 use std::test::Fail;
 
@@ -13,14 +14,21 @@ const SHORTCUT: [Line; 6] = [
     Line::Edge(1, 3, 2),
 ];
 
+// How many calls a refresh of the two hops takes, and whether it finds what a run of them finds, and what one finds with
+// a shortcut.
+fn beside_runs(alloc: Global, service: &mut Paths) -> Result<(u64, bool, bool), Fail> {
+    let calls = refresh(alloc, service)?;
+    let same = is_run_of(alloc, service, TWO_HOPS.as_slice())?;
+    let other = is_run_of(alloc, service, SHORTCUT.as_slice())?;
+    Ok((calls, same, other))
+}
+
 #[test]
 fn the_same_as_a_run_of_its_graph_alone(rt: HostRuntime) -> Result<(), Fail> {
     let alloc = rt.alloc();
     let mut service = two_hops(alloc, 2, Missing::Drop)?;
-    let calls = refresh(alloc, &mut service)?;
-    let same = is_run_of(alloc, &service, TWO_HOPS.as_slice())?;
-    let other = is_run_of(alloc, &service, SHORTCUT.as_slice())?;
-    assert_eq!(rt; (calls, same, other), (5, true, false));
+    let found = beside_runs(alloc, &mut service)?;
+    assert_eq!(rt; found, (5, true, false));
     Ok(())
 }
 
@@ -65,18 +73,24 @@ calls 1 supersteps 2 steps 2 others 0 1=0 2=5 3=9223372036854775807\n"
     Ok(())
 }
 
+// How many calls the refresh of a shortcut takes that may be refused, and the one after it.
+fn beside_refused(alloc: Global, service: &mut Paths) -> Result<(Option<u64>, u64), Fail> {
+    refresh(alloc, service)?;
+    commit(alloc, service, &[Line::Edge(1, 3, 2)])?.map_err(|_| "a batch that is refused")?;
+    let first = attempted(alloc, service);
+    Ok((first, refresh(alloc, service)?))
+}
+
 // After a refresh that is refused no run is kept, and the next one calls all: this is for runs in which an allocation is
 // refused.
 #[test]
 fn a_refused_refresh_keeps_no_run(rt: HostRuntime) -> Result<(), Fail> {
     let alloc = rt.alloc();
     let mut service = two_hops(alloc, 2, Missing::Drop)?;
-    refresh(alloc, &mut service)?;
-    commit(alloc, &mut service, &[Line::Edge(1, 3, 2)])?.map_err(|_| "a batch that is refused")?;
-    let first = attempted(alloc, &mut service);
-    assert!(rt; first.unwrap_or(3) == 3);
-    let wanted = if first.is_some() { 0 } else { 6 };
-    let calls = refresh(alloc, &mut service)?;
-    assert_eq!(rt; calls, wanted);
+    let (first, calls) = beside_refused(alloc, &mut service)?;
+    match first {
+        Some(first) => assert_eq!(rt; (first, calls), (3, 0)),
+        None => assert_eq!(rt; calls, 6),
+    }
     Ok(())
 }

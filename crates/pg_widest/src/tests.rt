@@ -3,6 +3,7 @@ use crate::{Search, Searching, searching, widest_paths};
 use pg_core::Limits;
 use pg_graph::{Batch, Edit, VertexId};
 use pg_model::Ending;
+use pg_service::Answers;
 use std::alloc::Global;
 use std::process::Abort;
 use std::test::Fail;
@@ -11,17 +12,20 @@ fn id(rt: &impl Abort, number: u64) -> VertexId {
     VertexId::new(number).expect(rt, "an id")
 }
 
-// Looks for the widest paths from 1, until one to 3 is as wide as this, where 1 leads to 2 and 3, 2 leads to 3, and 3
-// leads to 4.
+// Looks for the widest paths from 1, until one to 3 is as wide as this.
 fn service(rt: &impl Abort, alloc: Global, enough: i64) -> Result<Searching, Fail> {
-    let [one, two, three, four] = [id(rt, 1), id(rt, 2), id(rt, 3), id(rt, 4)];
     let search = Search {
-        source: one,
-        target: three,
+        source: id(rt, 1),
+        target: id(rt, 3),
         enough,
     };
     let limits = Limits::new(2, 1, 1000, 0, 0).ok_or("limits")?;
-    let mut service = searching(alloc, &search, limits)?;
+    Ok(searching(alloc, &search, limits)?)
+}
+
+// The roads: 1 leads to 2 and 3, 2 leads to 3, and 3 leads to 4.
+fn roads(rt: &impl Abort, alloc: Global) -> Result<Batch, Fail> {
+    let [one, two, three, four] = [id(rt, 1), id(rt, 2), id(rt, 3), id(rt, 4)];
     let edits = [
         Edit::AddVertex(one, 0),
         Edit::AddVertex(two, 0),
@@ -36,8 +40,7 @@ fn service(rt: &impl Abort, alloc: Global, enough: i64) -> Result<Searching, Fai
     for edit in edits {
         batch.push(edit)?;
     }
-    service.edit(alloc, &batch)?;
-    Ok(service)
+    Ok(batch)
 }
 
 // What a search has to find: values, the width at 3, ending and supersteps, and its calls.
@@ -50,6 +53,25 @@ struct Wanted<'a> {
     calls: u64,
 }
 
+// The service searches its graph: the ending, the supersteps and the calls.
+fn searched(alloc: Global, service: &mut Searching) -> Result<(Ending, u32, u64), Fail> {
+    let report = widest_paths(alloc, service)?;
+    Ok((report.ending, report.supersteps, report.calls))
+}
+
+// These values are published, and this width at 3.
+fn are_published(answers: &Answers<i64>, wanted: &Wanted<'_>) -> bool {
+    if answers.values().len() != wanted.values.len() {
+        return false;
+    }
+    for ((id, width), (number, other)) in answers.values().iter().zip(wanted.values) {
+        if id.number() != *number || *width != *other {
+            return false;
+        }
+    }
+    answers.aggregate("found") == Some(wanted.found)
+}
+
 // The service searches its graph, and finds this.
 fn finds(
     rt: &impl Abort,
@@ -57,26 +79,16 @@ fn finds(
     service: &mut Searching,
     wanted: &Wanted<'_>,
 ) -> Result<(), Fail> {
-    let report = widest_paths(alloc, service)?;
-    assert_eq!(rt;
-        (report.ending, report.supersteps, report.calls),
-        (wanted.ending, wanted.supersteps, wanted.calls)
-    );
+    let told = searched(alloc, service)?;
+    assert_eq!(rt; told, (wanted.ending, wanted.supersteps, wanted.calls));
     let answers = service.answers().ok_or("answers")?;
-    assert_eq!(rt; answers.values().len(), wanted.values.len());
-    for ((id, width), (number, other)) in answers.values().iter().zip(wanted.values) {
-        assert_eq!(rt; (id.number(), *width), (*number, *other));
-    }
-    assert_eq!(rt; answers.aggregate("found"), Some(wanted.found));
+    assert!(rt; are_published(answers, wanted));
     Ok(())
 }
 
 // All paths; then the road from 1 to 3 is made wider. Of the second search's eight executions four have other inputs:
 // vertex 1 in superstep 0, 3 in supersteps 1 and 2, and 4 in superstep 2.
-#[test]
-fn after_an_edit(rt: HostRuntime) -> Result<(), Fail> {
-    let alloc = rt.alloc();
-    let mut service = service(&rt, alloc, 100)?;
+fn finds_wider(rt: &impl Abort, alloc: Global, service: &mut Searching) -> Result<(), Fail> {
     let first = Wanted {
         values: &[(1, i64::MAX), (2, 8), (3, 5), (4, 5)],
         found: 5,
@@ -84,10 +96,10 @@ fn after_an_edit(rt: HostRuntime) -> Result<(), Fail> {
         supersteps: 4,
         calls: 9,
     };
-    finds(&rt, alloc, &mut service, &first)?;
+    service.edit(alloc, &roads(rt, alloc)?)?;
+    finds(rt, alloc, service, &first)?;
     let mut wider = Batch::new(alloc);
-    wider.push(Edit::SetEdge(id(&rt, 1), id(&rt, 3), 7))?;
-    service.edit(alloc, &wider)?;
+    wider.push(Edit::SetEdge(id(rt, 1), id(rt, 3), 7))?;
     let second = Wanted {
         values: &[(1, i64::MAX), (2, 8), (3, 7), (4, 7)],
         found: 7,
@@ -95,14 +107,18 @@ fn after_an_edit(rt: HostRuntime) -> Result<(), Fail> {
         supersteps: 3,
         calls: 4,
     };
-    finds(&rt, alloc, &mut service, &second)
+    service.edit(alloc, &wider)?;
+    finds(rt, alloc, service, &second)
+}
+
+#[test]
+fn after_an_edit(rt: HostRuntime) -> Result<(), Fail> {
+    let mut service = service(&rt, rt.alloc(), 100)?;
+    finds_wider(&rt, rt.alloc(), &mut service)
 }
 
 // The narrow road from 1 to 3 is enough: 4 hears of no better one.
-#[test]
-fn halted_at_enough(rt: HostRuntime) -> Result<(), Fail> {
-    let alloc = rt.alloc();
-    let mut service = service(&rt, alloc, 3)?;
+fn finds_enough(rt: &impl Abort, alloc: Global, service: &mut Searching) -> Result<(), Fail> {
     let wanted = Wanted {
         values: &[(1, i64::MAX), (2, 8), (3, 5), (4, 3)],
         found: 5,
@@ -110,5 +126,12 @@ fn halted_at_enough(rt: HostRuntime) -> Result<(), Fail> {
         supersteps: 3,
         calls: 8,
     };
-    finds(&rt, alloc, &mut service, &wanted)
+    service.edit(alloc, &roads(rt, alloc)?)?;
+    finds(rt, alloc, service, &wanted)
+}
+
+#[test]
+fn halted_at_enough(rt: HostRuntime) -> Result<(), Fail> {
+    let mut service = service(&rt, rt.alloc(), 3)?;
+    finds_enough(&rt, rt.alloc(), &mut service)
 }

@@ -1,4 +1,5 @@
-//! Runs the stored sessions on several numbers of partitions, and says whether each answers what is stored.
+//! Runs the stored sessions on several numbers of partitions, and stored command lines as they stand, and says whether each
+//! answers what is stored.
 #![tactic(auto)]
 
 use pregeld::start;
@@ -15,18 +16,50 @@ const FOLDERS: [(&str, &[&str]); 4] = [
     ("long", &["1", "3"]),
 ];
 
+/// Where command lines lie, those of a folder with one input, one output and one exit status.
+const WORDS: &str = "words";
+
+/// What a run of the program has to come to.
+#[derive(Drop)]
+struct Wanted {
+    status: u8,
+    output: Vec<u8>,
+    errors: Vec<u8>,
+}
+
 fn main(rt: HostRuntime) -> io::Result<ExitCode> {
-    let mut status = ExitCode::SUCCESS;
+    let mut all = true;
     for (folder, partitions) in FOLDERS {
-        for name in sessions(&rt, folder)? {
-            let answers = is_answered_as_stored(&rt, name.as_str(), partitions)?;
-            println!(rt; "{name} {}", verdict(answers))?;
-            if !answers {
-                status = ExitCode::FAILURE;
-            }
-        }
+        all &= are_sessions_answered(&rt, folder, partitions)?;
     }
-    Ok(status)
+    all &= are_words_answered(&rt)?;
+    Ok(if all {
+        ExitCode::SUCCESS
+    } else {
+        ExitCode::FAILURE
+    })
+}
+
+/// Whether all sessions of a folder are answered as is stored. Prints a line for each.
+fn are_sessions_answered(rt: &HostRuntime, folder: &str, partitions: &[&str]) -> io::Result<bool> {
+    let mut all = true;
+    for name in sessions(rt, folder)? {
+        let answers = is_answered_as_stored(rt, name.as_str(), partitions)?;
+        println!(rt; "{name} {}", verdict(answers))?;
+        all &= answers;
+    }
+    Ok(all)
+}
+
+/// Whether all command lines are answered as is stored. Prints a line for each folder of them.
+fn are_words_answered(rt: &HostRuntime) -> io::Result<bool> {
+    let mut all = true;
+    for name in sessions(rt, WORDS)? {
+        let answers = are_answered_as_stored(rt, name.as_str())?;
+        println!(rt; "{name} {}", verdict(answers))?;
+        all &= answers;
+    }
+    Ok(all)
 }
 
 /// What is said of a session.
@@ -58,14 +91,54 @@ fn is_answered_as_stored(rt: &HostRuntime, name: &str, partitions: &[&str]) -> i
     let alloc = rt.alloc();
     let args = fs::read_to_string(rt, format!(in alloc; "{name}/args")?)?;
     let input = fs::read(rt, format!(in alloc; "{name}/stdin")?)?;
-    let output = fs::read(rt, format!(in alloc; "{name}/stdout")?)?;
+    let wanted = Wanted {
+        status: 0,
+        output: fs::read(rt, format!(in alloc; "{name}/stdout")?)?,
+        errors: Vec::new(alloc),
+    };
     for partitions in partitions {
         let words = words_of(alloc, args.as_str(), partitions)?;
-        if !is_answered(alloc, words.as_slice(), input.as_slice(), output.as_slice()) {
+        if !is_answered(alloc, words.as_slice(), input.as_slice(), &wanted) {
             return Ok(false);
         }
     }
     Ok(true)
+}
+
+/// Whether the program, on each command line of a folder and on its input, ends as is stored there.
+fn are_answered_as_stored(rt: &HostRuntime, name: &str) -> io::Result<bool> {
+    let alloc = rt.alloc();
+    let lines = fs::read_to_string(rt, format!(in alloc; "{name}/words")?)?;
+    let input = fs::read(rt, format!(in alloc; "{name}/stdin")?)?;
+    let wanted = wanted_in(rt, name)?;
+    for line in lines.lines() {
+        let words = words_in(alloc, line)?;
+        if !is_answered(alloc, words.as_slice(), input.as_slice(), &wanted) {
+            return Ok(false);
+        }
+    }
+    Ok(true)
+}
+
+/// What is stored in a folder of command lines.
+fn wanted_in(rt: &HostRuntime, name: &str) -> io::Result<Wanted> {
+    let alloc = rt.alloc();
+    let status = fs::read_to_string(rt, format!(in alloc; "{name}/status")?)?;
+    let status = status.as_str().trim_end().parse();
+    Ok(Wanted {
+        status: status.map_err(|_| io::Error::from(io::ErrorKind::InvalidData))?,
+        output: fs::read(rt, format!(in alloc; "{name}/stdout")?)?,
+        errors: fs::read(rt, format!(in alloc; "{name}/stderr")?)?,
+    })
+}
+
+/// The words of a command line, with a space between two of them.
+fn words_in<'a>(alloc: Global, line: &'a str) -> io::Result<Vec<&'a str>> {
+    let mut words = Vec::new(alloc);
+    for word in line.split(' ') {
+        words.push(word)?;
+    }
+    Ok(words)
 }
 
 /// The words that the program is started with: its name, one for each line, and on how many partitions it runs.
@@ -80,10 +153,12 @@ fn words_of<'a>(alloc: Global, args: &'a str, partitions: &'a str) -> io::Result
     Ok(words)
 }
 
-/// Whether the program, started with these words, ends well with this output, and says nothing else.
-fn is_answered(alloc: Global, words: &[&str], input: &[u8], output: &[u8]) -> bool {
+/// Whether the program, started with these words, ends as is wanted, and says nothing else.
+fn is_answered(alloc: Global, words: &[&str], input: &[u8], wanted: &Wanted) -> bool {
     let mut reader = input;
     let (mut writer, mut errors) = (Vec::new(alloc), Vec::new(alloc));
     let status = start(alloc, words, &mut reader, &mut writer, &mut errors);
-    status == 0 && writer.as_slice() == output && errors.is_empty()
+    status == wanted.status
+        && writer.as_slice() == wanted.output.as_slice()
+        && errors.as_slice() == wanted.errors.as_slice()
 }

@@ -3,7 +3,7 @@ use Rattle.std.proofs.Math.Nat.{div-eq_of_lt}
 use Rattle.std.proofs.Math.Pow.{pow-lt}
 use Rattle.pg_model.specs.Job.{has_place}
 use Rattle.pg_program.specs.Context.{ShowsDeclared}
-use Rattle.pg_tests.proofs.program.context.Goals as goal
+use Rattle.pg_tests_runs.proofs.program.context.Goals as goal
 
 -- the set of places 1 has the first place alone
 only_first : (place : ℕ) → has_place 1 place ≡ true → place ≡ 0
