@@ -30,6 +30,19 @@ slice_get-range made a (suc n) zero within = ap (λ (i : ℕ). Some (made i)) (l
 slice_get-range made a (suc n) (suc k) within =
     slice_get-range made (a + 1) n k (omega (arith, within)) ∙ ap (λ (i : ℕ). Some (made i)) (let e : a + 1 + k ≡ a + suc k = omega arith in e)
 
+-- the stats after a superstep, by other names of what is looked at
+pub next_stats_at : {V M : Type 0} (registry : Registered) (graph rows : Rows) (ids moved : List ℕ) (now stats then old_stats : List PartitionStats) (logs : Option (Slots M))
+    (seen course : Holding V M) (k s : ℕ) (sent bundles : List (Logged M)) (after : PartitionStats) → graph ≡ rows → ids ≡ moved → now ≡ stats → then ≡ old_stats → seen ≡ course
+    → k ≡ s → sent ≡ bundles → IsNextStats registry graph ids now then logs seen k sent after → IsNextStats registry rows moved stats old_stats logs course s bundles after
+next_stats_at {V} {M} registry graph rows ids moved now stats then old_stats logs seen course k s sent bundles after g m n o c p b h =
+    subst (λ (x : List (Logged M)). IsNextStats registry rows moved stats old_stats logs course s x after) b
+    (subst (λ (x : ℕ). IsNextStats registry rows moved stats old_stats logs course x sent after) p
+    (subst (λ (x : Holding V M). IsNextStats registry rows moved stats old_stats logs x k sent after) c
+    (subst (λ (x : List PartitionStats). IsNextStats registry rows moved stats x logs seen k sent after) o
+    (subst (λ (x : List PartitionStats). IsNextStats registry rows moved x then logs seen k sent after) n
+    (subst (λ (x : List ℕ). IsNextStats registry rows x now then logs seen k sent after) m
+    (subst (λ (x : Rows). IsNextStats registry x ids now then logs seen k sent after) g h))))))
+
 module _ {V M : Type 0} (job : Job V M) where
   -- stats up to a superstep have those of each as it begins
   pub stats_of : (rows : Rows) (n p m s : ℕ) (stats : List PartitionStats) → stats ≡ stats_to job rows n p m → s ≤ m → slice_get stats s ≡ Some (stats_at job rows n p s)
@@ -103,19 +116,6 @@ module _ {V M : Type 0} (job : Job V M) where
         by : (t : Bool) → course.beside_old ≡ t → next ≡ stats_at job rows n p (r + 1)
         by false e = alone kept has holds (subst (λ (b : Bool). AreAllChanged job kept rows n p r b course.changed) e changed) sends old_logs e is
         by true e = beside_kept kept has holds (subst (λ (b : Bool). AreAllChanged job kept rows n p r b course.changed) e changed) sends lent e
-
-  -- the same by other names of what is looked at
-  pub next_stats_at : (registry : Registered) (graph rows : Rows) (ids moved : List ℕ) (now stats then old_stats : List PartitionStats) (logs : Option (Slots M))
-      (seen course : Holding V M) (k s : ℕ) (sent bundles : List (Logged M)) (after : PartitionStats) → graph ≡ rows → ids ≡ moved → now ≡ stats → then ≡ old_stats → seen ≡ course
-      → k ≡ s → sent ≡ bundles → IsNextStats registry graph ids now then logs seen k sent after → IsNextStats registry rows moved stats old_stats logs course s bundles after
-  next_stats_at registry graph rows ids moved now stats then old_stats logs seen course k s sent bundles after g m n o c p b h =
-      subst (λ (x : List (Logged M)). IsNextStats registry rows moved stats old_stats logs course s x after) b
-      (subst (λ (x : ℕ). IsNextStats registry rows moved stats old_stats logs course x sent after) p
-      (subst (λ (x : Holding V M). IsNextStats registry rows moved stats old_stats logs x k sent after) c
-      (subst (λ (x : List PartitionStats). IsNextStats registry rows moved stats x logs seen k sent after) o
-      (subst (λ (x : List PartitionStats). IsNextStats registry rows moved x then logs seen k sent after) n
-      (subst (λ (x : List ℕ). IsNextStats registry rows x now then logs seen k sent after) m
-      (subst (λ (x : Rows). IsNextStats registry x ids now then logs seen k sent after) g h))))))
 
   -- a part with them holds its stats one superstep further
   pub has_next : (kept : Option Rows) (rows : Rows) (n p r : ℕ) (before part : PartState V M) → HasStats job kept rows n p r before

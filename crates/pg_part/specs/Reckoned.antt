@@ -1,9 +1,10 @@
 -- What a partition comes to in a superstep, by what it or an old run had come to.
-use Rattle.std.specs.Prelude.{◌≡◌, ℕ, ◌+◌, true, false, List, [], map, ℤ, Option, Some}
+use Rattle.std.specs.Prelude.{◌≡◌, ℕ, ◌+◌, true, false, List, [], ◌∷◌, ◌++◌, map, ℤ, Option, Some}
 use Rattle.std.specs.List.{list_all, slice_get}
 use Rattle.pg_course.specs.Course.{Holding, differing}
 use Rattle.pg_global.specs.Registry.{Registered}
 use Rattle.pg_graph.specs.Rows.{Rows}
+use Rattle.pg_part.specs.declared.reckoning.Reckoning.{Reckoning}
 use Rattle.pg_inbox.specs.Logged.{Slots}
 use Rattle.pg_inbox.specs.declared.logs.Logged.{Logged}
 use Rattle.pg_recount.specs.Census.{IsRecounted, states_among}
@@ -63,3 +64,12 @@ module _ {V M : Type 0} where
     pub beside : course.beside_old ≡ true → (old : Trace V M) (logs : Slots M) (before old_before old_after : PartitionStats) → course.kept ≡ Some old
         → old_logs ≡ Some logs → slice_get stats s ≡ Some before → slice_get old_stats s ≡ Some old_before → slice_get old_stats (s + 1) ≡ Some old_after
         → IsReckonedBeside registry rows moved old logs course s bundles before old_before old_after after
+
+  -- with the stats after superstep s, what was reckoned before it is this
+  pub record HasNextStats (registry : Registered) (old_logs : Option (Slots M)) (course : Holding V M) (s : ℕ) (bundles : List (Logged M)) (before after : Reckoning) : Type 0 where
+    pub graph_is : after.graph ≡ before.graph
+    pub moved_are : after.moved.items ≡ before.moved.items
+    pub old_stats_are : after.old_stats.items ≡ before.old_stats.items
+    pub next : PartitionStats
+    pub stats_are : after.stats.items ≡ before.stats.items ++ next ∷ []
+    pub is_next : IsNextStats registry before.graph before.moved.items before.stats.items before.old_stats.items old_logs course s bundles next

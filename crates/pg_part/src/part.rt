@@ -1,5 +1,5 @@
 //! One partition of a run with what it has come to, and its steps.
-ghost use Rattle.std.specs.Prelude.{◌≡◌, ℕ, ◌+◌, ◌<◌, ◌≤◌, ◌^◌, ◌++◌, ◌∷◌, [], true, length, Option, None, Some, Ok, IfErr, IfOk, IfSome};
+ghost use Rattle.std.specs.Prelude.{◌≡◌, ℕ, ◌+◌, ◌<◌, ◌≤◌, ◌^◌, true, length, Option, None, Some, Ok, IfErr, IfOk, IfSome};
 ghost use Rattle.std.specs.Option.{option_copied};
 ghost use Rattle.std.specs.List.{slice_get};
 ghost use Rattle.pg_course.specs.Course.{AreTouched, HasBegun, IsFurther, differing};
@@ -12,10 +12,10 @@ ghost use Rattle.pg_part.specs.Part.{HasMadeStep, HoldsShare, IsLeft};
 ghost use Rattle.pg_recount.specs.Traffic.{AreMoved};
 ghost use Rattle.pg_stats.specs.GlobalStats.{aggregators_of};
 
-use crate::reckoning::{first_stats, first_stats_beside, next_stats};
+use crate::reckoning::{Reckoning, first_stats, first_stats_beside};
 use pg_course::{Course, Lost, Rows, Sent};
 use pg_global::{MessageCombiner, Registry, Visible};
-use pg_graph::{Graph, Memory, Missing, PartitionId, Superstep, VertexId};
+use pg_graph::{Memory, Missing, PartitionId, Superstep, VertexId};
 use pg_inbox::Logs;
 use pg_program::{Computation, Meter, Plain};
 use pg_recount::census;
@@ -26,13 +26,19 @@ use std::marker::Model;
 
 /// One partition of a run as a superstep begins: its records so far, and what it has come to as each superstep began.
 /// A warm one also has both of an old run, and steps beside that.
-#[derive(Drop)]
 pub struct Part<V, M> {
     course: Course<V, M>,
-    graph: Graph,
-    moved: Vec<VertexId>,
-    stats: Vec<PartitionStats>,
-    old_stats: Vec<PartitionStats>,
+    reckoning: Reckoning,
+}
+
+// By hand, so that a part is let go by one call wherever that is, and not field by field.
+impl<V: Drop, M: Drop> Drop for Part<V, M> {
+    fn drop(self) {
+        let Part {
+            course: _,
+            reckoning: _,
+        } = self;
+    }
 }
 
 impl<V, M> Model for Part<V, M> {
@@ -43,13 +49,13 @@ impl<V, M> Model for Part<V, M> {
 
     ghost view = { λ p. record {
       course = p.course;
-      graph = p.graph;
-      moved = p.moved.items;
-      stats = p.stats.items;
-      old_stats = p.old_stats.items;
+      graph = p.reckoning.graph;
+      moved = p.reckoning.moved.items;
+      stats = p.reckoning.stats.items;
+      old_stats = p.reckoning.old_stats.items;
     } };
 
-    ghost invariant = { λ p. length p.stats.items ≡ p.course.place + 1 };
+    ghost invariant = { λ p. length p.reckoning.stats.items ≡ p.course.place + 1 };
 }
 
 /// What a partition leaves of a whole run, for one beside it: its trace, and what it came to as each superstep began
@@ -104,7 +110,7 @@ impl<V: Plain, M: Plain> Part<V, M> {
     pub fn stats(&self) -> &PartitionStats
         ensures value { slice_get self.now.stats self.now.course.place ≡ Some result.now }
     {
-        &self.stats[self.course.place().number() as usize]
+        &self.reckoning.stats[self.course.place().number() as usize]
     }
 
     /// By place, what its vertices contributed in the superstep before comes to, from the initial value on.
@@ -135,19 +141,13 @@ impl<V: Plain, M: Plain> Part<V, M> {
             → job.aggregators ≡ aggregators_of registry.now
             → HoldsShare job None rows.entry.graph rows.entry.partitions rows.entry.partition 0 part) }
     {
-        let graph = rows.graph().copy(alloc)?;
+        let graph = rows.graph();
         let states = rows.first_states(alloc, program)?;
         let census = census(states.as_slice())?;
-        let mut stats = Vec::new(alloc);
-        stats.push(first_stats(alloc, registry, census)?)?;
+        let first = first_stats(alloc, registry, census)?;
         let course = Course::begin(alloc, rows, missing, states)?;
-        Ok(Part {
-            course,
-            graph,
-            moved: Vec::new(alloc),
-            stats,
-            old_stats: Vec::new(alloc),
-        })
+        let reckoning = Reckoning::begun(alloc, graph, &[], first, Vec::new(alloc))?;
+        Ok(Part { course, reckoning })
     }
 
     /// A partition as a run begins beside an old one: with what it left of that, with ids outside of which the graph's
@@ -173,22 +173,12 @@ impl<V: Plain, M: Plain> Part<V, M> {
             → AreMoved moved.now kept rows.entry.graph
             → HoldsShare job (Some kept) rows.entry.graph rows.entry.partitions rows.entry.partition 0 part) }
     {
-        let graph = rows.graph().copy(alloc)?;
-        let Left {
-            trace,
-            stats: old_stats,
-        } = old;
+        let graph = rows.graph();
+        let Left { trace, stats } = old;
         let course = Course::begin_beside(alloc, rows, missing, trace, touched, program)?;
-        let first = first_stats_beside(alloc, registry, &course, old_stats.as_slice())?;
-        let mut stats = Vec::new(alloc);
-        stats.push(first)?;
-        Ok(Part {
-            course,
-            graph,
-            moved: Vec::from_slice(alloc, moved)?,
-            stats,
-            old_stats,
-        })
+        let first = first_stats_beside(alloc, registry, &course, stats.as_slice())?;
+        let reckoning = Reckoning::begun(alloc, graph, moved, first, stats)?;
+        Ok(Part { course, reckoning })
     }
 
     /// One superstep. It reads what the logs have from each partition to this one of the superstep before, and what
@@ -227,13 +217,7 @@ impl<V: Plain, M: Plain> Part<V, M> {
             → IsLentBeside job kept n p r logs.now (option_copied old_logs.entry) (option_copied old_visible.entry)
             → HasMadeStep job V.PartialEq.eq M.PartialEq.eq kept rows n p r stepped.0 stepped.1 meter.old meter.new) }
     {
-        let Part {
-            course,
-            graph,
-            moved,
-            stats,
-            old_stats,
-        } = self;
+        let Part { course, reckoning } = self;
         let superstep = course.place();
         // Tells the prover that there are at most 64.
         course.partitions().partitions();
@@ -248,28 +232,11 @@ impl<V: Plain, M: Plain> Part<V, M> {
             combiner,
             &mut counted,
         )?;
-        let next = or_lost(next_stats(
-            alloc,
-            registry,
-            &graph,
-            moved.as_slice(),
-            stats.as_slice(),
-            old_stats.as_slice(),
-            old_logs,
-            &course,
-            superstep,
-            sent.bundles(),
-        ))?;
-        let stats = or_lost(pushed(stats, next))?;
+        let bundles = sent.bundles();
+        let reckoning = reckoning.after(alloc, registry, old_logs, &course, superstep, bundles);
+        let reckoning = or_lost(reckoning)?;
         *meter = counted;
-        let part = Part {
-            course,
-            graph,
-            moved,
-            stats,
-            old_stats,
-        };
-        Ok((part, sent))
+        Ok((Part { course, reckoning }, sent))
     }
 
     /// What it leaves of a run of so many supersteps, at the end of which it stands. Costs what is cut where the old run
@@ -280,21 +247,13 @@ impl<V: Plain, M: Plain> Part<V, M> {
             → supersteps ≡ run_length job rows → HoldsShare job kept rows n p supersteps self
             → IsLeft job rows n p left) }
     {
-        let Part { course, stats, .. } = self;
+        let Part { course, reckoning } = self;
+        let stats = reckoning.into_stats();
         let mut trace = course.into_trace();
         trace.cut(alloc, supersteps)?;
         let trace = trace.settled(alloc)?;
         Ok(Left { trace, stats })
     }
-}
-
-/// These stats with one more.
-fn pushed(stats: Vec<PartitionStats>, next: PartitionStats) -> Result<Vec<PartitionStats>, Memory>
-    ensures { IfOk result (λ after. after.items ≡ stats.items ++ next ∷ []) }
-{
-    let mut stats = stats;
-    stats.push(next)?;
-    Ok(stats)
 }
 
 /// What was found. Where memory was refused, a step is lost.

@@ -1,8 +1,8 @@
 //! What a partition has come to as a superstep begins, by what it or the old run had come to.
-ghost use Rattle.std.specs.Prelude.{◌≡◌, ◌+◌, ◌<◌, ◌≤◌, ◌^◌, true, false, length, IfOk, IsSome, Some};
+ghost use Rattle.std.specs.Prelude.{◌≡◌, ◌+◌, ◌<◌, ◌≤◌, ◌^◌, ◌∷◌, [], true, false, length, IfOk, IsSome, Some};
 ghost use Rattle.std.specs.List.{list_all, slice_get};
 ghost use Rattle.std.specs.Option.{option_copied};
-ghost use Rattle.pg_part.specs.Reckoned.{HasBegunBeside, IsCountedBeside, IsNextStats, IsReckoned, IsReckonedBeside, IsRecensus, begun_with, gathered_of};
+ghost use Rattle.pg_part.specs.Reckoned.{HasBegunBeside, HasNextStats, IsCountedBeside, IsNextStats, IsReckoned, IsReckonedBeside, IsRecensus, begun_with, gathered_of};
 ghost use Rattle.pg_recount.specs.Contributed.{contributes_alike};
 ghost use Rattle.pg_trace.specs.Trace.{Trace as TraceOf};
 
@@ -19,6 +19,83 @@ use pg_recount::{
 use pg_stats::{Census, PartitionStats, Traffic};
 use pg_trace::Trace;
 use std::alloc::Global;
+
+/// What a partition has come to as each superstep so far began, and what tells it: the graph and, beside an old run, the
+/// ids that are a vertex of just one of the two graphs, and what the partition came to in that run.
+#[derive(Drop)]
+pub(crate) struct Reckoning {
+    pub(crate) graph: Graph,
+    pub(crate) moved: Vec<VertexId>,
+    pub(crate) stats: Vec<PartitionStats>,
+    pub(crate) old_stats: Vec<PartitionStats>,
+}
+
+impl Reckoning {
+    /// As a run begins with these stats.
+    pub(crate) fn begun(
+        alloc: Global,
+        graph: &Graph,
+        moved: &[VertexId],
+        first: PartitionStats,
+        old_stats: Vec<PartitionStats>,
+    ) -> Result<Reckoning, Memory>
+        ensures graph_is { IfOk result (λ reckoning. reckoning.graph ≡ graph.now) }
+        ensures moved_are { IfOk result (λ reckoning. reckoning.moved.items ≡ moved.now) }
+        ensures stats_are { IfOk result (λ reckoning. reckoning.stats.items ≡ first ∷ []) }
+        ensures old_stats_are { IfOk result (λ reckoning. reckoning.old_stats.items ≡ old_stats.items) }
+    {
+        let graph = graph.copy(alloc)?;
+        let moved = Vec::from_slice(alloc, moved)?;
+        let mut stats = Vec::new(alloc);
+        stats.push(first)?;
+        Ok(Reckoning {
+            graph,
+            moved,
+            stats,
+            old_stats,
+        })
+    }
+
+    /// After a superstep that the partition has made: with the stats after it.
+    pub(crate) fn after<V: Plain, M: Plain>(
+        self,
+        alloc: Global,
+        registry: &Registry,
+        old_logs: Option<&Logs<M>>,
+        course: &Course<V, M>,
+        superstep: Superstep,
+        bundles: &[Logged<M>],
+    ) -> Result<Reckoning, Memory>
+        requires counts { superstep + 1 < 2 ^ 32 }
+        requires few { length bundles.now ≤ 64 }
+        requires there { superstep < length self.stats.items }
+        ensures { IfOk result (λ after. HasNextStats registry.now (option_copied old_logs.entry) course.now superstep
+            bundles.now self after) }
+    {
+        let next = next_stats(
+            alloc,
+            registry,
+            &self.graph,
+            self.moved.as_slice(),
+            self.stats.as_slice(),
+            self.old_stats.as_slice(),
+            old_logs,
+            course,
+            superstep,
+            bundles,
+        )?;
+        let mut reckoning = self;
+        reckoning.stats.push(next)?;
+        Ok(reckoning)
+    }
+
+    /// What the partition has come to as each superstep so far began.
+    pub(crate) fn into_stats(self) -> Vec<PartitionStats>
+        ensures { result.items ≡ self.stats.items }
+    {
+        self.stats
+    }
+}
 
 /// The stats as a run begins, with this census.
 pub(crate) fn first_stats(
@@ -236,7 +313,7 @@ fn copied(alloc: Global, values: &Sequence<i64>) -> Result<Sequence<i64>, Memory
 /// Costs look-ups for each vertex that the superstep may have changed and for each target that the bundles name as
 /// changed; and a walk over the superstep's records where something else is contributed than in the old run, and over
 /// the messages where the superstep wasn't made beside it.
-pub(crate) fn next_stats<V: Plain, M: Plain>(
+fn next_stats<V: Plain, M: Plain>(
     alloc: Global,
     registry: &Registry,
     graph: &Graph,

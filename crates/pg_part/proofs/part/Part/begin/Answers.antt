@@ -1,4 +1,4 @@
-use Rattle.std.proofs.Common.{ap, sym, ◌∙◌, ◌∷◌, ◌++◌, []}
+use Rattle.std.proofs.Common.{ap, sym, ◌∙◌, ◌∷◌, []}
 use Rattle.pg_routing.specs.Starting.{first_states}
 use Rattle.pg_part.proofs.Beginning.{begun_stats, first_are}
 use Rattle.pg_stats.specs.Stats.{census_of}
@@ -14,12 +14,12 @@ returns-clause-holds g c job program missing same =
     let rise = c.in_ok-states.ensures.rising in
     let states_are = c.in_ok-states.ensures.states ∙ ap (λ q. first_states q graph n p) (sym program) in
     let counted = c.in_ok-census.ensures ∙ ap census_of (c.as_slice.ensures.value ∙ (states_are ∙ first_are job graph n p rise)) in
-    let pushed = c.in_ok-push.ensures.items ∙ (ap (λ l. l ++ c.in_ok-first_stats.field-0 ∷ []) c.new-stats.ensures.items ∙ ap (λ x. x ∷ []) c.in_ok-first_stats.ensures) in
+    let reckoned = c.in_ok-reckoning.ensures in
     record {
       course = c.in_ok-course.ensures.holds job rise missing states_are;
       stats = record {
-        graph_is = c.in_ok-graph.ensures ∙ c.graph.ensures;
-        stats_are = pushed ∙ begun_stats job n p registry same graph census counted;
+        graph_is = reckoned.graph_is ∙ c.graph-graph.ensures;
+        stats_are = reckoned.stats_are ∙ (ap (λ x. x ∷ []) c.in_ok-first.ensures ∙ begun_stats job n p registry same graph census counted);
         beside = tt;
       };
     }

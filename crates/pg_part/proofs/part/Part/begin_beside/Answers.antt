@@ -1,6 +1,6 @@
-use Rattle.std.proofs.Common.{ap, sym, ◌∙◌, ◌∷◌, ◌++◌, [], subst, arith, ◌≤◌, Some}
+use Rattle.std.proofs.Common.{ap, sym, ◌∙◌, ◌∷◌, [], subst, arith, ◌≤◌}
 use Rattle.std.specs.List.{slice_get}
-use Rattle.pg_course.specs.Course.{Holds, IsWhole, differing}
+use Rattle.pg_course.specs.Course.{IsWhole, differing}
 use Rattle.pg_model.specs.Run.{run_length}
 use Rattle.pg_part.proofs.Beginning.{begun_stats, recensus_is}
 use Rattle.pg_part.proofs.Stepping.{stats_of}
@@ -26,12 +26,12 @@ returns-clause-holds g c job kept program missing same left touched moved =
     let begun = c.in_ok-first.ensures old.trace earlier begins.kept (ap (λ l. slice_get l 0) c.as_slice.ensures.value ∙ at) in
     let counted = recensus_is job kept graph n p old.trace course.trace whole.run holds.run c.args.touched.now (differing course) begins.rise begins.differing touched
     old.stats.items stats_are earlier at first.census begun.census in
-    let pushed = c.in_ok-push.ensures.items ∙ (ap (λ l. l ++ first ∷ []) c.new-stats.ensures.items ∙ ap (λ x. x ∷ []) begun.rest) in
+    let reckoned = c.in_ok-reckoning.ensures in
     record {
-      course = subst (λ x. Holds job (Some kept) graph n p 0 x) (sym c.course.view_is) holds;
+      course = holds;
       stats = record {
-        graph_is = c.graph-2.view_is ∙ (c.in_ok-graph.ensures ∙ c.graph.ensures);
-        stats_are = pushed ∙ begun_stats job n p registry same graph first.census counted;
-        beside = (stats_are, subst (λ ids. AreMoved ids kept graph) (sym c.in_ok-from_slice.ensures.items) moved);
+        graph_is = reckoned.graph_is ∙ c.graph-graph.ensures;
+        stats_are = reckoned.stats_are ∙ (ap (λ x. x ∷ []) begun.rest ∙ begun_stats job n p registry same graph first.census counted);
+        beside = (reckoned.old_stats_are ∙ stats_are, subst (λ ids. AreMoved ids kept graph) (sym reckoned.moved_are) moved);
       };
     }

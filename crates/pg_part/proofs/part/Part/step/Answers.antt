@@ -10,21 +10,20 @@ returns-clause-stepped g c job kept rows n p r program combining same held lent 
     let as_before = c.self.view_is in
     let course = c.in_ok-course.course in
     let sent = c.in_ok-course.sent in
-    let next = c.in_ok-next.next in
+    let reckoned = ok_of _ _ c.in_ok-reckoning.reckoning c.in_ok-reckoning.ensures c.after-reckoning.ensures in
+    let next = reckoned.next in
     let registry = c.args.registry.now in
     let holds = subst (λ s. Holds job kept rows n p r s.course) (sym as_before) held.course in
     let stepped = c.in_ok-course.ensures.stepped job kept rows n p r program combining holds lent beside in
     let few = c.partitions.ensures ∙ holds.partitions_are in
     let some = subst (λ (k : ℕ). 0 < k) few c.partitions-2.ensures.some in
-    let found = ok_of _ _ next c.in_ok-next.ensures c.next_stats.ensures in
-    let is_next = next_stats_at job registry _ before.graph _ before.moved _ before.stats _ before.old_stats _ _ course _ r _ sent next
-    (ap (λ s. s.graph) as_before) (c.as_slice.ensures.value ∙ ap (λ s. s.moved) as_before) (c.as_slice-2.ensures.value ∙ ap (λ s. s.stats) as_before)
-    (c.as_slice-3.ensures.value ∙ ap (λ s. s.old_stats) as_before) refl (c.place-superstep.ensures ∙ holds.place_is) c.bundles.ensures found in
+    let is_next = next_stats_at registry _ before.graph _ before.moved _ before.stats _ before.old_stats _ _ course _ r _ sent next
+    (ap (λ s. s.graph) as_before) (ap (λ s. s.moved) as_before) (ap (λ s. s.stats) as_before)
+    (ap (λ s. s.old_stats) as_before) refl (c.place-superstep.ensures ∙ holds.place_is) c.bundles-bundles.ensures reckoned.is_next in
     let after = next_is job rows n p r some registry same before course sent stepped.to_each c.args.logs.now next
     kept held.stats stepped.holds stepped.changed_are stepped.sends _ _ beside is_next in
-    let pushed = ok_of _ _ c.in_ok-stats.stats c.in_ok-stats.ensures c.pushed.ensures in
     record {
       course = subst (λ (m : ℕ). HasStepped job g.V.PartialEq.eq g.M.PartialEq.eq kept rows n p r course sent m c.step.new.meter) c.copy-counted.ensures stepped;
-      stats = has_next job kept rows n p r before _ held.stats (ap (λ s. s.graph) as_before) (ap (λ s. s.moved) as_before) (ap (λ s. s.old_stats) as_before)
-          next (pushed ∙ ap (λ s. s.stats ++ next ∷ []) as_before) after;
+      stats = has_next job kept rows n p r before _ held.stats (reckoned.graph_is ∙ ap (λ s. s.graph) as_before) (reckoned.moved_are ∙ ap (λ s. s.moved) as_before) (reckoned.old_stats_are ∙ ap (λ s. s.old_stats) as_before)
+          next (reckoned.stats_are ∙ ap (λ s. s.stats ++ next ∷ []) as_before) after;
     }
