@@ -120,7 +120,7 @@ pub enum Query<'a> {
 ///
 /// # Errors
 ///
-/// A line that is no command, by its first fault of those that are told here: 1, 2 and 3.
+/// The first of the faults 1, 2 and 3 that the line has.
 #[tactic(auto, unfolding(crate::specs::Command::command_in))]
 pub fn command_of(raw: &[u8]) -> Result<Command<'_>, LineFault>
     ensures { result ≡ command_of raw.now }
