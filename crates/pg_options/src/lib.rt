@@ -5,5 +5,5 @@ mod arguments;
 mod names;
 mod options;
 
-pub use names::ProgramName;
+pub use names::{NoName, ProgramName};
 pub use options::{NoOptions, Options, options_of, program_of};

@@ -33,9 +33,9 @@ pub(crate) struct Policy {
     pub missing: Missing,
 }
 
-/// A text that is none of the words.
+/// The fault of a text that is none of the words.
 #[derive(Clone, Copy, Debug, PartialEq, Eq)]
-pub(crate) struct NoName;
+pub struct NoName;
 
 /// The words for the programs.
 pub(crate) static PROGRAMS: [&str; 6] = ["sssp", "cc", "max", "indegree", "pagerank", "peel"];
