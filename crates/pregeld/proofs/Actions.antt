@@ -14,10 +14,10 @@ use Rattle.pregeld.specs.Session.{Imported, Place, State, after, action_answer, 
 use Rattle.pregeld.specs.Session.{imported, past, refresh_answer}
 use Rattle.pregeld.specs.declared.block.Block.{Block}
 use Rattle.pregeld.specs.declared.block.Block.TheVariants.{Whole, CutShort, NoMemory}
-use Rattle.pregeld.specs.declared.command.Action.TheVariants.{Commit, Import, Refresh, Recompute}
-use Rattle.pregeld.specs.declared.command.Command.TheVariants.{Act}
-use Rattle.pregeld.specs.declared.command.Form.{Form}
-use Rattle.pregeld.specs.declared.command.LineFault.TheVariants as fault
+use Rattle.pg_command.specs.declared.command.Action.TheVariants.{Commit, Import, Refresh, Recompute}
+use Rattle.pg_command.specs.declared.command.Command.TheVariants.{Act}
+use Rattle.pg_command.specs.declared.command.Form.{Form}
+use Rattle.pg_command.specs.declared.command.LineFault.TheVariants as fault
 use Rattle.pregeld.specs.declared.reply.Reply.{Reply}
 use Rattle.pregeld.specs.declared.reply.Reply.TheVariants.{Refreshed, Fault}
 use Rattle.pregeld.proofs.Pending.{next_of_stored, none_pending, stored_none, tried_of_stored}

@@ -7,19 +7,19 @@ use Rattle.std.specs.List.{last_or}
 use Rattle.pg_graph.specs.declared.edit.Edit.{Edit as OneEdit}
 use Rattle.pg_service.specs.Answers.{aggregate_of}
 use Rattle.pregeld.specs.Job.{ReadyJob, ReadyState, ready_names}
-use Rattle.pregeld.specs.Command.{command_of}
+use Rattle.pg_command.specs.Command.{command_of}
 use Rattle.pregeld.specs.Notes.{Held, Noted, stored}
 use Rattle.pregeld.specs.Keeping.{AnswersLine, AreNotes, FailsLine, FailsToTell, Keeps, RepliesTo}
 use Rattle.pregeld.specs.Reply.{line_of_aggregate, line_of_reply, line_of_value, text_of}
 use Rattle.pg_service.specs.Printed.{json_text}
 use Rattle.pregeld.specs.Session.{Answer, Answers, Place, State, after, answer_to, answered, get_reply, noted, opened, query_text}
-use Rattle.pregeld.specs.declared.command.Command.{Command}
-use Rattle.pregeld.specs.declared.command.Command.TheVariants.{Nothing, Edit, Ask}
-use Rattle.pregeld.specs.declared.command.LineFault.{LineFault}
+use Rattle.pg_command.specs.declared.command.Command.{Command}
+use Rattle.pg_command.specs.declared.command.Command.TheVariants.{Nothing, Edit, Ask}
+use Rattle.pg_command.specs.declared.command.LineFault.{LineFault}
 use Rattle.pg_model.specs.Publications.{Publication}
 use Rattle.pg_service.specs.declared.report.Report.{Report}
-use Rattle.pregeld.specs.declared.command.Query.{Query}
-use Rattle.pregeld.specs.declared.command.Query.TheVariants.{Aggregate, Dump, Get, Reported}
+use Rattle.pg_command.specs.declared.command.Query.{Query}
+use Rattle.pg_command.specs.declared.command.Query.TheVariants.{Aggregate, Dump, Get, Reported}
 use Rattle.pregeld.specs.declared.reply.Reply.{Reply}
 use Rattle.pregeld.specs.declared.reply.Reply.TheVariants.{End, Fault, Unpublished}
 use Rattle.pregeld.specs.declared.session.ServeFault.{ServeFault}

@@ -1,6 +1,4 @@
 pub mod Actions
-pub mod AsciiWords
-pub mod AskedWords
 pub mod Blocks
 pub mod Commands
 pub mod FirstLines

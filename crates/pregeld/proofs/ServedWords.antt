@@ -3,11 +3,12 @@ use Rattle.std.proofs.Common.{◌≡◌, ℕ, List, Option, None, Some, ap, ◌�
 use Rattle.std.specs.Prelude.{IfSome}
 use Rattle.clap.specs.Words.{Text}
 use Rattle.pregeld.specs.Job.{ReadyState}
-use Rattle.pregeld.specs.Arguments.{AsksForRuns, job_in}
+use Rattle.pg_options.specs.Arguments.{AsksForRuns}
+use Rattle.pregeld.specs.AskedJob.{job_in}
 use Rattle.pregeld.specs.ExitStatus.{BreaksOffWords, ServesWords}
 use Rattle.pg_service.specs.Service.{fresh}
 use Rattle.pregeld.specs.Session.{BreaksOff, Serves}
-use Rattle.pregeld.specs.declared.options.Options.{Options}
+use Rattle.pg_options.specs.declared.options.Options.{Options}
 use Rattle.pregeld.specs.declared.session.ServeFault.{ServeFault}
 
 served_from : (remaining before now : Option (List ℕ)) (first old left : ReadyState) → old ≡ first

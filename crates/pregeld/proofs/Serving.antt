@@ -3,7 +3,7 @@ use Rattle.std.proofs.Common.{◌≡◌, ◌≢◌, ℕ, ◌+◌, List, [], ◌�
 use Rattle.std.specs.Io.KnownBytes.{Appends}
 use Rattle.pg_import.specs.Text.{raw_lines}
 use Rattle.pregeld.specs.Job.{ReadyJob, ReadyState}
-use Rattle.pregeld.specs.Command.{command_of}
+use Rattle.pg_command.specs.Command.{command_of}
 use Rattle.pregeld.specs.Notes.{Held, Noted}
 use Rattle.pregeld.specs.Reading.{lines_left}
 use Rattle.pregeld.specs.Keeping.{AnswersLine, AreNotes, FailsLine, Keeps}

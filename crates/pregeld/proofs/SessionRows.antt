@@ -12,18 +12,18 @@ use Rattle.pg_model.specs.Run.{answer, configuration, first, length_from}
 use Rattle.pg_model.specs.Superstep.{gathered_from, next, outcome, view_of, visible_in}
 use Rattle.std.specs.Fmt.{digits}
 use Rattle.pregeld.specs.Job.{ReadyJob}
-use Rattle.pregeld.specs.Arguments.{job_in}
-use Rattle.pregeld.specs.Command.{agg_of, alone, command_in, command_of, edit_named, get_of, import_of, named}
-use Rattle.pregeld.specs.Edits.{edge_of as edge_asked, input_of, vertex_of}
+use Rattle.pregeld.specs.AskedJob.{job_in}
+use Rattle.pg_command.specs.Command.{agg_of, alone, command_in, command_of, edit_named, get_of, import_of, named}
+use Rattle.pg_command.specs.Edits.{edge_of as edge_asked, input_of, vertex_of}
 use Rattle.pg_global.specs.declared.combiner.AnyCombiner.TheVariants.{NoCombiner}
 use Rattle.pg_graph.specs.declared.missing.Missing.TheVariants.{Drop, Create}
 use Rattle.pregeld.specs.Reply.{text_of, told_text}
 use Rattle.pg_service.specs.Printed.{json_text}
 use Rattle.pg_service.specs.Service.{next_graph}
 use Rattle.pregeld.specs.Session.{State, action_answer, answer_to}
-use Rattle.pregeld.specs.declared.names.ProgramName.{ProgramName}
-use Rattle.pregeld.specs.declared.names.ProgramName.TheVariants.{Sssp, Peel}
-use Rattle.pregeld.specs.declared.options.Options.{Options}
+use Rattle.pg_options.specs.declared.names.ProgramName.{ProgramName}
+use Rattle.pg_options.specs.declared.names.ProgramName.TheVariants.{Sssp, Peel}
+use Rattle.pg_options.specs.declared.options.Options.{Options}
 
 -- what is answered to the next lines, so many
 abbrev answers : ℕ → ReadyJob → ℕ → State → List (List ℕ) → List ℕ

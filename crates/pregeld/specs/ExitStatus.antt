@@ -2,11 +2,12 @@
 use Rattle.std.specs.Prelude.{◌≡◌, ◌⊎◌, ℕ, List, Option, IfSome}
 use Rattle.std.specs.Io.KnownBytes.{Appends}
 use Rattle.clap.specs.Words.{Text}
-use Rattle.pregeld.specs.Job.{ReadyState}
-use Rattle.pregeld.specs.Arguments.{AreAtFault, AsksForHelp, AsksForRuns, job_in}
+use Rattle.pg_options.specs.Arguments.{AreAtFault, AsksForHelp, AsksForRuns}
+use Rattle.pg_options.specs.declared.options.Options.{Options}
 use Rattle.pg_service.specs.Service.{fresh}
+use Rattle.pregeld.specs.AskedJob.{job_in}
+use Rattle.pregeld.specs.Job.{ReadyState}
 use Rattle.pregeld.specs.Session.{BreaksOff, Serves}
-use Rattle.pregeld.specs.declared.options.Options.{Options}
 use Rattle.pregeld.specs.declared.session.ServeFault.{ServeFault}
 
 -- a whole session of the job that the words ask for was served, where the bytes that there were are

@@ -10,16 +10,16 @@ use Rattle.pg_import.specs.Import.{no_memory}
 use Rattle.pg_import.specs.declared.line.ImportFault.{ImportFault}
 use Rattle.pg_import.specs.declared.line.Line.{Line}
 use Rattle.pregeld.specs.Job.{ReadyState, ready_job}
-use Rattle.pregeld.specs.Command.{command_of}
+use Rattle.pg_command.specs.Command.{command_of}
 use Rattle.pregeld.specs.Notes.{Held, Noted, stored}
 use Rattle.pregeld.specs.Reply.{told_of}
 use Rattle.pg_service.specs.Service.{IsTried, check_of, next_graph, publication_of}
 use Rattle.pg_service.specs.Service.{report_of}
 use Rattle.pregeld.specs.Session.{Answer, Answers, IsTriedOf, Place, State, after, answered}
 use Rattle.pregeld.specs.Session.{edges_of, edited, imported}
-use Rattle.pregeld.specs.declared.command.Command.{Command}
-use Rattle.pregeld.specs.declared.command.Form.{Form}
-use Rattle.pregeld.specs.declared.command.LineFault.{LineFault}
+use Rattle.pg_command.specs.declared.command.Command.{Command}
+use Rattle.pg_command.specs.declared.command.Form.{Form}
+use Rattle.pg_command.specs.declared.command.LineFault.{LineFault}
 use Rattle.pregeld.specs.declared.reply.Reply.{Reply}
 use Rattle.pregeld.specs.declared.reply.Reply.TheVariants.{ImportRefused, BatchRefused, Refreshed}
 use Rattle.pregeld.specs.declared.reply.Reply.TheVariants.{RunRefused, Checked}

@@ -1,6 +1,4 @@
-pub mod Arguments
-pub mod Command
-pub mod Edits
+pub mod AskedJob
 pub mod ExitStatus
 pub mod Job
 pub mod Keeping

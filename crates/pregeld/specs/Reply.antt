@@ -5,9 +5,7 @@ use Rattle.std.specs.Fmt.{signed_decimal}
 use Rattle.pg_graph.specs.EditKind as edit
 use Rattle.pg_import.specs.ImportKind as import
 use Rattle.pg_service.specs.declared.report.Report.{Report}
-use Rattle.pregeld.specs.declared.command.LineFault.{LineFault}
-use Rattle.pregeld.specs.declared.command.LineFault.TheVariants.{NoCommand, WordCount, BadWord}
-use Rattle.pregeld.specs.declared.command.LineFault.TheVariants.{CutShort, EditsPending}
+use Rattle.pg_command.specs.LineFault.{fault_number}
 use Rattle.pregeld.specs.declared.reply.Reply.{Reply}
 use Rattle.pregeld.specs.declared.reply.Reply.TheVariants.{Edition, ImportRefused, BatchRefused}
 use Rattle.pregeld.specs.declared.reply.Reply.TheVariants.{Refreshed, RunRefused, Checked}
@@ -33,14 +31,6 @@ told_text told =
     ++ (codes " ending " ++ (ending_name told.ending
     ++ (codes " calls " ++ (decimal told.calls
     ++ (codes " losses " ++ decimal told.losses))))))))
-
--- the number of a line's fault
-abbrev pub fault_number : LineFault → ℕ
-fault_number NoCommand = 1
-fault_number WordCount = 2
-fault_number BadWord = 3
-fault_number CutShort = 4
-fault_number EditsPending = 5
 
 -- an answer, without its line feed
 unfoldable pub text_of : Reply → List ℕ

@@ -19,21 +19,21 @@ use Rattle.pg_model.specs.Publications.{Publication, Publications}
 use Rattle.pg_import.specs.Text.{raw_lines}
 use Rattle.pg_service.specs.Answers.{aggregate_of, value_of}
 use Rattle.pregeld.specs.Job.{ReadyJob, ReadyState, ready_job, ready_names}
-use Rattle.pregeld.specs.Command.{command_of}
+use Rattle.pg_command.specs.Command.{command_of}
 use Rattle.pregeld.specs.Reply.{line_of_aggregate, line_of_reply, told_of, values_text}
 use Rattle.pg_service.specs.Printed.{json_text}
 use Rattle.pg_service.specs.Service.{IsTried, check_of, next_graph, publication_of}
 use Rattle.pg_service.specs.Service.{report_of}
-use Rattle.pregeld.specs.declared.command.Command.{Command}
-use Rattle.pregeld.specs.declared.command.Command.TheVariants.{Nothing, Edit, Act, Ask}
-use Rattle.pregeld.specs.declared.command.Action.{Action}
-use Rattle.pregeld.specs.declared.command.Action.TheVariants.{Commit, Import, Refresh, Recompute}
-use Rattle.pregeld.specs.declared.command.Query.{Query}
-use Rattle.pregeld.specs.declared.command.Query.TheVariants.{Aggregate, Dump, Get, Reported}
-use Rattle.pregeld.specs.declared.command.Form.{Form}
-use Rattle.pregeld.specs.declared.command.Form.TheVariants.{List as ListForm, Csv}
-use Rattle.pregeld.specs.declared.command.LineFault.{LineFault}
-use Rattle.pregeld.specs.declared.command.LineFault.TheVariants.{CutShort, EditsPending}
+use Rattle.pg_command.specs.declared.command.Command.{Command}
+use Rattle.pg_command.specs.declared.command.Command.TheVariants.{Nothing, Edit, Act, Ask}
+use Rattle.pg_command.specs.declared.command.Action.{Action}
+use Rattle.pg_command.specs.declared.command.Action.TheVariants.{Commit, Import, Refresh, Recompute}
+use Rattle.pg_command.specs.declared.command.Query.{Query}
+use Rattle.pg_command.specs.declared.command.Query.TheVariants.{Aggregate, Dump, Get, Reported}
+use Rattle.pg_command.specs.declared.command.Form.{Form}
+use Rattle.pg_command.specs.declared.command.Form.TheVariants.{List as ListForm, Csv}
+use Rattle.pg_command.specs.declared.command.LineFault.{LineFault}
+use Rattle.pg_command.specs.declared.command.LineFault.TheVariants.{CutShort, EditsPending}
 use Rattle.pregeld.specs.declared.reply.Reply.{Reply}
 use Rattle.pregeld.specs.declared.reply.Reply.TheVariants.{Edition, ImportRefused, BatchRefused}
 use Rattle.pregeld.specs.declared.reply.Reply.TheVariants.{Refreshed, RunRefused, Checked}

@@ -9,10 +9,10 @@ ghost use Rattle.pregeld.specs.Keeping.{Refreshes, RepliesTo};
 ghost use Rattle.pregeld.specs.Session.{State, edges_of, place_at};
 
 use crate::block::{Block, skip_lines, take_block};
-use crate::command::{Action, Command, Form, LineFault};
 use crate::notes::Notes;
 use crate::reply::{Reply, Told};
 use crate::{ReadyService, ServeFault};
+use pg_command::{Action, Command, Form, LineFault};
 use pg_graph::Batch;
 use pg_import::{ImportFault, Line, into_batch, read_csv, read_list};
 use std::alloc::Global;

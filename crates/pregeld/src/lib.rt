@@ -1,14 +1,10 @@
 //! The service: a graph, a ready program that runs on it, and the commands that reach both.
 #![tactic(auto)]
 
-mod arguments;
 mod block;
 mod carrying;
-mod command;
-mod edits;
-mod names;
+mod making;
 mod notes;
-mod options;
 mod program;
 mod reply;
 mod session;

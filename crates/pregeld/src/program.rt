@@ -2,9 +2,10 @@
 ghost use Rattle.std.specs.Prelude.{◌≡◌, ◌≤◌, map, OnOk};
 ghost use Rattle.pregeld.specs.ExitStatus.{AddsText, EndsBroken, EndsWell, IsRefused};
 
-use crate::options::{NoOptions, options_of, service_of};
+use crate::making::service_of;
 use crate::{ServeFault, serve};
 use clap::Error;
+use pg_options::{NoOptions, options_of};
 use std::alloc::Global;
 use std::convert::AsStr;
 use std::io::{BufRead, Write};

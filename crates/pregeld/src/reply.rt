@@ -2,8 +2,8 @@
 ghost use Rattle.std.specs.Prelude.{◌≡◌};
 ghost use Rattle.pregeld.specs.Reply.{told_of};
 
-use crate::command::LineFault;
 use crate::{Check, Report};
+use pg_command::LineFault;
 use pg_graph::{EditFault, Edition, VertexId};
 use pg_import::ImportFault;
 use pg_model::Ending;

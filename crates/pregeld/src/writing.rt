@@ -7,10 +7,10 @@ ghost use Rattle.pregeld.specs.Job.{ready_names};
 ghost use Rattle.pregeld.specs.Session.{aggregate_text, dump_text, get_reply, query_text};
 ghost use Rattle.pregeld.specs.Session.{report_line};
 
-use crate::command::Query;
 use crate::notes::Notes;
 use crate::reply::Reply;
 use crate::{ReadyService, ServeFault};
+use pg_command::Query;
 use pg_graph::VertexId;
 use std::alloc::Global;
 use std::io::Write;

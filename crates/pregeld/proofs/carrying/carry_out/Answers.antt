@@ -3,7 +3,7 @@ use Rattle.pregeld.specs.Notes.{Held}
 use Rattle.pregeld.specs.Reading.{lines_left}
 use Rattle.pregeld.specs.Keeping.{RepliesTo}
 use Rattle.pregeld.specs.Session.{Place}
-use Rattle.pregeld.specs.declared.command.Command.TheVariants.{Act}
+use Rattle.pg_command.specs.declared.command.Command.TheVariants.{Act}
 use Rattle.pregeld.proofs.Actions.{check_replies, commit_replies, refresh_replies}
 use Rattle.pregeld.proofs.carrying.carry_out.Goals as goal
 

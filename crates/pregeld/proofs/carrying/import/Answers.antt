@@ -3,9 +3,9 @@ use Rattle.pregeld.specs.Notes.{Held}
 use Rattle.pregeld.specs.Reading.{lines_left}
 use Rattle.pregeld.specs.Keeping.{ImportsLines, RepliesTo}
 use Rattle.pregeld.specs.Session.{Place}
-use Rattle.pregeld.specs.declared.command.Action.TheVariants.{Import}
-use Rattle.pregeld.specs.declared.command.Command.TheVariants.{Act}
-use Rattle.pregeld.specs.declared.command.LineFault.TheVariants.{EditsPending}
+use Rattle.pg_command.specs.declared.command.Action.TheVariants.{Import}
+use Rattle.pg_command.specs.declared.command.Command.TheVariants.{Act}
+use Rattle.pg_command.specs.declared.command.LineFault.TheVariants.{EditsPending}
 use Rattle.pregeld.specs.declared.reply.Reply.TheVariants.{Fault}
 use Rattle.pregeld.proofs.Actions.{aside_replies, cut_short_replies, import_replies}
 use Rattle.pregeld.proofs.carrying.import.Goals as goal

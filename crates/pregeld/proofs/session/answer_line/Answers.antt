@@ -1,9 +1,9 @@
 use Rattle.std.proofs.Common.{◌≡◌, Ok, Err, ap, sym, ◌∙◌}
-use Rattle.pregeld.specs.Command.{command_of}
+use Rattle.pg_command.specs.Command.{command_of}
 use Rattle.pregeld.specs.Notes.{Held}
 use Rattle.pregeld.specs.Reading.{lines_left}
 use Rattle.pregeld.specs.Session.{Place}
-use Rattle.pregeld.specs.declared.command.Command.TheVariants.{Nothing, Edit, Act, Ask}
+use Rattle.pg_command.specs.declared.command.Command.TheVariants.{Nothing, Edit, Act, Ask}
 use Rattle.pregeld.specs.declared.reply.Reply.TheVariants.{Fault}
 use Rattle.pregeld.proofs.Commands.{edit_answered, fault_replies, line_answered, line_unwritten, nothing_answered, query_answered, query_untold}
 use Rattle.pregeld.proofs.Written.{nothing_written}

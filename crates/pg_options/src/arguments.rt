@@ -1,0 +1,158 @@
+//! What the command line takes.
+ghost use Rattle.std.specs.Prelude.{◌≡◌, false, codes, IfOk};
+ghost use Rattle.clap.specs.Words.{app_of, rule_of};
+ghost use Rattle.pg_options.specs.Arguments.{AreOptionWords, AreWords, OptionWords, WordList};
+ghost use Rattle.pg_options.specs.Arguments.{combiner_word, combiner_words};
+ghost use Rattle.pg_options.specs.Arguments.{missing_word, missing_words};
+ghost use Rattle.pg_options.specs.Arguments.{number_rule, program, program_rule, program_words};
+ghost use Rattle.pg_options.specs.Arguments.{word_rule};
+ghost use Rattle.pg_global.specs.declared.combiner.AnyCombiner.TheVariants.{NoCombiner};
+ghost use Rattle.pg_graph.specs.declared.missing.Missing.TheVariants.{Drop};
+
+use crate::names::{COMBINERS, POLICIES, PROGRAMS};
+use clap::builder::ValueParser;
+use clap::{Arg, ArgAction, Command};
+use std::alloc::{AllocError, Global};
+
+/// The name of the program, whatever its file is called.
+const NAME: &str = "pregeld";
+
+/// The greatest id.
+pub(crate) const SOURCE_LIMIT: u64 = 9_223_372_036_854_775_807;
+
+/// The most edges that a vertex may need to stay.
+pub(crate) const K_LIMIT: u64 = 1_000_000;
+
+/// The most rounds of ranks.
+pub(crate) const ROUNDS_LIMIT: u64 = 10_000;
+
+/// The greatest change of ranks that may end a run.
+pub(crate) const EPS_LIMIT: u64 = 1_000_000_000_000;
+
+/// The most partitions of a run.
+pub(crate) const PARTITION_LIMIT: u64 = 64;
+
+/// The most supersteps of a run.
+pub(crate) const SUPERSTEP_LIMIT: u64 = 10_000;
+
+/// What the command line takes.
+pub(crate) fn command<'a>(alloc: Global) -> Result<Command<'a>, AllocError>
+    ensures { IfOk result (λ c. (words : OptionWords)
+        × AreOptionWords words × (app_of c ≡ program words)) }
+{
+    Command::new(alloc, NAME)
+        .bin_name(NAME)?
+        .arg(program_option(alloc))?
+        .arg(number_option(
+            alloc,
+            "source",
+            0,
+            SOURCE_LIMIT,
+            "1",
+            "sssp: the vertex that distances are measured from",
+        ))?
+        .arg(number_option(
+            alloc,
+            "k",
+            0,
+            K_LIMIT,
+            "2",
+            "peel: how many edges a vertex needs to stay",
+        ))?
+        .arg(number_option(
+            alloc,
+            "rounds",
+            0,
+            ROUNDS_LIMIT,
+            "30",
+            "pagerank: the superstep from which on nothing is sent",
+        ))?
+        .arg(number_option(
+            alloc,
+            "eps",
+            0,
+            EPS_LIMIT,
+            "0",
+            "pagerank: the change of all ranks that ends a run, if it is above 0",
+        ))?
+        .arg(combiner_option(alloc))?
+        .arg(number_option(
+            alloc,
+            "partitions",
+            1,
+            PARTITION_LIMIT,
+            "1",
+            "How many partitions the vertices are dealt out to",
+        ))?
+        .arg(number_option(
+            alloc,
+            "limit",
+            1,
+            SUPERSTEP_LIMIT,
+            "1000",
+            "The most supersteps of a run",
+        ))?
+        .arg(missing_option(alloc))
+}
+
+/// An option with a number in a range.
+fn number_option<'a>(
+    alloc: Global,
+    name: &'a str,
+    least: u64,
+    greatest: u64,
+    default: &'a str,
+    help: &'a str,
+) -> Arg<'a>
+    ensures rule { rule_of result ≡ number_rule name.now least greatest default.now }
+    ensures local { result.global ≡ false }
+{
+    Arg::new(alloc, name)
+        .long(name)
+        .action(ArgAction::Set)
+        .value_parser(ValueParser::unsigned(least, greatest))
+        .default_value(default)
+        .help(help)
+}
+
+/// The option that names the vertex program.
+fn program_option<'a>(alloc: Global) -> Arg<'a>
+    ensures rule { (words : WordList) × AreWords words program_words
+        × (rule_of result ≡ program_rule words) }
+    ensures local { result.global ≡ false }
+{
+    Arg::new(alloc, "program")
+        .long("program")
+        .required(true)
+        .action(ArgAction::Set)
+        .value_parser(ValueParser::Names(PROGRAMS.as_slice()))
+        .help("The vertex program: sssp, cc, max, indegree, pagerank, peel")
+}
+
+/// The option that names the combiner.
+fn combiner_option<'a>(alloc: Global) -> Arg<'a>
+    ensures rule { (words : WordList) × AreWords words combiner_words
+        × (rule_of result ≡ word_rule (codes "combiner") words (combiner_word NoCombiner)) }
+    ensures local { result.global ≡ false }
+{
+    Arg::new(alloc, "combiner")
+        .long("combiner")
+        .action(ArgAction::Set)
+        .value_parser(ValueParser::Names(COMBINERS.as_slice()))
+        .default_value("none")
+        .help("How the messages to a vertex are made into one: none, min, max, sum")
+}
+
+/// The option that names the policy for messages to nobody.
+fn missing_option<'a>(alloc: Global) -> Arg<'a>
+    ensures rule { (words : WordList) × AreWords words missing_words
+        × (rule_of result ≡ word_rule (codes "missing") words (missing_word Drop)) }
+    ensures local { result.global ≡ false }
+{
+    Arg::new(alloc, "missing")
+        .long("missing")
+        .action(ArgAction::Set)
+        .value_parser(ValueParser::Names(POLICIES.as_slice()))
+        .default_value("drop")
+        .help("What becomes of messages to ids that have no state: drop, create")
+}

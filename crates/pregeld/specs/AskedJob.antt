@@ -1,0 +1,24 @@
+-- The job that the options of the command line ask for.
+use Rattle.pg_core.specs.Limits.{Limits}
+use Rattle.pg_options.specs.Arguments.{program_in}
+use Rattle.pg_options.specs.declared.options.Options.{Options}
+use Rattle.pregeld.specs.Job.{ReadyJob}
+
+-- the numbers of its runs: one worker, nothing saved, and as many losses borne as may be
+abbrev pub limits_in : Options → Limits
+limits_in options = record {
+  partitions = options.partitions;
+  workers = 1;
+  limit = options.limit;
+  every = 0;
+  max_losses = 16;
+  missing = options.missing;
+}
+
+abbrev pub job_in : Options → ReadyJob
+job_in options = record {
+  program = program_in options.program options;
+  combiner = options.combiner;
+  master = record { program = program_in options.program options };
+  limits = limits_in options;
+}

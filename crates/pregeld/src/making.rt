@@ -1,0 +1,55 @@
+//! The service that the options of the command line ask for.
+ghost use Rattle.std.specs.Prelude.{◌≡◌, IfOk};
+ghost use Rattle.pg_options.specs.Arguments.{AreInRange, program_in};
+ghost use Rattle.pg_service.specs.Service.{fresh};
+ghost use Rattle.pregeld.specs.AskedJob.{job_in, limits_in};
+
+use crate::{ReadyService, Service};
+use pg_core::Limits;
+use pg_graph::Memory;
+use pg_options::{Options, program_of};
+use pg_ready::ReadyMaster;
+use pg_scratch::RunFault;
+use std::alloc::{AllocError, Global};
+
+/// A service of the job that the options ask for.
+pub(crate) fn service_of(alloc: Global, options: &Options) -> Result<ReadyService, Memory>
+    requires { AreInRange options.now }
+    ensures { IfOk result (λ service. service ≡ fresh (job_in options.now)) }
+{
+    let (limits, combiner) = (limits_of(options), options.combiner);
+    let made = Service::new(
+        alloc,
+        limits,
+        program_of(options),
+        combiner,
+        master_of(options),
+    );
+    match made {
+        Ok(service) => Ok(service),
+        Err(fault) => Err(memory_of(fault)),
+    }
+}
+
+/// The master of the program that the options name.
+fn master_of(options: &Options) -> ReadyMaster
+    ensures { result ≡ record { program = program_in options.now.program options.now } }
+{
+    ReadyMaster {
+        program: program_of(options),
+    }
+}
+
+/// Want of memory, which alone keeps a ready program from being run.
+fn memory_of(_fault: RunFault) -> Memory {
+    AllocError
+}
+
+/// The numbers of its runs.
+fn limits_of(options: &Options) -> Limits
+    requires { AreInRange options.now }
+    ensures { result ≡ limits_in options.now }
+{
+    let limits = Limits::new(options.partitions, 1, options.limit, 0, 16);
+    limits.unwrap().with_missing(options.missing)
+}
