@@ -13,11 +13,21 @@ use std::marker::Model;
 
 /// What all partitions of a whole run have in common: what they sent, what the master showed in each superstep, and the
 /// values with which the vertices ended, by rising id.
-#[derive(Drop)]
 pub(crate) struct Common<V, M: Plain> {
     pub(crate) logs: Logs<M>,
     pub(crate) shown: Vec<Visible>,
     pub(crate) values: Values<V>,
+}
+
+// By hand, so that it is let go by one call wherever that is, and not field by field.
+impl<V: Drop, M: Plain> Drop for Common<V, M> {
+    fn drop(self) {
+        let Common {
+            logs: _,
+            shown: _,
+            values: _,
+        } = self;
+    }
 }
 
 impl<V, M: Plain> Model for Common<V, M> {

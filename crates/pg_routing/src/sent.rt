@@ -18,9 +18,15 @@ use std::marker::Model;
 
 /// What a step sends: its bundle to each partition, with the targets at which that differs from the old run's
 /// where it has the superstep.
-#[derive(Drop)]
 pub struct Sent<M: Plain> {
     bundles: Vec<Logged<M>>,
+}
+
+// By hand, so that it is let go by one call wherever that is, and not field by field.
+impl<M: Plain> Drop for Sent<M> {
+    fn drop(self) {
+        let Sent { bundles: _ } = self;
+    }
 }
 
 impl<M: Plain> Model for Sent<M> {

@@ -35,7 +35,6 @@ const RUN: u64 = 0;
 
 /// A service: a program with its combiner and its master, a graph with its edition, what was published last, and what
 /// the last run left, beside which the next one runs.
-#[derive(Drop)]
 pub struct Service<P: Computation, C: MessageCombiner<P::Message>, M: MasterCompute> {
     program: P,
     combiner: C,
@@ -45,6 +44,23 @@ pub struct Service<P: Computation, C: MessageCombiner<P::Message>, M: MasterComp
     edition: Edition,
     published: Option<Answers<P::Value>>,
     kept: Option<KeptRun<P::Value, P::Message>>,
+}
+
+// By hand, so that a service is let go by one call wherever that is, and not field by field.
+impl<P: Computation + Drop, C: MessageCombiner<P::Message> + Drop, M: MasterCompute + Drop> Drop
+    for Service<P, C, M> {
+    fn drop(self) {
+        let Service {
+            program: _,
+            combiner: _,
+            master: _,
+            limits: _,
+            graph: _,
+            edition: _,
+            published: _,
+            kept: _,
+        } = self;
+    }
 }
 
 impl<P: Computation, C: MessageCombiner<P::Message>, M: MasterCompute> Model for Service<P, C, M> {

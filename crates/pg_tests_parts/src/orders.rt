@@ -63,20 +63,32 @@ fn next_event<P: Computation, C: MessageCombiner<P::Message>, M: MasterCompute>(
     Ok(order)
 }
 
+// Goes on with a run in an order, to its end or for so many events.
+fn go_on<P: Computation, C: MessageCombiner<P::Message>, M: MasterCompute>(
+    alloc: Global,
+    core: &mut Core<'_, P, C, M>,
+    order: Order,
+    meter: &mut Meter,
+) -> Result<(), Memory> {
+    let mut order = order;
+    for _ in 0..1_000 {
+        if core.state().ended() {
+            break;
+        }
+        order = next_event(alloc, core, order, meter)?;
+    }
+    Ok(())
+}
+
 // The answer of a run that goes on in an order, and how many calls of compute it takes.
 fn run_in<P: Computation, C: MessageCombiner<P::Message>, M: MasterCompute>(
     alloc: Global,
     core: Core<'_, P, C, M>,
     order: Order,
 ) -> Result<(Run<P::Value>, u64), Memory> {
-    let (mut core, mut order, mut meter) = (core, order, Meter::new());
-    for _ in 0..1_000 {
-        if core.state().ended() {
-            break;
-        }
-        order = next_event(alloc, &mut core, order, &mut meter)?;
-    }
-    if !core.state().ended() {
+    let (mut core, mut meter) = (core, Meter::new());
+    let gone_on = go_on(alloc, &mut core, order, &mut meter);
+    if gone_on.is_err() || !core.state().ended() {
         return Err(AllocError);
     }
     let (run, _) = core.finish(alloc)?;

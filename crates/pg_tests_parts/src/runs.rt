@@ -85,43 +85,51 @@ fn ready_in(
     Ok(numbers)
 }
 
+// Of a core with three partitions as it opens: which worker has which partition that is ready, and how many edges are
+// visible.
+fn opened_with_three(alloc: Global, graph: &Graph) -> Result<(Vec<(u32, u32)>, u64), Fail> {
+    let core = opened(alloc, graph, 3)?;
+    let edges = core.visible(Superstep::new(0)).total_edges;
+    Ok((ready_in(alloc, &core)?, edges))
+}
+
 #[test]
 fn a_core_opens_with_all_partitions_ready(rt: HostRuntime) -> Result<(), Fail> {
     let alloc = rt.alloc();
     let graph = three_vertices(alloc)?;
-    let core = opened(alloc, &graph, 3)?;
-    let edges = core.visible(Superstep::new(0)).total_edges;
-    let ready = ready_in(alloc, &core)?;
+    let (ready, edges) = opened_with_three(alloc, &graph)?;
     assert_eq!(rt; ready.as_slice(), [(0, 0), (1, 1), (0, 2)].as_slice());
     assert_eq!(rt; edges, 2);
     Ok(())
 }
 
-// A run whose second partition steps first: whether this is ready afterwards, and how many calls both steps take.
+// A run whose second partition steps first: whether this is ready afterwards, how many calls both steps take, and whether
+// they stand in the history in this order.
 fn second_first(
     alloc: Global,
     core: &mut Core<'_, Tally, AnyCombiner, NoMaster>,
-) -> Result<(bool, u64), Memory> {
+) -> Result<(bool, u64, bool), Memory> {
     let mut meter = Meter::new();
     let (first, second) = (PartitionId::new(0), PartitionId::new(1));
     step_once(alloc, core, second, &mut meter)?;
     let ready = core.is_ready(second);
     step_once(alloc, core, first, &mut meter)?;
-    Ok((ready, meter.count()))
+    let steps = [Event::Step(second), Event::Step(first)];
+    Ok((ready, meter.count(), core.history() == steps.as_slice()))
+}
+
+// The same of a core as it opens.
+fn opened_second_first(alloc: Global, graph: &Graph) -> Result<(bool, u64, bool), Fail> {
+    let mut core = opened(alloc, graph, 2)?;
+    Ok(second_first(alloc, &mut core)?)
 }
 
 #[test]
 fn partitions_step_in_any_order(rt: HostRuntime) -> Result<(), Fail> {
     let alloc = rt.alloc();
     let graph = three_vertices(alloc)?;
-    let mut core = opened(alloc, &graph, 2)?;
-    let stepped = second_first(alloc, &mut core)?;
-    assert_eq!(rt; stepped, (false, 3));
-    let steps = [
-        Event::Step(PartitionId::new(1)),
-        Event::Step(PartitionId::new(0)),
-    ];
-    assert_eq!(rt; core.history(), steps.as_slice());
+    let stepped = opened_second_first(alloc, &graph)?;
+    assert_eq!(rt; stepped, (false, 3, true));
     Ok(())
 }
 

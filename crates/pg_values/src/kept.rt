@@ -29,9 +29,15 @@ impl<V: Plain> Share for Held<V> {
 }
 
 /// The values of vertices. A contract sees the list of (id, value) by rising id.
-#[derive(Drop)]
 pub struct Values<V> {
     map: Map<Held<V>>,
+}
+
+// By hand, so that it is let go by one call wherever that is, and not field by field.
+impl<V: Drop> Drop for Values<V> {
+    fn drop(self) {
+        let Values { map: _ } = self;
+    }
 }
 
 impl<V> Model for Values<V> {
