@@ -77,7 +77,7 @@ bundle_in-sent : {V M : Type 0} (job : Job V M) (kept : Option Rows) (rows : Row
 bundle_in-sent job kept rows n p q s None h = absurd h
 bundle_in-sent job kept rows n p q s (Some logged) h = ap Some h.0
 
-module _ {P C A V M : Type 0} (job : Job V M) (kept : Option Rows) (core : Progress P C A V M) (right : IsRight job kept core) (ended : core.state.ended ≡ true) (places : (p : ℕ) → p < core.limits.partitions → place_at p core.state ≡ Some (core.state.current + 1)) (here : (p : ℕ) → p < core.limits.partitions → IsSome (part_at p core)) (each : length core.parts ≡ core.limits.partitions) (some : 0 < core.limits.partitions) where
+module _ {P C A V M : Type 0} (job : Job V M) (kept : Option Rows) (core : Progress P C A V M) (right : IsRight job kept core) (ended : core.state.ended ≡ true) (places : (p : ℕ) → p < core.limits.partitions → place_at p core.state ≡ Some (core.state.current + 1)) (here : (p : ℕ) → p < core.limits.partitions → IsSome (part_at p core)) (each : length core.parts ≡ core.limits.partitions) where
   abbrev end : ℕ
   end = core.state.current + 1
 
@@ -109,8 +109,8 @@ module _ {P C A V M : Type 0} (job : Job V M) (kept : Option Rows) (core : Progr
       by None h = absurd h
       by (Some part) h = subst (λ (r : ℕ). HoldsShare job kept core.graph core.limits.partitions p r part) last h
 
-  pub have_all_ended : HaveEnded job kept core.graph core.limits.partitions end core.parts
-  have_all_ended = record { parts_are = have_ended; some = some; last = last }
+  pub have_all_ended : 0 < core.limits.partitions → HaveEnded job kept core.graph core.limits.partitions end core.parts
+  have_all_ended some = record { parts_are = have_ended; some = some; last = last }
 
   -- so what they left is what the run leaves
   pub left_as : (lefts : List (LeftOf V M)) (graph : Rows) (logs : Slots M) (shown : List Visible) (values : List (ℕ × V)) → length lefts ≡ core.limits.partitions → HaveLeft end core.parts core.limits.partitions lefts

@@ -1,5 +1,5 @@
 -- A run that is driven on.
-use Rattle.std.proofs.Common.{◌≡◌, ℕ, ◌+◌, ◌<◌, ◌≤◌, ◌≢◌, Bool, true, false, cond, not, ◌&&◌, List, length, get_or, set, Option, None, Some, is_some, refl, ap, sym, ◌∙◌, subst, subst₂, arith, inl, inr}
+use Rattle.std.proofs.Common.{◌≡◌, ℕ, ◌+◌, ◌<◌, ◌≤◌, ◌≢◌, Bool, true, false, cond, not, length, get_or, set, Option, None, Some, is_some, refl, ap, sym, ◌∙◌, subst, subst₂, arith, inl, inr}
 use Rattle.std.specs.Prelude.{◌==◌, nat_lt, nat_le}
 use Rattle.std.specs.Option.{IsSome, option_eq}
 use Rattle.std.proofs.lemmas.Bool.{and_from, cases_eq, cases_lt, eq-eqb, eqb-true, le-leb, le-ltb, leb-true, lt-ltb, true≢false}
@@ -9,7 +9,7 @@ use Rattle.pg_core.specs.Closing.{ClosesRight, HasClosed}
 use Rattle.pg_core.specs.Driving.{ArePast, GoesOn, IsSameRun, still_needed}
 use Rattle.pg_core.specs.Limits.{Limits}
 use Rattle.pg_core.specs.Machine.{State, after, is_allowed, is_at, is_from, may_step, place_at}
-use Rattle.pg_core.specs.Progress.{HasMadeStep, IsPartAt, IsRight, Progress, is_ready, job_by, part_at, with_step}
+use Rattle.pg_core.specs.Progress.{HasMadeStep, IsPartAt, IsRight, Progress, is_ready, job_by, part_at}
 use Rattle.pg_core.specs.declared.event.Closed.{Closed}
 use Rattle.pg_core.specs.declared.event.Closed.TheVariants.{Next, Ended}
 use Rattle.pg_core.specs.declared.event.Event.TheVariants.{Step, Close}

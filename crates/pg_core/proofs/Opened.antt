@@ -1,14 +1,14 @@
 -- A run over partitions that has just opened is lawful, and right.
-use Rattle.std.proofs.Common.{◌≡◌, ℕ, ◌^◌, ◌<◌, ◌≤◌, true, List, [], ◌∷◌, length, map, ℤ, get_or, Option, None, Some, is_some, refl, ap, sym, ◌∙◌, subst, arith}
+use Rattle.std.proofs.Common.{◌≡◌, ℕ, ◌<◌, true, List, [], length, map, ℤ, get_or, Option, None, Some, is_some, refl, ap, sym, ◌∙◌, subst, arith}
 use Rattle.std.specs.Option.{IsSome}
 use Rattle.std.proofs.lemmas.Bool.{ltb-true, true≢false}
 use Rattle.std.proofs.lemmas.List.{length-map}
-use Rattle.std.proofs.lemmas.List.Elements.{All-cons, All-nil}
-use Rattle.pg_core.specs.Beginning.{HasBegun, HaveBegun, HaveBegunBeside}
+use Rattle.pg_core.specs.Beginning.{HasBegun, HasStarted, HaveBegun, HaveBegunBeside, first_visible}
+use Rattle.pg_core.specs.declared.beginning.Start.{Start}
 use Rattle.pg_core.specs.Limits.{AreLimits, Limits}
 use Rattle.pg_core.specs.Machine.{State, first_state, place_at}
 use Rattle.pg_core.specs.Progress.{HoldsAt, IsLawful, IsOpened, IsRight, Progress, job_by, is_past, tally_at}
-use Rattle.pg_core.specs.Traces.{HasLeft, IsLeftBy, KeepsCommon, Traces, shown_below}
+use Rattle.pg_core.specs.Traces.{IsLeftBy, KeepsCommon, Traces, shown_below}
 use Rattle.pg_core.specs.declared.tally.Tally.{Tally}
 use Rattle.pg_core.proofs.Events.{Reaches-none, length-first, some_within, starts_at}
 use Rattle.pg_core.proofs.Opening.{beginning-edges}
@@ -21,25 +21,18 @@ use Rattle.pg_model.specs.Job.{Combining, Job, Program}
 use Rattle.pg_model.specs.Run.{beginning, configuration, first, visible_at}
 use Rattle.pg_model.specs.Superstep.{capped, edges_of, visible_in}
 use Rattle.pg_model.specs.declared.view.Visible.{Visible}
-use Rattle.pg_graph.specs.declared.missing.Missing.{Missing}
 use Rattle.pg_course.specs.Course.{AreTouched}
 use Rattle.pg_part.specs.Part.{HoldsShare, PartState}
-use Rattle.pg_recount.specs.Traffic.{AreMoved}
 use Rattle.pg_stats.specs.GlobalStats.{aggregators_of}
-use Rattle.std.specs.List.{slice_get}
 
 module _ {V M : Type 0} (job : Job V M) (rows : Rows) where
   -- what the master shows first
-  pub visible_first : (vertices edges : ℕ) (gathered : List ℤ) → vertices ≡ length rows → edges ≡ edge_count rows → edges ≤ 2 ^ 24 → gathered ≡ map (λ a. a.initial) job.aggregators → visible_in job.deciding (record { vertices = vertices; edges = edges }) 0 gathered ≡ visible_at job rows 0
+  pub visible_first : (gathered : List ℤ) → gathered ≡ map (λ a. a.initial) job.aggregators → first_visible job.deciding rows gathered ≡ visible_at job rows 0
   unfolding configuration first
-  visible_first vertices edges gathered many total few are =
+  visible_first gathered are =
       let standings = map (beginning job.program) rows in
-      let all : edges_of standings ≡ edge_count rows = beginning-edges job.program rows in
-      let totals : record { vertices = vertices; edges = edges } ≡ record { vertices = length standings; edges = capped (edges_of standings) } =
-      (λ i. record {
-        vertices = (many ∙ sym (length-map rows (beginning job.program))) i;
-        edges = (let e : edges ≡ capped (edges_of standings) = omega (arith, all, total, few) in e) i;
-      }) in
+      let totals : record { vertices = length rows; edges = capped (edge_count rows) } ≡ record { vertices = length standings; edges = capped (edges_of standings) } =
+      (λ i. record { vertices = sym (length-map rows (beginning job.program)) i; edges = capped (sym (beginning-edges job.program rows) i) }) in
       (λ i. visible_in job.deciding (totals i) 0 (are i))
 
   -- and what is counted
@@ -68,15 +61,15 @@ module _ {V M : Type 0} (program : Program V M) (master : Master) (combining : O
       let zero_there : Some r ≡ Some 0 = sym at ∙ starts_at limits.partitions limits.workers p within in
       (within, cc)
 
-  pub IsLawful-opened : (registry : Registered) (state : State) (shown : List Visible) (visible : Visible) (tally : Tally) → registry ≡ master.registrations → AreLimits limits → length master.registrations ≤ 16 → is_registered program master ≡ true → state ≡ first_state limits.partitions limits.workers → shown ≡ visible ∷ [] → length visible.values ≡ length master.registrations → length tally.gathered ≡ length master.registrations → IsLawful limits program.declared master.registrations registry state [] parts shown tally
-  IsLawful-opened registry state shown visible tally registry_is are few registered is shows places gathered =
+  pub IsLawful-opened : (start : Start) → HasStarted master rows limits start → is_registered program master ≡ true → IsLawful limits program.declared master.registrations start.registry start.state [] parts start.shown.items start.tally
+  IsLawful-opened start started registered =
       let n : ℕ = limits.partitions in
-      let start : State = first_state n limits.workers in
-      let lawful : IsLawful limits program.declared master.registrations registry start [] parts (visible ∷ []) tally = record {
-        registry_is = registry_is;
-        few = few;
+      let first : State = first_state n limits.workers in
+      let lawful : IsLawful limits program.declared master.registrations start.registry first [] parts start.shown.items start.tally = record {
+        registry_is = started.registry_is;
+        few = started.few;
         declared_are = registered;
-        events = Reaches-none start;
+        events = Reaches-none first;
         each = each;
         here = λ p part at.
             let holds = begun_part p part at in
@@ -87,13 +80,12 @@ module _ {V M : Type 0} (program : Program V M) (master : Master) (combining : O
               place_is = starts_at n limits.workers p within ∙ ap Some (sym holds.course.place_is);
             };
         stays = λ p r at past. let none = (first_place p r at).1 in absurd (omega (arith, none, past));
-        within = are.limit_least;
-        shown_so_far = omega arith;
-        shown_places = All-cons (λ v. length v.values ≡ length master.registrations) visible [] places (All-nil (λ v. length v.values ≡ length master.registrations));
-        gathered_places = gathered;
+        within = started.limits_are.limit_least;
+        shown_so_far = subst (λ (l : List Visible). 0 < length l) (sym started.shown_is) (omega arith);
+        shown_places = started.places;
+        gathered_places = ap (λ (t : Tally). length t.gathered) started.tally_is ∙ (length-map _ _ ∙ length-map _ _);
       } in
-      subst (λ (s : State). IsLawful limits program.declared master.registrations registry s [] parts shown tally) (sym is)
-      (subst (λ (l : List Visible). IsLawful limits program.declared master.registrations registry start [] parts l tally) (sym shows) lawful)
+      subst (λ (s : State). IsLawful limits program.declared master.registrations start.registry s [] parts start.shown.items start.tally) (sym started.state_is) lawful
 
   pub IsRight-opened : {P C A : Type 0} (core : Progress P C A V M) → AreLimits limits → core.graph ≡ rows → core.limits ≡ limits → core.parts ≡ parts → core.state ≡ first_state limits.partitions limits.workers → ((s p q : ℕ) → slot_at core.logs s p q ≡ None) → core.shown ≡ shown_below (job_of program combining master limits.missing limits.limit) rows 1 → core.tally ≡ tally_at (job_of program combining master limits.missing limits.limit) rows 0 → core.ending ≡ None → KeepsCommon (job_of program combining master limits.missing limits.limit) old limits.partitions core.kept → IsRight (job_of program combining master limits.missing limits.limit) old core
   IsRight-opened {P} {C} {A} core are graph_is limits_are parts_are state_is empty shows counts goes_on keeps =
@@ -127,19 +119,16 @@ job_as_opened program_of combining_of master_of core program combiner master gra
     let l : Limits = sym opened.limits_are i in
     job_of (program_of (sym opened.program_is i)) (combining_of (sym opened.combiner_is i)) (master_of (sym opened.master_is i)) l.missing l.limit
 
-module _ {V M : Type 0} (program : Program V M) (combining : Option (Combining M)) (master : Master) (limits : Limits) (rows : Rows) (n : ℕ) (missing : Missing) (registered : Registered) (many : n ≡ limits.partitions) (policy : missing ≡ limits.missing) (same : registered ≡ master.registrations) (parts : List (Option (PartState V M))) where
+module _ {V M : Type 0} (program : Program V M) (combining : Option (Combining M)) (master : Master) (limits : Limits) (rows : Rows) (registered : Registered) (same : registered ≡ master.registrations) (parts : List (Option (PartState V M))) where
   -- all parts have begun the run of this job
-  pub have_begun : HaveBegun program missing registered rows n n parts → (p : ℕ) → p < limits.partitions → HasBegun (job_of program combining master limits.missing limits.limit) None rows limits.partitions p (get_or parts p None)
-  have_begun begun =
-      subst (λ (m : ℕ). (p : ℕ) → p < m → HasBegun (job_of program combining master limits.missing limits.limit) None rows m p (get_or parts p None)) many
-      (begun (job_of program combining master limits.missing limits.limit) refl (sym policy) (ap aggregators_of (sym same)))
+  pub have_begun : HaveBegun program limits.missing registered rows limits.partitions limits.partitions parts → (p : ℕ) → p < limits.partitions → HasBegun (job_of program combining master limits.missing limits.limit) None rows limits.partitions p (get_or parts p None)
+  have_begun begun = begun (job_of program combining master limits.missing limits.limit) refl refl (ap aggregators_of (sym same))
 
   -- the same beside the run on the kept rows
-  pub have_begun_beside : (touched moved : List ℕ) (old : Traces V M) (kept : Rows) → HaveBegunBeside program missing registered rows touched moved old.lefts n n parts
-      → IsLeftBy (job_of program combining master limits.missing limits.limit) kept limits.partitions old → AreTouched touched kept rows → AreMoved moved kept rows
+  pub have_begun_beside : (touched : List ℕ) (old : Traces V M) (kept : Rows) → HaveBegunBeside program limits.missing registered rows touched old.graph old.lefts limits.partitions limits.partitions parts
+      → IsLeftBy (job_of program combining master limits.missing limits.limit) kept limits.partitions old → AreTouched touched kept rows
       → (p : ℕ) → p < limits.partitions → HasBegun (job_of program combining master limits.missing limits.limit) (Some kept) rows limits.partitions p (get_or parts p None)
-  have_begun_beside touched moved old kept begun left untouched moves =
+  have_begun_beside touched old kept begun left untouched =
       let job : Job V M = job_of program combining master limits.missing limits.limit in
-      subst (λ (m : ℕ). (p : ℕ) → p < m → HasBegun job (Some kept) rows m p (get_or parts p None)) many
-      (begun job kept refl (sym policy) (ap aggregators_of (sym same)) untouched moves
-      (subst (λ (m : ℕ). (p : ℕ) → p < m → HasLeft job kept m p (slice_get old.lefts p)) (sym many) left.whole))
+      let begins = subst (λ (r : Rows). HaveBegunBeside program limits.missing registered rows touched r old.lefts limits.partitions limits.partitions parts) left.graph_is begun in
+      begins job refl refl (ap aggregators_of (sym same)) untouched left.whole

@@ -338,6 +338,10 @@ IsStepOf-from_HasMadeStep job kept core p r part sent value_eq message_eq calls 
   sends = λ s q is within. let same : r ≡ s = one_of r s (sym at ∙ is) in subst (λ (s : ℕ). IsSentTo job kept core.graph core.limits.partitions p q s (slice_get sent q)) same (stepped.course.sends q within);
 }
 
+-- what a step is lent doesn't lie in the parts
+pub IsStepLent-without : {V M : Type 0} (job : Job V M) (kept : Option Rows) {P C A : Type 0} (core : Progress P C A V M) (p r : ℕ) (part : PartState V M) → IsStepLent job kept core p r part → IsStepLent job kept (without_part p core) p r part
+IsStepLent-without job kept core p r part lent = record { holds = lent.holds; lent = lent.lent; beside = lent.beside; open_or_before = lent.open_or_before }
+
 set_twice : {X : Type 0} (xs : List X) (p : ℕ) (x y : X) → set (set xs p x) p y ≡ set xs p y
 set_twice [] p x y = refl
 set_twice (z ∷ zs) zero x y = refl

@@ -1,15 +1,36 @@
 -- The parts as a run opens.
-use Rattle.std.specs.Prelude.{◌≡◌, ℕ, ◌<◌, List, Option, None, Some, slice_index_or}
+use Rattle.std.specs.Prelude.{◌≡◌, ℕ, ℤ, ◌<◌, ◌≤◌, List, [], ◌∷◌, length, map, All, Option, None, Some, slice_index_or}
 use Rattle.std.specs.List.{slice_get}
+use Rattle.pg_core.specs.Limits.{AreLimits, Limits}
+use Rattle.pg_core.specs.Machine.{first_state}
+use Rattle.pg_core.specs.declared.beginning.Start.{Start}
 use Rattle.pg_core.specs.Traces.{HasLeft}
 use Rattle.pg_course.specs.Course.{AreTouched}
+use Rattle.pg_global.specs.Master.{Master}
 use Rattle.pg_global.specs.Registry.{Registered}
-use Rattle.pg_graph.specs.Rows.{Rows}
+use Rattle.pg_graph.specs.Rows.{Rows, edge_count}
 use Rattle.pg_graph.specs.declared.missing.Missing.{Missing}
-use Rattle.pg_model.specs.Job.{Job, Program}
+use Rattle.pg_model.specs.Job.{Deciding, Job, Program}
+use Rattle.pg_model.specs.Superstep.{capped, visible_in}
+use Rattle.pg_model.specs.declared.view.Visible.{Visible}
 use Rattle.pg_part.specs.Part.{HoldsShare, LeftOf, PartState}
 use Rattle.pg_recount.specs.Traffic.{AreMoved}
 use Rattle.pg_stats.specs.GlobalStats.{aggregators_of}
+
+-- what a master shows in superstep 0 of a run on this graph, where these are the initial values
+abbrev pub first_visible : Deciding → Rows → List ℤ → Visible
+first_visible deciding rows gathered = visible_in deciding (record { vertices = length rows; edges = capped (edge_count rows) }) 0 gathered
+
+-- what a run has as it opens, besides its parts: the master's aggregators, the first state, what is shown in superstep 0,
+-- and the initial values as all that was counted
+pub record HasStarted (master : Master) (rows : Rows) (limits : Limits) (start : Start) : Type 0 where
+  pub limits_are : AreLimits limits
+  pub registry_is : start.registry ≡ master.registrations
+  pub few : length master.registrations ≤ 16
+  pub state_is : start.state ≡ first_state limits.partitions limits.workers
+  pub tally_is : start.tally ≡ record { gathered = map (λ a. a.initial) (aggregators_of master.registrations); sent = 0; dropped = 0 }
+  pub shown_is : start.shown.items ≡ first_visible master.deciding rows start.tally.gathered ∷ []
+  pub places : All (λ v. length v.values ≡ length master.registrations) start.shown.items
 
 module _ {V M : Type 0} where
   -- a part is here, and holds its share as superstep 0 begins, beside the kept run, if any
@@ -25,10 +46,18 @@ module _ {V M : Type 0} where
 
   -- and beside the run on the kept rows where this is what its partitions left, all rows but those of the touched ids are
   -- as they were, and those are the ids that came or went
-  abbrev pub HaveBegunBeside : Program V M → Missing → Registered → Rows → List ℕ → List ℕ → List (LeftOf V M) → ℕ → ℕ → List (Option (PartState V M)) → Type 0
-  HaveBegunBeside program missing registered rows touched moved lefts n m parts =
+  abbrev pub HaveBegunWith : Program V M → Missing → Registered → Rows → List ℕ → List ℕ → List (LeftOf V M) → ℕ → ℕ → List (Option (PartState V M)) → Type 0
+  HaveBegunWith program missing registered rows touched moved lefts n m parts =
       (job : Job V M) (kept : Rows) → job.program ≡ program → job.missing ≡ missing → job.aggregators ≡ aggregators_of registered
       → AreTouched touched kept rows → AreMoved moved kept rows
+      → ((p : ℕ) → p < m → HasLeft job kept n p (slice_get lefts p))
+      → (p : ℕ) → p < m → HasBegun job (Some kept) rows n p (slice_index_or parts p None)
+
+  -- the same where no ids are given that came or went
+  abbrev pub HaveBegunBeside : Program V M → Missing → Registered → Rows → List ℕ → Rows → List (LeftOf V M) → ℕ → ℕ → List (Option (PartState V M)) → Type 0
+  HaveBegunBeside program missing registered rows touched kept lefts n m parts =
+      (job : Job V M) → job.program ≡ program → job.missing ≡ missing → job.aggregators ≡ aggregators_of registered
+      → AreTouched touched kept rows
       → ((p : ℕ) → p < m → HasLeft job kept n p (slice_get lefts p))
       → (p : ℕ) → p < m → HasBegun job (Some kept) rows n p (slice_index_or parts p None)
 

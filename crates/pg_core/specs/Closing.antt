@@ -1,8 +1,9 @@
 -- What closing a superstep makes of a run over partitions, and what the run gives once it has ended.
-use Rattle.std.specs.Prelude.{◌≡◌, ◌+◌, ◌↔◌, [], ◌∷◌, ◌++◌, Option, Some}
+use Rattle.std.specs.Prelude.{◌≡◌, ℕ, ◌+◌, ◌↔◌, List, [], ◌∷◌, ◌++◌, length, Option, Some}
+use Rattle.std.specs.Option.{unwrap_or}
 use Rattle.pg_core.specs.Machine.{after}
 use Rattle.pg_core.specs.Progress.{IsRight, Progress}
-use Rattle.pg_core.specs.Traces.{IsLeftBy, Traces}
+use Rattle.pg_core.specs.Traces.{Common, HaveLeft, IsLeftBy, Traces}
 use Rattle.pg_core.specs.declared.event.Closed.{Closed}
 use Rattle.pg_core.specs.declared.event.Closed.TheVariants.{Next, Ended}
 use Rattle.pg_core.specs.declared.event.Event.TheVariants.{Close}
@@ -11,8 +12,29 @@ use Rattle.pg_graph.specs.Rows.{Rows}
 use Rattle.pg_model.specs.Job.{Job}
 use Rattle.pg_model.specs.Run.{answer, run_length}
 use Rattle.pg_model.specs.declared.run.Ending.{Ending}
+use Rattle.pg_model.specs.declared.run.Ending.TheVariants.{LimitReached}
 use Rattle.pg_model.specs.declared.run.Run.{Run}
 use Rattle.pg_model.specs.declared.view.Visible.{Visible}
+use Rattle.pg_part.specs.Part.{PartState}
+
+-- the answer of a run with these values, where this was counted and it ended for this reason after so many supersteps
+abbrev pub answer_with : {V : Type 0} → List (ℕ × V) → Tally → Option Ending → ℕ → Run V
+answer_with values tally ending supersteps = record {
+  values = values;
+  aggregates = tally.gathered;
+  ending = unwrap_or ending LimitReached;
+  supersteps = supersteps;
+  sent = tally.sent;
+  dropped = tally.dropped;
+}
+
+-- an answer and what a run leaves are those of parts that stand at the end of a run of so many supersteps on this graph,
+-- and of what all partitions have in common
+pub record AreGiven {V M : Type 0} (graph : Rows) (parts : List (Option (PartState V M))) (common : Common V M) (tally : Tally) (ending : Option Ending) (supersteps : ℕ) (run : Run V) (left : Traces V M) : Type 0 where
+  pub answers : run ≡ answer_with common.values tally ending supersteps
+  pub each : length left.lefts ≡ length parts
+  pub lefts : HaveLeft supersteps parts (length parts) left.lefts
+  pub others : left ≡ record { lefts = left.lefts; graph = graph; common = common }
 
 module _ {P C A V M : Type 0} where
   -- the run has ended with its open superstep, and has counted this

@@ -1,18 +1,60 @@
 //! What stands as a run over partitions opens.
-ghost use Rattle.std.specs.Prelude.{◌≡◌, length, map, [], None, IfOk};
-ghost use Rattle.pg_core.specs.Beginning.{HaveBegun, HaveBegunBeside};
+ghost use Rattle.std.specs.Prelude.{◌≡◌, ◌≤◌, length, map, [], ◌∷◌, All, None, IfOk, OnOk};
+ghost use Rattle.pg_core.specs.Beginning.{HasStarted, HaveBegun, HaveBegunBeside, HaveBegunWith, first_visible};
 ghost use Rattle.pg_global.specs.Registry.{aggregating_of, first_refusal};
 ghost use Rattle.pg_model.specs.Superstep.{visible_in};
 
+use crate::running::partitioner_of;
+use crate::traces::Common;
+use crate::{Limits, State, Tally, Traces};
 use pg_global::{Aggregator, MasterCompute, MasterState, Registry, Visible};
-use pg_graph::{Graph, Memory, Missing, PartitionId, Superstep, VertexId};
+use pg_graph::{Graph, Memory, PartitionId, Superstep, VertexId};
 use pg_model::Sequence;
-use pg_part::{Left, Part, Partitioner};
+use pg_part::{Left, Part, moved};
 use pg_program::Computation;
 use std::alloc::{AllocError, Global};
 
+/// What a run has as it opens, besides its parts: the master's aggregators, where it stands, what the master shows in
+/// superstep 0, and what was counted.
+#[derive(Drop)]
+pub(crate) struct Start {
+    pub(crate) registry: Registry,
+    pub(crate) state: State,
+    pub(crate) shown: Vec<Visible>,
+    pub(crate) tally: Tally,
+}
+
+impl Start {
+    /// What a run on a graph has.
+    pub(crate) fn of<M: MasterCompute>(
+        alloc: Global,
+        graph: &Graph,
+        master: &M,
+        limits: Limits,
+    ) -> Result<Start, Memory>
+        requires { first_refusal [] (M.master master.now).registrations ≡ None }
+        ensures { IfOk result (λ start. HasStarted (M.master master.now) graph.now limits start) }
+    {
+        let registry = registered(alloc, master)?;
+        let gathered = initial_values(alloc, &registry)?;
+        let shown = first_shown(alloc, graph, master, &gathered)?;
+        let state = State::first(alloc, limits.partitions(), limits.workers())?;
+        let tally = Tally {
+            gathered,
+            sent: 0,
+            dropped: 0,
+        };
+        Ok(Start {
+            registry,
+            state,
+            shown,
+            tally,
+        })
+    }
+}
+
 /// The master's aggregators, registered.
-pub(crate) fn registered<M: MasterCompute>(alloc: Global, master: &M) -> Result<Registry, Memory>
+fn registered<M: MasterCompute>(alloc: Global, master: &M) -> Result<Registry, Memory>
     requires { first_refusal [] (M.master master.now).registrations ≡ None }
     ensures { IfOk result (λ registry. registry ≡ (M.master master.now).registrations) }
 {
@@ -24,8 +66,9 @@ pub(crate) fn registered<M: MasterCompute>(alloc: Global, master: &M) -> Result<
 }
 
 /// What each aggregator begins with, by place.
-pub(crate) fn initial_values(alloc: Global, registry: &Registry) -> Result<Sequence<i64>, Memory>
-    ensures { IfOk result (λ values. values ≡ map (λ e. (aggregating_of e.1).initial) registry.now) }
+fn initial_values(alloc: Global, registry: &Registry) -> Result<Sequence<i64>, Memory>
+    ensures value { IfOk result (λ values. values ≡ map (λ e. (aggregating_of e.1).initial) registry.now) }
+    ensures few { OnOk result (length registry.now ≤ 16) }
 {
     let mut values = Sequence::new(alloc);
     for place in 0..registry.len() {
@@ -39,6 +82,26 @@ pub(crate) fn copied(alloc: Global, values: &Sequence<i64>) -> Result<Sequence<i
     ensures { IfOk result (λ copy. copy ≡ values.now) }
 {
     Ok(Sequence::from_vec(Vec::from_slice(alloc, values.as_slice())?))
+}
+
+/// What the master shows up to superstep 0, where these are the initial values.
+fn first_shown<M: MasterCompute>(
+    alloc: Global,
+    graph: &Graph,
+    master: &M,
+    gathered: &Sequence<i64>,
+) -> Result<Vec<Visible>, Memory>
+    requires { length gathered.now ≡ length (M.master master.now).registrations }
+    ensures value { IfOk result (λ shown. shown.items
+        ≡ first_visible (M.master master.now).deciding graph.now gathered.now ∷ []) }
+    ensures places { IfOk result (λ shown. All (λ v. length v.values ≡ length gathered.now) shown.items) }
+{
+    let (vertices, edges) = (graph.vertices(), graph.edges());
+    let seen = copied(alloc, gathered)?;
+    let visible = shown_in(alloc, master, Superstep::new(0), vertices, edges, seen)?;
+    let mut shown = Vec::new(alloc);
+    shown.push(visible)?;
+    Ok(shown)
 }
 
 /// What the master shows in a superstep, where these values were gathered in the one before.
@@ -66,42 +129,77 @@ pub(crate) fn shown_in<M: MasterCompute>(
 pub(crate) fn begun_parts<P: Computation>(
     alloc: Global,
     graph: &Graph,
-    partitioner: Partitioner,
-    missing: Missing,
+    limits: Limits,
     registry: &Registry,
     program: &P,
 ) -> Result<Vec<Option<Part<P::Value, P::Message>>>, Memory>
-    ensures each { IfOk result (λ parts. length parts.items ≡ partitioner) }
-    ensures begun { IfOk result (λ parts. HaveBegun (P.program program.now) missing registry.now
-        graph.now partitioner partitioner parts.items) }
+    ensures each { IfOk result (λ parts. length parts.items ≡ limits.partitions) }
+    ensures begun { IfOk result (λ parts. HaveBegun (P.program program.now) limits.missing registry.now
+        graph.now limits.partitions limits.partitions parts.items) }
 {
+    let partitioner = partitioner_of(limits);
     let mut parts = Vec::new(alloc);
     for partition in 0..partitioner.partitions() {
         let rows = partitioner.rows(graph, PartitionId::new(partition));
-        parts.push(Some(Part::begin(alloc, rows, missing, registry, program)?))?;
+        parts.push(Some(Part::begin(alloc, rows, limits.missing(), registry, program)?))?;
     }
     Ok(parts)
 }
 
-/// The same beside an old run, with what its partitions left, by partition, with ids outside of which the graph's rows
-/// are those of the old run's graph, and with those of them that are a vertex of just one of the two graphs. Costs k
-/// look-ups for k such ids and each partition, and a count a superstep of the old run.
+/// The same beside an old run, with all that it left and with ids outside of which the graph's rows are those of its
+/// graph; and what the old run's partitions have in common. Costs a sort of k such ids, k look-ups for each partition, and
+/// a count a superstep of the old run.
 pub(crate) fn begun_parts_beside<P: Computation>(
     alloc: Global,
     graph: &Graph,
-    partitioner: Partitioner,
-    missing: Missing,
+    limits: Limits,
+    registry: &Registry,
+    old: Traces<P::Value, P::Message>,
+    touched: &[VertexId],
+    program: &P,
+) -> Result<
+    (
+        Vec<Option<Part<P::Value, P::Message>>>,
+        Common<P::Value, P::Message>,
+    ),
+    Memory,
+>
+    requires { length old.lefts ≡ limits.partitions }
+    ensures each { IfOk result (λ begun. length begun.0.items ≡ limits.partitions) }
+    ensures begun { IfOk result (λ begun. HaveBegunBeside (P.program program.now) limits.missing registry.now
+        graph.now touched.now old.graph old.lefts limits.partitions limits.partitions begun.0.items) }
+    ensures common { IfOk result (λ begun. begun.1 ≡ old.common) }
+{
+    let Traces {
+        lefts,
+        graph: before,
+        common,
+    } = old;
+    let moved = moved(alloc, &before, graph, touched)?;
+    let moved = moved.as_slice();
+    let parts = begun_with(
+        alloc, graph, limits, registry, lefts, touched, moved, program,
+    )?;
+    Ok((parts, common))
+}
+
+/// The same, where these of the ids are a vertex of just one of the two graphs.
+fn begun_with<P: Computation>(
+    alloc: Global,
+    graph: &Graph,
+    limits: Limits,
     registry: &Registry,
     lefts: Vec<Left<P::Value, P::Message>>,
     touched: &[VertexId],
     moved: &[VertexId],
     program: &P,
 ) -> Result<Vec<Option<Part<P::Value, P::Message>>>, Memory>
-    requires { length lefts.items ≡ partitioner }
-    ensures each { IfOk result (λ parts. length parts.items ≡ partitioner) }
-    ensures begun { IfOk result (λ parts. HaveBegunBeside (P.program program.now) missing
-        registry.now graph.now touched.now moved.now lefts.items partitioner partitioner parts.items) }
+    requires { length lefts.items ≡ limits.partitions }
+    ensures each { IfOk result (λ parts. length parts.items ≡ limits.partitions) }
+    ensures begun { IfOk result (λ parts. HaveBegunWith (P.program program.now) limits.missing registry.now
+        graph.now touched.now moved.now lefts.items limits.partitions limits.partitions parts.items) }
 {
+    let partitioner = partitioner_of(limits);
     // Tells the prover that there are at most 64.
     partitioner.partitions();
     let mut parts = Vec::new(alloc);
@@ -109,7 +207,14 @@ pub(crate) fn begun_parts_beside<P: Computation>(
     for left in lefts {
         let rows = partitioner.rows(graph, PartitionId::new(partition));
         let part = Part::begin_beside(
-            alloc, rows, missing, registry, left, touched, moved, program,
+            alloc,
+            rows,
+            limits.missing(),
+            registry,
+            left,
+            touched,
+            moved,
+            program,
         )?;
         parts.push(Some(part))?;
         partition += 1;

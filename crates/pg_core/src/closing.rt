@@ -1,10 +1,10 @@
 //! Closing the open superstep of a run over partitions.
-ghost use Rattle.std.specs.Prelude.{◌≡◌, ◌+◌, ◌<◌, ◌==◌, true, cond, length, None, Option, Some, IfOk, OnOk};
+ghost use Rattle.std.specs.Prelude.{◌≡◌, ◌+◌, ◌<◌, ◌≤◌, ◌==◌, true, cond, length, None, Option, Some, IfOk, OnOk};
 ghost use Rattle.pg_core.specs.Closing.{ClosesRight, HasClosed, with_end, with_next};
 ghost use Rattle.pg_core.specs.Machine.{is_allowed};
 ghost use Rattle.pg_core.specs.Progress.{IsRight, job_by};
 ghost use Rattle.pg_graph.specs.Rows.{Rows};
-ghost use Rattle.pg_model.specs.Run.{configuration};
+ghost use Rattle.pg_model.specs.Run.{configuration, ending_after};
 ghost use Rattle.pg_model.specs.Superstep.{visible_in};
 ghost use Rattle.pg_stats.specs.GlobalStats.{AreStatsBetween};
 
@@ -39,8 +39,7 @@ impl<'a, P: Computation, C: MessageCombiner<P::Message>, M: MasterCompute> Core<
             → ClosesRight job kept closed self.old self.new) }
     {
         let stats = self.come_to(alloc)?;
-        let closed = self.close_with(alloc, stats)?;
-        Ok(closed)
+        self.close_with(alloc, stats)
     }
 
     /// What the partitions have come to in the open superstep, together.
@@ -73,23 +72,10 @@ impl<'a, P: Computation, C: MessageCombiner<P::Message>, M: MasterCompute> Core<
             (configuration job self.old.graph (self.old.state.current + 1)) stats
             → ClosesRight job kept closed self.old self.new) }
     {
-        let current = self.state.current();
-        let halt = self.visible(current).halt;
-        let limit = self.limits.limit();
-        let GlobalStats {
-            vertices,
-            edges,
-            is_idle,
-            sent,
-            dropped,
-            gathered,
-        } = stats;
-        let tally = Tally {
-            gathered,
-            sent: self.tally.sent.saturating_add(sent),
-            dropped: self.tally.dropped.saturating_add(dropped),
-        };
-        match ending_of(halt, is_idle, current.number() + 1, limit) {
+        let ending = self.ending_with(&stats);
+        let (vertices, edges) = (stats.vertices, stats.edges);
+        let tally = self.tally.after(stats);
+        match ending {
             Some(ending) => {
                 self.end(ending, tally)?;
                 Ok(Closed::Ended)
@@ -99,6 +85,21 @@ impl<'a, P: Computation, C: MessageCombiner<P::Message>, M: MasterCompute> Core<
                 Ok(Closed::Next)
             }
         }
+    }
+
+    /// Why the run ends with the open superstep, if it does, where this is what the partitions have come to.
+    fn ending_with(&self, stats: &GlobalStats) -> Option<Ending>
+        ensures goes_on { result ≡ None → self.now.state.current + 1 < self.now.limits.limit }
+        ensures right { let job = job_by P.program C.combining M.master self.now in
+            (kept : Option Rows) → IsRight job kept self.now
+            → AreStatsBetween (configuration job self.now.graph self.now.state.current)
+            (configuration job self.now.graph (self.now.state.current + 1)) stats.now
+            → result ≡ ending_after job self.now.graph self.now.state.current }
+    {
+        let current = self.state.current();
+        let halt = self.visible(current).halt;
+        let limit = self.limits.limit();
+        ending_of(halt, stats.is_idle, current.number() + 1, limit)
     }
 
     /// The run has ended with the open superstep.
@@ -132,9 +133,7 @@ impl<'a, P: Computation, C: MessageCombiner<P::Message>, M: MasterCompute> Core<
             (self.old.state.current + 1) tally.gathered in
             OnOk result (self.new ≡ with_next visible tally self.old) }
     {
-        // Tells the prover the most that it may be.
-        self.limits.limit();
-        let next = Superstep::new(self.state.current().number() + 1);
+        let next = self.next_superstep();
         let seen = copied(alloc, &tally.gathered)?;
         let visible = shown_in(alloc, self.master, next, vertices, edges, seen)?;
         self.shown.push(visible)?;
@@ -142,6 +141,16 @@ impl<'a, P: Computation, C: MessageCombiner<P::Message>, M: MasterCompute> Core<
         self.state.close(Closed::Next);
         self.tally = tally;
         Ok(())
+    }
+
+    /// The superstep after the open one, so as many as there were up to that.
+    pub(crate) fn next_superstep(&self) -> Superstep
+        ensures value { result ≡ self.now.state.current + 1 }
+        ensures small { result ≤ 10000 }
+    {
+        // Tells the prover the most that it may be.
+        self.limits.limit();
+        Superstep::new(self.state.current().number() + 1)
     }
 }
 

@@ -1,19 +1,20 @@
 //! What a run over partitions gives once it has ended.
-ghost use Rattle.std.specs.Prelude.{◌≡◌, ℕ, ◌<◌, true, length, Option, None, IsSome, IfOk, slice_index_or};
-ghost use Rattle.pg_core.specs.Closing.{IsFinished};
+ghost use Rattle.std.specs.Prelude.{◌≡◌, ℕ, ◌+◌, ◌<◌, true, length, Option, None, IsSome, IfOk, slice_index_or};
+ghost use Rattle.pg_core.specs.Closing.{AreGiven, IsFinished, answer_with};
 ghost use Rattle.pg_core.specs.Progress.{IsRight, job_by};
 ghost use Rattle.pg_core.specs.Traces.{HaveLeft};
 ghost use Rattle.pg_graph.specs.Rows.{Rows};
+ghost use Rattle.pg_model.specs.Run.{configuration, values_of};
 
 use crate::running::partitioner_of;
 use crate::traces::{Common, ended_of};
 use crate::{Core, Tally, Traces};
 use pg_global::{MasterCompute, MessageCombiner};
-use pg_graph::{Memory, Superstep};
-use pg_model::{Ending, Run};
+use pg_graph::{Graph, Memory, Superstep, VertexId};
+use pg_model::{Ending, Run, Sequence};
 use pg_part::{Left, Part};
 use pg_program::{Computation, Plain};
-use pg_values::values_beside;
+use pg_values::{Values, values_beside};
 use std::alloc::Global;
 
 impl<'a, P: Computation, C: MessageCombiner<P::Message>, M: MasterCompute> Core<'a, P, C, M> {
@@ -30,52 +31,107 @@ impl<'a, P: Computation, C: MessageCombiner<P::Message>, M: MasterCompute> Core<
             IfOk result (λ done. (kept : Option Rows) → IsRight job kept self.entry
             → IsFinished job self.entry done.0 done.1) }
     {
-        // Tells the prover the most that it may be.
-        self.limits.limit();
-        let supersteps = Superstep::new(self.state.current().number() + 1);
+        let values = self.end_values(alloc)?;
+        self.finish_with(alloc, values)
+    }
+
+    /// The same, where these are the values with which the vertices ended.
+    fn finish_with(
+        self,
+        alloc: Global,
+        values: Values<P::Value>,
+    ) -> Result<(Run<P::Value>, Traces<P::Value, P::Message>), Memory>
+        requires { self.state.ended ≡ true }
+        ensures { let job = job_by P.program C.combining M.master self.entry in
+            IfOk result (λ done. (kept : Option Rows) → IsRight job kept self.entry
+            → values ≡ values_of job self.entry.graph
+            (configuration job self.entry.graph (self.entry.state.current + 1))
+            → IsFinished job self.entry done.0 done.1) }
+    {
+        let supersteps = self.next_superstep();
         let Core {
             graph,
-            limits,
             parts,
             logs,
             shown,
             tally,
             ending,
-            kept,
             ..
         } = self;
-        let partitioner = partitioner_of(limits);
-        let missing = limits.missing();
-        let ended = ended_of(&kept);
-        let parts_here = parts.as_slice();
-        let values = values_beside(alloc, partitioner, missing, parts_here, ended, supersteps)?;
-        let listed = values.listed(alloc)?;
-        let Tally {
-            gathered,
-            sent,
-            dropped,
-        } = tally;
-        let run = Run {
-            values: listed,
-            aggregates: gathered,
-            ending: ending.unwrap_or(Ending::LimitReached),
-            supersteps: supersteps.number(),
-            sent,
-            dropped,
-        };
-        let graph = graph.copy(alloc)?;
-        let lefts = lefts_of(alloc, parts, supersteps)?;
         let common = Common {
             logs,
             shown,
             values,
         };
-        let traces = Traces {
-            lefts,
-            graph,
-            common,
-        };
-        Ok((run, traces))
+        finished(alloc, graph, parts, common, tally, ending, supersteps)
+    }
+
+    /// The values with which the vertices of a run that has ended did so.
+    fn end_values(&self, alloc: Global) -> Result<Values<P::Value>, Memory>
+        requires { self.now.state.ended ≡ true }
+        ensures { let job = job_by P.program C.combining M.master self.now in
+            IfOk result (λ values. (kept : Option Rows) → IsRight job kept self.now
+            → values ≡ values_of job self.now.graph
+            (configuration job self.now.graph (self.now.state.current + 1))) }
+    {
+        let missing = self.limits.missing();
+        let ended = ended_of(&self.kept);
+        let parts = self.parts.as_slice();
+        let supersteps = self.next_superstep();
+        values_beside(
+            alloc,
+            partitioner_of(self.limits),
+            missing,
+            parts,
+            ended,
+            supersteps,
+        )
+    }
+}
+
+/// The answer of a run of so many supersteps on a graph, and what it leaves: what its parts leave, which stand at its
+/// end, and what all partitions have in common. What was counted, and why the run ended, is in the answer.
+fn finished<V: Plain, M: Plain>(
+    alloc: Global,
+    graph: &Graph,
+    parts: Vec<Option<Part<V, M>>>,
+    common: Common<V, M>,
+    tally: Tally,
+    ending: Option<Ending>,
+    supersteps: Superstep,
+) -> Result<(Run<V>, Traces<V, M>), Memory>
+    requires here { (p : ℕ) → p < length parts.items → IsSome (slice_index_or parts.items p None) }
+    ensures { IfOk result (λ done. AreGiven graph.now parts.items common tally ending supersteps done.0 done.1) }
+{
+    let listed = common.values.listed(alloc)?;
+    let lefts = lefts_of(alloc, parts, supersteps)?;
+    let graph = graph.copy(alloc)?;
+    let run = answer_of(listed, tally, ending, supersteps);
+    let traces = Traces {
+        lefts,
+        graph,
+        common,
+    };
+    Ok((run, traces))
+}
+
+/// The answer of a run of so many supersteps, with the values with which its vertices ended, what was counted, and why
+/// it ended.
+fn answer_of<V>(
+    values: Sequence<(VertexId, V)>,
+    tally: Tally,
+    ending: Option<Ending>,
+    supersteps: Superstep,
+) -> Run<V>
+    ensures { result ≡ answer_with values tally ending supersteps }
+{
+    Run {
+        values,
+        aggregates: tally.gathered,
+        ending: ending.unwrap_or(Ending::LimitReached),
+        supersteps: supersteps.number(),
+        sent: tally.sent,
+        dropped: tally.dropped,
     }
 }
 

@@ -1,9 +1,9 @@
 //! The core: a run over partitions between two events.
-ghost use Rattle.std.specs.Prelude.{◌≡◌, ℕ, ◌<◌, ◌≤◌, ◌∷◌, ◌++◌, [], true, cond, length, Option, None, Some, IsSome, IfOk, IfSome, OnOk, slice_get, slice_index_or};
+ghost use Rattle.std.specs.Prelude.{◌≡◌, ℕ, ◌<◌, ◌≤◌, ◌∷◌, ◌++◌, [], true, cond, length, Option, None, Some, IsSome, IfErr, IfOk, IfSome, OnOk, slice_get, slice_index_or, slice_set, take};
 ghost use Rattle.pg_core.specs.Machine.{Reaches, RestoresFollowLosses, StepsTell, first_state, host_of, is_allowed};
 ghost use Rattle.pg_core.specs.Progress.{HasPut, IsNext, IsOpened, IsPartAt, IsRight, IsStepLent, IsStepOf, TakesIn};
 ghost use Rattle.pg_core.specs.Progress.{is_ready as ready_test, job_by, part_at, ready_of, without_part};
-ghost use Rattle.pg_core.specs.Beginning.{AreBegun, HasBegun};
+ghost use Rattle.pg_core.specs.Beginning.{AreBegun, HasBegun, HasStarted};
 ghost use Rattle.pg_global.specs.Master.{has_places, is_registered, job_of};
 ghost use Rattle.pg_global.specs.Registry.{first_refusal};
 ghost use Rattle.pg_core.specs.Traces.{IsLeftBeside, IsLeftBy, KeepsCommon, logs_in, visible_in};
@@ -12,16 +12,14 @@ ghost use Rattle.std.specs.Option.{option_copied};
 ghost use Rattle.pg_graph.specs.Rows.{Rows};
 ghost use Rattle.pg_model.specs.Run.{visible_at};
 
-use crate::beginning::{
-    begun_parts, begun_parts_beside, copied, initial_values, registered, shown_in,
-};
+use crate::beginning::{Start, begun_parts, begun_parts_beside};
 use crate::traces::Common;
 use crate::{Event, Limits, State, Tally, Traces};
 use pg_global::{MasterCompute, MessageCombiner, Registry, Visible};
 use pg_graph::{Graph, Memory, PartitionId, Superstep, VertexId, WorkerId};
 use pg_inbox::{Logged, Logs};
 use pg_model::Ending;
-use pg_part::{Part, Partitioner, Sent, moved};
+use pg_part::{Part, Partitioner, Sent};
 use pg_program::{Computation, Plain};
 use std::alloc::Global;
 use std::marker::Model;
@@ -94,20 +92,11 @@ impl<'a, P: Computation, C: MessageCombiner<P::Message>, M: MasterCompute> Core<
         ensures right { IfOk result
             (λ core. IsRight (job_by P.program C.combining M.master core) None core) }
     {
-        let partitioner = partitioner_of(limits);
-        let registry = registered(alloc, master)?;
-        let parts = begun_parts(
-            alloc,
-            graph,
-            partitioner,
-            limits.missing(),
-            &registry,
-            program,
-        )?;
-        let core = open_with(
-            alloc, graph, program, combiner, master, limits, run, registry, parts, None,
-        )?;
-        Ok(core)
+        let start = Start::of(alloc, graph, master, limits)?;
+        let parts = begun_parts(alloc, graph, limits, &start.registry, program)?;
+        Ok(open_with(
+            alloc, graph, program, combiner, master, limits, run, start, parts, None,
+        ))
     }
 
     /// A core to which nothing has happened, beside an old run: with all that it left, and with ids outside of which
@@ -137,30 +126,20 @@ impl<'a, P: Computation, C: MessageCombiner<P::Message>, M: MasterCompute> Core<
             → AreTouched touched.now kept graph.now
             → IsRight (job_by P.program C.combining M.master core) (Some kept) core) }
     {
-        let Traces {
-            lefts,
-            graph: before,
-            common,
-        } = old;
-        let partitioner = partitioner_of(limits);
-        let registry = registered(alloc, master)?;
-        let moved = moved(alloc, &before, graph, touched)?;
-        let parts = begun_parts_beside(
+        let start = Start::of(alloc, graph, master, limits)?;
+        let (parts, common) = begun_parts_beside(
             alloc,
             graph,
-            partitioner,
-            limits.missing(),
-            &registry,
-            lefts,
+            limits,
+            &start.registry,
+            old,
             touched,
-            moved.as_slice(),
             program,
         )?;
         let kept = Some(common);
-        let core = open_with(
-            alloc, graph, program, combiner, master, limits, run, registry, parts, kept,
-        )?;
-        Ok(core)
+        Ok(open_with(
+            alloc, graph, program, combiner, master, limits, run, start, parts, kept,
+        ))
     }
 
     /// Where the run stands.
@@ -306,14 +285,18 @@ impl<'a, P: Computation, C: MessageCombiner<P::Message>, M: MasterCompute> Core<
             OnOk result ((kept : Option Rows) → IsRight job kept self.old
             → IsStepOf job kept self.old partition part sent → IsRight job kept self.new) }
     {
-        let next = part.place();
-        let place = Superstep::new(next.number() - 1);
-        let mut bundles = sent.into_bundles();
-        bundles.truncate(self.limits.partitions() as usize);
-        put_all(alloc, &mut self.logs, place, partition, bundles)?;
-        self.history.push(Event::Step(partition))?;
-        self.state.step(partition, next);
-        self.parts[partition.number() as usize] = Some(part);
+        let place = Superstep::new(part.place().number() - 1);
+        note_step(
+            alloc,
+            &mut self.logs,
+            &mut self.history,
+            self.limits,
+            place,
+            partition,
+            sent,
+        )?;
+        self.state.step(partition, part.place());
+        put_part(&mut self.parts, partition, part);
         Ok(())
     }
 
@@ -360,6 +343,40 @@ impl<'a, P: Computation, C: MessageCombiner<P::Message>, M: MasterCompute> Core<
     }
 }
 
+/// Puts what a partition sent in a superstep into the logs, as far as there are partitions, and then the step into the
+/// history.
+fn note_step<M: Plain>(
+    alloc: Global,
+    logs: &mut Logs<M>,
+    history: &mut Vec<Event>,
+    limits: Limits,
+    superstep: Superstep,
+    from: PartitionId,
+    sent: Sent<M>,
+) -> Result<(), Memory>
+    ensures logs { OnOk result (HasPut superstep from (take limits.partitions sent) logs.old logs.new) }
+    ensures history { OnOk result (history.new.items ≡ history.old.items ++ Event.Step from ∷ []) }
+    ensures refused { IfErr result (λ refused. history.new.items ≡ history.old.items) }
+{
+    let mut bundles = sent.into_bundles();
+    bundles.truncate(limits.partitions() as usize);
+    put_all(alloc, logs, superstep, from, bundles)?;
+    history.push(Event::Step(from))?;
+    Ok(())
+}
+
+/// Puts the part of a partition in its place, and lets go what was there.
+fn put_part<V: Plain, M: Plain>(
+    parts: &mut Vec<Option<Part<V, M>>>,
+    partition: PartitionId,
+    part: Part<V, M>,
+)
+    requires { partition < length parts.old.items }
+    ensures { parts.new.items ≡ slice_set parts.old.items partition (Some part) }
+{
+    drop(parts[partition.number() as usize].replace(part));
+}
+
 /// Puts the bundles of a partition into the logs, one to each partition from 0 on.
 fn put_all<M: Plain>(
     alloc: Global,
@@ -381,7 +398,8 @@ fn put_all<M: Plain>(
 
 /// What tells the partition of a vertex.
 pub(crate) fn partitioner_of(limits: Limits) -> Partitioner
-    ensures { result ≡ limits.partitions }
+    ensures value { result ≡ limits.partitions }
+    ensures some { 0 < limits.partitions }
 {
     Partitioner::new(limits.partitions()).unwrap()
 }
@@ -395,40 +413,31 @@ fn open_with<'a, P: Computation, C: MessageCombiner<P::Message>, M: MasterComput
     master: &'a M,
     limits: Limits,
     run: u64,
-    registry: Registry,
+    start: Start,
     parts: Vec<Option<Part<P::Value, P::Message>>>,
     kept: Option<Common<P::Value, P::Message>>,
-) -> Result<Core<'a, P, C, M>, Memory>
-    requires registry_is { registry ≡ (M.master master.now).registrations }
+) -> Core<'a, P, C, M>
+    requires started { HasStarted (M.master master.now) graph.now limits start }
     requires registered { is_registered (P.program program.now) (M.master master.now) ≡ true }
     requires each { length parts.items ≡ limits.partitions }
     requires begun { let job = job_of (P.program program.now) (C.combining combiner.now)
         (M.master master.now) limits.missing limits.limit in
         AreBegun job graph.now limits.partitions parts.items }
-    ensures opened { IfOk result
-        (λ core. IsOpened core program.now combiner.now master.now graph.now limits run) }
+    ensures opened { IsOpened result program.now combiner.now master.now graph.now limits run }
     ensures right { let job = job_of (P.program program.now) (C.combining combiner.now)
         (M.master master.now) limits.missing limits.limit in
-        IfOk result (λ core. (old : Option Rows) → KeepsCommon job old limits.partitions kept
+        (old : Option Rows) → KeepsCommon job old limits.partitions kept
         → ((p : ℕ) → p < limits.partitions
         → HasBegun job old graph.now limits.partitions p (slice_index_or parts.items p None))
-        → IsRight job old core) }
+        → IsRight job old result }
 {
-    // Tells the prover that there are at most 16.
-    registry.len();
-    let gathered = initial_values(alloc, &registry)?;
-    let seen = copied(alloc, &gathered)?;
-    let (vertices, edges) = (graph.vertices(), graph.edges());
-    let visible = shown_in(alloc, master, Superstep::new(0), vertices, edges, seen)?;
-    let mut shown = Vec::new(alloc);
-    shown.push(visible)?;
-    let state = State::first(alloc, limits.partitions(), limits.workers())?;
-    let tally = Tally {
-        gathered,
-        sent: 0,
-        dropped: 0,
-    };
-    Ok(Core {
+    let Start {
+        registry,
+        state,
+        shown,
+        tally,
+    } = start;
+    Core {
         program,
         combiner,
         master,
@@ -444,5 +453,5 @@ fn open_with<'a, P: Computation, C: MessageCombiner<P::Message>, M: MasterComput
         registry,
         ending: None,
         kept,
-    })
+    }
 }

@@ -1,15 +1,18 @@
 //! A whole step of a partition: taken, made, and taken in.
-ghost use Rattle.std.specs.Prelude.{◌≡◌, ℕ, ◌+◌, ◌≤◌, ◌<◌, true, Option, Some, OnOk};
+ghost use Rattle.std.specs.Prelude.{◌≡◌, ℕ, ◌+◌, ◌≤◌, ◌<◌, true, Option, Some, IfOk, OnOk};
 ghost use Rattle.pg_core.specs.Machine.{place_at};
-ghost use Rattle.pg_core.specs.Progress.{HasMadeStep, IsRight, is_ready as ready_test, job_by};
+ghost use Rattle.pg_core.specs.Progress.{HasMadeStep, IsRight, IsStepLent, is_ready as ready_test, job_by};
+ghost use Rattle.pg_course.specs.Course.{IsFurther};
 ghost use Rattle.pg_graph.specs.Rows.{Rows};
 ghost use Rattle.pg_model.specs.Needed.{needed_in};
 ghost use Rattle.pg_model.specs.Share.{belongs};
 ghost use Rattle.pg_model.specs.Superstep.{capped};
+ghost use Rattle.pg_part.specs.Part.{HasMadeStep as PartHasMadeStep};
 
 use crate::Core;
 use pg_global::{MasterCompute, MessageCombiner};
 use pg_graph::{Memory, PartitionId};
+use pg_part::{Lost, Part, Sent};
 use pg_program::{Computation, Meter};
 use std::alloc::{AllocError, Global};
 
@@ -35,8 +38,30 @@ impl<'a, P: Computation, C: MessageCombiner<P::Message>, M: MasterCompute> Core<
             (belongs self.old.limits.partitions partition) r)) }
     {
         let part = self.take(partition);
+        match self.step_of(alloc, part, meter) {
+            Ok((part, sent)) => self.stepped(alloc, partition, part, sent),
+            Err(_) => Err(AllocError),
+        }
+    }
+
+    /// What a step makes of a part that was taken, and what it sends.
+    fn step_of(
+        &self,
+        alloc: Global,
+        part: Part<P::Value, P::Message>,
+        meter: &mut Meter,
+    ) -> Result<(Part<P::Value, P::Message>, Sent<P::Message>), Lost>
+        requires reached { part.course.place ≤ self.now.state.current }
+        requires small { self.now.state.current < 10000 }
+        ensures further { IfOk result (λ stepped. IsFurther part.course stepped.0.course) }
+        ensures stepped { let job = job_by P.program C.combining M.master self.now in
+            IfOk result (λ stepped. (kept : Option Rows) (p : ℕ) → IsRight job kept self.now
+            → IsStepLent job kept self.now p part.course.place part
+            → PartHasMadeStep job P.Value.PartialEq.eq P.Message.PartialEq.eq kept self.now.graph
+            self.now.limits.partitions p part.course.place stepped.0 stepped.1 meter.old meter.new) }
+    {
         let place = part.place();
-        let stepped = part.step(
+        part.step(
             alloc,
             self.logs(),
             self.visible(place),
@@ -46,13 +71,6 @@ impl<'a, P: Computation, C: MessageCombiner<P::Message>, M: MasterCompute> Core<
             self.program(),
             self.combiner(),
             meter,
-        );
-        match stepped {
-            Ok((part, sent)) => {
-                self.stepped(alloc, partition, part, sent)?;
-                Ok(())
-            }
-            Err(_) => Err(AllocError),
-        }
+        )
     }
 }

@@ -1,4 +1,4 @@
-use Rattle.std.proofs.Common.{◌≡◌, ℕ, ◌+◌, List, [], ◌∷◌, ◌++◌, length, None, ap, ◌∙◌, subst, arith}
+use Rattle.std.proofs.Common.{◌≡◌, ℕ, ◌+◌, List, [], ◌∷◌, ◌++◌, length, None, ap, sym, ◌∙◌, subst, arith}
 use Rattle.std.proofs.lemmas.List.{length_push}
 use Rattle.pg_core.proofs.Opening.{begun_more}
 use Rattle.pg_course.specs.Course.{PartRows}
@@ -10,17 +10,17 @@ pushed_length before after x n pushed many = ap length pushed ∙ (length_push b
 
 pub loop-partition-preserved : goal.loop-partition-preserved
 loop-partition-preserved g c =
-    let n = c.args.partitioner in
+    let n = c.args.limits.partitions in
     let part = c.in_ok-begin.field-0 in
     record {
       each = pushed_length _ _ _ _ c.in_ok-push.ensures.items c.loop-partition.invariant.each;
       begun = λ job e m a.
           let here = subst (λ (r : PartRows). HoldsShare job None r.graph r.partitions r.partition 0 part)
-          (c.rows-rows.ensures ∙ (λ i. record { graph = c.args.graph.now; partition = c.new.ensures i; partitions = n }))
-          (c.in_ok-begin.ensures.holds job e m a) in
+          (c.rows-rows.ensures ∙ (λ i. record { graph = c.args.graph.now; partition = c.new.ensures i; partitions = c.partitioner_of-partitioner.ensures.value i }))
+          (c.in_ok-begin.ensures.holds job e (m ∙ sym c.missing.ensures) a) in
           begun_more job None c.args.graph.now n c.loop-partition.parts.items _ part c.loop-partition.partition c.loop-partition.invariant.each (c.loop-partition.invariant.begun job e m a) c.in_ok-push.ensures.items here;
     }
 
 pub returns-clause-begun : goal.returns-clause-begun
 returns-clause-begun g c job e m a p within =
-    c.loop-partition.invariant.begun job e m a p (omega (arith, within, c.loop-partition-test.false, c.partitions-partition-end.ensures.value))
+    c.loop-partition.invariant.begun job e m a p (omega (arith, within, c.loop-partition-test.false, c.partitions-partition-end.ensures.value, c.partitioner_of-partitioner.ensures.value))

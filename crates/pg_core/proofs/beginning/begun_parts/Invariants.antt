@@ -6,5 +6,5 @@ use Rattle.pg_core.proofs.beginning.begun_parts.Given as goal
 abbrev pub invariant-loop-partition : goal.invariant-loop-partition
 invariant-loop-partition g l = record {
   each : length l.parts.items ≡ l.partition;
-  begun : HaveBegun (g.P.Computation.program l.program) l.fn.missing l.registry l.graph l.partitioner l.partition l.parts.items;
+  begun : HaveBegun (g.P.Computation.program l.program) l.fn.limits.missing l.registry l.graph l.fn.limits.partitions l.partition l.parts.items;
 }

@@ -1,4 +1,4 @@
-use Rattle.std.proofs.Common.{◌≡◌, ℕ, Some, refl, subst}
+use Rattle.std.proofs.Common.{◌≡◌, Some, refl, subst}
 use Rattle.pg_core.specs.Progress.{IsPartAt, part_at}
 use Rattle.pg_core.proofs.Onward.{goes_nowhere, past_first}
 use Rattle.pg_core.proofs.running.Core.catch_up.Goals as goal

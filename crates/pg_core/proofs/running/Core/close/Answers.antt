@@ -1,4 +1,6 @@
+use Rattle.std.proofs.lemmas.Result.{IfOk-weaker}
 use Rattle.pg_core.proofs.running.Core.close.Goals as goal
 
 pub returns-clause-right : goal.returns-clause-right
-returns-clause-right g c kept right = c.in_ok-closed.ensures.right kept right (c.in_ok-stats.ensures.right kept right)
+returns-clause-right g c =
+    IfOk-weaker c.close_with.result _ _ (λ closed closes kept right. closes kept right (c.in_ok-stats.ensures.right kept right)) c.close_with.ensures.right

@@ -1,11 +1,9 @@
-use Rattle.std.proofs.Common.{◌≡◌, ℕ, ◌+◌, is_some, refl, sym, ap, ◌∙◌, subst, arith, cond}
+use Rattle.std.proofs.Common.{◌≡◌, ℤ, List, ◌+◌, is_some, refl, sym, ap, ◌∙◌, subst, arith, cond}
 use Rattle.pg_core.specs.Progress.{IsRight, job_by, tally_at}
 use Rattle.pg_core.specs.declared.event.Closed.TheVariants.{Next, Ended}
 use Rattle.pg_core.specs.declared.event.Event.TheVariants.{Close}
-use Rattle.pg_core.specs.declared.tally.Tally.{Tally}
-use Rattle.pg_core.proofs.Ends.{IsRight-end, IsRight-next, ending_next, not_ended, tally_next, visible_next}
-use Rattle.pg_model.specs.Run.{visible_at}
-use Rattle.pg_model.specs.Superstep.{capped}
+use Rattle.pg_core.proofs.Ends.{IsRight-end, IsRight-next, not_ended, tally_next, visible_next}
+use Rattle.pg_model.specs.Superstep.{capped, visible_in}
 use Rattle.pg_stats.proofs.LawsEnding.{ends_last, goes_on}
 use Rattle.pg_core.proofs.running.Core.close_with.Goals as goal
 
@@ -16,19 +14,14 @@ returns-in_ok-end-in-Some-clause-right g c kept right are =
     let rows = core.graph in
     let s = core.state.current in
     let stats = c.args.stats in
-    let tally : Tally = record { gathered = stats.gathered; sent = c.saturating_add.result; dropped = c.saturating_add-2.result } in
+    let tally = c.after-tally.result in
     let on = not_ended core.state (Close Next) c.requires.allowed in
-    let now = c.current-current.ensures ∙ ap (λ core. core.state.current) c.self.view_is in
-    let halts = ap (λ v. v.halt) (c.visible.ensures.right kept right ∙ ap (visible_at job rows) now) in
-    let many = ap (λ (k : ℕ). k + 1) (c.number.ensures ∙ now) in
-    let most = c.limit-limit.ensures.value ∙ ap (λ core. core.limits.limit) c.self.view_is in
-    let ends = c.ending_of.ensures ∙ ending_next job rows s stats are c.visible.result.now.halt (c.number.result + 1) c.limit-limit.result halts many most in
-    let here = sym c.in-Some.is ∙ ends in
+    let here = sym c.in-Some.is ∙ c.ending_with-ending.ensures.right kept right are in
     let last = ends_last job rows s right.within (ap is_some (sym here)) in
     let so_far = right.tally ∙ ap (λ b. tally_at job rows (cond b (s + 1) s)) on in
-    let counts = tally_next job rows s stats are core.tally tally so_far refl
-    (c.saturating_add.ensures ∙ ap (λ core. capped (core.tally.sent + stats.sent)) c.self.view_is)
-    (c.saturating_add-2.ensures ∙ ap (λ core. capped (core.tally.dropped + stats.dropped)) c.self.view_is) in
+    let counts = tally_next job rows s stats are core.tally tally so_far (ap (λ t. t.gathered) c.after-tally.ensures)
+    (ap (λ t. t.sent) c.after-tally.ensures ∙ ap (λ core. capped (core.tally.sent + stats.sent)) c.self.view_is)
+    (ap (λ t. t.dropped) c.after-tally.ensures ∙ ap (λ core. capped (core.tally.dropped + stats.dropped)) c.self.view_is) in
     record {
       right = subst (IsRight job kept) (sym c.in_ok-end-in-Some.ensures) (IsRight-end job kept core right c.in-Some.ending tally (sym last) (sym here) counts);
       ends = (λ ended. sym last, λ is. refl);
@@ -41,19 +34,16 @@ returns-in_ok-open_next-in-None-clause-right g c kept right are =
     let rows = core.graph in
     let s = core.state.current in
     let stats = c.args.stats in
-    let tally : Tally = record { gathered = stats.gathered; sent = c.saturating_add.result; dropped = c.saturating_add-2.result } in
+    let tally = c.after-tally.result in
     let on = not_ended core.state (Close Next) c.requires.allowed in
-    let now = c.current-current.ensures ∙ ap (λ core. core.state.current) c.self.view_is in
-    let halts = ap (λ v. v.halt) (c.visible.ensures.right kept right ∙ ap (visible_at job rows) now) in
-    let many = ap (λ (k : ℕ). k + 1) (c.number.ensures ∙ now) in
-    let most = c.limit-limit.ensures.value ∙ ap (λ core. core.limits.limit) c.self.view_is in
-    let ends = c.ending_of.ensures ∙ ending_next job rows s stats are c.visible.result.now.halt (c.number.result + 1) c.limit-limit.result halts many most in
-    let within = goes_on job rows s right.within (ap is_some (sym ends ∙ c.in-None.is)) in
+    let within = goes_on job rows s right.within (ap is_some (sym (c.ending_with-ending.ensures.right kept right are) ∙ c.in-None.is)) in
     let so_far = right.tally ∙ ap (λ b. tally_at job rows (cond b (s + 1) s)) on in
-    let counts = tally_next job rows s stats are core.tally tally so_far refl
-    (c.saturating_add.ensures ∙ ap (λ core. capped (core.tally.sent + stats.sent)) c.self.view_is)
-    (c.saturating_add-2.ensures ∙ ap (λ core. capped (core.tally.dropped + stats.dropped)) c.self.view_is) in
+    let counts = tally_next job rows s stats are core.tally tally so_far (ap (λ t. t.gathered) c.after-tally.ensures)
+    (ap (λ t. t.sent) c.after-tally.ensures ∙ ap (λ core. capped (core.tally.sent + stats.sent)) c.self.view_is)
+    (ap (λ t. t.dropped) c.after-tally.ensures ∙ ap (λ core. capped (core.tally.dropped + stats.dropped)) c.self.view_is) in
+    let shows = ap (λ (gathered : List ℤ). visible_in job.deciding (record { vertices = stats.vertices; edges = stats.edges }) (s + 1) gathered) (ap (λ t. t.gathered) c.after-tally.ensures)
+    ∙ visible_next job rows s stats are in
     record {
-      right = subst (IsRight job kept) (sym c.in_ok-open_next-in-None.ensures) (IsRight-next job kept core right _ tally on within (visible_next job rows s stats are) counts);
+      right = subst (IsRight job kept) (sym c.in_ok-open_next-in-None.ensures) (IsRight-next job kept core right _ tally on within shows counts);
       ends = (λ ended. absurd (let apart : Next ≡ Ended = ended in cc), λ is. absurd (omega (arith, is, within)));
     }

@@ -1,4 +1,4 @@
-use Rattle.std.proofs.Common.{◌≡◌, ℕ, ◌+◌, ◌<◌, length, Some, refl, sym, ap, ◌∙◌, subst, flat_map}
+use Rattle.std.proofs.Common.{◌≡◌, ℕ, ◌<◌, length, Some, refl, sym, ap, ◌∙◌, subst, flat_map}
 use Rattle.std.specs.Option.{IsSome}
 use Rattle.pg_core.specs.Machine.{place_at}
 use Rattle.pg_core.specs.Progress.{job_by, part_at}

@@ -10,7 +10,7 @@ open_with-requires-clause-begun g c =
     let master = g.M.MasterCompute.master c.args.master.now in
     λ κs lives. record {
       beside = None;
-      begun = have_begun program combining master c.args.limits c.args.graph.now c.partitioner_of-partitioner.result c.missing.result c.in_ok-registry.registry c.partitioner_of-partitioner.ensures c.missing.ensures c.in_ok-registry.ensures c.in_ok-parts.parts.items c.in_ok-parts.ensures.begun;
+      begun = have_begun program combining master c.args.limits c.args.graph.now c.in_ok-start.start.registry c.in_ok-start.ensures.registry_is c.in_ok-parts.parts.items c.in_ok-parts.ensures.begun;
     }
 
 pub returns-clause-right : goal.returns-clause-right
@@ -18,7 +18,7 @@ returns-clause-right g c =
     let program = g.P.Computation.program c.args.program.now in
     let combining = g.C.MessageCombiner.combining c.args.combiner.now in
     let master = g.M.MasterCompute.master c.args.master.now in
-    let core = c.in_ok-core.core in
-    let begun = have_begun program combining master c.args.limits c.args.graph.now c.partitioner_of-partitioner.result c.missing.result c.in_ok-registry.registry c.partitioner_of-partitioner.ensures c.missing.ensures c.in_ok-registry.ensures c.in_ok-parts.parts.items c.in_ok-parts.ensures.begun in
-    subst (λ job. IsRight job None core) (job_as_opened g.P.Computation.program g.C.MessageCombiner.combining g.M.MasterCompute.master core c.args.program.now c.args.combiner.now c.args.master.now c.args.graph.now c.args.limits c.args.run c.in_ok-core.ensures.opened)
-    (c.in_ok-core.ensures.right None refl begun)
+    let core = c.open_with.result in
+    let begun = have_begun program combining master c.args.limits c.args.graph.now c.in_ok-start.start.registry c.in_ok-start.ensures.registry_is c.in_ok-parts.parts.items c.in_ok-parts.ensures.begun in
+    subst (λ job. IsRight job None core) (job_as_opened g.P.Computation.program g.C.MessageCombiner.combining g.M.MasterCompute.master core c.args.program.now c.args.combiner.now c.args.master.now c.args.graph.now c.args.limits c.args.run c.open_with.ensures.opened)
+    (c.open_with.ensures.right None refl begun)

@@ -1,4 +1,4 @@
-use Rattle.std.proofs.Common.{◌≡◌, ℕ, Some, length, sym, ap, ◌∙◌, subst}
+use Rattle.std.proofs.Common.{◌≡◌, length, sym, ap, ◌∙◌, subst}
 use Rattle.pg_core.specs.Machine.{place_at}
 use Rattle.pg_core.proofs.Onward.{goes_by_step, past_step, ready_there, same_place}
 use Rattle.pg_core.proofs.Steps.{length-places_lawful}

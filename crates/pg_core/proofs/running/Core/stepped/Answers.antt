@@ -1,21 +1,10 @@
-use Rattle.std.proofs.Common.{◌≡◌, ℕ, ◌+◌, ◌++◌, ◌∷◌, [], true, length, set, take, Some, option_map, ap, sym, ◌∙◌, subst, subst₂, arith}
+use Rattle.std.proofs.Common.{◌≡◌, ℕ, ◌+◌, ◌++◌, ◌∷◌, [], true, length, take, Some, option_map, ap, sym, ◌∙◌, subst, arith}
 use Rattle.pg_core.specs.Machine.{after, is_allowed}
 use Rattle.pg_core.specs.Progress.{HasPut, IsLawful, IsNext, job_by, with_step}
 use Rattle.pg_core.specs.declared.event.Event.TheVariants.{Step}
 use Rattle.pg_core.proofs.Steps.{IsLawful-step, IsRight-step, StepsFrom-from_allowed, length-places_lawful, part_within}
 use Rattle.pg_core.proofs.Events.{some_within}
 use Rattle.pg_core.proofs.running.Core.stepped.Goals as goal
-
-pub index_mut-requires : goal.index_mut-requires
-index_mut-requires g c =
-    let inside = c.self.inside in
-    let p = c.args.partition in
-    let declared = (g.P.Computation.program inside.program.now).declared in
-    let registered = (g.M.MasterCompute.master inside.master.now).registrations in
-    let allowed = subst (λ core. is_allowed core.state (Step p) ≡ true) (sym c.self.view_is) c.requires.allowed in
-    let steps = StepsFrom-from_allowed inside.state p allowed in
-    let within = part_within inside.limits declared registered inside.registry inside.state inside.history.items inside.parts.items inside.shown.items inside.tally c.self.invariant p allowed p steps.from steps.at in
-    omega (arith, c.number-2.ensures, within, inside.parts.ok)
 
 pub step-requires : goal.step-requires
 step-requires g c =
@@ -24,7 +13,24 @@ step-requires g c =
     let allowed = subst (λ core. is_allowed core.state (Step p) ≡ true) (sym c.self.view_is) c.requires.allowed in
     let next = subst (λ core. IsNext core.limits.partitions core.state p c.args.part) (sym c.self.view_is) c.requires.next in
     let steps = StepsFrom-from_allowed inside.state p allowed in
-    ap (option_map (λ (r : ℕ). r + 1)) steps.at ∙ ap Some (sym (c.place-next.ensures ∙ next.place_is steps.from steps.at))
+    ap (option_map (λ (r : ℕ). r + 1)) steps.at ∙ ap Some (sym (c.place-2.ensures ∙ next.place_is steps.from steps.at))
+
+pub put_part-requires-after_bounds : goal.put_part-requires-after_bounds
+put_part-requires-after_bounds g c =
+    let inside = c.self.inside in
+    let p = c.args.partition in
+    let declared = (g.P.Computation.program inside.program.now).declared in
+    let registered = (g.M.MasterCompute.master inside.master.now).registrations in
+    let allowed = subst (λ core. is_allowed core.state (Step p) ≡ true) (sym c.self.view_is) c.requires.allowed in
+    let steps = StepsFrom-from_allowed inside.state p allowed in
+    λ κs lives. part_within inside.limits declared registered inside.registry inside.state inside.history.items inside.parts.items inside.shown.items inside.tally c.self.invariant p allowed p steps.from steps.at
+
+pub invariant_of-self : goal.invariant_of-self
+invariant_of-self g c =
+    let inside = c.self.inside in
+    let declared = (g.P.Computation.program inside.program.now).declared in
+    let registered = (g.M.MasterCompute.master inside.master.now).registrations in
+    subst (λ events. IsLawful inside.limits declared registered inside.registry inside.state events inside.parts.items inside.shown.items inside.tally) (sym c.in_err-note_step.ensures.refused) c.self.invariant
 
 pub invariant_of-self-2 : goal.invariant_of-self-2
 invariant_of-self-2 g c =
@@ -35,9 +41,9 @@ invariant_of-self-2 g c =
     let registered = (g.M.MasterCompute.master inside.master.now).registrations in
     let allowed = subst (λ core. is_allowed core.state (Step p) ≡ true) (sym c.self.view_is) c.requires.allowed in
     let next = subst (λ core. IsNext core.limits.partitions core.state p part) (sym c.self.view_is) c.requires.next in
-    subst (λ state. IsLawful inside.limits declared registered inside.registry state c.push.new.self.items (set inside.parts.items c.number-2.result (Some part)) inside.shown.items inside.tally) (sym c.step.ensures)
-    (subst (λ events. IsLawful inside.limits declared registered inside.registry (after inside.state (Step p)) events (set inside.parts.items c.number-2.result (Some part)) inside.shown.items inside.tally) (sym c.in_ok-push.ensures.items)
-    (subst (λ (p' : ℕ). IsLawful inside.limits declared registered inside.registry (after inside.state (Step p)) (inside.history.items ++ Step p ∷ []) (set inside.parts.items p' (Some part)) inside.shown.items inside.tally) (sym c.number-2.ensures)
+    subst (λ state. IsLawful inside.limits declared registered inside.registry state c.note_step.new.history.items c.put_part.new.parts.items inside.shown.items inside.tally) (sym c.step.ensures)
+    (subst (λ events. IsLawful inside.limits declared registered inside.registry (after inside.state (Step p)) events c.put_part.new.parts.items inside.shown.items inside.tally) (sym c.in_ok-note_step.ensures.history)
+    (subst (λ parts. IsLawful inside.limits declared registered inside.registry (after inside.state (Step p)) (inside.history.items ++ Step p ∷ []) parts inside.shown.items inside.tally) (sym c.put_part.ensures)
     (IsLawful-step inside.limits declared registered inside.registry inside.state inside.history.items inside.parts.items inside.shown.items inside.tally c.self.invariant p allowed part next)))
 
 pub returns-clause-core : goal.returns-clause-core
@@ -45,7 +51,7 @@ returns-clause-core g c =
     let inside = c.self.inside in
     let p = c.args.partition in
     let part = c.args.part in
-    let logs = c.put_all.new.logs in
+    let logs = c.note_step.new.logs in
     record {
       core_is = (λ i. record {
         program = inside.program.now;
@@ -55,8 +61,8 @@ returns-clause-core g c =
         limits = inside.limits;
         run = inside.run;
         state = c.step.ensures i;
-        history = c.in_ok-push.ensures.items i;
-        parts = set inside.parts.items (c.number-2.ensures i) (Some part);
+        history = c.in_ok-note_step.ensures.history i;
+        parts = c.put_part.ensures i;
         logs = logs;
         shown = inside.shown.items;
         tally = inside.tally;
@@ -64,10 +70,9 @@ returns-clause-core g c =
         kept = inside.kept;
       }) ∙ ap (λ core. record (with_step p part core) { logs = logs }) c.self.view_is;
       logs_are = λ r at.
-          let place : c.new-place.result ≡ r = omega (arith, c.new-place.ensures, c.number.ensures, c.place-next.ensures, c.requires.next.place_is r at) in
-          let bundles = c.truncate.ensures.items ∙ (ap (λ (n : ℕ). take n c.into_bundles-bundles.result.items) c.partitions.ensures.value ∙ ap (take inside.limits.partitions) c.into_bundles-bundles.ensures) in
+          let place : c.new-place.result ≡ r = omega (arith, c.new-place.ensures, c.number.ensures, c.place.ensures, c.requires.next.place_is r at) in
           subst (λ core. HasPut r p (take core.limits.partitions c.args.sent) core.logs logs) c.self.view_is
-          (subst₂ (λ r l. HasPut r p l inside.logs logs) place bundles c.in_ok-put_all.ensures);
+          (subst (λ (r : ℕ). HasPut r p (take inside.limits.partitions c.args.sent) inside.logs logs) place c.in_ok-note_step.ensures.logs);
     }
 
 pub returns-clause-right : goal.returns-clause-right

@@ -1,6 +1,6 @@
 use Rattle.std.proofs.Common.{◌≡◌, ◌++◌, length}
-use Rattle.pg_core.specs.Beginning.{HaveBegunBeside}
-use Rattle.pg_core.proofs.beginning.begun_parts_beside.Given as goal
+use Rattle.pg_core.specs.Beginning.{HaveBegunWith}
+use Rattle.pg_core.proofs.beginning.begun_with.Given as goal
 
 -- the parts so far have begun
 abbrev pub invariant-loop-left : goal.invariant-loop-left
@@ -8,5 +8,5 @@ invariant-loop-left g l = record {
   partition_is : l.partition ≡ length l.yielded;
   whole : l.yielded ++ l.left-iterator.rest.items ≡ l.fn.lefts.items;
   each : length l.parts.items ≡ l.partition;
-  begun : HaveBegunBeside (g.P.Computation.program l.program) l.fn.missing l.registry l.graph l.touched l.moved l.fn.lefts.items l.partitioner l.partition l.parts.items;
+  begun : HaveBegunWith (g.P.Computation.program l.program) l.fn.limits.missing l.registry l.graph l.touched l.moved l.fn.lefts.items l.fn.limits.partitions l.partition l.parts.items;
 }
