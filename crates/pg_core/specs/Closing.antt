@@ -28,13 +28,8 @@ answer_with values tally ending supersteps = record {
   dropped = tally.dropped;
 }
 
-<<<<<<< HEAD
--- an answer and what a run leaves are those of parts that stand at the end of a run of so many supersteps on this graph, and of
--- what all partitions have in common
-=======
 -- an answer and what a run leaves are those of parts that stand at the end of a run of so many supersteps on this graph,
 -- and of what all partitions have in common
->>>>>>> cf923bcfaf0a675ae09c70d362e4f000920f16b2
 pub record AreGiven {V M : Type 0} (graph : Rows) (parts : List (Option (PartState V M))) (common : Common V M) (tally : Tally) (ending : Option Ending) (supersteps : ℕ) (run : Run V) (left : Traces V M) : Type 0 where
   pub answers : run ≡ answer_with common.values tally ending supersteps
   pub each : length left.lefts ≡ length parts

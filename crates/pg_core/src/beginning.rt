@@ -146,15 +146,9 @@ pub(crate) fn begun_parts<P: Computation>(
     Ok(parts)
 }
 
-<<<<<<< HEAD
-/// The same beside an old run, with all that it left and with ids outside of which the graph's rows are those of its graph;
-/// and what the old run's partitions have in common. Costs a sort of k such ids, k look-ups for each partition, and a count
-/// a superstep of the old run.
-=======
 /// The same beside an old run, with all that it left and with ids outside of which the graph's rows are those of its
 /// graph; and what the old run's partitions have in common. Costs a sort of k such ids, k look-ups for each partition, and
 /// a count a superstep of the old run.
->>>>>>> cf923bcfaf0a675ae09c70d362e4f000920f16b2
 pub(crate) fn begun_parts_beside<P: Computation>(
     alloc: Global,
     graph: &Graph,

@@ -89,13 +89,8 @@ impl<'a, P: Computation, C: MessageCombiner<P::Message>, M: MasterCompute> Core<
     }
 }
 
-<<<<<<< HEAD
-/// The answer of a run of so many supersteps on a graph, and what it leaves: what its parts leave, which stand at its end,
-/// and what all partitions have in common. What was counted, and why the run ended, is in the answer.
-=======
 /// The answer of a run of so many supersteps on a graph, and what it leaves: what its parts leave, which stand at its
 /// end, and what all partitions have in common. What was counted, and why the run ended, is in the answer.
->>>>>>> cf923bcfaf0a675ae09c70d362e4f000920f16b2
 fn finished<V: Plain, M: Plain>(
     alloc: Global,
     graph: &Graph,

@@ -3,11 +3,8 @@ use Rattle.std.specs.List.{slice_get}
 use Rattle.std.proofs.lemmas.List.{length-append, length_push}
 use Rattle.pg_core.proofs.Opening.{begun_more, slice_get-between}
 use Rattle.pg_core.specs.Traces.{HasLeft}
-<<<<<<< HEAD
 use Rattle.pg_course.specs.Course.{AreTouched}
 use Rattle.pg_routing.specs.Starting.{PartRows}
-=======
->>>>>>> cf923bcfaf0a675ae09c70d362e4f000920f16b2
 use Rattle.pg_part.specs.Part.{HoldsShare, IsLeft}
 use Rattle.pg_recount.specs.Traffic.{AreMoved}
 use Rattle.pg_core.proofs.beginning.begun_with.Goals as goal
