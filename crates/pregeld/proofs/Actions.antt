@@ -9,7 +9,7 @@ use Rattle.pregeld.specs.Job.{ReadyState, ready_job}
 use Rattle.pregeld.specs.Notes.{Held, Noted, stored}
 use Rattle.pregeld.specs.Reading.{SkipsLines, TakesLines}
 use Rattle.pregeld.specs.Keeping.{AreNotes, Checks, Edits, Imports, ImportsLines, Keeps, Refreshes, RepliesTo}
-use Rattle.pg_service.specs.Service.{next_graph, publication_of, report_of}
+use Rattle.pg_service.specs.Service.{next_graph, publication_of}
 use Rattle.pregeld.specs.Session.{Imported, Place, State, after, action_answer, answer_to, answered, edges_of, edited, emptied, import_answer}
 use Rattle.pregeld.specs.Session.{imported, past, refresh_answer}
 use Rattle.pregeld.specs.declared.block.Block.{Block}
@@ -19,7 +19,7 @@ use Rattle.pg_command.specs.declared.command.Command.TheVariants.{Act}
 use Rattle.pg_command.specs.declared.command.Form.{Form}
 use Rattle.pg_command.specs.declared.command.LineFault.TheVariants as fault
 use Rattle.pregeld.specs.declared.reply.Reply.{Reply}
-use Rattle.pregeld.specs.declared.reply.Reply.TheVariants.{Refreshed, Fault}
+use Rattle.pregeld.specs.declared.reply.Reply.TheVariants.{Fault}
 use Rattle.pregeld.proofs.Pending.{next_of_stored, none_pending, stored_none, tried_of_stored}
 
 -- ---- refreshes

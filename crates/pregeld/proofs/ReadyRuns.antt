@@ -1,5 +1,5 @@
 -- A ready program can always run with its master.
-use Rattle.std.proofs.Common.{◌≡◌, Option, None, [], true≢false, sym, ◌∙◌, subst}
+use Rattle.std.proofs.Common.{◌≡◌, Option, [], true≢false, sym, ◌∙◌, subst}
 use Rattle.std.specs.Prelude.{false, IsSome}
 use Rattle.pg_global.specs.Master.{is_registered}
 use Rattle.pg_global.specs.Registry.{first_refusal}

@@ -1,5 +1,5 @@
 -- What a session runs: a ready program with its master.
-use Rattle.std.specs.Prelude.{ℤ, Option}
+use Rattle.std.specs.Prelude.{ℤ}
 use Rattle.pg_global.specs.Combiner.{combining_of}
 use Rattle.pg_global.specs.Master.{Master}
 use Rattle.pg_global.specs.Registry.{Registered}
