@@ -7,4 +7,3 @@ pub mod ReadyRuns
 pub mod Serving
 pub mod SessionRows
 pub mod Written
-mod ServedWords

@@ -1,11 +1,16 @@
 //! The program.
-ghost use Rattle.std.specs.Prelude.{◌≡◌, ◌≤◌, map, OnOk};
+ghost use Rattle.std.specs.Prelude.{◌≡◌, ◌≤◌, ◌⊎◌, map, IfErr, IfSome, OnOk};
+ghost use Rattle.pg_options.specs.Arguments.{AreInRange};
+ghost use Rattle.pg_service.specs.Service.{fresh};
+ghost use Rattle.pregeld.specs.AskedJob.{job_in};
 ghost use Rattle.pregeld.specs.ExitStatus.{AddsText, EndsBroken, EndsWell, IsRefused};
+ghost use Rattle.pregeld.specs.Job.{ReadyState};
+ghost use Rattle.pregeld.specs.Session.{BreaksOff, Serves};
 
 use crate::making::service_of;
 use crate::{ServeFault, serve};
 use clap::Error;
-use pg_options::{NoOptions, options_of};
+use pg_options::{NoOptions, Options, options_of};
 use std::alloc::Global;
 use std::convert::AsStr;
 use std::io::{BufRead, Write};
@@ -40,13 +45,30 @@ pub fn start<S: AsStr, R: BufRead, W: Write, E: Write>(
         Err(NoOptions::Memory) => return fail(errors, "memory", 1),
         Err(NoOptions::Arguments) => return fail(errors, "arguments", 2),
     };
-    let Ok(mut service) = service_of(alloc, &options) else {
-        return fail(errors, "memory", 1);
-    };
-    match serve(alloc, reader, writer, &mut service) {
+    match serve_asked(alloc, &options, reader, writer) {
         Ok(()) => 0,
         Err(fault) => fail(errors, name_of(fault), 1),
     }
+}
+
+/// Serves a session of the job that the options ask for.
+fn serve_asked<R: BufRead, W: Write>(
+    alloc: Global,
+    options: &Options,
+    reader: &mut R,
+    writer: &mut W,
+) -> Result<(), ServeFault>
+    requires { AreInRange options.now }
+    ensures ok { OnOk result (IfSome (R.remaining reader.old) (λ input. (left : ReadyState)
+        × Serves input (fresh (job_in options.now)) left (W.contents writer.old) (W.contents writer.new))) }
+    ensures err { IfErr result (λ fault. ((reader.new ≡ reader.old) × (writer.new ≡ writer.old))
+        ⊎ IfSome (R.remaining reader.old) (λ input. (left : ReadyState)
+        × BreaksOff fault input (fresh (job_in options.now)) left (W.contents writer.old) (W.contents writer.new))) }
+{
+    let Ok(mut service) = service_of(alloc, options) else {
+        return Err(ServeFault::Memory);
+    };
+    serve(alloc, reader, writer, &mut service)
 }
 
 /// Writes a text of help.
