@@ -22,22 +22,52 @@ fn noted(alloc: Global, program: &Noting<Tally>, count: u64) -> Result<String, F
     Ok(text)
 }
 
-// Which vertices a run from scratch calls in its two supersteps.
+// How many calls a run from scratch makes in two supersteps.
+fn calls_alone(
+    alloc: Global,
+    graph: &Graph,
+    partitioner: Partitioner,
+    program: &Noting<Tally>,
+) -> Result<u64, Fail> {
+    let combiner = AnyCombiner::NoCombiner;
+    let made = cold_run(alloc, graph, partitioner, &[0, 0], program, &combiner)?;
+    Ok(made.meter.count())
+}
+
+// Which vertices it calls.
 fn called(alloc: Global, graph: &Graph, partitions: u32) -> Result<String, Fail> {
     let partitioner = Partitioner::new(partitions).ok_or("no such number of partitions")?;
     let program = Noting::of(alloc, Tally)?;
-    let made = cold_run(
-        alloc,
-        graph,
-        partitioner,
-        &[0, 0],
-        &program,
-        &AnyCombiner::NoCombiner,
-    )?;
-    noted(alloc, &program, made.meter.count())
+    let calls = calls_alone(alloc, graph, partitioner, &program)?;
+    noted(alloc, &program, calls)
 }
 
-// Which vertices a run calls beside one on another graph, where edits named these ids.
+// How many calls a run makes beside one on another graph, where edits named these ids.
+fn calls_beside(
+    alloc: Global,
+    before: &Graph,
+    after: &Graph,
+    touched: &[VertexId],
+    partitioner: Partitioner,
+    first: &Noting<Tally>,
+    program: &Noting<Tally>,
+) -> Result<u64, Fail> {
+    let combiner = AnyCombiner::NoCombiner;
+    let old = cold_run(alloc, before, partitioner, &[0, 0], first, &combiner)?;
+    let made = warm_run(
+        alloc,
+        after,
+        partitioner,
+        old,
+        touched,
+        &[0, 0],
+        program,
+        &combiner,
+    )?;
+    Ok(made.meter.count())
+}
+
+// Which vertices it calls.
 fn called_beside(
     alloc: Global,
     before: &Graph,
@@ -46,21 +76,9 @@ fn called_beside(
     partitions: u32,
 ) -> Result<String, Fail> {
     let partitioner = Partitioner::new(partitions).ok_or("no such number of partitions")?;
-    let combiner = AnyCombiner::NoCombiner;
-    let first = Noting::of(alloc, Tally)?;
-    let old = cold_run(alloc, before, partitioner, &[0, 0], &first, &combiner)?;
-    let program = Noting::of(alloc, Tally)?;
-    let made = warm_run(
-        alloc,
-        after,
-        partitioner,
-        old,
-        touched,
-        &[0, 0],
-        &program,
-        &combiner,
-    )?;
-    noted(alloc, &program, made.meter.count())
+    let (first, program) = (Noting::of(alloc, Tally)?, Noting::of(alloc, Tally)?);
+    let calls = calls_beside(alloc, before, after, touched, partitioner, &first, &program)?;
+    noted(alloc, &program, calls)
 }
 
 // The same where the edges were those of the first graph, and the ids are told by their numbers.
