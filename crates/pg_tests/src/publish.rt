@@ -185,20 +185,24 @@ fn refused_publications_leave_what_is_published(rt: HostRuntime) -> Result<(), F
     Ok(())
 }
 
+/// Whether two answers have the same values, and the first one is of this edition.
+fn are_copies(copied: &Answers<i64>, made: &Answers<i64>, edition: u64) -> bool {
+    let number = edition.cast_signed();
+    copied.edition().number() == edition
+        && copied.values() == made.values()
+        && copied.aggregate("sum") == Some(number)
+        && copied.supersteps() == 7
+        && copied.ending() == Ending::Finished
+        && copied.run().aggregates.as_slice() == [number].as_slice()
+}
+
 #[test]
 fn copies_are_equal(rt: HostRuntime) -> Result<(), Fail> {
     let alloc = rt.alloc();
     let made = answers(alloc, &one_name(alloc)?, 3)?;
     let copied = made.copy(alloc)?;
-    assert_eq!(rt; copied.edition(), Edition::new(3));
-    assert_eq!(rt; copied.values(), made.values());
+    assert!(rt; are_copies(&copied, &made, 3));
     assert_eq!(rt; copied.values().last().map(|entry| entry.1), Some(15));
-    assert_eq!(rt; copied.aggregate("sum"), Some(3));
-    assert_eq!(rt;
-        (copied.supersteps(), copied.ending()),
-        (7, Ending::Finished)
-    );
-    assert_eq!(rt; copied.run().aggregates.as_slice(), [3].as_slice());
     readers_see_beginnings::<i64>();
     looks_never_go_back::<i64>();
     Ok(())
