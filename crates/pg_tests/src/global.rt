@@ -1,3 +1,5 @@
+ghost use Rattle.std.specs.Prelude.{◌≡◌, length, IfOk};
+
 use pg_global::{
     Aggregator, AnyAggregator, AnyCombiner, MasterCompute, MasterState, MessageCombiner, NoMaster,
     RegisterFault, Registry, gather,
@@ -69,6 +71,8 @@ fn tells_sixteen(rt: &impl Abort, alloc: Global, registry: &mut Registry) {
     assert_eq!(rt; registry.len(), 16);
     assert_eq!(rt; registry.place("change-15"), Some(Place::new(15)));
     assert_eq!(rt; registry.place("more"), None);
+    let (first, second) = (registry.registration(0), registry.registration(1));
+    assert!(rt; !first.persistent && second.persistent);
 }
 
 #[test]
@@ -77,8 +81,6 @@ fn sixteen_are_registered(rt: HostRuntime) -> Result<(), Fail> {
     let mut registry = Registry::new(alloc);
     register_sixteen(&rt, alloc, &mut registry)?;
     tells_sixteen(&rt, alloc, &mut registry);
-    let (first, second) = (registry.registration(0), registry.registration(1));
-    assert!(rt; !first.persistent && second.persistent);
     Ok(())
 }
 
@@ -137,13 +139,17 @@ fn no_master_decides_nothing(rt: HostRuntime) -> Result<(), Fail> {
 }
 
 // What a master is shown in superstep 2 where 5 and 6 were gathered.
-fn shown(alloc: Global) -> Result<MasterState, Fail> {
+fn shown(alloc: Global) -> Result<MasterState, Fail>
+    ensures { IfOk result (λ state. length state.values ≡ 2) }
+{
     let gathered = Sequence::from_vec(vec![in alloc; 5, 6]?);
     Ok(MasterState::new(Superstep::new(2), 3, 4, gathered))
 }
 
 // A master reads what it is shown, sets the second value, and halts.
-fn sets_and_halts(rt: &impl Abort, state: &mut MasterState) {
+fn sets_and_halts(rt: &impl Abort, state: &mut MasterState)
+    requires { length state.old.values ≡ 2 }
+{
     assert_eq!(rt; state.superstep().number(), 2);
     assert_eq!(rt; (state.total_vertices(), state.total_edges()), (3, 4));
     state.set_aggregated(Place::new(1), 7);
