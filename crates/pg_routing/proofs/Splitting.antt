@@ -18,16 +18,16 @@ module _ {X : Type 0} (n q : ℕ) where
       one false = refl
 
   -- an item more, with the partition of its target
-  pub item_put : (parts : List (List X)) (place : ℕ) (before : List (ℕ × X)) (t : ℕ) (x : X) (course : List X) → place ≡ t % n → place < length parts
-      → course ≡ slice_index_or parts place [] ++ x ∷ [] → slice_index_or parts q [] ≡ items_to n q before
-      → slice_index_or (slice_set parts place course) q [] ≡ items_to n q (before ++ (t, x) ∷ [])
-  item_put parts place before t x course at within is same = by (t % n == q) refl ∙ sym (items_to-push before t x)
+  pub item_put : (parts : List (List X)) (place : ℕ) (before : List (ℕ × X)) (t : ℕ) (x : X) (part : List X) → place ≡ t % n → place < length parts
+      → part ≡ slice_index_or parts place [] ++ x ∷ [] → slice_index_or parts q [] ≡ items_to n q before
+      → slice_index_or (slice_set parts place part) q [] ≡ items_to n q (before ++ (t, x) ∷ [])
+  item_put parts place before t x part at within is same = by (t % n == q) refl ∙ sym (items_to-push before t x)
     where
-      by : (b : Bool) → (t % n == q) ≡ b → slice_index_or (slice_set parts place course) q [] ≡ items_to n q before ++ cond b (x ∷ []) []
+      by : (b : Bool) → (t % n == q) ≡ b → slice_index_or (slice_set parts place part) q [] ≡ items_to n q before ++ cond b (x ∷ []) []
       by true e =
           let here : place ≡ q = at ∙ eqb-true (t % n) q e in
-          subst (λ k. slice_index_or (slice_set parts place course) k [] ≡ items_to n q before ++ x ∷ []) here
-          (get_or-set_same parts place course [] within ∙ (is ∙ ap (λ l. l ++ x ∷ []) (ap (λ k. slice_index_or parts k []) here ∙ same)))
+          subst (λ k. slice_index_or (slice_set parts place part) k [] ≡ items_to n q before ++ x ∷ []) here
+          (get_or-set_same parts place part [] within ∙ (is ∙ ap (λ l. l ++ x ∷ []) (ap (λ k. slice_index_or parts k []) here ∙ same)))
       by false e =
-          get_or-set_other parts place q course [] (λ there. true≢false (sym (eq-eqb (t % n) q (sym at ∙ sym there)) ∙ e))
+          get_or-set_other parts place q part [] (λ there. true≢false (sym (eq-eqb (t % n) q (sym at ∙ sym there)) ∙ e))
           ∙ (same ∙ sym (append-nil (items_to n q before)))

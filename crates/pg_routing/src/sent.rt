@@ -89,8 +89,8 @@ fn each_fresh<M: Plain, C: MessageCombiner<M>>(
         → IsFresh (C.combining combiner.now) (slice_index_or parts.now q []) (slice_get bundles.items q)) }
 {
     let mut bundles = Vec::with_capacity(alloc, parts.len())?;
-    for course in parts {
-        bundles.push(fresh(alloc, course.as_slice(), combiner)?)?;
+    for sends in parts {
+        bundles.push(fresh(alloc, sends.as_slice(), combiner)?)?;
     }
     Ok(bundles)
 }
