@@ -11,13 +11,25 @@ use std::marker::Model;
 
 /// What a master works on: the superstep, the numbers of vertices and edges as it begins, and the values
 /// that the vertices are going to see, at first those gathered in the superstep before.
-#[derive(Drop)]
 pub struct MasterState {
     superstep: Superstep,
     total_vertices: u64,
     total_edges: u64,
     values: Vec<i64>,
     halt: bool,
+}
+
+// By hand, so that it is let go by one call wherever that is, and not field by field.
+impl Drop for MasterState {
+    fn drop(self) {
+        let MasterState {
+            superstep: _,
+            total_vertices: _,
+            total_edges: _,
+            values: _,
+            halt: _,
+        } = self;
+    }
 }
 
 impl Model for MasterState {

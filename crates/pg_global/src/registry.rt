@@ -38,9 +38,15 @@ pub struct Registration {
 
 /// Aggregators by name, in the order of registration. A contract sees the list of names, as bytes, with
 /// their registrations.
-#[derive(Drop)]
 pub struct Registry {
     registered: IndexMap<String, Registration>,
+}
+
+// By hand, so that it is let go by one call wherever that is, and not field by field.
+impl Drop for Registry {
+    fn drop(self) {
+        let Registry { registered: _ } = self;
+    }
 }
 
 impl Model for Registry {

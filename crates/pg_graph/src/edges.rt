@@ -16,11 +16,21 @@ use std::sync::Arc;
 ///
 /// Edges don't change: a copy shares its source's memory and costs O(1), and none take no memory.
 /// Those of several vertices may lie in one list, of which each has a part.
-#[derive(Drop)]
 pub struct Edges {
     shared: Option<Arc<Vec<(VertexId, i64)>>>,
     first: usize,
     degree: usize,
+}
+
+// By hand, so that it is let go by one call wherever that is, and not field by field.
+impl Drop for Edges {
+    fn drop(self) {
+        let Edges {
+            shared: _,
+            first: _,
+            degree: _,
+        } = self;
+    }
 }
 
 impl Model for Edges {

@@ -126,9 +126,15 @@ impl From<Memory> for EditFault {
 }
 
 /// A list of edits, which are applied together or not at all.
-#[derive(Drop)]
 pub struct Batch {
     edits: Vec<Edit>,
+}
+
+// By hand, so that it is let go by one call wherever that is, and not field by field.
+impl Drop for Batch {
+    fn drop(self) {
+        let Batch { edits: _ } = self;
+    }
 }
 
 impl Model for Batch {

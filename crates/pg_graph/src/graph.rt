@@ -40,10 +40,19 @@ impl Row {
 }
 
 /// A graph: a finite map from ids to rows. A contract sees the list of (id, row) by rising id.
-#[derive(Drop)]
 pub struct Graph {
     rows: Map<Row>,
     total_edges: u64,
+}
+
+// By hand, so that it is let go by one call wherever that is, and not field by field.
+impl Drop for Graph {
+    fn drop(self) {
+        let Graph {
+            rows: _,
+            total_edges: _,
+        } = self;
+    }
 }
 
 impl Model for Graph {

@@ -12,9 +12,15 @@ use std::marker::Model;
 
 /// What one partition sends to another in a superstep: for each target, by rising id, the messages to it with
 /// their senders, and where the combiner combines what they come to. Copies share their memory.
-#[derive(Drop)]
 pub struct Bundle<M: Plain> {
     pub(crate) parcels: Map<Parcel<M>>,
+}
+
+// By hand, so that it is let go by one call wherever that is, and not field by field.
+impl<M: Plain> Drop for Bundle<M> {
+    fn drop(self) {
+        let Bundle { parcels: _ } = self;
+    }
 }
 
 impl<M: Plain> Model for Bundle<M> {

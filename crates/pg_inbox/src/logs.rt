@@ -21,9 +21,15 @@ pub struct Logged<M: Plain> {
 }
 
 /// The bundles of a run, by superstep and by the partitions that sent and receive them.
-#[derive(Drop)]
 pub struct Logs<M: Plain> {
     senders: Places<Places<Places<Logged<M>>>>,
+}
+
+// By hand, so that it is let go by one call wherever that is, and not field by field.
+impl<M: Plain> Drop for Logs<M> {
+    fn drop(self) {
+        let Logs { senders: _ } = self;
+    }
 }
 
 impl<M: Plain> Model for Logs<M> {

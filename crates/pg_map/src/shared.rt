@@ -32,10 +32,19 @@ impl Share for i64 {
 ///
 /// The entries lie in chunks, and these in groups, all of which copies share: a copy costs O(1), and a
 /// change makes anew the chunks and the groups that it falls into, beside the others.
-#[derive(Drop)]
 pub struct Map<V> {
     groups: Spine<V>,
     count: usize,
+}
+
+// By hand, so that it is let go by one call wherever that is, and not field by field.
+impl<V: Drop> Drop for Map<V> {
+    fn drop(self) {
+        let Map {
+            groups: _,
+            count: _,
+        } = self;
+    }
 }
 
 impl<V> Model for Map<V> {

@@ -7,9 +7,15 @@ use std::alloc::Global;
 use std::marker::Model;
 
 /// A list of values, which a contract sees as the list.
-#[derive(Drop)]
 pub struct Sequence<T> {
     items: Vec<T>,
+}
+
+// By hand, so that it is let go by one call wherever that is, and not field by field.
+impl<T: Drop> Drop for Sequence<T> {
+    fn drop(self) {
+        let Sequence { items: _ } = self;
+    }
 }
 
 impl<T> Model for Sequence<T> {

@@ -26,11 +26,21 @@ use std::marker::Model;
 /// No other state is kept: that of a vertex as a superstep begins is what its last record before it
 /// left. An index says of each vertex in which supersteps it ran, and has its last record. What `recorded` notes in it
 /// lies beside the memory that copies share, and is put into that once, where the trace is settled.
-#[derive(Drop)]
 pub struct Trace<V, M> {
     initial: Beginnings<V>,
     supersteps: Vec<Map<Kept<V, M>>>,
     ran: Index<V, M>,
+}
+
+// By hand, so that it is let go by one call wherever that is, and not field by field.
+impl<V: Drop, M: Drop> Drop for Trace<V, M> {
+    fn drop(self) {
+        let Trace {
+            initial: _,
+            supersteps: _,
+            ran: _,
+        } = self;
+    }
 }
 
 impl<V, M> Model for Trace<V, M> {
@@ -73,16 +83,23 @@ impl<V: Drop, M: Drop> Trace<V, M> {
     {
         let initial = self.initial.changed(alloc, changes)?;
         let shared = self.share(alloc)?;
+        Ok(shared.begun_with(initial))
+    }
+
+    /// The same records after other first states.
+    fn begun_with(self, initial: Beginnings<V>) -> Trace<V, M>
+        ensures { result ≡ record self { initial = initial } }
+    {
         let Trace {
             initial: _,
             supersteps,
             ran,
-        } = shared;
-        Ok(Trace {
+        } = self;
+        Trace {
             initial,
             supersteps,
             ran,
-        })
+        }
     }
 
     /// How many supersteps it has.
