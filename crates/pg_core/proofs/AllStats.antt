@@ -5,12 +5,12 @@ use Rattle.std.specs.Option.{IsSome, option_to_list}
 use Rattle.std.proofs.lemmas.Bool.{and_parts, true≢false}
 use Rattle.std.proofs.lemmas.List.{length-map}
 use Rattle.std.proofs.lemmas.List.Sums.{AllPass-from_list_all}
-use Rattle.pg_core.specs.Machine.{State, is_allowed, is_at, place_at}
+use Rattle.pg_machine.specs.Machine.{State, is_allowed, is_at, place_at}
 use Rattle.pg_core.specs.Progress.{HoldsAt, IsRight, Progress, part_at}
 use Rattle.pg_core.specs.Together.{stats_here}
-use Rattle.pg_core.specs.declared.event.Closed.TheVariants.{Next}
-use Rattle.pg_core.specs.declared.event.Event.TheVariants.{Close}
-use Rattle.pg_core.proofs.Events.{at_superstep}
+use Rattle.pg_machine.specs.declared.event.Closed.TheVariants.{Next}
+use Rattle.pg_machine.specs.declared.event.Event.TheVariants.{Close}
+use Rattle.pg_machine.proofs.LawsMachine.{at_superstep}
 use Rattle.pg_core.proofs.Parts.{slice_get-made}
 use Rattle.pg_global.specs.Registry.{Registered, aggregating_of}
 use Rattle.pg_graph.specs.Rows.{Rows}

@@ -7,14 +7,14 @@ use Rattle.std.proofs.lemmas.List.{length_push}
 use Rattle.std.proofs.lemmas.List.Elements.{All-push}
 use Rattle.std.proofs.lemmas.List.FromFn.{map-range_with_len_more}
 use Rattle.pg_core.specs.Closing.{with_end, with_next}
-use Rattle.pg_core.specs.Limits.{Limits}
-use Rattle.pg_core.specs.Machine.{State, after, first_state, is_allowed}
+use Rattle.pg_machine.specs.Limits.{Limits}
+use Rattle.pg_machine.specs.Machine.{State, after, first_state, is_allowed}
 use Rattle.pg_core.specs.Progress.{IsLawful, IsRight, Progress, tally_at}
-use Rattle.pg_core.specs.declared.event.Closed.TheVariants.{Next, Ended}
-use Rattle.pg_core.specs.declared.event.Event.{Event}
-use Rattle.pg_core.specs.declared.event.Event.TheVariants.{Close}
+use Rattle.pg_machine.specs.declared.event.Closed.TheVariants.{Next, Ended}
+use Rattle.pg_machine.specs.declared.event.Event.{Event}
+use Rattle.pg_machine.specs.declared.event.Event.TheVariants.{Close}
 use Rattle.pg_core.specs.declared.tally.Tally.{Tally}
-use Rattle.pg_core.proofs.Events.{Reaches-push}
+use Rattle.pg_machine.proofs.LawsMachine.{Reaches-push}
 use Rattle.pg_global.specs.Registry.{Registered}
 use Rattle.pg_graph.specs.Rows.{Rows}
 use Rattle.pg_model.specs.Job.{Job}

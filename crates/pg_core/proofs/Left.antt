@@ -4,7 +4,7 @@ use Rattle.std.specs.List.{slice_get}
 use Rattle.std.specs.Option.{IsSome, unwrap_or}
 use Rattle.std.proofs.lemmas.Bool.{lt-ltb, true≢false}
 use Rattle.std.proofs.lemmas.List.FromFn.{length-map-range_with_len}
-use Rattle.pg_core.specs.Machine.{place_at}
+use Rattle.pg_machine.specs.Machine.{place_at}
 use Rattle.pg_core.specs.Progress.{HoldsAt, IsRight, Progress, is_past, part_at, tally_at}
 use Rattle.pg_core.specs.Traces.{Common, HasLeft, HaveLeft, IsLeftBy, KeepsCommon, ended_by, shown_below}
 use Rattle.pg_values.specs.Values.{HasEnded, HaveEnded, KeepsEnd}

@@ -1,7 +1,5 @@
 pub mod Ends
-pub mod Events
 pub mod Left
-pub mod Near
 pub mod Needs
 pub mod Onward
 pub mod Opened

@@ -4,9 +4,9 @@ use Rattle.std.specs.List.{range_with_len, sum_by}
 use Rattle.std.proofs.lemmas.Bool.{cases_eq}
 use Rattle.std.proofs.lemmas.List.Sums.{sum_by-cons}
 use Rattle.pg_core.specs.Driving.{needed_from, still_needed, still_needed_of}
-use Rattle.pg_core.specs.Machine.{State, after, place_at}
-use Rattle.pg_core.specs.declared.event.Event.TheVariants.{Step}
-use Rattle.pg_core.proofs.Steps.{place_after_other, place_after_own}
+use Rattle.pg_machine.specs.Machine.{State, after, place_at}
+use Rattle.pg_machine.specs.declared.event.Event.TheVariants.{Step}
+use Rattle.pg_machine.proofs.LawsSteps.{place_after_other, place_after_own}
 use Rattle.pg_graph.specs.Rows.{Rows}
 use Rattle.pg_model.specs.Job.{Job}
 use Rattle.pg_model.specs.Needed.{needed_below, needed_count, needed_in}

@@ -7,15 +7,15 @@ use Rattle.std.proofs.lemmas.List.{get_or_default, get_or-set_other, get_or-set_
 use Rattle.std.proofs.lemmas.List.Sums.{list_all-from_AllPass}
 use Rattle.pg_core.specs.Closing.{ClosesRight, HasClosed}
 use Rattle.pg_core.specs.Driving.{ArePast, GoesOn, IsSameRun, still_needed}
-use Rattle.pg_core.specs.Limits.{Limits}
-use Rattle.pg_core.specs.Machine.{State, after, is_allowed, is_at, is_from, may_step, place_at}
+use Rattle.pg_machine.specs.Limits.{Limits}
+use Rattle.pg_machine.specs.Machine.{State, after, is_allowed, is_at, is_from, may_step, place_at}
 use Rattle.pg_core.specs.Progress.{HasMadeStep, IsPartAt, IsRight, Progress, is_ready, job_by, part_at}
-use Rattle.pg_core.specs.declared.event.Closed.{Closed}
-use Rattle.pg_core.specs.declared.event.Closed.TheVariants.{Next, Ended}
-use Rattle.pg_core.specs.declared.event.Event.TheVariants.{Step, Close}
-use Rattle.pg_core.proofs.Near.{AreNear}
+use Rattle.pg_machine.specs.declared.event.Closed.{Closed}
+use Rattle.pg_machine.specs.declared.event.Closed.TheVariants.{Next, Ended}
+use Rattle.pg_machine.specs.declared.event.Event.TheVariants.{Step, Close}
+use Rattle.pg_machine.proofs.LawsNear.{AreNear}
 use Rattle.pg_core.proofs.Needs.{still_all, still_none, still_step}
-use Rattle.pg_core.proofs.Steps.{place_after_other, place_after_own}
+use Rattle.pg_machine.proofs.LawsSteps.{place_after_other, place_after_own}
 use Rattle.pg_global.specs.Master.{Master, job_of}
 use Rattle.pg_graph.specs.Rows.{Rows}
 use Rattle.pg_model.specs.Job.{Combining, Job, Program}

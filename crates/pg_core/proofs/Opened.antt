@@ -5,12 +5,12 @@ use Rattle.std.proofs.lemmas.Bool.{ltb-true, true≢false}
 use Rattle.std.proofs.lemmas.List.{length-map}
 use Rattle.pg_core.specs.Beginning.{HasBegun, HasStarted, HaveBegun, HaveBegunBeside, first_visible}
 use Rattle.pg_core.specs.declared.beginning.Start.{Start}
-use Rattle.pg_core.specs.Limits.{AreLimits, Limits}
-use Rattle.pg_core.specs.Machine.{State, first_state, place_at}
+use Rattle.pg_machine.specs.Limits.{AreLimits, Limits}
+use Rattle.pg_machine.specs.Machine.{State, first_state, place_at}
 use Rattle.pg_core.specs.Progress.{HoldsAt, IsLawful, IsOpened, IsRight, Progress, job_by, is_past, tally_at}
 use Rattle.pg_core.specs.Traces.{IsLeftBy, KeepsCommon, Traces, shown_below}
 use Rattle.pg_core.specs.declared.tally.Tally.{Tally}
-use Rattle.pg_core.proofs.Events.{Reaches-none, length-first, some_within, starts_at}
+use Rattle.pg_machine.proofs.LawsMachine.{Reaches-none, length-first, some_within, starts_at}
 use Rattle.pg_core.proofs.Opening.{beginning-edges}
 use Rattle.pg_global.specs.Master.{Master, is_registered, job_of}
 use Rattle.pg_global.specs.Registry.{Registered}

@@ -7,15 +7,16 @@ use Rattle.std.proofs.lemmas.Bool.{and_parts, and_cases, and_left, and_right, ca
 use Rattle.std.proofs.lemmas.List.FromFn.{length-map-range_with_len}
 use Rattle.std.proofs.lemmas.List.{get_or-set_other, get_or-set_same, length-set, take_all}
 use Rattle.std.proofs.lemmas.List.Sums.{AllPass-from_list_all}
-use Rattle.pg_core.specs.Limits.{Limits}
-use Rattle.pg_core.specs.Machine.{Reaches, State, after, first_state, is_allowed, is_from, may_step, place_at}
+use Rattle.std.proofs.lemmas.Option.{same_Some}
+use Rattle.pg_machine.specs.Limits.{Limits}
+use Rattle.pg_machine.specs.Machine.{Reaches, State, after, first_state, is_allowed, is_from, may_step, place_at}
 use Rattle.pg_core.specs.Progress.{HasMadeStep, HasPut, HoldsAt, IsLawful, IsNext, IsPartAt, IsRight, IsStepLent, IsStepOf, LogsHold, Progress, TakesIn, is_past, part_at, with_step, without_part}
 use Rattle.pg_core.specs.Traces.{KeepsCommon, Common, logs_in, visible_in}
-use Rattle.pg_core.specs.declared.event.Event.{Event}
-use Rattle.pg_core.specs.declared.event.Event.TheVariants.{Step}
+use Rattle.pg_machine.specs.declared.event.Event.{Event}
+use Rattle.pg_machine.specs.declared.event.Event.TheVariants.{Step}
 use Rattle.pg_core.specs.declared.tally.Tally.{Tally}
 use Rattle.pg_core.proofs.Parts.{slice_get-made}
-use Rattle.pg_core.proofs.Events.{Reaches-push, length-first, length-places_all, some_within}
+use Rattle.pg_machine.proofs.LawsMachine.{Reaches-push, length-first, length-places_all, some_within}
 use Rattle.pg_global.specs.Registry.{Registered}
 use Rattle.pg_graph.specs.Rows.{Rows}
 use Rattle.pg_inbox.specs.Bundles.{Parcels}
@@ -32,54 +33,17 @@ use Rattle.pg_course.specs.Course.{IsFurther, IsSentTo}
 use Rattle.pg_part.specs.Part as parts_of
 use Rattle.pg_part.specs.Part.{HoldsShare, PartState}
 
-pub one_of : {X : Type 0} (x y : X) → Some x ≡ Some y → x ≡ y
-one_of x y e = cc
-
 -- ---- the partition that steps
-
--- a partition that may step is at a superstep that is open or was, and so are the others, or further
-pub record StepsFrom (state : State) (p : ℕ) : Type 0 where
-  pub from : ℕ
-  pub at : place_at p state ≡ Some from
-  pub open_or_before : from ≤ state.current
-  pub others : (q : ℕ) → q < length state.places → is_from from (place_at q state) ≡ true
-
-pub StepsFrom-from_allowed : (state : State) (p : ℕ) → is_allowed state (Step p) ≡ true → StepsFrom state p
-StepsFrom-from_allowed state p allowed = by (place_at p state) refl (and_parts _ _ allowed).1
-  where
-    by : (place : Option ℕ) → place_at p state ≡ place → may_step state place ≡ true → StepsFrom state p
-    by None at may = absurd (true≢false (sym may))
-    by (Some r) at may =
-        let parts : (nat_le r state.current ≡ true) × (list_all (is_from r) state.places ≡ true) = and_parts _ _ may in
-        record {
-          from = r;
-          at = at;
-          open_or_before = leb-true r state.current parts.0;
-          others = λ q within. AllPass-from_list_all (is_from r) state.places parts.1 q None within;
-        }
 
 -- a part that made a step is the next of its partition
 pub IsNext-from_IsFurther : {V M : Type 0} (partitions : ℕ) (state : State) (p : ℕ) (before after : PartState V M) → IsPartAt partitions state p before → IsFurther before.course after.course → IsNext partitions state p after
 IsNext-from_IsFurther partitions state p before after at further = record {
   partition_is = further.partition_stays ∙ at.partition_is;
   partitions_are = further.partitions_stay ∙ at.partitions_are;
-  place_is = λ r is. let same : before.course.place ≡ r = one_of before.course.place r (sym at.place_is ∙ is) in further.place_is ∙ ap (λ (k : ℕ). k + 1) same;
+  place_is = λ r is. let same : before.course.place ≡ r = same_Some before.course.place r (sym at.place_is ∙ is) in further.place_is ∙ ap (λ (k : ℕ). k + 1) same;
 }
 
--- the place of the partition after its step, and those of the others
-pub place_after_own : (state : State) (p r : ℕ) → place_at p state ≡ Some r → place_at p (after state (Step p)) ≡ Some (r + 1)
-place_after_own state p r at =
-    get_or-set_same state.places p _ None (some_within state.places p r at) ∙ ap (option_map (λ r. r + 1)) at
-
-pub place_after_other : (state : State) (p q : ℕ) → q ≢ p → place_at q (after state (Step p)) ≡ place_at q state
-place_after_other state p q apart = get_or-set_other state.places p q _ None apart
-
 -- ---- what is so of every run
-
-pub length-places_lawful : (limits : Limits) (state : State) (history : List Event) → Reaches (first_state limits.partitions limits.workers) history state → length state.places ≡ limits.partitions
-length-places_lawful limits state history reaches =
-    ap (λ (s : State). length s.places) (sym reaches.leads)
-    ∙ (length-places_all (first_state limits.partitions limits.workers) history ∙ length-first limits.partitions limits.workers)
 
 module _ {V M : Type 0} (limits : Limits) (declared : Declared) (registered registry : Registered) (state : State) (history : List Event) (parts : List (Option (PartState V M))) (shown : List Visible) (tally : Tally) (lawful : IsLawful limits declared registered registry state history parts shown tally) (p : ℕ) (allowed : is_allowed state (Step p) ≡ true) where
   -- there is a place for the part of a partition that is somewhere
@@ -105,7 +69,7 @@ module _ {V M : Type 0} (limits : Limits) (declared : Declared) (registered regi
         ];
         stays = λ q r at past. elim (cases_eq q p) [
           | inl same ↦ (
-              let is : r ≡ steps.from = one_of r steps.from (sym at ∙ (ap (λ (q : ℕ). place_at q state) same ∙ steps.at)) in
+              let is : r ≡ steps.from = same_Some r steps.from (sym at ∙ (ap (λ (q : ℕ). place_at q state) same ∙ steps.at)) in
               absurd (omega (arith, is, past, steps.open_or_before))
               )
           | inr apart ↦ ap is_some (kept q apart) ∙ lawful.stays q r at past
@@ -130,7 +94,7 @@ module _ {V M : Type 0} (limits : Limits) (declared : Declared) (registered regi
         each = length-set parts p (Some part) ∙ lawful.each;
         here = λ q part' at. elim (cases_eq q p) [
           | inl same ↦ (
-              let is : part ≡ part' = one_of part part' (sym own ∙ (ap (λ (q : ℕ). get_or (set parts p (Some part)) q None) (sym same) ∙ at)) in
+              let is : part ≡ part' = same_Some part part' (sym own ∙ (ap (λ (q : ℕ). get_or (set parts p (Some part)) q None) (sym same) ∙ at)) in
               let mine : IsPartAt limits.partitions (after state (Step p)) p part = record {
                 partition_is = next.partition_is;
                 partitions_are = next.partitions_are;
@@ -315,7 +279,7 @@ module _ {V M : Type 0} (job : Job V M) (kept : Option Rows) {P C A : Type 0} (c
           within = right.within;
           parts = λ q part' at. elim (cases_eq q p) [
             | inl same ↦ (
-                let is : part ≡ part' = one_of part part' (sym own ∙ (ap (λ (q : ℕ). get_or (set core.parts p (Some part)) q None) (sym same) ∙ at)) in
+                let is : part ≡ part' = same_Some part part' (sym own ∙ (ap (λ (q : ℕ). get_or (set core.parts p (Some part)) q None) (sym same) ∙ at)) in
                 subst (λ (q : ℕ). HoldsAt job kept core.graph n q (place_at q (after core.state (Step p))) part') (sym same)
                 (subst (λ place. HoldsAt job kept core.graph n p place part') (sym (place_after_own core.state p steps.from steps.at))
                 (subst (HoldsShare job kept core.graph n p (steps.from + 1)) is (is_step.holds steps.from steps.at)))
@@ -334,9 +298,9 @@ module _ {V M : Type 0} (job : Job V M) (kept : Option Rows) {P C A : Type 0} (c
 -- what a part's step promises is what a step taken in asks for
 pub IsStepOf-from_HasMadeStep : {V M : Type 0} (job : Job V M) (kept : Option Rows) {P C A : Type 0} (core : Progress P C A V M) (p r : ℕ) (part : PartState V M) (sent : List (Logged M)) (value_eq : V → V → Bool) (message_eq : M → M → Bool) (calls calls_after : ℕ) → place_at p core.state ≡ Some r → parts_of.HasMadeStep job value_eq message_eq kept core.graph core.limits.partitions p r part sent calls calls_after → IsStepOf job kept core p part sent
 IsStepOf-from_HasMadeStep job kept core p r part sent value_eq message_eq calls calls_after at stepped = record {
-  holds = λ s is. let same : r ≡ s = one_of r s (sym at ∙ is) in subst (λ (s : ℕ). HoldsShare job kept core.graph core.limits.partitions p (s + 1) part) same (record { course = stepped.course.holds; stats = stepped.stats });
+  holds = λ s is. let same : r ≡ s = same_Some r s (sym at ∙ is) in subst (λ (s : ℕ). HoldsShare job kept core.graph core.limits.partitions p (s + 1) part) same (record { course = stepped.course.holds; stats = stepped.stats });
   to_each = stepped.course.to_each;
-  sends = λ s q is within. let same : r ≡ s = one_of r s (sym at ∙ is) in subst (λ (s : ℕ). IsSentTo job kept core.graph core.limits.partitions p q s (slice_get sent q)) same (stepped.course.sends q within);
+  sends = λ s q is within. let same : r ≡ s = same_Some r s (sym at ∙ is) in subst (λ (s : ℕ). IsSentTo job kept core.graph core.limits.partitions p q s (slice_get sent q)) same (stepped.course.sends q within);
 }
 
 -- what a step is lent doesn't lie in the parts

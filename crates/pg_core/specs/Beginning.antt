@@ -1,8 +1,8 @@
 -- The parts as a run opens.
 use Rattle.std.specs.Prelude.{◌≡◌, ℕ, ℤ, ◌<◌, ◌≤◌, List, [], ◌∷◌, length, map, All, Option, None, Some, slice_index_or}
 use Rattle.std.specs.List.{slice_get}
-use Rattle.pg_core.specs.Limits.{AreLimits, Limits}
-use Rattle.pg_core.specs.Machine.{first_state}
+use Rattle.pg_machine.specs.Limits.{AreLimits, Limits}
+use Rattle.pg_machine.specs.Machine.{first_state}
 use Rattle.pg_core.specs.declared.beginning.Start.{Start}
 use Rattle.pg_core.specs.Traces.{HasLeft}
 use Rattle.pg_course.specs.Course.{AreTouched}

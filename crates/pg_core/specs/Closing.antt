@@ -1,12 +1,12 @@
 -- What closing a superstep makes of a run over partitions, and what the run gives once it has ended.
 use Rattle.std.specs.Prelude.{◌≡◌, ℕ, ◌+◌, ◌↔◌, List, [], ◌∷◌, ◌++◌, length, Option, Some}
 use Rattle.std.specs.Option.{unwrap_or}
-use Rattle.pg_core.specs.Machine.{after}
+use Rattle.pg_machine.specs.Machine.{after}
 use Rattle.pg_core.specs.Progress.{IsRight, Progress}
 use Rattle.pg_core.specs.Traces.{Common, HaveLeft, IsLeftBy, Traces}
-use Rattle.pg_core.specs.declared.event.Closed.{Closed}
-use Rattle.pg_core.specs.declared.event.Closed.TheVariants.{Next, Ended}
-use Rattle.pg_core.specs.declared.event.Event.TheVariants.{Close}
+use Rattle.pg_machine.specs.declared.event.Closed.{Closed}
+use Rattle.pg_machine.specs.declared.event.Closed.TheVariants.{Next, Ended}
+use Rattle.pg_machine.specs.declared.event.Event.TheVariants.{Close}
 use Rattle.pg_core.specs.declared.tally.Tally.{Tally}
 use Rattle.pg_graph.specs.Rows.{Rows}
 use Rattle.pg_model.specs.Job.{Job}

@@ -1,7 +1,7 @@
 -- Driving a run over partitions to its end: what stays on the way, and how many executions are still to come.
 use Rattle.std.specs.Prelude.{◌≡◌, ℕ, ◌+◌, ◌-◌, ◌<◌, ◌≤◌, nat_lt, Bool, true, false, cond, Option, None, Some, IsSome}
 use Rattle.std.specs.List.{range_with_len, sum_by}
-use Rattle.pg_core.specs.Machine.{State, is_from, place_at}
+use Rattle.pg_machine.specs.Machine.{State, is_from, place_at}
 use Rattle.pg_core.specs.Progress.{IsRight, Progress, part_at}
 use Rattle.pg_graph.specs.Rows.{Rows}
 use Rattle.pg_model.specs.Job.{Job}

@@ -1,9 +1,6 @@
 pub mod Beginning
 pub mod Closing
 pub mod Driving
-pub mod Limits
-pub mod Machine
-pub mod MachineRows
 pub mod Progress
 pub mod Together
 pub mod Traces

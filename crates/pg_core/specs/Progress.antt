@@ -1,11 +1,11 @@
 -- A run over partitions between two events, and when it is right.
 use Rattle.std.specs.Prelude.{◌≡◌, ◌==◌, ℕ, ◌+◌, ◌<◌, ◌≤◌, nat_lt, Bool, true, false, cond, ◌&&◌, List, [], ◌∷◌, ◌++◌, map, length, slice_index_or, slice_set, take, Option, None, Some, IsSome, is_some}
 use Rattle.std.specs.List.{All, filter, range_with_len, slice_get}
-use Rattle.pg_core.specs.Limits.{Limits}
+use Rattle.pg_machine.specs.Limits.{Limits}
 use Rattle.pg_core.specs.Traces.{KeepsCommon, Common, logs_in, shown_below, visible_in}
-use Rattle.pg_core.specs.Machine.{State, Reaches, after, first_state, host_of, is_allowed, place_at}
-use Rattle.pg_core.specs.declared.event.Event.{Event}
-use Rattle.pg_core.specs.declared.event.Event.TheVariants.{Step}
+use Rattle.pg_machine.specs.Machine.{State, Reaches, after, first_state, host_of, is_allowed, place_at}
+use Rattle.pg_machine.specs.declared.event.Event.{Event}
+use Rattle.pg_machine.specs.declared.event.Event.TheVariants.{Step}
 use Rattle.pg_core.specs.declared.tally.Tally.{Tally}
 use Rattle.pg_global.specs.Master.{Master, has_places, job_of}
 use Rattle.pg_global.specs.Registry.{Registered}

@@ -1,7 +1,7 @@
 //! Closing the open superstep of a run over partitions.
 ghost use Rattle.std.specs.Prelude.{◌≡◌, ◌+◌, ◌<◌, ◌≤◌, ◌==◌, true, cond, length, None, Option, Some, IfOk, OnOk};
 ghost use Rattle.pg_core.specs.Closing.{ClosesRight, HasClosed, with_end, with_next};
-ghost use Rattle.pg_core.specs.Machine.{is_allowed};
+ghost use Rattle.pg_machine.specs.Machine.{is_allowed};
 ghost use Rattle.pg_core.specs.Progress.{IsRight, job_by};
 ghost use Rattle.pg_graph.specs.Rows.{Rows};
 ghost use Rattle.pg_model.specs.Run.{configuration, ending_after};

@@ -1,7 +1,7 @@
 //! Driving a run over partitions to its end.
 ghost use Rattle.std.specs.Prelude.{◌≡◌, ℕ, ◌+◌, ◌<◌, true, false, Option, IsSome, OnOk};
 ghost use Rattle.pg_core.specs.Driving.{ArePast, GoesOn, IsSameRun, still_needed};
-ghost use Rattle.pg_core.specs.Machine.{first_state};
+ghost use Rattle.pg_machine.specs.Machine.{first_state};
 ghost use Rattle.pg_core.specs.Progress.{IsRight, job_by, part_at};
 ghost use Rattle.pg_graph.specs.Rows.{Rows};
 ghost use Rattle.pg_model.specs.Needed.{needed_count};

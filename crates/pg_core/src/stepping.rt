@@ -1,6 +1,6 @@
 //! A whole step of a partition: taken, made, and taken in.
 ghost use Rattle.std.specs.Prelude.{◌≡◌, ℕ, ◌+◌, ◌≤◌, ◌<◌, true, Option, Some, IfOk, OnOk};
-ghost use Rattle.pg_core.specs.Machine.{place_at};
+ghost use Rattle.pg_machine.specs.Machine.{place_at};
 ghost use Rattle.pg_core.specs.Progress.{HasMadeStep, IsRight, IsStepLent, is_ready as ready_test, job_by};
 ghost use Rattle.pg_course.specs.Course.{IsFurther};
 ghost use Rattle.pg_graph.specs.Rows.{Rows};

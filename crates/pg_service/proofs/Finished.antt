@@ -2,8 +2,8 @@
 use Rattle.std.proofs.Common.{◌≡◌, ℕ, ◌+◌, Bool, Option, ap, sym, subst, ◌∙◌, arith}
 use Rattle.pg_core.specs.Closing.{IsFinished}
 use Rattle.pg_core.specs.Driving.{IsSameRun}
-use Rattle.pg_core.specs.Limits.{Limits}
-use Rattle.pg_core.specs.Machine.{first_state}
+use Rattle.pg_machine.specs.Limits.{Limits}
+use Rattle.pg_machine.specs.Machine.{first_state}
 use Rattle.pg_core.specs.Progress.{IsOpened, IsRight, Progress, job_by}
 use Rattle.pg_core.specs.Traces.{IsLeftBy, Traces}
 use Rattle.pg_core.proofs.Opened.{job_as_opened}

@@ -1,7 +1,7 @@
 -- What a service keeps, and what an edit and a refresh make of it.
 use Rattle.std.specs.Prelude.{◌≡◌, ◌⊎◌, ℕ, ◌<◌, ◌≤◌, Bool, false, ◌==◌, nat_lt, if◌then◌else◌}
 use Rattle.std.specs.Prelude.{List, [], length, replicate, Option, None, Some, IfSome, Result, Err}
-use Rattle.pg_core.specs.Limits.{Limits}
+use Rattle.pg_machine.specs.Limits.{Limits}
 use Rattle.pg_global.specs.Master.{Master, job_of}
 use Rattle.pg_graph.specs.Edit.{batch_edited, batch_limit, memory_fault}
 use Rattle.pg_graph.specs.Rows.{Rows}

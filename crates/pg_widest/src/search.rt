@@ -1,7 +1,7 @@
 //! A service that searches the graph that it keeps.
 ghost use Rattle.std.specs.Prelude.{◌≡◌, None, Some, IfOk, IfErr, OnOk, OnErr};
 ghost use Rattle.std.specs.Ordering.{int_eq};
-ghost use Rattle.pg_core.specs.Limits.{Limits};
+ghost use Rattle.pg_machine.specs.Limits.{Limits};
 ghost use Rattle.pg_model.specs.Needed.{needed_count};
 ghost use Rattle.pg_model.specs.Run.{answer};
 ghost use Rattle.pg_model.specs.Superstep.{capped};

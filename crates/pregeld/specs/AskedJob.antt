@@ -1,5 +1,5 @@
 -- The job that the options of the command line ask for.
-use Rattle.pg_core.specs.Limits.{Limits}
+use Rattle.pg_machine.specs.Limits.{Limits}
 use Rattle.pg_options.specs.Arguments.{program_in}
 use Rattle.pg_options.specs.declared.options.Options.{Options}
 use Rattle.pregeld.specs.Job.{ReadyJob}

@@ -1,7 +1,7 @@
 use Rattle.std.proofs.Common.{◌≡◌, ℕ, ◌≤◌, map, length, All, ap, sym, ◌∙◌, subst}
 use Rattle.std.proofs.lemmas.List.{length-map}
 use Rattle.std.proofs.lemmas.Simd.{map-map}
-use Rattle.pg_core.specs.Machine.{first_state}
+use Rattle.pg_machine.specs.Machine.{first_state}
 use Rattle.pg_core.proofs.beginning.Start.of.Goals as goal
 use Rattle.pg_global.specs.Registry.{aggregating_of}
 

@@ -1,7 +1,7 @@
 use Rattle.std.proofs.Common.{◌≡◌, ℤ, List, ◌+◌, is_some, refl, sym, ap, ◌∙◌, subst, arith, cond}
 use Rattle.pg_core.specs.Progress.{IsRight, job_by, tally_at}
-use Rattle.pg_core.specs.declared.event.Closed.TheVariants.{Next, Ended}
-use Rattle.pg_core.specs.declared.event.Event.TheVariants.{Close}
+use Rattle.pg_machine.specs.declared.event.Closed.TheVariants.{Next, Ended}
+use Rattle.pg_machine.specs.declared.event.Event.TheVariants.{Close}
 use Rattle.pg_core.proofs.Ends.{IsRight-end, IsRight-next, not_ended, tally_next, visible_next}
 use Rattle.pg_model.specs.Superstep.{capped, visible_in}
 use Rattle.pg_stats.proofs.LawsEnding.{ends_last, goes_on}

@@ -1,10 +1,10 @@
 use Rattle.std.proofs.Common.{◌≡◌, ℕ, ◌<◌, length, Some, refl, sym, ap, ◌∙◌, subst, flat_map}
 use Rattle.std.specs.Option.{IsSome}
-use Rattle.pg_core.specs.Machine.{place_at}
+use Rattle.pg_machine.specs.Machine.{place_at}
 use Rattle.pg_core.specs.Progress.{job_by, part_at}
 use Rattle.pg_core.specs.Together.{stats_here}
 use Rattle.pg_core.proofs.Ends.{stats_between}
-use Rattle.pg_core.proofs.Steps.{length-places_lawful}
+use Rattle.pg_machine.proofs.LawsSteps.{length-places_lawful}
 use Rattle.pg_core.proofs.AllStats.{length-gathered, stats_are}
 use Rattle.pg_model.specs.Run.{visible_at}
 use Rattle.pg_stats.specs.GlobalStats.{aggregators_of, stats_of_all}

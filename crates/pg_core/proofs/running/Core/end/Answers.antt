@@ -1,8 +1,8 @@
 use Rattle.std.proofs.Common.{◌≡◌, true, length, sym, subst}
-use Rattle.pg_core.specs.Machine.{after, is_allowed}
+use Rattle.pg_machine.specs.Machine.{after, is_allowed}
 use Rattle.pg_core.specs.Progress.{IsLawful}
-use Rattle.pg_core.specs.declared.event.Closed.TheVariants.{Next, Ended}
-use Rattle.pg_core.specs.declared.event.Event.TheVariants.{Close}
+use Rattle.pg_machine.specs.declared.event.Closed.TheVariants.{Next, Ended}
+use Rattle.pg_machine.specs.declared.event.Event.TheVariants.{Close}
 use Rattle.pg_core.proofs.Ends.{IsLawful-end}
 use Rattle.pg_core.proofs.running.Core.end.Goals as goal
 

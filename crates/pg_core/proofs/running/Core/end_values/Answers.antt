@@ -1,11 +1,11 @@
 use Rattle.std.proofs.Common.{◌≡◌, ℕ, ◌+◌, ◌<◌, Some, option_map, true, length, sym, ap, ◌∙◌, subst, arith}
 use Rattle.std.proofs.lemmas.Result.{IfOk-weaker}
 use Rattle.std.specs.Option.{IsSome}
-use Rattle.pg_core.specs.Machine.{place_at}
+use Rattle.pg_machine.specs.Machine.{place_at}
 use Rattle.pg_core.specs.Progress.{job_by, part_at}
 use Rattle.pg_core.specs.Traces.{ended_by}
 use Rattle.pg_values.specs.Values.{HaveEnded, KeepsEnd}
-use Rattle.pg_core.proofs.Events.{place_at_end}
+use Rattle.pg_machine.proofs.LawsMachine.{place_at_end}
 use Rattle.pg_core.proofs.Left.{have_all_ended, keeps_end}
 use Rattle.pg_model.specs.Run.{configuration, values_of}
 use Rattle.pg_core.proofs.running.Core.end_values.Goals as goal

@@ -2,10 +2,10 @@ use Rattle.std.proofs.Common.{◌≡◌, ℕ, ◌+◌, ◌<◌, ◌≤◌, Some,
 use Rattle.std.specs.Option.{IsSome, unwrap_or}
 use Rattle.std.proofs.lemmas.List.Elements.{All-weaker}
 use Rattle.std.proofs.lemmas.Result.{IfOk-weaker}
-use Rattle.pg_core.specs.Machine.{place_at}
+use Rattle.pg_machine.specs.Machine.{place_at}
 use Rattle.pg_core.specs.Progress.{job_by, part_at}
 use Rattle.pg_core.specs.Traces.{HaveLeft, IsLeftBy}
-use Rattle.pg_core.proofs.Events.{place_at_end}
+use Rattle.pg_machine.proofs.LawsMachine.{place_at_end}
 use Rattle.pg_core.proofs.Left.{answer_is, ending_last, left_as, tally_last}
 use Rattle.pg_model.specs.declared.run.Ending.TheVariants.{LimitReached}
 use Rattle.pg_core.proofs.running.Core.finish_with.Goals as goal

@@ -1,6 +1,6 @@
 use Rattle.std.proofs.Common.{subst}
-use Rattle.pg_core.specs.Machine.{RestoresFollowLosses, StepsTell, first_state}
-use Rattle.pg_core.proofs.Events.{StepsTell-from_Reaches, restored_was_lost}
+use Rattle.pg_machine.specs.Machine.{RestoresFollowLosses, StepsTell, first_state}
+use Rattle.pg_machine.proofs.LawsMachine.{StepsTell-from_Reaches, restored_was_lost}
 use Rattle.pg_core.proofs.running.Core.history.Goals as goal
 
 pub returns-clause-restores : goal.returns-clause-restores

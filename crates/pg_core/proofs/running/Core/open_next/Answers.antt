@@ -1,9 +1,9 @@
 use Rattle.std.proofs.Common.{◌≡◌, ◌+◌, ◌<◌, [], ◌∷◌, ◌++◌, true, length, sym, ap, ◌∙◌, subst, arith}
 use Rattle.std.proofs.lemmas.List.{length_push}
-use Rattle.pg_core.specs.Machine.{after, is_allowed}
+use Rattle.pg_machine.specs.Machine.{after, is_allowed}
 use Rattle.pg_core.specs.Progress.{IsLawful}
-use Rattle.pg_core.specs.declared.event.Closed.TheVariants.{Next}
-use Rattle.pg_core.specs.declared.event.Event.TheVariants.{Close}
+use Rattle.pg_machine.specs.declared.event.Closed.TheVariants.{Next}
+use Rattle.pg_machine.specs.declared.event.Event.TheVariants.{Close}
 use Rattle.pg_core.proofs.Ends.{IsLawful-next, IsLawful-shown}
 use Rattle.pg_core.proofs.running.Core.open_next.Goals as goal
 

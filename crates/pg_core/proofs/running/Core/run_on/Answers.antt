@@ -1,9 +1,9 @@
 use Rattle.std.proofs.Common.{ℕ, ◌+◌, sym, ap, ◌∙◌, subst, subst₂}
 use Rattle.pg_core.specs.Closing.{HasClosed}
 use Rattle.pg_core.specs.Driving.{ArePast}
-use Rattle.pg_core.proofs.Near.{AreNear-from_Reaches}
+use Rattle.pg_machine.proofs.LawsNear.{AreNear-from_Reaches}
 use Rattle.pg_core.proofs.Onward.{goes_by_close, goes_further, may_close_now, past_close}
-use Rattle.pg_core.proofs.Steps.{length-places_lawful}
+use Rattle.pg_machine.proofs.LawsSteps.{length-places_lawful}
 use Rattle.pg_core.proofs.running.Core.run_on.Goals as goal
 
 pub close-requires-after_bounds : goal.close-requires-after_bounds

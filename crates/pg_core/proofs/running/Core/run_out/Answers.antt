@@ -1,6 +1,6 @@
 use Rattle.std.proofs.Common.{◌<◌, ap, ◌∙◌, subst, arith}
-use Rattle.pg_core.specs.Machine.{place_at}
-use Rattle.pg_core.proofs.Events.{place_at_end, starts_at}
+use Rattle.pg_machine.specs.Machine.{place_at}
+use Rattle.pg_machine.proofs.LawsMachine.{place_at_end, starts_at}
 use Rattle.pg_core.proofs.Onward.{counted_at_end, counted_from_first}
 use Rattle.pg_core.proofs.running.Core.run_out.Goals as goal
 

@@ -1,7 +1,7 @@
 use Rattle.std.proofs.Common.{◌≡◌, length, sym, ap, ◌∙◌, subst}
-use Rattle.pg_core.specs.Machine.{place_at}
+use Rattle.pg_machine.specs.Machine.{place_at}
 use Rattle.pg_core.proofs.Onward.{goes_by_step, past_step, ready_there, same_place}
-use Rattle.pg_core.proofs.Steps.{length-places_lawful}
+use Rattle.pg_machine.proofs.LawsSteps.{length-places_lawful}
 use Rattle.pg_core.proofs.running.Core.step_at.Goals as goal
 
 pub step_ready-requires-after_bounds : goal.step_ready-requires-after_bounds

@@ -1,7 +1,8 @@
 use Rattle.std.proofs.Common.{◌≡◌, ℕ, ◌+◌, Option, sym, ◌∙◌, subst, subst₂}
 use Rattle.std.proofs.lemmas.Result.{on_ok_weaker}
+use Rattle.std.proofs.lemmas.Option.{same_Some}
 use Rattle.pg_core.specs.Progress.{IsRight, IsStepLent, IsStepOf, TakesIn, job_by, without_part}
-use Rattle.pg_core.proofs.Steps.{HasMadeStep-from_TakesIn, IsStepLent-without, IsStepOf-from_HasMadeStep, one_of}
+use Rattle.pg_core.proofs.Steps.{HasMadeStep-from_TakesIn, IsStepLent-without, IsStepOf-from_HasMadeStep}
 use Rattle.pg_graph.specs.Rows.{Rows}
 use Rattle.pg_model.specs.Needed.{needed_in}
 use Rattle.pg_model.specs.Share.{belongs}
@@ -67,7 +68,7 @@ returns-in-Ok-clause-counted g c =
     let job = job_by g.P.Computation.program g.C.MessageCombiner.combining g.M.MasterCompute.master core in
     on_ok_weaker c.stepped.result
     (λ takes kept r right at.
-    let same = one_of c.take-part.result.course.place r (sym c.take-part.ensures.at.place_is ∙ at) in
+    let same = same_Some c.take-part.result.course.place r (sym c.take-part.ensures.at.place_is ∙ at) in
     subst (λ (r : ℕ). c.step_of.new.meter ≡ capped (c.args.meter.now + needed_in g.P.Value.PartialEq.eq g.P.Message.PartialEq.eq job kept core.graph (belongs core.limits.partitions c.args.partition) r)) same
     (stepped g c kept right).course.counted)
     c.stepped.ensures.core

@@ -1,9 +1,10 @@
 use Rattle.std.proofs.Common.{◌≡◌, ℕ, ◌+◌, ◌++◌, ◌∷◌, [], true, length, take, Some, option_map, ap, sym, ◌∙◌, subst, arith}
-use Rattle.pg_core.specs.Machine.{after, is_allowed}
+use Rattle.pg_machine.specs.Machine.{after, is_allowed}
 use Rattle.pg_core.specs.Progress.{HasPut, IsLawful, IsNext, job_by, with_step}
-use Rattle.pg_core.specs.declared.event.Event.TheVariants.{Step}
-use Rattle.pg_core.proofs.Steps.{IsLawful-step, IsRight-step, StepsFrom-from_allowed, length-places_lawful, part_within}
-use Rattle.pg_core.proofs.Events.{some_within}
+use Rattle.pg_machine.specs.declared.event.Event.TheVariants.{Step}
+use Rattle.pg_core.proofs.Steps.{IsLawful-step, IsRight-step, part_within}
+use Rattle.pg_machine.proofs.LawsSteps.{StepsFrom-from_allowed, length-places_lawful}
+use Rattle.pg_machine.proofs.LawsMachine.{some_within}
 use Rattle.pg_core.proofs.running.Core.stepped.Goals as goal
 
 pub step-requires : goal.step-requires

@@ -2,11 +2,13 @@ use Rattle.std.proofs.Common.{◌≡◌, ℕ, ◌<◌, ◌≤◌, List, arith, t
 use Rattle.std.specs.Option.{IsSome}
 use Rattle.std.proofs.lemmas.Bool.{and_parts}
 use Rattle.std.proofs.lemmas.List.{get_or-set_same}
-use Rattle.pg_core.specs.Machine.{is_allowed}
+use Rattle.std.proofs.lemmas.Option.{same_Some}
+use Rattle.pg_machine.specs.Machine.{is_allowed}
 use Rattle.pg_core.specs.Progress.{IsLawful, IsPartAt, IsRight, is_ready, job_by, part_at, without_part}
-use Rattle.pg_core.specs.declared.event.Event.TheVariants.{Step}
+use Rattle.pg_machine.specs.declared.event.Event.TheVariants.{Step}
 use Rattle.pg_core.proofs.Parts.{here_is, some_inside}
-use Rattle.pg_core.proofs.Steps.{StepsFrom-from_allowed, one_of, IsLawful-take, IsRight-take, IsStepLent-taken, length-places_lawful}
+use Rattle.pg_core.proofs.Steps.{IsLawful-take, IsRight-take, IsStepLent-taken}
+use Rattle.pg_machine.proofs.LawsSteps.{StepsFrom-from_allowed, length-places_lawful}
 use Rattle.pg_core.proofs.running.Core.take.Goals as goal
 
 pub invariant_of-self : goal.invariant_of-self
@@ -86,7 +88,7 @@ returns-clause-reached g c =
     let p = c.args.partition in
     let at = returns-clause-at g c in
     let steps = StepsFrom-from_allowed core.state p (and_parts (is_allowed core.state (Step p)) _ c.requires).0 in
-    let same = one_of steps.from c.unwrap.result.course.place (sym steps.at ∙ at.place_is) in
+    let same = same_Some steps.from c.unwrap.result.course.place (sym steps.at ∙ at.place_is) in
     omega (arith, steps.open_or_before, same)
 
 pub returns-clause-small : goal.returns-clause-small

@@ -2,10 +2,10 @@
 use Rattle.std.specs.Prelude.{◌≡◌, ℕ, ◌+◌, ◌%◌, ◌==◌, ◌<◌, nat_lt, nat_le, Bool, true, false, cond, not, ◌||◌, ◌&&◌, List, [], ◌∷◌, ◌++◌, map, length, slice_index_or, slice_set, Option, None, Some, is_some}
 use Rattle.std.specs.List.{list_all, range_with_len, count_by}
 use Rattle.std.specs.Option.{option_map}
-use Rattle.pg_core.specs.declared.event.Closed.{Closed}
-use Rattle.pg_core.specs.declared.event.Closed.TheVariants.{Next, Ended}
-use Rattle.pg_core.specs.declared.event.Event.{Event}
-use Rattle.pg_core.specs.declared.event.Event.TheVariants.{Step, Lose, Host, Restore, Save, Close}
+use Rattle.pg_machine.specs.declared.event.Closed.{Closed}
+use Rattle.pg_machine.specs.declared.event.Closed.TheVariants.{Next, Ended}
+use Rattle.pg_machine.specs.declared.event.Event.{Event}
+use Rattle.pg_machine.specs.declared.event.Event.TheVariants.{Step, Lose, Host, Restore, Save, Close}
 
 -- by partition the worker that hosts it, the superstep that it is at (none where it is lost) and the one that was saved;
 -- the open superstep; by worker whether it is alive; whether the run has ended

@@ -4,12 +4,13 @@ use Rattle.std.specs.Prelude.{◌==◌}
 use Rattle.std.specs.List.{range_with_len}
 use Rattle.std.specs.Option.{option_map}
 use Rattle.std.proofs.lemmas.Bool.{and_parts, eqb-true}
-use Rattle.pg_core.specs.Machine.{Reaches, State, after, after_all, are_allowed, first_state, host_of, is_alive, is_allowed, is_at, is_partition, place_at, places_without, saved_at}
-use Rattle.pg_core.specs.declared.event.Closed.TheVariants.{Next, Ended}
-use Rattle.pg_core.specs.declared.event.Event.{Event}
-use Rattle.pg_core.specs.declared.event.Event.TheVariants.{Step, Lose, Host, Restore, Save, Close}
-use Rattle.pg_core.proofs.Events.{at_superstep}
-use Rattle.pg_core.proofs.Steps.{StepsFrom-from_allowed, one_of}
+use Rattle.std.proofs.lemmas.Option.{same_Some}
+use Rattle.pg_machine.specs.Machine.{Reaches, State, after, after_all, are_allowed, first_state, host_of, is_alive, is_allowed, is_at, is_partition, place_at, places_without, saved_at}
+use Rattle.pg_machine.specs.declared.event.Closed.TheVariants.{Next, Ended}
+use Rattle.pg_machine.specs.declared.event.Event.{Event}
+use Rattle.pg_machine.specs.declared.event.Event.TheVariants.{Step, Lose, Host, Restore, Save, Close}
+use Rattle.pg_machine.proofs.LawsMachine.{at_superstep}
+use Rattle.pg_machine.proofs.LawsSteps.{StepsFrom-from_allowed}
 
 -- all places of a list are at most this
 abbrev AreAtMost : ℕ → List (Option ℕ) → Type 0
@@ -47,7 +48,8 @@ AreNear-after state (Step p) allowed near =
     let steps = StepsFrom-from_allowed state p allowed in
     record {
       places = AreAtMost-set (state.current + 1) state.places p (option_map (λ r. r + 1) (place_at p state)) near.places
-          (λ r at. let is : steps.from + 1 ≡ r = one_of (steps.from + 1) r (sym (ap (option_map (λ r. r + 1)) steps.at) ∙ at) in omega (arith, is, steps.open_or_before));
+          (λ r at. let is : steps.from + 1 ≡ r = same_Some (steps.from + 1) r (sym (ap (option_map (λ r. r + 1)) steps.at) ∙ at) in omega
+              (arith, is, steps.open_or_before));
       saved = near.saved;
     }
 AreNear-after state (Lose w) allowed near = record { places = AreAtMost-without (state.current + 1) w state.hosts state.places near.places; saved = near.saved }
@@ -57,17 +59,25 @@ AreNear-after state (Restore p r) allowed near =
     let alive : Bool = is_alive (host_of p state) state in
     let lost : Bool = not (is_some (place_at p state)) in
     let may : (is_partition p state && (lost && (alive && last))) ≡ true = (and_parts (not state.ended) _ allowed).1 in
-    let least : r ≤ state.current + 1 = by (r == 0) refl (and_parts alive last (and_parts lost (alive && last) (and_parts (is_partition p state) (lost && (alive && last)) may).1).1).1 in
+    let least : r ≤ state.current + 1 =
+        by (r == 0) refl (and_parts alive last (and_parts lost (alive && last) (and_parts (is_partition p state) (lost && (alive && last)) may).1).1).1 in
     record {
-      places = AreAtMost-set (state.current + 1) state.places p (Some r) near.places (λ s at. subst (λ (k : ℕ). k ≤ state.current + 1) (one_of r s at) least);
+      places =
+          AreAtMost-set (state.current + 1) state.places p (Some r) near.places (λ s at. subst (λ (k : ℕ). k ≤ state.current + 1) (same_Some r s at) least);
       saved = near.saved;
     }
   where
     by : (b : Bool) → (r == 0) ≡ b → (b || is_at r (saved_at p state)) ≡ true → r ≤ state.current + 1
     by true zero_is h = let is : r ≡ 0 = eqb-true r 0 zero_is in omega (arith, is)
     by false other h = near.saved p r (at_superstep r (saved_at p state) h)
-AreNear-after state (Save p) allowed near = record { places = near.places; saved = AreAtMost-set (state.current + 1) state.saved p (place_at p state) near.saved (near.places p) }
-AreNear-after state (Close Next) allowed near = record { places = λ p r at. omega (arith, near.places p r at); saved = λ p r at. omega (arith, near.saved p r at) }
+AreNear-after state (Save p) allowed near = record {
+  places = near.places;
+  saved = AreAtMost-set (state.current + 1) state.saved p (place_at p state) near.saved (near.places p);
+}
+AreNear-after state (Close Next) allowed near = record {
+  places = λ p r at. omega (arith, near.places p r at);
+  saved = λ p r at. omega (arith, near.saved p r at);
+}
 AreNear-after state (Close Ended) allowed near = record { places = near.places; saved = near.saved }
 
 AreNear-after_all : (state : State) (events : List Event) → are_allowed state events ≡ true → AreNear state → AreNear (after_all state events)
@@ -78,7 +88,7 @@ AreNear-after_all state (e ∷ es) allowed near =
 
 AreNear-first : (partitions workers : ℕ) → AreNear (first_state partitions workers)
 AreNear-first partitions workers = record {
-  places = AreAtMost-made 1 (λ p. Some 0) (λ p r at. let is : 0 ≡ r = one_of 0 r at in omega (arith, is)) 0 partitions;
+  places = AreAtMost-made 1 (λ p. Some 0) (λ p r at. let is : 0 ≡ r = same_Some 0 r at in omega (arith, is)) 0 partitions;
   saved = AreAtMost-made 1 (λ p. None) (λ p r at. absurd (let k : None ≡ Some r = at in cc)) 0 partitions;
 }
 

@@ -1,6 +1,6 @@
 //! The numbers of a run over partitions.
 ghost use Rattle.std.specs.Prelude.{◌≡◌, ◌<◌, ◌≤◌, ◌↔◌, IsSome, IfSome};
-ghost use Rattle.pg_core.specs.Limits.{AreLimits};
+ghost use Rattle.pg_machine.specs.Limits.{AreLimits};
 ghost use Rattle.pg_graph.specs.declared.missing.Missing.TheVariants.{Drop as DropThem};
 
 use pg_graph::Missing;
@@ -19,7 +19,7 @@ pub struct Limits {
 }
 
 impl Model for Limits {
-    ghost use Rattle.pg_core.specs.Limits.{AreLimits, Limits};
+    ghost use Rattle.pg_machine.specs.Limits.{AreLimits, Limits};
 
     ghost Value = { Limits };
 

@@ -2,9 +2,9 @@
 ghost use Rattle.std.specs.Prelude.{◌≡◌, ◌+◌, ◌%◌, ◌<◌, ◌^◌, map, Some, IfOk};
 ghost use Rattle.std.specs.List.{list_all, range_with_len};
 ghost use Rattle.std.specs.Option.{option_map};
-ghost use Rattle.pg_core.specs.Machine.{after, first_state, host_of, is_allowed, is_at, is_from as from_test, place_at};
-ghost use Rattle.pg_core.specs.declared.event.Closed.{Closed};
-ghost use Rattle.pg_core.specs.declared.event.Event.{Event};
+ghost use Rattle.pg_machine.specs.Machine.{after, first_state, host_of, is_allowed, is_at, is_from as from_test, place_at};
+ghost use Rattle.pg_machine.specs.declared.event.Closed.{Closed};
+ghost use Rattle.pg_machine.specs.declared.event.Event.{Event};
 
 use crate::Closed;
 use pg_graph::{Memory, PartitionId, Superstep, WorkerId};
@@ -12,7 +12,6 @@ use std::alloc::Global;
 use std::marker::Model;
 
 /// Where a run over partitions stands between two events.
-#[derive(Drop)]
 pub struct State {
     hosts: Vec<WorkerId>,
     places: Vec<Option<Superstep>>,
@@ -22,8 +21,22 @@ pub struct State {
     ended: bool,
 }
 
+// By hand, so that it is let go by one call wherever that is, and not field by field.
+impl Drop for State {
+    fn drop(self) {
+        let State {
+            hosts: _,
+            places: _,
+            saved: _,
+            current: _,
+            alive: _,
+            ended: _,
+        } = self;
+    }
+}
+
 impl Model for State {
-    ghost use Rattle.pg_core.specs.Machine.{State};
+    ghost use Rattle.pg_machine.specs.Machine.{State};
 
     ghost Value = { State };
 
@@ -127,7 +140,7 @@ impl State {
     }
 
     /// As a run begins.
-    pub(crate) fn first(alloc: Global, partitions: u32, workers: u32) -> Result<State, Memory>
+    pub fn first(alloc: Global, partitions: u32, workers: u32) -> Result<State, Memory>
         requires { 0 < workers }
         ensures { IfOk result (λ state. state ≡ first_state partitions workers) }
     {
@@ -142,7 +155,7 @@ impl State {
     }
 
     /// A partition has made a step.
-    pub(crate) fn step(&mut self, partition: PartitionId, next: Superstep)
+    pub fn step(&mut self, partition: PartitionId, next: Superstep)
         requires { option_map (λ r. r + 1) (place_at partition self.old) ≡ Some next }
         ensures { self.new ≡ after self.old (Event.Step partition) }
     {
@@ -153,7 +166,7 @@ impl State {
     }
 
     /// The open superstep was closed.
-    pub(crate) fn close(&mut self, closed: Closed)
+    pub fn close(&mut self, closed: Closed)
         requires { self.old.current + 1 < 2 ^ 32 }
         ensures { self.new ≡ after self.old (Event.Close closed) }
     {

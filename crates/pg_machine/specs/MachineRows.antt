@@ -1,9 +1,9 @@
 -- Worked rows, by computation.
 use Rattle.std.specs.Prelude.{◌≡◌, true, false, List, [], ◌∷◌, None, Some, refl}
-use Rattle.pg_core.specs.Machine.{State, after_all, are_allowed, first_state, is_allowed, was_lost, steps_of}
-use Rattle.pg_core.specs.declared.event.Closed.TheVariants.{Next, Ended}
-use Rattle.pg_core.specs.declared.event.Event.{Event}
-use Rattle.pg_core.specs.declared.event.Event.TheVariants.{Step, Lose, Host, Restore, Save, Close}
+use Rattle.pg_machine.specs.Machine.{State, after_all, are_allowed, first_state, is_allowed, was_lost, steps_of}
+use Rattle.pg_machine.specs.declared.event.Closed.TheVariants.{Next, Ended}
+use Rattle.pg_machine.specs.declared.event.Event.{Event}
+use Rattle.pg_machine.specs.declared.event.Event.TheVariants.{Step, Lose, Host, Restore, Save, Close}
 
 -- three partitions on two workers, of which one falls in superstep 1: its partition begins anew on the other
 abbrev one_loss : List Event

@@ -7,10 +7,10 @@ use Rattle.std.proofs.lemmas.Bool.{and_parts, and_from, or_parts, cond-false, eq
 use Rattle.std.proofs.lemmas.List.{length-set, get_or-set_same, get_or-set_other, get_or_past}
 use Rattle.std.proofs.lemmas.List.FromFn.{get_or-map-range_with_len, length-map-range_with_len}
 use Rattle.std.proofs.lemmas.List.Sums.{AllPass-from_list_all, sum_by-cons}
-use Rattle.pg_core.specs.Machine.{State, first_state, place_at, is_at, may_happen, is_allowed, places_without, after, after_all, are_allowed, Reaches, takes, was_lost, is_step, steps_of, RestoresFollowLosses, StepsTell}
-use Rattle.pg_core.specs.declared.event.Closed.TheVariants.{Next, Ended}
-use Rattle.pg_core.specs.declared.event.Event.{Event}
-use Rattle.pg_core.specs.declared.event.Event.TheVariants.{Step, Lose, Host, Restore, Save, Close}
+use Rattle.pg_machine.specs.Machine.{State, first_state, place_at, is_at, may_happen, is_allowed, places_without, after, after_all, are_allowed, Reaches, takes, was_lost, is_step, steps_of, RestoresFollowLosses, StepsTell}
+use Rattle.pg_machine.specs.declared.event.Closed.TheVariants.{Next, Ended}
+use Rattle.pg_machine.specs.declared.event.Event.{Event}
+use Rattle.pg_machine.specs.declared.event.Event.TheVariants.{Step, Lose, Host, Restore, Save, Close}
 
 -- ---- lists of events
 
@@ -18,10 +18,12 @@ after_all-push : (state : State) (events : List Event) (event : Event) → after
 after_all-push state [] event = refl
 after_all-push state (e ∷ es) event = after_all-push (after state e) es event
 
-are_allowed-append : (state : State) (before later : List Event) → are_allowed state (before ++ later) ≡ (are_allowed state before && are_allowed (after_all state before) later)
+are_allowed-append : (state : State) (before later : List Event)
+    → are_allowed state (before ++ later) ≡ (are_allowed state before && are_allowed (after_all state before) later)
 are_allowed-append state [] later = refl
 are_allowed-append state (e ∷ es) later =
-    elim (is_allowed state e) as (λ b. (b && are_allowed (after state e) (es ++ later)) ≡ ((b && are_allowed (after state e) es) && are_allowed (after_all (after state e) es) later)) [
+    elim (is_allowed state e) as
+        (λ b. (b && are_allowed (after state e) (es ++ later)) ≡ ((b && are_allowed (after state e) es) && are_allowed (after_all (after state e) es) later)) [
       | true ↦ are_allowed-append (after state e) es later
       | false ↦ refl
     ]
@@ -31,7 +33,8 @@ pub Reaches-none : (state : State) → Reaches state [] state
 Reaches-none state = record { allowed = refl; leads = refl }
 
 -- one more event
-pub Reaches-push : (from to : State) (events : List Event) (event : Event) → Reaches from events to → is_allowed to event ≡ true → Reaches from (events ++ event ∷ []) (after to event)
+pub Reaches-push : (from to : State) (events : List Event) (event : Event) → Reaches from events to → is_allowed to event ≡ true
+    → Reaches from (events ++ event ∷ []) (after to event)
 Reaches-push from to events event r allowed = record {
   allowed = are_allowed-append from events (event ∷ [])
       ∙ and_from _ _ r.allowed (and_from _ _ (subst (λ (state : State). is_allowed state event ≡ true) (sym r.leads) allowed) refl);
@@ -68,7 +71,8 @@ length-places_all state [] = refl
 length-places_all state (e ∷ es) = length-places_all (after state e) es ∙ length-places state e
 
 -- a partition that another worker hosts stays where it is
-place_without : (w p : ℕ) (hosts : List ℕ) (places : List (Option ℕ)) → (slice_index_or hosts p 0 == w) ≡ false → get_or (places_without w hosts places) p None ≡ get_or places p None
+place_without : (w p : ℕ) (hosts : List ℕ) (places : List (Option ℕ)) → (slice_index_or hosts p 0 == w) ≡ false
+    → get_or (places_without w hosts places) p None ≡ get_or places p None
 place_without w p [] places e = refl
 place_without w p (host ∷ hosts) [] e = refl
 place_without w zero (host ∷ hosts) (place ∷ places) e = cond-false (host == w) None place e
@@ -84,7 +88,8 @@ some_within xs p x e =
 
 -- how far one event takes a partition
 module _ (p k : ℕ) where
-  place_after : (state : State) (event : Event) → is_allowed state event ≡ true → takes p state event ≡ false → place_at p state ≡ Some k → place_at p (after state event) ≡ Some (k + cond (is_step p event) 1 0)
+  place_after : (state : State) (event : Event) → is_allowed state event ≡ true → takes p state event ≡ false → place_at p state ≡ Some k
+      → place_at p (after state event) ≡ Some (k + cond (is_step p event) 1 0)
   place_after state (Step q) allowed kept here =
       elim (cases_eq q p) [
         | inl same ↦ (
@@ -109,14 +114,17 @@ module _ (p k : ℕ) where
   place_after state (Restore q r) allowed kept here =
       let none : k ≡ k + 0 = omega arith in
       let lost : not (is_some (place_at q state)) ≡ true = (and_parts _ _ (and_parts _ _ (and_parts _ _ allowed).1).1).0 in
-      let apart : p ≢ q = λ e. let there : is_some (place_at q state) ≡ true = ap (λ (q : ℕ). is_some (place_at q state)) (sym e) ∙ ap is_some here in true≢false (sym there ∙ not-true _ lost) in
+      let apart : p ≢ q =
+          λ e. let there : is_some (place_at q state) ≡ true = ap (λ (q : ℕ). is_some (place_at q state)) (sym e)
+          ∙ ap is_some here in true≢false (sym there ∙ not-true _ lost) in
       get_or-set_other state.places q p _ None apart ∙ (here ∙ ap Some none)
   place_after state (Save q) allowed kept here = let none : k ≡ k + 0 = omega arith in here ∙ ap Some none
   place_after state (Close Next) allowed kept here = let none : k ≡ k + 0 = omega arith in here ∙ ap Some none
   place_after state (Close Ended) allowed kept here = let none : k ≡ k + 0 = omega arith in here ∙ ap Some none
 
 -- a partition that no event takes goes as far as it makes steps
-place_by_steps_from : (p k : ℕ) (state : State) (events : List Event) → are_allowed state events ≡ true → was_lost p state events ≡ false → place_at p state ≡ Some k → place_at p (after_all state events) ≡ Some (k + steps_of p events)
+place_by_steps_from : (p k : ℕ) (state : State) (events : List Event) → are_allowed state events ≡ true → was_lost p state events ≡ false
+    → place_at p state ≡ Some k → place_at p (after_all state events) ≡ Some (k + steps_of p events)
 place_by_steps_from p k state [] allowed kept here = let none : k ≡ k + 0 = omega arith in here ∙ ap Some none
 place_by_steps_from p k state (e ∷ es) allowed kept here =
     let a : (is_allowed state e ≡ true) × (are_allowed (after state e) es ≡ true) = and_parts _ _ allowed in
@@ -135,13 +143,15 @@ module _ (partitions workers : ℕ) where
   length-first = length-map-range_with_len (λ (p : ℕ). Some 0) 0 partitions
 
   -- a partition that was not lost is at its number of steps
-  pub place_by_steps : (p : ℕ) (events : List Event) (to : State) → Reaches (first_state partitions workers) events to → p < partitions → was_lost p (first_state partitions workers) events ≡ false → place_at p to ≡ Some (steps_of p events)
+  pub place_by_steps : (p : ℕ) (events : List Event) (to : State) → Reaches (first_state partitions workers) events to → p < partitions
+      → was_lost p (first_state partitions workers) events ≡ false → place_at p to ≡ Some (steps_of p events)
   place_by_steps p events to r within kept =
       ap (place_at p) (sym r.leads)
       ∙ (place_by_steps_from p 0 (first_state partitions workers) events r.allowed kept (starts_at p within) ∙ ap Some (zero-add (steps_of p events)))
 
   -- each Restore follows a Lose that took its partition
-  pub restored_was_lost : (events : List Event) (to : State) → Reaches (first_state partitions workers) events to → RestoresFollowLosses (first_state partitions workers) events
+  pub restored_was_lost : (events : List Event) (to : State) → Reaches (first_state partitions workers) events to
+      → RestoresFollowLosses (first_state partitions workers) events
   restored_was_lost events to reaches p r before later is =
       let from : State = first_state partitions workers in
       let at : State = after_all from before in
@@ -187,8 +197,10 @@ module _ (partitions workers : ℕ) (events : List Event) (to : State) (reaches 
   pub place_at_end : to.ended ≡ true → (p : ℕ) → p < partitions → place_at p to ≡ Some (to.current + 1)
   place_at_end ended p within =
       let from : State = first_state partitions workers in
-      let together : EndsTogether to = subst EndsTogether reaches.leads (EndsTogether-after_all from events (λ e. absurd (true≢false (sym e))) reaches.allowed) in
-      let many : length to.places ≡ partitions = ap (λ (s : State). length s.places) (sym reaches.leads) ∙ (length-places_all from events ∙ length-first partitions workers) in
+      let together : EndsTogether to =
+          subst EndsTogether reaches.leads (EndsTogether-after_all from events (λ e. absurd (true≢false (sym e))) reaches.allowed) in
+      let many : length to.places ≡ partitions =
+          ap (λ (s : State). length s.places) (sym reaches.leads) ∙ (length-places_all from events ∙ length-first partitions workers) in
       at_superstep (to.current + 1) (place_at p to)
       (AllPass-from_list_all (is_at (to.current + 1)) to.places (together ended) p None (subst (λ (n : ℕ). p < n) (sym many) within))
 
@@ -196,6 +208,7 @@ module _ (partitions workers : ℕ) (events : List Event) (to : State) (reaches 
   StepsTell-from_Reaches = record {
     place = λ p within kept. place_by_steps partitions workers p events to reaches within kept;
     all = λ ended p within kept.
-        let here : Some (steps_of p events) ≡ Some (to.current + 1) = sym (place_by_steps partitions workers p events to reaches within kept) ∙ place_at_end ended p within in
+        let here : Some (steps_of p events) ≡ Some (to.current + 1) =
+            sym (place_by_steps partitions workers p events to reaches within kept) ∙ place_at_end ended p within in
         cc;
   }

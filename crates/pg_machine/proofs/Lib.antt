@@ -1,0 +1,3 @@
+pub mod LawsMachine
+pub mod LawsNear
+pub mod LawsSteps
