@@ -3,7 +3,7 @@ use Rattle.std.proofs.lemmas.List.{nil_from_length}
 use Rattle.std.specs.List.Sorted.{IsPartitionPoint}
 use Rattle.pg_map.specs.Entries.{with_changes}
 use Rattle.pg_graph.specs.Changes.{degree_of}
-use Rattle.pg_graph.specs.RowEdit.{source_of, vertex_after}
+use Rattle.pg_edits.specs.RowEdit.{source_of, vertex_after}
 use Rattle.pg_graph.specs.Grouped.{AreDealt, AreMade}
 use Rattle.pg_graph.specs.Rows.{edge_count, row_at}
 use Rattle.pg_graph.proofs.Dealing.{all_made, IsTurn, fewer_left, no_changes, none_dealt, row_found, fault_found, not_changed, next_counted, degree_fits}
