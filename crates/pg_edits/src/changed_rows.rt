@@ -16,12 +16,23 @@ const FULL: usize = 4096;
 
 /// What becomes of vertices: a row, or none. The last rows wait until the list of their edges is whole,
 /// which each has for itself where the edges aren't gathered. A contract sees all so far.
-#[derive(Drop)]
 pub struct ChangedRows {
     gathers: bool,
     done: Vec<(VertexId, Option<Row>)>,
     waiting: Vec<Waiting>,
     edges: Vec<(VertexId, i64)>,
+}
+
+// By hand, so that it is let go by one call wherever that is, and not field by field.
+impl Drop for ChangedRows {
+    fn drop(self) {
+        let ChangedRows {
+            gathers: _,
+            done: _,
+            waiting: _,
+            edges: _,
+        } = self;
+    }
 }
 
 impl Model for ChangedRows {
@@ -51,12 +62,7 @@ impl ChangedRows {
     }
 
     /// Adds what becomes of a vertex.
-    pub fn push(
-        &mut self,
-        alloc: Global,
-        id: VertexId,
-        row: Option<DraftRow>,
-    ) -> Result<(), Memory>
+    pub fn push(&mut self, alloc: Global, id: VertexId, row: Option<DraftRow>) -> Result<(), Memory>
         ensures { OnOk result (self.new ≡ self.old ++ (id, row) ∷ []) }
     {
         match row {

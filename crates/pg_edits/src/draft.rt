@@ -98,10 +98,16 @@ impl DraftEdges {
 
 /// A row that is being edited. With d edges, all edits of it together cost O(d log d), and each of
 /// them O(log d) beside. A contract sees the row.
-#[derive(Drop)]
 pub struct DraftRow {
     input: i64,
     edges: DraftEdges,
+}
+
+// By hand, so that it is let go by one call wherever that is, and not field by field.
+impl Drop for DraftRow {
+    fn drop(self) {
+        let DraftRow { input: _, edges: _ } = self;
+    }
 }
 
 impl Model for DraftRow {
@@ -192,12 +198,7 @@ impl DraftRow {
     }
 
     /// The row with the edge to `target`, in the place of the one that was there.
-    pub fn with_edge(
-        self,
-        alloc: Global,
-        target: VertexId,
-        weight: i64,
-    ) -> Result<DraftRow, Memory>
+    pub fn with_edge(self, alloc: Global, target: VertexId, weight: i64) -> Result<DraftRow, Memory>
         ensures value { IfOk result (λ row. row ≡ record self { edges = with_edge target weight self.edges }) }
         ensures degree { IfOk result
             (λ row. length row.edges + (if is_some (weight_at target self.edges) then 1 else 0)

@@ -10,5 +10,5 @@ loop-target-preserved c =
     let edge = c.loop-target-item.result in
     let last = ap (with_edge edge.0 edge.1) c.loop-target.invariant
     ∙ insert_entry-take c.args.edges.now c.loop-target.target-index edge c.requires c.loop-target-test.true c.loop-target-item.is in
-    let put = c.in_ok-insert.ensures.ok in
+    let inserted = c.in_ok-insert.ensures.entries in
     grind (arith, common_steps, to_z-of_z)
