@@ -7,4 +7,3 @@ pub mod EditKind
 pub mod Packing
 pub mod Places
 pub mod RowEdit
-pub use Rattle.pg_map.specs.Entries

@@ -48,8 +48,8 @@ impl Model for ChangedRows {
 }
 
 impl ChangedRows {
-    /// None yet. A list that many rows share stays until none of them is left: so it is for batches
-    /// after which rows are laid anew.
+    /// None yet. Where edges are gathered, many rows share a list, which stays until none of them is
+    /// left: so that is for changes after which rows are laid anew.
     pub fn new(alloc: Global, gathers: bool) -> ChangedRows
         ensures { result ≡ [] }
     {

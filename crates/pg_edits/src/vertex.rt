@@ -1,4 +1,4 @@
-//! What edits make of one vertex. Where they have no result, the inner result says why.
+//! What edits make of one vertex.
 ghost use Rattle.std.specs.Prelude.{◌≡◌, IfOk};
 ghost use Rattle.std.specs.Option.{option_copied};
 ghost use Rattle.pg_edits.specs.RowEdit.{row_edited, vertex_after, vertex_edited};
@@ -6,7 +6,9 @@ ghost use Rattle.pg_edits.specs.RowEdit.{row_edited, vertex_after, vertex_edited
 use crate::{DraftRow, Edit, EditFault, EditKind, Memory, Row};
 use std::alloc::Global;
 
-/// What all edits of one vertex make of its row, if it has one.
+/// What edits of one vertex, with their places, make of its row, if it has one, one after another. The
+/// inner result is the first of them that has no result, where there is one, and why; what the limits of
+/// a graph forbid isn't asked here.
 pub fn vertex_after(
     alloc: Global,
     row: Option<&Row>,
@@ -30,7 +32,7 @@ pub fn vertex_after(
     Ok(Ok(draft))
 }
 
-/// What one edit makes of a row, or of none.
+/// What one edit makes of a row, or of none. Where it has no result, the inner result says why.
 fn vertex_edited(
     alloc: Global,
     row: Option<DraftRow>,
@@ -47,7 +49,7 @@ fn vertex_edited(
     }
 }
 
-/// What one edit makes of a row that is there.
+/// The same of a row that is there.
 fn row_edited(
     alloc: Global,
     row: DraftRow,

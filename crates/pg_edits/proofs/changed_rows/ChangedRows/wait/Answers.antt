@@ -14,7 +14,10 @@ invariant_of-self-2 c =
 
 pub returns : goal.returns
 returns c =
+    let waiting = c.self.inside.waiting.items in
+    let edges = c.self.inside.edges.items in
+    let done = c.self.inside.done.items in
     rw (c.in_ok-push.ensures.items, c.in_ok-extend_from_slice.ensures.items, ← c.self.view_is)
-    (ap (λ rows. c.self.inside.done.items ++ rows) (changes_push c.self.inside.waiting.items c.self.inside.edges.items c.args.edges.now _ c.self.invariant (search rules) (search rules))
-    ∙ sym (append_assoc c.self.inside.done.items (changes_of c.self.inside.waiting.items c.self.inside.edges.items) _)
-    ∙ ap (λ row. (c.self.inside.done.items ++ changes_of c.self.inside.waiting.items c.self.inside.edges.items) ++ (c.args.id, Some row) ∷ []) (search rules))
+    (ap (λ rows. done ++ rows) (changes_push waiting edges c.args.edges.now _ c.self.invariant (search rules) (search rules))
+    ∙ sym (append_assoc done (changes_of waiting edges) _)
+    ∙ ap (λ row. (done ++ changes_of waiting edges) ++ (c.args.id, Some row) ∷ []) (search rules))

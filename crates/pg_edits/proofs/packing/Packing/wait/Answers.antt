@@ -9,12 +9,17 @@ invariant_of-self-in_err-push c =
 
 pub invariant_of-self-2 : goal.invariant_of-self-2
 invariant_of-self-2 c =
+    let waiting = c.self.inside.waiting.items in
+    let edges = c.self.inside.edges.items in
     rw (c.in_ok-push.ensures.items, c.in_ok-extend_from_slice.ensures.items)
-    (parts_push c.self.inside.waiting.items c.self.inside.edges.items c.as_slice-edges.result.now _ c.self.invariant (search rules) (search rules) c.as_slice-edges.ensures.rising)
+    (parts_push waiting edges c.as_slice-edges.result.now _ c.self.invariant (search rules) (search rules) c.as_slice-edges.ensures.rising)
 
 pub returns : goal.returns
 returns c =
+    let waiting = c.self.inside.waiting.items in
+    let edges = c.self.inside.edges.items in
+    let done = c.self.inside.done.items in
     rw (c.in_ok-push.ensures.items, c.in_ok-extend_from_slice.ensures.items, ← c.self.view_is)
-    (ap (λ rows. c.self.inside.done.items ++ rows) (rows_push c.self.inside.waiting.items c.self.inside.edges.items c.as_slice-edges.result.now _ c.self.invariant (search rules) (search rules))
-    ∙ sym (append_assoc c.self.inside.done.items (rows_of c.self.inside.waiting.items c.self.inside.edges.items) _)
-    ∙ ap (λ row. (c.self.inside.done.items ++ rows_of c.self.inside.waiting.items c.self.inside.edges.items) ++ (c.args.id, row) ∷ []) (search rules))
+    (ap (λ rows. done ++ rows) (rows_push waiting edges c.as_slice-edges.result.now _ c.self.invariant (search rules) (search rules))
+    ∙ sym (append_assoc done (rows_of waiting edges) _)
+    ∙ ap (λ row. (done ++ rows_of waiting edges) ++ (c.args.id, row) ∷ []) (search rules))
