@@ -48,8 +48,8 @@ impl Model for ChangedRows {
 }
 
 impl ChangedRows {
-    /// None yet. Where edges are gathered, many rows share a list, which stays until none of them is
-    /// left: so that is for changes after which rows are laid anew.
+    /// None yet. Whether the edges of rows are gathered in common lists is told by `gathers`: such a list
+    /// stays until none of its rows is left, so that is for changes after which rows are laid anew.
     pub fn new(alloc: Global, gathers: bool) -> ChangedRows
         ensures { result ≡ [] }
     {
