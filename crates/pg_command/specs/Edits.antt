@@ -1,8 +1,8 @@
 -- The edits that words ask for.
 use Rattle.std.specs.Prelude.{ℕ, ℤ, pos, List, [], ◌∷◌, Result, Ok, Err}
-use Rattle.pg_graph.specs.declared.edit.Edit.{Edit}
-use Rattle.pg_graph.specs.declared.edit.Edit.TheVariants.{AddVertex, RemoveVertex, SetInput}
-use Rattle.pg_graph.specs.declared.edit.Edit.TheVariants.{AddEdge, SetEdge, RemoveEdge}
+use Rattle.pg_edits.specs.declared.edit.Edit.{Edit}
+use Rattle.pg_edits.specs.declared.edit.Edit.TheVariants.{AddVertex, RemoveVertex, SetInput}
+use Rattle.pg_edits.specs.declared.edit.Edit.TheVariants.{AddEdge, SetEdge, RemoveEdge}
 use Rattle.pg_import.specs.Number.{id_of, weight_of}
 use Rattle.pg_import.specs.declared.line.ImportKind.{ImportKind}
 use Rattle.pg_command.specs.declared.command.LineFault.{LineFault}

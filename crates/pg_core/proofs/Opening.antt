@@ -6,7 +6,7 @@ use Rattle.std.proofs.lemmas.List.{get_or_append_left, get_or_push}
 use Rattle.std.proofs.lemmas.List.Sums.{sum_by-cons}
 use Rattle.pg_core.specs.Beginning.{HasBegun}
 use Rattle.pg_graph.specs.Rows.{Rows, edge_count}
-use Rattle.pg_graph.specs.declared.graph.Row.{Row}
+use Rattle.pg_edits.specs.declared.row.Row.{Row}
 use Rattle.pg_model.specs.Job.{Job, Program}
 use Rattle.pg_model.specs.Run.{beginning}
 use Rattle.pg_model.specs.Superstep.{edges_of}

@@ -2,12 +2,13 @@
 use Rattle.std.proofs.Common.{◌≡◌, ℕ, ◌+◌, ◌<◌, ◌≤◌, ◌⊎◌, List, [], ◌∷◌, length, Result, get_or, drop, Ok, Err, inl, inr, refl, sym, ap, ◌∙◌, ⊎_elim, arith}
 use Rattle.std.proofs.lemmas.Bool.{lt-ltb, le-ltb, cases_lt}
 use Rattle.std.proofs.lemmas.List.{at_drop_more, at_drop_all}
-use Rattle.pg_graph.specs.Edit.{edited, all_edited, batch_edited, batch_limit, memory_fault, RefusesBatch}
+use Rattle.pg_graph.specs.Edit.{edited, all_edited, batch_edited, batch_limit, RefusesBatch}
+use Rattle.pg_edits.specs.EditFault.{memory_fault}
 use Rattle.pg_graph.specs.Rows.{Rows}
-use Rattle.pg_graph.specs.declared.edit.Edit.{Edit}
-use Rattle.pg_graph.specs.declared.edit.EditFault.{EditFault}
-use Rattle.pg_graph.specs.declared.edit.EditKind.{EditKind}
-use Rattle.pg_graph.specs.declared.edit.EditKind.TheVariants.{Memory, VertexExists, NoVertex, EdgeExists, NoEdge, BatchTooLong, Full}
+use Rattle.pg_edits.specs.declared.edit.Edit.{Edit}
+use Rattle.pg_edits.specs.declared.edit.EditFault.{EditFault}
+use Rattle.pg_edits.specs.declared.edit.EditKind.{EditKind}
+use Rattle.pg_edits.specs.declared.edit.EditKind.TheVariants.{Memory, VertexExists, NoVertex, EdgeExists, NoEdge, BatchTooLong, Full}
 
 pub Err_not_Ok : {X E : Type 0} {x : X} {e : E} → ◌≡◌ {A = Result X E} (Err e) (Ok x) → ⊥
 Err_not_Ok h = cc

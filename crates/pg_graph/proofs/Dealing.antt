@@ -14,15 +14,17 @@ use Rattle.pg_map.specs.Entries.{ChangesRise, value_at, with_change, with_change
 use Rattle.pg_map.proofs.Changing.{rises-changes, value_at-with_changes}
 use Rattle.pg_map.proofs.Parts.{split_all, rises_push, find-left, find-right}
 use Rattle.pg_map.proofs.Rising.{at_same, at_other, same_entries}
-use Rattle.pg_graph.specs.Changes.{Changes, changed_row_at, degree_of}
+use Rattle.pg_edits.specs.ChangedRows.{Changes}
+use Rattle.pg_graph.specs.Changes.{changed_row_at, degree_of}
 use Rattle.pg_graph.specs.Edit.{all_edited}
 use Rattle.pg_graph.specs.Grouped.{RiseBySource, AreGrouped, IsNoLater, IsLeft, IsDone, AreDealt, earlier_of, AreMade, IsFirst}
-use Rattle.pg_graph.specs.RowEdit.{Places, HasRoom, placed, edits_of, is_of, source_of, vertex_after}
+use Rattle.pg_edits.specs.RowEdit.{Places, source_of, vertex_after}
+use Rattle.pg_graph.specs.RowEdit.{HasRoom, placed, edits_of, is_of}
 use Rattle.pg_graph.specs.Rows.{Rows, HasRisingIds, row_at, vertex_count, edge_count}
-use Rattle.pg_graph.specs.declared.graph.Row.{Row}
-use Rattle.pg_graph.specs.declared.edit.Edit.{Edit}
-use Rattle.pg_graph.specs.declared.edit.Edit.TheVariants.{RemoveVertex}
-use Rattle.pg_graph.specs.declared.edit.EditFault.{EditFault}
+use Rattle.pg_edits.specs.declared.row.Row.{Row}
+use Rattle.pg_edits.specs.declared.edit.Edit.{Edit}
+use Rattle.pg_edits.specs.declared.edit.Edit.TheVariants.{RemoveVertex}
+use Rattle.pg_edits.specs.declared.edit.EditFault.{EditFault}
 use Rattle.pg_graph.proofs.Batches.{Ok_not_Err, Err_same}
 use Rattle.pg_graph.proofs.Drafting.{edges-without_row}
 use Rattle.pg_graph.proofs.RowLaw.{of_same, of_other, edges-change, faults_apart, MakesRows, IsFirstFault, IsByRows, batch_by_rows}

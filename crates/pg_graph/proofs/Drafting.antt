@@ -5,14 +5,15 @@ use Rattle.std.specs.BTreeMap.{insert_entry, is_at}
 use Rattle.std.specs.Map.{remove_entry}
 use Rattle.std.specs.Option.{option_map, unwrap_or}
 use Rattle.pg_map.specs.Entries.{ChangesRise, with_change, with_changes}
-use Rattle.pg_graph.specs.Changes.{Changes, changed_row_at, degree_of}
+use Rattle.pg_edits.specs.ChangedRows.{Changes}
+use Rattle.pg_graph.specs.Changes.{changed_row_at, degree_of}
 use Rattle.pg_graph.specs.Draft.{IsCounted, BecomesBy, RefusesEdit}
 use Rattle.pg_graph.specs.Edit.{edited, vertex_limit, edge_limit}
 use Rattle.pg_graph.specs.Rows.{Rows, HasRisingIds, row_at, with_row, without_row, vertex_count, edge_count}
-use Rattle.pg_graph.specs.declared.edit.Edit.{Edit}
-use Rattle.pg_graph.specs.declared.edit.EditKind.{EditKind}
-use Rattle.pg_graph.specs.declared.edit.EditKind.TheVariants.{Memory, NoVertex}
-use Rattle.pg_graph.specs.declared.graph.Row.{Row}
+use Rattle.pg_edits.specs.declared.edit.Edit.{Edit}
+use Rattle.pg_edits.specs.declared.edit.EditKind.{EditKind}
+use Rattle.pg_edits.specs.declared.edit.EditKind.TheVariants.{Memory, NoVertex}
+use Rattle.pg_edits.specs.declared.row.Row.{Row}
 use Rattle.pg_map.proofs.Changing.{rises-changes, value_at-with_changes, with_changes-insert, insert-remove}
 use Rattle.pg_map.proofs.Rising.{rises-insert, length-insert_absent, length-insert_present, length-remove_present, sum-insert, sum-remove}
 

@@ -1,4 +1,3 @@
-pub mod AtPlace
 pub mod Batches
 pub mod Dealing
 pub mod Drafting
@@ -7,4 +6,3 @@ pub mod Laws
 pub mod RowLaw
 pub mod RowsMade
 pub mod Search
-pub mod SideBySide

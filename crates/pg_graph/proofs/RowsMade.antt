@@ -1,11 +1,12 @@
 -- What a batch makes of a graph, row by row.
 use Rattle.std.proofs.Common.{◌≡◌, ◌≤◌, ◌⊎◌, inl, inr, Bool, true, false, cond, List, length, nat_lt, Result, Ok, Err, sym, ap, ◌∙◌, subst, arith}
 use Rattle.std.proofs.lemmas.Bool.Decides.{nat_tests}
-use Rattle.pg_graph.specs.Edit.{all_edited, batch_edited, batch_limit, memory_fault, too_long_fault, RefusesBatch}
+use Rattle.pg_graph.specs.Edit.{all_edited, batch_edited, batch_limit, too_long_fault, RefusesBatch}
+use Rattle.pg_edits.specs.EditFault.{memory_fault}
 use Rattle.pg_graph.specs.RowEdit.{AreRowsMade, HasRoom, IsEarliestFault}
 use Rattle.pg_graph.specs.Rows.{HasRisingIds, Rows, edge_count, vertex_count}
-use Rattle.pg_graph.specs.declared.edit.Edit.{Edit}
-use Rattle.pg_graph.specs.declared.edit.EditFault.{EditFault}
+use Rattle.pg_edits.specs.declared.edit.Edit.{Edit}
+use Rattle.pg_edits.specs.declared.edit.EditFault.{EditFault}
 use Rattle.pg_graph.proofs.Batches.{Ok_not_Err}
 use Rattle.pg_graph.proofs.RowLaw.{IsByRows, batch_by_rows}
 

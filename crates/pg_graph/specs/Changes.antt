@@ -1,14 +1,11 @@
--- Changes of a graph: what becomes of vertices, by rising id.
-use Rattle.std.specs.Prelude.{ℕ, List, length, Option, None, Some, unwrap_or}
+-- What changes make of a vertex of a graph.
+use Rattle.std.specs.Prelude.{ℕ, length, Option, None, Some, unwrap_or}
 use Rattle.std.specs.BTreeMap.{is_at}
 use Rattle.std.specs.Ordering.{nat_cmp}
 use Rattle.std.specs.Map.{lookup}
+use Rattle.pg_edits.specs.ChangedRows.{Changes}
 use Rattle.pg_graph.specs.Rows.{Rows, row_at}
-use Rattle.pg_graph.specs.declared.graph.Row.{Row}
-
--- vertices with the row that each gets, or none where it is removed
-abbrev pub Changes : Type 0
-Changes = List (ℕ × Option Row)
+use Rattle.pg_edits.specs.declared.row.Row.{Row}
 
 -- what a vertex has after the changes
 abbrev pub changed_row_at : ℕ → Changes → Rows → Option Row

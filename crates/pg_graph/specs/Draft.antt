@@ -1,14 +1,14 @@
 -- A draft: a graph, and what its edits so far have made of it.
 use Rattle.std.specs.Prelude.{◌≡◌, ℕ, ◌≤◌, ◌⊎◌, Ok, Err}
 use Rattle.pg_map.specs.Entries.{ChangesRise, with_changes}
-use Rattle.pg_graph.specs.Changes.{Changes}
+use Rattle.pg_edits.specs.ChangedRows.{Changes}
 use Rattle.pg_graph.specs.Edit.{edited, vertex_limit, edge_limit}
 use Rattle.pg_graph.specs.Rows.{Rows, HasRisingIds, vertex_count, edge_count}
 use Rattle.pg_graph.specs.declared.draft.Changes.{Changes as Changing}
 use Rattle.pg_graph.specs.declared.draft.Draft.TheInside.{Inside}
-use Rattle.pg_graph.specs.declared.edit.Edit.{Edit}
-use Rattle.pg_graph.specs.declared.edit.EditKind.{EditKind}
-use Rattle.pg_graph.specs.declared.edit.EditKind.TheVariants.{Memory}
+use Rattle.pg_edits.specs.declared.edit.Edit.{Edit}
+use Rattle.pg_edits.specs.declared.edit.EditKind.{EditKind}
+use Rattle.pg_edits.specs.declared.edit.EditKind.TheVariants.{Memory}
 
 -- the graph with the changes
 abbrev pub rows_in : Inside → Rows

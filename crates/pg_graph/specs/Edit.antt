@@ -1,13 +1,14 @@
 -- Edits as partial functions on graphs, and a batch as their composition.
 use Rattle.std.specs.Prelude.{◌≡◌, ◌⊎◌, ℕ, ◌+◌, cond, List, [], ◌∷◌, length, nat_lt, nat_le, None, Some, is_some, Result, Ok, Err}
-use Rattle.pg_graph.specs.EdgeList.{weight_at, with_edge, without_edge}
+use Rattle.pg_edits.specs.EditFault.{memory_fault}
+use Rattle.pg_edits.specs.EdgeList.{weight_at, with_edge, without_edge}
 use Rattle.pg_graph.specs.Rows.{Rows, row_at, with_row, without_row, vertex_count, edge_count}
-use Rattle.pg_graph.specs.declared.graph.Row.{Row}
-use Rattle.pg_graph.specs.declared.edit.Edit.{Edit}
-use Rattle.pg_graph.specs.declared.edit.Edit.TheVariants.{AddVertex, RemoveVertex, SetInput, AddEdge, SetEdge, RemoveEdge}
-use Rattle.pg_graph.specs.declared.edit.EditKind.{EditKind}
-use Rattle.pg_graph.specs.declared.edit.EditKind.TheVariants.{Memory, VertexExists, NoVertex, EdgeExists, NoEdge, BatchTooLong, Full}
-use Rattle.pg_graph.specs.declared.edit.EditFault.{EditFault}
+use Rattle.pg_edits.specs.declared.row.Row.{Row}
+use Rattle.pg_edits.specs.declared.edit.Edit.{Edit}
+use Rattle.pg_edits.specs.declared.edit.Edit.TheVariants.{AddVertex, RemoveVertex, SetInput, AddEdge, SetEdge, RemoveEdge}
+use Rattle.pg_edits.specs.declared.edit.EditKind.{EditKind}
+use Rattle.pg_edits.specs.declared.edit.EditKind.TheVariants.{VertexExists, NoVertex, EdgeExists, NoEdge, BatchTooLong, Full}
+use Rattle.pg_edits.specs.declared.edit.EditFault.{EditFault}
 
 -- no graph has more vertices, or more edges
 abbrev pub vertex_limit : ℕ
@@ -53,10 +54,6 @@ all_edited position rows (edit ∷ edits) =
 unfoldable pub batch_edited : Rows → List Edit → Result Rows EditFault
 batch_edited rows edits =
     cond (nat_lt batch_limit (length edits)) (Err (record { position = batch_limit + 1; kind = BatchTooLong })) (all_edited 1 rows edits)
-
--- want of memory, which is no edit's fault
-abbrev pub memory_fault : EditFault
-memory_fault = record { position = 0; kind = Memory }
 
 -- the fault of a batch with too many edits
 abbrev pub too_long_fault : EditFault

@@ -3,12 +3,14 @@ use Rattle.std.specs.Prelude.{◌≡◌, ℕ, nat_le, cond, ◌<◌, ◌≤◌, 
 use Rattle.std.specs.List.{AllByRecursion}
 use Rattle.std.specs.List.Sorted.{IsNonDecreasingBy}
 use Rattle.pg_map.specs.Entries.{ChangesRise, value_at, with_changes}
-use Rattle.pg_graph.specs.Changes.{Changes, changed_row_at}
-use Rattle.pg_graph.specs.RowEdit.{Places, edits_of, placed, source_of, vertex_after}
+use Rattle.pg_edits.specs.ChangedRows.{Changes}
+use Rattle.pg_graph.specs.Changes.{changed_row_at}
+use Rattle.pg_edits.specs.RowEdit.{Places, source_of, vertex_after}
+use Rattle.pg_graph.specs.RowEdit.{edits_of, placed}
 use Rattle.pg_graph.specs.Rows.{Rows, edge_count, row_at}
 use Rattle.pg_graph.specs.declared.draft.Changes.{Changes as Changing}
-use Rattle.pg_graph.specs.declared.edit.Edit.{Edit}
-use Rattle.pg_graph.specs.declared.edit.EditFault.{EditFault}
+use Rattle.pg_edits.specs.declared.edit.Edit.{Edit}
+use Rattle.pg_edits.specs.declared.edit.EditFault.{EditFault}
 
 abbrev pub RiseBySource : Places → Type 0
 RiseBySource edits = IsNonDecreasingBy (λ e. source_of e.1) edits

@@ -1,14 +1,7 @@
-pub mod ChangedRows
 pub mod Changes
 pub mod Draft
-pub mod DraftRow
-pub mod EdgeList
-pub mod Edges
 pub mod Edit
-pub mod EditKind
 pub mod Grouped
-pub mod Packing
-pub mod Places
 pub mod RowEdit
 pub mod Rows
 pub use Rattle.pg_map.specs.Entries

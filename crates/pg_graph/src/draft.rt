@@ -5,12 +5,9 @@ ghost use Rattle.std.specs.Map.{remove_entry};
 ghost use Rattle.std.specs.Ordering.{nat_cmp};
 ghost use Rattle.pg_graph.specs.Changes.{changed_row_at};
 
-mod listed;
-pub(crate) mod row;
-
 use crate::entries::put;
 use crate::{Batch, Edit, EditFault, EditKind, Graph, Memory, Row, VertexId};
-use row::DraftRow;
+use pg_edits::DraftRow;
 use std::alloc::Global;
 use std::collections::BTreeMap;
 use std::marker::Model;

@@ -6,38 +6,10 @@ ghost use Rattle.std.specs.Map.Iter.{ShowsInOrder, deref, deref_pair};
 
 mod apply;
 
-use crate::{Edges, Memory, VertexId};
-use pg_map::{Finder, Ids, Iter, Map, Share};
+use crate::{Memory, Row, VertexId};
+use pg_map::{Finder, Ids, Iter, Map};
 use std::alloc::Global;
 use std::marker::Model;
-
-/// What a graph holds of one vertex: the input that its value begins from, and its out-edges.
-#[derive(Drop)]
-pub struct Row {
-    pub input: i64,
-    pub edges: Edges,
-}
-
-impl Share for Row {
-    fn share(&self, _alloc: Global) -> Result<Row, Memory> {
-        self.copy()
-    }
-}
-
-impl Row {
-    ghost use Rattle.pg_graph.specs.declared.graph.Row.{Row};
-
-    /// The same row, which shares its edges.
-    pub fn copy(&self) -> Result<Row, Memory>
-        ensures { IfOk result (λ row. row ≡ self.now) }
-    {
-        let edges = self.edges.copy()?;
-        Ok(Row {
-            input: self.input,
-            edges,
-        })
-    }
-}
 
 /// A graph: a finite map from ids to rows. A contract sees the list of (id, row) by rising id.
 pub struct Graph {

@@ -7,19 +7,17 @@ ghost use Rattle.pg_graph.specs.Changes.{degree_of};
 ghost use Rattle.pg_graph.specs.Draft.{Makes};
 ghost use Rattle.pg_graph.specs.Edit.{batch_edited, RefusesBatch, batch_limit};
 ghost use Rattle.pg_graph.specs.Grouped.{AreCounted, AreGrouped, IsFirst, RiseBySource, earlier_of};
-ghost use Rattle.pg_graph.specs.RowEdit.{HasRoom, placed, source_of};
+ghost use Rattle.pg_graph.specs.RowEdit.{HasRoom, placed};
+ghost use Rattle.pg_edits.specs.RowEdit.{source_of};
 ghost use Rattle.pg_graph.specs.Rows.{HasRisingIds, edge_count, vertex_count};
 
-mod changed_rows;
-mod vertex;
-
 use crate::draft::Changes;
-use crate::draft::row::DraftRow;
-use crate::packing::is_many;
 use crate::{Batch, Edit, EditFault, Graph, Memory, Row, VertexId};
-use changed_rows::ChangedRows;
+use pg_edits::{ChangedRows, DraftRow, vertex_after};
 use std::alloc::{AllocError, Global};
-use vertex::vertex_after;
+
+/// Each changed row pays for a look at so many.
+const ROWS_TO_PAY: u64 = 64;
 
 /// What a batch that can't meet a limit changes, or the first of its edits that has no result.
 ///
@@ -100,6 +98,11 @@ fn dealt_with(
             Ok(Ok(Changes { rows, edges }))
         }
     }
+}
+
+/// Whether so many rows are changed that a walk over all of them is paid for.
+pub(crate) fn is_many(changed: usize, vertices: u64) -> bool {
+    (changed as u64).saturating_mul(ROWS_TO_PAY) >= vertices
 }
 
 /// How many vertices edits have that stand by rising vertex.

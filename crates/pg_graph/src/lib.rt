@@ -1,20 +1,18 @@
-//! The graph that a service keeps: vertex ids, rows with an input and out-edges, and batches of edits.
+//! The graph that a service keeps: rows by rising vertex id, and batches of edits that are made of it at once.
 #![tactic(auto)]
 
+mod batch;
 mod draft;
-mod edges;
-mod edit;
 mod entries;
 mod graph;
 mod grouped;
 mod missing;
 mod order;
-mod packing;
 
-pub use edges::Edges;
-pub use edit::{Batch, Edit, EditFault, EditKind};
-pub use graph::{Graph, Row};
+pub use batch::Batch;
+pub use graph::Graph;
 pub use missing::Missing;
 pub use order::places_by_id;
+pub use pg_edits::{Edges, Edit, EditFault, EditKind, Row};
 pub use pg_map::{Edition, Finder, Ids, Iter, PartitionId, Superstep, VertexId, WorkerId};
 pub use std::alloc::AllocError as Memory;

@@ -3,7 +3,7 @@
 ghost use Rattle.std.specs.Prelude.{◌≡◌, is_some, option_and_then, map, None, Some, IfOk};
 ghost use Rattle.std.specs.List.{slice_get};
 ghost use Rattle.std.specs.Option.{option_copied};
-ghost use Rattle.pg_graph.specs.EdgeList.{weight_at};
+ghost use Rattle.pg_edits.specs.EdgeList.{weight_at};
 ghost use Rattle.pg_graph.specs.Rows.{Rows, row_at};
 ghost use Rattle.pg_import.specs.Seen.{AreSeen, IsSource, IsTarget};
 ghost use Rattle.pg_import.specs.declared.seen.Source.{Source};

@@ -7,7 +7,7 @@ use Rattle.std.specs.Ordering.{nat_cmp}
 use Rattle.std.specs.Map.{keys_of}
 use Rattle.std.specs.List.Sorted.{IsStrictlySortedBy}
 use Rattle.pg_graph.specs.Rows.{Rows, HasRisingIds}
-use Rattle.pg_graph.specs.declared.graph.Row.{Row}
+use Rattle.pg_edits.specs.declared.row.Row.{Row}
 use Rattle.pg_graph.specs.declared.missing.Missing.{Missing}
 use Rattle.pg_graph.specs.declared.missing.Missing.TheVariants.{Drop}
 use Rattle.pg_model.specs.InOrder.{AreWaiting, IsInOrder}

@@ -7,8 +7,8 @@ use Rattle.std.proofs.lemmas.List.Elements.{All-nil, All-push, All-weaker}
 use Rattle.std.proofs.lemmas.List.Quantifiers.{all_pairs_push}
 use Rattle.pg_graph.specs.Edit.{batch_edited}
 use Rattle.pg_graph.specs.Rows.{Rows}
-use Rattle.pg_graph.specs.declared.edit.Edit.{Edit}
-use Rattle.pg_graph.specs.declared.edit.EditFault.{EditFault}
+use Rattle.pg_edits.specs.declared.edit.Edit.{Edit}
+use Rattle.pg_edits.specs.declared.edit.EditFault.{EditFault}
 use Rattle.pg_graph.proofs.Batches.{Err_not_Ok}
 use Rattle.pg_model.specs.Job.{Job}
 use Rattle.pg_model.specs.Publications.{Publication, Publications}

@@ -1,16 +1,16 @@
 -- A batch leaves the row of each vertex that none of its edits names.
 use Rattle.std.proofs.Common.{◌≡◌, ℕ, ◌+◌, Bool, true, false, cond, ◌||◌, ◌==◌, List, [], ◌∷◌, ◌++◌, Option, None, Some, is_some, Result, Ok, Err, refl, sym, ap, ◌∙◌, subst, true≢false}
 use Rattle.std.proofs.lemmas.Bool.{cases_eq, eq-eqb}
-use Rattle.pg_graph.specs.EdgeList.{weight_at, with_edge, without_edge}
+use Rattle.pg_edits.specs.EdgeList.{weight_at, with_edge, without_edge}
 use Rattle.pg_graph.specs.Edit.{all_edited, batch_edited, batch_limit, edge_limit, edited, vertex_limit}
-use Rattle.pg_graph.specs.RowEdit.{source_of}
+use Rattle.pg_edits.specs.RowEdit.{source_of}
 use Rattle.pg_graph.specs.Rows.{Rows, edge_count, row_at, vertex_count, with_row, without_row}
-use Rattle.pg_graph.specs.declared.graph.Row.{Row}
-use Rattle.pg_graph.specs.declared.edit.Edit.{Edit}
-use Rattle.pg_graph.specs.declared.edit.Edit.TheVariants.{AddVertex, RemoveVertex, SetInput, AddEdge, SetEdge, RemoveEdge}
-use Rattle.pg_graph.specs.declared.edit.EditFault.{EditFault}
-use Rattle.pg_graph.specs.declared.edit.EditKind.{EditKind}
-use Rattle.pg_graph.specs.declared.edit.EditKind.TheVariants.{EdgeExists, Full, NoEdge, NoVertex, VertexExists}
+use Rattle.pg_edits.specs.declared.row.Row.{Row}
+use Rattle.pg_edits.specs.declared.edit.Edit.{Edit}
+use Rattle.pg_edits.specs.declared.edit.Edit.TheVariants.{AddVertex, RemoveVertex, SetInput, AddEdge, SetEdge, RemoveEdge}
+use Rattle.pg_edits.specs.declared.edit.EditFault.{EditFault}
+use Rattle.pg_edits.specs.declared.edit.EditKind.{EditKind}
+use Rattle.pg_edits.specs.declared.edit.EditKind.TheVariants.{EdgeExists, Full, NoEdge, NoVertex, VertexExists}
 use Rattle.pg_graph.proofs.Batches.{Err_not_Ok}
 use Rattle.pg_map.proofs.Changing.{change_other}
 use Rattle.pg_course.specs.Course.{AreTouched}

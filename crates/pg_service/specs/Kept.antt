@@ -2,9 +2,9 @@
 use Rattle.std.specs.Prelude.{◌≡◌, ℕ, List, map}
 use Rattle.pg_core.specs.Traces.{IsLeftBy, Traces}
 use Rattle.pg_course.specs.Course.{AreTouched}
-use Rattle.pg_graph.specs.RowEdit.{source_of}
+use Rattle.pg_edits.specs.RowEdit.{source_of}
 use Rattle.pg_graph.specs.Rows.{Rows}
-use Rattle.pg_graph.specs.declared.edit.Edit.{Edit}
+use Rattle.pg_edits.specs.declared.edit.Edit.{Edit}
 use Rattle.pg_model.specs.Job.{Job}
 
 -- what a run left, and ids that batches have named since

@@ -3,8 +3,8 @@ use Rattle.std.specs.Prelude.{◌≡◌, ℕ, ◌+◌, ◌≤◌, List, [], ◌�
 use Rattle.std.specs.List.{All, AllPairs, last_or}
 use Rattle.pg_graph.specs.Edit.{batch_edited}
 use Rattle.pg_graph.specs.Rows.{Rows}
-use Rattle.pg_graph.specs.declared.edit.Edit.{Edit}
-use Rattle.pg_graph.specs.declared.edit.EditFault.{EditFault}
+use Rattle.pg_edits.specs.declared.edit.Edit.{Edit}
+use Rattle.pg_edits.specs.declared.edit.EditFault.{EditFault}
 use Rattle.pg_model.specs.Job.{Job}
 use Rattle.pg_model.specs.Publications.{Publication, Publications}
 use Rattle.pg_model.specs.Run.{answer}

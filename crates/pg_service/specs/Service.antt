@@ -3,11 +3,12 @@ use Rattle.std.specs.Prelude.{◌≡◌, ◌⊎◌, ℕ, ◌<◌, ◌≤◌, Boo
 use Rattle.std.specs.Prelude.{List, [], length, replicate, Option, None, Some, IfSome, Result, Err}
 use Rattle.pg_machine.specs.Limits.{Limits}
 use Rattle.pg_global.specs.Master.{Master, job_of}
-use Rattle.pg_graph.specs.Edit.{batch_edited, batch_limit, memory_fault}
+use Rattle.pg_graph.specs.Edit.{batch_edited, batch_limit}
+use Rattle.pg_edits.specs.EditFault.{memory_fault}
 use Rattle.pg_graph.specs.Rows.{Rows}
-use Rattle.pg_graph.specs.declared.edit.Edit.{Edit}
-use Rattle.pg_graph.specs.declared.edit.EditFault.{EditFault}
-use Rattle.pg_graph.specs.declared.edit.EditKind.TheVariants.{Full}
+use Rattle.pg_edits.specs.declared.edit.Edit.{Edit}
+use Rattle.pg_edits.specs.declared.edit.EditFault.{EditFault}
+use Rattle.pg_edits.specs.declared.edit.EditKind.TheVariants.{Full}
 use Rattle.pg_global.specs.Registry.{Registered}
 use Rattle.pg_model.specs.Job.{Combining, Job, Program}
 use Rattle.pg_model.specs.Needed.{needed_count}

@@ -1,6 +1,6 @@
 //! What follows of any calls.
 ghost use Rattle.std.specs.Prelude.{List};
-ghost use Rattle.pg_graph.specs.declared.edit.Edit.{Edit};
+ghost use Rattle.pg_edits.specs.declared.edit.Edit.{Edit};
 ghost use Rattle.pg_model.specs.Job.{Job};
 ghost use Rattle.pg_model.specs.Publications.{Publications};
 ghost use Rattle.pg_service.specs.Job.{ServiceJob};

@@ -4,7 +4,7 @@ use Rattle.std.proofs.Common.{ap, ap₂, subst, ◌∙◌, inl, inr, codes}
 use Rattle.std.specs.Io.KnownBytes.{Appends}
 use Rattle.std.specs.Fmt.{signed_decimal}
 use Rattle.std.specs.List.{last_or}
-use Rattle.pg_graph.specs.declared.edit.Edit.{Edit as OneEdit}
+use Rattle.pg_edits.specs.declared.edit.Edit.{Edit as OneEdit}
 use Rattle.pg_service.specs.Answers.{aggregate_of}
 use Rattle.pregeld.specs.Job.{ReadyJob, ReadyState, ready_names}
 use Rattle.pg_command.specs.Command.{command_of}

@@ -4,8 +4,8 @@ use Rattle.std.specs.Prelude.{length, take, drop, Option, None, Some, Result}
 use Rattle.std.specs.List.{concat}
 use Rattle.std.specs.Ordering.{int_eq}
 use Rattle.std.specs.Io.KnownBytes.{Appends}
-use Rattle.pg_graph.specs.Edit.{memory_fault}
-use Rattle.pg_graph.specs.declared.edit.Edit.{Edit}
+use Rattle.pg_edits.specs.EditFault.{memory_fault}
+use Rattle.pg_edits.specs.declared.edit.Edit.{Edit}
 use Rattle.pg_import.specs.Import.{no_memory}
 use Rattle.pg_import.specs.declared.line.ImportFault.{ImportFault}
 use Rattle.pg_import.specs.declared.line.Line.{Line}

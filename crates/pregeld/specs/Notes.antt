@@ -1,6 +1,6 @@
 -- What a session has beside its service.
 use Rattle.std.specs.Prelude.{ℕ, List, take, Option}
-use Rattle.pg_graph.specs.declared.edit.Edit.{Edit}
+use Rattle.pg_edits.specs.declared.edit.Edit.{Edit}
 use Rattle.pg_service.specs.declared.report.Report.{Report}
 use Rattle.pregeld.specs.Job.{ReadyState}
 

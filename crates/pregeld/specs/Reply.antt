@@ -2,7 +2,7 @@
 use Rattle.std.specs.Prelude.{ℕ, ℤ, List, [], ◌∷◌, ◌++◌, length, flat_map, Option, None, Some}
 use Rattle.std.specs.Prelude.{decimal, codes}
 use Rattle.std.specs.Fmt.{signed_decimal}
-use Rattle.pg_graph.specs.EditKind as edit
+use Rattle.pg_edits.specs.EditKind as edit
 use Rattle.pg_import.specs.ImportKind as import
 use Rattle.pg_service.specs.declared.report.Report.{Report}
 use Rattle.pg_command.specs.LineFault.{fault_number}

@@ -1,6 +1,7 @@
 //! A batch of edits, made of a graph at once.
 ghost use Rattle.std.specs.Prelude.{◌≡◌, ◌⊎◌, ◌<◌, ◌≤◌, length, Ok, Err, IfOk, IfErr, IsTrue, OnOk, OnErr};
-ghost use Rattle.pg_graph.specs.Edit.{batch_edited, batch_limit, memory_fault, too_long_fault, RefusesBatch};
+ghost use Rattle.pg_graph.specs.Edit.{batch_edited, batch_limit, too_long_fault, RefusesBatch};
+ghost use Rattle.pg_edits.specs.EditFault.{memory_fault};
 ghost use Rattle.pg_graph.specs.RowEdit.{AreRowsMade, HasRoom, IsEarliestFault};
 ghost use Rattle.pg_graph.specs.Rows.{HasRisingIds, edge_count, vertex_count};
 ghost use Rattle.pg_graph.specs.Draft.{Makes};
@@ -8,8 +9,7 @@ ghost use Rattle.pg_map.specs.Entries.{with_changes};
 
 use super::Graph;
 use crate::draft::{BATCH_LIMIT, Changes, Draft, EDGE_LIMIT, VERTEX_LIMIT};
-use crate::grouped::changes_by_vertex;
-use crate::packing::is_many;
+use crate::grouped::{changes_by_vertex, is_many};
 use crate::{Batch, EditFault, EditKind, Memory};
 use std::alloc::Global;
 

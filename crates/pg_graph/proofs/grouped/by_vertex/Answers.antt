@@ -1,7 +1,8 @@
 use Rattle.std.proofs.Common.{of_calls, rules, ap, ◌∙◌}
 use Rattle.std.proofs.lemmas.Fn.{always_returns_same}
 use Rattle.std.proofs.lemmas.List.Sorted.{IsNonDecreasingBy-from_sort}
-use Rattle.pg_graph.specs.RowEdit.{edits_of, placed, source_of}
+use Rattle.pg_graph.specs.RowEdit.{edits_of, placed}
+use Rattle.pg_edits.specs.RowEdit.{source_of}
 use Rattle.pg_graph.proofs.Dealing.{stays_grouped}
 use Rattle.pg_graph.proofs.grouped.by_vertex.Goals as goal
 

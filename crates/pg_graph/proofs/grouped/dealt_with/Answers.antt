@@ -3,7 +3,7 @@ use Rattle.std.proofs.lemmas.List.{nil_from_length}
 use Rattle.std.specs.List.Sorted.{IsPartitionPoint}
 use Rattle.pg_map.specs.Entries.{with_changes}
 use Rattle.pg_graph.specs.Changes.{degree_of}
-use Rattle.pg_graph.specs.RowEdit.{source_of, vertex_after}
+use Rattle.pg_edits.specs.RowEdit.{source_of, vertex_after}
 use Rattle.pg_graph.specs.Grouped.{AreDealt, AreMade}
 use Rattle.pg_graph.specs.Rows.{edge_count, row_at}
 use Rattle.pg_graph.proofs.Dealing.{all_made, IsTurn, fewer_left, no_changes, none_dealt, row_found, fault_found, not_changed, next_counted, degree_fits}
@@ -35,7 +35,8 @@ edges_with-requires c =
     let none = not_changed rows c.args.edits.now left here _ _ c.in-Some.first.now c.count_of.result changes c.loop-first.fault turn
     c.loop-first.invariant.dealt in
     let fits = degree_fits rows changes c.requires.rising c.loop-first.invariant.dealt.changes_rise _ none in
-    omega (arith, fits, ap degree_of (c.get-row.ensures.value ∙ ap (row_at c.source-id.result) c.loop-first.invariant.found ∙ ap (λ k. row_at k rows) id), c.loop-first.invariant.counted)
+    let was = c.get-row.ensures.value ∙ ap (row_at c.source-id.result) c.loop-first.invariant.found ∙ ap (λ k. row_at k rows) id in
+    omega (arith, fits, ap degree_of was, c.loop-first.invariant.counted)
 
 pub loop-first-preserved-in_ok-push-in-Ok : goal.loop-first-preserved-in_ok-push-in-Ok
 loop-first-preserved-in_ok-push-in-Ok c =
@@ -86,7 +87,8 @@ loop-first-preserved c =
       parts = subst (λ k. IsPartitionPoint (λ e. leb (source_of e.1) k ≡ true)
           (λ e. leb (source_of e.1) k ≡ false) left c.count_of.result) id c.count_of.ensures.parts;
     } in
-    let made = sym c.in-Err.is ∙ c.in_ok-changed.ensures ∙ ap (λ r. vertex_after r here) (c.get-row.ensures.value ∙ ap (row_at c.source-id.result) c.loop-first.invariant.found ∙ ap (λ k. row_at k rows) id) in
+    let was = c.get-row.ensures.value ∙ ap (row_at c.source-id.result) c.loop-first.invariant.found ∙ ap (λ k. row_at k rows) id in
+    let made = sym c.in-Err.is ∙ c.in_ok-changed.ensures ∙ ap (λ r. vertex_after r here) was in
     record {
       found = c.get-row.ensures.same ∙ c.loop-first.invariant.found;
       dealt = subst (λ f. AreDealt rows c.args.edits.now c.split_at.result.1.now changes (Some f)) (sym c.earlier.ensures)

@@ -1,5 +1,5 @@
 use Rattle.std.proofs.Common.{◌∙◌}
-use Rattle.pg_graph.proofs.AtPlace.{rises_removed}
+use Rattle.pg_edits.proofs.AtPlace.{rises_removed}
 use Rattle.pg_program.proofs.own_edges.remove_at.Goals as goal
 
 pub returns-clause-value : goal.returns-clause-value

@@ -1,5 +1,5 @@
 use Rattle.std.proofs.Common.{ℕ, ◌++◌, [], ◌∷◌, append_assoc, map, ap, sym, ◌∙◌}
-use Rattle.pg_graph.specs.declared.graph.Row.{Row}
+use Rattle.pg_edits.specs.declared.row.Row.{Row}
 use Rattle.pg_model.specs.ByIds.{state_first}
 use Rattle.pg_model.specs.declared.configuration.VertexState.{VertexState}
 use Rattle.pg_routing.specs.Starting.{own}

@@ -2,7 +2,7 @@ use Rattle.std.proofs.Common.{◌≡◌, is_some, Option, None, Some, Bor, refl,
 use Rattle.std.specs.Option.{unwrap_or, option_copied}
 use Rattle.pg_graph.specs.Rows.{row_at}
 use Rattle.pg_map.proofs.Changing.{value_at-with_changes}
-use Rattle.pg_graph.specs.declared.graph.Row.{Row}
+use Rattle.pg_edits.specs.declared.row.Row.{Row}
 use Rattle.pg_graph.proofs.draft.Draft.has_vertex.Goals as goal
 
 pub returns-in-Some : goal.returns-in-Some

@@ -1,0 +1,23 @@
+use Rattle.std.proofs.Common.{rules, [], ◌∷◌, ◌++◌, Some, sym, ap, ◌∙◌, append_assoc}
+use Rattle.pg_edits.specs.ChangedRows.{changes_of}
+use Rattle.pg_edits.proofs.SideBySide.{parts_stay, parts_push, changes_push}
+use Rattle.pg_edits.proofs.changed_rows.ChangedRows.wait.Goals as goal
+
+pub invariant_of-self-in_err-push : goal.invariant_of-self-in_err-push
+invariant_of-self-in_err-push c =
+    rw (c.in_err-push.ensures.items, c.in_ok-extend_from_slice.ensures.items) (parts_stay _ _ _ c.self.invariant)
+
+pub invariant_of-self-2 : goal.invariant_of-self-2
+invariant_of-self-2 c =
+    rw (c.in_ok-push.ensures.items, c.in_ok-extend_from_slice.ensures.items)
+    (parts_push c.self.inside.waiting.items c.self.inside.edges.items c.args.edges.now _ c.self.invariant (search rules) (search rules) c.requires)
+
+pub returns : goal.returns
+returns c =
+    let waiting = c.self.inside.waiting.items in
+    let edges = c.self.inside.edges.items in
+    let done = c.self.inside.done.items in
+    rw (c.in_ok-push.ensures.items, c.in_ok-extend_from_slice.ensures.items, ← c.self.view_is)
+    (ap (λ rows. done ++ rows) (changes_push waiting edges c.args.edges.now _ c.self.invariant (search rules) (search rules))
+    ∙ sym (append_assoc done (changes_of waiting edges) _)
+    ∙ ap (λ row. (done ++ changes_of waiting edges) ++ (c.args.id, Some row) ∷ []) (search rules))

@@ -1,0 +1,9 @@
+pub mod ChangedRows
+pub mod DraftRow
+pub mod EdgeList
+pub mod Edges
+pub mod EditFault
+pub mod EditKind
+pub mod Packing
+pub mod Places
+pub mod RowEdit

@@ -1,0 +1,34 @@
+//! The row of a vertex.
+ghost use Rattle.std.specs.Prelude.{◌≡◌, IfOk};
+
+use crate::{Edges, Memory};
+use pg_map::Share;
+use std::alloc::Global;
+
+/// What a graph holds of one vertex: the input that its value begins from, and its out-edges.
+#[derive(Drop)]
+pub struct Row {
+    pub input: i64,
+    pub edges: Edges,
+}
+
+impl Share for Row {
+    fn share(&self, _alloc: Global) -> Result<Row, Memory> {
+        self.copy()
+    }
+}
+
+impl Row {
+    ghost use Rattle.pg_edits.specs.declared.row.Row.{Row};
+
+    /// The same row, which shares its edges.
+    pub fn copy(&self) -> Result<Row, Memory>
+        ensures { IfOk result (λ row. row ≡ self.now) }
+    {
+        let edges = self.edges.copy()?;
+        Ok(Row {
+            input: self.input,
+            edges,
+        })
+    }
+}
