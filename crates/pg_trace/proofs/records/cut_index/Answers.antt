@@ -2,9 +2,9 @@ use Rattle.std.proofs.Common.{◌≡◌, ◌<◌, ◌+◌, ◌-◌, None, length
 use Rattle.std.specs.List.Sorted.{IsStrictlySortedBy}
 use Rattle.std.specs.Map.{keys_of}
 use Rattle.std.specs.Ordering.{nat_cmp}
-use Rattle.pg_trace.specs.Ran.{IsIndex, IsNoted}
-use Rattle.pg_trace.proofs.Last.{index_rises}
-use Rattle.pg_trace.proofs.Noting.{index-less, keys_map}
+use Rattle.pg_index.specs.Ran.{IsIndex, IsNoted}
+use Rattle.pg_index.proofs.Last.{index_rises}
+use Rattle.pg_index.proofs.Noting.{index-less, keys_map}
 use Rattle.pg_trace.proofs.records.cut_index.Goals as goal
 
 pub noted-requires-clause-rise : goal.noted-requires-clause-rise

@@ -3,9 +3,9 @@ use Rattle.std.specs.List.Sorted.{IsStrictlySortedBy}
 use Rattle.std.specs.Map.{keys_of}
 use Rattle.std.specs.Ordering.{nat_cmp}
 use Rattle.pg_map.specs.Entries.{value_at}
-use Rattle.pg_trace.specs.Ran.{IsIndex, IsNoted, noted}
-use Rattle.pg_trace.proofs.Last.{index_rises}
-use Rattle.pg_trace.proofs.Noting.{index-push, keys_map}
+use Rattle.pg_index.specs.Ran.{IsIndex, IsNoted, noted}
+use Rattle.pg_index.proofs.Last.{index_rises}
+use Rattle.pg_index.proofs.Noting.{index-push, keys_map}
 use Rattle.pg_trace.proofs.trace.Trace.push_superstep.Goals as goal
 
 pub noted_beside-requires-clause-rise : goal.noted_beside-requires-clause-rise
