@@ -23,7 +23,8 @@ use Rattle.pg_index.proofs.Supersteps.{last_of_all, lower, not_lower}
 
 -- ---- a superstep after all others
 
-all_below : (s : ℕ) (steps : List ℕ) → ((k : ℕ) → k < length steps → get_or steps k 0 < s) → (filter (λ t. ltb t s) steps ≡ steps) × (filter (λ t. ltb s t) steps ≡ [])
+all_below : (s : ℕ) (steps : List ℕ) → ((k : ℕ) → k < length steps → get_or steps k 0 < s)
+    → (filter (λ t. ltb t s) steps ≡ steps) × (filter (λ t. ltb s t) steps ≡ [])
 all_below s [] low = (refl, refl)
 all_below s (t ∷ steps) low =
     let first : t < s = low 0 (omega arith) in
@@ -85,13 +86,15 @@ module _ {X : Type 0} where
       ap (λ e. ran_by id records s (Some x) e (with_ran s true ran.steps)) (recalled s ran low)
       ∙ ap (ran_by id records s (Some x) e) steps
       ∙ ap (ran_at all e (λ t. cond (t == s) (Some x) (value_at id (get_or records t [])))) (last_of-push ran.steps s)
-      ∙ ap (λ b. option_map {U = Ran X} (λ last. record { steps = all; last = last; earlier = e }) (cond b (Some x) (value_at id (get_or records s [])))) (eq-eqb s s refl)
+      ∙ ap (λ b. option_map {U = Ran X} (λ last. record { steps = all; last = last; earlier = e }) (cond b (Some x) (value_at id (get_or records s []))))
+      (eq-eqb s s refl)
 
   pub noted_pushed : (id : ℕ) (records : List (List (ℕ × X))) (s : ℕ) (x y : X) (ran ran' : Ran X) → ((k : ℕ) → k < length ran.steps → get_or ran.steps k 0 < s)
       → ran' ≡ record { steps = ran.steps ++ s ∷ []; last = y; earlier = option_map {U = ℕ × X} (λ t. (t, ran.last)) (last_of ran.steps) } → y ≡ x
       → Some ran' ≡ noted id records s (Some (Some x)) (Some ran)
   noted_pushed id records s x y ran ran' low pushed same =
-      let with_last : X → Ran X = λ k. record { steps = ran.steps ++ s ∷ []; last = k; earlier = option_map {U = ℕ × X} (λ t. (t, ran.last)) (last_of ran.steps) } in
+      let last_one : Option (ℕ × X) = option_map (λ t. (t, ran.last)) (last_of ran.steps) in
+      let with_last : X → Ran X = λ k. record { steps = ran.steps ++ s ∷ []; last = k; earlier = last_one } in
       ap Some (pushed ∙ ap with_last same) ∙ sym (noted_last id records s x ran low)
 
 -- ---- one note after another
@@ -100,7 +103,8 @@ backwards : (a b : ℕ) → nat_cmp a b ≡ Less → is_at (nat_cmp b) a ≡ fal
 backwards a b h = grind (arith, nat_tests)
 
 module _ {Y : Type 0} where
-  below_next : (k : ℕ) (xs : List (ℕ × Y)) (e : ℕ × Y) (ys : List (ℕ × Y)) → AllByRecursion (λ y. nat_cmp k y ≡ Less) (keys_of (xs ++ e ∷ ys)) → nat_cmp k e.0 ≡ Less
+  below_next : (k : ℕ) (xs : List (ℕ × Y)) (e : ℕ × Y) (ys : List (ℕ × Y)) → AllByRecursion (λ y. nat_cmp k y ≡ Less) (keys_of (xs ++ e ∷ ys))
+      → nat_cmp k e.0 ≡ Less
   below_next k [] e ys h = h.0
   below_next k (x ∷ xs) e ys h = below_next k xs e ys h.1
 
@@ -141,7 +145,8 @@ module _ {X : Type 0} (records : List (List (ℕ × X))) (s : ℕ) (given : List
 
       same : q ≡ e.0 → cond (is_at (nat_cmp e.0) q) after (value_at q now) ≡ noted q records s (value_at q (take (i + 1) given)) (value_at q ran)
       same is =
-          subst (λ k. cond (is_at (nat_cmp e.0) k) after (value_at k now) ≡ noted k records s (value_at k (take (i + 1) given)) (value_at k ran)) (sym is) at_itself
+          subst (λ k. cond (is_at (nat_cmp e.0) k) after (value_at k now) ≡ noted k records s (value_at k (take (i + 1) given)) (value_at k ran))
+          (sym is) at_itself
 
       other : (q ≡ e.0 → ⊥) → cond (is_at (nat_cmp e.0) q) after (value_at q now) ≡ noted q records s (value_at q (take (i + 1) given)) (value_at q ran)
       other apart =
@@ -170,7 +175,8 @@ module _ {X : Type 0} where
       ∙ ap (λ r. set (rs ++ [] ∷ []) (length rs) (with_changes given r)) (get_last rs [] [])
       ∙ set_last rs [] (with_changes given [])
 
-  pub put-there : (rs : List (List (ℕ × X))) (n : ℕ) (given : List (ℕ × Option X)) → n < length rs → put_at n given rs ≡ set rs n (with_changes given (get_or rs n []))
+  pub put-there : (rs : List (List (ℕ × X))) (n : ℕ) (given : List (ℕ × Option X)) → n < length rs
+      → put_at n given rs ≡ set rs n (with_changes given (get_or rs n []))
   put-there rs n given within = by (eqb_tells (length rs) n)
     where
       by : ((length rs == n) ≡ true) × (length rs ≡ n) ⊎ ((length rs == n) ≡ false) × (length rs ≢ n)
@@ -190,4 +196,5 @@ module _ {X : Type 0} where
       by (inr other) =
           let low : n < length rs = let e = other.1 in omega (arith, within, e) in
           subst (λ l. IsIndex l ran') (sym (put-there rs n given low))
-          (index-set rs n (get_or rs n []) (with_changes given (get_or rs n [])) given ran ran' low (sym (get_or_default rs n (get_or rs n []) [] low)) rising rise refl index notes)
+          (index-set rs n (get_or rs n []) (with_changes given (get_or rs n [])) given ran ran' low
+          (sym (get_or_default rs n (get_or rs n []) [] low)) rising rise refl index notes)

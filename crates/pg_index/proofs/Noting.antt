@@ -47,7 +47,8 @@ module _ {X : Type 0} where
   -- an id of which an index has what there is to say
   by_steps : (id : ℕ) (rs : List (List (ℕ × X))) (steps : List ℕ) (f : ℕ → Option X) → ran_from id 0 rs ≡ steps
       → ((t : ℕ) → f t ≡ value_at id (get_or rs t []))
-      → elim (last_of steps) [ None ↦ None | Some t ↦ option_map {U = Ran X} (λ last. record { steps = steps; last = last; earlier = None }) (f t) ] ≡ ran_in id rs
+      → elim (last_of steps) [ None ↦ None | Some t ↦ option_map {U = Ran X} (λ last. record { steps = steps; last = last; earlier = None }) (f t) ]
+      ≡ ran_in id rs
   by_steps id rs steps f ran at =
       put (last_of steps)
       ∙ ap (λ o. option_map {U = Ran X} (λ last. record { steps = steps; last = last; earlier = None }) o)
@@ -126,7 +127,8 @@ module _ {X : Type 0} where
   remembers_still id rs rs' at (Some r) there = there_still id rs rs' at r.earlier there
 
   -- the last record is that of the last superstep
-  last_there : (id : ℕ) (rs : List (List (ℕ × X))) (r : Ran X) (t : ℕ) → bare (Some r) ≡ ran_in id rs → last_of r.steps ≡ Some t → value_at id (get_or rs t []) ≡ Some r.last
+  last_there : (id : ℕ) (rs : List (List (ℕ × X))) (r : Ran X) (t : ℕ) → bare (Some r) ≡ ran_in id rs
+      → last_of r.steps ≡ Some t → value_at id (get_or rs t []) ≡ Some r.last
   last_there id rs r t is last =
       let at : List ℕ → Option X = λ steps. option_and_then (λ k. value_at id (get_or rs k [])) (last_of steps) in
       let steps : r.steps ≡ ran_from id 0 rs = ap steps_in is ∙ steps_of_ran id rs in
@@ -259,7 +261,8 @@ module _ {X : Type 0} (id : ℕ) where
           ∙ ap (λ v. cond (t == length (take n rs)) v here) is ∙ ap (λ m. cond (t == m) None here) long ∙ none_there t n here none)
       by (Some x) is = sym (none_there t n here none)
 
-  less_below : (rs : List (List (ℕ × X))) (n t : ℕ) → n < length rs → t < n → value_at id (get_or (take n rs) t []) ≡ value_at id (get_or (take (n + 1) rs) t [])
+  less_below : (rs : List (List (ℕ × X))) (n t : ℕ) → n < length rs → t < n
+      → value_at id (get_or (take n rs) t []) ≡ value_at id (get_or (take (n + 1) rs) t [])
   less_below rs n t within below =
       let short = length-take n rs in
       let long = length-take (n + 1) rs in
@@ -276,7 +279,9 @@ module _ {X : Type 0} (id : ℕ) where
         where
           at : ((t == n) ≡ true) × (t ≡ n) ⊎ ((t == n) ≡ false) × (t ≢ n)
               → cond (t == n) (value_at id (get_or rs n [])) (value_at id (get_or rs t [])) ≡ value_at id (get_or rs t [])
-          at (inl same) = ap (λ b. cond b (value_at id (get_or rs n [])) (value_at id (get_or rs t []))) same.0 ∙ sym (ap (λ k. value_at id (get_or rs k [])) same.1)
+          at (inl same) =
+              ap (λ b. cond b (value_at id (get_or rs n [])) (value_at id (get_or rs t []))) same.0
+              ∙ sym (ap (λ k. value_at id (get_or rs k [])) same.1)
           at (inr other) = ap (λ b. cond b (value_at id (get_or rs n [])) (value_at id (get_or rs t []))) other.0
 
 -- ---- an index as supersteps come, go and change
@@ -333,7 +338,8 @@ module _ {X : Type 0} where
       → IsIndex rs ran → IsNoted rs n given ran ran' → IsIndex (set rs n xs) ran'
   index-set rs n r xs given ran ran' within here rising rise made index notes id =
       let at = here ∙ get_or_default rs n r [] within in
-      let new : value_at id xs ≡ unwrap_or (value_at id given) (value_at id (get_or rs n [])) = ap (value_at id) made ∙ value_at-with_changes given r id rise rising
+      let new : value_at id xs ≡ unwrap_or (value_at id given) (value_at id (get_or rs n [])) = ap (value_at id) made
+      ∙ value_at-with_changes given r id rise rising
       ∙ ap (λ q. unwrap_or (value_at id given) (value_at id q)) at in
       let agree : Agrees (option_map is_some (value_at id given)) (is_some (value_at id (get_or rs n []))) (is_some (value_at id xs)) =
       subst (λ v. Agrees (option_map is_some (value_at id given)) (is_some (value_at id (get_or rs n []))) (is_some v)) (sym new)

@@ -84,7 +84,8 @@ module _ {X : Type 0} where
   ran_by id records s given earlier steps =
       elim (last_of steps) [
         | None ↦ None
-        | Some t ↦ option_map (λ last. record { steps = steps; last = last; earlier = earlier }) (cond (t == s) given (value_at id (slice_index_or records t [])))
+        | Some t ↦ option_map (λ last. record { steps = steps; last = last; earlier = earlier })
+            (cond (t == s) given (value_at id (slice_index_or records t [])))
       ]
 
   -- what an id has once it is noted what superstep s gave it, and where nothing is said of it

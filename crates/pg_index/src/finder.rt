@@ -12,8 +12,8 @@ use pg_map::Map;
 use pg_model::Record;
 use std::marker::Model;
 
-/// Looks up the last records of vertices in supersteps with their index. Where an id lies near the one before, it costs a
-/// search near that. A contract sees the records of the supersteps.
+/// Looks up the last records of vertices in supersteps with their index. Where an id lies near the one before, it costs
+/// a search near that. A contract sees the records of the supersteps.
 #[derive(Drop)]
 pub struct LastFinder<'a, V, M> {
     index: IndexFinder<'a, V, M>,
@@ -44,8 +44,8 @@ impl<'a, V: Drop, M: Drop> LastFinder<'a, V, M> {
         LastFinder { index, supersteps }
     }
 
-    /// The last record of a vertex before a superstep. The superstep is found by halving among those in which the vertex
-    /// ran, and its record is read from the index, or by two binary searches.
+    /// The last record of a vertex before a superstep. The superstep is found by halving among those in which the
+    /// vertex ran, and its record is read from the index, or by two binary searches.
     pub fn last_before(&mut self, id: VertexId, superstep: usize) -> Option<&'a Record<V, M>>
         ensures value { option_copied result ≡ last_record id (take superstep self.old) }
         ensures same { self.new ≡ self.old }
@@ -55,8 +55,8 @@ impl<'a, V: Drop, M: Drop> LastFinder<'a, V, M> {
         last_before(supersteps, ran, id, superstep)
     }
 
-    /// The last records of a vertex before a superstep and before the next one, by one look-up of the vertex. It costs what
-    /// `last_before` does, and a second search where the vertex ran in the superstep.
+    /// The last records of a vertex before a superstep and before the next one, by one look-up of the vertex. It costs
+    /// what `last_before` does, and a second search where the vertex ran in the superstep.
     pub fn last_around(&mut self, id: VertexId, superstep: usize) -> LastRecords<'a, V, M>
         requires { superstep + 1 < 2 ^ 64 }
         ensures before { option_copied result.before ≡ last_record id (take superstep self.old) }

@@ -122,8 +122,8 @@ impl<V: Drop, M: Drop> Index<V, M> {
         }
     }
 
-    /// The same index beside this one, with the notes put into its map. Where there are none it costs O(1), and else a copy
-    /// of what they change.
+    /// The same index beside this one, with the notes put into its map. Where there are none it costs O(1), and else a
+    /// copy of what they change.
     pub fn share(&self, alloc: Global) -> Result<Index<V, M>, Memory>
         ensures { IfOk result (λ index. index ≡ self.now) }
     {

@@ -1,5 +1,5 @@
 -- Worked rows, by computation.
-use Rattle.std.specs.Prelude.{◌≡◌, ℕ, ℤ, pos, [], ◌∷◌, None, Some, refl}
+use Rattle.std.specs.Prelude.{◌≡◌, ℕ, ℤ, pos, true, false, [], ◌∷◌, None, Some, refl}
 use Rattle.pg_model.specs.declared.configuration.VertexState.{VertexState}
 use Rattle.pg_model.specs.declared.record.Record.{Record}
 use Rattle.pg_trace.specs.Trace.{Trace, first_supersteps, record_at, state_at, with_replaced, with_superstep}

@@ -11,7 +11,8 @@ use Rattle.pg_index.proofs.notes.note_of.Goals as goal
 pub note_again-requires : goal.note_again-requires
 note_again-requires g c =
     subst (λ o. IsNonDecreasingBy (λ t. t) (steps_in o))
-    (over c.args.base.now c.args.notes.now.entries c.requires.rising c.get_mut.ensures.ordered c.args.id (Some c.in-Some.steps.now) (sym c.in-Some.ensures.value))
+    (over c.args.base.now c.args.notes.now.entries c.requires.rising c.get_mut.ensures.ordered c.args.id (Some c.in-Some.steps.now)
+    (sym c.in-Some.ensures.value))
     c.requires.steps
 
 pub returns-in-Some-clause-noted : goal.returns-in-Some-clause-noted

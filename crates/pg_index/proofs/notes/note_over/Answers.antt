@@ -17,7 +17,8 @@ note_of-requires g c =
       rising = subst HasRisingIds (sym c.loop-id.invariant.same) c.tell_rising.ensures;
       steps = subst (λ l. IsNonDecreasingBy (λ t. t) (steps_in (value_at e.0 (with_changes c.loop-id.notes.entries l)))) (sym c.loop-id.invariant.same)
           (subst (λ o. IsNonDecreasingBy (λ t. t) (steps_in o))
-          (sym (unsaid rs c.args.superstep c.args.given.now c.loop-id.id-index e ran now c.requires.rise c.loop-id-test.true c.loop-id-item.is c.loop-id.invariant.notes))
+          (sym (unsaid rs c.args.superstep c.args.given.now c.loop-id.id-index e ran now c.requires.rise c.loop-id-test.true c.loop-id-item.is
+          c.loop-id.invariant.notes))
           (c.requires.steps e.0));
     }
 
@@ -29,10 +30,11 @@ loop-id-preserved g c =
     let ran = with_changes c.args.notes.now.entries base in
     let now = with_changes c.loop-id.notes.entries base in
     record {
-      notes = noted_more rs c.args.superstep c.args.given.now c.loop-id.id-index e ran now c.requires.rise c.loop-id-test.true c.loop-id-item.is c.loop-id.invariant.notes
-          (with_changes c.note_of.new.notes.entries base)
+      notes = noted_more rs c.args.superstep c.args.given.now c.loop-id.id-index e ran now c.requires.rise c.loop-id-test.true c.loop-id-item.is
+          c.loop-id.invariant.notes (with_changes c.note_of.new.notes.entries base)
           (subst (λ o. IsNotedOf e.0 rs c.args.superstep o now (with_changes c.note_of.new.notes.entries base)) c.as_ref.ensures.value
-          (subst (λ l. IsNotedOf e.0 rs c.args.superstep (option_copied c.as_ref.result) (with_changes c.loop-id.notes.entries l) (with_changes c.note_of.new.notes.entries l))
+          (subst (λ l. IsNotedOf e.0 rs c.args.superstep (option_copied c.as_ref.result) (with_changes c.loop-id.notes.entries l)
+          (with_changes c.note_of.new.notes.entries l))
           c.loop-id.invariant.same c.in_ok-note_of.ensures.noted));
       same = c.note_of.ensures.same ∙ c.loop-id.invariant.same;
     }

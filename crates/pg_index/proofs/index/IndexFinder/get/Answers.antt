@@ -6,7 +6,8 @@ use Rattle.pg_index.proofs.index.IndexFinder.get.Goals as goal
 pub returns-in-Some-clause-value : goal.returns-in-Some-clause-value
 returns-in-Some-clause-value g c =
     c.as_ref.ensures.value
-    ∙ sym (over c.self.inside.base c.self.inside.notes.now.entries c.self.invariant.0 c.self.invariant.1 c.args.id (Some c.in-Some.steps.now) (sym c.in-Some.ensures.value))
+    ∙ sym (over c.self.inside.base c.self.inside.notes.now.entries c.self.invariant.0 c.self.invariant.1 c.args.id (Some c.in-Some.steps.now)
+    (sym c.in-Some.ensures.value))
     ∙ ap (value_at c.args.id) c.self.view_is
 
 pub returns-in-None-clause-value : goal.returns-in-None-clause-value
