@@ -1,5 +1,5 @@
 -- Notes that are made in place, one after another, and records that are put in the superstep that comes next.
-use Rattle.std.proofs.Common.{◌≡◌, ℕ, suc, ◌+◌, ◌-◌, ◌<◌, ◌≤◌, ◌==◌, ◌≢◌, ◌⊎◌, inl, inr, Bool, true, false, cond, List, [], ◌∷◌, ◌++◌, length, get_or, set, take, drop, Option, None, Some, is_some, true≢false, unwrap_or, option_map, refl, sym, ap, ◌∙◌, subst, ⊎_elim, append_assoc, arith, ltb, eq-eqb}
+use Rattle.std.proofs.Common.{◌≡◌, ℕ, suc, ◌+◌, ◌-◌, ◌<◌, ◌≤◌, ◌==◌, ◌≢◌, ◌⊎◌, inl, inr, true, false, cond, List, [], ◌∷◌, ◌++◌, length, get_or, set, take, drop, Option, None, Some, is_some, true≢false, unwrap_or, option_map, refl, sym, ap, ◌∙◌, subst, ⊎_elim, append_assoc, arith, ltb, eq-eqb}
 use Rattle.std.specs.BTreeMap.{insert_entry, is_at}
 use Rattle.std.specs.List.{AllByRecursion, filter}
 use Rattle.std.specs.List.Sorted.{IsNonDecreasingBy}
@@ -14,7 +14,6 @@ use Rattle.std.proofs.lemmas.Map.Keys.{sorted_head, sorted_tail}
 use Rattle.pg_map.specs.Entries.{ChangesRise, HasRisingIds, value_at, with_changes}
 use Rattle.pg_map.proofs.Changing.{value_at-with_changes}
 use Rattle.pg_map.proofs.Rising.{at_other, at_same, find-insert_other, find-insert_same, insert_entry-take}
-use Rattle.pg_model.specs.declared.record.Record.{Record}
 use Rattle.pg_index.specs.Ran.{IsIndex, IsNoted, IsNotedOf, Ran, last_of, noted, ran_by, remembered, with_ran}
 use Rattle.pg_index.specs.Records.{put_at}
 use Rattle.pg_index.proofs.Noting.{index-next, index-set}
