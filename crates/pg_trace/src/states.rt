@@ -1,8 +1,8 @@
 //! Look-ups of states that come near one another.
 ghost use Rattle.std.specs.Prelude.{◌≡◌, ◌+◌};
 ghost use Rattle.std.specs.Option.{option_copied, option_map, option_or};
-ghost use Rattle.pg_trace.specs.OfRun.{IsOfRun};
 ghost use Rattle.pg_index.specs.Ran.{IsIndex};
+ghost use Rattle.pg_trace.specs.OfRun.{IsOfRun};
 ghost use Rattle.pg_trace.specs.Trace.{left_by, state_at};
 
 use crate::beginnings::{Beginnings, BegunFinder};
