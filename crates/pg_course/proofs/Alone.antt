@@ -39,7 +39,7 @@ use Rattle.pg_compute.proofs.ReadVertices.{IsRead, active_among, all_found, all_
 use Rattle.pg_compute.proofs.Recording.{IsCounted, IsRight, counted_are, no_other_record, records_are, records_rise}
 use Rattle.pg_compute.proofs.Callees.{nothing_rises}
 use Rattle.pg_routing.proofs.Sends.{sends_of_changes}
-use Rattle.pg_trace.proofs.Somes.{somes_are}
+use Rattle.pg_index.proofs.Somes.{somes_are}
 use Rattle.pg_routing.proofs.Beginning.{own_rise}
 use Rattle.pg_course.proofs.Stepping.{reaching_next, stepped_holds}
 use Rattle.pg_compute.proofs.Looking.{in_neither, outside}

@@ -21,7 +21,7 @@ use Rattle.pg_routing.specs.Sending.{items_to, pairs_by, pairs_of, sends_by, sen
 use Rattle.pg_routing.proofs.Delivery.{either_order}
 use Rattle.pg_routing.proofs.Listing.{all_picked}
 use Rattle.pg_routing.proofs.Sends.{items-append, sends-somes, sends_by_records}
-use Rattle.pg_trace.proofs.Somes.{somes, somes_rise, value_at-somes}
+use Rattle.pg_index.proofs.Somes.{somes, somes_rise, value_at-somes}
 use Rattle.pg_trace.specs.Trace.{Trace, record_at}
 
 -- ---- tests

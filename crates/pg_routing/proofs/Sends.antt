@@ -7,7 +7,7 @@ use Rattle.pg_model.specs.Share.{belongs, sendings_of}
 use Rattle.pg_model.specs.declared.record.Record.{Record}
 use Rattle.pg_routing.specs.Routes.{as_sends}
 use Rattle.pg_routing.specs.Sending.{items_to, sends_by, sends_of}
-use Rattle.pg_trace.proofs.Somes.{somes}
+use Rattle.pg_index.proofs.Somes.{somes}
 
 module _ {V M : Type 0} where
   -- what records send, with the targets

@@ -24,7 +24,8 @@ use Rattle.pg_model.proofs.LawsAgreement.{state_after-idle}
 use Rattle.pg_model.proofs.LawsIds.{ids_rise, standing_after, standing_at-next}
 use Rattle.pg_model.proofs.LawsStandings.{standing_is}
 use Rattle.pg_trace.specs.OfRun.{IsOfRun, run_state}
-use Rattle.pg_trace.specs.Trace.{Trace, last_record, left_by, state_at, state_of}
+use Rattle.pg_index.specs.Records.{last_record}
+use Rattle.pg_trace.specs.Trace.{Trace, left_by, state_at, state_of}
 
 not_both : (b : Bool) → b ≡ true → b ≡ false → ⊥
 not_both b h k = absurd (true≢false (sym h ∙ k))

@@ -2,7 +2,6 @@
 use Rattle.std.specs.Prelude.{◌≡◌, ℕ, ℤ, pos, true, false, [], ◌∷◌, None, Some, refl}
 use Rattle.pg_model.specs.declared.configuration.VertexState.{VertexState}
 use Rattle.pg_model.specs.declared.record.Record.{Record}
-use Rattle.pg_trace.specs.Ran.{ran_from, with_ran}
 use Rattle.pg_trace.specs.Trace.{Trace, first_supersteps, record_at, state_at, with_replaced, with_superstep}
 
 abbrev began : ℕ → ℤ → VertexState ℤ
@@ -50,12 +49,3 @@ replaced_and_kept = refl
 
 pushed : record_at 3 3 (with_superstep ((3, gave (pos 34)) ∷ []) three) ≡ Some (gave (pos 34))
 pushed = refl
-
-ran_in : ran_from 5 0 three.records ≡ 0 ∷ 1 ∷ 2 ∷ []
-ran_in = refl
-
-ran_less : with_ran 1 false (0 ∷ 1 ∷ 2 ∷ []) ≡ 0 ∷ 2 ∷ []
-ran_less = refl
-
-ran_more : with_ran 1 true (0 ∷ 2 ∷ []) ≡ 0 ∷ 1 ∷ 2 ∷ []
-ran_more = refl

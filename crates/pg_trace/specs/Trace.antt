@@ -1,11 +1,12 @@
 -- What a run leaves of one partition, and the states that are read from it.
-use Rattle.std.specs.Prelude.{ℕ, ◌==◌, cond, List, [], ◌∷◌, ◌++◌, length, map, take, slice_index_or, slice_set, Option, None}
+use Rattle.std.specs.Prelude.{ℕ, ◌==◌, cond, List, [], ◌∷◌, ◌++◌, length, map, take, slice_index_or, slice_set, Option}
 use Rattle.std.specs.List.{find}
 use Rattle.std.specs.List.Sorted.{IsStrictlySortedBy}
 use Rattle.std.specs.Option.{option_map, option_or}
 use Rattle.std.specs.Ordering.{nat_cmp}
 use denote.Ref.{Bor}
 use Rattle.pg_map.specs.Entries.{value_at, with_changes}
+use Rattle.pg_index.specs.Records.{last_record}
 use Rattle.pg_model.specs.declared.configuration.VertexState.{VertexState}
 use Rattle.pg_model.specs.declared.record.Record.{Record}
 
@@ -27,17 +28,6 @@ module _ {X : Type 0} where
   -- lent records, as what they point to
   abbrev pub lent : List (ℕ × Bor X) → List (ℕ × X)
   lent entries = map (λ e. (e.0, e.1.now)) entries
-
-  -- the last record of an id in these supersteps, if it ran in any
-  abbrev pub last_record : ℕ → List (List (ℕ × X)) → Option X
-  last_record id [] = None
-  last_record id (records ∷ later) = option_or (last_record id later) (value_at id records)
-
-  -- supersteps, with changes of the records of superstep s, which they have or which comes next
-  abbrev pub put_at : ℕ → List (ℕ × Option X) → List (List (ℕ × X)) → List (List (ℕ × X))
-  put_at s changes records =
-      let reached = cond (length records == s) (records ++ [] ∷ []) records in
-      slice_set reached s (with_changes changes (slice_index_or reached s []))
 
 module _ {V M : Type 0} where
   -- as a run begins with these states

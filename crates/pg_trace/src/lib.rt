@@ -2,15 +2,9 @@
 #![tactic(auto)]
 
 mod beginnings;
-mod changes;
-mod index;
-mod kept;
-mod notes;
-mod ran;
 mod records;
 mod state;
 mod states;
-mod steps;
 mod trace;
 
 pub use pg_graph::Memory;

@@ -1,13 +1,11 @@
 //! The records of supersteps, one superstep or many at a time.
-ghost use Rattle.std.specs.Prelude.{◌≡◌, [], length, map, take, ◌≤◌, None, Some, IfOk, slice_index_or};
-ghost use Rattle.pg_map.specs.Entries.{ChangesRise, HasRisingIds};
-ghost use Rattle.pg_trace.specs.Ran.{IsIndex};
-ghost use Rattle.pg_trace.specs.Trace.{lent, put_at};
+ghost use Rattle.std.specs.Prelude.{◌≡◌, length, map, take, ◌≤◌, None, Some, IfOk};
+ghost use Rattle.pg_map.specs.Entries.{HasRisingIds};
+ghost use Rattle.pg_index.specs.Ran.{IsIndex};
+ghost use Rattle.pg_trace.specs.Trace.{lent};
 
-use crate::changes::{changed, fresh, tell_rising};
-use crate::index::Index;
-use crate::kept::Kept;
 use pg_graph::{Memory, VertexId};
+use pg_index::{Index, Kept};
 use pg_map::{Map, Share};
 use pg_model::Record;
 use std::alloc::Global;
@@ -133,27 +131,9 @@ fn kept_if_any<V: Drop, M: Drop>(
     }
 }
 
-/// Supersteps with these changes of the records of one, which they have or which comes next. Where it comes next its
-/// map is made of the records that are there; else it costs a copy of the chunks that are changed, and with no change
-/// nothing.
-pub(crate) fn put_records<V: Drop, M: Drop>(
-    alloc: Global,
-    supersteps: Vec<Map<Kept<V, M>>>,
-    place: usize,
-    changes: Vec<(VertexId, Option<Kept<V, M>>)>,
-) -> Result<Vec<Map<Kept<V, M>>>, Memory>
-    requires rise { ChangesRise changes.items }
-    requires within { place ≤ length supersteps.items }
-    ensures put { IfOk result (λ after. after.items ≡ put_at place changes.items supersteps.items) }
-    ensures rising { IfOk result (λ after. HasRisingIds (slice_index_or supersteps.items place [])) }
+/// Tells the prover that a map's ids rise.
+pub(crate) fn tell_rising<X>(map: &Map<X>)
+    ensures { HasRisingIds map.now }
 {
-    let mut supersteps = supersteps;
-    if place == supersteps.len() {
-        supersteps.push(fresh(alloc, changes)?)?;
-        return Ok(supersteps);
-    }
-    let records = supersteps[place].share()?;
-    tell_rising(&records);
-    supersteps[place] = changed(alloc, records, changes)?;
-    Ok(supersteps)
+    let _count = map.len();
 }

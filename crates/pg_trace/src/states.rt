@@ -1,16 +1,14 @@
 //! Look-ups of states that come near one another.
-ghost use Rattle.std.specs.Prelude.{◌≡◌, ◌+◌, take};
+ghost use Rattle.std.specs.Prelude.{◌≡◌, ◌+◌};
 ghost use Rattle.std.specs.Option.{option_copied, option_map, option_or};
+ghost use Rattle.pg_index.specs.Ran.{IsIndex};
 ghost use Rattle.pg_trace.specs.OfRun.{IsOfRun};
-ghost use Rattle.pg_trace.specs.Ran.{IsIndex};
-ghost use Rattle.pg_trace.specs.Trace.{last_record, left_by, state_at};
+ghost use Rattle.pg_trace.specs.Trace.{left_by, state_at};
 
 use crate::beginnings::{Beginnings, BegunFinder};
-use crate::index::{Index, IndexFinder};
-use crate::kept::Kept;
-use crate::ran::{LastRecords, last_around, last_before};
 use crate::{StateRef, Turn};
 use pg_graph::{Superstep, VertexId};
+use pg_index::{Index, Kept, LastFinder, LastRecords};
 use pg_map::Map;
 use pg_model::{Record, VertexState};
 use std::marker::Model;
@@ -20,8 +18,7 @@ use std::marker::Model;
 #[derive(Drop)]
 pub struct States<'a, V, M> {
     initial: BegunFinder<'a, V>,
-    ran: IndexFinder<'a, V, M>,
-    supersteps: &'a [Map<Kept<V, M>>],
+    records: LastFinder<'a, V, M>,
 }
 
 impl<'a, V, M> Model for States<'a, V, M> {
@@ -29,11 +26,7 @@ impl<'a, V, M> Model for States<'a, V, M> {
 
     ghost Value = { Trace V M };
 
-    ghost use Rattle.pg_trace.specs.Ran.{IsIndex};
-
-    ghost view = { λ s. record { initial = s.initial; records = s.supersteps.now } };
-
-    ghost invariant = { λ s. IsIndex s.supersteps.now s.ran };
+    ghost view = { λ s. record { initial = s.initial; records = s.records } };
 }
 
 impl<'a, V: Drop, M: Drop> States<'a, V, M> {
@@ -48,8 +41,7 @@ impl<'a, V: Drop, M: Drop> States<'a, V, M> {
     {
         States {
             initial: initial.finder(),
-            ran: ran.finder(),
-            supersteps,
+            records: ran.finder(supersteps),
         }
     }
 
@@ -72,14 +64,9 @@ impl<'a, V: Drop, M: Drop> States<'a, V, M> {
         ensures after { result.after ≡ state_at id (superstep + 1) self.old }
         ensures same { self.new ≡ self.old }
     {
-        let supersteps = self.supersteps;
-        let ran = self.ran.get(id);
-        let LastRecords { before, after } = last_around(
-            supersteps,
-            ran,
-            id,
-            superstep.number() as usize,
-        );
+        let LastRecords { before, after } = self
+            .records
+            .last_around(id, superstep.number() as usize);
         if let (Some(before), Some(after)) = (before, after) {
             return Turn {
                 before: Some(StateRef::of_record(id, before)),
@@ -98,23 +85,13 @@ impl<'a, V: Drop, M: Drop> States<'a, V, M> {
         ensures value { result ≡ state_at id place self.old }
         ensures same { self.new ≡ self.old }
     {
-        match self.last_record(id, place) {
+        match self.records.last_before(id, place) {
             Some(left) => Some(StateRef::of_record(id, left)),
             None => {
                 let state = self.initial.get(id)?;
                 Some(StateRef::of_state(state))
             }
         }
-    }
-
-    /// The last record of a vertex before a superstep.
-    fn last_record(&mut self, id: VertexId, place: usize) -> Option<&'a Record<V, M>>
-        ensures value { option_copied result ≡ last_record id (take place self.old.records) }
-        ensures same { self.new ≡ self.old }
-    {
-        let supersteps = self.supersteps;
-        let ran = self.ran.get(id);
-        last_before(supersteps, ran, id, place)
     }
 }
 

@@ -4,17 +4,14 @@ ghost use Rattle.std.specs.Option.{option_copied};
 ghost use Rattle.pg_map.specs.Entries.{ChangesRise, HasRisingIds, value_at};
 ghost use Rattle.pg_trace.specs.Beginning.{ChangesById, with_first};
 ghost use Rattle.pg_trace.specs.OfRun.{IsOfRun};
-ghost use Rattle.pg_trace.specs.Trace.{StatesRise, begun, lent, record_at, records_of, state_at, reaching, with_superstep, first_supersteps, last_record, with_replaced};
+ghost use Rattle.pg_trace.specs.Trace.{StatesRise, begun, lent, record_at, records_of, state_at, reaching, with_superstep, first_supersteps, with_replaced};
 
 use crate::StateRef;
 use crate::beginnings::Beginnings;
-use crate::changes::tell_rising;
-use crate::index::Index;
-use crate::kept::Kept;
-use crate::ran::kept_in;
-use crate::records::{all_given, all_kept, changes_kept, cut_index, listed, put_records, shared};
+use crate::records::{all_given, all_kept, changes_kept, cut_index, listed, shared, tell_rising};
 use crate::states::States;
 use pg_graph::{Memory, Superstep, VertexId};
+use pg_index::{Index, Kept, kept_in, put_records};
 use pg_map::Map;
 use pg_model::{Record, VertexState};
 use std::alloc::Global;
@@ -48,7 +45,7 @@ impl<V, M> Model for Trace<V, M> {
 
     ghost Value = { Trace V M };
 
-    ghost use Rattle.pg_trace.specs.Ran.{IsIndex};
+    ghost use Rattle.pg_index.specs.Ran.{IsIndex};
 
     ghost view = { λ t. record { initial = t.initial; records = t.supersteps.items } };
 

@@ -31,7 +31,8 @@ use Rattle.pg_model.proofs.LawsRising.{flat_map-rising, has_id-filter}
 use Rattle.pg_model.proofs.LawsStandings.{found_by_id}
 use Rattle.pg_part.specs.Part.{PartState}
 use Rattle.pg_trace.specs.OfRun.{HoldsRun, run_state}
-use Rattle.pg_trace.specs.Trace.{Trace, last_record, left_by, records_of, state_at}
+use Rattle.pg_index.specs.Records.{last_record}
+use Rattle.pg_trace.specs.Trace.{Trace, left_by, records_of, state_at}
 use Rattle.pg_trace.proofs.RunStates.{state_of_run}
 
 -- ---- what isn't listed isn't found

@@ -2,9 +2,9 @@ use Rattle.std.proofs.Common.{◌≡◌, ◌<◌, ◌+◌, ◌-◌, None, length
 use Rattle.std.specs.List.Sorted.{IsStrictlySortedBy}
 use Rattle.std.specs.Map.{keys_of}
 use Rattle.std.specs.Ordering.{nat_cmp}
-use Rattle.pg_trace.specs.Ran.{IsIndex, IsNoted}
-use Rattle.pg_trace.proofs.Last.{index_rises}
-use Rattle.pg_trace.proofs.Noting.{index-less, keys_map}
+use Rattle.pg_index.specs.Ran.{IsIndex, IsNoted}
+use Rattle.pg_index.proofs.Last.{index_rises}
+use Rattle.pg_index.proofs.Noting.{index-less, keys_map}
 use Rattle.pg_trace.proofs.records.cut_index.Goals as goal
 
 pub noted-requires-clause-rise : goal.noted-requires-clause-rise
@@ -24,8 +24,8 @@ loop-left-preserved g c =
     record {
       low = omega (arith, c.loop-left-test.true);
       high = omega (arith, within);
-      index = index-less ss (left - 1) c.index-supersteps-left.result c.as_slice.result.now c.loop-left.first c.in_ok-first-2.first within c.index-supersteps-left.is
-          (subst (λ n. IsIndex (take n ss) c.loop-left.first) one c.loop-left.invariant.index)
+      index = index-less ss (left - 1) c.index-supersteps-left.result c.as_slice.result.now c.loop-left.first c.in_ok-first-2.first within
+          c.index-supersteps-left.is (subst (λ n. IsIndex (take n ss) c.loop-left.first) one c.loop-left.invariant.index)
           (c.as_slice.ensures.value ∙ c.in_ok-none.ensures.none)
           (subst (λ l. IsNoted l (left - 1) c.as_slice.result.now c.loop-left.first c.in_ok-first-2.first) c.split_at.ensures.front c.in_ok-first-2.ensures);
     }

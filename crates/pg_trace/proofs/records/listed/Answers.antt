@@ -2,7 +2,7 @@ use Rattle.std.proofs.Common.{◌≡◌, IfOk, map, rules, subst}
 use Rattle.std.specs.Map.Iter.{deref_pair}
 use Rattle.std.proofs.lemmas.Iterator.{YieldsList-from_map_by}
 use Rattle.std.proofs.lemmas.Iterator.Consumers.{YieldsList-from_rest, map_from_collect}
-use Rattle.pg_trace.proofs.Noting.{map_same}
+use Rattle.pg_index.proofs.Noting.{map_same}
 use Rattle.pg_trace.proofs.records.listed.Goals as goal
 
 pub returns-clause-records : goal.returns-clause-records

@@ -11,4 +11,5 @@ returns-in_err-begun-clause-value g c =
 
 pub returns-clause-value : goal.returns-clause-value
 returns-clause-value g c =
-    ap Some c.state.ensures ∙ c.in_ok-begun.ensures.value ∙ sym (state_by_id c.args.id c.self.inside.states c.self.invariant) ∙ ap (state_of c.args.id) c.self.view_is
+    ap Some c.state.ensures ∙ c.in_ok-begun.ensures.value
+    ∙ sym (state_by_id c.args.id c.self.inside.states c.self.invariant) ∙ ap (state_of c.args.id) c.self.view_is

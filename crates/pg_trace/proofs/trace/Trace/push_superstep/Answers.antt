@@ -3,9 +3,9 @@ use Rattle.std.specs.List.Sorted.{IsStrictlySortedBy}
 use Rattle.std.specs.Map.{keys_of}
 use Rattle.std.specs.Ordering.{nat_cmp}
 use Rattle.pg_map.specs.Entries.{value_at}
-use Rattle.pg_trace.specs.Ran.{IsIndex, IsNoted, noted}
-use Rattle.pg_trace.proofs.Last.{index_rises}
-use Rattle.pg_trace.proofs.Noting.{index-push, keys_map}
+use Rattle.pg_index.specs.Ran.{IsIndex, IsNoted, noted}
+use Rattle.pg_index.proofs.Last.{index_rises}
+use Rattle.pg_index.proofs.Noting.{index-push, keys_map}
 use Rattle.pg_trace.proofs.trace.Trace.push_superstep.Goals as goal
 
 pub noted_beside-requires-clause-rise : goal.noted_beside-requires-clause-rise
@@ -23,7 +23,8 @@ invariant_of-self-2 g c =
     let notes : IsNoted rs (length rs) given c.self.inside.ran c.in_ok-ran.ran = λ id. c.in_ok-ran.ensures id
     ∙ ap (λ l. noted id l (length l) (value_at id given) (value_at id c.self.inside.ran)) c.as_slice-supersteps.ensures.value in
     subst (λ l. IsIndex l c.in_ok-ran.ran) (sym c.in_ok-push.ensures.items)
-    (index-push rs c.in_ok-records.records given c.self.inside.ran c.in_ok-ran.ran c.self.invariant (c.as_slice.ensures.value ∙ c.in_ok-given.ensures.given) notes)
+    (index-push rs c.in_ok-records.records given c.self.inside.ran c.in_ok-ran.ran c.self.invariant
+    (c.as_slice.ensures.value ∙ c.in_ok-given.ensures.given) notes)
 
 pub invariant_of-self : goal.invariant_of-self
 invariant_of-self g c = subst (λ l. IsIndex l c.self.inside.ran) (sym c.in_err-push.ensures.items) c.self.invariant

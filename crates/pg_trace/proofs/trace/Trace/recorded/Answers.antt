@@ -1,8 +1,8 @@
 use Rattle.std.proofs.Common.{◌≤◌, length, sym, ap, ◌∙◌, subst, arith}
 use Rattle.pg_map.specs.Entries.{ChangesRise, value_at}
-use Rattle.pg_trace.specs.Ran.{IsIndex, IsNoted, noted}
-use Rattle.pg_trace.proofs.InPlace.{index-put}
-use Rattle.pg_trace.proofs.Last.{index_rises}
+use Rattle.pg_index.specs.Ran.{IsIndex, IsNoted, noted}
+use Rattle.pg_index.proofs.InPlace.{index-put}
+use Rattle.pg_index.proofs.Last.{index_rises}
 use Rattle.pg_trace.proofs.trace.Trace.recorded.Goals as goal
 
 pub noted-requires-clause-steps : goal.noted-requires-clause-steps

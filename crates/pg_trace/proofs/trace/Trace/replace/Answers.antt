@@ -1,8 +1,8 @@
 use Rattle.std.proofs.Common.{◌≡◌, ◌<◌, length, get_or, sym, ap, ◌∙◌, subst, arith}
 use Rattle.pg_map.specs.Entries.{ChangesRise, value_at, with_changes}
-use Rattle.pg_trace.specs.Ran.{IsNoted, noted}
-use Rattle.pg_trace.proofs.Last.{index_rises}
-use Rattle.pg_trace.proofs.Noting.{index-set}
+use Rattle.pg_index.specs.Ran.{IsNoted, noted}
+use Rattle.pg_index.proofs.Last.{index_rises}
+use Rattle.pg_index.proofs.Noting.{index-set}
 use Rattle.pg_trace.proofs.trace.Trace.replace.Goals as goal
 
 pub noted_beside-requires-clause-rise : goal.noted_beside-requires-clause-rise

@@ -1,0 +1,199 @@
+-- Notes that are made in place, one after another, and records that are put in the superstep that comes next.
+use Rattle.std.proofs.Common.{◌≡◌, ℕ, suc, ◌+◌, ◌-◌, ◌<◌, ◌≤◌, ◌==◌, ◌≢◌, ◌⊎◌, inl, inr, true, false, cond, List, [], ◌∷◌, ◌++◌, length, get_or, set, take, drop, Option, None, Some, is_some, true≢false, unwrap_or, option_map, refl, sym, ap, ◌∙◌, subst, ⊎_elim, append_assoc, arith, ltb, eq-eqb}
+use Rattle.std.specs.BTreeMap.{insert_entry, is_at}
+use Rattle.std.specs.List.{AllByRecursion, filter}
+use Rattle.std.specs.List.Sorted.{IsNonDecreasingBy}
+use Rattle.std.specs.Map.{keys_of}
+use Rattle.std.specs.Ordering.{nat_cmp}
+use Rattle.std.specs.declared.cmp.Ordering.TheVariants.{Less}
+use Rattle.std.proofs.lemmas.Bool.{cases_eq}
+use Rattle.std.proofs.lemmas.Bool.Decides.{eqb_tells, nat_tests}
+use Rattle.std.proofs.lemmas.List.{append-nil, get_or_default, take_more, take-append-drop}
+use Rattle.std.proofs.lemmas.Map.Entries.{lookup_tail}
+use Rattle.std.proofs.lemmas.Map.Keys.{sorted_head, sorted_tail}
+use Rattle.pg_map.specs.Entries.{ChangesRise, HasRisingIds, value_at, with_changes}
+use Rattle.pg_map.proofs.Changing.{value_at-with_changes}
+use Rattle.pg_map.proofs.Rising.{at_other, at_same, find-insert_other, find-insert_same, insert_entry-take}
+use Rattle.pg_index.specs.Ran.{IsIndex, IsNoted, IsNotedOf, Ran, last_of, noted, ran_by, remembered, with_ran}
+use Rattle.pg_index.specs.Records.{put_at}
+use Rattle.pg_index.proofs.Noting.{index-next, index-set}
+use Rattle.pg_index.proofs.Somes.{nothing_rises}
+use Rattle.pg_index.proofs.Supersteps.{last_of_all, lower, not_lower}
+
+-- ---- a superstep after all others
+
+all_below : (s : ℕ) (steps : List ℕ) → ((k : ℕ) → k < length steps → get_or steps k 0 < s)
+    → (filter (λ t. ltb t s) steps ≡ steps) × (filter (λ t. ltb s t) steps ≡ [])
+all_below s [] low = (refl, refl)
+all_below s (t ∷ steps) low =
+    let first : t < s = low 0 (omega arith) in
+    let later = all_below s steps (λ k within. low (suc k) (omega arith)) in (
+      ap (λ c. cond c (t ∷ filter (λ t. ltb t s) steps) (filter (λ t. ltb t s) steps)) (lower t s first) ∙ ap (λ l. t ∷ l) later.0,
+      ap (λ c. cond c (t ∷ filter (λ t. ltb s t) steps) (filter (λ t. ltb s t) steps)) (not_lower s t (omega arith)) ∙ later.1,
+    )
+
+pub last_of-push : (steps : List ℕ) (s : ℕ) → last_of (steps ++ s ∷ []) ≡ Some s
+last_of-push [] s = refl
+last_of-push (t ∷ steps) s = ap (λ o. Some (unwrap_or o t)) (last_of-push steps s)
+
+-- where the last of rising supersteps is below one, all are
+pub below_the_last : (s t : ℕ) (steps : List ℕ) → IsNonDecreasingBy (λ t. t) steps → Some t ≡ last_of steps → t < s
+    → (k : ℕ) → k < length steps → get_or steps k 0 < s
+below_the_last s t steps rises last low k within =
+    let m = length steps - 1 in
+    let some : suc m ≡ length steps = omega (arith) in
+    let at : t ≡ get_or steps m 0 = ap (λ o. unwrap_or o 0) (last ∙ sym (last_of_all steps m some)) in
+    let up : get_or steps k 0 ≤ get_or steps m 0 = rises k m 0 (omega arith) (omega arith) in
+    omega arith
+
+-- and it is the last of those below
+pub last_of_below : (s t : ℕ) (steps : List ℕ) → ((k : ℕ) → k < length steps → get_or steps k 0 < s) → Some t ≡ last_of steps
+    → Some t ≡ last_of (filter (λ t. ltb t s) steps)
+last_of_below s t steps low last = last ∙ sym (ap last_of (all_below s steps low).0)
+
+last_low : (s t : ℕ) (steps : List ℕ) → ((k : ℕ) → k < length steps → get_or steps k 0 < s) → last_of steps ≡ Some t → t < s
+last_low s t [] low last = absurd (true≢false (sym (ap is_some last)))
+last_low s t (u ∷ steps) low last =
+    let at : t ≡ get_or (u ∷ steps) (length steps) 0 = ap (λ o. unwrap_or o 0) (sym last ∙ sym (last_of_all (u ∷ steps) (length steps) refl)) in
+    let below = low (length steps) (omega arith) in
+    omega (arith, at, below)
+
+module _ {X : Type 0} where
+  abbrev ran_at : List ℕ → Option (ℕ × X) → (ℕ → Option X) → Option ℕ → Option (Ran X)
+  ran_at steps e f None = None
+  ran_at steps e f (Some t) = option_map {U = Ran X} (λ last. record { steps = steps; last = last; earlier = e }) (f t)
+
+  -- where all supersteps are below one, the last of them is remembered
+  recalled : (s : ℕ) (ran : Ran X) → ((k : ℕ) → k < length ran.steps → get_or ran.steps k 0 < s)
+      → remembered s true (Some ran) ≡ option_map {U = ℕ × X} (λ t. (t, ran.last)) (last_of ran.steps)
+  recalled s ran low = by (last_of ran.steps) refl
+    where
+      by : (o : Option ℕ) → last_of ran.steps ≡ o
+          → elim o [ None ↦ None | Some t ↦ cond (ltb t s) (Some (t, ran.last)) None ] ≡ option_map {U = ℕ × X} (λ t. (t, ran.last)) o
+      by None last = refl
+      by (Some t) last = ap (λ b. cond b (Some (t, ran.last)) None) (lower t s (last_low s t ran.steps low last))
+
+  noted_last : (id : ℕ) (records : List (List (ℕ × X))) (s : ℕ) (x : X) (ran : Ran X) → ((k : ℕ) → k < length ran.steps → get_or ran.steps k 0 < s)
+      → noted id records s (Some (Some x)) (Some ran)
+      ≡ Some (record { steps = ran.steps ++ s ∷ []; last = x; earlier = option_map {U = ℕ × X} (λ t. (t, ran.last)) (last_of ran.steps) })
+  noted_last id records s x ran low =
+      let below = all_below s ran.steps low in
+      let all = ran.steps ++ s ∷ [] in
+      let e = option_map {U = ℕ × X} (λ t. (t, ran.last)) (last_of ran.steps) in
+      let steps : with_ran s true ran.steps ≡ all =
+      ap (λ l. l ++ s ∷ [] ++ filter (λ t. ltb s t) ran.steps) below.0 ∙ ap (λ l. ran.steps ++ s ∷ [] ++ l) below.1 ∙ append-nil all in
+      ap (λ e. ran_by id records s (Some x) e (with_ran s true ran.steps)) (recalled s ran low)
+      ∙ ap (ran_by id records s (Some x) e) steps
+      ∙ ap (ran_at all e (λ t. cond (t == s) (Some x) (value_at id (get_or records t [])))) (last_of-push ran.steps s)
+      ∙ ap (λ b. option_map {U = Ran X} (λ last. record { steps = all; last = last; earlier = e }) (cond b (Some x) (value_at id (get_or records s []))))
+      (eq-eqb s s refl)
+
+  pub noted_pushed : (id : ℕ) (records : List (List (ℕ × X))) (s : ℕ) (x y : X) (ran ran' : Ran X) → ((k : ℕ) → k < length ran.steps → get_or ran.steps k 0 < s)
+      → ran' ≡ record { steps = ran.steps ++ s ∷ []; last = y; earlier = option_map {U = ℕ × X} (λ t. (t, ran.last)) (last_of ran.steps) } → y ≡ x
+      → Some ran' ≡ noted id records s (Some (Some x)) (Some ran)
+  noted_pushed id records s x y ran ran' low pushed same =
+      let last_one : Option (ℕ × X) = option_map (λ t. (t, ran.last)) (last_of ran.steps) in
+      let with_last : X → Ran X = λ k. record { steps = ran.steps ++ s ∷ []; last = k; earlier = last_one } in
+      ap Some (pushed ∙ ap with_last same) ∙ sym (noted_last id records s x ran low)
+
+-- ---- one note after another
+
+backwards : (a b : ℕ) → nat_cmp a b ≡ Less → is_at (nat_cmp b) a ≡ false
+backwards a b h = grind (arith, nat_tests)
+
+module _ {Y : Type 0} where
+  below_next : (k : ℕ) (xs : List (ℕ × Y)) (e : ℕ × Y) (ys : List (ℕ × Y)) → AllByRecursion (λ y. nat_cmp k y ≡ Less) (keys_of (xs ++ e ∷ ys))
+      → nat_cmp k e.0 ≡ Less
+  below_next k [] e ys h = h.0
+  below_next k (x ∷ xs) e ys h = below_next k xs e ys h.1
+
+  none_before : (xs : List (ℕ × Y)) (e : ℕ × Y) (ys : List (ℕ × Y)) → HasRisingIds (xs ++ e ∷ ys) → value_at e.0 xs ≡ None
+  none_before [] e ys rising = refl
+  none_before (x ∷ xs) e ys rising =
+      let first = below_next x.0 xs e ys (sorted_head nat_cmp x.0 (keys_of (xs ++ e ∷ ys)) rising) in
+      lookup_tail (is_at (nat_cmp e.0)) x xs (backwards x.0 e.0 first) ∙ none_before xs e ys (sorted_tail nat_cmp x.0 (keys_of (xs ++ e ∷ ys)) rising)
+
+  none_at : (es : List (ℕ × Y)) (i : ℕ) (e : ℕ × Y) → HasRisingIds es → i < length es → e ≡ get_or es i e → value_at e.0 (take i es) ≡ None
+  none_at es i e rising within here =
+      let more : take (i + 1) es ≡ take i es ++ e ∷ [] = take_more es i e within ∙ ap (λ x. take i es ++ x ∷ []) (sym here) in
+      let whole : (take i es ++ e ∷ []) ++ drop (i + 1) es ≡ es = ap (λ l. l ++ drop (i + 1) es) (sym more) ∙ take-append-drop (i + 1) es in
+      none_before (take i es) e (drop (i + 1) es) (subst (λ l. HasRisingIds l) (sym whole ∙ append_assoc (take i es) (e ∷ []) (drop (i + 1) es)) rising)
+
+module _ {X : Type 0} (records : List (List (ℕ × X))) (s : ℕ) (given : List (ℕ × Option X)) (i : ℕ) (e : ℕ × Option X) (ran now : List (ℕ × Ran X))
+    (rise : ChangesRise given) (within : i < length given) (here : e ≡ get_or given i e) (notes : IsNoted records s (take i given) ran now) where
+  -- of the next id nothing was noted so far
+  pub unsaid : value_at e.0 now ≡ value_at e.0 ran
+  unsaid = notes e.0 ∙ ap (λ o. noted e.0 records s o (value_at e.0 ran)) (none_at given i e rise within here)
+
+  pub noted_more : (next : List (ℕ × Ran X)) → IsNotedOf e.0 records s e.1 now next → IsNoted records s (take (i + 1) given) ran next
+  noted_more next more q = more q ∙ ⊎_elim same other (cases_eq q e.0)
+    where
+      put : insert_entry nat_cmp (take i given) e.0 e.1 ≡ take (i + 1) given
+      put = insert_entry-take given i e rise within here
+
+      after : Option (Ran X)
+      after = noted e.0 records s (Some e.1) (value_at e.0 now)
+
+      told : value_at e.0 (take (i + 1) given) ≡ Some e.1
+      told = ap (value_at e.0) (sym put) ∙ find-insert_same (take i given) e.0 e.1
+
+      at_itself : cond (is_at (nat_cmp e.0) e.0) after (value_at e.0 now) ≡ noted e.0 records s (value_at e.0 (take (i + 1) given)) (value_at e.0 ran)
+      at_itself =
+          ap (λ b. cond b after (value_at e.0 now)) (at_same e.0) ∙ ap (noted e.0 records s (Some e.1)) unsaid
+          ∙ sym (ap (λ o. noted e.0 records s o (value_at e.0 ran)) told)
+
+      same : q ≡ e.0 → cond (is_at (nat_cmp e.0) q) after (value_at q now) ≡ noted q records s (value_at q (take (i + 1) given)) (value_at q ran)
+      same is =
+          subst (λ k. cond (is_at (nat_cmp e.0) k) after (value_at k now) ≡ noted k records s (value_at k (take (i + 1) given)) (value_at k ran))
+          (sym is) at_itself
+
+      other : (q ≡ e.0 → ⊥) → cond (is_at (nat_cmp e.0) q) after (value_at q now) ≡ noted q records s (value_at q (take (i + 1) given)) (value_at q ran)
+      other apart =
+          ap (λ b. cond b after (value_at q now)) (at_other e.0 q (λ is. apart (sym is))) ∙ notes q
+          ∙ ap (λ o. noted q records s o (value_at q ran)) (sym (ap (value_at q) (sym put) ∙ find-insert_other (take i given) e.0 e.1 q apart))
+
+-- ---- the records of a superstep that a run has or that comes next
+
+module _ {Y : Type 0} where
+  set_last : (ys : List Y) (y z : Y) → set (ys ++ y ∷ []) (length ys) z ≡ ys ++ z ∷ []
+  set_last [] y z = refl
+  set_last (x ∷ ys) y z = ap (λ l. x ∷ l) (set_last ys y z)
+
+  get_last : (ys : List Y) (y d : Y) → get_or (ys ++ y ∷ []) (length ys) d ≡ y
+  get_last [] y d = refl
+  get_last (x ∷ ys) y d = get_last ys y d
+
+module _ {X : Type 0} where
+  abbrev put_in : ℕ → List (ℕ × Option X) → List (List (ℕ × X)) → List (List (ℕ × X))
+  put_in n given rs = set rs n (with_changes given (get_or rs n []))
+
+  pub put-next : (rs : List (List (ℕ × X))) (n : ℕ) (given : List (ℕ × Option X)) → n ≡ length rs → put_at n given rs ≡ rs ++ with_changes given [] ∷ []
+  put-next rs n given here =
+      ap (λ k. put_at k given rs) here
+      ∙ ap (λ b. put_in (length rs) given (cond b (rs ++ [] ∷ []) rs)) (eq-eqb (length rs) (length rs) refl)
+      ∙ ap (λ r. set (rs ++ [] ∷ []) (length rs) (with_changes given r)) (get_last rs [] [])
+      ∙ set_last rs [] (with_changes given [])
+
+  pub put-there : (rs : List (List (ℕ × X))) (n : ℕ) (given : List (ℕ × Option X)) → n < length rs
+      → put_at n given rs ≡ set rs n (with_changes given (get_or rs n []))
+  put-there rs n given within = by (eqb_tells (length rs) n)
+    where
+      by : ((length rs == n) ≡ true) × (length rs ≡ n) ⊎ ((length rs == n) ≡ false) × (length rs ≢ n)
+          → put_at n given rs ≡ put_in n given rs
+      by (inl same) = let e = same.1 in absurd (omega (arith, within, e))
+      by (inr other) = ap (λ b. put_in n given (cond b (rs ++ [] ∷ []) rs)) other.0
+
+  pub index-put : (rs : List (List (ℕ × X))) (n : ℕ) (given : List (ℕ × Option X)) (ran ran' : List (ℕ × Ran X)) → n ≤ length rs → ChangesRise given
+      → HasRisingIds (get_or rs n []) → IsIndex rs ran → IsNoted rs n given ran ran' → IsIndex (put_at n given rs) ran'
+  index-put rs n given ran ran' within rise rising index notes = by (eqb_tells n (length rs))
+    where
+      by : ((n == length rs) ≡ true) × (n ≡ length rs) ⊎ ((n == length rs) ≡ false) × (n ≢ length rs) → IsIndex (put_at n given rs) ran'
+      by (inl same) =
+          subst (λ l. IsIndex l ran') (sym (put-next rs n given same.1))
+          (index-next rs (with_changes given []) given ran ran' index (λ id. value_at-with_changes given [] id rise (nothing_rises X))
+          (subst (λ k. IsNoted rs k given ran ran') same.1 notes))
+      by (inr other) =
+          let low : n < length rs = let e = other.1 in omega (arith, within, e) in
+          subst (λ l. IsIndex l ran') (sym (put-there rs n given low))
+          (index-set rs n (get_or rs n []) (with_changes given (get_or rs n [])) given ran ran' low
+          (sym (get_or_default rs n (get_or rs n []) [] low)) rising rise refl index notes)

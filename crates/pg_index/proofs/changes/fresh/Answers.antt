@@ -1,0 +1,32 @@
+use Rattle.std.proofs.Common.{◌≡◌, ◌++◌, [], ◌∷◌, IfOk, append_assoc, sym, ap, ◌∙◌, subst, arith}
+use Rattle.std.proofs.lemmas.Grind.{common_steps}
+use Rattle.std.proofs.lemmas.List.{append-nil}
+use Rattle.pg_map.specs.Entries.{HasRisingIds}
+use Rattle.pg_index.proofs.Somes.{somes, somes_are, somes_rise}
+use Rattle.pg_index.proofs.changes.fresh.Goals as goal
+
+pub loop-id-preserved-in-Continue-branch-2 : goal.loop-id-preserved-in-Continue-branch-2
+loop-id-preserved-in-Continue-branch-2 g c =
+    let there = c.loop-id.there.items in
+    let left = c.next.new.self.rest.items in
+    ap (λ l. l ++ somes left) c.in_ok-push.ensures.items ∙ append_assoc there ((c.in-Some.id, c.in-Some-change.value) ∷ []) (somes left)
+    ∙ ap (λ o. there ++ somes ((c.in-Some.id, o) ∷ left)) (sym c.in-Some-change.is)
+    ∙ ap (λ l. there ++ somes l) (sym c.in-Some.ensures.steps.0) ∙ c.loop-id.invariant
+
+pub loop-id-preserved : goal.loop-id-preserved
+loop-id-preserved g c =
+    let there = c.loop-id.there.items in
+    ap (λ o. there ++ somes ((c.in-Some.id, o) ∷ c.next.new.self.rest.items)) (sym c.in_default.is)
+    ∙ ap (λ l. there ++ somes l) (sym c.in-Some.ensures.steps.0) ∙ c.loop-id.invariant
+
+pub from_rising-requires : goal.from_rising-requires
+from_rising-requires g c =
+    let done : c.loop-id.id-iterator.rest.items ≡ [] = grind (arith, common_steps) in
+    let all = sym (append-nil c.loop-id.there.items) ∙ ap (λ l. c.loop-id.there.items ++ somes l) (sym done) ∙ c.loop-id.invariant in
+    subst (λ l. HasRisingIds l) (sym all) (somes_rise c.args.changes.items c.requires)
+
+pub returns : goal.returns
+returns g c =
+    let done : c.loop-id.id-iterator.rest.items ≡ [] = grind (arith, common_steps) in
+    let all = sym (append-nil c.loop-id.there.items) ∙ ap (λ l. c.loop-id.there.items ++ somes l) (sym done) ∙ c.loop-id.invariant in
+    subst (λ l. IfOk c.from_rising.result (λ records. records ≡ l)) (all ∙ somes_are c.args.changes.items c.requires) c.from_rising.ensures

@@ -1,0 +1,3 @@
+pub mod Ran
+pub mod Records
+pub mod Rows

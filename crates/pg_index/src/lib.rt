@@ -1,0 +1,17 @@
+//! The index of records: in which supersteps each vertex ran, and its last records.
+#![tactic(auto)]
+
+mod changes;
+mod finder;
+mod index;
+mod kept;
+mod notes;
+mod ran;
+mod steps;
+
+pub use changes::put_records;
+pub use finder::LastFinder;
+pub use index::Index;
+pub use kept::Kept;
+pub use pg_graph::Memory;
+pub use ran::{LastRecords, kept_in};

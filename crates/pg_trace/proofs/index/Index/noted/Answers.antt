@@ -1,6 +1,0 @@
-use Rattle.std.proofs.Common.{sym, subst}
-use Rattle.pg_trace.specs.Ran.{StepsRise}
-use Rattle.pg_trace.proofs.index.Index.noted.Goals as goal
-
-pub note_over-requires-clause-steps : goal.note_over-requires-clause-steps
-note_over-requires-clause-steps g c = subst StepsRise (sym c.self.view_is) c.requires.steps

@@ -1,5 +1,0 @@
-use Rattle.std.proofs.Common.{◌≡◌, ◌++◌}
-use Rattle.pg_trace.proofs.notes.moved.Given as goal
-
-abbrev pub invariant-loop-id : goal.invariant-loop-id
-invariant-loop-id g l = l.list.items ++ l.id-iterator ≡ l.fn.notes.entries

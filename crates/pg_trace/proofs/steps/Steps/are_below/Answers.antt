@@ -1,9 +1,0 @@
-use Rattle.std.proofs.Common.{ap, ◌∙◌, ltb-true}
-use Rattle.pg_trace.specs.Ran.{last_of}
-use Rattle.pg_trace.proofs.InPlace.{below_the_last}
-use Rattle.pg_trace.proofs.steps.Steps.are_below.Goals as goal
-
-pub returns : goal.returns
-returns g c is_below =
-    below_the_last c.args.superstep c.self.inside.latest c.args.self.now.steps c.requires
-    (c.self.invariant ∙ ap (λ s. last_of s.steps) c.self.view_is) (ltb-true c.self.inside.latest c.args.superstep is_below)

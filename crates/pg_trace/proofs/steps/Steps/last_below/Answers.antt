@@ -1,9 +1,0 @@
-use Rattle.std.proofs.Common.{refl, ap, ◌∙◌}
-use Rattle.pg_trace.specs.Ran.{last_of}
-use Rattle.pg_trace.proofs.InPlace.{last_of_below}
-use Rattle.pg_trace.proofs.steps.Steps.last_below.Goals as goal
-
-pub returns-then-are_below : goal.returns-then-are_below
-returns-then-are_below g c =
-    last_of_below c.args.superstep c.self.inside.latest c.args.self.now.steps (c.if-are_below.ensures refl)
-    (c.self.invariant ∙ ap (λ s. last_of s.steps) c.self.view_is)
