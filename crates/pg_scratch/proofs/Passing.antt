@@ -19,8 +19,8 @@ use Rattle.pg_model.specs.declared.view.Declared.{Declared}
 use Rattle.pg_program.specs.Context.{Context, ShowsDeclared}
 use Rattle.pg_scratch.specs.Pass.{ran, context_after, ran_context, with_unhalted}
 use Rattle.pg_scratch.specs.Totals.{Counts, Exchanges}
-use Rattle.pg_scratch.specs.Worklist.{ListsActive}
-use Rattle.pg_scratch.proofs.Delivering.{has_id-push}
+use Rattle.pg_delivery.specs.Worklist.{ListsActive}
+use Rattle.pg_delivery.proofs.LawsPlaces.{element, has_id-push, listed_place, place_listed}
 use Rattle.pg_scratch.proofs.Executing.{ran-idle, idle_halted, context_after-idle}
 
 -- ---- lists of which the first i elements are changed
@@ -117,12 +117,6 @@ or_true false b h = h
 or_left : (a b : Bool) → a ≡ true → (a || b) ≡ true
 or_left true b h = refl
 or_left false b h = let k : false ≡ true = h in cc
-
--- the element at a place within
-pub element : {X : Type 0} (xs : List X) (i : ℕ) → i < length xs → (x : X) × (slice_get xs i ≡ Some x)
-element [] i h = absurd (omega arith)
-element (x ∷ xs) zero h = (x, refl)
-element (x ∷ xs) (suc i) h = element xs i (omega arith)
 
 -- ---- the number of edges, as a vertex is exchanged
 less_and_more : (n k : ℕ) → k ≤ n → n ≡ n - k + k
@@ -252,18 +246,6 @@ module _ {V M : Type 0} (program : Program V M) (first now : List (Standing V M)
       }
 
 -- ---- a pass from its beginning to its end
-pub listed_place : (work : List ℕ) (i : ℕ) → has_id work i ≡ true → (j : ℕ) × (j < length work) × (get_or work j 0 ≡ i)
-listed_place [] i h = let k : false ≡ true = h in cc
-listed_place (p ∷ work) i h =
-    by_bool (p == i)
-    (λ t. (0, omega arith, search (tests, rules)))
-    (λ t. let w = listed_place work i (sym (ap (λ b. b || has_id work i) t) ∙ h) in (suc w.0, omega (arith, w.1), w.2))
-
-pub place_listed : (work : List ℕ) (j : ℕ) → j < length work → has_id work (get_or work j 0) ≡ true
-place_listed [] j h = absurd (omega arith)
-place_listed (p ∷ work) zero h = or_left (p == p) (has_id work p) (search (tests, rules))
-place_listed (p ∷ work) (suc j) h = or_true (p == get_or work j 0) (has_id work (get_or work j 0)) (place_listed work j (omega arith))
-
 take_whole : {X : Type 0} (xs : List X) → take (length xs) xs ≡ xs
 take_whole [] = refl
 take_whole (x ∷ xs) = ap (λ l. x ∷ l) (take_whole xs)

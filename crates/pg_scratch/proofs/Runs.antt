@@ -31,7 +31,7 @@ use Rattle.pg_global.specs.Registry.{Registered, aggregating_of}
 use Rattle.pg_global.specs.declared.registry.Registration.{Registration}
 use Rattle.pg_scratch.specs.Running.{IsRunning}
 use Rattle.pg_scratch.specs.Stages.{HasStepped, IsPrepared}
-use Rattle.pg_scratch.specs.Worklist.{ListsActive}
+use Rattle.pg_delivery.specs.Worklist.{ListsActive}
 use Rattle.pg_scratch.specs.declared.superstep.Progress.{Progress}
 
 or_true : (a b : Bool) → b ≡ true → (a || b) ≡ true

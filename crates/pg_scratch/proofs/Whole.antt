@@ -16,16 +16,17 @@ use Rattle.pg_model.proofs.LawsIds.{IsInOrder-next, ids-next, length-gathered_fr
 use Rattle.pg_global.specs.Master.{Master, job_of}
 use Rattle.pg_global.specs.Registry.{Registered, aggregating_of}
 use Rattle.pg_global.specs.declared.registry.Registration.{Registration}
-use Rattle.pg_scratch.specs.Inbox.{with_messages}
+use Rattle.pg_delivery.specs.Inbox.{with_messages}
 use Rattle.pg_program.specs.Context.{Context}
 use Rattle.pg_scratch.specs.Pass.{ran, ran_context}
-use Rattle.pg_scratch.specs.Roster.{IsInPlace}
-use Rattle.pg_scratch.specs.Stages.{HasPlayed, HasReceived, HasStepped, IsReady}
-use Rattle.pg_scratch.specs.Worklist.{ListsActive}
-use Rattle.pg_scratch.specs.declared.roster.Roster.{Roster}
+use Rattle.pg_delivery.specs.Roster.{IsInPlace}
+use Rattle.pg_scratch.specs.Stages.{HasPlayed, HasStepped, IsReady}
+use Rattle.pg_delivery.specs.Received.{HasReceived}
+use Rattle.pg_delivery.specs.Worklist.{ListsActive}
+use Rattle.pg_delivery.specs.declared.roster.Roster.{Roster}
 use Rattle.pg_scratch.specs.declared.superstep.Played.{Played}
 use Rattle.pg_scratch.specs.declared.superstep.Progress.{Progress}
-use Rattle.pg_scratch.specs.declared.superstep.Received.{Received}
+use Rattle.pg_delivery.specs.declared.receiving.Received.{Received}
 
 aggregators_of : (rs : Registered) → map aggregating_of (map (λ e. e.1) rs) ≡ map (λ e. aggregating_of e.1) rs
 aggregators_of [] = refl

@@ -1,5 +1,6 @@
 use Rattle.std.proofs.Common.{◌∙◌, arith}
-use Rattle.pg_scratch.proofs.Passing.{passed_first, passed_standings, passed_context, passed_lists, place_listed, place_inside, still_shown, same_writes, still_fits, pass_on, known_within, nobody-standings, nobody-context, zero-from_test, positive-from_test}
+use Rattle.pg_delivery.proofs.LawsPlaces.{place_listed}
+use Rattle.pg_scratch.proofs.Passing.{passed_first, passed_standings, passed_context, passed_lists, place_inside, still_shown, same_writes, still_fits, pass_on, known_within, nobody-standings, nobody-context, zero-from_test, positive-from_test}
 use Rattle.pg_scratch.proofs.execution.execute_all.Goals as goal
 
 pub returns-then-is_empty-clause-standings : goal.returns-then-is_empty-clause-standings

@@ -5,7 +5,7 @@ use Rattle.pg_model.specs.Superstep.{capped, edges_of, ids, visible_in, view_of,
 use Rattle.pg_model.specs.declared.view.Declared.{Declared}
 use Rattle.pg_model.specs.declared.configuration.Standing.{Standing}
 use Rattle.pg_global.specs.Master.{job_of}
-use Rattle.pg_scratch.proofs.Merging.{edges-made}
+use Rattle.pg_scratch.proofs.Edges.{edges-made}
 use Rattle.pg_scratch.proofs.Stepping.{shown_in}
 use Rattle.pg_scratch.proofs.Whole.{played_ids, played_empty, aggregators-registered, as_many-registered, stepped}
 use Rattle.pg_scratch.proofs.superstep.superstep.Goals as goal
