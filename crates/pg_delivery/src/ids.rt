@@ -112,10 +112,7 @@ impl Ids {
 }
 
 /// The ids of vertices, one after another.
-fn items_of<V, M>(
-    alloc: Global,
-    standings: &[Standing<V, M>],
-) -> Result<Vec<VertexId>, Memory>
+fn items_of<V, M>(alloc: Global, standings: &[Standing<V, M>]) -> Result<Vec<VertexId>, Memory>
     ensures { IfOk result (λ ids. ids.items ≡ ids_of standings.now) }
 {
     let mut ids = Vec::with_capacity(alloc, standings.len())?;

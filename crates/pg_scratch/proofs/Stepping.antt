@@ -22,4 +22,3 @@ pub shown_in : {V M : Type 0} (program : Program V M) (declared : Declared) (s n
 shown_in program declared s n v w registered places declares view_is =
     subst (λ x. ShowsDeclared program.declared x) (sym (view_is
     ∙ ap (λ (d : Declared). view_of d s v) declares)) (shows_declared program.declared s n v registered places)
-
