@@ -32,7 +32,8 @@ all_push low (p ∷ places) h = (omega (arith, h.0), all_push low places h.1)
 less_at : (a b : ℕ) → a < b → nat_cmp a b ≡ Less
 less_at a b h = grind (arith, nat_tests)
 
-all_less : (low : ℕ) (places : List ℕ) → AllByRecursion (λ place. place < low) places → AllByRecursion (λ place. AllByRecursion (λ other. nat_cmp place other ≡ Less) (low ∷ [])) places
+all_less : (low : ℕ) (places : List ℕ) → AllByRecursion (λ place. place < low) places
+    → AllByRecursion (λ place. AllByRecursion (λ other. nat_cmp place other ≡ Less) (low ∷ [])) places
 all_less low [] h = tt
 all_less low (p ∷ places) h = ((less_at p low h.0, tt), all_less low places h.1)
 
@@ -55,7 +56,12 @@ within_of low (p ∷ places) h place has =
 module _ {V M : Type 0} (xs : List (Standing V M)) where
   pub found_none : (places : List ℕ) → places ≡ [] → FoundBelow xs 0 places
   unfolding IsStrictlySortedBy
-  found_none places none = subst (λ l. FoundBelow xs 0 l) (sym none) (record { bound = omega arith; rise = tt; below = tt; covers = λ place x at less active. absurd (omega arith) })
+  found_none places none = subst (λ l. FoundBelow xs 0 l) (sym none) (record {
+    bound = omega arith;
+    rise = tt;
+    below = tt;
+    covers = λ place x at less active. absurd (omega arith);
+  })
 
   module _ (low : ℕ) (places : List ℕ) (found : FoundBelow xs low places) where
     -- the next place is noted
@@ -70,7 +76,8 @@ module _ {V M : Type 0} (xs : List (Standing V M)) where
               has_id-push places low place
               ∙ ⊎_elim
               (λ (l : place < low). or_left (has_id places place) (low == place) (found.covers place x at l active))
-              (λ (l : low ≤ place). let same : (low == place) ≡ true = (let e : low ≡ place = omega arith in search (tests, rules)) in ap (λ b. has_id places place || b) same ∙ or_true (has_id places place))
+              (λ (l : low ≤ place). let same : (low == place) ≡ true = (let e : low ≡ place = omega arith in search
+              (tests, rules)) in ap (λ b. has_id places place || b) same ∙ or_true (has_id places place))
               (cases_lt place low);
         })
 

@@ -13,23 +13,30 @@ and_false true b h = h
 and_false false b h = refl
 
 module _ {V M : Type 0} where
-  all_idle : (xs : List (Standing V M)) → ((i : ℕ) (x : Standing V M) → slice_get xs i ≡ Some x → is_active x ≡ false) → list_all (λ x. not (is_active x)) xs ≡ true
+  all_idle : (xs : List (Standing V M)) → ((i : ℕ) (x : Standing V M) → slice_get xs i ≡ Some x → is_active x ≡ false)
+      → list_all (λ x. not (is_active x)) xs ≡ true
   all_idle [] h = refl
   all_idle (x ∷ xs) h = ap (λ b. not b && list_all (λ y. not (is_active y)) xs) (h 0 x refl) ∙ all_idle xs (λ i y at. h (suc i) y at)
 
-  some_active : (xs : List (Standing V M)) (i : ℕ) (x : Standing V M) → slice_get xs i ≡ Some x → is_active x ≡ true → list_all (λ x. not (is_active x)) xs ≡ false
+  some_active : (xs : List (Standing V M)) (i : ℕ) (x : Standing V M) → slice_get xs i ≡ Some x → is_active x ≡ true
+      → list_all (λ x. not (is_active x)) xs ≡ false
   some_active [] i x at active = let k : None ≡ Some x = at in cc
   some_active (y ∷ xs) zero x at active =
       let same : y ≡ x = (let k : Some y ≡ Some x = at in cc) in
       ap (λ b. not b && list_all (λ z. not (is_active z)) xs) (ap is_active same ∙ active)
   some_active (y ∷ xs) (suc i) x at active = and_false (not (is_active y)) (list_all (λ z. not (is_active z)) xs) (some_active xs i x at active)
 
-  pub anyone_active : (xs : List (Standing V M)) (work : List ℕ) (k : ℕ) (found : Bool) → ListsActive xs work → k < length work → found ≡ true → ((x : Standing V M) → slice_get xs (get_or work k 0) ≡ Some x → found ≡ is_active x) → true ≡ not (list_all (λ x. not (is_active x)) xs)
+  pub anyone_active : (xs : List (Standing V M)) (work : List ℕ) (k : ℕ) (found : Bool) → ListsActive xs work
+      → k < length work → found ≡ true
+      → ((x : Standing V M) → slice_get xs (get_or work k 0) ≡ Some x → found ≡ is_active x)
+      → true ≡ not (list_all (λ x. not (is_active x)) xs)
   anyone_active xs work k found lists inside passes is =
       let f = element xs (get_or work k 0) (lists.within (get_or work k 0) (place_listed work k inside)) in
       sym (ap not (some_active xs (get_or work k 0) f.0 f.1 (sym (is f.0 f.1) ∙ passes)))
 
-  pub nobody_active : (xs : List (Standing V M)) (work : List ℕ) (k : ℕ) → ListsActive xs work → length work ≤ k → ((j : ℕ) (x : Standing V M) → j < k → slice_get xs (get_or work j 0) ≡ Some x → is_active x ≡ false) → false ≡ not (list_all (λ x. not (is_active x)) xs)
+  pub nobody_active : (xs : List (Standing V M)) (work : List ℕ) (k : ℕ) → ListsActive xs work → length work ≤ k
+      → ((j : ℕ) (x : Standing V M) → j < k → slice_get xs (get_or work j 0) ≡ Some x → is_active x ≡ false)
+      → false ≡ not (list_all (λ x. not (is_active x)) xs)
   nobody_active xs work k lists done idle =
       sym (ap not (all_idle xs (λ i x at.
       ⊎_elim
@@ -40,7 +47,10 @@ module _ {V M : Type 0} where
       (cases_Bool (is_active x)))))
 
   -- one place more was looked at
-  pub idle_more : (xs : List (Standing V M)) (work : List ℕ) (k : ℕ) (found : Bool) → ((j : ℕ) (x : Standing V M) → j < k → slice_get xs (get_or work j 0) ≡ Some x → is_active x ≡ false) → ((x : Standing V M) → slice_get xs (get_or work k 0) ≡ Some x → found ≡ is_active x) → found ≡ false → (j : ℕ) (x : Standing V M) → j < k + 1 → slice_get xs (get_or work j 0) ≡ Some x → is_active x ≡ false
+  pub idle_more : (xs : List (Standing V M)) (work : List ℕ) (k : ℕ) (found : Bool)
+      → ((j : ℕ) (x : Standing V M) → j < k → slice_get xs (get_or work j 0) ≡ Some x → is_active x ≡ false)
+      → ((x : Standing V M) → slice_get xs (get_or work k 0) ≡ Some x → found ≡ is_active x) → found ≡ false
+      → (j : ℕ) (x : Standing V M) → j < k + 1 → slice_get xs (get_or work j 0) ≡ Some x → is_active x ≡ false
   idle_more xs work k found so_far is fails j x less at =
       ⊎_elim
       (λ (l : j < k). so_far j x l at)

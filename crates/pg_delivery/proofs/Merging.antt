@@ -19,7 +19,8 @@ use Rattle.pg_delivery.specs.Worklist.{ListsActive}
 use Rattle.pg_delivery.specs.declared.roster.Roster.{Roster}
 
 -- where the first waits below, there is a first one
-pub first_of : {M : Type 0} (id : ℕ) (ws : List (ℕ × List M)) → first_is_below id ws ≡ true → (w : ℕ × List M) × (rest : List (ℕ × List M)) × (ws ≡ w ∷ rest) × (w.0 < id)
+pub first_of : {M : Type 0} (id : ℕ) (ws : List (ℕ × List M)) → first_is_below id ws ≡ true
+    → (w : ℕ × List M) × (rest : List (ℕ × List M)) × (ws ≡ w ∷ rest) × (w.0 < id)
 first_of id [] h = let k : false ≡ true = h in cc
 first_of id (w ∷ ws) h = (w, ws, refl, ltb-true w.0 id h)
 
@@ -34,7 +35,8 @@ or_none true b h = let k : true ≡ false = h in cc
 or_none false b h = (refl, h)
 
 module _ {V M : Type 0} (program : Program V M) (id : ℕ) where
-  all_below : (taken : List (ℕ × List M)) (w : ℕ × List M) → AllByRecursion (λ (v : ℕ × List M). v.0 < id) taken → w.0 < id → AllByRecursion (λ (v : ℕ × List M). v.0 < id) (taken ++ w ∷ [])
+  all_below : (taken : List (ℕ × List M)) (w : ℕ × List M) → AllByRecursion (λ (v : ℕ × List M). v.0 < id) taken
+      → w.0 < id → AllByRecursion (λ (v : ℕ × List M). v.0 < id) (taken ++ w ∷ [])
   all_below [] w h k = (k, tt)
   all_below (v ∷ taken) w h k = (h.0, all_below taken w h.1 k)
 
@@ -43,7 +45,10 @@ module _ {V M : Type 0} (program : Program V M) (id : ℕ) where
   made_push (v ∷ taken) w = ap (λ l. made program v ∷ l) (made_push taken w)
 
   -- the first one is taken too
-  pub takes_more : (ws now after : List (ℕ × List M)) (xs ys zs : List (Standing V M)) → Takes program id ws now xs ys → first_is_below id now ≡ true → ((w : ℕ × List M) (rest : List (ℕ × List M)) → now ≡ w ∷ rest → (after ≡ rest) × (zs ≡ ys ++ made program w ∷ [])) → Takes program id ws after xs zs
+  pub takes_more : (ws now after : List (ℕ × List M)) (xs ys zs : List (Standing V M)) → Takes program id ws now xs ys
+      → first_is_below id now ≡ true
+      → ((w : ℕ × List M) (rest : List (ℕ × List M)) → now ≡ w ∷ rest
+      → (after ≡ rest) × (zs ≡ ys ++ made program w ∷ [])) → Takes program id ws after xs zs
   takes_more ws now after xs ys zs takes below step =
       let f = first_of id now below in
       let s = step f.0 f.1 f.2 in
@@ -56,7 +61,9 @@ module _ {V M : Type 0} (program : Program V M) (id : ℕ) where
             ∙ ap (λ l. xs ++ l) (sym (made_push takes.taken f.0))));
       }
 
-  pub fewer_left : (now after : List (ℕ × List M)) (ys zs : List (Standing V M)) → first_is_below id now ≡ true → ((w : ℕ × List M) (rest : List (ℕ × List M)) → now ≡ w ∷ rest → (after ≡ rest) × (zs ≡ ys ++ made program w ∷ [])) → length after < length now
+  pub fewer_left : (now after : List (ℕ × List M)) (ys zs : List (Standing V M)) → first_is_below id now ≡ true
+      → ((w : ℕ × List M) (rest : List (ℕ × List M)) → now ≡ w ∷ rest
+      → (after ≡ rest) × (zs ≡ ys ++ made program w ∷ [])) → length after < length now
   fewer_left now after ys zs below step =
       let f = first_of id now below in
       let s = step f.0 f.1 f.2 in
@@ -71,18 +78,24 @@ module _ {V M : Type 0} (program : Program V M) where
   is_less a b h = grind (arith, nat_tests)
 
   -- a vertex below all that wait stays in front
-  front_stays : (x : Standing V M) (xs : List (Standing V M)) (ws : List (ℕ × List M)) → AllByRecursion (λ (w : ℕ × List M). x.state.id < w.0) ws → with_made program (x ∷ xs) ws ≡ x ∷ with_made program xs ws
+  front_stays : (x : Standing V M) (xs : List (Standing V M)) (ws : List (ℕ × List M))
+      → AllByRecursion (λ (w : ℕ × List M). x.state.id < w.0) ws → with_made program (x ∷ xs) ws ≡ x ∷ with_made program xs ws
   front_stays x xs [] h = refl
   front_stays x xs (w ∷ ws) h =
       ap (λ b. with_made program (cond b (made program w ∷ x ∷ xs) (x ∷ placed (made program w) xs)) ws) (not_less x.state.id w.0 h.0)
       ∙ front_stays x (placed (made program w) xs) ws h.1
 
-  above_first : (a : ℕ) (ws : List (ℕ × List M)) → AllByRecursion (λ id. nat_cmp a id ≡ Less) (map (λ (w : ℕ × List M). w.0) ws) → AllByRecursion (λ (w : ℕ × List M). a < w.0) ws
+  above_first : (a : ℕ) (ws : List (ℕ × List M))
+      → AllByRecursion (λ id. nat_cmp a id ≡ Less) (map (λ (w : ℕ × List M). w.0) ws)
+      → AllByRecursion (λ (w : ℕ × List M). a < w.0) ws
   above_first a [] h = tt
   above_first a (w ∷ ws) h = (lt_from_Less a w.0 h.0, above_first a ws h.1)
 
   -- those that were taken come before it
-  taken_first : (x : Standing V M) (xs : List (Standing V M)) (taken rest : List (ℕ × List M)) → AllByRecursion (λ (w : ℕ × List M). w.0 < x.state.id) taken → IsStrictlySortedBy nat_cmp (map (λ (w : ℕ × List M). w.0) (taken ++ rest)) → with_made program (x ∷ xs) (taken ++ rest) ≡ map (made program) taken ++ with_made program (x ∷ xs) rest
+  taken_first : (x : Standing V M) (xs : List (Standing V M)) (taken rest : List (ℕ × List M))
+      → AllByRecursion (λ (w : ℕ × List M). w.0 < x.state.id) taken
+      → IsStrictlySortedBy nat_cmp (map (λ (w : ℕ × List M). w.0) (taken ++ rest))
+      → with_made program (x ∷ xs) (taken ++ rest) ≡ map (made program) taken ++ with_made program (x ∷ xs) rest
   unfolding IsStrictlySortedBy
   taken_first x xs [] rest below rise = refl
   taken_first x xs (w ∷ taken) rest below rise =
@@ -103,13 +116,17 @@ module _ {V M : Type 0} (program : Program V M) where
     pub rise : IsStrictlySortedBy nat_cmp (map (λ w. w.0) waiting)
     pub apart : AllByRecursion (λ w. has_id (ids left) w.0 ≡ false) waiting
 
-  pub merged_none : (xs : List (Standing V M)) (ws : List (ℕ × List M)) (left merged : List (Standing V M)) (waiting : List (ℕ × List M)) → AreWaiting (ids xs) ws → left ≡ xs → waiting ≡ ws → merged ≡ [] → MergedTo (with_made program xs ws) left waiting merged
+  pub merged_none : (xs : List (Standing V M)) (ws : List (ℕ × List M)) (left merged : List (Standing V M))
+      (waiting : List (ℕ × List M)) → AreWaiting (ids xs) ws → left ≡ xs → waiting ≡ ws → merged ≡ []
+      → MergedTo (with_made program xs ws) left waiting merged
   merged_none xs ws left merged waiting waits same_left same_waiting none =
       subst (λ l. MergedTo (with_made program xs ws) l waiting merged) (sym same_left)
       (subst (λ l. MergedTo (with_made program xs ws) xs l merged) (sym same_waiting)
       (subst (λ l. MergedTo (with_made program xs ws) xs ws l) (sym none) (record { total = refl; rise = waits.rise; apart = waits.apart })))
 
-  rest_rises : (taken rest : List (ℕ × List M)) → IsStrictlySortedBy nat_cmp (map (λ (w : ℕ × List M). w.0) (taken ++ rest)) → IsStrictlySortedBy nat_cmp (map (λ (w : ℕ × List M). w.0) rest)
+  rest_rises : (taken rest : List (ℕ × List M))
+      → IsStrictlySortedBy nat_cmp (map (λ (w : ℕ × List M). w.0) (taken ++ rest))
+      → IsStrictlySortedBy nat_cmp (map (λ (w : ℕ × List M). w.0) rest)
   unfolding IsStrictlySortedBy
   rest_rises [] rest rise = rise
   rest_rises (w ∷ taken) rest rise = rest_rises taken rest rise.1
@@ -118,11 +135,16 @@ module _ {V M : Type 0} (program : Program V M) where
   rest_apart P [] rest h = h
   rest_apart P (w ∷ taken) rest h = rest_apart P taken rest h.1
 
-  apart_later : (x : Standing V M) (xs : List (Standing V M)) (ws : List (ℕ × List M)) → AllByRecursion (λ (w : ℕ × List M). has_id (ids (x ∷ xs)) w.0 ≡ false) ws → AllByRecursion (λ (w : ℕ × List M). has_id (ids xs) w.0 ≡ false) ws
+  apart_later : (x : Standing V M) (xs : List (Standing V M)) (ws : List (ℕ × List M))
+      → AllByRecursion (λ (w : ℕ × List M). has_id (ids (x ∷ xs)) w.0 ≡ false) ws
+      → AllByRecursion (λ (w : ℕ × List M). has_id (ids xs) w.0 ≡ false) ws
   apart_later x xs [] h = tt
   apart_later x xs (w ∷ ws) h = ((or_none (x.state.id == w.0) (has_id (ids xs) w.0) h.0).1, apart_later x xs ws h.1)
 
-  above_rest : (x : Standing V M) (xs : List (Standing V M)) (ws : List (ℕ × List M)) → first_is_below x.state.id ws ≡ false → IsStrictlySortedBy nat_cmp (map (λ (w : ℕ × List M). w.0) ws) → AllByRecursion (λ (w : ℕ × List M). has_id (ids (x ∷ xs)) w.0 ≡ false) ws → AllByRecursion (λ (w : ℕ × List M). x.state.id < w.0) ws
+  above_rest : (x : Standing V M) (xs : List (Standing V M)) (ws : List (ℕ × List M))
+      → first_is_below x.state.id ws ≡ false → IsStrictlySortedBy nat_cmp (map (λ (w : ℕ × List M). w.0) ws)
+      → AllByRecursion (λ (w : ℕ × List M). has_id (ids (x ∷ xs)) w.0 ≡ false) ws
+      → AllByRecursion (λ (w : ℕ × List M). x.state.id < w.0) ws
   unfolding IsStrictlySortedBy
   above_rest x xs [] first rise apart = tt
   above_rest x xs (w ∷ ws) first rise apart =
@@ -130,7 +152,10 @@ module _ {V M : Type 0} (program : Program V M) where
       let less : x.state.id < w.0 = above_unlike w.0 x.state.id first unlike in
       (less, all_weaker (λ (v : ℕ × List M). w.0 < v.0) (λ (v : ℕ × List M). x.state.id < v.0) (λ v l. omega (arith, l, less)) ws (above_first w.0 ws rise.0))
 
-  pub merged_more : (whole : List (Standing V M)) (x : Standing V M) (left now : List (Standing V M)) (waiting after : List (ℕ × List M)) (merged pushed merged' : List (Standing V M)) → MergedTo whole now waiting merged → now ≡ x ∷ left → Takes program x.state.id waiting after merged pushed → first_is_below x.state.id after ≡ false → merged' ≡ pushed ++ x ∷ [] → MergedTo whole left after merged'
+  pub merged_more : (whole : List (Standing V M)) (x : Standing V M) (left now : List (Standing V M))
+      (waiting after : List (ℕ × List M)) (merged pushed merged' : List (Standing V M))
+      → MergedTo whole now waiting merged → now ≡ x ∷ left → Takes program x.state.id waiting after merged pushed
+      → first_is_below x.state.id after ≡ false → merged' ≡ pushed ++ x ∷ [] → MergedTo whole left after merged'
   merged_more whole x left now waiting after merged pushed merged' so_far is takes first push =
       let P : List (ℕ × List M) → Type 0 = λ l. IsStrictlySortedBy nat_cmp (map (λ (w : ℕ × List M). w.0) l) in
       let rise = subst P takes.split so_far.rise in
@@ -156,17 +181,24 @@ module _ {V M : Type 0} (program : Program V M) where
   nil_of [] e = refl
   nil_of (x ∷ xs) e = absurd (omega (arith, e))
 
-  pub merged_all : (whole : List (Standing V M)) (left : List (Standing V M)) (waiting : List (ℕ × List M)) (merged merged' : List (Standing V M)) → MergedTo whole left waiting merged → length left ≡ 0 → merged' ≡ merged ++ map (made program) waiting → merged' ≡ whole
+  pub merged_all : (whole : List (Standing V M)) (left : List (Standing V M)) (waiting : List (ℕ × List M))
+      (merged merged' : List (Standing V M)) → MergedTo whole left waiting merged → length left ≡ 0
+      → merged' ≡ merged ++ map (made program) waiting → merged' ≡ whole
   merged_all whole left waiting merged merged' so_far empty added =
       let none : left ≡ [] = nil_of left empty in
       added ∙ (ap (λ l. merged ++ l) (sym (all_made waiting so_far.rise) ∙ ap (λ xs. with_made program xs waiting) (sym none)) ∙ so_far.total)
 
   -- the vertices with those that wait are in place
-  pub made_in_place : (roster after : Roster V M) (waiting ws : List (ℕ × List M)) (seen seen' : List (Standing V M)) → IsInPlace roster → AreWaiting (ids roster.standings.items) waiting → ws ≡ waiting → after.standings.items ≡ with_made program roster.standings.items ws → after.ids ≡ ids seen → seen ≡ after.standings.items → ListsActive seen' after.work.items → seen' ≡ after.standings.items → IsStrictlySortedBy nat_cmp after.work.items → IsInPlace after
+  pub made_in_place : (roster after : Roster V M) (waiting ws : List (ℕ × List M)) (seen seen' : List (Standing V M))
+      → IsInPlace roster → AreWaiting (ids roster.standings.items) waiting → ws ≡ waiting
+      → after.standings.items ≡ with_made program roster.standings.items ws → after.ids ≡ ids seen
+      → seen ≡ after.standings.items → ListsActive seen' after.work.items → seen' ≡ after.standings.items
+      → IsStrictlySortedBy nat_cmp after.work.items → IsInPlace after
   made_in_place roster after waiting ws seen seen' place waits same are ids_are seen_is lists seen_is' rises =
       let now = are ∙ ap (with_made program roster.standings.items) same in
       let ids_now = ids_are ∙ ap (λ (l : List (Standing V M)). ids l) seen_is in
-      let rise : IsStrictlySortedBy nat_cmp (ids (with_made program roster.standings.items waiting)) = with_made-rise program roster.standings.items waiting (subst (IsStrictlySortedBy nat_cmp) place.ids_are place.ids_rise) waits.rise waits.apart in
+      let rise : IsStrictlySortedBy nat_cmp (ids (with_made program roster.standings.items waiting)) =
+      with_made-rise program roster.standings.items waiting (subst (IsStrictlySortedBy nat_cmp) place.ids_are place.ids_rise) waits.rise waits.apart in
       record {
         ids_are = ids_now;
         ids_rise = subst (IsStrictlySortedBy nat_cmp) (sym (ids_now ∙ ap (λ (l : List (Standing V M)). ids l) now)) rise;

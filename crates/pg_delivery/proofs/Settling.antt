@@ -22,7 +22,10 @@ module _ (M : Type 0) where
   nobody_active (id ∷ is) zero x at = let same : blank {M = M} id ≡ x = (let k : Some (blank {M = M} id) ≡ Some x = at in cc) in sym (ap is_active same)
   nobody_active (id ∷ is) (suc i) x at = nobody_active is i x at
 
-  received : (combining : Option (Combining M)) (sent : List (ℕ × M)) (is : List ℕ) → map {B = ℕ × List M} (λ x. (x.state.id, x.inbox)) (with_messages combining sent (map (blank {M = M}) is)) ≡ map {B = ℕ × List M} (λ id. (id, delivered combining id sent)) is
+  received : (combining : Option (Combining M)) (sent : List (ℕ × M)) (is : List ℕ)
+      → map {B = ℕ × List M} (λ x. (x.state.id, x.inbox))
+      (with_messages combining sent (map (blank {M = M}) is)) ≡ map {B = ℕ × List M}
+      (λ id. (id, delivered combining id sent)) is
   received combining sent [] = refl
   received combining sent (id ∷ is) = ap (λ l. (id, delivered combining id sent) ∷ l) (received combining sent is)
 
@@ -41,7 +44,11 @@ module _ {M : Type 0} where
           covers = λ place x at active. let k : false ≡ true = sym (nobody_active M is place x at) ∙ active in cc;
         }))
 
-  pub blank_inboxes : (combining : Option (Combining M)) (sent : List (ℕ × M)) (is wanted : List ℕ) (blanks after : List (Standing Bool M)) (inboxes : List (ℕ × List M)) → blanks ≡ map blank is → is ≡ wanted → after ≡ with_messages combining sent blanks → inboxes ≡ map {B = ℕ × List M} (λ x. (x.state.id, x.inbox)) after → inboxes ≡ map {B = ℕ × List M} (λ id. (id, delivered combining id sent)) wanted
+  pub blank_inboxes : (combining : Option (Combining M)) (sent : List (ℕ × M)) (is wanted : List ℕ)
+      (blanks after : List (Standing Bool M)) (inboxes : List (ℕ × List M)) → blanks ≡ map blank is → is ≡ wanted
+      → after ≡ with_messages combining sent blanks
+      → inboxes ≡ map {B = ℕ × List M} (λ x. (x.state.id, x.inbox)) after
+      → inboxes ≡ map {B = ℕ × List M} (λ id. (id, delivered combining id sent)) wanted
   blank_inboxes combining sent is wanted blanks after inboxes are same delivers lists =
       lists
       ∙ (ap (map {B = ℕ × List M} (λ (x : Standing Bool M). (x.state.id, x.inbox))) (delivers ∙ ap (with_messages combining sent) are)

@@ -11,7 +11,8 @@ use Rattle.pg_delivery.specs.declared.receiving.Received.{Received}
 use Rattle.pg_delivery.specs.declared.roster.Roster.{Roster}
 
 -- these messages were delivered, and settled where they went astray
-pub record HasReceived {V M : Type 0} (combining : Option (Combining M)) (missing : Missing) (first : Roster V M) (sent : List (ℕ × M)) (r : Received V M) : Type 0 where
+pub record HasReceived {V M : Type 0} (combining : Option (Combining M)) (missing : Missing) (first : Roster V M)
+    (sent : List (ℕ × M)) (r : Received V M) : Type 0 where
   pub standings : r.roster.standings.items ≡ with_messages combining sent first.standings.items
   pub ids_stay : r.roster.ids ≡ first.ids
   pub lists : ListsActive r.roster.standings.items r.roster.work.items

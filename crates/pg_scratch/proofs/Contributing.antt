@@ -38,5 +38,6 @@ module _ (registrations : List Registration) (values : List ℤ) (cs : List (ℕ
   pub gathered-all : (done : List ℤ) (i : ℕ) → length registrations ≤ i → done ++ rest_from i ≡ rest_from 0 → done ≡ rest_from 0
   unfolding gathered_from
   gathered-all done i past so_far =
-      let none : rest_from i ≡ [] = ap (λ (l : List Registration). gathered_from i (map aggregating_of l) (drop i values) cs) (drop_of_length-le registrations past) in
+      let none : rest_from i ≡ [] =
+      ap (λ (l : List Registration). gathered_from i (map aggregating_of l) (drop i values) cs) (drop_of_length-le registrations past) in
       sym (append-nil done) ∙ ap (λ l. done ++ l) (sym none) ∙ so_far

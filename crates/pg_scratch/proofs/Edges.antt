@@ -10,7 +10,8 @@ module _ {V M : Type 0} (program : Program V M) where
   edges-placed w [] = refl
   edges-placed w (x ∷ xs) = by (ltb w.0 x.state.id) (edges-placed w xs)
     where
-      by : (b : Bool) → edges_of (placed (made program w) xs) ≡ edges_of xs → edges_of (cond b (made program w ∷ x ∷ xs) (x ∷ placed (made program w) xs)) ≡ edges_of (x ∷ xs)
+      by : (b : Bool) → edges_of (placed (made program w) xs) ≡ edges_of xs
+          → edges_of (cond b (made program w ∷ x ∷ xs) (x ∷ placed (made program w) xs)) ≡ edges_of (x ∷ xs)
       by true rest =
           sum_by-cons (λ (z : Standing V M). length z.state.edges) (made program w) (x ∷ xs)
           ∙ (let e : 0 + edges_of (x ∷ xs) ≡ edges_of (x ∷ xs) = omega arith in e)

@@ -18,7 +18,9 @@ use Rattle.pg_scratch.specs.Pass.{ran}
 use Rattle.pg_delivery.specs.Worklist.{ListsActive}
 
 -- what it sees shows that
-pub shown_in : {V M : Type 0} (program : Program V M) (declared : Declared) (s n : ℕ) (v : Visible) (w : View) → has_places program.declared n ≡ true → length v.values ≡ n → declared ≡ program.declared → w ≡ view_of declared s v → ShowsDeclared program.declared w
+pub shown_in : {V M : Type 0} (program : Program V M) (declared : Declared) (s n : ℕ) (v : Visible) (w : View)
+    → has_places program.declared n ≡ true → length v.values ≡ n → declared ≡ program.declared
+    → w ≡ view_of declared s v → ShowsDeclared program.declared w
 shown_in program declared s n v w registered places declares view_is =
     subst (λ x. ShowsDeclared program.declared x) (sym (view_is
     ∙ ap (λ (d : Declared). view_of d s v) declares)) (shows_declared program.declared s n v registered places)

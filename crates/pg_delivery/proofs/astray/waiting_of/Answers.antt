@@ -21,7 +21,11 @@ deliver-requires-clause-empty g c = λ _ _. blank_empty _ c.as_slice-2.result.no
 
 pub returns : goal.returns
 returns g c =
-    blank_inboxes (g.C.MessageCombiner.combining c.args.combiner.now) c.args.strays.items c.as_slice-2.result.now (targets c.args.strays.items) c.in_ok-blanks.blanks.items c.deliver.new.standings.items c.in_ok-inboxes.inboxes c.in_ok-blanks.ensures
+    blank_inboxes (g.C.MessageCombiner.combining c.args.combiner.now) c.args.strays.items c.as_slice-2.result.now
+    (targets c.args.strays.items) c.in_ok-blanks.blanks.items c.deliver.new.standings.items c.in_ok-inboxes.inboxes
+    c.in_ok-blanks.ensures
     (c.as_slice-2.ensures.value ∙ (c.in_ok-ids.ensures ∙ ap (targets {M = g.row.M.Denot}) c.as_slice.ensures.value))
-    (c.in_ok-deliver.ensures.standings ∙ ap (λ (l : List (ℕ × g.row.M.Denot)). with_messages (g.C.MessageCombiner.combining c.args.combiner.now) l c.in_ok-blanks.blanks.items) c.as_slice-3.ensures.value)
+    (c.in_ok-deliver.ensures.standings
+    ∙ ap (λ (l : List (ℕ × g.row.M.Denot)). with_messages (g.C.MessageCombiner.combining c.args.combiner.now) l
+    c.in_ok-blanks.blanks.items) c.as_slice-3.ensures.value)
     c.in_ok-inboxes.ensures

@@ -9,4 +9,6 @@ returns-clause-in_place g c =
           c.in_ok-standings.standings;
       ids = c.in_ok-ids.ids;
       work = c.in_ok-work.work;
-    }) c.args.waiting c.into_vec.result.items c.as_slice.result.now c.as_slice-2.result.now c.requires.in_place c.requires.waiting c.into_vec.ensures c.in_ok-standings.ensures c.in_ok-ids.ensures c.as_slice.ensures.value c.in_ok-work.ensures.lists c.as_slice-2.ensures.value c.in_ok-work.ensures.in_order
+    }) c.args.waiting c.into_vec.result.items c.as_slice.result.now c.as_slice-2.result.now c.requires.in_place
+    c.requires.waiting c.into_vec.ensures c.in_ok-standings.ensures c.in_ok-ids.ensures c.as_slice.ensures.value
+    c.in_ok-work.ensures.lists c.as_slice-2.ensures.value c.in_ok-work.ensures.in_order

@@ -10,10 +10,13 @@ pub loop-place-preserved : goal.loop-place-preserved
 loop-place-preserved g c =
     elim c.if-is_active_at.branch [
       | then-is_active_at+in_ok-push w ↦
-          found_more c.args.standings.now c.loop-place.place c.loop-place.places.items c.loop-place.invariant c.if-is_active_at.places.items c.loop-place-test.true (ap (λ (v : Vec ℕ Global). v.items) w.places-is ∙ w.in_ok-push.ensures.items)
+          found_more c.args.standings.now c.loop-place.place c.loop-place.places.items c.loop-place.invariant
+          c.if-is_active_at.places.items c.loop-place-test.true
+          (ap (λ (v : Vec ℕ Global). v.items) w.places-is ∙ w.in_ok-push.ensures.items)
       | else-is_active_at w ↦
           subst (λ (v : Vec ℕ Global). FoundBelow c.args.standings.now (c.loop-place.place + 1) v.items) (sym w.places-is)
-          (found_same c.args.standings.now c.loop-place.place c.loop-place.places.items c.loop-place.invariant c.loop-place-test.true (λ x at. sym w.if-is_active_at.false ∙ c.is_active_at.ensures x at))
+          (found_same c.args.standings.now c.loop-place.place c.loop-place.places.items c.loop-place.invariant
+          c.loop-place-test.true (λ x at. sym w.if-is_active_at.false ∙ c.is_active_at.ensures x at))
     ]
 
 pub returns-clause-lists : goal.returns-clause-lists

@@ -7,7 +7,8 @@ is_active_at-requires g c = c.requires.within _ (place_listed c.args.work.now c.
 
 pub returns-then-is_active_at : goal.returns-then-is_active_at
 returns-then-is_active_at g c =
-    anyone_active c.args.standings.now c.args.work.now c.loop-place.place-index c.is_active_at.result c.requires c.loop-place-test.true c.if-is_active_at.true c.is_active_at.ensures
+    anyone_active c.args.standings.now c.args.work.now c.loop-place.place-index c.is_active_at.result c.requires
+    c.loop-place-test.true c.if-is_active_at.true c.is_active_at.ensures
 
 pub returns : goal.returns
 returns g c =
