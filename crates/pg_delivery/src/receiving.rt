@@ -34,8 +34,8 @@ pub struct Received<V, M> {
 ///
 /// # Cost
 ///
-/// The messages times the logarithm of the number of vertices, and where more than one message for eight vertices
-/// was sent, one walk over the vertices.
+/// The messages times the logarithm of their number and of the vertices', and where more than one message for
+/// eight vertices was sent, one walk over the vertices.
 pub fn receive<V: Drop, M: Plain, C: MessageCombiner<M>>(
     alloc: Global,
     combiner: &C,

@@ -14,7 +14,7 @@ use pg_program::Computation;
 use std::alloc::Global;
 use std::collections::VecDeque;
 
-/// Vertices by rising id, their ids, and the places of the active ones.
+/// Vertices by rising id, their ids, and the list of the places of the active ones, on which others may stand.
 #[derive(Drop)]
 pub struct Roster<V, M> {
     pub standings: Vec<Standing<V, M>>,
@@ -22,8 +22,13 @@ pub struct Roster<V, M> {
     pub work: Vec<usize>,
 }
 
-/// The vertices with those that messages make. Where nothing waits, it costs nothing, and else one walk over
-/// the vertices.
+/// The vertices with those that messages make: of each id that something waits for, which has no state, a vertex
+/// by its rising id. It begins with what the program gives an id without an input, has no edges, isn't halted, and
+/// has received what waits.
+///
+/// # Cost
+///
+/// Nothing, where nothing waits, and else one walk over the vertices.
 pub fn with_waiting<P: Computation>(
     alloc: Global,
     program: &P,
