@@ -1,18 +1,17 @@
 -- Vertices that messages make, merged with those that have a state.
-use Rattle.std.proofs.Common.{◌≡◌, ℕ, suc, ◌+◌, ◌<◌, ◌≤◌, Bool, true, false, cond, ltb, ◌==◌, ◌||◌, List, [], ◌∷◌, ◌++◌, length, map, refl, sym, ap, ◌∙◌, subst, arith}
+use Rattle.std.proofs.Common.{◌≡◌, ℕ, ◌<◌, Bool, true, false, cond, ltb, ◌==◌, ◌||◌, List, [], ◌∷◌, ◌++◌, length, map, refl, sym, ap, ◌∙◌, subst, arith}
 use Rattle.std.specs.List.{AllByRecursion}
 use Rattle.std.specs.List.Sorted.{IsStrictlySortedBy}
 use Rattle.std.specs.Ordering.{nat_cmp}
 use Rattle.std.specs.declared.cmp.Ordering.TheVariants.{Less}
 use Rattle.std.proofs.lemmas.Bool.{ltb-true}
 use Rattle.std.proofs.lemmas.Bool.Decides.{nat_tests}
-use Rattle.std.proofs.lemmas.List.{append-nil, append_assoc}
-use Rattle.std.proofs.lemmas.List.Sums.{sum_by-cons}
+use Rattle.std.proofs.lemmas.List.{append_assoc}
 use Rattle.pg_model.proofs.LawsLists.{all_weaker}
 use Rattle.pg_model.specs.InOrder.{AreWaiting}
 use Rattle.pg_model.specs.Job.{Program}
 use Rattle.pg_model.proofs.LawsMade.{with_made-rise}
-use Rattle.pg_model.specs.Superstep.{ids, has_id, edges_of, placed, made, with_made}
+use Rattle.pg_model.specs.Superstep.{ids, has_id, placed, made, with_made}
 use Rattle.pg_model.specs.declared.configuration.Standing.{Standing}
 use Rattle.pg_delivery.specs.Roster.{IsInPlace, Takes, first_is_below}
 use Rattle.pg_delivery.specs.Worklist.{ListsActive}

@@ -1,4 +1,3 @@
-use Rattle.std.proofs.Common.{◌∙◌}
 use Rattle.pg_delivery.proofs.Merging.{made_in_place}
 use Rattle.pg_delivery.proofs.roster.with_waiting.Goals as goal
 
