@@ -1,21 +1,13 @@
 -- What a superstep's parts come to.
-use Rattle.std.proofs.Common.{◌≡◌, ℕ, zero, suc, ℤ, ◌+◌, ◌*◌, ◌/◌, ◌%◌, ◌^◌, ◌<◌, ◌≤◌, Bool, true, false, cond, not, ◌&&◌, List, [], ◌∷◌, length, map, get_or, Option, None, Some, ⊎_elim, refl, sym, ap, ◌∙◌, subst, arith, rules, tests}
-use Rattle.std.specs.Prelude.{◌==◌, is_some}
-use Rattle.std.specs.List.{AllByRecursion, slice_get, list_all}
-use Rattle.std.proofs.lemmas.Bool.{cases_Bool, cases_lt}
-use Rattle.pg_model.specs.Job.{Program, Combining, Totals, Job, has_place}
-use Rattle.pg_model.specs.Superstep.{is_active, ids, outcome, state_after, sends, contributions, delivered, dropped_count, shown, view_of, visible_in, gathered_from, next, capped}
-use Rattle.pg_model.specs.declared.configuration.Standing.{Standing}
-use Rattle.pg_model.specs.declared.configuration.Configuration.{Configuration}
+use Rattle.std.proofs.Common.{◌≡◌, ℕ, true, length, sym, ap, ◌∙◌, subst}
+use Rattle.pg_model.specs.Job.{Program}
+use Rattle.pg_model.specs.Superstep.{view_of}
 use Rattle.pg_model.specs.declared.view.Declared.{Declared}
 use Rattle.pg_model.specs.declared.view.View.{View}
 use Rattle.pg_model.specs.declared.view.Visible.{Visible}
 use Rattle.pg_program.specs.Context.{ShowsDeclared}
 use Rattle.pg_global.specs.Master.{has_places}
 use Rattle.pg_global.proofs.Shown.{shows_declared}
-use Rattle.pg_delivery.specs.Inbox.{with_messages}
-use Rattle.pg_scratch.specs.Pass.{ran}
-use Rattle.pg_delivery.specs.Worklist.{ListsActive}
 
 -- what it sees shows that
 pub shown_in : {V M : Type 0} (program : Program V M) (declared : Declared) (s n : ℕ) (v : Visible) (w : View)

@@ -1,11 +1,11 @@
 -- A whole superstep, from what its stages leave.
-use Rattle.std.proofs.Common.{◌≡◌, ℕ, ℤ, ◌+◌, min, Bool, List, [], ◌∷◌, length, map, Option, refl, sym, ap, ◌∙◌, subst, arith}
+use Rattle.std.proofs.Common.{◌≡◌, ℕ, ℤ, ◌+◌, Bool, List, [], ◌∷◌, length, map, Option, refl, sym, ap, ◌∙◌, subst}
 use Rattle.std.specs.List.{AllByRecursion, count_by, sum_by}
 use Rattle.std.specs.List.Sorted.{IsStrictlySortedBy}
 use Rattle.std.specs.Ordering.{nat_cmp}
 use Rattle.std.proofs.lemmas.List.{length-map}
 use Rattle.std.proofs.lemmas.List.Sums.{sum_by-cons}
-use Rattle.pg_model.specs.Job.{Program, Combining, Aggregating, Job}
+use Rattle.pg_model.specs.Job.{Program, Combining, Job}
 use Rattle.pg_model.specs.InOrder.{IsInOrder}
 use Rattle.pg_model.specs.Superstep.{is_active, ids, edges_of, outcome, state_after, sends, contributions, delivered, astray, waiting_after, dropped_count, present, standings_after, view_of, view_in, visible, gathered_from, next, capped}
 use Rattle.pg_model.specs.declared.configuration.Standing.{Standing}
@@ -13,7 +13,7 @@ use Rattle.pg_model.specs.declared.configuration.Configuration.{Configuration}
 use Rattle.pg_model.specs.declared.view.View.{View}
 use Rattle.pg_model.specs.declared.view.Visible.{Visible}
 use Rattle.pg_model.proofs.LawsIds.{IsInOrder-next, ids-next, length-gathered_from}
-use Rattle.pg_global.specs.Master.{Master, job_of}
+use Rattle.pg_global.specs.Master.{Master}
 use Rattle.pg_global.specs.Registry.{Registered, aggregating_of}
 use Rattle.pg_global.specs.declared.registry.Registration.{Registration}
 use Rattle.pg_delivery.specs.Inbox.{with_messages}

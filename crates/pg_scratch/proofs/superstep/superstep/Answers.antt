@@ -1,6 +1,5 @@
-use Rattle.std.proofs.Common.{ℕ, ◌+◌, ℤ, List, length, ap, sym, ◌∙◌, refl, subst}
+use Rattle.std.proofs.Common.{ℕ, ◌+◌, List, length, ap, sym, ◌∙◌, refl, subst}
 use Rattle.pg_model.specs.InOrder.{AreWaiting}
-use Rattle.pg_model.specs.Job.{Totals, Aggregating}
 use Rattle.pg_model.specs.Superstep.{capped, edges_of, ids, visible_in, view_of, gathered_from, with_made}
 use Rattle.pg_model.specs.declared.view.Declared.{Declared}
 use Rattle.pg_model.specs.declared.configuration.Standing.{Standing}
