@@ -1,12 +1,12 @@
 -- What is contributed to each place, one place after another.
-use Rattle.std.proofs.Common.{◌≡◌, ℕ, ℤ, ◌+◌, ◌<◌, ◌≤◌, Bool, cond, List, [], ◌∷◌, ◌++◌, length, map, take, drop, append_assoc, get_or, refl, sym, ap, ◌∙◌, arith}
+use Rattle.std.proofs.Common.{◌≡◌, ℕ, ℤ, ◌+◌, ◌<◌, ◌≤◌, cond, List, [], ◌∷◌, ◌++◌, length, map, take, drop, append_assoc, get_or, refl, sym, ap, ◌∙◌, arith}
 use Rattle.std.specs.Prelude.{◌==◌}
 use Rattle.std.proofs.lemmas.List.{append-nil, take_more, drop_more}
 use Rattle.std.proofs.Math.ListN.{drop_of_length-le}
 use Rattle.pg_global.specs.Registry.{aggregating_of}
 use Rattle.pg_global.specs.declared.registry.Registration.{Registration}
 use Rattle.pg_model.specs.Superstep.{at_place, gathered_at, gathered_from}
-use Rattle.pg_scratch.proofs.Messages.{messages_to-more}
+use Rattle.pg_delivery.proofs.Messages.{messages_to-more}
 
 -- one contribution more is looked at
 pub at_place-next : (place : ℕ) (cs : List (ℕ × ℤ)) (i : ℕ) (c : ℕ × ℤ) (before after : List ℤ) → i < length cs → c ≡ get_or cs i c
@@ -38,5 +38,6 @@ module _ (registrations : List Registration) (values : List ℤ) (cs : List (ℕ
   pub gathered-all : (done : List ℤ) (i : ℕ) → length registrations ≤ i → done ++ rest_from i ≡ rest_from 0 → done ≡ rest_from 0
   unfolding gathered_from
   gathered-all done i past so_far =
-      let none : rest_from i ≡ [] = ap (λ (l : List Registration). gathered_from i (map aggregating_of l) (drop i values) cs) (drop_of_length-le registrations past) in
+      let none : rest_from i ≡ [] =
+      ap (λ (l : List Registration). gathered_from i (map aggregating_of l) (drop i values) cs) (drop_of_length-le registrations past) in
       sym (append-nil done) ∙ ap (λ l. done ++ l) (sym none) ∙ so_far

@@ -3,7 +3,7 @@ use Rattle.std.proofs.Common.{◌≡◌, ℕ, ◌+◌, Bool, true, false, cond, 
 use Rattle.std.proofs.lemmas.List.{append-nil}
 use Rattle.pg_model.proofs.LawsAgreement.{outcome-active, outcome-idle}
 use Rattle.pg_model.specs.Job.{Program}
-use Rattle.pg_model.specs.Superstep.{is_active, is_empty, idle, inputs_of, outcome, state_after, capped}
+use Rattle.pg_model.specs.Superstep.{is_active, is_empty, outcome, state_after, capped}
 use Rattle.pg_model.specs.declared.configuration.Standing.{Standing}
 use Rattle.pg_model.specs.declared.configuration.VertexState.{VertexState}
 use Rattle.pg_model.specs.declared.record.Record.{Record}
@@ -15,7 +15,12 @@ use Rattle.pg_scratch.specs.Pass.{ran, context_after}
 
 module _ {V M : Type 0} (program : Program V M) (view : View) (x : Standing V M) where
   -- the vertex and the context that an execution is lent
-  module _ (vertex vertex' : VertexState V) (inbox : List M) (cx cx' : Context M) (active : is_active x ≡ true) (begins : vertex ≡ record { id = x.state.id; value = x.state.value; edges = x.state.edges; halted = false }) (reads : inbox ≡ x.inbox) (sees : cx.view ≡ view) (executes : Executes program vertex vertex' inbox cx cx') where
+  module _ (vertex vertex' : VertexState V) (inbox : List M) (cx cx' : Context M) (active : is_active x ≡ true) (begins : vertex ≡ record {
+    id = x.state.id;
+    value = x.state.value;
+    edges = x.state.edges;
+    halted = false;
+  }) (reads : inbox ≡ x.inbox) (sees : cx.view ≡ view) (executes : Executes program vertex vertex' inbox cx cx') where
     step_is : step_on program vertex inbox cx ≡ outcome program view x
     step_is =
         ap (λ (v : VertexState V). step_on program v inbox cx) begins
@@ -30,9 +35,21 @@ module _ {V M : Type 0} (program : Program V M) (view : View) (x : Standing V M)
         ap Q is_left ∙ ap P (is_state ∙ executes.vertex_is ∙ ap (λ (v : VertexState V). state_after v (step_on program vertex inbox cx)) begins
         ∙ ap (λ (r : Record V M). state_after x.state r) step_is)
 
-    pub context-executed : cx' ≡ record { view = cx.view; writes = cx.writes; sent = cx.sent ++ (outcome program view x).sent; contributed = cx.contributed ++ (outcome program view x).contributed; calls = capped (cx.calls + 1) }
+    pub context-executed : cx' ≡ record {
+      view = cx.view;
+      writes = cx.writes;
+      sent = cx.sent ++ (outcome program view x).sent;
+      contributed = cx.contributed ++ (outcome program view x).contributed;
+      calls = capped (cx.calls + 1);
+    }
     context-executed =
-        let P : Record V M → Context M = λ r. record { view = cx.view; writes = cx.writes; sent = cx.sent ++ r.sent; contributed = cx.contributed ++ r.contributed; calls = capped (cx.calls + 1) } in
+        let P : Record V M → Context M = λ r. record {
+          view = cx.view;
+          writes = cx.writes;
+          sent = cx.sent ++ r.sent;
+          contributed = cx.contributed ++ r.contributed;
+          calls = capped (cx.calls + 1);
+        } in
         executes.context_is ∙ ap P step_is
 
 -- ---- an idle vertex
@@ -67,7 +84,13 @@ module _ {V M : Type 0} (program : Program V M) (view : View) (x : Standing V M)
 
 module _ {V M : Type 0} (program : Program V M) (cx : Context M) (x : Standing V M) where
   abbrev context_with : Record V M → Bool → Context M
-  context_with r active = record { view = cx.view; writes = cx.writes; sent = cx.sent ++ r.sent; contributed = cx.contributed ++ r.contributed; calls = capped (cx.calls + cond active 1 0) }
+  context_with r active = record {
+    view = cx.view;
+    writes = cx.writes;
+    sent = cx.sent ++ r.sent;
+    contributed = cx.contributed ++ r.contributed;
+    calls = capped (cx.calls + cond active 1 0);
+  }
 
   stays : cx.calls < 2 ^ 64 → cx.calls ≡ capped (cx.calls + 0)
   stays fits = omega arith
@@ -82,6 +105,12 @@ module _ {V M : Type 0} (program : Program V M) (cx : Context M) (x : Standing V
       ∙ ap (λ (r : Record V M). context_with r false) (sym (outcome-idle program cx.view x still))
       ∙ ap (λ (b : Bool). context_with (outcome program cx.view x) b) (sym still)
 
-  pub context_after-active : (cx' : Context M) → is_active x ≡ true → cx' ≡ record { view = cx.view; writes = cx.writes; sent = cx.sent ++ (outcome program cx.view x).sent; contributed = cx.contributed ++ (outcome program cx.view x).contributed; calls = capped (cx.calls + 1) } → cx' ≡ context_after program cx x
+  pub context_after-active : (cx' : Context M) → is_active x ≡ true → cx' ≡ record {
+    view = cx.view;
+    writes = cx.writes;
+    sent = cx.sent ++ (outcome program cx.view x).sent;
+    contributed = cx.contributed ++ (outcome program cx.view x).contributed;
+    calls = capped (cx.calls + 1);
+  } → cx' ≡ context_after program cx x
   unfolding context_after
   context_after-active cx' active executed = executed ∙ ap (λ (b : Bool). context_with (outcome program cx.view x) b) (sym active)

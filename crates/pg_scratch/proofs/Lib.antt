@@ -1,15 +1,8 @@
-pub mod ActivePlaces
-pub mod Arranging
-pub mod Contributing
-pub mod Delivering
-pub mod Executing
-pub mod Merging
-pub mod Messages
-pub mod Ordering
-pub mod Passing
-pub mod Registered
-pub mod Runs
-pub mod Searching
-pub mod Settling
-pub mod Stepping
-pub mod Whole
+mod Contributing
+mod Edges
+mod Executing
+mod Passing
+mod Registered
+mod Runs
+mod Stepping
+mod Whole

@@ -19,8 +19,8 @@ use Rattle.pg_model.specs.declared.view.Declared.{Declared}
 use Rattle.pg_program.specs.Context.{Context, ShowsDeclared}
 use Rattle.pg_scratch.specs.Pass.{ran, context_after, ran_context, with_unhalted}
 use Rattle.pg_scratch.specs.Totals.{Counts, Exchanges}
-use Rattle.pg_scratch.specs.Worklist.{ListsActive}
-use Rattle.pg_scratch.proofs.Delivering.{has_id-push}
+use Rattle.pg_delivery.specs.Worklist.{ListsActive}
+use Rattle.pg_delivery.proofs.LawsPlaces.{element, has_id-push, listed_place, place_listed}
 use Rattle.pg_scratch.proofs.Executing.{ran-idle, idle_halted, context_after-idle}
 
 -- ---- lists of which the first i elements are changed
@@ -68,7 +68,8 @@ module _ {V M : Type 0} (program : Program V M) (cx : Context M) where
   more_calls : (c n k : ℕ) → capped (capped (c + n) + k) ≡ capped (c + (n + k))
   more_calls c n k = omega arith
 
-  pub ran_context-push : (xs : List (Standing V M)) (x : Standing V M) → context_after program (ran_context program cx xs) x ≡ ran_context program cx (xs ++ x ∷ [])
+  pub ran_context-push : (xs : List (Standing V M)) (x : Standing V M)
+      → context_after program (ran_context program cx xs) x ≡ ran_context program cx (xs ++ x ∷ [])
   unfolding context_after ran_context
   ran_context-push xs x =
       let P : List (ℕ × M) → List (ℕ × ℤ) → ℕ → Context M = λ s c n. record { view = cx.view; writes = cx.writes; sent = s; contributed = c; calls = n } in
@@ -96,12 +97,14 @@ module _ {V M : Type 0} (program : Program V M) (cx : Context M) where
       ∙ ap (λ (n : ℕ). P (cx.sent ++ []) (cx.contributed ++ []) n) stays
 
 -- ---- the state of a pass: k places of the list are done, and all vertices below `low`
-pub record PassedTo {V M : Type 0} (program : Program V M) (first now : List (Standing V M)) (cx_first cx : Context M) (work unhalted : List ℕ) (edges : Option ℕ) (k low : ℕ) : Type 0 where
+pub record PassedTo {V M : Type 0} (program : Program V M) (first now : List (Standing V M)) (cx_first cx : Context M)
+    (work unhalted : List ℕ) (edges : Option ℕ) (k low : ℕ) : Type 0 where
   pub bound : low ≤ length first
   pub standings : now ≡ changed_below (ran program cx_first.view) low first
   pub context : cx ≡ ran_context program cx_first (take low first)
   pub ahead : (j : ℕ) → k ≤ j → j < length work → low ≤ get_or work j 0
-  pub covers : (i : ℕ) (x : Standing V M) → slice_get first i ≡ Some x → is_active x ≡ true → low ≤ i → (j : ℕ) × (k ≤ j) × (j < length work) × (get_or work j 0 ≡ i)
+  pub covers : (i : ℕ) (x : Standing V M) → slice_get first i ≡ Some x → is_active x ≡ true → low ≤ i
+      → (j : ℕ) × (k ≤ j) × (j < length work) × (get_or work j 0 ≡ i)
   pub within : (p : ℕ) → has_id unhalted p ≡ true → p < low
   pub lists : (i : ℕ) (x : Standing V M) → slice_get first i ≡ Some x → i < low → (ran program cx_first.view x).state.halted ≡ false → has_id unhalted i ≡ true
   pub counts : Counts edges (edges_of now)
@@ -118,12 +121,6 @@ or_left : (a b : Bool) → a ≡ true → (a || b) ≡ true
 or_left true b h = refl
 or_left false b h = let k : false ≡ true = h in cc
 
--- the element at a place within
-pub element : {X : Type 0} (xs : List X) (i : ℕ) → i < length xs → (x : X) × (slice_get xs i ≡ Some x)
-element [] i h = absurd (omega arith)
-element (x ∷ xs) zero h = (x, refl)
-element (x ∷ xs) (suc i) h = element xs i (omega arith)
-
 -- ---- the number of edges, as a vertex is exchanged
 less_and_more : (n k : ℕ) → k ≤ n → n ≡ n - k + k
 less_and_more n k h = omega arith
@@ -136,7 +133,9 @@ module _ {V M : Type 0} where
       omega (arith, sum_by-cons (λ (z : Standing V M). length z.state.edges) y xs, ap (λ (z : Standing V M). length z.state.edges) same)
   edges_within (y ∷ xs) (suc i) x at = omega (arith, sum_by-cons (λ (z : Standing V M). length z.state.edges) y xs, edges_within xs i x at)
 
-  exchanged_at : (now after : List (Standing V M)) (i : ℕ) (x y : Standing V M) (edges edges' : Option ℕ) → slice_get now i ≡ Some x → after ≡ set now i y → Exchanges edges edges' x y → Counts edges (edges_of now) → Counts edges' (edges_of after)
+  exchanged_at : (now after : List (Standing V M)) (i : ℕ) (x y : Standing V M) (edges edges' : Option ℕ)
+      → slice_get now i ≡ Some x → after ≡ set now i y → Exchanges edges edges' x y → Counts edges (edges_of now)
+      → Counts edges' (edges_of after)
   exchanged_at now after i x y edges edges' at step exchanges counts =
       let size : Standing V M → ℕ = λ z. length z.state.edges in
       let within = edges_within now i x at in
@@ -148,13 +147,18 @@ module _ {V M : Type 0} where
       subst (Counts edges') (sym left) (exchanges rest (subst (Counts edges) both counts))
 
   -- no vertex has more edges than all have
-  pub known_within : (now : List (Standing V M)) (i : ℕ) (x : Standing V M) (edges : Option ℕ) → slice_get now i ≡ Some x → Counts edges (edges_of now) → IfSome edges (λ n. length x.state.edges ≤ n)
+  pub known_within : (now : List (Standing V M)) (i : ℕ) (x : Standing V M) (edges : Option ℕ)
+      → slice_get now i ≡ Some x → Counts edges (edges_of now) → IfSome edges (λ n. length x.state.edges ≤ n)
   known_within now i x None at counts = tt
   known_within now i x (Some n) at counts = omega (arith, edges_within now i x at, counts)
 
-module _ {V M : Type 0} (program : Program V M) (first now : List (Standing V M)) (cx_first cx : Context M) (work unhalted : List ℕ) (edges : Option ℕ) (k : ℕ) where
+module _ {V M : Type 0} (program : Program V M) (first now : List (Standing V M)) (cx_first cx : Context M)
+    (work unhalted : List ℕ) (edges : Option ℕ) (k : ℕ) where
   -- an idle vertex is passed over
-  advance_idle : (low : ℕ) (x : Standing V M) → PassedTo program first now cx_first cx work unhalted edges k low → slice_get first low ≡ Some x → is_active x ≡ false → ((j : ℕ) → k ≤ j → j < length work → low < get_or work j 0) → PassedTo program first now cx_first cx work unhalted edges k (suc low)
+  advance_idle : (low : ℕ) (x : Standing V M) → PassedTo program first now cx_first cx work unhalted edges k low
+      → slice_get first low ≡ Some x → is_active x ≡ false
+      → ((j : ℕ) → k ≤ j → j < length work → low < get_or work j 0)
+      → PassedTo program first now cx_first cx work unhalted edges k (suc low)
   advance_idle low x passed here still ahead =
       let stays = ran-idle program cx_first.view x still in
       let before = ran_context program cx_first (take low first) in
@@ -174,18 +178,25 @@ module _ {V M : Type 0} (program : Program V M) (first now : List (Standing V M)
             (λ (l : low ≤ i).
             let same : i ≡ low = omega arith in
             let is : y ≡ x = same_place first low i x y here at (sym same) in
-            let asleep : (ran program cx_first.view y).state.halted ≡ true = ap (λ (z : Standing V M). (ran program cx_first.view z).state.halted) is ∙ ap (λ (z : Standing V M). z.state.halted) (sym stays) ∙ idle_halted program cx_first.view x still in
+            let asleep : (ran program cx_first.view y).state.halted ≡ true =
+            ap (λ (z : Standing V M). (ran program cx_first.view z).state.halted) is
+            ∙ ap (λ (z : Standing V M). z.state.halted) (sym stays) ∙ idle_halted program cx_first.view x still in
             let k : false ≡ true = sym awake ∙ asleep in cc)
             (cases_lt i low);
         counts = passed.counts;
       }
 
   -- idle vertices are passed over
-  skip : (n low target : ℕ) → target ≡ low + n → PassedTo program first now cx_first cx work unhalted edges k low → target ≤ length first → ((j : ℕ) → k ≤ j → j < length work → target ≤ get_or work j 0) → ((i : ℕ) (x : Standing V M) → slice_get first i ≡ Some x → low ≤ i → i < target → is_active x ≡ false) → PassedTo program first now cx_first cx work unhalted edges k target
-  skip zero low target is passed inside ahead still = let e : low ≡ target = omega arith in subst (λ (t : ℕ). PassedTo program first now cx_first cx work unhalted edges k t) e passed
+  skip : (n low target : ℕ) → target ≡ low + n → PassedTo program first now cx_first cx work unhalted edges k low
+      → target ≤ length first → ((j : ℕ) → k ≤ j → j < length work → target ≤ get_or work j 0)
+      → ((i : ℕ) (x : Standing V M) → slice_get first i ≡ Some x → low ≤ i → i < target → is_active x ≡ false)
+      → PassedTo program first now cx_first cx work unhalted edges k target
+  skip zero low target is passed inside ahead still =
+      let e : low ≡ target = omega arith in subst (λ (t : ℕ). PassedTo program first now cx_first cx work unhalted edges k t) e passed
   skip (suc n) low target is passed inside ahead still =
       let last = low + n in
-      let before = skip n low last refl passed (omega arith) (λ j a b. let l = ahead j a b in omega arith) (λ i x at more less. still i x at more (omega arith)) in
+      let before =
+      skip n low last refl passed (omega arith) (λ j a b. let l = ahead j a b in omega arith) (λ i x at more less. still i x at more (omega arith)) in
       let e : suc last ≡ target = omega arith in
       let inside_last : last < length first = omega arith in
       let some = element first last inside_last in
@@ -193,18 +204,28 @@ module _ {V M : Type 0} (program : Program V M) (first now : List (Standing V M)
       (advance_idle last some.0 before some.1 (still last some.0 some.1 (omega arith) (omega arith)) (λ j a b. let l = ahead j a b in omega arith))
 
   -- all vertices below the next place of the list are passed over
-  quiet_until : (low target : ℕ) → PassedTo program first now cx_first cx work unhalted edges k low → ((j : ℕ) → k ≤ j → j < length work → target ≤ get_or work j 0) → (i : ℕ) (x : Standing V M) → slice_get first i ≡ Some x → low ≤ i → i < target → is_active x ≡ false
+  quiet_until : (low target : ℕ) → PassedTo program first now cx_first cx work unhalted edges k low
+      → ((j : ℕ) → k ≤ j → j < length work → target ≤ get_or work j 0) → (i : ℕ) (x : Standing V M)
+      → slice_get first i ≡ Some x → low ≤ i → i < target → is_active x ≡ false
   quiet_until low target passed ahead i x at more less =
       by_bool (is_active x)
       (λ active. let w = passed.covers i x at active more in let l = ahead w.0 w.1 w.2 in absurd (omega (arith, w.3)))
       (λ still. still)
 
-  pub skip_to : (low target : ℕ) → PassedTo program first now cx_first cx work unhalted edges k low → low ≤ target → target ≤ length first → ((j : ℕ) → k ≤ j → j < length work → target ≤ get_or work j 0) → PassedTo program first now cx_first cx work unhalted edges k target
+  pub skip_to : (low target : ℕ) → PassedTo program first now cx_first cx work unhalted edges k low → low ≤ target
+      → target ≤ length first → ((j : ℕ) → k ≤ j → j < length work → target ≤ get_or work j 0)
+      → PassedTo program first now cx_first cx work unhalted edges k target
   skip_to low target passed more inside ahead =
       skip (target - low) low target (omega arith) passed inside ahead (quiet_until low target passed ahead)
 
   -- the vertex at the next place of the list is visited
-  pub visited : (place : ℕ) (x : Standing V M) (after : List (Standing V M)) (cx' : Context M) (unhalted' : List ℕ) (edges' : Option ℕ) → PassedTo program first now cx_first cx work unhalted edges k place → IsStrictlySortedBy nat_cmp work → k < length work → get_or work k 0 ≡ place → slice_get first place ≡ Some x → after ≡ set now place (ran program cx_first.view x) → cx' ≡ context_after program cx x → unhalted' ≡ with_unhalted unhalted place (ran program cx_first.view x) → Exchanges edges edges' x (ran program cx_first.view x) → PassedTo program first after cx_first cx' work unhalted' edges' (k + 1) (suc place)
+  pub visited : (place : ℕ) (x : Standing V M) (after : List (Standing V M)) (cx' : Context M) (unhalted' : List ℕ)
+      (edges' : Option ℕ) → PassedTo program first now cx_first cx work unhalted edges k place
+      → IsStrictlySortedBy nat_cmp work → k < length work → get_or work k 0 ≡ place → slice_get first place ≡ Some x
+      → after ≡ set now place (ran program cx_first.view x) → cx' ≡ context_after program cx x
+      → unhalted' ≡ with_unhalted unhalted place (ran program cx_first.view x)
+      → Exchanges edges edges' x (ran program cx_first.view x)
+      → PassedTo program first after cx_first cx' work unhalted' edges' (k + 1) (suc place)
   visited place x after cx' unhalted' edges' passed rising inside is here step context grows exchanges =
       record {
         bound = slice_get_within first place x here;
@@ -217,7 +238,9 @@ module _ {V M : Type 0} (program : Program V M) (first now : List (Standing V M)
         ahead = λ j a b. let l = below_from_sorted work k j 0 rising (omega arith) b in omega arith;
         covers = λ i y at active more.
             let w = passed.covers i y at active (omega arith) in
-            let apart : k < w.0 = ⊎_elim (λ (l : k < w.0). l) (λ (l : w.0 ≤ k). let same : w.0 ≡ k = omega (arith, w.1) in absurd (omega (arith, w.3, ap (λ (n : ℕ). get_or work n 0) same))) (cases_lt k w.0) in
+            let apart : k < w.0 =
+            ⊎_elim (λ (l : k < w.0). l) (λ (l : w.0 ≤ k). let same : w.0 ≡ k = omega (arith, w.1) in absurd
+            (omega (arith, w.3, ap (λ (n : ℕ). get_or work n 0) same))) (cases_lt k w.0) in
             (w.0, omega arith, w.2, w.3);
         within = λ p h.
             by_bool (has_id unhalted p)
@@ -240,7 +263,8 @@ module _ {V M : Type 0} (program : Program V M) (first now : List (Standing V M)
             (λ (l : place ≤ i).
             let same : i ≡ place = omega arith in
             let is_x : y ≡ x = same_place first place i x y here at (sym same) in
-            let woken : (ran program cx_first.view x).state.halted ≡ false = ap (λ (z : Standing V M). (ran program cx_first.view z).state.halted) (sym is_x) ∙ awake in
+            let woken : (ran program cx_first.view x).state.halted ≡ false =
+            ap (λ (z : Standing V M). (ran program cx_first.view z).state.halted) (sym is_x) ∙ awake in
             let equal : (place == i) ≡ true = search (tests, rules) in
             ap (λ l. has_id l i) (grows ∙ ap (λ b. cond b unhalted (unhalted ++ place ∷ [])) woken) ∙ has_id-push unhalted place i
             ∙ or_true (has_id unhalted i) (place == i) equal)
@@ -252,18 +276,6 @@ module _ {V M : Type 0} (program : Program V M) (first now : List (Standing V M)
       }
 
 -- ---- a pass from its beginning to its end
-pub listed_place : (work : List ℕ) (i : ℕ) → has_id work i ≡ true → (j : ℕ) × (j < length work) × (get_or work j 0 ≡ i)
-listed_place [] i h = let k : false ≡ true = h in cc
-listed_place (p ∷ work) i h =
-    by_bool (p == i)
-    (λ t. (0, omega arith, search (tests, rules)))
-    (λ t. let w = listed_place work i (sym (ap (λ b. b || has_id work i) t) ∙ h) in (suc w.0, omega (arith, w.1), w.2))
-
-pub place_listed : (work : List ℕ) (j : ℕ) → j < length work → has_id work (get_or work j 0) ≡ true
-place_listed [] j h = absurd (omega arith)
-place_listed (p ∷ work) zero h = or_left (p == p) (has_id work p) (search (tests, rules))
-place_listed (p ∷ work) (suc j) h = or_true (p == get_or work j 0) (has_id work (get_or work j 0)) (place_listed work j (omega arith))
-
 take_whole : {X : Type 0} (xs : List X) → take (length xs) xs ≡ xs
 take_whole [] = refl
 take_whole (x ∷ xs) = ap (λ l. x ∷ l) (take_whole xs)
@@ -273,7 +285,8 @@ only_halted true h = sym h
 only_halted false h = refl
 
 module _ {V M : Type 0} (program : Program V M) (first : List (Standing V M)) (cx_first : Context M) (work : List ℕ) where
-  pub passed_none : (edges : Option ℕ) → cx_first.calls < 2 ^ 64 → ListsActive first work → Counts edges (edges_of first) → PassedTo program first first cx_first cx_first work [] edges 0 0
+  pub passed_none : (edges : Option ℕ) → cx_first.calls < 2 ^ 64 → ListsActive first work
+      → Counts edges (edges_of first) → PassedTo program first first cx_first cx_first work [] edges 0 0
   passed_none edges fits lists counts =
       record {
         bound = omega arith;
@@ -286,7 +299,8 @@ module _ {V M : Type 0} (program : Program V M) (first : List (Standing V M)) (c
         counts = counts;
       }
 
-  module _ (now : List (Standing V M)) (cx : Context M) (unhalted : List ℕ) (edges : Option ℕ) (k low : ℕ) (done : length work ≤ k) (passed : PassedTo program first now cx_first cx work unhalted edges k low) where
+  module _ (now : List (Standing V M)) (cx : Context M) (unhalted : List ℕ) (edges : Option ℕ) (k low : ℕ)
+      (done : length work ≤ k) (passed : PassedTo program first now cx_first cx work unhalted edges k low) where
     whole : PassedTo program first now cx_first cx work unhalted edges k (length first)
     whole = skip_to program first now cx_first cx work unhalted edges k low (length first) passed passed.bound (omega arith) (λ j a b. absurd (omega arith))
 
@@ -314,7 +328,8 @@ module _ {V M : Type 0} (program : Program V M) (first : List (Standing V M)) (c
               sym (ap (option_map (ran program cx_first.view)) f.1) ∙ sym (slice_get-map (ran program cx_first.view) first i)
               ∙ ap (λ (l : List (Standing V M)). slice_get l i) (sym passed_standings) ∙ at in
               let is_y : ran program cx_first.view x ≡ y = (cc) in
-              let awake : (ran program cx_first.view x).state.halted ≡ false = only_halted (ran program cx_first.view x).state.halted (ap is_active is_y ∙ active) in
+              let awake : (ran program cx_first.view x).state.halted ≡ false =
+              only_halted (ran program cx_first.view x).state.halted (ap is_active is_y ∙ active) in
               whole.lists i x f.1 (slice_get_within first i x f.1) awake;
         }
 
@@ -333,7 +348,9 @@ ran_context-writes : {V M : Type 0} (program : Program V M) (cx : Context M) (xs
 unfolding ran_context
 ran_context-writes program cx xs = refl
 
-module _ {V M : Type 0} (program : Program V M) (first now : List (Standing V M)) (cx_first cx : Context M) (work unhalted : List ℕ) (edges : Option ℕ) (k low : ℕ) (lists : ListsActive first work) (rising : IsStrictlySortedBy nat_cmp work) (passed : PassedTo program first now cx_first cx work unhalted edges k low) where
+module _ {V M : Type 0} (program : Program V M) (first now : List (Standing V M)) (cx_first cx : Context M)
+    (work unhalted : List ℕ) (edges : Option ℕ) (k low : ℕ) (lists : ListsActive first work)
+    (rising : IsStrictlySortedBy nat_cmp work) (passed : PassedTo program first now cx_first cx work unhalted edges k low) where
   pub same_view : cx.view ≡ cx_first.view
   same_view = ap (λ (c : Context M). c.view) passed.context ∙ ran_context-view program cx_first (take low first)
 
@@ -365,7 +382,8 @@ module _ {V M : Type 0} (program : Program V M) (first now : List (Standing V M)
         let at : ℕ = get_or work k 0 in
         let within = lists.within at (place_listed work k inside) in
         let there = skip_to program first now cx_first cx work unhalted edges k low at passed (passed.ahead k (omega arith) inside) (omega arith)
-        (λ j a b. ⊎_elim (λ (l : k < j). let r = below_from_sorted work k j 0 rising l b in omega arith) (λ (l : j ≤ k). let e : j ≡ k = omega arith in omega (arith, ap (λ (n : ℕ). get_or work n 0) e)) (cases_lt k j)) in
+        (λ j a b. ⊎_elim (λ (l : k < j). let r = below_from_sorted work k j 0 rising l b in omega arith)
+        (λ (l : j ≤ k). let e : j ≡ k = omega arith in omega (arith, ap (λ (n : ℕ). get_or work n 0) e)) (cases_lt k j)) in
         let f = element first at within in
         let x : Standing V M = f.0 in
         let here : slice_get now at ≡ Some x = ap (λ (l : List (Standing V M)). slice_get l at) there.standings
@@ -378,7 +396,9 @@ module _ {V M : Type 0} (program : Program V M) (first now : List (Standing V M)
               (let P : View → Type 0 = λ v. Exchanges edges edges' x (ran program v x) in subst P same_view (exchanges x here)),
         )
 
-module _ {V M : Type 0} (program : Program V M) (first : List (Standing V M)) (cx_first : Context M) (work : List ℕ) (edges : Option ℕ) (fits : cx_first.calls < 2 ^ 64) (lists : ListsActive first work) (counts : Counts edges (edges_of first)) where
+module _ {V M : Type 0} (program : Program V M) (first : List (Standing V M)) (cx_first : Context M) (work : List ℕ)
+    (edges : Option ℕ) (fits : cx_first.calls < 2 ^ 64) (lists : ListsActive first work)
+    (counts : Counts edges (edges_of first)) where
   pub passed_first : (unhalted : List ℕ) → unhalted ≡ [] → (low : ℕ) × PassedTo program first first cx_first cx_first work unhalted edges 0 low
   passed_first unhalted none =
       let P : List ℕ → Type 0 = λ l. PassedTo program first first cx_first cx_first work l edges 0 0 in
@@ -386,10 +406,12 @@ module _ {V M : Type 0} (program : Program V M) (first : List (Standing V M)) (c
 
   -- where the list is empty, nobody is executed
   pub nobody-standings : length work ≡ 0 → first ≡ map (ran program cx_first.view) first
-  nobody-standings none = passed_standings program first cx_first work first cx_first [] edges 0 0 (omega arith) (passed_none program first cx_first work edges fits lists counts)
+  nobody-standings none =
+      passed_standings program first cx_first work first cx_first [] edges 0 0 (omega arith) (passed_none program first cx_first work edges fits lists counts)
 
   pub nobody-context : length work ≡ 0 → cx_first ≡ ran_context program cx_first first
-  nobody-context none = passed_context program first cx_first work first cx_first [] edges 0 0 (omega arith) (passed_none program first cx_first work edges fits lists counts)
+  nobody-context none =
+      passed_context program first cx_first work first cx_first [] edges 0 0 (omega arith) (passed_none program first cx_first work edges fits lists counts)
 
 -- what a test for an empty list says
 pub zero-from_test : (n : ℕ) (b : Bool) → b ≡ (n == 0) → b ≡ true → n ≡ 0

@@ -1,7 +1,7 @@
 -- A run from its first superstep to its last.
-use Rattle.std.proofs.Common.{◌≡◌, ℕ, zero, suc, ℤ, ◌+◌, ◌-◌, ◌^◌, ◌<◌, ◌≤◌, Bool, true, false, cond, not, ◌||◌, List, [], ◌∷◌, ◌++◌, length, map, Option, None, Some, is_some, ⊎_elim, refl, sym, ap, ◌∙◌, subst, arith, rules, tests}
+use Rattle.std.proofs.Common.{◌≡◌, ℕ, zero, suc, ◌+◌, ◌-◌, ◌^◌, ◌<◌, ◌≤◌, Bool, true, false, cond, ◌||◌, List, [], ◌∷◌, ◌++◌, length, map, Option, None, Some, is_some, ⊎_elim, refl, sym, ap, ◌∙◌, subst, arith, rules, tests}
 use Rattle.std.specs.Prelude.{◌==◌}
-use Rattle.std.specs.List.{count_by, list_all, range_with_len, AllByRecursion}
+use Rattle.std.specs.List.{count_by, range_with_len, AllByRecursion}
 use Rattle.std.specs.List.Sorted.{IsStrictlySortedBy}
 use Rattle.std.specs.Option.{unwrap_or}
 use Rattle.std.specs.Ordering.{nat_cmp}
@@ -31,7 +31,7 @@ use Rattle.pg_global.specs.Registry.{Registered, aggregating_of}
 use Rattle.pg_global.specs.declared.registry.Registration.{Registration}
 use Rattle.pg_scratch.specs.Running.{IsRunning}
 use Rattle.pg_scratch.specs.Stages.{HasStepped, IsPrepared}
-use Rattle.pg_scratch.specs.Worklist.{ListsActive}
+use Rattle.pg_delivery.specs.Worklist.{ListsActive}
 use Rattle.pg_scratch.specs.declared.superstep.Progress.{Progress}
 
 or_true : (a b : Bool) → b ≡ true → (a || b) ≡ true
@@ -61,7 +61,8 @@ range-has a zero place low high = absurd (omega arith)
 range-has a (suc n) place low high =
     ⊎_elim
     (λ (l : a < place). or_true (a == place) (has_id (range_with_len (a + 1) n) place) (range-has (a + 1) n place (omega arith) (omega arith)))
-    (λ (l : place ≤ a). let same : a ≡ place = omega arith in let t : (a == place) ≡ true = search (tests, rules) in ap (λ b. b || has_id (range_with_len (a + 1) n) place) t)
+    (λ (l : place ≤ a). let same : a ≡ place = omega arith in let t : (a == place) ≡ true = search (tests, rules)
+    in ap (λ b. b || has_id (range_with_len (a + 1) n) place) t)
     (cases_lt a place)
 
 range-above : (low a n : ℕ) → low < a → AllByRecursion (λ y. nat_cmp low y ≡ Less) (range_with_len a n)
@@ -93,20 +94,35 @@ beginning-edges program (row ∷ rows) =
 
 -- a run before its first superstep
 pub record IsBeginning {V M : Type 0} (program : Program V M) (registrations : List Registration) (rows : Rows) (count : ℕ) (p : Progress V M) : Type 0 where
-  pub configuration : p.configuration ≡ record { standings = map (beginning program) rows; waiting = []; gathered = map (λ r. (aggregating_of r).initial) registrations; sent = 0; dropped = 0 }
+  pub configuration : p.configuration ≡ record {
+    standings = map (beginning program) rows;
+    waiting = [];
+    gathered = map (λ r. (aggregating_of r).initial) registrations;
+    sent = 0;
+    dropped = 0;
+  }
   pub ids : p.ids ≡ ids p.configuration.standings
   pub work : p.work.items ≡ range_with_len 0 (length rows)
   pub edges : p.edges ≡ edge_count rows
   pub meter : p.meter ≡ count
 
 module _ {V M : Type 0} (program : Program V M) (combining : Option (Combining M)) (master : Master) (missing : Missing) (limit : ℕ) where
-  first_is : (rows : Rows) (registrations : List Registration) → registrations ≡ map (λ e. e.1) master.registrations → record { standings = map (beginning program) rows; waiting = []; gathered = map (λ r. (aggregating_of r).initial) registrations; sent = 0; dropped = 0 } ≡ first (job_of program combining master missing limit) rows
+  first_is : (rows : Rows) (registrations : List Registration) → registrations ≡ map (λ e. e.1) master.registrations → record {
+    standings = map (beginning program) rows;
+    waiting = [];
+    gathered = map (λ r. (aggregating_of r).initial) registrations;
+    sent = 0;
+    dropped = 0;
+  } ≡ first (job_of program combining master missing limit) rows
   unfolding first
   first_is rows registrations registered =
       let gathered = ap (map (λ r. (aggregating_of r).initial)) registered ∙ initial_from master.registrations in
       λ i. record { standings = map (beginning program) rows; waiting = []; gathered = gathered i; sent = 0; dropped = 0 }
 
-  pub running_first : (rows : Rows) (registrations : List Registration) (count : ℕ) (p : Progress V M) → IsPrepared program master registrations → HasRisingIds rows → p.edges < 2 ^ 64 → count < 2 ^ 64 → IsBeginning program registrations rows count p → IsRunning (job_of program combining master missing limit) rows (length registrations) count 0 p
+  pub running_first : (rows : Rows) (registrations : List Registration) (count : ℕ) (p : Progress V M)
+      → IsPrepared program master registrations → HasRisingIds rows → p.edges < 2 ^ 64 → count < 2 ^ 64
+      → IsBeginning program registrations rows count p
+      → IsRunning (job_of program combining master missing limit) rows (length registrations) count 0 p
   unfolding configuration executions_below
   running_first rows registrations count p prepared rising small fits begins =
       let job : Job V M = job_of program combining master missing limit in
@@ -120,7 +136,9 @@ module _ {V M : Type 0} (program : Program V M) (combining : Option (Combining M
         ready = record {
           in_order = subst (λ (c : Configuration V M). IsInOrder c) (sym stands) (in_order job rows rising 0);
           ids_are = begins.ids;
-          lists = subst (λ (xs : List (Standing V M)). ListsActive xs p.work.items) (sym vertices) (subst (λ l. ListsActive (map (beginning program) rows) l) (sym begins.work) (ListsActive-all (map (beginning program) rows) (length rows) many));
+          lists = subst (λ (xs : List (Standing V M)). ListsActive xs p.work.items) (sym vertices)
+              (subst (λ l. ListsActive (map (beginning program) rows) l) (sym begins.work)
+              (ListsActive-all (map (beginning program) rows) (length rows) many));
           work_rises = subst (IsStrictlySortedBy nat_cmp) (sym begins.work) (range-rising 0 (length rows));
           edges = omega (arith, begins.edges, total, small);
           gathered = ap (λ (x : Configuration V M). length x.gathered) begins.configuration ∙ length-map registrations _;
@@ -136,7 +154,9 @@ one_less s = omega arith
 above : (s : ℕ) → s + 1 ≡ suc s
 above s = omega arith
 
-module _ {V M : Type 0} (job : Job V M) (rows : Rows) (places first_count s : ℕ) (before after : Progress V M) (halt : Bool) (running : IsRunning job rows places first_count s before) (step : HasStepped job places s before after halt) where
+module _ {V M : Type 0} (job : Job V M) (rows : Rows) (places first_count s : ℕ) (before after : Progress V M)
+    (halt : Bool) (running : IsRunning job rows places first_count s before)
+    (step : HasStepped job places s before after halt) where
   -- what stands after superstep s
   stands_next : after.configuration ≡ configuration job rows (s + 1)
   unfolding configuration
@@ -147,14 +167,20 @@ module _ {V M : Type 0} (job : Job V M) (rows : Rows) (places first_count s : �
   counted_next : after.meter ≡ capped (first_count + executions_below job rows (s + 1))
   unfolding executions_below
   counted_next =
-      let more : executions_below job rows (s + 1) ≡ executions_below job rows s + executed job rows (present_at job rows s) = (let P : ℕ → ℕ = λ n. executions_below job rows n in ap P (above s)) in
-      let same : count_by is_active (present job.program before.configuration) ≡ executed job rows (present_at job rows s) = (λ i. count_by is_active (present job.program (running.stands i))) in
+      let more : executions_below job rows (s + 1) ≡ executions_below job rows s + executed job rows (present_at job rows s) =
+      (let P : ℕ → ℕ = λ n. executions_below job rows n in ap P (above s)) in
+      let same : count_by is_active (present job.program before.configuration) ≡ executed job rows (present_at job rows s) =
+      (λ i. count_by is_active (present job.program (running.stands i))) in
       omega (arith, step.counted, running.counted, more, same)
 
   -- the test after superstep s
-  pub ending_is : (found : Option Ending) → found ≡ cond halt (Some MasterHalted) (cond (is_all_idle after.configuration) (Some Finished) (cond (s + 1 == job.limit) (Some LimitReached) None)) → found ≡ ending_after job rows s
+  pub ending_is : (found : Option Ending)
+      → found ≡ cond halt (Some MasterHalted)
+      (cond (is_all_idle after.configuration) (Some Finished) (cond (s + 1 == job.limit) (Some LimitReached) None))
+      → found ≡ ending_after job rows s
   ending_is found finds =
-      let P : Bool → Configuration V M → Option Ending = λ h x. cond h (Some MasterHalted) (cond (is_all_idle x) (Some Finished) (cond (s + 1 == job.limit) (Some LimitReached) None)) in
+      let P : Bool → Configuration V M → Option Ending =
+      λ h x. cond h (Some MasterHalted) (cond (is_all_idle x) (Some Finished) (cond (s + 1 == job.limit) (Some LimitReached) None)) in
       finds ∙ (λ i. P ((step.halts ∙ (λ j. (visible job s (running.stands j)).halt)) i) (stands_next i))
 
   pub running_on : ending_after job rows s ≡ None → IsRunning job rows places first_count (s + 1) after
@@ -162,7 +188,9 @@ module _ {V M : Type 0} (job : Job V M) (rows : Rows) (places first_count s : �
       record {
         stands = stands_next;
         ready = step.ready;
-        goes_on = λ earlier less. ⊎_elim (λ (l : earlier < s). running.goes_on earlier l) (λ (l : s ≤ earlier). let e : s ≡ earlier = omega arith in let P : ℕ → Type 0 = λ n. is_some (ending_after job rows n) ≡ false in subst P e (ap is_some none)) (cases_lt earlier s);
+        goes_on = λ earlier less. ⊎_elim (λ (l : earlier < s). running.goes_on earlier l)
+            (λ (l : s ≤ earlier). let e : s ≡ earlier = omega arith in let P : ℕ → Type 0 = λ n. is_some
+            (ending_after job rows n) ≡ false in subst P e (ap is_some none)) (cases_lt earlier s);
         counted = counted_next;
       }
 
@@ -170,12 +198,27 @@ module _ {V M : Type 0} (job : Job V M) (rows : Rows) (places first_count s : �
     length_now : run_length job rows ≡ s + 1
     length_now =
         let P : ℕ → Type 0 = λ n. is_some (ending_after job rows n) ≡ true in
-        run_length_is job rows (s + 1) (omega arith) (omega arith) (subst P (sym (one_less s)) (ap is_some (sym ends))) (λ earlier less. running.goes_on earlier (omega arith))
+        run_length_is job rows (s + 1) (omega arith) (omega arith)
+        (subst P (sym (one_less s)) (ap is_some (sym ends))) (λ earlier less. running.goes_on earlier (omega arith))
 
-    pub answers : (run : Run V) → run ≡ record { values = values_of job rows after.configuration; aggregates = after.configuration.gathered; ending = ending; supersteps = s + 1; sent = after.configuration.sent; dropped = after.configuration.dropped } → run ≡ answer job rows
+    pub answers : (run : Run V) → run ≡ record {
+      values = values_of job rows after.configuration;
+      aggregates = after.configuration.gathered;
+      ending = ending;
+      supersteps = s + 1;
+      sent = after.configuration.sent;
+      dropped = after.configuration.dropped;
+    } → run ≡ answer job rows
     unfolding answer
     answers run finds =
-        let P : Configuration V M → Ending → ℕ → Run V = λ x e n. record { values = values_of job rows x; aggregates = x.gathered; ending = e; supersteps = n; sent = x.sent; dropped = x.dropped } in
+        let P : Configuration V M → Ending → ℕ → Run V = λ x e n. record {
+          values = values_of job rows x;
+          aggregates = x.gathered;
+          ending = e;
+          supersteps = n;
+          sent = x.sent;
+          dropped = x.dropped;
+        } in
         let Q : ℕ → Run V = λ n. P (configuration job rows n) (unwrap_or (ending_after job rows (n - 1)) LimitReached) n in
         let R : ℕ → Ending = λ n. unwrap_or (ending_after job rows n) LimitReached in
         let found : ending ≡ R (s + 1 - 1) = ap (λ (o : Option Ending). unwrap_or o LimitReached) ends ∙ sym (ap R (one_less s)) in
@@ -187,7 +230,8 @@ module _ {V M : Type 0} (job : Job V M) (rows : Rows) (places first_count s : �
         counted_next ∙ sym (ap P length_now)
 
 -- a run is past none of its ends
-pub ends_by_limit : {V M : Type 0} (job : Job V M) (rows : Rows) (places first_count s : ℕ) (p : Progress V M) → IsRunning job rows places first_count s p → 0 < s → s ≡ job.limit → ⊥
+pub ends_by_limit : {V M : Type 0} (job : Job V M) (rows : Rows) (places first_count s : ℕ) (p : Progress V M)
+    → IsRunning job rows places first_count s p → 0 < s → s ≡ job.limit → ⊥
 ends_by_limit job rows places first_count s p running some limit_is =
     let t = ends_at_limit job rows (s - 1) (omega arith) in
     let f = running.goes_on (s - 1) (omega arith) in

@@ -1,11 +1,11 @@
 -- A whole superstep, from what its stages leave.
-use Rattle.std.proofs.Common.{◌≡◌, ℕ, ℤ, ◌+◌, min, Bool, List, [], ◌∷◌, length, map, Option, refl, sym, ap, ◌∙◌, subst, arith}
+use Rattle.std.proofs.Common.{◌≡◌, ℕ, ℤ, ◌+◌, Bool, List, [], ◌∷◌, length, map, Option, refl, sym, ap, ◌∙◌, subst}
 use Rattle.std.specs.List.{AllByRecursion, count_by, sum_by}
 use Rattle.std.specs.List.Sorted.{IsStrictlySortedBy}
 use Rattle.std.specs.Ordering.{nat_cmp}
 use Rattle.std.proofs.lemmas.List.{length-map}
 use Rattle.std.proofs.lemmas.List.Sums.{sum_by-cons}
-use Rattle.pg_model.specs.Job.{Program, Combining, Aggregating, Job}
+use Rattle.pg_model.specs.Job.{Program, Combining, Job}
 use Rattle.pg_model.specs.InOrder.{IsInOrder}
 use Rattle.pg_model.specs.Superstep.{is_active, ids, edges_of, outcome, state_after, sends, contributions, delivered, astray, waiting_after, dropped_count, present, standings_after, view_of, view_in, visible, gathered_from, next, capped}
 use Rattle.pg_model.specs.declared.configuration.Standing.{Standing}
@@ -13,19 +13,20 @@ use Rattle.pg_model.specs.declared.configuration.Configuration.{Configuration}
 use Rattle.pg_model.specs.declared.view.View.{View}
 use Rattle.pg_model.specs.declared.view.Visible.{Visible}
 use Rattle.pg_model.proofs.LawsIds.{IsInOrder-next, ids-next, length-gathered_from}
-use Rattle.pg_global.specs.Master.{Master, job_of}
+use Rattle.pg_global.specs.Master.{Master}
 use Rattle.pg_global.specs.Registry.{Registered, aggregating_of}
 use Rattle.pg_global.specs.declared.registry.Registration.{Registration}
-use Rattle.pg_scratch.specs.Inbox.{with_messages}
+use Rattle.pg_delivery.specs.Inbox.{with_messages}
 use Rattle.pg_program.specs.Context.{Context}
 use Rattle.pg_scratch.specs.Pass.{ran, ran_context}
-use Rattle.pg_scratch.specs.Roster.{IsInPlace}
-use Rattle.pg_scratch.specs.Stages.{HasPlayed, HasReceived, HasStepped, IsReady}
-use Rattle.pg_scratch.specs.Worklist.{ListsActive}
-use Rattle.pg_scratch.specs.declared.roster.Roster.{Roster}
+use Rattle.pg_delivery.specs.Roster.{IsInPlace}
+use Rattle.pg_scratch.specs.Stages.{HasPlayed, HasStepped, IsReady}
+use Rattle.pg_delivery.specs.Received.{HasReceived}
+use Rattle.pg_delivery.specs.Worklist.{ListsActive}
+use Rattle.pg_delivery.specs.declared.roster.Roster.{Roster}
 use Rattle.pg_scratch.specs.declared.superstep.Played.{Played}
 use Rattle.pg_scratch.specs.declared.superstep.Progress.{Progress}
-use Rattle.pg_scratch.specs.declared.superstep.Received.{Received}
+use Rattle.pg_delivery.specs.declared.receiving.Received.{Received}
 
 aggregators_of : (rs : Registered) → map aggregating_of (map (λ e. e.1) rs) ≡ map (λ e. aggregating_of e.1) rs
 aggregators_of [] = refl
@@ -41,38 +42,64 @@ module _ {V M : Type 0} (program : Program V M) (view : View) where
   empty-ran [] = tt
   empty-ran (x ∷ xs) = (refl, empty-ran xs)
 
-  received-ran : (combining : Option (Combining M)) (sent : List (ℕ × M)) (xs : List (Standing V M)) → with_messages combining sent (map (ran program view) xs) ≡ map (λ x. record { state = state_after x.state (outcome program view x); inbox = delivered combining x.state.id sent }) xs
+  received-ran : (combining : Option (Combining M)) (sent : List (ℕ × M)) (xs : List (Standing V M))
+      → with_messages combining sent (map (ran program view) xs) ≡ map (λ x. record {
+        state = state_after x.state (outcome program view x);
+        inbox = delivered combining x.state.id sent;
+      }) xs
   received-ran combining sent [] = refl
-  received-ran combining sent (x ∷ xs) = ap (λ l. record { state = state_after x.state (outcome program view x); inbox = delivered combining x.state.id sent } ∷ l) (received-ran combining sent xs)
+  received-ran combining sent (x ∷ xs) = ap (λ l. record {
+    state = state_after x.state (outcome program view x);
+    inbox = delivered combining x.state.id sent;
+  } ∷ l) (received-ran combining sent xs)
 
 totals-map : {X Y : Type 0} (size : Y → ℕ) (f : X → Y) (xs : List X) → sum_by size (map f xs) ≡ sum_by (λ x. size (f x)) xs
 totals-map size f [] = refl
 totals-map size f (x ∷ xs) = sum_by-cons size (f x) (map f xs) ∙ (ap (λ n. size (f x) + n) (totals-map size f xs) ∙ sym (sum_by-cons (λ y. size (f y)) x xs))
 
-edges-received : {V M : Type 0} (combining : Option (Combining M)) (sent : List (ℕ × M)) (xs : List (Standing V M)) → edges_of (with_messages combining sent xs) ≡ edges_of xs
+edges-received : {V M : Type 0} (combining : Option (Combining M)) (sent : List (ℕ × M)) (xs : List (Standing V M))
+    → edges_of (with_messages combining sent xs) ≡ edges_of xs
 edges-received combining sent xs = totals-map (λ x. length x.state.edges) (λ x. record { state = x.state; inbox = delivered combining x.state.id sent }) xs
 
 -- ---- what the executions leave, from the context
-module _ {V M : Type 0} (program : Program V M) (view : View) (writes calls : ℕ) (xs : List (Standing V M)) (cx cx' : Context M) (begins : cx ≡ record { view = view; writes = writes; sent = []; contributed = []; calls = calls }) (context : cx' ≡ ran_context program cx xs) where
-  pub context_is : cx' ≡ record { view = view; writes = writes; sent = sends program view xs; contributed = contributions program view xs; calls = capped (calls + count_by is_active xs) }
+module _ {V M : Type 0} (program : Program V M) (view : View) (writes calls : ℕ) (xs : List (Standing V M)) (cx cx' : Context M) (begins : cx ≡ record {
+  view = view;
+  writes = writes;
+  sent = [];
+  contributed = [];
+  calls = calls;
+}) (context : cx' ≡ ran_context program cx xs) where
+  pub context_is : cx' ≡ record {
+    view = view;
+    writes = writes;
+    sent = sends program view xs;
+    contributed = contributions program view xs;
+    calls = capped (calls + count_by is_active xs);
+  }
   unfolding ran_context
   context_is = context ∙ (λ i. ran_context program (begins i) xs)
 
 -- ---- what the executions leave can receive
-module _ {V M : Type 0} (program : Program V M) (view : View) (first : Roster V M) (calls : ℕ) (p : Played V M) (plays : HasPlayed program view first calls p) where
+module _ {V M : Type 0} (program : Program V M) (view : View) (first : Roster V M) (calls : ℕ) (p : Played V M)
+    (plays : HasPlayed program view first calls p) where
   pub played_ids : IsInPlace first → p.roster.ids ≡ ids p.roster.standings.items
   played_ids place =
       plays.ids_stay ∙ (place.ids_are ∙ (sym (ids-ran program view first.standings.items) ∙ (λ i. ids (sym plays.standings i))))
 
   pub played_empty : AllByRecursion (λ (x : Standing V M). x.inbox ≡ []) p.roster.standings.items
   played_empty =
-      subst (λ (l : List (Standing V M)). AllByRecursion (λ (x : Standing V M). x.inbox ≡ []) l) (sym plays.standings) (empty-ran program view first.standings.items)
+      subst (λ (l : List (Standing V M)). AllByRecursion (λ (x : Standing V M). x.inbox ≡ []) l) (sym plays.standings)
+      (empty-ran program view first.standings.items)
 
 -- ---- the aggregators of a job are those that are registered
-pub aggregators-registered : (master : Master) (registrations : List Registration) → registrations ≡ map (λ e. e.1) master.registrations → map aggregating_of registrations ≡ map (λ e. aggregating_of e.1) master.registrations
+pub aggregators-registered : (master : Master) (registrations : List Registration)
+    → registrations ≡ map (λ e. e.1) master.registrations
+    → map aggregating_of registrations ≡ map (λ e. aggregating_of e.1) master.registrations
 aggregators-registered master registrations registered = ap (map aggregating_of) registered ∙ aggregators_of master.registrations
 
-pub as_many-registered : (master : Master) (registrations : List Registration) → registrations ≡ map (λ e. e.1) master.registrations → length (map (λ e. aggregating_of e.1) master.registrations) ≡ length registrations
+pub as_many-registered : (master : Master) (registrations : List Registration)
+    → registrations ≡ map (λ e. e.1) master.registrations
+    → length (map (λ e. aggregating_of e.1) master.registrations) ≡ length registrations
 as_many-registered master registrations registered =
     sym (ap length (aggregators-registered master registrations registered)) ∙ length-map registrations aggregating_of
 
@@ -122,7 +149,8 @@ module _ {V M : Type 0} (job : Job V M) (places s : ℕ) (before after : Progres
     ids_now : t.played.roster.ids ≡ ids (present job.program before.configuration)
     ids_now = say.plays.ids_stay ∙ (say.in_place.ids_are ∙ (λ i. ids (say.roster_is i)))
 
-    strays_now : astray t.played.roster.ids t.played.sent ≡ astray (ids (present job.program before.configuration)) (sends job.program (view_in job s before.configuration) (present job.program before.configuration))
+    strays_now : astray t.played.roster.ids t.played.sent ≡ astray (ids (present job.program before.configuration))
+        (sends job.program (view_in job s before.configuration) (present job.program before.configuration))
     strays_now = λ i. astray (ids_now i) (sent_now i)
 
     standings_now : after.configuration.standings ≡ standings_after job (view_in job s before.configuration) (present job.program before.configuration)
@@ -137,7 +165,9 @@ module _ {V M : Type 0} (job : Job V M) (places s : ℕ) (before after : Progres
           inbox = delivered job.combining x.state.id (sent_now i);
         }) (say.roster_is i)))))
 
-    gathered_now : after.configuration.gathered ≡ gathered_from 0 job.aggregators (visible job s before.configuration).values (contributions job.program (view_in job s before.configuration) (present job.program before.configuration))
+    gathered_now : after.configuration.gathered ≡ gathered_from 0 job.aggregators
+        (visible job s before.configuration).values
+        (contributions job.program (view_in job s before.configuration) (present job.program before.configuration))
     gathered_now = say.gathered ∙ (say.gathered_is ∙ (λ i. gathered_from 0 job.aggregators (say.shown_is i).values (contributed_now i)))
 
     pub next-is : after.configuration ≡ next job s before.configuration
@@ -155,7 +185,9 @@ module _ {V M : Type 0} (job : Job V M) (places s : ℕ) (before after : Progres
           in_order = subst (λ (c : Configuration V M). IsInOrder c) (sym next-is) (IsInOrder-next job s before.configuration ready.in_order);
           ids_are =
               say.ids_are ∙ (say.receives.ids_stay ∙ (ids_now ∙ (sym (ids-next job s before.configuration) ∙ (λ i. ids (sym next-is i).standings))));
-          lists = subst (λ l. ListsActive after.configuration.standings l) (sym say.work_is) (subst (λ (l : List (Standing V M)). ListsActive l t.received.roster.work.items) (sym say.standings) say.receives.lists);
+          lists = subst (λ l. ListsActive after.configuration.standings l) (sym say.work_is)
+              (subst (λ (l : List (Standing V M)). ListsActive l t.received.roster.work.items) (sym say.standings)
+              say.receives.lists);
           work_rises = subst (IsStrictlySortedBy nat_cmp) (sym say.work_is) say.receives.work_rises;
           edges =
               say.edges_are

@@ -1,9 +1,4 @@
-pub mod Arranged
-pub mod Astray
-pub mod Inbox
 pub mod Pass
-pub mod Roster
 pub mod Running
 pub mod Stages
 pub mod Totals
-pub mod Worklist

@@ -1,23 +1,19 @@
 -- The stages of a superstep, and a run between two supersteps.
-use Rattle.std.specs.Prelude.{◌≡◌, ℕ, ◌+◌, ◌≤◌, true, Bool, List, map, length, Option}
+use Rattle.std.specs.Prelude.{◌≡◌, ℕ, ◌+◌, ◌≤◌, true, Bool, List, map, length}
 use Rattle.std.specs.List.{count_by}
 use Rattle.std.specs.List.Sorted.{IsStrictlySortedBy}
 use Rattle.std.specs.Ordering.{nat_cmp}
-use Rattle.pg_graph.specs.declared.missing.Missing.{Missing}
 use Rattle.pg_model.specs.InOrder.{IsInOrder}
-use Rattle.pg_model.specs.Job.{Program, Combining, Job}
-use Rattle.pg_model.specs.Superstep.{is_active, ids, edges_of, totals_of, present, sends, contributions, astray, waiting_after, dropped_count, visible, next, capped}
+use Rattle.pg_model.specs.Job.{Program, Job}
+use Rattle.pg_model.specs.Superstep.{is_active, ids, edges_of, totals_of, present, sends, contributions, visible, next, capped}
 use Rattle.pg_model.specs.declared.view.View.{View}
 use Rattle.pg_global.specs.Master.{Master, has_places}
 use Rattle.pg_global.specs.declared.registry.Registration.{Registration}
-use Rattle.pg_scratch.specs.Inbox.{with_messages}
 use Rattle.pg_scratch.specs.Pass.{ran}
-use Rattle.pg_scratch.specs.Roster.{IsInPlace}
-use Rattle.pg_scratch.specs.Worklist.{ListsActive}
-use Rattle.pg_scratch.specs.declared.roster.Roster.{Roster}
+use Rattle.pg_delivery.specs.Worklist.{ListsActive}
+use Rattle.pg_delivery.specs.declared.roster.Roster.{Roster}
 use Rattle.pg_scratch.specs.declared.superstep.Played.{Played}
 use Rattle.pg_scratch.specs.declared.superstep.Progress.{Progress}
-use Rattle.pg_scratch.specs.declared.superstep.Received.{Received}
 
 -- the registrations are the master's, few enough, and have each declared place
 pub record IsPrepared {V M : Type 0} (program : Program V M) (master : Master) (registrations : List Registration) : Type 0 where
@@ -43,15 +39,6 @@ pub record HasPlayed {V M : Type 0} (program : Program V M) (view : View) (first
   pub contributed : p.contributed ≡ contributions program view first.standings.items
   pub edges : p.edges ≡ capped (edges_of p.roster.standings.items)
   pub counted : p.meter ≡ capped (calls + count_by is_active first.standings.items)
-
--- these messages were delivered, and settled where they went astray
-pub record HasReceived {V M : Type 0} (combining : Option (Combining M)) (missing : Missing) (first : Roster V M) (sent : List (ℕ × M)) (r : Received V M) : Type 0 where
-  pub standings : r.roster.standings.items ≡ with_messages combining sent first.standings.items
-  pub ids_stay : r.roster.ids ≡ first.ids
-  pub lists : ListsActive r.roster.standings.items r.roster.work.items
-  pub work_rises : IsStrictlySortedBy nat_cmp r.roster.work.items
-  pub waiting : r.astray.waiting ≡ waiting_after missing combining (astray first.ids sent)
-  pub dropped : r.astray.dropped ≡ dropped_count missing (astray first.ids sent)
 
 -- a superstep was executed, and each execution counted
 pub record HasStepped {V M : Type 0} (job : Job V M) (places s : ℕ) (before after : Progress V M) (halt : Bool) : Type 0 where

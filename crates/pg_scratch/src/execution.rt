@@ -9,9 +9,10 @@ ghost use Rattle.pg_program.specs.Computation.{Executes};
 ghost use Rattle.pg_program.specs.Context.{Context, ShowsDeclared};
 ghost use Rattle.pg_scratch.specs.Pass.{ran, context_after, ran_context, with_unhalted};
 ghost use Rattle.pg_scratch.specs.Totals.{Counts, Exchanges};
-ghost use Rattle.pg_scratch.specs.Worklist.{ListsActive};
+ghost use Rattle.pg_delivery.specs.Worklist.{ListsActive};
 
 use crate::totals::{exact, exchanged};
+use pg_delivery::is_active;
 use pg_graph::Memory;
 use pg_model::Standing;
 use pg_program::{Computation, Cx, EdgeRoom, Plain, Vertex};
@@ -23,13 +24,6 @@ use std::alloc::Global;
 pub(crate) struct Findings {
     pub unhalted: Vec<usize>,
     pub edges: Option<u64>,
-}
-
-/// Whether a vertex is executed.
-pub(crate) fn is_active<V, M>(standing: &Standing<V, M>) -> bool
-    ensures { result ≡ active_test standing.now }
-{
-    !standing.state.halted || standing.inbox.len() != 0
 }
 
 /// Executes an active vertex, which has then received nothing since. It is lent `vertex` to work in.

@@ -4,17 +4,11 @@
 //! definition of a run gives, and that the meter rises by the number of executions of that run.
 #![tactic(auto)]
 
-mod astray;
 mod beginning;
-mod delivery;
 mod execution;
 mod gathering;
-mod ids;
-mod inbox;
-mod roster;
 mod runner;
 mod superstep;
 mod totals;
-mod worklist;
 
 pub use runner::{RunFault, run};

@@ -7,12 +7,11 @@ ghost use Rattle.pg_model.specs.Superstep.{ids as ids_of, is_all_idle, capped};
 ghost use Rattle.pg_global.specs.Master.{job_of, is_registered, has_places};
 ghost use Rattle.pg_global.specs.Registry.{first_refusal, aggregating_of};
 ghost use Rattle.pg_scratch.specs.Stages.{IsPrepared};
-ghost use Rattle.pg_scratch.specs.Worklist.{ListsActive};
+ghost use Rattle.pg_delivery.specs.Worklist.{ListsActive};
 
 use crate::beginning::{initial_values, registrations_of, standings_of};
-use crate::ids::Ids;
-use crate::roster::ids_of;
-use crate::superstep::{Progress, Runner, Spare, is_anyone_active, superstep};
+use crate::superstep::{Progress, Runner, Spare, superstep};
+use pg_delivery::{Ids, is_anyone_active};
 use pg_global::{MasterCompute, MessageCombiner, RegisterFault, Registration, Registry};
 use pg_graph::{Graph, Memory, Missing, Superstep, VertexId};
 use pg_model::{Configuration, Declared, Ending, Run, Sequence, Standing, VertexState};
@@ -149,7 +148,7 @@ fn begin<P: Computation>(
 {
     let vertices = graph.vertices() as usize;
     let standings = standings_of(alloc, graph, program)?;
-    let ids = Ids::new(alloc, ids_of(alloc, standings.as_slice())?)?;
+    let ids = Ids::of_vertices(alloc, standings.as_slice())?;
     let configuration = Configuration {
         standings: Sequence::from_vec(standings),
         waiting: Sequence::new(alloc),

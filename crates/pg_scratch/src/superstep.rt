@@ -1,28 +1,19 @@
 //! One superstep.
-ghost use Rattle.std.specs.Prelude.{◌≡◌, [], ℕ, ◌<◌, ◌^◌, not, length, IfOk};
-ghost use Rattle.std.specs.List.{list_all, AllByRecursion};
-ghost use Rattle.std.specs.List.Sorted.{IsStrictlySortedBy};
-ghost use Rattle.std.specs.Ordering.{nat_cmp};
-ghost use Rattle.pg_model.specs.Superstep.{is_active as active_test, capped, edges_of, ids as ids_of};
-ghost use Rattle.pg_model.specs.declared.configuration.Standing.{Standing};
+ghost use Rattle.std.specs.Prelude.{◌≡◌, ◌<◌, ◌^◌, length, IfOk};
+ghost use Rattle.pg_model.specs.Superstep.{capped, edges_of};
 ghost use Rattle.pg_program.specs.Context.{ShowsDeclared};
 ghost use Rattle.pg_global.specs.Master.{job_of};
-ghost use Rattle.pg_scratch.specs.Roster.{IsInPlace};
-ghost use Rattle.pg_scratch.specs.Stages.{HasPlayed, HasReceived, HasStepped, IsReady, IsPrepared};
-ghost use Rattle.pg_scratch.specs.Worklist.{ListsActive};
+ghost use Rattle.pg_delivery.specs.Roster.{IsInPlace};
+ghost use Rattle.pg_scratch.specs.Stages.{HasPlayed, HasStepped, IsReady, IsPrepared};
 
-use crate::astray::{Astray, settle};
-use crate::delivery::{arranged, deliver};
 use crate::execution::execute_all;
 use crate::gathering::{gather_all, visible_in};
-use crate::ids::Ids;
-use crate::roster::{Roster, with_waiting};
 use crate::totals::capped_total;
-use crate::worklist::{active_in_order, is_active_at};
+use pg_delivery::{Ids, Received, Roster, receive, with_waiting};
 use pg_global::{MasterCompute, MessageCombiner, Registration, view_of};
 use pg_graph::{Memory, Missing, Superstep, VertexId};
-use pg_model::{Configuration, Place, Sequence, Standing, View};
-use pg_program::{Computation, Cx, Meter, Plain};
+use pg_model::{Configuration, Place, Sequence, View};
+use pg_program::{Computation, Cx, Meter};
 use std::alloc::Global;
 
 /// What a run is made with: all that stays the same in its supersteps.
@@ -64,28 +55,6 @@ pub(crate) struct Played<V, M> {
     pub contributed: Sequence<(Place, i64)>,
     pub edges: u64,
     pub meter: Meter,
-}
-
-/// What the messages of a superstep make of its vertices, and of those that are no vertices, and the list
-/// that they stood on.
-#[derive(Drop)]
-pub(crate) struct Received<V, M> {
-    pub roster: Roster<V, M>,
-    pub astray: Astray<M>,
-    pub sent: Vec<(VertexId, M)>,
-}
-
-/// Whether any vertex is active, by the list of the places of the active ones.
-pub(crate) fn is_anyone_active<V, M>(standings: &[Standing<V, M>], work: &[usize]) -> bool
-    requires { ListsActive standings.now work.now }
-    ensures { result ≡ not (list_all (λ x. not (active_test x)) standings.now) }
-{
-    for place in work {
-        if is_active_at(standings, *place) {
-            return true;
-        }
-    }
-    false
 }
 
 /// Executes the active vertices.
@@ -131,51 +100,6 @@ fn play<P: Computation>(
         contributed,
         edges,
         meter,
-    })
-}
-
-/// Delivers the messages of a superstep to its vertices, and settles those that go astray.
-fn receive<V: Drop, M: Plain, C: MessageCombiner<M>>(
-    alloc: Global,
-    combiner: &C,
-    missing: Missing,
-    roster: Roster<V, M>,
-    sent: Sequence<(VertexId, M)>,
-) -> Result<Received<V, M>, Memory>
-    requires ids { roster.ids ≡ ids_of roster.standings.items }
-    requires rising { IsStrictlySortedBy nat_cmp roster.ids }
-    requires empty { AllByRecursion (λ (x : Standing V M). x.inbox ≡ []) roster.standings.items }
-    requires lists { ListsActive roster.standings.items roster.work.items }
-    ensures { IfOk result (λ r. HasReceived (C.combining combiner.now) missing roster sent r) }
-{
-    let Roster {
-        mut standings,
-        ids,
-        mut work,
-    } = roster;
-    let mut strays = Vec::new(alloc);
-    let sent = arranged(sent.into_vec(), standings.len())?;
-    let is_listed = sent.len() <= standings.len() / 8;
-    deliver(
-        alloc,
-        combiner,
-        &ids,
-        &mut standings,
-        sent.as_slice(),
-        &mut strays,
-        is_listed,
-        &mut work,
-    )?;
-    let work = active_in_order(alloc, standings.as_slice(), is_listed, work)?;
-    let astray = settle(alloc, combiner, missing, strays)?;
-    Ok(Received {
-        roster: Roster {
-            standings,
-            ids,
-            work,
-        },
-        astray,
-        sent,
     })
 }
 

@@ -1,14 +1,19 @@
 use Rattle.std.proofs.Common.{◌∙◌, arith}
-use Rattle.pg_scratch.proofs.Passing.{passed_first, passed_standings, passed_context, passed_lists, place_listed, place_inside, still_shown, same_writes, still_fits, pass_on, known_within, nobody-standings, nobody-context, zero-from_test, positive-from_test}
+use Rattle.pg_delivery.proofs.LawsPlaces.{place_listed}
+use Rattle.pg_scratch.proofs.Passing.{passed_first, passed_standings, passed_context, passed_lists, place_inside, still_shown, same_writes, still_fits, pass_on, known_within, nobody-standings, nobody-context, zero-from_test, positive-from_test}
 use Rattle.pg_scratch.proofs.execution.execute_all.Goals as goal
 
 pub returns-then-is_empty-clause-standings : goal.returns-then-is_empty-clause-standings
 returns-then-is_empty-clause-standings g c =
-    nobody-standings (g.P.Computation.program c.args.program.now) c.args.standings.now.items c.args.cx.now c.args.work.now c.exact.result c.requires.fits c.requires.lists (c.exact.ensures _ c.requires.edges) (zero-from_test _ _ c.is_empty.ensures c.if-is_empty.true)
+    nobody-standings (g.P.Computation.program c.args.program.now) c.args.standings.now.items c.args.cx.now
+    c.args.work.now c.exact.result c.requires.fits c.requires.lists (c.exact.ensures _ c.requires.edges)
+    (zero-from_test _ _ c.is_empty.ensures c.if-is_empty.true)
 
 pub returns-then-is_empty-clause-context : goal.returns-then-is_empty-clause-context
 returns-then-is_empty-clause-context g c =
-    nobody-context (g.P.Computation.program c.args.program.now) c.args.standings.now.items c.args.cx.now c.args.work.now c.exact.result c.requires.fits c.requires.lists (c.exact.ensures _ c.requires.edges) (zero-from_test _ _ c.is_empty.ensures c.if-is_empty.true)
+    nobody-context (g.P.Computation.program c.args.program.now) c.args.standings.now.items c.args.cx.now
+    c.args.work.now c.exact.result c.requires.fits c.requires.lists (c.exact.ensures _ c.requires.edges)
+    (zero-from_test _ _ c.is_empty.ensures c.if-is_empty.true)
 
 pub index-requires : goal.index-requires
 index-requires g c =
@@ -17,48 +22,69 @@ index-requires g c =
 
 pub loop-place-init : goal.loop-place-init
 loop-place-init g c =
-    passed_first (g.P.Computation.program c.args.program.now) c.args.standings.now.items c.args.cx.now c.args.work.now c.exact.result c.requires.fits c.requires.lists (c.exact.ensures _ c.requires.edges) c.in_ok-unhalted.unhalted.items c.in_ok-unhalted.ensures.items
+    passed_first (g.P.Computation.program c.args.program.now) c.args.standings.now.items c.args.cx.now c.args.work.now
+    c.exact.result c.requires.fits c.requires.lists (c.exact.ensures _ c.requires.edges)
+    c.in_ok-unhalted.unhalted.items c.in_ok-unhalted.ensures.items
 
 pub execute_at-requires-clause-within : goal.execute_at-requires-clause-within
 execute_at-requires-clause-within g c =
     let p = c.loop-place.invariant in
-    λ _ _. place_inside (g.P.Computation.program c.args.program.now) c.args.standings.now.items c.loop-place.standings.items c.args.cx.now c.loop-place.cx c.args.work.now c.loop-place.found.unhalted.items c.loop-place.found.edges c.loop-place.place-index p.0 c.requires.lists c.requires.rising p.1 c.loop-place-test.true
+    λ _ _. place_inside (g.P.Computation.program c.args.program.now) c.args.standings.now.items
+    c.loop-place.standings.items c.args.cx.now c.loop-place.cx c.args.work.now c.loop-place.found.unhalted.items
+    c.loop-place.found.edges c.loop-place.place-index p.0 c.requires.lists c.requires.rising p.1 c.loop-place-test.true
 
 pub execute_at-requires-clause-shown : goal.execute_at-requires-clause-shown
 execute_at-requires-clause-shown g c =
     let p = c.loop-place.invariant in
-    λ _ _. still_shown (g.P.Computation.program c.args.program.now) c.args.standings.now.items c.loop-place.standings.items c.args.cx.now c.loop-place.cx c.args.work.now c.loop-place.found.unhalted.items c.loop-place.found.edges c.loop-place.place-index p.0 c.requires.lists c.requires.rising p.1 (g.P.Computation.program c.args.program.now).declared c.requires.shown
+    λ _ _. still_shown (g.P.Computation.program c.args.program.now) c.args.standings.now.items
+    c.loop-place.standings.items c.args.cx.now c.loop-place.cx c.args.work.now c.loop-place.found.unhalted.items
+    c.loop-place.found.edges c.loop-place.place-index p.0 c.requires.lists c.requires.rising p.1
+    (g.P.Computation.program c.args.program.now).declared c.requires.shown
 
 pub execute_at-requires-clause-writes : goal.execute_at-requires-clause-writes
 execute_at-requires-clause-writes g c =
     let p = c.loop-place.invariant in
-    λ _ _. same_writes (g.P.Computation.program c.args.program.now) c.args.standings.now.items c.loop-place.standings.items c.args.cx.now c.loop-place.cx c.args.work.now c.loop-place.found.unhalted.items c.loop-place.found.edges c.loop-place.place-index p.0 c.requires.lists c.requires.rising p.1 ∙ c.requires.writes
+    λ _ _. same_writes (g.P.Computation.program c.args.program.now) c.args.standings.now.items
+    c.loop-place.standings.items c.args.cx.now c.loop-place.cx c.args.work.now c.loop-place.found.unhalted.items
+    c.loop-place.found.edges c.loop-place.place-index p.0 c.requires.lists c.requires.rising p.1 ∙ c.requires.writes
 
 pub execute_at-requires-clause-fits : goal.execute_at-requires-clause-fits
 execute_at-requires-clause-fits g c =
     let p = c.loop-place.invariant in
-    λ _ _. still_fits (g.P.Computation.program c.args.program.now) c.args.standings.now.items c.loop-place.standings.items c.args.cx.now c.loop-place.cx c.args.work.now c.loop-place.found.unhalted.items c.loop-place.found.edges c.loop-place.place-index p.0 c.requires.lists c.requires.rising p.1
+    λ _ _. still_fits (g.P.Computation.program c.args.program.now) c.args.standings.now.items
+    c.loop-place.standings.items c.args.cx.now c.loop-place.cx c.args.work.now c.loop-place.found.unhalted.items
+    c.loop-place.found.edges c.loop-place.place-index p.0 c.requires.lists c.requires.rising p.1
 
 pub loop-place-preserved : goal.loop-place-preserved
 loop-place-preserved g c =
     let p = c.loop-place.invariant in
-    pass_on (g.P.Computation.program c.args.program.now) c.args.standings.now.items c.loop-place.standings.items c.args.cx.now c.loop-place.cx c.args.work.now c.loop-place.found.unhalted.items c.loop-place.found.edges c.loop-place.place-index p.0 c.requires.lists c.requires.rising p.1 c.loop-place-test.true
-    c.execute_at.new.standings.items c.execute_at.new.cx c.execute_at.new.found.unhalted.items c.execute_at.new.found.edges c.in_ok-execute_at.ensures.standings c.in_ok-execute_at.ensures.context c.in_ok-execute_at.ensures.unhalted c.in_ok-execute_at.ensures.edges
+    pass_on (g.P.Computation.program c.args.program.now) c.args.standings.now.items c.loop-place.standings.items
+    c.args.cx.now c.loop-place.cx c.args.work.now c.loop-place.found.unhalted.items c.loop-place.found.edges
+    c.loop-place.place-index p.0 c.requires.lists c.requires.rising p.1 c.loop-place-test.true
+    c.execute_at.new.standings.items c.execute_at.new.cx c.execute_at.new.found.unhalted.items
+    c.execute_at.new.found.edges c.in_ok-execute_at.ensures.standings c.in_ok-execute_at.ensures.context
+    c.in_ok-execute_at.ensures.unhalted c.in_ok-execute_at.ensures.edges
 
 pub returns-clause-standings : goal.returns-clause-standings
 returns-clause-standings g c =
     let p = c.loop-place.invariant in
-    passed_standings (g.P.Computation.program c.args.program.now) c.args.standings.now.items c.args.cx.now c.args.work.now c.loop-place.standings.items c.loop-place.cx c.loop-place.found.unhalted.items c.loop-place.found.edges c.loop-place.place-index p.0 c.loop-place-test.false p.1
+    passed_standings (g.P.Computation.program c.args.program.now) c.args.standings.now.items c.args.cx.now
+    c.args.work.now c.loop-place.standings.items c.loop-place.cx c.loop-place.found.unhalted.items
+    c.loop-place.found.edges c.loop-place.place-index p.0 c.loop-place-test.false p.1
 
 pub returns-clause-context : goal.returns-clause-context
 returns-clause-context g c =
     let p = c.loop-place.invariant in
-    passed_context (g.P.Computation.program c.args.program.now) c.args.standings.now.items c.args.cx.now c.args.work.now c.loop-place.standings.items c.loop-place.cx c.loop-place.found.unhalted.items c.loop-place.found.edges c.loop-place.place-index p.0 c.loop-place-test.false p.1
+    passed_context (g.P.Computation.program c.args.program.now) c.args.standings.now.items c.args.cx.now
+    c.args.work.now c.loop-place.standings.items c.loop-place.cx c.loop-place.found.unhalted.items
+    c.loop-place.found.edges c.loop-place.place-index p.0 c.loop-place-test.false p.1
 
 pub returns-clause-lists : goal.returns-clause-lists
 returns-clause-lists g c =
     let p = c.loop-place.invariant in
-    passed_lists (g.P.Computation.program c.args.program.now) c.args.standings.now.items c.args.cx.now c.args.work.now c.loop-place.standings.items c.loop-place.cx c.loop-place.found.unhalted.items c.loop-place.found.edges c.loop-place.place-index p.0 c.loop-place-test.false p.1
+    passed_lists (g.P.Computation.program c.args.program.now) c.args.standings.now.items c.args.cx.now c.args.work.now
+    c.loop-place.standings.items c.loop-place.cx c.loop-place.found.unhalted.items c.loop-place.found.edges
+    c.loop-place.place-index p.0 c.loop-place-test.false p.1
 
 pub execute_at-requires-clause-edges : goal.execute_at-requires-clause-edges
 execute_at-requires-clause-edges g c =

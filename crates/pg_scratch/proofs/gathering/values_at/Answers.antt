@@ -3,4 +3,6 @@ use Rattle.pg_scratch.proofs.gathering.values_at.Goals as goal
 
 pub loop-contribution-preserved : goal.loop-contribution-preserved
 loop-contribution-preserved c =
-    at_place-next c.args.place c.args.contributed.now c.loop-contribution.contribution-index c.contribution-item.result c.loop-contribution.values.items c.push_if_at.new.values.items c.loop-contribution-test.true c.contribution-item.is c.in_ok-push_if_at.ensures c.loop-contribution.invariant
+    at_place-next c.args.place c.args.contributed.now c.loop-contribution.contribution-index
+    c.contribution-item.result c.loop-contribution.values.items c.push_if_at.new.values.items
+    c.loop-contribution-test.true c.contribution-item.is c.in_ok-push_if_at.ensures c.loop-contribution.invariant

@@ -8,10 +8,14 @@ use Rattle.pg_scratch.proofs.superstep.play.Goals as goal
 pub returns : goal.returns
 returns g c =
     let program = g.P.Computation.program c.args.program.now in
-    let context = context_is program c.args.view c.declared.result.writes c.args.meter c.args.roster.standings.items c.with_room-cx.result c.execute_all.new.cx c.with_room-cx.ensures c.in_ok-found.ensures.context in
+    let context =
+    context_is program c.args.view c.declared.result.writes c.args.meter c.args.roster.standings.items
+    c.with_room-cx.result c.execute_all.new.cx c.with_room-cx.ensures c.in_ok-found.ensures.context in
     record {
       standings =
-          c.in_ok-found.ensures.standings ∙ ap (λ (x : Context g.row.P-Message.Denot). map (ran program x.view) c.args.roster.standings.items) c.with_room-cx.ensures;
+          c.in_ok-found.ensures.standings
+          ∙ ap (λ (x : Context g.row.P-Message.Denot). map (ran program x.view) c.args.roster.standings.items)
+          c.with_room-cx.ensures;
       ids_stay = refl;
       lists = c.in_ok-found.ensures.lists;
       sent = c.into_parts-sent.ensures.sent ∙ ap (λ (x : Context g.row.P-Message.Denot). x.sent) context;

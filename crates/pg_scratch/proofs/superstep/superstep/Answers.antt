@@ -1,38 +1,45 @@
-use Rattle.std.proofs.Common.{ℕ, ◌+◌, ℤ, List, length, ap, sym, ◌∙◌, refl, subst}
+use Rattle.std.proofs.Common.{ℕ, ◌+◌, List, length, ap, sym, ◌∙◌, refl, subst}
 use Rattle.pg_model.specs.InOrder.{AreWaiting}
-use Rattle.pg_model.specs.Job.{Totals, Aggregating}
 use Rattle.pg_model.specs.Superstep.{capped, edges_of, ids, visible_in, view_of, gathered_from, with_made}
 use Rattle.pg_model.specs.declared.view.Declared.{Declared}
 use Rattle.pg_model.specs.declared.configuration.Standing.{Standing}
 use Rattle.pg_global.specs.Master.{job_of}
-use Rattle.pg_scratch.proofs.Merging.{edges-made}
+use Rattle.pg_scratch.proofs.Edges.{edges-made}
 use Rattle.pg_scratch.proofs.Stepping.{shown_in}
 use Rattle.pg_scratch.proofs.Whole.{played_ids, played_empty, aggregators-registered, as_many-registered, stepped}
 use Rattle.pg_scratch.proofs.superstep.superstep.Goals as goal
 
 pub with_waiting-requires-clause-waiting : goal.with_waiting-requires-clause-waiting
 with_waiting-requires-clause-waiting g c =
-    λ _ _. subst (λ (l : List (Standing g.row.P-Value.Denot g.row.P-Message.Denot)). AreWaiting {M = g.row.P-Message.Denot} (ids l) c.args.progress.configuration.waiting) (sym c.into_vec-standings.ensures) c.requires.ready.in_order.waiting
+    λ _ _. subst (λ (l : List (Standing g.row.P-Value.Denot g.row.P-Message.Denot)). AreWaiting
+    {M = g.row.P-Message.Denot} (ids l) c.args.progress.configuration.waiting) (sym c.into_vec-standings.ensures)
+    c.requires.ready.in_order.waiting
 
 pub play-requires-clause-shown : goal.play-requires-clause-shown
 play-requires-clause-shown g c =
-    λ _ _. shown_in (g.P.Computation.program c.args.runner.now.program.now) c.declared.result c.args.superstep (length c.args.runner.now.registrations.now) c.in_ok-visible.visible c.in_ok-view.view c.requires.prepared.declared (c.in_ok-visible.ensures.places ∙ c.requires.ready.gathered) c.declared.ensures c.in_ok-view.ensures
+    λ _ _. shown_in (g.P.Computation.program c.args.runner.now.program.now) c.declared.result c.args.superstep
+    (length c.args.runner.now.registrations.now) c.in_ok-visible.visible c.in_ok-view.view
+    c.requires.prepared.declared (c.in_ok-visible.ensures.places ∙ c.requires.ready.gathered) c.declared.ensures
+    c.in_ok-view.ensures
 
 pub play-requires-clause-edges : goal.play-requires-clause-edges
 play-requires-clause-edges g c =
     let program = g.P.Computation.program c.args.runner.now.program.now in
     λ _ _. c.requires.ready.edges
     ∙ ap capped (sym (edges-made program c.args.progress.configuration.standings c.args.progress.configuration.waiting)
-    ∙ ap (λ (l : List (Standing g.row.P-Value.Denot g.row.P-Message.Denot)). edges_of (with_made program l c.args.progress.configuration.waiting)) (sym c.into_vec-standings.ensures)
+    ∙ ap (λ (l : List (Standing g.row.P-Value.Denot g.row.P-Message.Denot)). edges_of
+    (with_made program l c.args.progress.configuration.waiting)) (sym c.into_vec-standings.ensures)
     ∙ ap (λ (l : List (Standing g.row.P-Value.Denot g.row.P-Message.Denot)). edges_of l) (sym c.in_ok-roster.ensures.standings))
 
 pub receive-requires-clause-ids : goal.receive-requires-clause-ids
 receive-requires-clause-ids g c =
-    λ _ _. played_ids (g.P.Computation.program c.args.runner.now.program.now) c.in_ok-view.view c.in_ok-roster.roster c.args.progress.meter c.in_ok-roster-2.field-0 c.in_ok-roster-2.ensures c.in_ok-roster.ensures.in_place
+    λ _ _. played_ids (g.P.Computation.program c.args.runner.now.program.now) c.in_ok-view.view c.in_ok-roster.roster
+    c.args.progress.meter c.in_ok-roster-2.field-0 c.in_ok-roster-2.ensures c.in_ok-roster.ensures.in_place
 
 pub receive-requires-clause-empty : goal.receive-requires-clause-empty
 receive-requires-clause-empty g c =
-    λ _ _. played_empty (g.P.Computation.program c.args.runner.now.program.now) c.in_ok-view.view c.in_ok-roster.roster c.args.progress.meter c.in_ok-roster-2.field-0 c.in_ok-roster-2.ensures
+    λ _ _. played_empty (g.P.Computation.program c.args.runner.now.program.now) c.in_ok-view.view
+    c.in_ok-roster.roster c.args.progress.meter c.in_ok-roster-2.field-0 c.in_ok-roster-2.ensures
 
 pub returns : goal.returns
 returns g c =
@@ -41,8 +48,16 @@ returns g c =
     let master = g.M.MasterCompute.master c.args.runner.now.master.now in
     let before = c.args.progress.configuration in
     let many = as_many-registered master c.args.runner.now.registrations.now c.requires.prepared.registered in
-    stepped (job_of program combining master c.args.runner.now.missing c.args.runner.now.limit) (length c.args.runner.now.registrations.now) c.args.superstep c.args.progress _
-    (record { shown = c.in_ok-visible.visible; view = c.in_ok-view.view; roster = c.in_ok-roster.roster; played = c.in_ok-roster-2.field-0; gathered = c.in_ok-gathered.gathered; received = c.in_ok-roster-3.field-0 })
+    stepped (job_of program combining master c.args.runner.now.missing c.args.runner.now.limit)
+    (length c.args.runner.now.registrations.now) c.args.superstep c.args.progress _
+    (record {
+      shown = c.in_ok-visible.visible;
+      view = c.in_ok-view.view;
+      roster = c.in_ok-roster.roster;
+      played = c.in_ok-roster-2.field-0;
+      gathered = c.in_ok-gathered.gathered;
+      received = c.in_ok-roster-3.field-0;
+    })
     (record {
       shown_is = c.in_ok-visible.ensures.value
           ∙ (λ i. visible_in master.deciding (record {
@@ -57,7 +72,8 @@ returns g c =
       in_place = c.in_ok-roster.ensures.in_place;
       plays = c.in_ok-roster-2.ensures;
       gathered_is = c.in_ok-gathered.ensures
-          ∙ (λ i. gathered_from 0 (aggregators-registered master c.args.runner.now.registrations.now c.requires.prepared.registered i) (c.as_slice.ensures i) (c.as_slice-2.ensures i));
+          ∙ (λ i. gathered_from 0 (aggregators-registered master c.args.runner.now.registrations.now
+          c.requires.prepared.registered i) (c.as_slice.ensures i) (c.as_slice-2.ensures i));
       receives = c.in_ok-roster-3.ensures;
       standings = c.from_vec.ensures;
       waiting = refl;

@@ -1,0 +1,10 @@
+mod ActivePlaces
+mod Anyone
+mod Arranging
+mod Delivering
+pub mod LawsPlaces
+mod Merging
+pub mod Messages
+mod Ordering
+mod Searching
+mod Settling

@@ -1,0 +1,14 @@
+use Rattle.pg_delivery.proofs.Merging.{takes_more, fewer_left}
+use Rattle.std.proofs.Common.{sym, ◌∙◌}
+use Rattle.pg_delivery.proofs.roster.push_below.Goals as goal
+
+pub loop-alloc-preserved : goal.loop-alloc-preserved
+loop-alloc-preserved g c =
+    takes_more (g.P.Computation.program c.args.program.now) c.args.id _ c.loop-alloc.waiting.items _ _
+    c.loop-alloc.merged.items _ c.loop-alloc.invariant (sym c.is_first_below.ensures ∙ c.loop-alloc-test.true)
+    c.in_ok-push_first.ensures
+
+pub loop-alloc-smaller : goal.loop-alloc-smaller
+loop-alloc-smaller g c =
+    fewer_left (g.P.Computation.program c.args.program.now) c.args.id c.loop-alloc.waiting.items _
+    c.loop-alloc.merged.items _ (sym c.is_first_below.ensures ∙ c.loop-alloc-test.true) c.in_ok-push_first.ensures
