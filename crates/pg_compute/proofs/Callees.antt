@@ -54,7 +54,8 @@ module _ {X : Type 0} where
       value_at-entries ws (insert_entry nat_cmp es w.0 w.1) id (rises_after w ws rise)
       ∙ by (w.0 == id) refl
     where
-      by : (b : Bool) → (w.0 == id) ≡ b → option_or (value_at id ws) (value_at id (insert_entry nat_cmp es w.0 w.1)) ≡ option_or (value_at id (w ∷ ws)) (value_at id es)
+      by : (b : Bool) → (w.0 == id) ≡ b
+          → option_or (value_at id ws) (value_at id (insert_entry nat_cmp es w.0 w.1)) ≡ option_or (value_at id (w ∷ ws)) (value_at id es)
       by true e =
           let found : is_at (nat_cmp id) w.0 ≡ true = at_key id w.0 ∙ e in
           ap (λ o. option_or o (value_at id (insert_entry nat_cmp es w.0 w.1))) (none_past id w ws rise found)
@@ -90,7 +91,8 @@ module _ {M : Type 0} where
       told : (id : ℕ) (o : Option (List M)) → value_at id inboxes ≡ o → Delivers combining id bundles (elim o [ None ↦ [] | Some inbox ↦ inbox ])
       told id o e = subst (λ (o : Option (List M)). Delivers combining id bundles (elim o [ None ↦ [] | Some inbox ↦ inbox ])) e (are.told id)
 
-  module _ (combining : Option (Combining M)) (bundles : List (Parcels M)) (ids : List ℕ) (inboxes : List (ℕ × List M)) (are : AreInboxes combining bundles inboxes) where
+  module _ (combining : Option (Combining M)) (bundles : List (Parcels M)) (ids : List ℕ) (inboxes : List (ℕ × List M))
+      (are : AreInboxes combining bundles inboxes) where
     all : List (ℕ × List M)
     all = with_empty ids inboxes
 
@@ -108,8 +110,11 @@ module _ {M : Type 0} where
     unfolding all
     are_callees = record {
       rise = rises;
-      delivered = all_from_lookups (λ c. Delivers combining c.0 bundles c.1) all rises (λ id inbox e. given id inbox (value_at id inboxes) refl (sym (at id) ∙ e));
-      have = λ id h. sym (has_key id all) ∙ (ap is_some (at id ∙ ap (λ (b : Bool). option_or (value_at id inboxes) (cond b (Some []) None)) h) ∙ some (value_at id inboxes));
+      delivered =
+          all_from_lookups (λ c. Delivers combining c.0 bundles c.1) all rises (λ id inbox e. given id inbox (value_at id inboxes) refl (sym (at id) ∙ e));
+      have =
+          λ id h. sym (has_key id all)
+          ∙ (ap is_some (at id ∙ ap (λ (b : Bool). option_or (value_at id inboxes) (cond b (Some []) None)) h) ∙ some (value_at id inboxes));
       others = λ _ id h. nothing id (value_at id inboxes) refl (sym (at id) ∙ not_key id all h);
     }
       where
@@ -119,7 +124,8 @@ module _ {M : Type 0} where
         given : (id : ℕ) (inbox : List M) (o : Option (List M)) → value_at id inboxes ≡ o
             → option_or (value_at id inboxes) (cond (has_id ids id) (Some []) None) ≡ Some inbox → Delivers combining id bundles inbox
         given id inbox (Some i) e h =
-            subst (Delivers combining id bundles) (same_Some i inbox (sym (ap (λ o. option_or o (cond (has_id ids id) (Some []) None)) e) ∙ h)) (told id (Some i) e)
+            subst (Delivers combining id bundles)
+            (same_Some i inbox (sym (ap (λ o. option_or o (cond (has_id ids id) (Some []) None)) e) ∙ h)) (told id (Some i) e)
         given id inbox None e h = by (has_id ids id) (sym (ap (λ o. option_or o (cond (has_id ids id) (Some []) None)) e) ∙ h)
           where
             by : (b : Bool) → cond b (Some []) None ≡ Some inbox → Delivers combining id bundles inbox

@@ -71,7 +71,8 @@ module _ {C X : Type 0} (id_of : C → ℕ) (skips : C → Bool) (gives : C → 
       by : (e : Bool) → (id_of c == k) ≡ e → (e || has_id (map id_of cs) k) ≡ true → (has_id (map id_of cs) k ≡ true → IsEntry P k cs) → IsEntry P k (c ∷ cs)
       by true f g later =
           let same = eqb-true (id_of c) k f in
-          let gone : value_at k (entries cs) ≡ None = entries-none k cs (subst (λ i. has_id (map id_of cs) i ≡ false) same (not_below (id_of c) (map id_of cs) rise.0)) in
+          let gone : value_at k (entries cs) ≡ None =
+          entries-none k cs (subst (λ i. has_id (map id_of cs) i ≡ false) same (not_below (id_of c) (map id_of cs) rise.0)) in
           record { one = c; holds = all.0; same = same; at = found (skips c) gone }
         where
           found : (b : Bool) → value_at k (entries cs) ≡ None

@@ -28,13 +28,16 @@ module _ {V M : Type 0} where
   awake_by_record : (id : ℕ) (records : List (ℕ × Record V M)) (r : Record V M) → value_at id records ≡ Some r → r.halted ≡ false
       → has_id (awake_after records) id ≡ true
   awake_by_record id [] r e h = absurd (none-some r e)
-  awake_by_record id (x ∷ records) r e h = by (x.0 == id) refl (sym (ap (λ (b : Bool). cond b (Some x.1) (value_at id records)) (at_key id x.0)) ∙ e) (λ k. awake_by_record id records r k h) (x.1.halted) refl
+  awake_by_record id (x ∷ records) r e h =
+      by (x.0 == id) refl (sym (ap (λ (b : Bool). cond b (Some x.1) (value_at id records)) (at_key id x.0)) ∙ e)
+      (λ k. awake_by_record id records r k h) (x.1.halted) refl
     where
       rest : List ℕ
       rest = awake_after records
 
       by : (b : Bool) → (x.0 == id) ≡ b → cond b (Some x.1) (value_at id records) ≡ Some r → (value_at id records ≡ Some r → has_id rest id ≡ true)
-          → (t : Bool) → x.1.halted ≡ t → has_id (map (λ r. r.0) (cond (not t) (x ∷ filter (λ r. not r.1.halted) records) (filter (λ r. not r.1.halted) records))) id ≡ true
+          → (t : Bool) → x.1.halted ≡ t → has_id
+          (map (λ r. r.0) (cond (not t) (x ∷ filter (λ r. not r.1.halted) records) (filter (λ r. not r.1.halted) records))) id ≡ true
       by true f k later true g = absurd (true≢false (sym g ∙ (ap (λ (q : Record V M). q.halted) (same_Some x.1 r k) ∙ h)))
       by true f k later false g = ap (λ (b : Bool). b || has_id rest id) f
       by false f k later true g = later k

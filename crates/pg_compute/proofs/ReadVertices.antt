@@ -180,4 +180,5 @@ module _ {V M : Type 0} where
       -- what a candidate gives is the run's record
       pub gives_record : (view : View) → view ≡ view_at job rows r → (c : Candidate V M) → IsRead c
           → option_map job.program.step (reads view c.new) ≡ value_at c.id (records_in job rows n p r)
-      gives_record view same c read = ap (option_map job.program.step) (reads_inputs view same c read) ∙ sym (record_in_share job rows n p r c.id holds.rise within read.mine)
+      gives_record view same c read =
+          ap (option_map job.program.step) (reads_inputs view same c read) ∙ sym (record_in_share job rows n p r c.id holds.rise within read.mine)

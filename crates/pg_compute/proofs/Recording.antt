@@ -64,7 +64,8 @@ module _ {V M : Type 0} (job : Job V M) (rows : Rows) (n p s : ℕ) where
   unfolding given
   no_other_record id other = not_key id (records_in job rows n p s) (none (present_at job rows s))
     where
-      none : (xs : List (Standing V M)) → has_id (keys_of (map (λ x. (x.state.id, given x)) (filter is_active (filter (λ x. belongs n p x.state.id) xs)))) id ≡ false
+      none : (xs : List (Standing V M))
+          → has_id (keys_of (map (λ x. (x.state.id, given x)) (filter is_active (filter (λ x. belongs n p x.state.id) xs)))) id ≡ false
       none [] = refl
       none (x ∷ xs) = by (belongs n p x.state.id) refl (is_active x) (none xs)
         where
@@ -144,4 +145,5 @@ module _ {V M : Type 0} (value_eq : V → V → Bool) (message_eq : M → M → 
           same_count runs (λ c. needed c.id) cs (all_weaker (IsCounted runs) (λ c. runs c ≡ needed c.id) (λ c counted. counted.same) cs h)
           ∙ (sym (count_by-map needed (λ c. c.id) cs)
           ∙ ap (count_by needed) (sym (all_picked (belongs n p) (map (λ c. c.id) cs)
-          (all_to_map (λ k. belongs n p k ≡ true) (λ c. c.id) cs (all_weaker (IsCounted runs) (λ c. belongs n p c.id ≡ true) (λ c counted. counted.mine) cs h)))))
+          (all_to_map (λ k. belongs n p k ≡ true) (λ c. c.id) cs
+          (all_weaker (IsCounted runs) (λ c. belongs n p c.id ≡ true) (λ c counted. counted.mine) cs h)))))

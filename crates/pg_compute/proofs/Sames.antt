@@ -74,7 +74,8 @@ module _ {V M : Type 0} (value_eq : V → V → Bool) (message_eq : M → M → 
       by true false = refl
       by false true = refl
       by false false = refl
-  runs_if_changed old_view view (Some x) (Some y) = by (is_same_view old_view view) (is_active x) (is_active y) (is_same_vertex value_eq message_eq x y) refl refl
+  runs_if_changed old_view view (Some x) (Some y) =
+      by (is_same_view old_view view) (is_active x) (is_active y) (is_same_vertex value_eq message_eq x y) refl refl
     where
       by : (b s t e : Bool) → is_same_view old_view view ≡ b → is_same_vertex value_eq message_eq x y ≡ e
           → (not (b && (s && (t && e))) && is_some (cond t (Some (inputs_of view y)) None))

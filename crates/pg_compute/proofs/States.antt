@@ -27,7 +27,8 @@ all_anything (e ∷ es) = (tt, all_anything es)
 
 edges_are : (es fs : List (ℕ × ℤ)) → Decides (pointwise (λ a b. (a.0 == b.0) && int_eq a.1 b.1) es fs) (es ≡ fs)
 edges_are es fs =
-    Decides-pointwise (λ a b. (a.0 == b.0) && int_eq a.1 b.1) (λ e. Unit {0}) (λ a b _ _. Decides-edge_eq no_eq no_eq a b) es fs (all_anything es) (all_anything fs)
+    Decides-pointwise (λ a b. (a.0 == b.0) && int_eq a.1 b.1) (λ e. Unit {0}) (λ a b _ _. Decides-edge_eq no_eq no_eq a b) es fs
+    (all_anything es) (all_anything fs)
   where
     no_eq : ℕ → ℕ → Bool
     no_eq a b = true

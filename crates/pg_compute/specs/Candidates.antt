@@ -38,7 +38,8 @@ module _ {V M : Type 0} where
 
 -- vertices by rising id with what is delivered to each: these ones, and where all are asked for each to which
 -- anything is delivered
-pub record AreCallees {M : Type 0} (combining : Option (Combining M)) (bundles : List (Parcels M)) (ids : List ℕ) (all : Bool) (callees : List (ℕ × List M)) : Type 0 where
+pub record AreCallees {M : Type 0} (combining : Option (Combining M)) (bundles : List (Parcels M)) (ids : List ℕ) (all : Bool)
+    (callees : List (ℕ × List M)) : Type 0 where
   pub rise : HasRisingIds callees
   pub delivered : AllByRecursion (λ c. Delivers combining c.0 bundles c.1) callees
   pub have : (id : ℕ) → has_id ids id ≡ true → has_id (keys_of callees) id ≡ true
@@ -46,7 +47,9 @@ pub record AreCallees {M : Type 0} (combining : Option (Combining M)) (bundles :
 
 -- these vertices were looked at, with this view, and executed where they didn't read what they read in another run,
 -- where that saw the same
-pub record IsPlayed {V M : Type 0} (value_eq : V → V → Bool) (message_eq : M → M → Bool) (program : Program V M) (missing : Missing) (combining : Option (Combining M)) (view : View) (n p s : ℕ) (trace : Trace V M) (bundles : List (Parcels M)) (beside : Option (Trace V M × List (Parcels M))) (ids : List ℕ) (all seen : Bool) (before : ℕ) (played : Played V M) : Type 0 where
+pub record IsPlayed {V M : Type 0} (value_eq : V → V → Bool) (message_eq : M → M → Bool) (program : Program V M) (missing : Missing)
+    (combining : Option (Combining M)) (view : View) (n p s : ℕ) (trace : Trace V M) (bundles : List (Parcels M))
+    (beside : Option (Trace V M × List (Parcels M))) (ids : List ℕ) (all seen : Bool) (before : ℕ) (played : Played V M) : Type 0 where
   pub callees : List (ℕ × List M)
   pub are : AreCallees combining bundles ids all callees
   pub candidates : List (Candidate V M)
@@ -61,7 +64,8 @@ pub record IsPlayed {V M : Type 0} (value_eq : V → V → Bool) (message_eq : M
 -- rising ids with all that a step beside an old run has to look at: where states may differ, but for vertices that rest in
 -- both runs and to which nothing is delivered; where other messages may come from; and where the old run saw something else
 -- all that aren't halted
-pub record AreLookedAt {V M : Type 0} (combining : Option (Combining M)) (bundles : List (Parcels M)) (n p s : ℕ) (trace : Trace V M) (restless resting : List ℕ) (logs old_logs : Slots M) (seen : Bool) (ids : List ℕ) : Type 0 where
+pub record AreLookedAt {V M : Type 0} (combining : Option (Combining M)) (bundles : List (Parcels M)) (n p s : ℕ) (trace : Trace V M)
+    (restless resting : List ℕ) (logs old_logs : Slots M) (seen : Bool) (ids : List ℕ) : Type 0 where
   pub rise : IsStrictlySortedBy nat_cmp ids
   pub states : (id : ℕ) → has_id ids id ≡ false → has_id restless id ≡ false
   pub still : (id : ℕ) → has_id ids id ≡ false → has_id resting id ≡ true → Delivers combining id bundles []

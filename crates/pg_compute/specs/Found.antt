@@ -26,7 +26,8 @@ module _ {V M : Type 0} where
   vertex_of program missing id state delivered = standing_with program id state (arriving missing state delivered)
 
   -- the same by the state that a trace has of it, where these bundles are to its partition
-  pub record IsFound (program : Program V M) (missing : Missing) (combining : Option (Combining M)) (trace : Trace V M) (s : ℕ) (bundles : List (Parcels M)) (id : ℕ) (found : Option (Standing V M)) : Type 0 where
+  pub record IsFound (program : Program V M) (missing : Missing) (combining : Option (Combining M)) (trace : Trace V M) (s : ℕ)
+      (bundles : List (Parcels M)) (id : ℕ) (found : Option (Standing V M)) : Type 0 where
     pub inbox : List M
     pub delivers : Delivers combining id bundles inbox
     pub is : found ≡ vertex_of program missing id (state_at id s trace) inbox

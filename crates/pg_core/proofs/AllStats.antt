@@ -24,13 +24,16 @@ use Rattle.pg_stats.specs.declared.stats.PartitionStats.{PartitionStats}
 
 -- ---- how many places are gathered
 
-length-gathered_from : (place : ℕ) (aggregators : List Aggregating) (values : List ℤ) (cs : List (ℕ × ℤ)) → length values ≡ length aggregators → length (gathered_from place aggregators values cs) ≡ length aggregators
+length-gathered_from : (place : ℕ) (aggregators : List Aggregating) (values : List ℤ) (cs : List (ℕ × ℤ))
+    → length values ≡ length aggregators → length (gathered_from place aggregators values cs) ≡ length aggregators
 unfolding gathered_from
 length-gathered_from place [] values cs e = refl
 length-gathered_from place (a ∷ rest) [] cs e = absurd (omega (arith, e))
 length-gathered_from place (a ∷ rest) (value ∷ values) cs e = ap suc (length-gathered_from (place + 1) rest values cs (omega (arith, e)))
 
-pub length-gathered : (registered : Registered) (visible : List ℤ) (all : List PartitionStats) (stats : GlobalStats) → stats ≡ stats_of_all (aggregators_of registered) visible all → length visible ≡ length registered → length stats.gathered ≡ length registered
+pub length-gathered : (registered : Registered) (visible : List ℤ) (all : List PartitionStats) (stats : GlobalStats)
+    → stats ≡ stats_of_all (aggregators_of registered) visible all → length visible ≡ length registered
+    → length stats.gathered ≡ length registered
 unfolding stats_of_all
 length-gathered registered visible all stats is same =
     let many : length (aggregators_of registered) ≡ length registered = length-map registered (λ e. aggregating_of e.1) in
@@ -38,14 +41,17 @@ length-gathered registered visible all stats is same =
 
 -- ---- the parts, one after another
 
-flat_map-singles : {X Y : Type 0} (f : Option X → List Y) (g : ℕ → Y) (a : ℕ) (xs : List (Option X)) → ((p : ℕ) → p < length xs → f (get_or xs p None) ≡ g (a + p) ∷ []) → flat_map f xs ≡ map g (range_with_len a (length xs))
+flat_map-singles : {X Y : Type 0} (f : Option X → List Y) (g : ℕ → Y) (a : ℕ) (xs : List (Option X))
+    → ((p : ℕ) → p < length xs → f (get_or xs p None) ≡ g (a + p) ∷ []) → flat_map f xs ≡ map g (range_with_len a (length xs))
 flat_map-singles f g a [] h = refl
 flat_map-singles f g a (x ∷ xs) h =
     ap (λ l. l ++ flat_map f xs) (h 0 (omega arith) ∙ ap (λ (k : ℕ). g k ∷ []) (let e : a + 0 ≡ a = omega arith in e))
-    ∙ ap (λ l. g a ∷ l) (flat_map-singles f g (a + 1) xs (λ p within. h (suc p) (omega (arith, within)) ∙ ap (λ (k : ℕ). g k ∷ []) (let e : a + suc p ≡ a + 1 + p = omega arith in e)))
+    ∙ ap (λ l. g a ∷ l) (flat_map-singles f g (a + 1) xs
+    (λ p within. h (suc p) (omega (arith, within)) ∙ ap (λ (k : ℕ). g k ∷ []) (let e : a + suc p ≡ a + 1 + p = omega arith in e)))
 
 -- where the open superstep may be closed, each partition is one past it
-pub place_at_close : (state : State) (n : ℕ) → length state.places ≡ n → is_allowed state (Close Next) ≡ true → (p : ℕ) → p < n → place_at p state ≡ Some (state.current + 1)
+pub place_at_close : (state : State) (n : ℕ) → length state.places ≡ n → is_allowed state (Close Next) ≡ true → (p : ℕ) → p < n
+    → place_at p state ≡ Some (state.current + 1)
 place_at_close state n many allowed p within =
     at_superstep (state.current + 1) (place_at p state)
     (AllPass-from_list_all (is_at (state.current + 1)) state.places (and_parts _ _ allowed).1 p None (omega (arith, within, many)))
@@ -56,18 +62,25 @@ module _ {V M : Type 0} (job : Job V M) (kept : Option Rows) (rows : Rows) (n p 
       ap option_to_list (ap₂ slice_get holds.stats.stats_are holds.course.place_is ∙ slice_get-made (stats_at job rows n p) (r + 1) r (omega arith))
 
 -- so all parts are here, with what they have come to
-module _ {P C A V M : Type 0} (job : Job V M) (kept : Option Rows) (core : Progress P C A V M) (right : IsRight job kept core) (many : length core.state.places ≡ core.limits.partitions) (each : length core.parts ≡ core.limits.partitions)
-    (stays : (p r : ℕ) → place_at p core.state ≡ Some r → core.state.current < r → IsSome (part_at p core)) (allowed : is_allowed core.state (Close Next) ≡ true) where
+module _ {P C A V M : Type 0} (job : Job V M) (kept : Option Rows) (core : Progress P C A V M) (right : IsRight job kept core)
+    (many : length core.state.places ≡ core.limits.partitions) (each : length core.parts ≡ core.limits.partitions)
+    (stays : (p r : ℕ) → place_at p core.state ≡ Some r → core.state.current < r → IsSome (part_at p core))
+    (allowed : is_allowed core.state (Close Next) ≡ true) where
   pub stats_are : flat_map stats_here core.parts ≡ map (λ p. stats_at job core.graph core.limits.partitions p (core.state.current + 1)) (range_with_len 0 core.limits.partitions)
   stats_are =
       flat_map-singles stats_here (λ p. stats_at job core.graph core.limits.partitions p (core.state.current + 1)) 0 core.parts
-      (λ p within. one p (omega (arith, within, each)) ∙ ap (λ (k : ℕ). stats_at job core.graph core.limits.partitions k (core.state.current + 1) ∷ []) (let e : p ≡ 0 + p = omega arith in e))
+      (λ p within. one p (omega (arith, within, each))
+      ∙ ap (λ (k : ℕ). stats_at job core.graph core.limits.partitions k (core.state.current + 1) ∷ [])
+      (let e : p ≡ 0 + p = omega arith in e))
       ∙ ap (λ (m : ℕ). map (λ p. stats_at job core.graph core.limits.partitions p (core.state.current + 1)) (range_with_len 0 m)) each
     where
       one : (p : ℕ) → p < core.limits.partitions → stats_here (part_at p core) ≡ stats_at job core.graph core.limits.partitions p (core.state.current + 1) ∷ []
-      one p within = by (part_at p core) refl (stays p (core.state.current + 1) (place_at_close core.state core.limits.partitions many allowed p within) (omega arith))
+      one p within =
+          by (part_at p core) refl (stays p (core.state.current + 1) (place_at_close core.state core.limits.partitions many allowed p within) (omega arith))
         where
-          by : (part : Option (PartState V M)) → part_at p core ≡ part → IsSome part → stats_here part ≡ stats_at job core.graph core.limits.partitions p (core.state.current + 1) ∷ []
+          by : (part : Option (PartState V M)) → part_at p core ≡ part → IsSome part
+              → stats_here part ≡ stats_at job core.graph core.limits.partitions p (core.state.current + 1) ∷ []
           by None at some = absurd (true≢false (sym some))
           by (Some part) at some = stats_here_are job kept core.graph core.limits.partitions p (core.state.current + 1) part
-              (subst (λ place. HoldsAt job kept core.graph core.limits.partitions p place part) (place_at_close core.state core.limits.partitions many allowed p within) (right.parts p part at))
+              (subst (λ place. HoldsAt job kept core.graph core.limits.partitions p place part)
+              (place_at_close core.state core.limits.partitions many allowed p within) (right.parts p part at))

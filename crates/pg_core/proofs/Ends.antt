@@ -32,9 +32,12 @@ use Rattle.pg_stats.proofs.LawsStats.{are_stats_after}
 
 -- ---- what is so of every run
 
-module _ {V M : Type 0} (limits : Limits) (declared : Declared) (registered registry : Registered) (state : State) (history : List Event) (parts : List (Option (PartState V M))) (shown : List Visible) (tally : Tally) (lawful : IsLawful limits declared registered registry state history parts shown tally) where
+module _ {V M : Type 0} (limits : Limits) (declared : Declared) (registered registry : Registered) (state : State) (history : List Event)
+    (parts : List (Option (PartState V M))) (shown : List Visible) (tally : Tally)
+    (lawful : IsLawful limits declared registered registry state history parts shown tally) where
   -- something was shown that isn't taken in yet
-  pub IsLawful-shown : (visible : Visible) → length visible.values ≡ length registered → IsLawful limits declared registered registry state history parts (shown ++ visible ∷ []) tally
+  pub IsLawful-shown : (visible : Visible) → length visible.values ≡ length registered
+      → IsLawful limits declared registered registry state history parts (shown ++ visible ∷ []) tally
   IsLawful-shown visible places = record {
     registry_is = lawful.registry_is;
     few = lawful.few;
@@ -57,7 +60,11 @@ module _ {V M : Type 0} (limits : Limits) (declared : Declared) (registered regi
       declared_are = lawful.declared_are;
       events = Reaches-push (first_state limits.partitions limits.workers) state history (Close Ended) lawful.events allowed;
       each = lawful.each;
-      here = λ p part at. let before = lawful.here p part at in record { partition_is = before.partition_is; partitions_are = before.partitions_are; place_is = before.place_is };
+      here = λ p part at. let before = lawful.here p part at in record {
+        partition_is = before.partition_is;
+        partitions_are = before.partitions_are;
+        place_is = before.place_is;
+      };
       stays = lawful.stays;
       within = lawful.within;
       shown_so_far = lawful.shown_so_far;
@@ -65,14 +72,19 @@ module _ {V M : Type 0} (limits : Limits) (declared : Declared) (registered regi
       gathered_places = places;
     }
 
-    pub IsLawful-next : state.current + 1 < limits.limit → state.current + 1 < length shown → IsLawful limits declared registered registry (after state (Close Next)) (history ++ Close Next ∷ []) parts shown counted
+    pub IsLawful-next : state.current + 1 < limits.limit → state.current + 1 < length shown
+        → IsLawful limits declared registered registry (after state (Close Next)) (history ++ Close Next ∷ []) parts shown counted
     IsLawful-next less more = record {
       registry_is = lawful.registry_is;
       few = lawful.few;
       declared_are = lawful.declared_are;
       events = Reaches-push (first_state limits.partitions limits.workers) state history (Close Next) lawful.events allowed;
       each = lawful.each;
-      here = λ p part at. let before = lawful.here p part at in record { partition_is = before.partition_is; partitions_are = before.partitions_are; place_is = before.place_is };
+      here = λ p part at. let before = lawful.here p part at in record {
+        partition_is = before.partition_is;
+        partitions_are = before.partitions_are;
+        place_is = before.place_is;
+      };
       stays = λ p r at past. lawful.stays p r at (omega (arith, past));
       within = less;
       shown_so_far = more;
@@ -87,7 +99,9 @@ pub not_ended : (state : State) (event : Event) → is_allowed state event ≡ t
 not_ended state event allowed = not-true _ (and_parts _ _ allowed).0
 
 module _ {P C A V M : Type 0} (job : Job V M) (kept : Option Rows) (core : Progress P C A V M) (right : IsRight job kept core) where
-  pub IsRight-end : (ending : Ending) (tally : Tally) → core.state.current + 1 ≡ run_length job core.graph → ending_after job core.graph core.state.current ≡ Some ending → tally ≡ tally_at job core.graph (core.state.current + 1) → IsRight job kept (with_end ending tally core)
+  pub IsRight-end : (ending : Ending) (tally : Tally) → core.state.current + 1 ≡ run_length job core.graph
+      → ending_after job core.graph core.state.current ≡ Some ending → tally ≡ tally_at job core.graph (core.state.current + 1)
+      → IsRight job kept (with_end ending tally core)
   IsRight-end ending tally last ends counts = record {
     within = right.within;
     parts = right.parts;
@@ -100,7 +114,8 @@ module _ {P C A V M : Type 0} (job : Job V M) (kept : Option Rows) (core : Progr
   }
 
   pub IsRight-next : (visible : Visible) (tally : Tally) → core.state.ended ≡ false → core.state.current + 1 < run_length job core.graph
-      → visible ≡ visible_at job core.graph (core.state.current + 1) → tally ≡ tally_at job core.graph (core.state.current + 1) → IsRight job kept (with_next visible tally core)
+      → visible ≡ visible_at job core.graph (core.state.current + 1) → tally ≡ tally_at job core.graph (core.state.current + 1)
+      → IsRight job kept (with_next visible tally core)
   IsRight-next visible tally on within shows counts =
       let s : ℕ = core.state.current + 1 in
       let none : 0 + s ≡ s = omega arith in
@@ -108,18 +123,26 @@ module _ {P C A V M : Type 0} (job : Job V M) (kept : Option Rows) (core : Progr
         within = within;
         parts = right.parts;
         logs = record { sent = right.logs.sent; no_more = right.logs.no_more };
-        shown = ap (λ l. l ++ visible ∷ []) right.shown ∙ (ap (λ v. map (visible_at job core.graph) (range_with_len 0 s) ++ v ∷ []) shows ∙ sym (map-range_with_len_more (visible_at job core.graph) 0 s s none));
+        shown =
+            ap (λ l. l ++ visible ∷ []) right.shown
+            ∙ (ap (λ v. map (visible_at job core.graph) (range_with_len 0 s) ++ v ∷ []) shows
+            ∙ sym (map-range_with_len_more (visible_at job core.graph) 0 s s none));
         tally = counts ∙ ap (λ b. tally_at job core.graph (cond b (s + 1) s)) (sym on);
-        ending = right.ending ∙ (ap (λ b. cond b (ending_after job core.graph core.state.current) None) on ∙ sym (ap (λ b. cond b (ending_after job core.graph s) None) on));
+        ending =
+            right.ending
+            ∙ (ap (λ b. cond b (ending_after job core.graph core.state.current) None) on ∙ sym (ap (λ b. cond b (ending_after job core.graph s) None) on));
         at_end = λ ended. absurd (true≢false (sym ended ∙ on));
         beside = right.beside;
       }
 
 -- ---- what stats say
 
-module _ {V M : Type 0} (job : Job V M) (rows : Rows) (s : ℕ) (stats : GlobalStats) (are : AreStatsBetween (configuration job rows s) (configuration job rows (s + 1)) stats) where
+module _ {V M : Type 0} (job : Job V M) (rows : Rows) (s : ℕ) (stats : GlobalStats)
+    (are : AreStatsBetween (configuration job rows s) (configuration job rows (s + 1)) stats) where
   -- what the run has counted after superstep s
-  pub tally_next : (before counted : Tally) → before ≡ tally_at job rows s → counted.gathered ≡ stats.gathered → counted.sent ≡ capped (before.sent + stats.sent) → counted.dropped ≡ capped (before.dropped + stats.dropped) → counted ≡ tally_at job rows (s + 1)
+  pub tally_next : (before counted : Tally) → before ≡ tally_at job rows s → counted.gathered ≡ stats.gathered
+      → counted.sent ≡ capped (before.sent + stats.sent) → counted.dropped ≡ capped (before.dropped + stats.dropped)
+      → counted ≡ tally_at job rows (s + 1)
   tally_next before counted so_far gathered sent dropped = λ i. record {
     gathered = (gathered ∙ are.left.gathered) i;
     sent = (sent ∙ (ap (λ (t : Tally). capped (t.sent + stats.sent)) so_far ∙ are.sent)) i;
@@ -133,7 +156,8 @@ module _ {V M : Type 0} (job : Job V M) (rows : Rows) (s : ℕ) (stats : GlobalS
   -- whether the run ends with superstep s
   pub ending_next : (halt : Bool) (supersteps limit : ℕ) → halt ≡ (visible_at job rows s).halt → supersteps ≡ s + 1 → limit ≡ job.limit
       → cond halt (Some MasterHalted) (cond stats.is_idle (Some Finished) (cond (supersteps == limit) (Some LimitReached) None)) ≡ ending_after job rows s
-  ending_next halt supersteps limit halts many most = λ i. cond (halts i) (Some MasterHalted) (cond (are.left.idle i) (Some Finished) (cond (many i == most i) (Some LimitReached) None))
+  ending_next halt supersteps limit halts many most =
+      λ i. cond (halts i) (Some MasterHalted) (cond (are.left.idle i) (Some Finished) (cond (many i == most i) (Some LimitReached) None))
 
 -- what all partitions have come to after superstep s, together, is what that superstep came to
 pub stats_between : {V M : Type 0} (job : Job V M) (rows : Rows) (n : ℕ) → 0 < n → (registered : Registered) → job.aggregators ≡ aggregators_of registered

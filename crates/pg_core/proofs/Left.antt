@@ -25,9 +25,17 @@ use Rattle.pg_core.proofs.Putting.{slice_get_before, slice_get_pushed}
 -- ---- the answer
 
 module _ {V M : Type 0} (job : Job V M) (rows : Rows) (s : ℕ) (last : s + 1 ≡ run_length job rows) where
-  pub answer_is : (values : List (ℕ × V)) (tally : Tally) (ending : Ending) (supersteps : ℕ) → values ≡ values_of job rows (configuration job rows (s + 1)) → tally ≡ tally_at job rows (s + 1)
+  pub answer_is : (values : List (ℕ × V)) (tally : Tally) (ending : Ending) (supersteps : ℕ)
+      → values ≡ values_of job rows (configuration job rows (s + 1)) → tally ≡ tally_at job rows (s + 1)
       → ending ≡ unwrap_or (ending_after job rows s) LimitReached → supersteps ≡ s + 1
-      → record { values = values; aggregates = tally.gathered; ending = ending; supersteps = supersteps; sent = tally.sent; dropped = tally.dropped } ≡ answer job rows
+      → record {
+        values = values;
+        aggregates = tally.gathered;
+        ending = ending;
+        supersteps = supersteps;
+        sent = tally.sent;
+        dropped = tally.dropped;
+      } ≡ answer job rows
   unfolding answer
   answer_is values tally ending supersteps are counts ends many =
       let before : s ≡ run_length job rows - 1 = omega (arith, last) in
@@ -50,20 +58,24 @@ get_or_at (y ∷ xs) ys x d = get_or_at xs ys x d
 
 module _ {V M : Type 0} (s : ℕ) (parts : List (Option (PartState V M))) where
   -- one part more has left this
-  pub left_more : (before after : List (LeftOf V M)) (left : LeftOf V M) (part : PartState V M) (k : ℕ) → length before ≡ k → get_or parts k None ≡ Some part → HaveLeft s parts k before → after ≡ before ++ left ∷ []
-      → ((job : Job V M) (kept : Option Rows) (rows : Rows) (n p : ℕ) → s ≡ run_length job rows → HoldsShare job kept rows n p s part → IsLeft job rows n p left) → HaveLeft s parts (k + 1) after
+  pub left_more : (before after : List (LeftOf V M)) (left : LeftOf V M) (part : PartState V M) (k : ℕ) → length before ≡ k
+      → get_or parts k None ≡ Some part → HaveLeft s parts k before → after ≡ before ++ left ∷ []
+      → ((job : Job V M) (kept : Option Rows) (rows : Rows) (n p : ℕ) → s ≡ run_length job rows → HoldsShare job kept rows n p s part
+      → IsLeft job rows n p left) → HaveLeft s parts (k + 1) after
   left_more before after left part k many at so_far pushed leaves job kept rows n ends held p within =
       subst (λ (l : List (LeftOf V M)). HasLeft job rows n p (slice_get l p)) (sym pushed)
       (elim (eq-or-lt_of_le (let le : p ≤ k = omega (arith, within) in le)) [
         | inl same ↦ subst (λ (q : ℕ). HasLeft job rows n q (slice_get (before ++ left ∷ []) q)) (sym same)
             (subst (HasLeft job rows n k) (sym (ap (slice_get (before ++ left ∷ [])) (sym many) ∙ slice_get_pushed before left))
-            (leaves job kept rows n k ends (subst (λ (r : ℕ). HoldsShare job kept rows n k r part) (sym ends) (subst (HasEnded job kept rows n k) at (held k (omega arith))))))
+            (leaves job kept rows n k ends
+            (subst (λ (r : ℕ). HoldsShare job kept rows n k r part) (sym ends) (subst (HasEnded job kept rows n k) at (held k (omega arith))))))
         | inr less ↦ subst (HasLeft job rows n p) (sym (slice_get_before before left p (omega (arith, less, many))))
             (so_far job kept rows n ends (λ q inside. held q (omega (arith, inside))) p less)
       ])
 
 -- how the kept run ended, of what is kept of it
-pub keeps_end : {V M : Type 0} (job : Job V M) (old : Option Rows) (n : ℕ) (common : Option (Common V M)) → KeepsCommon job old n common → KeepsEnd job old (option_map ended_by common)
+pub keeps_end : {V M : Type 0} (job : Job V M) (old : Option Rows) (n : ℕ) (common : Option (Common V M)) → KeepsCommon job old n common
+    → KeepsEnd job old (option_map ended_by common)
 keeps_end job None n common none = ap (option_map ended_by) none
 keeps_end job (Some rows) n None keeps = absurd keeps
 keeps_end job (Some rows) n (Some common) keeps = record {
@@ -73,11 +85,15 @@ keeps_end job (Some rows) n (Some common) keeps = record {
 
 -- ---- a core that has ended
 
-bundle_in-sent : {V M : Type 0} (job : Job V M) (kept : Option Rows) (rows : Rows) (n p q s : ℕ) (slot : Option (Logged M)) → IsSentTo job kept rows n p q s slot → bundle_in slot ≡ Some (bundle_sent job rows n p q s)
+bundle_in-sent : {V M : Type 0} (job : Job V M) (kept : Option Rows) (rows : Rows) (n p q s : ℕ) (slot : Option (Logged M))
+    → IsSentTo job kept rows n p q s slot → bundle_in slot ≡ Some (bundle_sent job rows n p q s)
 bundle_in-sent job kept rows n p q s None h = absurd h
 bundle_in-sent job kept rows n p q s (Some logged) h = ap Some h.0
 
-module _ {P C A V M : Type 0} (job : Job V M) (kept : Option Rows) (core : Progress P C A V M) (right : IsRight job kept core) (ended : core.state.ended ≡ true) (places : (p : ℕ) → p < core.limits.partitions → place_at p core.state ≡ Some (core.state.current + 1)) (here : (p : ℕ) → p < core.limits.partitions → IsSome (part_at p core)) (each : length core.parts ≡ core.limits.partitions) where
+module _ {P C A V M : Type 0} (job : Job V M) (kept : Option Rows) (core : Progress P C A V M) (right : IsRight job kept core)
+    (ended : core.state.ended ≡ true)
+    (places : (p : ℕ) → p < core.limits.partitions → place_at p core.state ≡ Some (core.state.current + 1))
+    (here : (p : ℕ) → p < core.limits.partitions → IsSome (part_at p core)) (each : length core.parts ≡ core.limits.partitions) where
   abbrev end : ℕ
   end = core.state.current + 1
 
@@ -113,9 +129,11 @@ module _ {P C A V M : Type 0} (job : Job V M) (kept : Option Rows) (core : Progr
   have_all_ended some = record { parts_are = have_ended; some = some; last = last }
 
   -- so what they left is what the run leaves
-  pub left_as : (lefts : List (LeftOf V M)) (graph : Rows) (logs : Slots M) (shown : List Visible) (values : List (ℕ × V)) → length lefts ≡ core.limits.partitions → HaveLeft end core.parts core.limits.partitions lefts
+  pub left_as : (lefts : List (LeftOf V M)) (graph : Rows) (logs : Slots M) (shown : List Visible) (values : List (ℕ × V))
+      → length lefts ≡ core.limits.partitions → HaveLeft end core.parts core.limits.partitions lefts
       → graph ≡ core.graph → logs ≡ core.logs → shown ≡ core.shown → values ≡ values_of job core.graph (configuration job core.graph end)
-      → IsLeftBy job core.graph core.limits.partitions (record { lefts = lefts; graph = graph; common = record { logs = logs; shown = shown; values = values } })
+      → IsLeftBy job core.graph core.limits.partitions
+      (record { lefts = lefts; graph = graph; common = record { logs = logs; shown = shown; values = values } })
   left_as lefts graph logs shown values many left graph_is same shows are = record {
     each = many;
     whole = left job kept core.graph core.limits.partitions last have_ended;

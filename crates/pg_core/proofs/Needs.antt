@@ -19,24 +19,34 @@ use Rattle.pg_model.proofs.LawsShares.{needed_in_shares}
 sum_same : (f g : ℕ → ℕ) (a n : ℕ) → ((k : ℕ) → a ≤ k → k < a + n → f k ≡ g k) → sum_by f (range_with_len a n) ≡ sum_by g (range_with_len a n)
 sum_same f g a zero same = refl
 sum_same f g a (suc n) same =
-    omega (arith, sum_by-cons f a (range_with_len (a + 1) n), sum_by-cons g a (range_with_len (a + 1) n), same a (omega arith) (omega arith), sum_same f g (a + 1) n (λ k from within. same k (omega (arith, from)) (omega (arith, within))))
+    omega (
+      arith,
+      sum_by-cons f a (range_with_len (a + 1) n),
+      sum_by-cons g a (range_with_len (a + 1) n),
+      same a (omega arith)
+          (omega arith),
+      sum_same f g (a + 1) n (λ k from within. same k (omega (arith, from)) (omega (arith, within))),
+    )
 
 sum_none : (a n : ℕ) → sum_by (λ (k : ℕ). 0) (range_with_len a n) ≡ 0
 sum_none a zero = refl
 sum_none a (suc n) = omega (arith, sum_by-cons (λ (k : ℕ). 0) a (range_with_len (a + 1) n), sum_none (a + 1) n)
 
 -- where the terms of one number alone differ
-sum_changed : (f g : ℕ → ℕ) (a n p d : ℕ) → a ≤ p → p < a + n → f p ≡ d + g p → ((q : ℕ) → q ≢ p → f q ≡ g q) → sum_by f (range_with_len a n) ≡ d + sum_by g (range_with_len a n)
+sum_changed : (f g : ℕ → ℕ) (a n p d : ℕ) → a ≤ p → p < a + n → f p ≡ d + g p → ((q : ℕ) → q ≢ p → f q ≡ g q)
+    → sum_by f (range_with_len a n) ≡ d + sum_by g (range_with_len a n)
 sum_changed f g a zero p d from within at same = absurd (omega (arith, from, within))
 sum_changed f g a (suc n) p d from within at same =
     elim (cases_eq a p) [
       | inl is ↦ (
-          let rest : sum_by f (range_with_len (a + 1) n) ≡ sum_by g (range_with_len (a + 1) n) = sum_same f g (a + 1) n (λ k past below. same k (λ e. omega (arith, e, past, is))) in
+          let rest : sum_by f (range_with_len (a + 1) n) ≡ sum_by g (range_with_len (a + 1) n) =
+          sum_same f g (a + 1) n (λ k past below. same k (λ e. omega (arith, e, past, is))) in
           let here : f a ≡ d + g a = subst (λ (k : ℕ). f k ≡ d + g k) (sym is) at in
           omega (arith, sum_by-cons f a (range_with_len (a + 1) n), sum_by-cons g a (range_with_len (a + 1) n), rest, here)
           )
       | inr apart ↦ (
-          let rest : sum_by f (range_with_len (a + 1) n) ≡ d + sum_by g (range_with_len (a + 1) n) = sum_changed f g (a + 1) n p d (omega (arith, from, apart)) (omega (arith, within)) at same in
+          let rest : sum_by f (range_with_len (a + 1) n) ≡ d + sum_by g (range_with_len (a + 1) n) =
+          sum_changed f g (a + 1) n p d (omega (arith, from, apart)) (omega (arith, within)) at same in
           let here : f a ≡ g a = same a apart in
           omega (arith, sum_by-cons f a (range_with_len (a + 1) n), sum_by-cons g a (range_with_len (a + 1) n), rest, here)
           )
@@ -67,36 +77,47 @@ module _ {V M : Type 0} (value_eq : V → V → Bool) (message_eq : M → M → 
   still_step state p r within at less =
       let left : ℕ = run_length job rows - (r + 1) in
       let many : run_length job rows - r ≡ suc left = omega (arith, less) in
-      let split : still_needed_of value_eq message_eq job kept rows n p (Some r) ≡ one p r + still_needed_of value_eq message_eq job kept rows n p (Some (r + 1)) =
+      let split : still_needed_of value_eq message_eq job kept rows n p
+      (Some r) ≡ one p r + still_needed_of value_eq message_eq job kept rows n p (Some (r + 1)) =
       ap (needed_from value_eq message_eq job kept rows n p r) many ∙ sum_by-cons (one p) r (range_with_len (r + 1) left) in
-      sum_changed (λ q. still_needed_of value_eq message_eq job kept rows n q (place_at q state)) (λ q. still_needed_of value_eq message_eq job kept rows n q (place_at q (after state (Step p)))) 0 n p (one p r) (omega arith) (omega (arith, within))
+      sum_changed (λ q. still_needed_of value_eq message_eq job kept rows n q (place_at q state))
+      (λ q. still_needed_of value_eq message_eq job kept rows n q (place_at q (after state (Step p)))) 0 n p (one p r) (omega arith)
+      (omega (arith, within))
       (ap (still_needed_of value_eq message_eq job kept rows n p) at
       ∙ (split ∙ ap (λ place. one p r + still_needed_of value_eq message_eq job kept rows n p place) (sym (place_after_own state p r at))))
       (λ q apart. ap (still_needed_of value_eq message_eq job kept rows n q) (sym (place_after_other state p q apart)))
 
   -- none is where all partitions are at the end
-  pub still_none : (state : State) → ((p : ℕ) → p < n → place_at p state ≡ Some (run_length job rows)) → still_needed value_eq message_eq job kept rows n state ≡ 0
+  pub still_none : (state : State) → ((p : ℕ) → p < n → place_at p state ≡ Some (run_length job rows))
+      → still_needed value_eq message_eq job kept rows n state ≡ 0
   still_none state places =
       let all : run_length job rows - run_length job rows ≡ 0 = omega arith in
       sum_same (λ p. still_needed_of value_eq message_eq job kept rows n p (place_at p state)) (λ (p : ℕ). 0) 0 n
-      (λ p from within. ap (still_needed_of value_eq message_eq job kept rows n p) (places p (omega (arith, within))) ∙ ap (needed_from value_eq message_eq job kept rows n p (run_length job rows)) all)
+      (λ p from within. ap (still_needed_of value_eq message_eq job kept rows n p) (places p (omega (arith, within)))
+      ∙ ap (needed_from value_eq message_eq job kept rows n p (run_length job rows)) all)
       ∙ sum_none 0 n
 
   module _ (some : 0 < n) where
     -- what the partitions need in the first supersteps is what the run needs there
-    needed_by_shares : (s : ℕ) → sum_by (λ p. needed_from value_eq message_eq job kept rows n p 0 s) (range_with_len 0 n) ≡ needed_below value_eq message_eq job kept rows s
+    needed_by_shares : (s : ℕ)
+        → sum_by (λ p. needed_from value_eq message_eq job kept rows n p 0 s) (range_with_len 0 n) ≡ needed_below value_eq message_eq job kept rows s
     unfolding needed_below
     needed_by_shares zero = sum_none 0 n
     needed_by_shares (suc s) =
         let none : 0 + s ≡ s = omega arith in
-        sum_same (λ p. needed_from value_eq message_eq job kept rows n p 0 (suc s)) (λ p. needed_from value_eq message_eq job kept rows n p 0 s + one p s) 0 n (λ p from within. sum_more (one p) 0 s ∙ ap (λ (k : ℕ). needed_from value_eq message_eq job kept rows n p 0 s + one p k) none)
+        sum_same (λ p. needed_from value_eq message_eq job kept rows n p 0 (suc s))
+        (λ p. needed_from value_eq message_eq job kept rows n p 0 s + one p s) 0 n
+        (λ p from within. sum_more (one p) 0 s ∙ ap (λ (k : ℕ). needed_from value_eq message_eq job kept rows n p 0 s + one p k) none)
         ∙ (sum_of_sums (λ p. needed_from value_eq message_eq job kept rows n p 0 s) (λ p. one p s) (range_with_len 0 n)
         ∙ ap₂ ◌+◌ (needed_by_shares s) (needed_in_shares job rows n some value_eq message_eq kept s))
 
     -- all that the run needs is where all partitions are at the first superstep
-    pub still_all : (state : State) → ((p : ℕ) → p < n → place_at p state ≡ Some 0) → still_needed value_eq message_eq job kept rows n state ≡ needed_count value_eq message_eq job kept rows
+    pub still_all : (state : State) → ((p : ℕ) → p < n → place_at p state ≡ Some 0)
+        → still_needed value_eq message_eq job kept rows n state ≡ needed_count value_eq message_eq job kept rows
     still_all state places =
         let all : run_length job rows - 0 ≡ run_length job rows = omega arith in
-        sum_same (λ p. still_needed_of value_eq message_eq job kept rows n p (place_at p state)) (λ p. needed_from value_eq message_eq job kept rows n p 0 (run_length job rows)) 0 n
-        (λ p from within. ap (still_needed_of value_eq message_eq job kept rows n p) (places p (omega (arith, within))) ∙ ap (needed_from value_eq message_eq job kept rows n p 0) all)
+        sum_same (λ p. still_needed_of value_eq message_eq job kept rows n p (place_at p state))
+        (λ p. needed_from value_eq message_eq job kept rows n p 0 (run_length job rows)) 0 n
+        (λ p from within. ap (still_needed_of value_eq message_eq job kept rows n p) (places p (omega (arith, within)))
+        ∙ ap (needed_from value_eq message_eq job kept rows n p 0) all)
         ∙ needed_by_shares (run_length job rows)

@@ -104,7 +104,8 @@ module _ {P C A V M : Type 0} where
   }
 
   -- where all parts are here, all partitions are at the first superstep or past it
-  pub past_first : (core : Progress P C A V M) → core.state.ended ≡ false → ((q : ℕ) → q < core.limits.partitions → IsSome (part_at q core)) → ((q : ℕ) (part : PartState V M) → part_at q core ≡ Some part → IsPartAt core.limits.partitions core.state q part) → ArePast 0 0 core
+  pub past_first : (core : Progress P C A V M) → core.state.ended ≡ false → ((q : ℕ) → q < core.limits.partitions → IsSome (part_at q core))
+      → ((q : ℕ) (part : PartState V M) → part_at q core ≡ Some part → IsPartAt core.limits.partitions core.state q part) → ArePast 0 0 core
   past_first core on here at = record {
     goes_on = on;
     open_or_before = omega arith;
@@ -146,19 +147,22 @@ module _ {P C A V M : Type 0} where
     }
 
     -- and so is one that made its step
-    pub past_step : (new : Progress P C A V M) → HasMadeStep p core new → length core.parts ≡ core.limits.partitions → p < core.limits.partitions → place_at p core.state ≡ Some s → ArePast s (p + 1) new
+    pub past_step : (new : Progress P C A V M) → HasMadeStep p core new → length core.parts ≡ core.limits.partitions
+        → p < core.limits.partitions → place_at p core.state ≡ Some s → ArePast s (p + 1) new
     past_step new made each within at =
         let inside : p < length core.parts = omega (arith, within, each) in
         subst (ArePast s (p + 1)) (sym made.core_is) (record {
           goes_on = are.goes_on;
           open_or_before = are.open_or_before;
           here = λ q mine. elim (cases_eq q p) [
-            | inl same ↦ ap (λ (q : ℕ). is_some (get_or (set core.parts p (Some made.part)) q None)) same ∙ ap is_some (get_or-set_same core.parts p (Some made.part) None inside)
+            | inl same ↦ ap (λ (q : ℕ). is_some (get_or (set core.parts p (Some made.part)) q None)) same
+                ∙ ap is_some (get_or-set_same core.parts p (Some made.part) None inside)
             | inr other ↦ ap is_some (get_or-set_other core.parts p q (Some made.part) None other) ∙ are.here q mine
           ];
           past = λ q mine. elim (cases_eq q p) [
             | inl same ↦ raise_if (nat_lt q (p + 1)) s (place_at q (after core.state (Step p)))
-                (ap (is_from (s + 1)) (ap (λ (q : ℕ). place_at q (after core.state (Step p))) same ∙ place_after_own core.state p s at) ∙ le-leb (s + 1) (s + 1) (omega arith))
+                (ap (is_from (s + 1)) (ap (λ (q : ℕ). place_at q (after core.state (Step p))) same ∙ place_after_own core.state p s at)
+                ∙ le-leb (s + 1) (s + 1) (omega arith))
             | inr other ↦ ap (is_from (cond (nat_lt q (p + 1)) (s + 1) s)) (place_after_other core.state p q other)
                 ∙ (ap (λ b. is_from (cond b (s + 1) s) (place_at q core.state)) (below_next q p other) ∙ are.past q mine)
           ];
@@ -182,7 +186,8 @@ module _ {P C A V M : Type 0} where
     }
 
     -- so the open superstep may be closed
-    pub may_close_now : core.state.current ≡ s → length core.state.places ≡ core.limits.partitions → AreNear core.state → is_allowed core.state (Close Next) ≡ true
+    pub may_close_now : core.state.current ≡ s → length core.state.places ≡ core.limits.partitions → AreNear core.state
+        → is_allowed core.state (Close Next) ≡ true
     may_close_now here many near =
         and_from _ _ (ap not are.goes_on)
         (list_all-from_AllPass (is_at (core.state.current + 1)) core.state.places
@@ -203,7 +208,8 @@ module _ {P C A V M : Type 0} where
 
 -- ---- a run that goes on
 
-module _ {P C A V M : Type 0} (program_of : P → Program V M) (combining_of : C → Option (Combining M)) (master_of : A → Master) (value_eq : V → V → Bool) (message_eq : M → M → Bool) where
+module _ {P C A V M : Type 0} (program_of : P → Program V M) (combining_of : C → Option (Combining M)) (master_of : A → Master)
+    (value_eq : V → V → Bool) (message_eq : M → M → Bool) where
   abbrev job_at : Progress P C A V M → Job V M
   job_at core = job_by program_of combining_of master_of core
 
@@ -225,43 +231,58 @@ module _ {P C A V M : Type 0} (program_of : P → Program V M) (combining_of : C
         same = IsSameRun-trans a b c first.same second.same;
         right = λ kept right. next.right kept (first.right kept right);
         counted = λ kept right.
-            subst₂ (λ (rows : Rows) (n : ℕ). capped (z + still_needed value_eq message_eq (job_at a) kept rows n c.state) ≡ capped (y + still_needed value_eq message_eq (job_at a) kept rows n b.state))
+            subst₂ (λ (rows : Rows) (n : ℕ). capped (z + still_needed value_eq message_eq (job_at a) kept rows n c.state) ≡ capped
+            (y + still_needed value_eq message_eq (job_at a) kept rows n b.state))
             first.same.graph_is (ap (λ l. l.partitions) first.same.limits_are) (next.counted kept (first.right kept right))
             ∙ first.counted kept right;
       }
 
-  pub goes_by_step : (a b : Progress P C A V M) (p r x y : ℕ) → HasMadeStep p a b → p < a.limits.partitions → place_at p a.state ≡ Some r → r ≤ a.state.current → ((kept : Option Rows) → IsRight (job_at a) kept a → IsRight (job_at a) kept b)
-      → ((kept : Option Rows) (r : ℕ) → IsRight (job_at a) kept a → place_at p a.state ≡ Some r → y ≡ capped (x + needed_in value_eq message_eq (job_at a) kept a.graph (belongs a.limits.partitions p) r)) → Goes a b x y
+  pub goes_by_step : (a b : Progress P C A V M) (p r x y : ℕ) → HasMadeStep p a b → p < a.limits.partitions → place_at p a.state ≡ Some r
+      → r ≤ a.state.current → ((kept : Option Rows) → IsRight (job_at a) kept a → IsRight (job_at a) kept b)
+      → ((kept : Option Rows) (r : ℕ) → IsRight (job_at a) kept a → place_at p a.state ≡ Some r → y ≡ capped
+      (x + needed_in value_eq message_eq (job_at a) kept a.graph (belongs a.limits.partitions p) r)) → Goes a b x y
   goes_by_step a b p r x y made within at reached right counts = record {
     same = same_by_step p a b made;
     right = right;
     counted = λ kept is_right.
         ap (λ (s : State). capped (y + still_needed value_eq message_eq (job_at a) kept a.graph a.limits.partitions s)) (ap (λ core. core.state) made.core_is)
         ∙ counts_on x (needed_in value_eq message_eq (job_at a) kept a.graph (belongs a.limits.partitions p) r)
-        (still_needed value_eq message_eq (job_at a) kept a.graph a.limits.partitions (after a.state (Step p))) y (still_needed value_eq message_eq (job_at a) kept a.graph a.limits.partitions a.state)
+        (still_needed value_eq message_eq (job_at a) kept a.graph a.limits.partitions (after a.state (Step p))) y
+        (still_needed value_eq message_eq (job_at a) kept a.graph a.limits.partitions a.state)
         (counts kept r is_right at)
         (still_step value_eq message_eq (job_at a) kept a.graph a.limits.partitions a.state p r within at (omega (arith, reached, is_right.within)));
   }
 
-  pub goes_by_close : (closed : Closed) (a b : Progress P C A V M) (x : ℕ) → HasClosed closed a b → ((kept : Option Rows) → IsRight (job_at a) kept a → ClosesRight (job_at a) kept closed a b) → Goes a b x x
+  pub goes_by_close : (closed : Closed) (a b : Progress P C A V M) (x : ℕ) → HasClosed closed a b
+      → ((kept : Option Rows) → IsRight (job_at a) kept a → ClosesRight (job_at a) kept closed a b) → Goes a b x x
   goes_by_close closed a b x has closes = record {
     same = same_by_close closed a b has;
     right = λ kept right. (closes kept right).right;
-    counted = λ kept right. ap (λ (s : State). capped (x + still_needed value_eq message_eq (job_at a) kept a.graph a.limits.partitions s)) (ap (λ core. core.state) has.core_is) ∙ unmoved closed kept;
+    counted =
+        λ kept right. ap (λ (s : State). capped (x + still_needed value_eq message_eq (job_at a) kept a.graph a.limits.partitions s))
+        (ap (λ core. core.state) has.core_is)
+        ∙ unmoved closed kept;
   }
     where
-      unmoved : (closed : Closed) (kept : Option Rows) → capped (x + still_needed value_eq message_eq (job_at a) kept a.graph a.limits.partitions (after a.state (Close closed))) ≡ capped (x + still_needed value_eq message_eq (job_at a) kept a.graph a.limits.partitions a.state)
+      unmoved : (closed : Closed) (kept : Option Rows)
+          → capped (x + still_needed value_eq message_eq (job_at a) kept a.graph a.limits.partitions (after a.state (Close closed))) ≡ capped (x + still_needed value_eq message_eq (job_at a) kept a.graph a.limits.partitions a.state)
       unmoved Next kept = refl
       unmoved Ended kept = refl
 
   -- what was counted once the run has ended
-  module _ (a b : Progress P C A V M) (x y : ℕ) (goes : Goes a b x y) (ended : b.state.ended ≡ true) (places : (p : ℕ) → p < b.limits.partitions → place_at p b.state ≡ Some (b.state.current + 1)) (fits : y ≡ capped y) (kept : Option Rows) (right : IsRight (job_at a) kept a) where
+  module _ (a b : Progress P C A V M) (x y : ℕ) (goes : Goes a b x y) (ended : b.state.ended ≡ true)
+      (places : (p : ℕ) → p < b.limits.partitions → place_at p b.state ≡ Some (b.state.current + 1)) (fits : y ≡ capped y)
+      (kept : Option Rows) (right : IsRight (job_at a) kept a) where
     pub counted_at_end : y ≡ capped (x + still_needed value_eq message_eq (job_at a) kept a.graph a.limits.partitions a.state)
     counted_at_end =
         let same_many : b.limits.partitions ≡ a.limits.partitions = ap (λ l. l.partitions) goes.same.limits_are in
         let last : b.state.current + 1 ≡ run_length (job_at a) a.graph = (goes.right kept right).at_end ended ∙ ap (run_length (job_at a)) goes.same.graph_is in
-        let none = still_none value_eq message_eq (job_at a) kept a.graph a.limits.partitions b.state (λ p within. places p (omega (arith, within, same_many)) ∙ ap Some last) in
+        let none =
+        still_none value_eq message_eq (job_at a) kept a.graph a.limits.partitions b.state
+        (λ p within. places p (omega (arith, within, same_many)) ∙ ap Some last) in
         ends_counted x y _ _ (goes.counted kept right) none fits
 
-    pub counted_from_first : 0 < a.limits.partitions → ((p : ℕ) → p < a.limits.partitions → place_at p a.state ≡ Some 0) → y ≡ capped (x + needed_count value_eq message_eq (job_at a) kept a.graph)
-    counted_from_first some first = counted_at_end ∙ ap (λ (k : ℕ). capped (x + k)) (still_all value_eq message_eq (job_at a) kept a.graph a.limits.partitions some a.state first)
+    pub counted_from_first : 0 < a.limits.partitions → ((p : ℕ) → p < a.limits.partitions → place_at p a.state ≡ Some 0)
+        → y ≡ capped (x + needed_count value_eq message_eq (job_at a) kept a.graph)
+    counted_from_first some first =
+        counted_at_end ∙ ap (λ (k : ℕ). capped (x + k)) (still_all value_eq message_eq (job_at a) kept a.graph a.limits.partitions some a.state first)

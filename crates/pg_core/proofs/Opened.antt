@@ -31,7 +31,8 @@ module _ {V M : Type 0} (job : Job V M) (rows : Rows) where
   unfolding configuration first
   visible_first gathered are =
       let standings = map (beginning job.program) rows in
-      let totals : record { vertices = length rows; edges = capped (edge_count rows) } ≡ record { vertices = length standings; edges = capped (edges_of standings) } =
+      let totals : record { vertices = length rows; edges = capped (edge_count rows) } ≡ record { vertices = length standings; edges = capped
+          (edges_of standings) } =
       (λ i. record { vertices = sym (length-map rows (beginning job.program)) i; edges = capped (sym (beginning-edges job.program rows) i) }) in
       (λ i. visible_in job.deciding (totals i) 0 (are i))
 
@@ -41,8 +42,11 @@ module _ {V M : Type 0} (job : Job V M) (rows : Rows) where
   tally_first tally is = is
 
 -- a part that is among those that have begun
-module _ {V M : Type 0} (program : Program V M) (master : Master) (combining : Option (Combining M)) (limits : Limits) (rows : Rows) (parts : List (Option (PartState V M))) (each : length parts ≡ limits.partitions) (old : Option Rows) (begun : (p : ℕ) → p < limits.partitions → HasBegun (job_of program combining master limits.missing limits.limit) old rows limits.partitions p (get_or parts p None)) where
-  begun_part : (p : ℕ) (part : PartState V M) → get_or parts p None ≡ Some part → HoldsShare (job_of program combining master limits.missing limits.limit) old rows limits.partitions p 0 part
+module _ {V M : Type 0} (program : Program V M) (master : Master) (combining : Option (Combining M)) (limits : Limits) (rows : Rows)
+    (parts : List (Option (PartState V M))) (each : length parts ≡ limits.partitions) (old : Option Rows)
+    (begun : (p : ℕ) → p < limits.partitions → HasBegun (job_of program combining master limits.missing limits.limit) old rows limits.partitions p (get_or parts p None)) where
+  begun_part : (p : ℕ) (part : PartState V M) → get_or parts p None ≡ Some part
+      → HoldsShare (job_of program combining master limits.missing limits.limit) old rows limits.partitions p 0 part
   begun_part p part is =
       let within : p < limits.partitions = subst (λ (n : ℕ). p < n) each (some_within parts p part is) in
       subst (HasBegun (job_of program combining master limits.missing limits.limit) old rows limits.partitions p) is (begun p within)
@@ -51,17 +55,20 @@ module _ {V M : Type 0} (program : Program V M) (master : Master) (combining : O
   pub begun_are_here : (p : ℕ) → p < limits.partitions → IsSome (get_or parts p None)
   begun_are_here p within = by (get_or parts p None) (begun p within)
     where
-      by : (part : Option (PartState V M)) → HasBegun (job_of program combining master limits.missing limits.limit) old rows limits.partitions p part → is_some part ≡ true
+      by : (part : Option (PartState V M))
+          → HasBegun (job_of program combining master limits.missing limits.limit) old rows limits.partitions p part → is_some part ≡ true
       by None h = absurd h
       by (Some part) h = refl
 
   first_place : (p r : ℕ) → place_at p (first_state limits.partitions limits.workers) ≡ Some r → (p < limits.partitions) × (r ≡ 0)
   first_place p r at =
-      let within : p < limits.partitions = subst (λ (n : ℕ). p < n) (length-first limits.partitions limits.workers) (some_within (first_state limits.partitions limits.workers).places p r at) in
+      let within : p < limits.partitions =
+          subst (λ (n : ℕ). p < n) (length-first limits.partitions limits.workers) (some_within (first_state limits.partitions limits.workers).places p r at) in
       let zero_there : Some r ≡ Some 0 = sym at ∙ starts_at limits.partitions limits.workers p within in
       (within, cc)
 
-  pub IsLawful-opened : (start : Start) → HasStarted master rows limits start → is_registered program master ≡ true → IsLawful limits program.declared master.registrations start.registry start.state [] parts start.shown.items start.tally
+  pub IsLawful-opened : (start : Start) → HasStarted master rows limits start → is_registered program master ≡ true
+      → IsLawful limits program.declared master.registrations start.registry start.state [] parts start.shown.items start.tally
   IsLawful-opened start started registered =
       let n : ℕ = limits.partitions in
       let first : State = first_state n limits.workers in
@@ -85,9 +92,15 @@ module _ {V M : Type 0} (program : Program V M) (master : Master) (combining : O
         shown_places = started.places;
         gathered_places = ap (λ (t : Tally). length t.gathered) started.tally_is ∙ (length-map _ _ ∙ length-map _ _);
       } in
-      subst (λ (s : State). IsLawful limits program.declared master.registrations start.registry s [] parts start.shown.items start.tally) (sym started.state_is) lawful
+      subst (λ (s : State). IsLawful limits program.declared master.registrations start.registry s [] parts start.shown.items start.tally)
+          (sym started.state_is) lawful
 
-  pub IsRight-opened : {P C A : Type 0} (core : Progress P C A V M) → AreLimits limits → core.graph ≡ rows → core.limits ≡ limits → core.parts ≡ parts → core.state ≡ first_state limits.partitions limits.workers → ((s p q : ℕ) → slot_at core.logs s p q ≡ None) → core.shown ≡ shown_below (job_of program combining master limits.missing limits.limit) rows 1 → core.tally ≡ tally_at (job_of program combining master limits.missing limits.limit) rows 0 → core.ending ≡ None → KeepsCommon (job_of program combining master limits.missing limits.limit) old limits.partitions core.kept → IsRight (job_of program combining master limits.missing limits.limit) old core
+  pub IsRight-opened : {P C A : Type 0} (core : Progress P C A V M) → AreLimits limits → core.graph ≡ rows → core.limits ≡ limits
+      → core.parts ≡ parts → core.state ≡ first_state limits.partitions limits.workers → ((s p q : ℕ) → slot_at core.logs s p q ≡ None)
+      → core.shown ≡ shown_below (job_of program combining master limits.missing limits.limit) rows 1
+      → core.tally ≡ tally_at (job_of program combining master limits.missing limits.limit) rows 0 → core.ending ≡ None
+      → KeepsCommon (job_of program combining master limits.missing limits.limit) old limits.partitions core.kept
+      → IsRight (job_of program combining master limits.missing limits.limit) old core
   IsRight-opened {P} {C} {A} core are graph_is limits_are parts_are state_is empty shows counts goes_on keeps =
       let job : Job V M = job_of program combining master limits.missing limits.limit in
       let n : ℕ = limits.partitions in
@@ -113,21 +126,28 @@ module _ {V M : Type 0} (program : Program V M) (master : Master) (combining : O
       by_place s p (Some r) at past = let none = (first_place p r at).1 in let less : s < r = ltb-true s r past in omega (arith, none, less)
 
 -- a core that has just opened is of the job that it was opened with
-pub job_as_opened : {P C A V M : Type 0} (program_of : P → Program V M) (combining_of : C → Option (Combining M)) (master_of : A → Master) (core : Progress P C A V M) (program : P) (combiner : C) (master : A) (graph : Rows) (limits : Limits) (run : ℕ) → IsOpened core program combiner master graph limits run
+ pub job_as_opened : {P C A V M : Type 0} (program_of : P → Program V M) (combining_of : C → Option (Combining M)) (master_of : A → Master)
+    (core : Progress P C A V M) (program : P) (combiner : C) (master : A) (graph : Rows) (limits : Limits) (run : ℕ)
+    → IsOpened core program combiner master graph limits run
     → job_of (program_of program) (combining_of combiner) (master_of master) limits.missing limits.limit ≡ job_by program_of combining_of master_of core
 job_as_opened program_of combining_of master_of core program combiner master graph limits run opened = λ i.
     let l : Limits = sym opened.limits_are i in
     job_of (program_of (sym opened.program_is i)) (combining_of (sym opened.combiner_is i)) (master_of (sym opened.master_is i)) l.missing l.limit
 
-module _ {V M : Type 0} (program : Program V M) (combining : Option (Combining M)) (master : Master) (limits : Limits) (rows : Rows) (registered : Registered) (same : registered ≡ master.registrations) (parts : List (Option (PartState V M))) where
+module _ {V M : Type 0} (program : Program V M) (combining : Option (Combining M)) (master : Master) (limits : Limits) (rows : Rows)
+    (registered : Registered) (same : registered ≡ master.registrations) (parts : List (Option (PartState V M))) where
   -- all parts have begun the run of this job
-  pub have_begun : HaveBegun program limits.missing registered rows limits.partitions limits.partitions parts → (p : ℕ) → p < limits.partitions → HasBegun (job_of program combining master limits.missing limits.limit) None rows limits.partitions p (get_or parts p None)
+  pub have_begun : HaveBegun program limits.missing registered rows limits.partitions limits.partitions parts → (p : ℕ)
+      → p < limits.partitions
+      → HasBegun (job_of program combining master limits.missing limits.limit) None rows limits.partitions p (get_or parts p None)
   have_begun begun = begun (job_of program combining master limits.missing limits.limit) refl refl (ap aggregators_of (sym same))
 
   -- the same beside the run on the kept rows
-  pub have_begun_beside : (touched : List ℕ) (old : Traces V M) (kept : Rows) → HaveBegunBeside program limits.missing registered rows touched old.graph old.lefts limits.partitions limits.partitions parts
+  pub have_begun_beside : (touched : List ℕ) (old : Traces V M) (kept : Rows)
+      → HaveBegunBeside program limits.missing registered rows touched old.graph old.lefts limits.partitions limits.partitions parts
       → IsLeftBy (job_of program combining master limits.missing limits.limit) kept limits.partitions old → AreTouched touched kept rows
-      → (p : ℕ) → p < limits.partitions → HasBegun (job_of program combining master limits.missing limits.limit) (Some kept) rows limits.partitions p (get_or parts p None)
+      → (p : ℕ) → p < limits.partitions → HasBegun (job_of program combining master limits.missing limits.limit)
+          (Some kept) rows limits.partitions p (get_or parts p None)
   have_begun_beside touched old kept begun left untouched =
       let job : Job V M = job_of program combining master limits.missing limits.limit in
       let begins = subst (λ (r : Rows). HaveBegunBeside program limits.missing registered rows touched r old.lefts limits.partitions limits.partitions parts) left.graph_is begun in

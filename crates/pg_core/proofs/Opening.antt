@@ -13,20 +13,25 @@ use Rattle.pg_model.specs.Superstep.{edges_of}
 use Rattle.pg_part.specs.Part.{HoldsShare, PartState}
 
 module _ {E X Y : Type 0} (part : E → X) (made : X → Y) where
-  next_taken : (es : List E) (i : ℕ) (x : X) → option_map part (slice_get es i) ≡ Some x → map (λ e. made (part e)) (take (suc i) es) ≡ map (λ e. made (part e)) (take i es) ++ made x ∷ []
+  next_taken : (es : List E) (i : ℕ) (x : X) → option_map part (slice_get es i) ≡ Some x
+      → map (λ e. made (part e)) (take (suc i) es) ≡ map (λ e. made (part e)) (take i es) ++ made x ∷ []
   next_taken [] i x h = let k : None ≡ Some x = h in cc
   next_taken (e ∷ es) zero x h = ap (λ y. made y ∷ []) (let k : Some (part e) ≡ Some x = h in cc)
   next_taken (e ∷ es) (suc i) x h = ap (λ l. made (part e) ∷ l) (next_taken es i x h)
 
   -- what is made of the entries of a list, with that of one entry more
-  pub made_more : (es : List E) (i : ℕ) (x : X) (y : Y) (before after : List Y) → option_map part (slice_get es i) ≡ Some x → before ≡ map (λ e. made (part e)) (take i es) → after ≡ before ++ y ∷ [] → y ≡ made x → after ≡ map (λ e. made (part e)) (take (i + 1) es)
+  pub made_more : (es : List E) (i : ℕ) (x : X) (y : Y) (before after : List Y) → option_map part (slice_get es i) ≡ Some x
+      → before ≡ map (λ e. made (part e)) (take i es) → after ≡ before ++ y ∷ [] → y ≡ made x
+      → after ≡ map (λ e. made (part e)) (take (i + 1) es)
   made_more es i x y before after at so_far pushed is =
       pushed ∙ ap (λ l. l ++ y ∷ []) so_far ∙ ap (λ y. map (λ e. made (part e)) (take i es) ++ y ∷ []) is
       ∙ sym (next_taken es i x at) ∙ ap (λ (n : ℕ). map (λ e. made (part e)) (take n es)) (sym (add-one i))
 
 module _ {V M : Type 0} (job : Job V M) (kept : Option Rows) (rows : Rows) (n : ℕ) where
   -- one part more has begun
-  pub begun_more : (before after : List (Option (PartState V M))) (part : PartState V M) (k : ℕ) → length before ≡ k → ((p : ℕ) → p < k → HasBegun job kept rows n p (get_or before p None)) → after ≡ before ++ Some part ∷ [] → HoldsShare job kept rows n k 0 part → (p : ℕ) → p < k + 1 → HasBegun job kept rows n p (get_or after p None)
+  pub begun_more : (before after : List (Option (PartState V M))) (part : PartState V M) (k : ℕ) → length before ≡ k
+      → ((p : ℕ) → p < k → HasBegun job kept rows n p (get_or before p None)) → after ≡ before ++ Some part ∷ []
+      → HoldsShare job kept rows n k 0 part → (p : ℕ) → p < k + 1 → HasBegun job kept rows n p (get_or after p None)
   begun_more before after part k many begun pushed here p within =
       let none : Option (PartState V M) = None in
       subst (λ (l : List (Option (PartState V M))). HasBegun job kept rows n p (get_or l p None)) (sym pushed)

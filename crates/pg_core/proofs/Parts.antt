@@ -16,7 +16,8 @@ some_inside xs p some =
     ]
 
 -- what was read there
-pub here_is : {X : Type 0} (xs : List (Option X)) (p : ℕ) (read : Option X) (x : X) → IsSome (get_or xs p None) → read ≡ get_or xs p read → read ≡ Some x → get_or xs p None ≡ Some x
+pub here_is : {X : Type 0} (xs : List (Option X)) (p : ℕ) (read : Option X) (x : X) → IsSome (get_or xs p None) → read ≡ get_or xs p read
+    → read ≡ Some x → get_or xs p None ≡ Some x
 here_is xs p read x some at is =
     get_or_default xs p None read (some_inside xs p some) ∙ (sym at ∙ is)
 
@@ -27,15 +28,19 @@ made_at made xs n k x is within at =
     at ∙ (ap (λ xs. get_or xs k x) is ∙ get_or-map-range_with_len made 0 n k k x within none)
 
 -- what is made of the numbers below n that pass a test, and of one number more
-pub listed_more : {X : Type 0} (test : ℕ → Bool) (made : ℕ → X) (n : ℕ) (before after : List X) → before ≡ map made (filter test (range_with_len 0 n)) → after ≡ before ++ cond (test n) (made n ∷ []) [] → after ≡ map made (filter test (range_with_len 0 (n + 1)))
+pub listed_more : {X : Type 0} (test : ℕ → Bool) (made : ℕ → X) (n : ℕ) (before after : List X)
+    → before ≡ map made (filter test (range_with_len 0 n)) → after ≡ before ++ cond (test n) (made n ∷ []) []
+    → after ≡ map made (filter test (range_with_len 0 (n + 1)))
 listed_more test made n before after so_far pushed =
     let range : List ℕ = range_with_len 0 n in
     let none : 0 + n ≡ n = omega arith in
-    let more : range_with_len 0 (n + 1) ≡ range ++ n ∷ [] = sym (map-id _) ∙ (map-range_with_len_more (λ (k : ℕ). k) 0 n n none ∙ ap (λ l. l ++ n ∷ []) (map-id range)) in
+    let more : range_with_len 0 (n + 1) ≡ range ++ n ∷ [] =
+    sym (map-id _) ∙ (map-range_with_len_more (λ (k : ℕ). k) 0 n n none ∙ ap (λ l. l ++ n ∷ []) (map-id range)) in
     let last : map made (filter test (n ∷ [])) ≡ cond (test n) (made n ∷ []) [] =
     (elim (test n) as (λ b. map made (cond b (n ∷ []) []) ≡ cond b (made n ∷ []) []) [ true ↦ refl | false ↦ refl ]) in
     pushed ∙ ap (λ l. l ++ cond (test n) (made n ∷ []) []) so_far
-    ∙ sym (ap (λ l. map made (filter test l)) more ∙ (ap (map made) (filter-append test range (n ∷ [])) ∙ (map-append made (filter test range) (filter test (n ∷ [])) ∙ ap (λ l. map made (filter test range) ++ l) last)))
+    ∙ sym (ap (λ l. map made (filter test l)) more ∙ (ap (map made) (filter-append test range (n ∷ [])) ∙
+    (map-append made (filter test range) (filter test (n ∷ [])) ∙ ap (λ l. map made (filter test range) ++ l) last)))
 
 -- the value of a number below n among those of all of them
 slice_get-range : {X : Type 0} (made : ℕ → X) (a n k : ℕ) → k < n → slice_get (map made (range_with_len a n)) k ≡ Some (made (a + k))

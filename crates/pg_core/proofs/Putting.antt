@@ -18,7 +18,10 @@ slice_get_before (y ∷ ys) x zero h = refl
 slice_get_before (y ∷ ys) x (suc k) h = slice_get_before ys x k (omega arith)
 
 -- a slot after one more was put, by whether it is of the same sender and superstep
-one_more : {X : Type 0} (same_sender same_superstep : Bool) (xs : List X) (x : X) (q : ℕ) (old mid new : Option X) → mid ≡ cond (same_sender && (same_superstep && nat_lt q (length xs))) (slice_get xs q) old → new ≡ cond (same_sender && (same_superstep && (length xs == q))) (Some x) mid → new ≡ cond (same_sender && (same_superstep && nat_lt q (length (xs ++ x ∷ [])))) (slice_get (xs ++ x ∷ []) q) old
+one_more : {X : Type 0} (same_sender same_superstep : Bool) (xs : List X) (x : X) (q : ℕ) (old mid new : Option X)
+    → mid ≡ cond (same_sender && (same_superstep && nat_lt q (length xs))) (slice_get xs q) old
+    → new ≡ cond (same_sender && (same_superstep && (length xs == q))) (Some x) mid
+    → new ≡ cond (same_sender && (same_superstep && nat_lt q (length (xs ++ x ∷ [])))) (slice_get (xs ++ x ∷ []) q) old
 one_more false b xs x q old mid new so_far put = put ∙ so_far
 one_more true false xs x q old mid new so_far put = put ∙ so_far
 one_more true true xs x q old mid new so_far put =
@@ -28,7 +31,8 @@ one_more true true xs x q old mid new so_far put =
           let is : (length xs == q) ≡ true = eq-eqb (length xs) q same in
           let within : nat_lt q (length (xs ++ x ∷ [])) ≡ true = lt-ltb q (length (xs ++ x ∷ [])) (omega (arith, many, same)) in
           put ∙ cond-true (length xs == q) (Some x) mid is
-          ∙ sym (cond-true (nat_lt q (length (xs ++ x ∷ []))) (slice_get (xs ++ x ∷ []) q) old within ∙ (ap (slice_get (xs ++ x ∷ [])) (sym same) ∙ slice_get_pushed xs x))
+          ∙ sym (cond-true (nat_lt q (length (xs ++ x ∷ []))) (slice_get (xs ++ x ∷ []) q) old within ∙
+          (ap (slice_get (xs ++ x ∷ [])) (sym same) ∙ slice_get_pushed xs x))
           )
       | inr (inl past) ↦ (
           let not : (length xs == q) ≡ false = ne_eqb (length xs) q (λ e. omega (arith, e, past)) in
@@ -47,6 +51,8 @@ one_more true true xs x q old mid new so_far put =
     ]
 
 module _ {M : Type 0} (s p : ℕ) where
-  pub HasPut-more : (bundles : List (Logged M)) (bundle : Logged M) (old mid new : Slots M) → HasPut s p bundles old mid → ((t other q : ℕ) → slot_at new t other q ≡ cond (is_pair s p (length bundles) t other q) (Some bundle) (slot_at mid t other q)) → HasPut s p (bundles ++ bundle ∷ []) old new
+  pub HasPut-more : (bundles : List (Logged M)) (bundle : Logged M) (old mid new : Slots M) → HasPut s p bundles old mid
+      → ((t other q : ℕ) → slot_at new t other q ≡ cond (is_pair s p (length bundles) t other q) (Some bundle) (slot_at mid t other q))
+      → HasPut s p (bundles ++ bundle ∷ []) old new
   HasPut-more bundles bundle old mid new so_far put t other q =
       one_more (p == other) (s == t) bundles bundle q (slot_at old t other q) (slot_at mid t other q) (slot_at new t other q) (so_far t other q) (put t other q)

@@ -36,16 +36,21 @@ use Rattle.pg_part.specs.Part.{HoldsShare, PartState}
 -- ---- the partition that steps
 
 -- a part that made a step is the next of its partition
-pub IsNext-from_IsFurther : {V M : Type 0} (partitions : ℕ) (state : State) (p : ℕ) (before after : PartState V M) → IsPartAt partitions state p before → IsFurther before.course after.course → IsNext partitions state p after
+pub IsNext-from_IsFurther : {V M : Type 0} (partitions : ℕ) (state : State) (p : ℕ) (before after : PartState V M)
+    → IsPartAt partitions state p before → IsFurther before.course after.course → IsNext partitions state p after
 IsNext-from_IsFurther partitions state p before after at further = record {
   partition_is = further.partition_stays ∙ at.partition_is;
   partitions_are = further.partitions_stay ∙ at.partitions_are;
-  place_is = λ r is. let same : before.course.place ≡ r = same_Some before.course.place r (sym at.place_is ∙ is) in further.place_is ∙ ap (λ (k : ℕ). k + 1) same;
+  place_is =
+      λ r is. let same : before.course.place ≡ r = same_Some before.course.place r (sym at.place_is ∙ is) in further.place_is ∙ ap (λ (k : ℕ). k + 1) same;
 }
 
 -- ---- what is so of every run
 
-module _ {V M : Type 0} (limits : Limits) (declared : Declared) (registered registry : Registered) (state : State) (history : List Event) (parts : List (Option (PartState V M))) (shown : List Visible) (tally : Tally) (lawful : IsLawful limits declared registered registry state history parts shown tally) (p : ℕ) (allowed : is_allowed state (Step p) ≡ true) where
+module _ {V M : Type 0} (limits : Limits) (declared : Declared) (registered registry : Registered) (state : State) (history : List Event)
+    (parts : List (Option (PartState V M))) (shown : List Visible) (tally : Tally)
+    (lawful : IsLawful limits declared registered registry state history parts shown tally) (p : ℕ)
+    (allowed : is_allowed state (Step p) ≡ true) where
   -- there is a place for the part of a partition that is somewhere
   pub part_within : (q r : ℕ) → place_at q state ≡ Some r → q < length parts
   part_within q r at =
@@ -80,12 +85,14 @@ module _ {V M : Type 0} (limits : Limits) (declared : Declared) (registered regi
         gathered_places = lawful.gathered_places;
       }
 
-  pub IsLawful-step : (part : PartState V M) → IsNext limits.partitions state p part → IsLawful limits declared registered registry (after state (Step p)) (history ++ Step p ∷ []) (set parts p (Some part)) shown tally
+  pub IsLawful-step : (part : PartState V M) → IsNext limits.partitions state p part
+      → IsLawful limits declared registered registry (after state (Step p)) (history ++ Step p ∷ []) (set parts p (Some part)) shown tally
   IsLawful-step part next =
       let steps = StepsFrom-from_allowed state p allowed in
       let within : p < length parts = part_within p steps.from steps.at in
       let own : get_or (set parts p (Some part)) p None ≡ Some part = get_or-set_same parts p (Some part) None within in
-      let kept : (q : ℕ) → q ≢ p → get_or (set parts p (Some part)) q None ≡ get_or parts q None = λ q apart. get_or-set_other parts p q (Some part) None apart in
+      let kept : (q : ℕ) → q ≢ p → get_or (set parts p (Some part)) q None ≡ get_or parts q None =
+          λ q apart. get_or-set_other parts p q (Some part) None apart in
       record {
         registry_is = lawful.registry_is;
         few = lawful.few;
@@ -132,7 +139,9 @@ abbrev MayTell : {M : Type 0} → Parcels M → Parcels M → Option (List ℕ) 
 MayTell old new changed = elim changed [ None ↦ Unit {0} | Some ids ↦ AreChanged old new ids ]
 
 -- what is sent beside a kept run tells where it differs from what that sent
-TellsAt-from_sent : {V M : Type 0} (job : Job V M) (old rows : Rows) (n q p s : ℕ) (old_slot slot : Option (Logged M)) → s < run_length job old → bundle_in old_slot ≡ Some (bundle_sent job old n q p s) → IsSentTo job (Some old) rows n q p s slot → TellsAt old_slot slot
+TellsAt-from_sent : {V M : Type 0} (job : Job V M) (old rows : Rows) (n q p s : ℕ) (old_slot slot : Option (Logged M))
+    → s < run_length job old → bundle_in old_slot ≡ Some (bundle_sent job old n q p s) → IsSentTo job (Some old) rows n q p s slot
+    → TellsAt old_slot slot
 TellsAt-from_sent job old rows n q p s old_slot None within had h = absurd h
 TellsAt-from_sent {V} {M} job old rows n q p s old_slot (Some logged) within had h =
     subst (λ b. TellsFrom b logged) (sym had) (by logged.changed (h.1 within))
@@ -142,24 +151,31 @@ TellsAt-from_sent {V} {M} job old rows n q p s old_slot (Some logged) within had
     by (Some ids) h = h
 
 -- what a step is lent of the kept run: what it reads there, and its logs tell where they differ
-IsLentBeside-kept : {V M : Type 0} (job : Job V M) (old : Option Rows) (rows : Rows) (n p r : ℕ) (logs : Slots M) (kept : Option (Common V M)) → p < n → KeepsCommon job old n kept → ((s q : ℕ) → s + 1 ≡ r → q < n → IsSentTo job old rows n q p s (slot_at logs s q p)) → IsLentBeside job old n p r logs (logs_in r kept) (visible_in r kept)
+IsLentBeside-kept : {V M : Type 0} (job : Job V M) (old : Option Rows) (rows : Rows) (n p r : ℕ) (logs : Slots M) (kept : Option (Common V M))
+    → p < n → KeepsCommon job old n kept → ((s q : ℕ) → s + 1 ≡ r → q < n → IsSentTo job old rows n q p s (slot_at logs s q p))
+    → IsLentBeside job old n p r logs (logs_in r kept) (visible_in r kept)
 IsLentBeside-kept job None rows n p r logs kept mine keeps sent = tt
 IsLentBeside-kept job (Some old) rows n p r logs None mine keeps sent = absurd keeps
 IsLentBeside-kept {V} {M} job (Some old) rows n p r logs (Some kept) mine keeps sent =
     elim (cases_lt r (run_length job old)) [
       | inl less ↦ (
-          let there : logs_in r (Some kept) ≡ Some kept.logs = cond-true (nat_lt r (length kept.shown)) (Some kept.logs) None (lt-ltb r (length kept.shown) (omega (arith, many, less))) in
-          let shows : visible_in r (Some kept) ≡ Some (visible_at job old r) = ap (λ l. slice_get l r) keeps.shown ∙ slice_get-made (visible_at job old) (run_length job old) r less in
+          let there : logs_in r (Some kept) ≡ Some kept.logs =
+              cond-true (nat_lt r (length kept.shown)) (Some kept.logs) None (lt-ltb r (length kept.shown) (omega (arith, many, less))) in
+          let shows : visible_in r (Some kept) ≡ Some (visible_at job old r) =
+              ap (λ l. slice_get l r) keeps.shown ∙ slice_get-made (visible_at job old) (run_length job old) r less in
           let lends : LendsLogs job old n p r logs kept.logs = record {
             there = less;
             received = λ s q before within. keeps.sent s q p (omega (arith, before, less)) within mine;
             sent = λ q within. keeps.sent r p q less mine within;
-            told = λ s q before within. TellsAt-from_sent job old rows n q p s (slot_at kept.logs s q p) (slot_at logs s q p) (omega (arith, before, less)) (keeps.sent s q p (omega (arith, before, less)) within mine) (sent s q before within);
+            told =
+                λ s q before within. TellsAt-from_sent job old rows n q p s (slot_at kept.logs s q p) (slot_at logs s q p)
+                    (omega (arith, before, less)) (keeps.sent s q p (omega (arith, before, less)) within mine) (sent s q before within);
           } in
           subst₂ (IsLentBeside job (Some old) n p r logs) (sym there) (sym shows) (lends, refl)
           )
       | inr more ↦ (
-          let gone : logs_in r (Some kept) ≡ None = cond-false (nat_lt r (length kept.shown)) (Some kept.logs) None (le-ltb r (length kept.shown) (omega (arith, many, more))) in
+          let gone : logs_in r (Some kept) ≡ None =
+              cond-false (nat_lt r (length kept.shown)) (Some kept.logs) None (le-ltb r (length kept.shown) (omega (arith, many, more))) in
           subst (λ o. IsLentBeside job (Some old) n p r logs o (visible_in r (Some kept))) (sym gone) more
           )
     ]
@@ -167,7 +183,8 @@ IsLentBeside-kept {V} {M} job (Some old) rows n p r logs (Some kept) mine keeps 
     many : length kept.shown ≡ run_length job old
     many = ap length keeps.shown ∙ length-map-range_with_len (visible_at job old) 0 (run_length job old)
 
-module _ {V M : Type 0} (job : Job V M) (kept : Option Rows) {P C A : Type 0} (core : Progress P C A V M) (p : ℕ) (right : IsRight job kept core) (allowed : is_allowed core.state (Step p) ≡ true) where
+module _ {V M : Type 0} (job : Job V M) (kept : Option Rows) {P C A : Type 0} (core : Progress P C A V M) (p : ℕ)
+    (right : IsRight job kept core) (allowed : is_allowed core.state (Step p) ≡ true) where
   pub IsRight-take : p < length core.parts → IsRight job kept (without_part p core)
   IsRight-take within =
       let gone : get_or (set core.parts p None) p None ≡ None = get_or-set_same core.parts p None None within in
@@ -186,15 +203,18 @@ module _ {V M : Type 0} (job : Job V M) (kept : Option Rows) {P C A : Type 0} (c
       }
 
   -- a step is lent what it reads of the run
-  pub IsStepLent-taken : (many : length core.state.places ≡ core.limits.partitions) (part : PartState V M) → part_at p core ≡ Some part → IsStepLent job kept core p part.course.place part
+  pub IsStepLent-taken : (many : length core.state.places ≡ core.limits.partitions) (part : PartState V M) → part_at p core ≡ Some part
+      → IsStepLent job kept core p part.course.place part
   IsStepLent-taken many part at =
       let steps = StepsFrom-from_allowed core.state p allowed in
       let n : ℕ = core.limits.partitions in
-      let holds : HoldsShare job kept core.graph n p steps.from part = subst (λ place. HoldsAt job kept core.graph n p place part) steps.at (right.parts p part at) in
+      let holds : HoldsShare job kept core.graph n p steps.from part =
+          subst (λ place. HoldsAt job kept core.graph n p place part) steps.at (right.parts p part at) in
       let p_within : p < n = subst (λ (k : ℕ). p < k) many (some_within core.state.places p steps.from steps.at) in
       let is : steps.from ≡ part.course.place = sym holds.course.place_is in
       let sent : (s q : ℕ) → s + 1 ≡ steps.from → q < n → IsSentTo job kept core.graph n q p s (slot_at core.logs s q p) =
-      (λ s q before within. right.logs.sent s q p (past s q before (place_at q core.state) (steps.others q (subst (λ (k : ℕ). q < k) (sym many) within))) p_within) in
+      (λ s q before within. right.logs.sent s q p
+          (past s q before (place_at q core.state) (steps.others q (subst (λ (k : ℕ). q < k) (sym many) within))) p_within) in
       let lent : HasMessages job core.graph n p steps.from core.logs =
       (λ s q before within. sent_is s q (slot_at core.logs s q p) (sent s q before within)) in
       subst (λ (r : ℕ). IsStepLent job kept core p r part) is (record {
@@ -204,15 +224,18 @@ module _ {V M : Type 0} (job : Job V M) (kept : Option Rows) {P C A : Type 0} (c
         open_or_before = steps.open_or_before;
       })
     where
-      sent_is : (s q : ℕ) (slot : Option (Logged M)) → IsSentTo job kept core.graph core.limits.partitions q p s slot → bundle_in slot ≡ Some (bundle_sent job core.graph core.limits.partitions q p s)
+      sent_is : (s q : ℕ) (slot : Option (Logged M)) → IsSentTo job kept core.graph core.limits.partitions q p s slot
+          → bundle_in slot ≡ Some (bundle_sent job core.graph core.limits.partitions q p s)
       sent_is s q None h = absurd h
       sent_is s q (Some logged) h = ap Some h.0
 
-      past : (s q : ℕ) → s + 1 ≡ (StepsFrom-from_allowed core.state p allowed).from → (place : Option ℕ) → is_from (StepsFrom-from_allowed core.state p allowed).from place ≡ true → is_past s place ≡ true
+      past : (s q : ℕ) → s + 1 ≡ (StepsFrom-from_allowed core.state p allowed).from → (place : Option ℕ)
+          → is_from (StepsFrom-from_allowed core.state p allowed).from place ≡ true → is_past s place ≡ true
       past s q before None from = absurd (true≢false (sym from))
       past s q before (Some r) from = lt-ltb s r (omega (arith, before, leb-true _ r from))
 
-  module _ (part : PartState V M) (sent : List (Logged M)) (new : Progress P C A V M) (is_step : IsStepOf job kept core p part sent) (takes : TakesIn p part sent core new) where
+  module _ (part : PartState V M) (sent : List (Logged M)) (new : Progress P C A V M) (is_step : IsStepOf job kept core p part sent)
+      (takes : TakesIn p part sent core new) where
     LogsHold-step : LogsHold job kept core.graph core.limits.partitions (after core.state (Step p)).places new.logs
     LogsHold-step =
         let n : ℕ = core.limits.partitions in
@@ -231,25 +254,31 @@ module _ {V M : Type 0} (job : Job V M) (kept : Option Rows) {P C A : Type 0} (c
         record {
           sent = λ s u q past within. elim (cases_eq u p) [
             | inl same ↦ subst (λ (u : ℕ). IsSentTo job kept core.graph n u q s (slot_at new.logs s u q)) (sym same)
-                (let before : is_past s (Some (r + 1)) ≡ true = sym (ap (is_past s) own_place) ∙ (ap (λ (u : ℕ). is_past s (place_at u (after core.state (Step p)))) (sym same) ∙ past) in
+                (let before : is_past s (Some (r + 1)) ≡ true = sym (ap (is_past s) own_place) ∙
+                    (ap (λ (u : ℕ). is_past s (place_at u (after core.state (Step p)))) (sym same) ∙ past) in
                 elim (cases_eq s r) [
                   | inl now ↦ (
                       let here : (p == p) && ((r == r) && nat_lt q (length sent)) ≡ true =
                       ap (λ b. b && ((r == r) && nat_lt q (length sent))) (eq-eqb p p refl)
                       ∙ (ap (λ b. b && nat_lt q (length sent)) (eq-eqb r r refl) ∙ lt-ltb q (length sent) (omega (arith, is_step.to_each, within))) in
                       subst (λ (s : ℕ). IsSentTo job kept core.graph n p q s (slot_at new.logs s p q)) (sym now)
-                      (subst (IsSentTo job kept core.graph n p q r) (sym (put r p q ∙ cond-true _ (slice_get sent q) (slot_at core.logs r p q) here)) (is_step.sends r q steps.at within))
+                      (subst (IsSentTo job kept core.graph n p q r)
+                          (sym (put r p q ∙ cond-true _ (slice_get sent q) (slot_at core.logs r p q) here))
+                          (is_step.sends r q steps.at within))
                       )
                   | inr apart ↦ (
-                      let still : is_past s (place_at p core.state) ≡ true = ap (is_past s) steps.at ∙ lt-ltb s r (omega (arith, ltb-true s (r + 1) before, apart)) in
+                      let still : is_past s (place_at p core.state) ≡ true =
+                          ap (is_past s) steps.at ∙ lt-ltb s r (omega (arith, ltb-true s (r + 1) before, apart)) in
                       subst (IsSentTo job kept core.graph n p q s) (sym (earlier s q apart)) (right.logs.sent s p q still within)
                       )
                 ])
-            | inr apart ↦ subst (IsSentTo job kept core.graph n u q s) (sym (elsewhere s u q apart)) (right.logs.sent s u q (ap (is_past s) (sym (place_after_other core.state p u apart)) ∙ past) within)
+            | inr apart ↦ subst (IsSentTo job kept core.graph n u q s) (sym (elsewhere s u q apart))
+                (right.logs.sent s u q (ap (is_past s) (sym (place_after_other core.state p u apart)) ∙ past) within)
           ];
           no_more = λ s u q not_yet. elim (cases_eq u p) [
             | inl same ↦ subst (λ (u : ℕ). slot_at new.logs s u q ≡ None) (sym same)
-                (let none : (is_past s (Some (r + 1)) && nat_lt q n) ≡ false = ap (λ place. is_past s place && nat_lt q n) (sym own_place) ∙ (ap (λ (u : ℕ). is_past s (place_at u (after core.state (Step p))) && nat_lt q n) (sym same) ∙ not_yet) in
+                (let none : (is_past s (Some (r + 1)) && nat_lt q n) ≡ false = ap (λ place. is_past s place && nat_lt q n) (sym own_place) ∙
+                    (ap (λ (u : ℕ). is_past s (place_at u (after core.state (Step p))) && nat_lt q n) (sym same) ∙ not_yet) in
                 let before : (is_past s (place_at p core.state) && nat_lt q n) ≡ false =
                 (elim (and_cases (nat_lt s (r + 1)) (nat_lt q n) none) [
                   | inl late ↦ and_left _ (nat_lt q n) (ap (is_past s) steps.at ∙ le-ltb s r (omega (arith, ltb-false s (r + 1) late)))
@@ -266,7 +295,8 @@ module _ {V M : Type 0} (job : Job V M) (kept : Option Rows) {P C A : Type 0} (c
                       )
                   | inr apart ↦ earlier s q apart ∙ right.logs.no_more s p q before
                 ])
-            | inr apart ↦ elsewhere s u q apart ∙ right.logs.no_more s u q (ap (λ place. is_past s place && nat_lt q n) (sym (place_after_other core.state p u apart)) ∙ not_yet)
+            | inr apart ↦ elsewhere s u q apart
+            ∙ right.logs.no_more s u q (ap (λ place. is_past s place && nat_lt q n) (sym (place_after_other core.state p u apart)) ∙ not_yet)
           ];
         }
 
@@ -296,15 +326,25 @@ module _ {V M : Type 0} (job : Job V M) (kept : Option Rows) {P C A : Type 0} (c
         })
 
 -- what a part's step promises is what a step taken in asks for
-pub IsStepOf-from_HasMadeStep : {V M : Type 0} (job : Job V M) (kept : Option Rows) {P C A : Type 0} (core : Progress P C A V M) (p r : ℕ) (part : PartState V M) (sent : List (Logged M)) (value_eq : V → V → Bool) (message_eq : M → M → Bool) (calls calls_after : ℕ) → place_at p core.state ≡ Some r → parts_of.HasMadeStep job value_eq message_eq kept core.graph core.limits.partitions p r part sent calls calls_after → IsStepOf job kept core p part sent
+ pub IsStepOf-from_HasMadeStep : {V M : Type 0} (job : Job V M) (kept : Option Rows) {P C A : Type 0} (core : Progress P C A V M) (p r : ℕ)
+    (part : PartState V M) (sent : List (Logged M)) (value_eq : V → V → Bool) (message_eq : M → M → Bool) (calls calls_after : ℕ)
+    → place_at p core.state ≡ Some r
+    → parts_of.HasMadeStep job value_eq message_eq kept core.graph core.limits.partitions p r part sent calls calls_after
+    → IsStepOf job kept core p part sent
 IsStepOf-from_HasMadeStep job kept core p r part sent value_eq message_eq calls calls_after at stepped = record {
-  holds = λ s is. let same : r ≡ s = same_Some r s (sym at ∙ is) in subst (λ (s : ℕ). HoldsShare job kept core.graph core.limits.partitions p (s + 1) part) same (record { course = stepped.course.holds; stats = stepped.stats });
+  holds =
+      λ s is. let same : r ≡ s = same_Some r s (sym at ∙ is) in
+      subst (λ (s : ℕ). HoldsShare job kept core.graph core.limits.partitions p (s + 1) part) same
+          (record { course = stepped.course.holds; stats = stepped.stats });
   to_each = stepped.course.to_each;
-  sends = λ s q is within. let same : r ≡ s = same_Some r s (sym at ∙ is) in subst (λ (s : ℕ). IsSentTo job kept core.graph core.limits.partitions p q s (slice_get sent q)) same (stepped.course.sends q within);
+  sends =
+      λ s q is within. let same : r ≡ s = same_Some r s (sym at ∙ is) in
+      subst (λ (s : ℕ). IsSentTo job kept core.graph core.limits.partitions p q s (slice_get sent q)) same (stepped.course.sends q within);
 }
 
 -- what a step is lent doesn't lie in the parts
-pub IsStepLent-without : {V M : Type 0} (job : Job V M) (kept : Option Rows) {P C A : Type 0} (core : Progress P C A V M) (p r : ℕ) (part : PartState V M) → IsStepLent job kept core p r part → IsStepLent job kept (without_part p core) p r part
+pub IsStepLent-without : {V M : Type 0} (job : Job V M) (kept : Option Rows) {P C A : Type 0} (core : Progress P C A V M) (p r : ℕ) (part : PartState V M)
+    → IsStepLent job kept core p r part → IsStepLent job kept (without_part p core) p r part
 IsStepLent-without job kept core p r part lent = record { holds = lent.holds; lent = lent.lent; beside = lent.beside; open_or_before = lent.open_or_before }
 
 set_twice : {X : Type 0} (xs : List X) (p : ℕ) (x y : X) → set (set xs p x) p y ≡ set xs p y
@@ -313,18 +353,23 @@ set_twice (z ∷ zs) zero x y = refl
 set_twice (z ∷ zs) (suc p) x y = ap (λ l. z ∷ l) (set_twice zs p x y)
 
 -- a step that was taken in after its part was taken
-pub HasMadeStep-from_TakesIn : {P C A V M : Type 0} (core : Progress P C A V M) (p : ℕ) (part : PartState V M) (sent : List (Logged M)) (new : Progress P C A V M) → TakesIn p part sent (without_part p core) new → HasMadeStep p core new
+ pub HasMadeStep-from_TakesIn : {P C A V M : Type 0} (core : Progress P C A V M) (p : ℕ) (part : PartState V M) (sent : List (Logged M))
+    (new : Progress P C A V M)
+    → TakesIn p part sent (without_part p core) new → HasMadeStep p core new
 HasMadeStep-from_TakesIn core p part sent new takes = record {
   part = part;
   core_is = takes.core_is ∙ (λ i. record (with_step p part core) { parts = set_twice core.parts p None (Some part) i; logs = new.logs });
 }
 
 -- what a step was lent is what it asks for: the same by other names
-module _ {V M : Type 0} (job : Job V M) (kept : Option Rows) {P C A : Type 0} (core : Progress P C A V M) (p r : ℕ) (part : PartState V M) (lent : IsStepLent job kept core p r part) (logs : Slots M) (visible : Visible) (old_logs : Option (Slots M)) (old_visible : Option Visible) where
+module _ {V M : Type 0} (job : Job V M) (kept : Option Rows) {P C A : Type 0} (core : Progress P C A V M) (p r : ℕ) (part : PartState V M)
+    (lent : IsStepLent job kept core p r part) (logs : Slots M) (visible : Visible) (old_logs : Option (Slots M))
+    (old_visible : Option Visible) where
   pub lent_run : logs ≡ core.logs → visible ≡ visible_at job core.graph r → IsLent job core.graph core.limits.partitions p r logs visible
   lent_run same shows = subst₂ (IsLent job core.graph core.limits.partitions p r) (sym same) (sym shows) lent.lent
 
-  pub lent_beside : logs ≡ core.logs → old_logs ≡ logs_in r core.kept → old_visible ≡ visible_in r core.kept → IsLentBeside job kept core.limits.partitions p r logs old_logs old_visible
+  pub lent_beside : logs ≡ core.logs → old_logs ≡ logs_in r core.kept → old_visible ≡ visible_in r core.kept
+      → IsLentBeside job kept core.limits.partitions p r logs old_logs old_visible
   lent_beside same old shows =
       subst (λ logs. IsLentBeside job kept core.limits.partitions p r logs old_logs old_visible) (sym same)
       (subst₂ (IsLentBeside job kept core.limits.partitions p r core.logs) (sym old) (sym shows) lent.beside)

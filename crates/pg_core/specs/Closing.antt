@@ -30,7 +30,8 @@ answer_with values tally ending supersteps = record {
 
 -- an answer and what a run leaves are those of parts that stand at the end of a run of so many supersteps on this graph,
 -- and of what all partitions have in common
-pub record AreGiven {V M : Type 0} (graph : Rows) (parts : List (Option (PartState V M))) (common : Common V M) (tally : Tally) (ending : Option Ending) (supersteps : ℕ) (run : Run V) (left : Traces V M) : Type 0 where
+pub record AreGiven {V M : Type 0} (graph : Rows) (parts : List (Option (PartState V M))) (common : Common V M) (tally : Tally)
+    (ending : Option Ending) (supersteps : ℕ) (run : Run V) (left : Traces V M) : Type 0 where
   pub answers : run ≡ answer_with common.values tally ending supersteps
   pub each : length left.lefts ≡ length parts
   pub lefts : HaveLeft supersteps parts (length parts) left.lefts

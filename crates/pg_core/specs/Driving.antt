@@ -35,7 +35,8 @@ module _ {P C A V M : Type 0} where
     pub run_is : after.run ≡ before.run
 
   -- a run went on, and as many executions were counted as are no more to come
-  pub record GoesOn (value_eq : V → V → Bool) (message_eq : M → M → Bool) (job : Job V M) (before after : Progress P C A V M) (calls calls_after : ℕ) : Type 0 where
+  pub record GoesOn (value_eq : V → V → Bool) (message_eq : M → M → Bool) (job : Job V M) (before after : Progress P C A V M)
+      (calls calls_after : ℕ) : Type 0 where
     pub same : IsSameRun before after
     pub right : (kept : Option Rows) → IsRight job kept before → IsRight job kept after
     pub counted : (kept : Option Rows) → IsRight job kept before

@@ -55,7 +55,8 @@ pub record IsNext {V M : Type 0} (partitions : ℕ) (state : State) (p : ℕ) (p
 
 -- what is so of every run over partitions, right or not: its events led to its state, a part that is here is at its
 -- partition's place, none is away past the open superstep, and something was shown in each superstep up to it
-pub record IsLawful {V M : Type 0} (limits : Limits) (declared : Declared) (registered registry : Registered) (state : State) (history : List Event) (parts : List (Option (PartState V M))) (shown : List Visible) (tally : Tally) : Type 0 where
+pub record IsLawful {V M : Type 0} (limits : Limits) (declared : Declared) (registered registry : Registered) (state : State)
+    (history : List Event) (parts : List (Option (PartState V M))) (shown : List Visible) (tally : Tally) : Type 0 where
   pub registry_is : registry ≡ registered
   pub few : length registered ≤ 16
   pub declared_are : has_places declared (length registered) ≡ true

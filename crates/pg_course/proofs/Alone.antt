@@ -50,7 +50,8 @@ module _ {V M : Type 0} (value_eq : V → V → Bool) (message_eq : M → M → 
     (some : 0 < n) (course : Holding V M) (holds : Holds job kept rows n p s course) (past : kept_length job kept ≤ s) (within : s < run_length job rows)
     (logs : Slots M) (has : HasMessages job rows n p s logs) (view : View) (sees : view ≡ view_at job rows s) (before : ℕ) (bundles : List (Parcels M))
     (bundled : bundles ≡ bundles_before logs n p s) (played : Played V M)
-    (is : IsPlayed value_eq message_eq job.program job.missing job.combining view n p s course.trace bundles None (awake_ids s course.trace) true false before played) where
+    (is : IsPlayed value_eq message_eq job.program job.missing job.combining view n p s course.trace bundles None
+    (awake_ids s course.trace) true false before played) where
   cs : List (Candidate V M)
   cs = is.candidates
 
@@ -76,7 +77,8 @@ module _ {V M : Type 0} (value_eq : V → V → Bool) (message_eq : M → M → 
   idle id mine other =
       no_inputs_if_inactive job rows n p s some course.trace logs holds.run has within id (λ x at. false_from_ne_true (is_active x) (λ active.
       true≢false (sym (ap (λ l. has_id l id) is.ids_are
-      ∙ active_among job rows n p s some course.trace logs holds.run has within (awake_ids s course.trace) is.callees callees_are (λ k h. h) id x mine at active) ∙ other)))
+      ∙ active_among job rows n p s some course.trace logs holds.run has within (awake_ids s course.trace) is.callees callees_are
+      (λ k h. h) id x mine at active) ∙ other)))
 
   gives : Candidate V M → Option (Record V M)
   gives c = option_map job.program.step (reads view c.new)
@@ -110,7 +112,8 @@ module _ {V M : Type 0} (value_eq : V → V → Bool) (message_eq : M → M → 
   counted : count_by (is_run value_eq message_eq job.program view false) cs ≡ needed_in value_eq message_eq job kept rows (belongs n p) s
   counted =
       counted_are value_eq message_eq job kept rows n p s (is_run value_eq message_eq job.program view false) cs holds.run.rise rise
-      (all_weaker (IsRead job rows n p s) (IsCounted value_eq message_eq job kept rows n p s (is_run value_eq message_eq job.program view false)) (λ c r. record {
+      (all_weaker (IsRead job rows n p s)
+      (IsCounted value_eq message_eq job kept rows n p s (is_run value_eq message_eq job.program view false)) (λ c r. record {
         mine = r.mine;
         same = ap is_some (reads_inputs job rows n p s some course.trace logs holds.run has within view sees c r) ∙ sym (changed_beside c.id);
       }) cs read)
@@ -127,7 +130,8 @@ module _ {V M : Type 0} (value_eq : V → V → Bool) (message_eq : M → M → 
 
       changed_beside : (id : ℕ) → is_needed value_eq message_eq job kept rows s id ≡ is_some (inputs_at job rows s id)
       changed_beside id =
-          ap (λ (o : Option (Inputs V M)). is_changed value_eq message_eq o (inputs_at job rows s id)) (nothing_kept kept past id) ∙ changed_from (inputs_at job rows s id)
+          ap (λ (o : Option (Inputs V M)). is_changed value_eq message_eq o (inputs_at job rows s id)) (nothing_kept kept past id)
+          ∙ changed_from (inputs_at job rows s id)
 
   rises : ChangesRise played.changes.items
   unfolding changes
@@ -233,7 +237,8 @@ module _ {V M : Type 0} (value_eq : V → V → Bool) (message_eq : M → M → 
       tells None ends q logged none = none
       tells (Some old) ends q logged none = λ high. absurd (omega (arith, high, ends))
 
-      sent_is : (q : ℕ) (o : Option (Logged M)) → IsFresh job.combining (items_to n q (flat_map sends_of played.changes.items)) o → IsSentTo job kept rows n p q s o
+      sent_is : (q : ℕ) (o : Option (Logged M)) → IsFresh job.combining (items_to n q (flat_map sends_of played.changes.items)) o
+          → IsSentTo job kept rows n p q s o
       sent_is q None f = absurd f
       sent_is q (Some logged) f = (f.0 ∙ ap (bundle_of job.combining) (sends_are q), tells kept past q logged f.1)
 
@@ -241,7 +246,8 @@ module _ {V M : Type 0} (value_eq : V → V → Bool) (message_eq : M → M → 
 
 module _ {V M : Type 0} (value_eq : V → V → Bool) (message_eq : M → M → Bool) (course : Holding V M) (program : Program V M) (combining : Option (Combining M))
     (view : View) (before : ℕ) (bundles : List (Parcels M)) (played : Played V M)
-    (is : IsPlayed value_eq message_eq program course.missing combining view course.partitions course.partition course.place course.trace bundles None (awake_ids course.place course.trace) true false before played)
+    (is : IsPlayed value_eq message_eq program course.missing combining view course.partitions course.partition course.place course.trace bundles None
+    (awake_ids course.place course.trace) true false before played)
     (some : 0 < course.partitions) (after : Holding V M) (sent : List (Logged M))
     (concluded : IsConcludedAlone course played.looked_at.items played.changes.items combining after sent) where
   pub alone_steps : (job : Job V M) (kept : Option Rows) (rows : Rows) (n p s : ℕ) (logs : Slots M) → job.program ≡ program → job.combining ≡ combining
@@ -250,15 +256,25 @@ module _ {V M : Type 0} (value_eq : V → V → Bool) (message_eq : M → M → 
   alone_steps job kept rows n p s logs program_is combining_is holds past within has bundled sees =
       let here = holds.place_is in
       let all = holds.partitions_are in
-      stepped_alone value_eq message_eq job kept rows n p s (subst (λ k. 0 < k) all some) course holds past within logs has view sees before bundles bundled played
-      (subst (λ k. IsPlayed value_eq message_eq job.program job.missing job.combining view n p k course.trace bundles None (awake_ids k course.trace) true false before played) here
-      (subst (λ k. IsPlayed value_eq message_eq job.program job.missing job.combining view n k course.place course.trace bundles None (awake_ids course.place course.trace) true false before played) holds.partition_is
-      (subst (λ k. IsPlayed value_eq message_eq job.program job.missing job.combining view k course.partition course.place course.trace bundles None (awake_ids course.place course.trace) true false before played) all
-      (subst (λ k. IsPlayed value_eq message_eq job.program k job.combining view course.partitions course.partition course.place course.trace bundles None (awake_ids course.place course.trace) true false before played) holds.missing_is
-      (subst (λ k. IsPlayed value_eq message_eq job.program course.missing k view course.partitions course.partition course.place course.trace bundles None (awake_ids course.place course.trace) true false before played) (sym combining_is)
+      stepped_alone value_eq message_eq job kept rows n p s
+      (subst (λ k. 0 < k) all some) course holds past within logs has view sees before bundles bundled played
+      (subst (λ k. IsPlayed value_eq message_eq job.program job.missing job.combining view n p k course.trace bundles None
+      (awake_ids k course.trace) true false before played) here
+      (subst (λ k. IsPlayed value_eq message_eq job.program job.missing job.combining view n k course.place course.trace bundles None
+      (awake_ids course.place course.trace) true false before played) holds.partition_is
+      (subst
+      (λ k. IsPlayed value_eq message_eq job.program job.missing job.combining view k course.partition course.place course.trace bundles None
+      (awake_ids course.place course.trace) true false before played) all
+      (subst
+      (λ k. IsPlayed value_eq message_eq job.program k job.combining view course.partitions course.partition course.place course.trace bundles None
+      (awake_ids course.place course.trace) true false before played) holds.missing_is
+      (subst
+      (λ k. IsPlayed value_eq message_eq job.program course.missing k view course.partitions course.partition course.place course.trace bundles None
+      (awake_ids course.place course.trace) true false before played) (sym combining_is)
       (subst (λ k. IsPlayed value_eq message_eq k course.missing combining view course.partitions course.partition course.place course.trace bundles None (awake_ids course.place course.trace) true false before played) (sym program_is) is))))))
       after sent
       (concluded.further ∙ ap (λ k. record course { place = k + 1; trace = with_replaced k played.changes.items (reaching k course.trace); restless = differing_past course.kept course.restless played.looked_at.items; changed = played.looked_at.items; beside_old = false }) here)
       (concluded.to_each ∙ all)
       (λ q below. subst (λ k. IsFresh k (items_to n q (flat_map sends_of played.changes.items)) (slice_get sent q)) (sym combining_is)
-      (subst (λ k. IsFresh combining (items_to k q (flat_map sends_of played.changes.items)) (slice_get sent q)) all (concluded.sends q (subst (λ k. q < k) (sym all) below))))
+      (subst (λ k. IsFresh combining (items_to k q (flat_map sends_of played.changes.items)) (slice_get sent q)) all
+      (concluded.sends q (subst (λ k. q < k) (sym all) below))))

@@ -40,7 +40,9 @@ use Rattle.pg_trace.specs.OfRun.{HoldsRun}
 use Rattle.pg_trace.specs.Trace.{Trace}
 
 -- what is there as a warm step ends its executions
-pub record IsWarmStep {V M : Type 0} (value_eq : V → V → Bool) (message_eq : M → M → Bool) (job : Job V M) (old rows : Rows) (n p s : ℕ) (course : Holding V M) (logs old_logs : Slots M) (old_view view : View) (bundles : List (Parcels M)) (before : ℕ) (played : Played V M) : Type 0 where
+pub record IsWarmStep {V M : Type 0} (value_eq : V → V → Bool) (message_eq : M → M → Bool) (job : Job V M) (old rows : Rows) (n p s : ℕ)
+    (course : Holding V M) (logs old_logs : Slots M) (old_view view : View) (bundles : List (Parcels M)) (before : ℕ)
+    (played : Played V M) : Type 0 where
   pub values : (a : V) → value_eq a a ≡ true
   pub messages : (a : M) → message_eq a a ≡ true
   pub some : 0 < n
@@ -69,7 +71,8 @@ same_by_number : {M : Type 0} (id : ℕ) (f g : ℕ → Parcels M) (a n : ℕ) �
 same_by_number id f g a zero h = tt
 same_by_number id f g a (suc n) h = (h a (omega arith), same_by_number id f g (a + 1) n (λ q below. h q (omega (arith, below))))
 
-module _ {V M : Type 0} (value_eq : V → V → Bool) (message_eq : M → M → Bool) (job : Job V M) (old rows : Rows) (n p s : ℕ) (course : Holding V M) (logs old_logs : Slots M) (old_view view : View) (bundles : List (Parcels M)) (before : ℕ) (played : Played V M)
+module _ {V M : Type 0} (value_eq : V → V → Bool) (message_eq : M → M → Bool) (job : Job V M) (old rows : Rows) (n p s : ℕ)
+    (course : Holding V M) (logs old_logs : Slots M) (old_view view : View) (bundles : List (Parcels M)) (before : ℕ) (played : Played V M)
     (w : IsWarmStep value_eq message_eq job old rows n p s course logs old_logs old_view view bundles before played) where
   -- the trace of the old run, as it was as the superstep began
   abbrev pub kept : Trace V M
@@ -109,8 +112,13 @@ module _ {V M : Type 0} (value_eq : V → V → Bool) (message_eq : M → M → 
           → AllByRecursion (λ c. IsFound job.program job.missing job.combining kept s (bundles_before old_logs n p s) c.id c.old) cs
           → AllByRecursion (WasRead job old n p s) cs
       each [] mine found = tt
-      each (c ∷ cs) mine found =
-          (record { mine = mine.0; old = found_in_run job old n p w.some kept old_logs c.id mine.0 s kept_holds w.lends.received c.old found.0 }, each cs mine.1 found.1)
+      each (c ∷ cs) mine found = (
+        record {
+          mine = mine.0;
+          old = found_in_run job old n p w.some kept old_logs c.id mine.0 s kept_holds w.lends.received c.old found.0;
+        },
+        each cs mine.1 found.1,
+      )
 
   -- what isn't a candidate wasn't to be looked at
   not_looked_at : (id : ℕ) → belongs n p id ≡ true → has_id candidate_ids id ≡ false → has_id w.looked_at id ≡ false
@@ -143,7 +151,9 @@ module _ {V M : Type 0} (value_eq : V → V → Bool) (message_eq : M → M → 
       bundles_are_before slots = ap (bundles_before slots n p) (sym e)
 
       old_are : bundles_before old_logs n p s ≡ map (λ q. bundle_sent job old n q p r) (range_with_len 0 n)
-      old_are = bundles_are_before old_logs ∙ bundles_are job old n p r w.holds.beside.whole.rise old_logs (λ t q i below. w.lends.received t q (omega (arith, i, next)) below)
+      old_are =
+          bundles_are_before old_logs
+          ∙ bundles_are job old n p r w.holds.beside.whole.rise old_logs (λ t q i below. w.lends.received t q (omega (arith, i, next)) below)
 
       new_are : bundles_before logs n p s ≡ map (λ q. bundle_sent job rows n q p r) (range_with_len 0 n)
       new_are = bundles_are_before logs ∙ bundles_are job rows n p r w.holds.run.rise logs (λ t q i below. w.has t q (omega (arith, i, next)) below)
@@ -219,7 +229,8 @@ module _ {V M : Type 0} (value_eq : V → V → Bool) (message_eq : M → M → 
   pub are_candidates : AreCandidates job old rows restless s candidate_ids
   are_candidates =
       AreCandidates-from job old rows restless s candidate_ids candidates_rise
-      (λ id picked other there. let parts = both (belongs n p id) (not (has_id course.resting id)) picked in stands_alike id parts.0 (off (has_id course.resting id) parts.1) other)
+      (λ id picked other there. let parts = both (belongs n p id) (not (has_id course.resting id)) picked in stands_alike id parts.0
+      (off (has_id course.resting id) parts.1) other)
       (by (cases_Bool seen))
     where
       off : (b : Bool) → not b ≡ true → b ≡ false

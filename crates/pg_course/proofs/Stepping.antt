@@ -32,7 +32,8 @@ module _ {V M : Type 0} (s : ℕ) where
   unfolding nothing
   reaching_next trace long = by (length trace.records == s) (eq-eqb (length trace.records) s long)
     where
-      by : (b : Bool) → b ≡ true → (records_of s (cond b (with_superstep [] trace) trace) ≡ []) × (length (cond b (with_superstep [] trace) trace).records ≡ s + 1)
+      by : (b : Bool) → b ≡ true
+          → (records_of s (cond b (with_superstep [] trace) trace) ≡ []) × (length (cond b (with_superstep [] trace) trace).records ≡ s + 1)
       by true e = (get_or_push trace.records [] [] s long, (let more = length-append trace.records nothing in omega (arith, more, long)))
       by false e = absurd (false_true e)
         where

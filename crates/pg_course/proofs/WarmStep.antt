@@ -58,7 +58,8 @@ use Rattle.pg_course.proofs.Stepping.{stepped_holds}
 use Rattle.pg_trace.specs.OfRun.{HoldsRun}
 use Rattle.pg_trace.proofs.RunStates.{state_of_run}
 
-module _ {V M : Type 0} (value_eq : V → V → Bool) (message_eq : M → M → Bool) (job : Job V M) (old rows : Rows) (n p s : ℕ) (course : Holding V M) (logs old_logs : Slots M) (old_view view : View) (bundles : List (Parcels M)) (before : ℕ) (played : Played V M)
+module _ {V M : Type 0} (value_eq : V → V → Bool) (message_eq : M → M → Bool) (job : Job V M) (old rows : Rows) (n p s : ℕ)
+    (course : Holding V M) (logs old_logs : Slots M) (old_view view : View) (bundles : List (Parcels M)) (before : ℕ) (played : Played V M)
     (w : IsWarmStep value_eq message_eq job old rows n p s course logs old_logs old_view view bundles before played) where
   there : s < run_length job old
   there = w.lends.there
@@ -282,7 +283,8 @@ module _ {V M : Type 0} (value_eq : V → V → Bool) (message_eq : M → M → 
 
   later_records : (t : ℕ) → s + 1 ≤ t → t < run_length job old → records_of t next_trace ≡ records_in job old n p t
   later_records t low high =
-      get_or-set_other (reaching s course.trace).records s t (with_changes played.changes.items (records_of s (reaching s course.trace))) [] (λ e. omega (arith, low, e))
+      get_or-set_other (reaching s course.trace).records s t (with_changes played.changes.items (records_of s (reaching s course.trace))) []
+      (λ e. omega (arith, low, e))
       ∙ (ap (records_of t) reached ∙ w.holds.beside.later t (omega (arith, low)) high)
 
   next : suc s ≡ s + 1
@@ -326,7 +328,8 @@ module _ {V M : Type 0} (value_eq : V → V → Bool) (message_eq : M → M → 
         (subst (AllByRecursion (λ k. belongs n p k ≡ true)) (sym w.is.looked_at_are)
         (all_mine value_eq message_eq job old rows n p s course logs old_logs old_view view bundles before played w));
     records = λ id other.
-        sym (unchanged_at changes (records_in job old n p s) id (entries-among (λ c. c.id) left gives id cs (not_candidate id other))) ∙ ap (value_at id) new_records;
+        sym (unchanged_at changes (records_in job old n p s) id (entries-among (λ c. c.id) left gives id cs (not_candidate id other)))
+        ∙ ap (value_at id) new_records;
     states = λ id mine other. elim (cases_Bool (has_id course.resting id)) [
       | inl rests ↦ inr (still id mine other rests)
       | inr off ↦ inl (unseen id mine other off)
@@ -365,7 +368,8 @@ module _ {V M : Type 0} (value_eq : V → V → Bool) (message_eq : M → M → 
         where
           off : (b : Bool) → has_id course.resting id ≡ b → has_id course.resting id ≡ false
           off true e =
-              absurd (true≢false (sym (has_id-filter (λ k. not (has_id looked_at k)) course.resting id ∙ ap₂ (λ (a b : Bool). not a && b) other e) ∙ last_parts.0))
+              absurd (true≢false
+              (sym (has_id-filter (λ k. not (has_id looked_at k)) course.resting id ∙ ap₂ (λ (a b : Bool). not a && b) other e) ∙ last_parts.0))
           off false e = e
 
   -- those that rest do so in both runs
@@ -394,7 +398,8 @@ module _ {V M : Type 0} (value_eq : V → V → Bool) (message_eq : M → M → 
       → after ≡ record course { place = s + 1; trace = next_trace; kept = Some trace; restless = restless; resting = without course.resting looked_at ++ resting; changed = looked_at; beside_old = true }
       → AreTold value_eq trace next_trace (s + 1) looked_at
       → length sent ≡ n
-      → ((q : ℕ) → q < n → IsMended job.combining (items_to n q (flat_map (pairs_of trace s) played.changes.items)) (items_to n q (flat_map sends_of played.changes.items))
+      → ((q : ℕ) → q < n → IsMended job.combining (items_to n q (flat_map (pairs_of trace s) played.changes.items))
+      (items_to n q (flat_map sends_of played.changes.items))
       (slot_at old_logs s p q) (slice_get sent q))
       → HasStepped job value_eq message_eq (Some old) rows n p s after sent before played.meter
   warm_step after sent further told to_each mended = record {
@@ -424,19 +429,22 @@ module _ {V M : Type 0} (value_eq : V → V → Bool) (message_eq : M → M → 
     to_each = to_each;
     sends = λ q below.
         sent_is q (slot_at old_logs s p q) (slice_get sent q) (w.lends.sent q below)
-        (subst (λ l. IsMended job.combining (items_to n q (flat_map (pairs_of trace s) l)) (items_to n q (flat_map sends_of l)) (slot_at old_logs s p q) (slice_get sent q)) changed (mended q below));
+        (subst (λ l. IsMended job.combining (items_to n q (flat_map (pairs_of trace s) l)) (items_to n q (flat_map sends_of l))
+        (slot_at old_logs s p q) (slice_get sent q)) changed (mended q below));
     changed_are = subst (λ (h : Holding V M). AreAllChanged job (Some old) rows n p s h.beside_old h.changed) (sym further) only;
     counted = w.is.counted ∙ ap (λ k. capped (before + k)) counted;
   }
 
 -- ---- the same by what the calls were handed
 
-module _ {V M : Type 0} (value_eq : V → V → Bool) (message_eq : M → M → Bool) (values : (a : V) → value_eq a a ≡ true) (messages : (a : M) → message_eq a a ≡ true)
+module _ {V M : Type 0} (value_eq : V → V → Bool) (message_eq : M → M → Bool) (values : (a : V) → value_eq a a ≡ true)
+    (messages : (a : M) → message_eq a a ≡ true)
     (course : Holding V M) (trace : Trace V M) (combining : Option (Combining M)) (program : Program V M) (logs old_logs : Slots M) (old_view view : View)
     (bundles : List (Parcels M)) (before : ℕ) (played : Played V M) (some : 0 < course.partitions) (is_kept : course.kept ≡ Some trace)
     (replayed : IsReplayed value_eq message_eq combining (record course { kept = None }) trace old_logs program logs old_view view bundles before played)
     (after : Holding V M) (sent : List (Logged M))
-    (concluded : IsConcluded value_eq message_eq combining (record course { kept = None }) trace old_logs played.looked_at.items played.changes.items after sent) where
+    (concluded : IsConcluded value_eq message_eq combining
+    (record course { kept = None }) trace old_logs played.looked_at.items played.changes.items after sent) where
   module _ (job : Job V M) (old rows : Rows) (program_is : job.program ≡ program) (combining_is : job.combining ≡ combining) where
     abbrev StepsAt : ℕ → ℕ → ℕ → Type 0
     StepsAt n p s =
@@ -457,13 +465,19 @@ module _ {V M : Type 0} (value_eq : V → V → Bool) (message_eq : M → M → 
 
         run : IsReplayed value_eq message_eq job.combining emptied holds.beside.trace old_logs job.program logs old_view view bundles before played
         run =
-            subst (λ k. IsReplayed value_eq message_eq job.combining emptied holds.beside.trace old_logs k logs old_view view bundles before played) (sym program_is)
-            (subst (λ k. IsReplayed value_eq message_eq k emptied holds.beside.trace old_logs program logs old_view view bundles before played) (sym combining_is)
+            subst
+            (λ k. IsReplayed value_eq message_eq job.combining emptied holds.beside.trace old_logs k logs old_view view bundles before played)
+            (sym program_is)
+            (subst
+            (λ k. IsReplayed value_eq message_eq k emptied holds.beside.trace old_logs program logs old_view view bundles before played)
+            (sym combining_is)
             (subst (λ k. IsReplayed value_eq message_eq combining emptied k old_logs program logs old_view view bundles before played) same replayed))
 
         ending : IsConcluded value_eq message_eq job.combining emptied holds.beside.trace old_logs played.looked_at.items played.changes.items after sent
         ending =
-            subst (λ k. IsConcluded value_eq message_eq k emptied holds.beside.trace old_logs played.looked_at.items played.changes.items after sent) (sym combining_is)
+            subst
+            (λ k. IsConcluded value_eq message_eq k emptied holds.beside.trace old_logs played.looked_at.items played.changes.items after sent)
+            (sym combining_is)
             (subst (λ k. IsConcluded value_eq message_eq combining emptied k old_logs played.looked_at.items played.changes.items after sent) same concluded)
 
         seen : Bool
@@ -484,7 +498,8 @@ module _ {V M : Type 0} (value_eq : V → V → Bool) (message_eq : M → M → 
           looked_at = run.ids;
           looked = run.looked;
           is = subst (λ k. IsPlayed value_eq message_eq job.program k job.combining view course.partitions course.partition course.place course.trace bundles
-              (Some (holds.beside.trace, bundles_before old_logs course.partitions course.partition course.place)) run.ids (not seen) seen before played) holds.missing_is run.is;
+              (Some (holds.beside.trace, bundles_before old_logs course.partitions course.partition course.place)) run.ids
+              (not seen) seen before played) holds.missing_is run.is;
           alike = run.alike;
         }
 
@@ -510,7 +525,8 @@ nothing_kept job (Some old) rows n p s course holds none = absurd (none-some hol
 
 -- where a step is lent nothing of the old run, it is past its end
 pub past_without : {V M : Type 0} (job : Job V M) (kept : Option Rows) (n p r : ℕ) (logs : Slots M) (old_logs : Option (Slots M)) (old_visible : Option Visible)
-    → (old_logs ≡ None) ⊎ (option_map (view_of job.program.declared r) old_visible ≡ None) → IsLentBeside job kept n p r logs old_logs old_visible → kept_length job kept ≤ r
+    → (old_logs ≡ None) ⊎ (option_map (view_of job.program.declared r) old_visible ≡ None)
+    → IsLentBeside job kept n p r logs old_logs old_visible → kept_length job kept ≤ r
 past_without job None n p r logs old_logs old_visible none lent = omega arith
 past_without job (Some old) n p r logs None old_visible none lent = lent
 past_without job (Some old) n p r logs (Some l) None none lent = lent

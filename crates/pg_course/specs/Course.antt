@@ -122,7 +122,8 @@ module _ {V M : Type 0} (job : Job V M) where
 
   -- a step took the partition to the next superstep: it sent what its share sends, and counted just the executions of its
   -- vertices that are needed beside the kept run, if any
-  pub record HasStepped (value_eq : V → V → Bool) (message_eq : M → M → Bool) (kept : Option Rows) (rows : Rows) (n p r : ℕ) (course : Holding V M) (sent : List (Logged M)) (calls calls_after : ℕ) : Type 0 where
+  pub record HasStepped (value_eq : V → V → Bool) (message_eq : M → M → Bool) (kept : Option Rows) (rows : Rows) (n p r : ℕ)
+      (course : Holding V M) (sent : List (Logged M)) (calls calls_after : ℕ) : Type 0 where
     pub holds : Holds kept rows n p (r + 1) course
     pub to_each : length sent ≡ n
     pub sends : (q : ℕ) → q < n → IsSentTo kept rows n p q r (slice_get sent q)

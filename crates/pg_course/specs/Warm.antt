@@ -39,19 +39,22 @@ module _ {V M : Type 0} (value_eq : V → V → Bool) (course : Holding V M) (ol
   AreCompared = AreTold value_eq old trace_after (course.place + 1) looked_at
 
 -- what the old run sent is mended by changes of records
-pub record IsSentBeside {V M : Type 0} (combining : Option (Combining M)) (course : Holding V M) (old : Trace V M) (old_logs : Slots M) (changes : List (ℕ × Option (Record V M))) (sent : List (Logged M)) : Type 0 where
+pub record IsSentBeside {V M : Type 0} (combining : Option (Combining M)) (course : Holding V M) (old : Trace V M) (old_logs : Slots M)
+    (changes : List (ℕ × Option (Record V M))) (sent : List (Logged M)) : Type 0 where
   pub to_each : length sent ≡ course.partitions
   pub sends : (q : ℕ) → q < course.partitions → IsMended combining
       (items_to course.partitions q (flat_map (pairs_of old course.place) changes)) (items_to course.partitions q (flat_map sends_of changes))
       (slot_at old_logs course.place course.partition q) (slice_get sent q)
 
-module _ {V M : Type 0} (value_eq : V → V → Bool) (message_eq : M → M → Bool) (combining : Option (Combining M)) (course : Holding V M) (old : Trace V M) (old_logs : Slots M) where
+module _ {V M : Type 0} (value_eq : V → V → Bool) (message_eq : M → M → Bool) (combining : Option (Combining M)) (course : Holding V M)
+    (old : Trace V M) (old_logs : Slots M) where
   -- the bundles to the partition in the old run
   abbrev pub old_bundles : List (Parcels M)
   old_bundles = bundles_before old_logs course.partitions course.partition course.place
 
   -- all that had to be looked at was, and executed where the old run read something else
-  pub record IsReplayed (program : Program V M) (logs : Slots M) (old_view view : View) (bundles : List (Parcels M)) (before : ℕ) (played : Played V M) : Type 0 where
+  pub record IsReplayed (program : Program V M) (logs : Slots M) (old_view view : View) (bundles : List (Parcels M)) (before : ℕ)
+      (played : Played V M) : Type 0 where
     pub ids : List ℕ
     pub looked : AreLookedAt combining bundles course.partitions course.partition course.place course.trace course.restless course.resting logs old_logs
         (is_same_view old_view view) ids

@@ -22,7 +22,8 @@ and_left : (a b : Bool) → (a && b) ≡ true → a ≡ true
 and_left true b h = refl
 and_left false b h = h
 
-slice_get-shown : (places p : ℕ) (values : List ℤ) (i : ℕ) (v : ℤ) → slice_get values i ≡ Some v → slice_get (shown places p values) i ≡ Some (cond (has_place places (p + i)) (Some v) None)
+slice_get-shown : (places p : ℕ) (values : List ℤ) (i : ℕ) (v : ℤ) → slice_get values i ≡ Some v
+    → slice_get (shown places p values) i ≡ Some (cond (has_place places (p + i)) (Some v) None)
 slice_get-shown places p [] i v h = let k : None ≡ Some v = h in cc
 slice_get-shown places p (x ∷ values) zero v h =
     let same : x ≡ v = (let k : Some x ≡ Some v = h in cc) in
@@ -44,10 +45,12 @@ some_cond : {X : Type 0} (b : Bool) (x : X) → is_some (cond b (Some x) None) �
 some_cond true x = refl
 some_cond false x = refl
 
-pub shows_declared : (declared : Declared) (s n : ℕ) (v : Visible) → has_places declared n ≡ true → length v.values ≡ n → ShowsDeclared declared (view_of declared s v)
+pub shows_declared : (declared : Declared) (s n : ℕ) (v : Visible) → has_places declared n ≡ true → length v.values ≡ n
+    → ShowsDeclared declared (view_of declared s v)
 unfolding view_of
 shows_declared declared s n v registered places =
-    let none : declared.reads / 2 ^ n ≡ 0 = eqb-true (declared.reads / 2 ^ n) 0 (and_left (declared.reads / 2 ^ n == 0) (declared.writes / 2 ^ n == 0) registered) in
+    let none : declared.reads / 2 ^ n ≡ 0 =
+    eqb-true (declared.reads / 2 ^ n) 0 (and_left (declared.reads / 2 ^ n == 0) (declared.writes / 2 ^ n == 0) registered) in
     record {
       aggregates = λ place declares.
           ⊎_elim

@@ -22,7 +22,9 @@ or_assoc a b c =
 
 -- an operation on numbers below 2^64 that is associative, commutative and has a neutral one is so on the whole numbers with these bits
 module _ (f : ℕ → ℕ → ℕ) (below : (m n : ℕ) → m < 2 ^ 64 → n < 2 ^ 64 → f m n < 2 ^ 64) where
-  IsCommutativeMonoid-on_bits : (initial : ℤ) → FitsSigned w64 initial → ((m n k : ℕ) → f (f m n) k ≡ f m (f n k)) → ((m n : ℕ) → f m n ≡ f n m) → ((n : ℕ) → n < 2 ^ 64 → f (of_z w64 initial) n ≡ n) → IsCommutativeMonoid (FitsSigned w64) (λ a b. to_z w64 (f (of_z w64 a) (of_z w64 b))) initial
+  IsCommutativeMonoid-on_bits : (initial : ℤ) → FitsSigned w64 initial → ((m n k : ℕ) → f (f m n) k ≡ f m (f n k))
+      → ((m n : ℕ) → f m n ≡ f n m) → ((n : ℕ) → n < 2 ^ 64 → f (of_z w64 initial) n ≡ n)
+      → IsCommutativeMonoid (FitsSigned w64) (λ a b. to_z w64 (f (of_z w64 a) (of_z w64 b))) initial
   IsCommutativeMonoid-on_bits initial begins associative commutative neutral =
       let bits_below = λ (a : ℤ) (p : FitsSigned w64 a). (Fits-of_z {w = w64} p).fits in
       let result_below = λ (a b : ℤ) (p : FitsSigned w64 a) (q : FitsSigned w64 b). below (of_z w64 a) (of_z w64 b) (bits_below a p) (bits_below b q) in

@@ -28,7 +28,8 @@ place_of name registered = position_from (bytes_eq name) 0 (map (λ e. e.0) regi
 -- why a name is refused, in the order of testing
 unfoldable pub refusal_of : Registered → List ℕ → Option RegisterFault
 refusal_of registered name =
-    cond (not (is_name name)) (Some BadName) (cond (is_some (place_of name registered)) (Some NameTaken) (cond (nat_le 16 (length registered)) (Some TooMany) None))
+    cond (not (is_name name)) (Some BadName)
+    (cond (is_some (place_of name registered)) (Some NameTaken) (cond (nat_le 16 (length registered)) (Some TooMany) None))
 
 -- the first name of a list that is refused after those before it, and why
 unfoldable pub first_refusal : Registered → Registered → Option RegisterFault

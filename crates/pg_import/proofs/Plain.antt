@@ -109,7 +109,8 @@ edge_of-two : (first second : List ℕ) (source target : ℕ) → id_of first �
 unfolding edge_of
 edge_of-two first second source target s t = rw (s, t) refl
 
-edge_of-three : (first second third : List ℕ) (source target : ℕ) (weight : ℤ) → id_of first ≡ Ok source → id_of second ≡ Ok target → weight_of third ≡ Ok weight
+edge_of-three : (first second third : List ℕ) (source target : ℕ) (weight : ℤ) → id_of first ≡ Ok source → id_of second ≡ Ok target
+    → weight_of third ≡ Ok weight
     → edge_of (first ∷ second ∷ third ∷ []) ≡ Ok (record { source = source; target = target; weight = weight })
 unfolding edge_of
 edge_of-three first second third source target weight s t w = rw (s, t, w) refl
@@ -123,7 +124,8 @@ pub edge-two : (text ahead rest end : List ℕ) (source target : ℕ) → Begins
     → BeginsWithNumber rest target end → (length end == 0) ≡ true
     → reading_of (words_of text) ≡ Ok (Some (record { source = source; target = target; weight = pos 1 }))
 edge-two text ahead rest end source target first after second none =
-    ap reading_of (words_of-number text ahead rest source first after ∙ ap (λ ws. first.read.digits ∷ ws) (words_of-last rest end target second (no_bytes end none)))
+    ap reading_of
+    (words_of-number text ahead rest source first after ∙ ap (λ ws. first.read.digits ∷ ws) (words_of-last rest end target second (no_bytes end none)))
     ∙ reading_of-edge first.read.digits (second.read.digits ∷ []) _ (begins_with-digits first.read.digits first.read.are_digits)
     (edge_of-two first.read.digits second.read.digits source target (id_of-number text ahead source first) (id_of-number rest end target second))
 

@@ -78,7 +78,8 @@ module _ {M : Type 0} where
       front = (s.0, s.2)
 
       by : (b : Bool) → has_id (map (λ m. m.0) (without_senders sent)) q ≡ not (no_letters (letters_to q sent))
-          → (b || has_id (map (λ m. m.0) (without_senders sent)) q) ≡ not (no_letters (map (λ s. (s.0, s.2)) (cond b (s ∷ filter (λ s. s.1 == q) sent) (filter (λ s. s.1 == q) sent))))
+          → (b || has_id (map (λ m. m.0) (without_senders sent)) q) ≡ not
+          (no_letters (map (λ s. (s.0, s.2)) (cond b (s ∷ filter (λ s. s.1 == q) sent) (filter (λ s. s.1 == q) sent))))
       by true h = ap not (sym (some_not_empty front (letters_to q sent)))
       by false h = h
 
@@ -98,7 +99,9 @@ module _ {M : Type 0} where
 
     pub rises-bundle_of : (sent : Sends M) → HasRisingIds (bundle_of combining sent)
     rises-bundle_of sent =
-        subst (IsStrictlySortedBy nat_cmp) (sym (keys-ids (λ target. contents_of combining (letters_to target sent)) (targets (without_senders sent)))) (targets-rise (without_senders sent))
+        subst (IsStrictlySortedBy nat_cmp)
+        (sym (keys-ids (λ target. contents_of combining (letters_to target sent)) (targets (without_senders sent))))
+        (targets-rise (without_senders sent))
 
     -- and that tells the bundle
     pub is_bundle_of : (parcels : Parcels M) (sent : Sends M) → HasRisingIds parcels
@@ -112,7 +115,8 @@ module _ {M : Type 0} where
   items-letters q (s ∷ sent) = by (s.1 == q) (items-letters q sent)
     where
       by : (b : Bool) → items_to q (map as_item sent) ≡ letters_to q sent
-          → map (λ i. i.1) (cond b (as_item s ∷ filter (λ i. i.0 == q) (map as_item sent)) (filter (λ i. i.0 == q) (map as_item sent))) ≡ map (λ s. (s.0, s.2)) (cond b (s ∷ filter (λ s. s.1 == q) sent) (filter (λ s. s.1 == q) sent))
+          → map (λ i. i.1) (cond b (as_item s ∷ filter (λ i. i.0 == q) (map as_item sent)) (filter (λ i. i.0 == q) (map as_item sent))) ≡ map
+          (λ s. (s.0, s.2)) (cond b (s ∷ filter (λ s. s.1 == q) sent) (filter (λ s. s.1 == q) sent))
       by true h = ap (λ l. (s.0, s.2) ∷ l) h
       by false h = h
 

@@ -74,7 +74,8 @@ module _ {M : Type 0} (id : ℕ) where
           → from q (pairs (cond a (s ∷ mine) mine)) ≡ letters_to id (cond b (s ∷ sent_by q sent) (sent_by q sent))
       by true true e f h =
           ap (λ b. cond b (letter ∷ from q (letters_to id sent)) (from q (letters_to id sent))) f
-          ∙ (ap (λ l. letter ∷ l) h ∙ sym (ap (λ a. pairs (cond a (s ∷ filter (λ s. s.1 == id) (sent_by q sent)) (filter (λ s. s.1 == id) (sent_by q sent)))) e))
+          ∙ (ap (λ l. letter ∷ l) h
+          ∙ sym (ap (λ a. pairs (cond a (s ∷ filter (λ s. s.1 == id) (sent_by q sent)) (filter (λ s. s.1 == id) (sent_by q sent)))) e))
       by true false e f h = ap (λ b. cond b (letter ∷ from q (letters_to id sent)) (from q (letters_to id sent))) f ∙ h
       by false true e f h = h ∙ sym (ap (λ a. pairs (cond a (s ∷ filter (λ s. s.1 == id) (sent_by q sent)) (filter (λ s. s.1 == id) (sent_by q sent)))) e)
       by false false e f h = h
@@ -109,7 +110,8 @@ module _ {M : Type 0} (id : ℕ) where
   messages-letters (s ∷ sent) = by (s.1 == id) (messages-letters sent)
     where
       by : (b : Bool) → messages (letters_to id sent) ≡ messages_to id (without_senders sent)
-          → messages (map (λ s. (s.0, s.2)) (cond b (s ∷ filter (λ s. s.1 == id) sent) (filter (λ s. s.1 == id) sent))) ≡ map (λ m. m.1) (cond b ((s.1, s.2) ∷ filter (λ m. m.0 == id) (without_senders sent)) (filter (λ m. m.0 == id) (without_senders sent)))
+          → messages (map (λ s. (s.0, s.2)) (cond b (s ∷ filter (λ s. s.1 == id) sent) (filter (λ s. s.1 == id) sent))) ≡ map (λ m. m.1)
+          (cond b ((s.1, s.2) ∷ filter (λ m. m.0 == id) (without_senders sent)) (filter (λ m. m.0 == id) (without_senders sent)))
       by true h = ap (λ l. s.2 ∷ l) h
       by false h = h
 
@@ -220,7 +222,8 @@ module _ {M : Type 0} {is_value : M → Type 0} (c : Combining M) (law : IsCommu
         ap (flat_map (folded_at id)) are
         ∙ (flat_map-of_map (folded_at id) (bundle_of (Some c)) lists
         ∙ (same_flat_map (λ l. folded_at id (bundle_of (Some c) l)) (λ l. one_fold (letters_to id l)) (λ l.
-        ap (λ (o : Option (Contents M)). elim o [ None ↦ [] | Some contents ↦ option_to_list contents.folded ]) (value_at-bundle_of (Some c) id l) ∙ any_folded (letters_to id l)) lists
+        ap (λ (o : Option (Contents M)). elim o [ None ↦ [] | Some contents ↦ option_to_list contents.folded ])
+        (value_at-bundle_of (Some c) id l) ∙ any_folded (letters_to id l)) lists
         ∙ sym (flat_map-of_map one_fold (letters_to id) lists)))
 
     delivers_some : (bundles : List (Parcels M)) → AllByRecursion (λ b. HoldsAt is_value (value_at id b)) bundles
@@ -229,14 +232,18 @@ module _ {M : Type 0} {is_value : M → Type 0} (c : Combining M) (law : IsCommu
         let parts : List (List (ℕ × M)) = map (letters_to id) lists in
         let joined : flat_map (λ (l : List (ℕ × M)). l) parts ≡ flat_map (letters_to id) lists = flat_map-of_map (λ l. l) (letters_to id) lists in
         let values : AllByRecursion IsValues parts =
-        all_parts lists (all_of_map (λ b. HoldsAt is_value (value_at id b)) (bundle_of (Some c)) lists (subst (AllByRecursion (λ b. HoldsAt is_value (value_at id b))) are hold)) in
+        all_parts lists (all_of_map (λ b. HoldsAt is_value (value_at id b)) (bundle_of (Some c)) lists
+        (subst (AllByRecursion (λ b. HoldsAt is_value (value_at id b))) are hold)) in
         let moved : IsPermutation (messages (flat_map (letters_to id) lists)) (messages (letters_to id all)) =
-        IsPermutation-map (λ x. x.1) (flat_map (letters_to id) lists) (letters_to id all) (permutation_by_number (flat_map (letters_to id) lists) (letters_to id all) (up_letters id all of.rise) (same_letters id lists all of)) in
-        let each : All is_value (messages (flat_map (letters_to id) lists)) = subst (λ l. All is_value (messages l)) joined (all_values (flat_map (λ l. l) parts) (all_joined parts values)) in
+        IsPermutation-map (λ x. x.1) (flat_map (letters_to id) lists) (letters_to id all)
+        (permutation_by_number (flat_map (letters_to id) lists) (letters_to id all) (up_letters id all of.rise) (same_letters id lists all of)) in
+        let each : All is_value (messages (flat_map (letters_to id) lists)) =
+        subst (λ l. All is_value (messages l)) joined (all_values (flat_map (λ l. l) parts) (all_joined parts values)) in
         ap (combined (Some c)) (folded_in_bundles bundles lists are)
         ∙ (combined_by (flat_map one_fold parts) (messages (flat_map (λ l. l) parts)) (nil_parts parts) (fold_parts c.initial parts law.begins values)
         ∙ (ap (λ l. combined (Some c) (messages l)) joined
-        ∙ (combined_by (messages (flat_map (letters_to id) lists)) (messages (letters_to id all)) (nil_permutation _ _ moved) (sym (fold-IsPermutation law c.initial _ _ law.begins each moved))
+        ∙ (combined_by (messages (flat_map (letters_to id) lists)) (messages (letters_to id all)) (nil_permutation _ _ moved)
+        (sym (fold-IsPermutation law c.initial _ _ law.begins each moved))
         ∙ ap (combined (Some c)) (messages-letters id all))))
       where
         all_joined : (parts : List (List (ℕ × M))) → AllByRecursion IsValues parts → IsValues (flat_map (λ l. l) parts)
@@ -262,7 +269,8 @@ module _ {M : Type 0} (id : ℕ) where
       flat_map-append (λ (c : Contents M). option_to_list c.folded) (option_to_list (value_at id b)) (contents_to id bundles)
       ∙ ap₂ ◌++◌ (by (value_at id b)) (folded_of_all bundles)
     where
-      by : (o : Option (Contents M)) → flat_map (λ c. option_to_list c.folded) (option_to_list o) ≡ elim o [ None ↦ [] | Some contents ↦ option_to_list contents.folded ]
+      by : (o : Option (Contents M))
+          → flat_map (λ c. option_to_list c.folded) (option_to_list o) ≡ elim o [ None ↦ [] | Some contents ↦ option_to_list contents.folded ]
       by None = refl
       by (Some c) = append-nil (option_to_list c.folded)
 
@@ -366,7 +374,8 @@ module _ {M : Type 0} (is_value : M → Type 0) where
           (delivers_received id is_value combining law bundles (hold_in_all id bundles (all_apart bundles hold)));
     }
       where
-        here : (id : ℕ) → value_at id (map (λ g. (g.0, received_of combining g.1)) groups) ≡ option_map (received_of combining) (any_of (contents_to id bundles))
+        here : (id : ℕ)
+            → value_at id (map (λ g. (g.0, received_of combining g.1)) groups) ≡ option_map (received_of combining) (any_of (contents_to id bundles))
         here id =
             value_at-values (received_of combining) id groups
             ∙ ap (option_map (received_of combining)) (grouped.told id ∙ ap any_of (items_of_all id bundles rise))

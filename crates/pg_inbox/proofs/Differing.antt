@@ -157,7 +157,8 @@ module _ {M : Type 0} (target : ℕ) where
   first_from (e ∷ es) = e.from
 
   one_entry : (m m' : M) (n n' : ℕ)
-      → ◌≡◌ {A = List (Entry M)} (record { target = target; from = None; message = m; count = n } ∷ []) (record { target = target; from = None; message = m'; count = n' } ∷ [])
+      → ◌≡◌ {A = List (Entry M)} (record { target = target; from = None; message = m; count = n } ∷ [])
+      (record { target = target; from = None; message = m'; count = n' } ∷ [])
       → (m ≡ m') × (n ≡ n')
   unfolding first_message first_count
   one_entry m m' n n' h = (ap (first_message m) h, ap first_count h)

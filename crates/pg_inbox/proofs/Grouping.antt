@@ -34,7 +34,8 @@ module _ {X : Type 0} where
 
   -- ---- the last target
 
-  module _ (groups before : List (ℕ × List X)) (target : ℕ) (xs : List X) (x : X) (are : groups ≡ before ++ (target, xs) ∷ []) (rise : HasRisingIds groups) where
+  module _ (groups before : List (ℕ × List X)) (target : ℕ) (xs : List X) (x : X) (are : groups ≡ before ++ (target, xs) ∷ [])
+      (rise : HasRisingIds groups) where
     below : AllByRecursion (λ g. g.0 < target) before
     below = below_middle before (target, xs) [] (subst HasRisingIds are rise)
 
@@ -50,7 +51,8 @@ module _ {X : Type 0} where
         sym (ap (λ o. with_change target (Some (elim o [ None ↦ [] | Some ys ↦ ys ] ++ x ∷ [])) groups) there
         ∙ ap (with_change target change) are
         ∙ change-right target change before ((target, xs) ∷ []) below
-        ∙ ap (λ r. before ++ match_ordering r ((target, xs ++ x ∷ []) ∷ (target, xs) ∷ []) ((target, xs ++ x ∷ []) ∷ []) ((target, xs) ∷ insert_entry nat_cmp [] target (xs ++ x ∷ []))) (is_equal target))
+        ∙ ap (λ r. before ++ match_ordering r ((target, xs ++ x ∷ []) ∷ (target, xs) ∷ []) ((target, xs ++ x ∷ []) ∷ [])
+        ((target, xs) ∷ insert_entry nat_cmp [] target (xs ++ x ∷ []))) (is_equal target))
 
   pub put_after_last : (groups : List (ℕ × List X)) (target : ℕ) (x : X) → HasRisingIds groups → AllByRecursion (λ g. g.0 < target) groups
       → groups ++ (target, x ∷ []) ∷ [] ≡ with_item groups (target, x)
@@ -118,7 +120,9 @@ module _ {X : Type 0} where
 
   module _ (target : ℕ) where
     abbrev Told : List (ℕ × X) → Type 0
-    Told items = (groups : List (ℕ × List X)) (l : List X) → HasRisingIds groups → value_at target groups ≡ any_of l → value_at target (fold with_item groups items) ≡ any_of (l ++ items_to target items)
+    Told items =
+        (groups : List (ℕ × List X)) (l : List X) → HasRisingIds groups → value_at target groups ≡ any_of l → value_at target
+        (fold with_item groups items) ≡ any_of (l ++ items_to target items)
 
     told-fold : (items : List (ℕ × X)) → Told items
     told-fold [] groups l rise so_far = so_far ∙ ap any_of (sym (append-nil l))
@@ -128,7 +132,8 @@ module _ {X : Type 0} where
         rise' = rises-change i.0 (Some (group_at i.0 groups ++ i.1 ∷ [])) groups rise
 
         by : (b : Bool) → (i.0 == target) ≡ b → Told items
-            → value_at target (fold with_item (with_item groups i) items) ≡ any_of (l ++ map (λ i. i.1) (cond b (i ∷ filter (λ i. i.0 == target) items) (filter (λ i. i.0 == target) items)))
+            → value_at target (fold with_item (with_item groups i) items) ≡ any_of
+            (l ++ map (λ i. i.1) (cond b (i ∷ filter (λ i. i.0 == target) items) (filter (λ i. i.0 == target) items)))
         by true e told =
             let same : i.0 ≡ target = same_id i.0 target e in
             let group : group_at i.0 groups ≡ l = ap (λ q. group_at q groups) same
@@ -152,8 +157,11 @@ module _ {X : Type 0} where
   pub before_at_most : (before : List (ℕ × X)) (i : ℕ × X) (later : List (ℕ × X)) → IsNonDecreasingBy (λ j. j.0) (before ++ i ∷ later)
       → AllByRecursion (λ j. j.0 ≤ i.0) before
   before_at_most [] i later rise = tt
-  before_at_most (b ∷ before) i later rise =
-      (last_is before (rise 0 (length (b ∷ before)) i (omega arith) (inside before)), before_at_most before i later (λ j k d h w. rise (suc j) (suc k) d (omega arith) (omega arith)))
+  before_at_most (b ∷ before) i later rise = (
+    last_is before (rise 0 (length (b ∷ before)) i (omega arith) (inside before)),
+    before_at_most before i later
+        (λ j k d h w. rise (suc j) (suc k) d (omega arith) (omega arith)),
+  )
     where
       inside : (l : List (ℕ × X)) → length (b ∷ l) < length (b ∷ l ++ i ∷ later)
       inside [] = omega arith

@@ -76,7 +76,8 @@ module _ {M : Type 0} (q : ℕ) where
   none_withdrawn (s ∷ added) = by (s.1 == q) (none_withdrawn added)
     where
       by : (b : Bool) → senders_of (items_to q (map as_addition added)) ≡ []
-          → senders_of (map (λ i. i.1) (cond b (as_addition s ∷ filter (λ i. i.0 == q) (map as_addition added)) (filter (λ i. i.0 == q) (map as_addition added)))) ≡ []
+          → senders_of
+          (map (λ i. i.1) (cond b (as_addition s ∷ filter (λ i. i.0 == q) (map as_addition added)) (filter (λ i. i.0 == q) (map as_addition added)))) ≡ []
       by true h = h
       by false h = h
 
@@ -99,7 +100,9 @@ module _ {M : Type 0} (q : ℕ) where
   added_alone (s ∷ added) = by (s.1 == q) (added_alone added)
     where
       by : (b : Bool) → additions (items_to q (map as_addition added)) ≡ letters_to q added
-          → additions (map (λ i. i.1) (cond b (as_addition s ∷ filter (λ i. i.0 == q) (map as_addition added)) (filter (λ i. i.0 == q) (map as_addition added)))) ≡ map (λ s. (s.0, s.2)) (cond b (s ∷ filter (λ s. s.1 == q) added) (filter (λ s. s.1 == q) added))
+          → additions
+          (map (λ i. i.1) (cond b (as_addition s ∷ filter (λ i. i.0 == q) (map as_addition added)) (filter (λ i. i.0 == q) (map as_addition added)))) ≡ map
+          (λ s. (s.0, s.2)) (cond b (s ∷ filter (λ s. s.1 == q) added) (filter (λ s. s.1 == q) added))
       by true h = ap (λ l. (s.0, s.2) ∷ l) h
       by false h = h
 
@@ -182,7 +185,8 @@ pub changes_rise : {M : Type 0} (combining : Option (Combining M)) (old : Parcel
     → ChangesRise (changes_of combining old groups)
 changes_rise combining old groups rise = subst (IsStrictlySortedBy nat_cmp) (sym (keys-made (mended_at combining old) groups)) rise
 
-module _ {M : Type 0} (combining : Option (Combining M)) (withdrawn : List (ℕ × ℕ)) (added : Sends M) (old : Parcels M) (groups : List (ℕ × List (Mend M))) where
+module _ {M : Type 0} (combining : Option (Combining M)) (withdrawn : List (ℕ × ℕ)) (added : Sends M) (old : Parcels M)
+    (groups : List (ℕ × List (Mend M))) where
   module _ (grouped : AreGroups (mends_of withdrawn added) groups) where
     pub patched : (new : Parcels M) → new ≡ with_changes (changes_of combining old groups) old → IsPatched combining withdrawn added old new
     patched new are before after rise replaced is =

@@ -30,7 +30,8 @@ module _ {M : Type 0} (is_value : M → Type 0) where
   pub hold-groups : (combining : Option (Combining M)) (groups : List (ℕ × List (ℕ × M))) (parcels : Parcels M)
       → AllByRecursion (λ g. IsLetters is_value g.1) groups → parcels ≡ map (λ g. (g.0, contents_of combining g.1)) groups → HoldAll is_value parcels
   hold-groups combining groups parcels letters are =
-      subst (HoldAll is_value) (sym are) (All-from_recursion (Holds is_value) (values_of (map (λ g. (g.0, contents_of combining g.1)) groups)) (each groups letters))
+      subst (HoldAll is_value) (sym are)
+      (All-from_recursion (Holds is_value) (values_of (map (λ g. (g.0, contents_of combining g.1)) groups)) (each groups letters))
     where
       each : (gs : List (ℕ × List (ℕ × M))) → AllByRecursion (λ g. IsLetters is_value g.1) gs
           → AllByRecursion (Holds is_value) (values_of (map (λ g. (g.0, contents_of combining g.1)) gs))
@@ -53,7 +54,8 @@ module _ {M : Type 0} (is_value : M → Type 0) where
       by None h = tt
       by (Some c) h = h
 
-  pub all_hold : (id : ℕ) (bundles : List (Parcels M)) → AllByRecursion (HoldAll is_value) bundles → AllByRecursion (λ b. HoldsAt is_value (value_at id b)) bundles
+  pub all_hold : (id : ℕ) (bundles : List (Parcels M)) → AllByRecursion (HoldAll is_value) bundles
+      → AllByRecursion (λ b. HoldsAt is_value (value_at id b)) bundles
   all_hold id [] h = tt
   all_hold id (b ∷ bundles) h = (holds_at id b h.0, all_hold id bundles h.1)
 

@@ -37,8 +37,11 @@ module _ {X : Type 0} (key : X → ℕ) where
 
   pub up_from : (xs : List X) → IsNonDecreasingBy key xs → IsUp xs
   up_from [] h = tt
-  up_from (x ∷ xs) h =
-      (each_at (λ y. key x ≤ key y) xs (λ j d w. h 0 (suc j) d (omega arith) (omega arith)), up_from xs (λ i j d l w. h (suc i) (suc j) d (omega arith) (omega arith)))
+  up_from (x ∷ xs) h = (
+    each_at (λ y. key x ≤ key y) xs (λ j d w. h 0 (suc j) d (omega arith) (omega arith)),
+    up_from xs
+        (λ i j d l w. h (suc i) (suc j) d (omega arith) (omega arith)),
+  )
 
   all_kept : (P : X → Type 0) (p : X → Bool) (xs : List X) → AllByRecursion P xs → AllByRecursion P (filter p xs)
   all_kept P p [] h = tt

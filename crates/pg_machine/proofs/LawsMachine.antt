@@ -23,7 +23,7 @@ are_allowed-append : (state : State) (before later : List Event)
 are_allowed-append state [] later = refl
 are_allowed-append state (e ∷ es) later =
     elim (is_allowed state e) as
-        (λ b. (b && are_allowed (after state e) (es ++ later)) ≡ ((b && are_allowed (after state e) es) && are_allowed (after_all (after state e) es) later)) [
+    (λ b. (b && are_allowed (after state e) (es ++ later)) ≡ ((b && are_allowed (after state e) es) && are_allowed (after_all (after state e) es) later)) [
       | true ↦ are_allowed-append (after state e) es later
       | false ↦ refl
     ]
@@ -115,8 +115,8 @@ module _ (p k : ℕ) where
       let none : k ≡ k + 0 = omega arith in
       let lost : not (is_some (place_at q state)) ≡ true = (and_parts _ _ (and_parts _ _ (and_parts _ _ allowed).1).1).0 in
       let apart : p ≢ q =
-          λ e. let there : is_some (place_at q state) ≡ true = ap (λ (q : ℕ). is_some (place_at q state)) (sym e)
-          ∙ ap is_some here in true≢false (sym there ∙ not-true _ lost) in
+      λ e. let there : is_some (place_at q state) ≡ true = ap (λ (q : ℕ). is_some (place_at q state)) (sym e)
+      ∙ ap is_some here in true≢false (sym there ∙ not-true _ lost) in
       get_or-set_other state.places q p _ None apart ∙ (here ∙ ap Some none)
   place_after state (Save q) allowed kept here = let none : k ≡ k + 0 = omega arith in here ∙ ap Some none
   place_after state (Close Next) allowed kept here = let none : k ≡ k + 0 = omega arith in here ∙ ap Some none
@@ -198,9 +198,9 @@ module _ (partitions workers : ℕ) (events : List Event) (to : State) (reaches 
   place_at_end ended p within =
       let from : State = first_state partitions workers in
       let together : EndsTogether to =
-          subst EndsTogether reaches.leads (EndsTogether-after_all from events (λ e. absurd (true≢false (sym e))) reaches.allowed) in
+      subst EndsTogether reaches.leads (EndsTogether-after_all from events (λ e. absurd (true≢false (sym e))) reaches.allowed) in
       let many : length to.places ≡ partitions =
-          ap (λ (s : State). length s.places) (sym reaches.leads) ∙ (length-places_all from events ∙ length-first partitions workers) in
+      ap (λ (s : State). length s.places) (sym reaches.leads) ∙ (length-places_all from events ∙ length-first partitions workers) in
       at_superstep (to.current + 1) (place_at p to)
       (AllPass-from_list_all (is_at (to.current + 1)) to.places (together ended) p None (subst (λ (n : ℕ). p < n) (sym many) within))
 
@@ -209,6 +209,6 @@ module _ (partitions workers : ℕ) (events : List Event) (to : State) (reaches 
     place = λ p within kept. place_by_steps partitions workers p events to reaches within kept;
     all = λ ended p within kept.
         let here : Some (steps_of p events) ≡ Some (to.current + 1) =
-            sym (place_by_steps partitions workers p events to reaches within kept) ∙ place_at_end ended p within in
+        sym (place_by_steps partitions workers p events to reaches within kept) ∙ place_at_end ended p within in
         cc;
   }

@@ -49,7 +49,7 @@ AreNear-after state (Step p) allowed near =
     record {
       places = AreAtMost-set (state.current + 1) state.places p (option_map (λ r. r + 1) (place_at p state)) near.places
           (λ r at. let is : steps.from + 1 ≡ r = same_Some (steps.from + 1) r (sym (ap (option_map (λ r. r + 1)) steps.at) ∙ at) in omega
-              (arith, is, steps.open_or_before));
+          (arith, is, steps.open_or_before));
       saved = near.saved;
     }
 AreNear-after state (Lose w) allowed near = record { places = AreAtMost-without (state.current + 1) w state.hosts state.places near.places; saved = near.saved }
@@ -60,7 +60,7 @@ AreNear-after state (Restore p r) allowed near =
     let lost : Bool = not (is_some (place_at p state)) in
     let may : (is_partition p state && (lost && (alive && last))) ≡ true = (and_parts (not state.ended) _ allowed).1 in
     let least : r ≤ state.current + 1 =
-        by (r == 0) refl (and_parts alive last (and_parts lost (alive && last) (and_parts (is_partition p state) (lost && (alive && last)) may).1).1).1 in
+    by (r == 0) refl (and_parts alive last (and_parts lost (alive && last) (and_parts (is_partition p state) (lost && (alive && last)) may).1).1).1 in
     record {
       places =
           AreAtMost-set (state.current + 1) state.places p (Some r) near.places (λ s at. subst (λ (k : ℕ). k ≤ state.current + 1) (same_Some r s at) least);

@@ -20,7 +20,9 @@ same_shown : (b : Bool) (v w : ℤ) → (b ≡ true → v ≡ w) → cond b (Som
 same_shown true v w e = ap Some (e refl)
 same_shown false v w e = refl
 
-shown_alike : (places place : ℕ) (xs ys : List ℤ) → length xs ≡ length ys → ((k : ℕ) (d : ℤ) → k < length xs → has_place places (place + k) ≡ true → get_or xs k d ≡ get_or ys k d) → shown places place xs ≡ shown places place ys
+shown_alike : (places place : ℕ) (xs ys : List ℤ) → length xs ≡ length ys
+    → ((k : ℕ) (d : ℤ) → k < length xs → has_place places (place + k) ≡ true → get_or xs k d ≡ get_or ys k d)
+    → shown places place xs ≡ shown places place ys
 shown_alike places place [] [] e h = refl
 shown_alike places place [] (y ∷ ys) e h = absurd (omega arith)
 shown_alike places place (x ∷ xs) [] e h = absurd (omega arith)
@@ -40,7 +42,9 @@ same_total false v w e = refl
 pub same_view : (declared : Declared) (s : ℕ) (a b : Visible) → IsSeenAlike declared a b → view_of declared s a ≡ view_of declared s b
 unfolding view_of
 same_view declared s a b h =
-    let aggregates : shown declared.reads 0 a.values ≡ shown declared.reads 0 b.values = shown_alike declared.reads 0 a.values b.values h.places (λ k d l t. h.values k d l (subst (λ (n : ℕ). has_place declared.reads n ≡ true) (zero-add k) t)) in
+    let aggregates : shown declared.reads 0 a.values ≡ shown declared.reads 0 b.values =
+    shown_alike declared.reads 0 a.values b.values h.places
+    (λ k d l t. h.values k d l (subst (λ (n : ℕ). has_place declared.reads n ≡ true) (zero-add k) t)) in
     let vertices = same_total declared.total_vertices a.total_vertices b.total_vertices h.vertices in
     let edges = same_total declared.total_edges a.total_edges b.total_edges h.edges in
     λ i. record { superstep = s; aggregates = aggregates i; total_vertices = vertices i; total_edges = edges i }
@@ -63,7 +67,8 @@ as_many_shown : (places place : ℕ) (xs : List ℤ) → length (shown places pl
 as_many_shown places place [] = refl
 as_many_shown places place (x ∷ xs) = ap suc (as_many_shown places (place + 1) xs)
 
-alike_shown : (places place : ℕ) (xs ys : List ℤ) → shown places place xs ≡ shown places place ys → (k : ℕ) (d : ℤ) → has_place places (place + k) ≡ true → get_or xs k d ≡ get_or ys k d
+alike_shown : (places place : ℕ) (xs ys : List ℤ) → shown places place xs ≡ shown places place ys → (k : ℕ) (d : ℤ)
+    → has_place places (place + k) ≡ true → get_or xs k d ≡ get_or ys k d
 alike_shown places place [] [] e k d t = refl
 alike_shown places place [] (y ∷ ys) e k d t = absurd (omega (arith, ap length e))
 alike_shown places place (x ∷ xs) [] e k d t = absurd (omega (arith, ap length e))
@@ -93,11 +98,13 @@ module _ {V M : Type 0} where
   same_inputs v w x y e state inbox = λ i. inputs_of (e i) (record { state = state i; inbox = inbox i })
 
   -- and the superstep makes the same of it
-  pub same_outcome : (program : Program V M) (v w : View) (x y : Standing V M) → v ≡ w → x.state ≡ y.state → x.inbox ≡ y.inbox → outcome program v x ≡ outcome program w y
+  pub same_outcome : (program : Program V M) (v w : View) (x y : Standing V M) → v ≡ w → x.state ≡ y.state → x.inbox ≡ y.inbox
+      → outcome program v x ≡ outcome program w y
   same_outcome program v w x y e state inbox = λ i. outcome program (e i) (record { state = state i; inbox = inbox i })
 
   -- so its next state is the same
-  pub same_next_state : (program : Program V M) (v w : View) (x y : Standing V M) → v ≡ w → x.state ≡ y.state → x.inbox ≡ y.inbox → state_after x.state (outcome program v x) ≡ state_after y.state (outcome program w y)
+  pub same_next_state : (program : Program V M) (v w : View) (x y : Standing V M) → v ≡ w → x.state ≡ y.state → x.inbox ≡ y.inbox
+      → state_after x.state (outcome program v x) ≡ state_after y.state (outcome program w y)
   same_next_state program v w x y e state inbox =
       let made = same_outcome program v w x y e state inbox in
       λ i. state_after (state i) (made i)
@@ -120,14 +127,18 @@ module _ {V M : Type 0} where
 
 module _ {V M : Type 0} where
   -- an execution gives the program's step on its inputs
-  pub outcome_of_inputs : (job : Job V M) (rows : Rows) (s id : ℕ) (x : Standing V M) (i : Inputs V M) → standing_at id (present_at job rows s) ≡ Some x → inputs_at job rows s id ≡ Some i → outcome job.program (view_at job rows s) x ≡ job.program.step i
+  pub outcome_of_inputs : (job : Job V M) (rows : Rows) (s id : ℕ) (x : Standing V M) (i : Inputs V M)
+      → standing_at id (present_at job rows s) ≡ Some x → inputs_at job rows s id ≡ Some i
+      → outcome job.program (view_at job rows s) x ≡ job.program.step i
   outcome_of_inputs job rows s id x i at e =
       let r = executed_from_inputs job rows s id i e in
       let same : r.0 ≡ x = same_Some r.0 x (sym r.1.present ∙ at) in
       sym (ap (outcome job.program (view_at job rows s)) same) ∙ (outcome-active job.program (view_at job rows s) r.0 r.1.active ∙ ap job.program.step r.2)
 
   -- and leaves the state that this step says
-  pub next_state_of_inputs : (job : Job V M) (rows : Rows) (s id : ℕ) (x : Standing V M) (i : Inputs V M) → standing_at id (present_at job rows s) ≡ Some x → inputs_at job rows s id ≡ Some i → state_after x.state (outcome job.program (view_at job rows s) x) ≡ record { id = i.id; value = (job.program.step i).value; edges = (job.program.step i).edges; halted = (job.program.step i).halted }
+  pub next_state_of_inputs : (job : Job V M) (rows : Rows) (s id : ℕ) (x : Standing V M) (i : Inputs V M)
+      → standing_at id (present_at job rows s) ≡ Some x → inputs_at job rows s id ≡ Some i
+      → state_after x.state (outcome job.program (view_at job rows s) x) ≡ record { id = i.id; value = (job.program.step i).value; edges = (job.program.step i).edges; halted = (job.program.step i).halted }
   next_state_of_inputs job rows s id x i at e =
       let r = executed_from_inputs job rows s id i e in
       let same : r.0 ≡ x = same_Some r.0 x (sym r.1.present ∙ at) in
@@ -136,13 +147,19 @@ module _ {V M : Type 0} where
       λ j. record { id = named j; value = (made j).value; edges = (made j).edges; halted = (made j).halted }
 
   -- two runs of one program give the same record wherever an execution reads the same in both: this is why a record may be kept
-  pub same_record : (job job' : Job V M) (rows rows' : Rows) (s s' id id' : ℕ) (x x' : Standing V M) (i : Inputs V M) → job.program ≡ job'.program → standing_at id (present_at job rows s) ≡ Some x → inputs_at job rows s id ≡ Some i → standing_at id' (present_at job' rows' s') ≡ Some x' → inputs_at job' rows' s' id' ≡ Some i → outcome job.program (view_at job rows s) x ≡ outcome job'.program (view_at job' rows' s') x'
+  pub same_record : (job job' : Job V M) (rows rows' : Rows) (s s' id id' : ℕ) (x x' : Standing V M) (i : Inputs V M)
+      → job.program ≡ job'.program → standing_at id (present_at job rows s) ≡ Some x → inputs_at job rows s id ≡ Some i
+      → standing_at id' (present_at job' rows' s') ≡ Some x' → inputs_at job' rows' s' id' ≡ Some i
+      → outcome job.program (view_at job rows s) x ≡ outcome job'.program (view_at job' rows' s') x'
   same_record job job' rows rows' s s' id id' x x' i program at e at' e' =
       outcome_of_inputs job rows s id x i at e ∙ (ap (λ (p : Program V M). p.step i) program ∙ sym (outcome_of_inputs job' rows' s' id' x' i at' e'))
 
   -- two runs of one job read the same at a vertex that stands alike in both and sees the same
-  pub same_inputs_at : (job : Job V M) (rows rows' : Rows) (s id : ℕ) → s < run_length job rows → s < run_length job rows' → view_at job rows s ≡ view_at job rows' s → standing_at id (present_at job rows s) ≡ standing_at id (present_at job rows' s) → inputs_at job rows s id ≡ inputs_at job rows' s id
+  pub same_inputs_at : (job : Job V M) (rows rows' : Rows) (s id : ℕ) → s < run_length job rows → s < run_length job rows'
+      → view_at job rows s ≡ view_at job rows' s → standing_at id (present_at job rows s) ≡ standing_at id (present_at job rows' s)
+      → inputs_at job rows s id ≡ inputs_at job rows' s id
   unfolding inputs_at
   same_inputs_at job rows rows' s id within within' view at =
-      let both : ltb s (run_length job rows) ≡ ltb s (run_length job rows') = lt-ltb s (run_length job rows) within ∙ sym (lt-ltb s (run_length job rows') within') in
+      let both : ltb s (run_length job rows) ≡ ltb s (run_length job rows') =
+      lt-ltb s (run_length job rows) within ∙ sym (lt-ltb s (run_length job rows') within') in
       λ i. cond (both i) (option_and_then (inputs_if_active (view i)) (at i)) None

@@ -35,11 +35,14 @@ module _ {M : Type 0} where
       ((refl, omega arith), all_weaker _ _ (λ t h. (h.0, omega arith)) (sendings_from u (k + 1) ms) (from_one u (k + 1) ms))
 
   -- messages to a vertex, read off the messages with their senders
-  received : (id : ℕ) (ts : List (Sending M)) → map (λ (t : Sending M). t.message) (filter (λ (t : Sending M). t.target == id) ts) ≡ messages_to id (map (λ (t : Sending M). (t.target, t.message)) ts)
+  received : (id : ℕ) (ts : List (Sending M))
+      → map (λ (t : Sending M). t.message) (filter (λ (t : Sending M). t.target == id) ts) ≡ messages_to id (map (λ (t : Sending M). (t.target, t.message)) ts)
   received id [] = refl
   received id (t ∷ ts) = by (t.target == id) (received id ts)
     where
-      by : (b : Bool) → map (λ (t : Sending M). t.message) (filter (λ (t : Sending M). t.target == id) ts) ≡ messages_to id (map (λ (t : Sending M). (t.target, t.message)) ts) → map (λ (t : Sending M). t.message) (cond b (t ∷ filter (λ (t : Sending M). t.target == id) ts) (filter (λ (t : Sending M). t.target == id) ts)) ≡ map (λ (m : ℕ × M). m.1) (cond b ((t.target, t.message) ∷ filter (λ (m : ℕ × M). m.0 == id) (map (λ (t : Sending M). (t.target, t.message)) ts)) (filter (λ (m : ℕ × M). m.0 == id) (map (λ (t : Sending M). (t.target, t.message)) ts)))
+      by : (b : Bool)
+          → map (λ (t : Sending M). t.message) (filter (λ (t : Sending M). t.target == id) ts) ≡ messages_to id (map (λ (t : Sending M). (t.target, t.message)) ts)
+          → map (λ (t : Sending M). t.message) (cond b (t ∷ filter (λ (t : Sending M). t.target == id) ts) (filter (λ (t : Sending M). t.target == id) ts)) ≡ map (λ (m : ℕ × M). m.1) (cond b ((t.target, t.message) ∷ filter (λ (m : ℕ × M). m.0 == id) (map (λ (t : Sending M). (t.target, t.message)) ts)) (filter (λ (m : ℕ × M). m.0 == id) (map (λ (t : Sending M). (t.target, t.message)) ts)))
       by true h = ap (◌∷◌ t.message) h
       by false h = h
 
@@ -56,19 +59,29 @@ module _ {M : Type 0} where
   one_rises : (u k : ℕ) (ms : List (ℕ × M)) → IsStrictlySortedBy sending_cmp (sendings_from u k ms)
   unfolding IsStrictlySortedBy
   one_rises u k [] = tt
-  one_rises u k (m ∷ ms) =
-      (all_weaker _ _ (λ t h. less_by_place (record { sender = u; place = k; target = m.0; message = m.1 }) t (sym h.0) (omega arith)) (sendings_from u (k + 1) ms) (from_one u (k + 1) ms), one_rises u (k + 1) ms)
+  one_rises u k (m ∷ ms) = (
+    all_weaker _ _ (λ t h. less_by_place (record {
+      sender = u;
+      place = k;
+      target = m.0;
+      message = m.1;
+    }) t (sym h.0) (omega arith)) (sendings_from u (k + 1) ms) (from_one u (k + 1) ms),
+    one_rises u (k + 1) ms,
+  )
 
   -- what stands in one sender's list, at which of its places
-  place_in : (u k : ℕ) (ms : List (ℕ × M)) (t : Sending M) → Contains (sendings_from u k ms) t → (j : ℕ) × (k + j ≡ t.place) × (u ≡ t.sender) × (slice_get ms j ≡ Some (t.target, t.message))
+  place_in : (u k : ℕ) (ms : List (ℕ × M)) (t : Sending M) → Contains (sendings_from u k ms) t
+      → (j : ℕ) × (k + j ≡ t.place) × (u ≡ t.sender) × (slice_get ms j ≡ Some (t.target, t.message))
   place_in u k [] t h = absurd (omega (arith, h.1))
   place_in u k (m ∷ ms) t h =
       elim (contains_cases _ t (sendings_from u (k + 1) ms) h) [
-        | inl e ↦ (0, omega (arith, ap (λ (x : Sending M). x.place) e), ap (λ (x : Sending M). x.sender) e, ap (λ (x : Sending M). Some (x.target, x.message)) e)
+        | inl e ↦
+            (0, omega (arith, ap (λ (x : Sending M). x.place) e), ap (λ (x : Sending M). x.sender) e, ap (λ (x : Sending M). Some (x.target, x.message)) e)
         | inr later ↦ let r = place_in u (k + 1) ms t later in (suc r.0, omega (arith, r.1), r.2, r.3)
       ]
 
-  in_place : (u k : ℕ) (ms : List (ℕ × M)) (j : ℕ) (t : Sending M) → u ≡ t.sender → k + j ≡ t.place → slice_get ms j ≡ Some (t.target, t.message) → Contains (sendings_from u k ms) t
+  in_place : (u k : ℕ) (ms : List (ℕ × M)) (j : ℕ) (t : Sending M) → u ≡ t.sender → k + j ≡ t.place
+      → slice_get ms j ≡ Some (t.target, t.message) → Contains (sendings_from u k ms) t
   in_place u k [] j t a b e = absurd (none-some _ e)
   in_place u k (m ∷ ms) zero t a b e =
       let at : k ≡ t.place = omega arith in
@@ -78,10 +91,12 @@ module _ {M : Type 0} where
 
 module _ {V M : Type 0} (program : Program V M) (view : View) where
   -- a vertex gets what the first sender sent to it, then what the second did, and so on
-  pub messages_to-sends : (id : ℕ) (xs : List (Standing V M)) → messages_to id (sends program view xs) ≡ flat_map (λ x. messages_to id (outcome program view x).sent) xs
+  pub messages_to-sends : (id : ℕ) (xs : List (Standing V M))
+      → messages_to id (sends program view xs) ≡ flat_map (λ x. messages_to id (outcome program view x).sent) xs
   messages_to-sends id [] = refl
   messages_to-sends id (x ∷ xs) =
-      messages_to-append id (outcome program view x).sent (sends program view xs) ∙ ap (◌++◌ (messages_to id (outcome program view x).sent)) (messages_to-sends id xs)
+      messages_to-append id (outcome program view x).sent (sends program view xs)
+      ∙ ap (◌++◌ (messages_to id (outcome program view x).sent)) (messages_to-sends id xs)
 
   -- the messages of a superstep are those with their senders, in that order
   pub sendings-sends : (xs : List (Standing V M)) → map (λ t. (t.target, t.message)) (sendings program view xs) ≡ sends program view xs
@@ -91,14 +106,18 @@ module _ {V M : Type 0} (program : Program V M) (view : View) where
       ∙ ap₂ ◌++◌ (sent_of-from x.state.id 0 (outcome program view x).sent) (sendings-sends xs)
 
   -- a vertex gets the messages to it by sender and then by place
-  pub messages_to-sendings : (id : ℕ) (xs : List (Standing V M)) → map (λ t. t.message) (filter (λ t. t.target == id) (sendings program view xs)) ≡ messages_to id (sends program view xs)
+  pub messages_to-sendings : (id : ℕ) (xs : List (Standing V M))
+      → map (λ t. t.message) (filter (λ t. t.target == id) (sendings program view xs)) ≡ messages_to id (sends program view xs)
   messages_to-sendings id xs = received id (sendings program view xs) ∙ ap (messages_to id) (sendings-sends xs)
 
-  later_senders : (u : ℕ) (xs : List (Standing V M)) → AllByRecursion (λ id. nat_cmp u id ≡ Less) (ids xs) → AllByRecursion (λ (t : Sending M). u < t.sender) (sendings program view xs)
+  later_senders : (u : ℕ) (xs : List (Standing V M)) → AllByRecursion (λ id. nat_cmp u id ≡ Less) (ids xs)
+      → AllByRecursion (λ (t : Sending M). u < t.sender) (sendings program view xs)
   later_senders u [] h = tt
   later_senders u (x ∷ xs) h =
       let less : u < x.state.id = lt_from_Less u x.state.id h.0 in
-      all-append _ (sendings_from x.state.id 0 (outcome program view x).sent) (sendings program view xs) (all_weaker _ _ (λ t k. omega (arith, k.0)) (sendings_from x.state.id 0 (outcome program view x).sent) (from_one x.state.id 0 (outcome program view x).sent)) (later_senders u xs h.1)
+      all-append _ (sendings_from x.state.id 0 (outcome program view x).sent) (sendings program view xs) (all_weaker _ _
+      (λ t k. omega (arith, k.0)) (sendings_from x.state.id 0 (outcome program view x).sent)
+      (from_one x.state.id 0 (outcome program view x).sent)) (later_senders u xs h.1)
 
   -- where ids rise, the messages rise by sender and then by place
   pub sendings_rise : (xs : List (Standing V M)) → IsStrictlySortedBy nat_cmp (ids xs) → IsStrictlySortedBy sending_cmp (sendings program view xs)
@@ -107,10 +126,13 @@ module _ {V M : Type 0} (program : Program V M) (view : View) where
   sendings_rise (x ∷ xs) h =
       let mine : List (Sending M) = sendings_from x.state.id 0 (outcome program view x).sent in
       let theirs : AllByRecursion (λ (t : Sending M). x.state.id < t.sender) (sendings program view xs) = later_senders x.state.id xs h.0 in
-      sorted-append sending_cmp mine (sendings program view xs) (one_rises x.state.id 0 (outcome program view x).sent) (sendings_rise xs h.1) (all_weaker _ _ (λ t k. all_weaker _ _ (λ y l. less_by_sender t y (omega (arith, k.0))) (sendings program view xs) theirs) mine (from_one x.state.id 0 (outcome program view x).sent))
+      sorted-append sending_cmp mine (sendings program view xs) (one_rises x.state.id 0 (outcome program view x).sent) (sendings_rise xs h.1)
+      (all_weaker _ _ (λ t k. all_weaker _ _ (λ y l. less_by_sender t y (omega (arith, k.0))) (sendings program view xs) theirs) mine
+      (from_one x.state.id 0 (outcome program view x).sent))
 
   -- and so do those to one vertex
-  pub received_rise : (id : ℕ) (xs : List (Standing V M)) → IsStrictlySortedBy nat_cmp (ids xs) → IsStrictlySortedBy sending_cmp (filter (λ t. t.target == id) (sendings program view xs))
+  pub received_rise : (id : ℕ) (xs : List (Standing V M)) → IsStrictlySortedBy nat_cmp (ids xs)
+      → IsStrictlySortedBy sending_cmp (filter (λ t. t.target == id) (sendings program view xs))
   received_rise id xs h = IsStrictlySortedBy-filter sending_cmp (λ (t : Sending M). t.target == id) (sendings program view xs) (sendings_rise xs h)
 
   -- each message of a superstep was sent by a vertex, at its place
@@ -121,20 +143,28 @@ module _ {V M : Type 0} (program : Program V M) (view : View) where
         | inl mine ↦
             let r = place_in x.state.id 0 (outcome program view x).sent t mine in
             let at : r.0 ≡ t.place = omega (arith, r.1) in
-            record { vertex = x; present = contains_first x xs; by = r.2; nth = subst (λ (j : ℕ). slice_get (outcome program view x).sent j ≡ Some (t.target, t.message)) at r.3 }
+            record {
+              vertex = x;
+              present = contains_first x xs;
+              by = r.2;
+              nth = subst (λ (j : ℕ). slice_get (outcome program view x).sent j ≡ Some (t.target, t.message)) at r.3;
+            }
         | inr theirs ↦
             let r = IsSent-from_Contains xs t theirs in
             record { vertex = r.vertex; present = contains_later x r.vertex xs r.present; by = r.by; nth = r.nth }
       ]
 
-  sent_is_there : (xs : List (Standing V M)) (t : Sending M) (v : Standing V M) → Contains xs v → v.state.id ≡ t.sender → slice_get (outcome program view v).sent t.place ≡ Some (t.target, t.message) → Contains (sendings program view xs) t
+  sent_is_there : (xs : List (Standing V M)) (t : Sending M) (v : Standing V M) → Contains xs v → v.state.id ≡ t.sender
+      → slice_get (outcome program view v).sent t.place ≡ Some (t.target, t.message) → Contains (sendings program view xs) t
   sent_is_there [] t v h a e = absurd (omega (arith, h.1))
   sent_is_there (x ∷ xs) t v h a e =
       elim (contains_cases x v xs h) [
         | inl same ↦
             Contains-append_left (sendings_from x.state.id 0 (outcome program view x).sent) (sendings program view xs) t
-            (in_place x.state.id 0 (outcome program view x).sent t.place t (ap (λ (y : Standing V M). y.state.id) same ∙ a) (omega arith) (subst (λ (y : Standing V M). slice_get (outcome program view y).sent t.place ≡ Some (t.target, t.message)) (sym same) e))
-        | inr later ↦ Contains-append_right (sendings_from x.state.id 0 (outcome program view x).sent) (sendings program view xs) t (sent_is_there xs t v later a e)
+            (in_place x.state.id 0 (outcome program view x).sent t.place t (ap (λ (y : Standing V M). y.state.id) same ∙ a) (omega arith)
+            (subst (λ (y : Standing V M). slice_get (outcome program view y).sent t.place ≡ Some (t.target, t.message)) (sym same) e))
+        | inr later ↦ Contains-append_right (sendings_from x.state.id 0 (outcome program view x).sent) (sendings program view xs) t
+            (sent_is_there xs t v later a e)
       ]
 
   -- and each message that a vertex sent is there

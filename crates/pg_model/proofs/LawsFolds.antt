@@ -43,7 +43,8 @@ module _ {A : Type 0} {is_value : A → Type 0} {f : A → A → A} {initial : A
 
   module _ {X : Type 0} (g : X → List A) where
     -- and so is that of a list made of many parts
-    pub fold-flat_map : (a : A) (xs : List X) → is_value a → AllByRecursion (λ x. All is_value (g x)) xs → fold f a (flat_map g xs) ≡ fold f a (map (λ x. fold f initial (g x)) xs)
+    pub fold-flat_map : (a : A) (xs : List X) → is_value a → AllByRecursion (λ x. All is_value (g x)) xs
+        → fold f a (flat_map g xs) ≡ fold f a (map (λ x. fold f initial (g x)) xs)
     fold-flat_map a [] p h = refl
     fold-flat_map a (x ∷ xs) p h =
         fold-append f a (g x) (flat_map g xs)
@@ -51,7 +52,8 @@ module _ {A : Type 0} {is_value : A → Type 0} {f : A → A → A} {initial : A
         ∙ ap (λ (b : A). fold f b (map (λ x. fold f initial (g x)) xs)) (fold_from a (g x) p h.0))
 
   -- an element taken out in front of the one that takes its place
-  fold-set : (a : A) (l : List A) (i : ℕ) (y d : A) → i < length l → is_value a → is_value y → All is_value l → fold f (f a (get_or l i d)) (set l i y) ≡ fold f (f a y) l
+  fold-set : (a : A) (l : List A) (i : ℕ) (y d : A) → i < length l → is_value a → is_value y → All is_value l
+      → fold f (f a (get_or l i d)) (set l i y) ≡ fold f (f a y) l
   fold-set a [] i y d within p q h = absurd (omega arith)
   fold-set a (x ∷ xs) zero y d within p q h = ap (λ (b : A). fold f b xs) (right_comm a x y p (All-head is_value x xs h) q)
   fold-set a (x ∷ xs) (suc i) y d within p q h =
@@ -61,7 +63,8 @@ module _ {A : Type 0} {is_value : A → Type 0} {f : A → A → A} {initial : A
       ap (λ (b : A). fold f b (set xs i y)) (right_comm a (get_or xs i d) x p old_is x_is)
       ∙ (fold-set (f a x) xs i y d (omega arith) (m.stays a x p x_is) q rest ∙ ap (λ (b : A). fold f b xs) (right_comm a x y p x_is q))
 
-  fold-exchanged : (a : A) (l : List A) (i j : ℕ) (d : A) → i < length l → j < length l → is_value a → All is_value l → fold f a (exchanged d l i j) ≡ fold f a l
+  fold-exchanged : (a : A) (l : List A) (i j : ℕ) (d : A) → i < length l → j < length l → is_value a → All is_value l
+      → fold f a (exchanged d l i j) ≡ fold f a l
   unfolding exchanged
   fold-exchanged a [] i j d p q r h = absurd (omega arith)
   fold-exchanged a (x ∷ xs) zero zero d p q r h = refl
@@ -78,20 +81,25 @@ module _ {A : Type 0} {is_value : A → Type 0} {f : A → A → A} {initial : A
   still_values : (l : List A) (i j : ℕ) → i < length l → j < length l → All is_value l → All is_value (swap l i j)
   still_values [] i j p q h = h
   still_values (x ∷ xs) i j p q h =
-      All-set is_value (set (x ∷ xs) i (get_or (x ∷ xs) j x)) j (get_or (x ∷ xs) i x) (All-get_or is_value (x ∷ xs) i x p h) (All-set is_value (x ∷ xs) i (get_or (x ∷ xs) j x) (All-get_or is_value (x ∷ xs) j x q h) h)
+      All-set is_value (set (x ∷ xs) i (get_or (x ∷ xs) j x)) j (get_or (x ∷ xs) i x) (All-get_or is_value (x ∷ xs) i x p h)
+      (All-set is_value (x ∷ xs) i (get_or (x ∷ xs) j x) (All-get_or is_value (x ∷ xs) j x q h) h)
 
   -- the fold of a list doesn't depend on its order
   pub fold-IsPermutation : (a : A) (xs ys : List A) → is_value a → All is_value xs → IsPermutation xs ys → fold f a ys ≡ fold f a xs
   fold-IsPermutation a xs ys p h moved =
-      (IsPermutation-keeps xs (λ l. All is_value l × (fold f a l ≡ fold f a xs)) (h, refl) (λ l i j q r k. (still_values l i j q r k.0, swapped a l i j q r p k.0 ∙ k.1)) ys moved).1
+      (IsPermutation-keeps xs (λ l. All is_value l × (fold f a l ≡ fold f a xs)) (h, refl)
+      (λ l i j q r k. (still_values l i j q r k.0, swapped a l i j q r p k.0 ∙ k.1)) ys moved).1
 
 -- what is gathered goes on from what was gathered of a first part
 pub gathered_at-append : (a : Aggregating) (value : ℤ) (xs ys : List ℤ) → gathered_at a value (xs ++ ys) ≡ fold a.aggregate (gathered_at a value xs) ys
 gathered_at-append a value xs ys = fold-append a.aggregate (cond a.persistent value a.initial) xs ys
 
 -- and doesn't depend on the order of the contributions
-pub gathered_at-IsPermutation : (a : Aggregating) (is_value : ℤ → Type 0) → IsCommutativeMonoid is_value a.aggregate a.initial → (value : ℤ) (xs ys : List ℤ) → is_value value → All is_value xs → IsPermutation xs ys → gathered_at a value ys ≡ gathered_at a value xs
-gathered_at-IsPermutation a is_value m value xs ys p h moved = fold-IsPermutation m (cond a.persistent value a.initial) xs ys (cond_both a.persistent value a.initial is_value (λ _. p) (λ _. m.begins)) h moved
+pub gathered_at-IsPermutation : (a : Aggregating) (is_value : ℤ → Type 0) → IsCommutativeMonoid is_value a.aggregate a.initial
+    → (value : ℤ) (xs ys : List ℤ) → is_value value → All is_value xs → IsPermutation xs ys
+    → gathered_at a value ys ≡ gathered_at a value xs
+gathered_at-IsPermutation a is_value m value xs ys p h moved =
+    fold-IsPermutation m (cond a.persistent value a.initial) xs ys (cond_both a.persistent value a.initial is_value (λ _. p) (λ _. m.begins)) h moved
 
 -- ---- numbers of 64 bits
 
@@ -135,5 +143,6 @@ IsCommutativeMonoid-int_wrapping_add = record {
   commutative = λ a b p q. ap (λ (n : ℕ). to_z w64 (n % 2 ^ 64)) (add_comm (of_z w64 a) (of_z w64 b));
   associative = λ a b c p q r.
       ap (λ (n : ℕ). to_z w64 ((n + of_z w64 c) % 2 ^ 64)) (of_z-to_z w64 ((of_z w64 a + of_z w64 b) % 2 ^ 64) (below _))
-      ∙ (ap (to_z w64) (grouped (of_z w64 a) (of_z w64 b) (of_z w64 c)) ∙ sym (ap (λ (n : ℕ). to_z w64 ((of_z w64 a + n) % 2 ^ 64)) (of_z-to_z w64 ((of_z w64 b + of_z w64 c) % 2 ^ 64) (below _))));
+      ∙ (ap (to_z w64) (grouped (of_z w64 a) (of_z w64 b) (of_z w64 c))
+      ∙ sym (ap (λ (n : ℕ). to_z w64 ((of_z w64 a + n) % 2 ^ 64)) (of_z-to_z w64 ((of_z w64 b + of_z w64 c) % 2 ^ 64) (below _))));
 }

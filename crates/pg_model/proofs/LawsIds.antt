@@ -24,10 +24,12 @@ use Rattle.pg_model.specs.declared.configuration.Configuration.{Configuration}
 -- the master leaves a value for each aggregator where it is given one for each
 abbrev pub KeepsPlaces : {V M : Type 0} → Job V M → Type 0
 KeepsPlaces job =
-    (s : ℕ) (totals : Totals) (gathered : List ℤ) → length gathered ≡ length job.aggregators → length (job.deciding s totals gathered).values ≡ length job.aggregators
+    (s : ℕ) (totals : Totals) (gathered : List ℤ) → length gathered ≡ length job.aggregators → length
+    (job.deciding s totals gathered).values ≡ length job.aggregators
 
 -- as many gathered values as there are aggregators with a visible value
-pub length-gathered_from : (place : ℕ) (aggregators : List Aggregating) (values : List ℤ) (contributed : List (ℕ × ℤ)) → length values ≡ length aggregators → length (gathered_from place aggregators values contributed) ≡ length aggregators
+pub length-gathered_from : (place : ℕ) (aggregators : List Aggregating) (values : List ℤ) (contributed : List (ℕ × ℤ))
+    → length values ≡ length aggregators → length (gathered_from place aggregators values contributed) ≡ length aggregators
 unfolding gathered_from
 length-gathered_from place [] values contributed e = refl
 length-gathered_from place (a ∷ rest) [] contributed e = e
@@ -50,7 +52,8 @@ or_right : (a b : Bool) → (a || b) ≡ true → a ≡ false → b ≡ true
 or_right true b h e = absurd (true≢false e)
 or_right false b h e = h
 
-waiting-drop : {M : Type 0} (missing : Missing) (combining : Option (Combining M)) (strays : List (ℕ × M)) → missing ≡ Drop → waiting_after missing combining strays ≡ []
+waiting-drop : {M : Type 0} (missing : Missing) (combining : Option (Combining M)) (strays : List (ℕ × M)) → missing ≡ Drop
+    → waiting_after missing combining strays ≡ []
 waiting-drop missing combining strays drops = ap (λ m. waiting_after m combining strays) drops
 
 module _ {V M : Type 0} where
@@ -70,7 +73,8 @@ module _ {V M : Type 0} where
     ids-next s c = ids-map _ (λ x. refl) (present job.program c)
 
     -- and each of them has its outcome's state, with what was sent to it
-    pub standing_at-next : (s : ℕ) (c : Configuration V M) (id : ℕ) → standing_at id (next job s c).standings ≡ option_map (standing_after job (view_in job s c) (present job.program c)) (standing_at id (present job.program c))
+    pub standing_at-next : (s : ℕ) (c : Configuration V M) (id : ℕ)
+        → standing_at id (next job s c).standings ≡ option_map (standing_after job (view_in job s c) (present job.program c)) (standing_at id (present job.program c))
     unfolding next
     standing_at-next s c id = standing_at-map _ (λ x. refl) id (present job.program c)
 
@@ -82,7 +86,9 @@ module _ {V M : Type 0} where
         let all : List (ℕ × M) = sends job.program (view_in job s c) xs in
         record {
           standings = subst (IsStrictlySortedBy nat_cmp) (sym (ids-next s c)) (present-rise job.program c h.standings h.waiting);
-          waiting = subst (λ is. AreWaiting is (waiting_after job.missing job.combining (astray (ids xs) all))) (sym (ids-next s c)) (AreWaiting-after job.missing job.combining (ids xs) all);
+          waiting =
+              subst (λ is. AreWaiting is (waiting_after job.missing job.combining (astray (ids xs) all))) (sym (ids-next s c))
+              (AreWaiting-after job.missing job.combining (ids xs) all);
         }
 
     module _ (rows : Rows) where
@@ -125,16 +131,19 @@ module _ {V M : Type 0} where
       -- there are as many vertices in every configuration as rows
       pub length-standings : job.missing ≡ Drop → (s : ℕ) → length (configuration job rows s).standings ≡ length rows
       length-standings drops s =
-          sym (length-map (configuration job rows s).standings (λ (x : Standing V M). x.state.id)) ∙ (ap length (ids-configuration drops s) ∙ length-map rows (λ (row : ℕ × Row). row.0))
+          sym (length-map (configuration job rows s).standings (λ (x : Standing V M). x.state.id))
+          ∙ (ap length (ids-configuration drops s) ∙ length-map rows (λ (row : ℕ × Row). row.0))
 
       -- ---- where they make vertices
 
       -- an id that has a state keeps one
-      pub ids-grow : (s id : ℕ) → has_id (ids (configuration job rows s).standings) id ≡ true → has_id (ids (configuration job rows (suc s)).standings) id ≡ true
+      pub ids-grow : (s id : ℕ) → has_id (ids (configuration job rows s).standings) id ≡ true
+          → has_id (ids (configuration job rows (suc s)).standings) id ≡ true
       unfolding configuration
       ids-grow s id h =
           let c : Configuration V M = configuration job rows s in
-          ap (λ is. has_id is id) (ids-next s c) ∙ (has_id-present job.program c id ∙ (ap (λ b. has_id (map (λ w. w.0) c.waiting) id || b) h ∙ or_true (has_id (map (λ w. w.0) c.waiting) id)))
+          ap (λ is. has_id is id) (ids-next s c)
+          ∙ (has_id-present job.program c id ∙ (ap (λ b. has_id (map (λ w. w.0) c.waiting) id || b) h ∙ or_true (has_id (map (λ w. w.0) c.waiting) id)))
 
       -- an id was sent to at least two supersteps ago
       pub record WasSentTo (s id : ℕ) : Type 0 where
@@ -174,4 +183,5 @@ module _ {V M : Type 0} where
       unfolding first configuration next visible_in
       length-gathered keeps zero = length-map job.aggregators (λ (a : Aggregating). a.initial)
       length-gathered keeps (suc s) =
-          length-gathered_from 0 job.aggregators _ _ (keeps s (totals_of (configuration job rows s)) (configuration job rows s).gathered (length-gathered keeps s))
+          length-gathered_from 0 job.aggregators _ _
+          (keeps s (totals_of (configuration job rows s)) (configuration job rows s).gathered (length-gathered keeps s))

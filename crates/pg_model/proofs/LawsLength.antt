@@ -27,7 +27,8 @@ module _ {V M : Type 0} (job : Job V M) (rows : Rows) where
   -- the run ends at its limit at the latest
   pub ends_at_limit : (s : ℕ) → s + 1 ≡ job.limit → is_some (ending_after job rows s) ≡ true
   ends_at_limit s e =
-      last_test {X = Ending} (visible_at job rows s).halt (is_all_idle (configuration job rows (s + 1))) (s + 1 == job.limit) MasterHalted Finished LimitReached (eq-eqb (s + 1) job.limit e)
+      last_test {X = Ending} (visible_at job rows s).halt (is_all_idle (configuration job rows (s + 1)))
+      (s + 1 == job.limit) MasterHalted Finished LimitReached (eq-eqb (s + 1) job.limit e)
 
   from-le-length_from : (left s : ℕ) → s ≤ length_from job rows left s
   unfolding length_from
@@ -61,14 +62,16 @@ module _ {V M : Type 0} (job : Job V M) (rows : Rows) where
       cond_both (ends_after s) (s + 1) (s + 1) (λ (n : ℕ). ends_after (n - 1) ≡ true) (λ _. here) (λ _. here)
   ends_at (suc (suc left)) s h e =
       let later : ends_after (length_from job rows (suc left) (s + 1) - 1) ≡ true = ends_at (suc left) (s + 1) (omega arith) (omega arith) in
-      cond_both (ends_after s) (s + 1) (length_from job rows (suc left) (s + 1)) (λ (n : ℕ). ends_after (n - 1) ≡ true) (λ t. subst (λ (n : ℕ). ends_after n ≡ true) (sym (one_less s)) t) (λ _. later)
+      cond_both (ends_after s) (s + 1) (length_from job rows (suc left) (s + 1)) (λ (n : ℕ). ends_after (n - 1) ≡ true)
+      (λ t. subst (λ (n : ℕ). ends_after n ≡ true) (sym (one_less s)) t) (λ _. later)
 
   goes_on_from : (left s t : ℕ) → s ≤ t → t + 1 < length_from job rows left s → ends_after t ≡ false
   unfolding length_from
   goes_on_from zero s t h k = absurd (omega arith)
   goes_on_from (suc left) s t h k = by (ends_after s) refl k (goes_on_from left (s + 1) t)
     where
-      by : (b : Bool) → ends_after s ≡ b → t + 1 < cond b (s + 1) (length_from job rows left (s + 1)) → (s + 1 ≤ t → t + 1 < length_from job rows left (s + 1) → ends_after t ≡ false) → ends_after t ≡ false
+      by : (b : Bool) → ends_after s ≡ b → t + 1 < cond b (s + 1) (length_from job rows left (s + 1))
+          → (s + 1 ≤ t → t + 1 < length_from job rows left (s + 1) → ends_after t ≡ false) → ends_after t ≡ false
       by true e k' later = absurd (omega arith)
       by false e k' later = elim (eq-or-lt_of_le h) [ inl same ↦ subst (λ (n : ℕ). ends_after n ≡ false) same e | inr less ↦ later (omega arith) k' ]
 
@@ -97,9 +100,16 @@ module _ {V M : Type 0} (job : Job V M) (rows : Rows) where
       ]
 
   -- only the length has both properties: it is the least number of supersteps with which the run ends
-  pub run_length_is : (n : ℕ) → 0 < n → n ≤ job.limit → is_some (ending_after job rows (n - 1)) ≡ true → ((s : ℕ) → s + 1 < n → is_some (ending_after job rows s) ≡ false) → run_length job rows ≡ n
+  pub run_length_is : (n : ℕ) → 0 < n → n ≤ job.limit → is_some (ending_after job rows (n - 1)) ≡ true
+      → ((s : ℕ) → s + 1 < n → is_some (ending_after job rows s) ≡ false) → run_length job rows ≡ n
   run_length_is n above within ends before =
-      elim (cases_order (run_length job rows) n) [ inl same ↦ same | inr (inl less) ↦ absurd (both_ways _ (before (run_length job rows - 1) (omega (arith, run_length_pos (omega arith)))) (ends_with_last (omega arith))) | inr (inr more) ↦ absurd (both_ways _ (goes_on_before_last (n - 1) (omega arith)) ends) ]
+      elim (cases_order (run_length job rows) n) [
+        | inl same ↦ same
+        | inr (inl less) ↦ absurd (both_ways _
+            (before (run_length job rows - 1) (omega (arith, run_length_pos (omega arith)))) (ends_with_last (omega arith)))
+        | inr
+            (inr more) ↦ absurd (both_ways _ (goes_on_before_last (n - 1) (omega arith)) ends)
+      ]
 
   -- the ending in the answer is the one that the test after the last superstep finds
   pub ending-answer : 0 < job.limit → ending_after job rows (run_length job rows - 1) ≡ Some (answer job rows).ending

@@ -27,7 +27,8 @@ module _ {X : Type 0} where
   all_weaker P Q w (x ∷ xs) h = (w x h.0, all_weaker P Q w xs h.1)
 
   -- two sorted lists, all of the first below all of the second
-  pub sorted-append : (c : X → X → Ordering) (xs ys : List X) → IsStrictlySortedBy c xs → IsStrictlySortedBy c ys → AllByRecursion (λ x. AllByRecursion (λ y. c x y ≡ Less) ys) xs → IsStrictlySortedBy c (xs ++ ys)
+  pub sorted-append : (c : X → X → Ordering) (xs ys : List X) → IsStrictlySortedBy c xs → IsStrictlySortedBy c ys
+      → AllByRecursion (λ x. AllByRecursion (λ y. c x y ≡ Less) ys) xs → IsStrictlySortedBy c (xs ++ ys)
   unfolding IsStrictlySortedBy
   sorted-append c [] ys h k cross = k
   sorted-append c (x ∷ xs) ys h k cross = (all-append _ xs ys h.0 cross.0, sorted-append c xs ys h.1 k cross.1)
@@ -99,26 +100,36 @@ module _ {X Y : Type 0} where
       by false e h = h ∙ ap (◌++ flat_map f xs) (sym (nothing x e))
 
   -- the elements that pass, and then the others
-  pub flat_map-both : (f : X → List Y) (p : X → Bool) (xs : List X) → IsPermutation (flat_map f xs) (flat_map f (filter p xs) ++ flat_map f (filter (λ x. not (p x)) xs))
+  pub flat_map-both : (f : X → List Y) (p : X → Bool) (xs : List X)
+      → IsPermutation (flat_map f xs) (flat_map f (filter p xs) ++ flat_map f (filter (λ x. not (p x)) xs))
   flat_map-both f p [] = IsPermutation-refl []
   flat_map-both f p (x ∷ xs) = by (p x) (flat_map-both f p xs)
     where
       rest : List X
       rest = filter (λ x. not (p x)) xs
 
-      by : (b : Bool) → IsPermutation (flat_map f xs) (flat_map f (filter p xs) ++ flat_map f rest) → IsPermutation (f x ++ flat_map f xs) (flat_map f (cond b (x ∷ filter p xs) (filter p xs)) ++ flat_map f (cond (not b) (x ∷ rest) rest))
-      by true h = subst (IsPermutation (f x ++ flat_map f xs)) (sym (append_assoc (f x) (flat_map f (filter p xs)) (flat_map f rest))) (IsPermutation-append_right (f x) _ _ h)
+      by : (b : Bool) → IsPermutation (flat_map f xs) (flat_map f (filter p xs) ++ flat_map f rest)
+          → IsPermutation (f x ++ flat_map f xs) (flat_map f (cond b (x ∷ filter p xs) (filter p xs)) ++ flat_map f (cond (not b) (x ∷ rest) rest))
+      by true h =
+          subst (IsPermutation (f x ++ flat_map f xs)) (sym (append_assoc (f x) (flat_map f (filter p xs)) (flat_map f rest)))
+          (IsPermutation-append_right (f x) _ _ h)
       by false h =
-          let front = subst (IsPermutation (f x ++ flat_map f xs)) (sym (append_assoc (f x) (flat_map f (filter p xs)) (flat_map f rest))) (IsPermutation-append_right (f x) _ _ h) in
-          let turned = IsPermutation-append_left (flat_map f rest) (f x ++ flat_map f (filter p xs)) (flat_map f (filter p xs) ++ f x) (IsPermutation-append_comm (f x) (flat_map f (filter p xs))) in
-          IsPermutation-trans _ _ _ front (subst (IsPermutation ((f x ++ flat_map f (filter p xs)) ++ flat_map f rest)) (append_assoc (flat_map f (filter p xs)) (f x) (flat_map f rest)) turned)
+          let front =
+          subst (IsPermutation (f x ++ flat_map f xs)) (sym (append_assoc (f x) (flat_map f (filter p xs)) (flat_map f rest)))
+          (IsPermutation-append_right (f x) _ _ h) in
+          let turned =
+          IsPermutation-append_left (flat_map f rest) (f x ++ flat_map f (filter p xs)) (flat_map f (filter p xs) ++ f x)
+          (IsPermutation-append_comm (f x) (flat_map f (filter p xs))) in
+          IsPermutation-trans _ _ _ front (subst (IsPermutation ((f x ++ flat_map f (filter p xs)) ++ flat_map f rest))
+          (append_assoc (flat_map f (filter p xs)) (f x) (flat_map f rest)) turned)
 
 -- two filters, one after the other, are one
 pub filter-filter : {X : Type 0} (p q r : X → Bool) → ((x : X) → cond (q x) (p x) false ≡ r x) → (xs : List X) → filter p (filter q xs) ≡ filter r xs
 filter-filter p q r e [] = refl
 filter-filter {X = X} p q r e (x ∷ xs) = by (q x) (filter-filter p q r e xs) ∙ ap (λ (b : Bool). cond b (x ∷ filter r xs) (filter r xs)) (e x)
   where
-    by : (b : Bool) → filter p (filter q xs) ≡ filter r xs → filter p (cond b (x ∷ filter q xs) (filter q xs)) ≡ cond (cond b (p x) false) (x ∷ filter r xs) (filter r xs)
+    by : (b : Bool) → filter p (filter q xs) ≡ filter r xs
+        → filter p (cond b (x ∷ filter q xs) (filter q xs)) ≡ cond (cond b (p x) false) (x ∷ filter r xs) (filter r xs)
     by true h = ap (λ (l : List X). cond (p x) (x ∷ l) l) h
     by false h = h
 
@@ -127,7 +138,8 @@ pub filter-map : {X Y : Type 0} (p : Y → Bool) (f : X → Y) (xs : List X) →
 filter-map p f [] = refl
 filter-map {X = X} p f (x ∷ xs) = by (p (f x)) (filter-map p f xs)
   where
-    by : (b : Bool) → filter p (map f xs) ≡ map f (filter (λ x. p (f x)) xs) → cond b (f x ∷ filter p (map f xs)) (filter p (map f xs)) ≡ map f (cond b (x ∷ filter (λ x. p (f x)) xs) (filter (λ x. p (f x)) xs))
+    by : (b : Bool) → filter p (map f xs) ≡ map f (filter (λ x. p (f x)) xs)
+        → cond b (f x ∷ filter p (map f xs)) (filter p (map f xs)) ≡ map f (cond b (x ∷ filter (λ x. p (f x)) xs) (filter (λ x. p (f x)) xs))
     by true h = ap (◌∷◌ (f x)) h
     by false h = h
 
@@ -146,22 +158,30 @@ module _ {X Y : Type 0} (f : X → List Y) (class : X → ℕ) where
   none_above : (a : ℕ) (xs : List X) → ((x : X) → class x < a) → flat_map f (filter (λ x. leb a (class x)) xs) ≡ []
   none_above a [] h = refl
   none_above a (x ∷ xs) h =
-      ap (λ (b : Bool). flat_map f (cond b (x ∷ filter (λ x. leb a (class x)) xs) (filter (λ x. leb a (class x)) xs))) (lt-leb a (class x) (h x)) ∙ none_above a xs h
+      ap (λ (b : Bool). flat_map f (cond b (x ∷ filter (λ x. leb a (class x)) xs) (filter (λ x. leb a (class x)) xs))) (lt-leb a (class x) (h x))
+      ∙ none_above a xs h
 
-  above_classes : (a n : ℕ) (xs : List X) → ((x : X) → class x < a + n) → IsPermutation (flat_map f (filter (λ x. leb a (class x)) xs)) (flat_map (λ k. flat_map f (filter (λ x. class x == k) xs)) (range_with_len a n))
+  above_classes : (a n : ℕ) (xs : List X) → ((x : X) → class x < a + n)
+      → IsPermutation (flat_map f (filter (λ x. leb a (class x)) xs)) (flat_map (λ k. flat_map f (filter (λ x. class x == k) xs)) (range_with_len a n))
   above_classes a zero xs h =
       subst (λ (l : List Y). IsPermutation l []) (sym (none_above a xs (λ x. omega (arith, h x)))) (IsPermutation-refl [])
   above_classes a (suc n) xs h =
       let ys : List X = filter (λ x. leb a (class x)) xs in
-      let here : filter (λ x. class x == a) ys ≡ filter (λ x. class x == a) xs = filter-filter (λ x. class x == a) (λ x. leb a (class x)) (λ x. class x == a) (λ x. here_or_above a (class x)) xs in
-      let above : filter (λ x. not (class x == a)) ys ≡ filter (λ x. leb (a + 1) (class x)) xs = filter-filter (λ x. not (class x == a)) (λ x. leb a (class x)) (λ x. leb (a + 1) (class x)) (λ x. only_above a (class x)) xs in
-      let parts : IsPermutation (flat_map f ys) (flat_map f (filter (λ x. class x == a) xs) ++ flat_map f (filter (λ x. leb (a + 1) (class x)) xs)) = subst₂ (λ (u v : List X). IsPermutation (flat_map f ys) (flat_map f u ++ flat_map f v)) here above (flat_map-both f (λ x. class x == a) ys) in
-      IsPermutation-trans _ _ _ parts (IsPermutation-append_right (flat_map f (filter (λ x. class x == a) xs)) _ _ (above_classes (a + 1) n xs (λ x. omega (arith, h x))))
+      let here : filter (λ x. class x == a) ys ≡ filter (λ x. class x == a) xs =
+      filter-filter (λ x. class x == a) (λ x. leb a (class x)) (λ x. class x == a) (λ x. here_or_above a (class x)) xs in
+      let above : filter (λ x. not (class x == a)) ys ≡ filter (λ x. leb (a + 1) (class x)) xs =
+      filter-filter (λ x. not (class x == a)) (λ x. leb a (class x)) (λ x. leb (a + 1) (class x)) (λ x. only_above a (class x)) xs in
+      let parts : IsPermutation (flat_map f ys) (flat_map f (filter (λ x. class x == a) xs) ++ flat_map f (filter (λ x. leb (a + 1) (class x)) xs)) =
+      subst₂ (λ (u v : List X). IsPermutation (flat_map f ys) (flat_map f u ++ flat_map f v)) here above (flat_map-both f (λ x. class x == a) ys) in
+      IsPermutation-trans _ _ _ parts
+      (IsPermutation-append_right (flat_map f (filter (λ x. class x == a) xs)) _ _ (above_classes (a + 1) n xs (λ x. omega (arith, h x))))
 
   -- what is made of all elements is what is made of those of class 0, of class 1, and so on
-  pub flat_map-classes : (n : ℕ) (xs : List X) → ((x : X) → class x < n) → IsPermutation (flat_map f xs) (flat_map (λ k. flat_map f (filter (λ x. class x == k) xs)) (range_with_len 0 n))
+  pub flat_map-classes : (n : ℕ) (xs : List X) → ((x : X) → class x < n)
+      → IsPermutation (flat_map f xs) (flat_map (λ k. flat_map f (filter (λ x. class x == k) xs)) (range_with_len 0 n))
   flat_map-classes n xs h =
-      subst (λ (l : List X). IsPermutation (flat_map f l) (flat_map (λ k. flat_map f (filter (λ x. class x == k) xs)) (range_with_len 0 n))) (all_pass (λ x. leb 0 (class x)) (λ x. le-leb 0 (class x) (omega arith)) xs) (above_classes 0 n xs (λ x. omega (arith, h x)))
+      subst (λ (l : List X). IsPermutation (flat_map f l) (flat_map (λ k. flat_map f (filter (λ x. class x == k) xs)) (range_with_len 0 n)))
+      (all_pass (λ x. leb 0 (class x)) (λ x. le-leb 0 (class x) (omega arith)) xs) (above_classes 0 n xs (λ x. omega (arith, h x)))
 
 module _ {X Y : Type 0} (g : Y → ℕ) (f : X → List Y) where
   -- a sum over many lists is the sum of their sums
@@ -178,10 +198,13 @@ module _ {X : Type 0} (class : X → ℕ) where
   -- a list is its elements of class 0, of class 1, and so on, in another order
   pub classes : (n : ℕ) (xs : List X) → ((x : X) → class x < n) → IsPermutation xs (flat_map (λ k. filter (λ x. class x == k) xs) (range_with_len 0 n))
   classes n xs h =
-      subst₂ (λ (l : List X) (part : ℕ → List X). IsPermutation l (flat_map part (range_with_len 0 n))) (singles xs) (λ i k. singles (filter (λ x. class x == k) xs) i) (flat_map-classes (λ x. x ∷ []) class n xs h)
+      subst₂ (λ (l : List X) (part : ℕ → List X). IsPermutation l (flat_map part (range_with_len 0 n))) (singles xs)
+      (λ i k. singles (filter (λ x. class x == k) xs) i) (flat_map-classes (λ x. x ∷ []) class n xs h)
 
   -- a count is the sum of the counts in the classes
-  pub count-classes : (test : X → Bool) (n : ℕ) (xs : List X) → ((x : X) → class x < n) → sum_by (λ k. count_by test (filter (λ x. class x == k) xs)) (range_with_len 0 n) ≡ count_by test xs
+  pub count-classes : (test : X → Bool) (n : ℕ) (xs : List X) → ((x : X) → class x < n)
+      → sum_by (λ k. count_by test (filter (λ x. class x == k) xs)) (range_with_len 0 n) ≡ count_by test xs
   count-classes test n xs h =
       let one : X → ℕ = λ x. cond (test x) 1 0 in
-      sym (sum_by-flat_map one (λ k. filter (λ x. class x == k) xs) (range_with_len 0 n)) ∙ sum_by-IsPermutation one xs (flat_map (λ k. filter (λ x. class x == k) xs) (range_with_len 0 n)) (classes n xs h)
+      sym (sum_by-flat_map one (λ k. filter (λ x. class x == k) xs) (range_with_len 0 n))
+      ∙ sum_by-IsPermutation one xs (flat_map (λ k. filter (λ x. class x == k) xs) (range_with_len 0 n)) (classes n xs h)

@@ -77,7 +77,8 @@ has_itself a is = ap (λ b. b || has_id is a) (let e : (a == a) ≡ true = grind
 
 not_below_first : (a y : ℕ) (ys : List ℕ) → a < y → AllByRecursion (λ z. nat_cmp y z ≡ Less) ys → has_id (y ∷ ys) a ≡ false
 not_below_first a y ys l h =
-    not_below a (y ∷ ys) (less_at a y l, all_weaker (λ z. nat_cmp y z ≡ Less) (λ z. nat_cmp a z ≡ Less) (λ z k. less_at a z (omega (arith, l, lt_from_Less y z k))) ys h)
+    not_below a (y ∷ ys)
+    (less_at a y l, all_weaker (λ z. nat_cmp y z ≡ Less) (λ z. nat_cmp a z ≡ Less) (λ z k. less_at a z (omega (arith, l, lt_from_Less y z k))) ys h)
 
 -- rising ids are told by what they have
 pub same_rising : (xs ys : List ℕ) → IsStrictlySortedBy nat_cmp xs → IsStrictlySortedBy nat_cmp ys → ((id : ℕ) → has_id xs id ≡ has_id ys id) → xs ≡ ys
@@ -107,7 +108,8 @@ pub all-with_id : (P : ℕ → Type 0) (is : List ℕ) (id : ℕ) → AllByRecur
 all-with_id P [] id h p = (p, tt)
 all-with_id P (other ∷ others) id h p = by (ltb id other) (id == other) (all-with_id P others id h.1 p)
   where
-    by : (a b : Bool) → AllByRecursion P (with_id others id) → AllByRecursion P (cond a (id ∷ other ∷ others) (cond b (other ∷ others) (other ∷ with_id others id)))
+    by : (a b : Bool) → AllByRecursion P (with_id others id)
+        → AllByRecursion P (cond a (id ∷ other ∷ others) (cond b (other ∷ others) (other ∷ with_id others id)))
     by true b rest = (p, h)
     by false true rest = h
     by false false rest = (h.0, rest)
@@ -118,7 +120,8 @@ unfolding IsStrictlySortedBy
 with_id-rise [] id h = (tt, tt)
 with_id-rise (other ∷ others) id h = by (ltb id other) refl (id == other) refl (with_id-rise others id h.1)
   where
-    by : (a : Bool) → ltb id other ≡ a → (b : Bool) → (id == other) ≡ b → IsStrictlySortedBy nat_cmp (with_id others id) → IsStrictlySortedBy nat_cmp (cond a (id ∷ other ∷ others) (cond b (other ∷ others) (other ∷ with_id others id)))
+    by : (a : Bool) → ltb id other ≡ a → (b : Bool) → (id == other) ≡ b → IsStrictlySortedBy nat_cmp (with_id others id)
+        → IsStrictlySortedBy nat_cmp (cond a (id ∷ other ∷ others) (cond b (other ∷ others) (other ∷ with_id others id)))
     by true e b e' rest =
         ((less_here id other e, all_weaker (λ y. nat_cmp other y ≡ Less) (λ y. nat_cmp id y ≡ Less) (λ y l. less_both id other y e l) others h.0), h)
     by false e true e' rest = h
@@ -130,7 +133,8 @@ pub has_id-with_id : (is : List ℕ) (id other : ℕ) → has_id (with_id is id)
 has_id-with_id [] id other = refl
 has_id-with_id (first ∷ is) id other = by (ltb id first) (id == first) refl (has_id-with_id is id other)
   where
-    by : (a b : Bool) → (id == first) ≡ b → has_id (with_id is id) other ≡ ((id == other) || has_id is other) → has_id (cond a (id ∷ first ∷ is) (cond b (first ∷ is) (first ∷ with_id is id))) other ≡ ((id == other) || has_id (first ∷ is) other)
+    by : (a b : Bool) → (id == first) ≡ b → has_id (with_id is id) other ≡ ((id == other) || has_id is other)
+        → has_id (cond a (id ∷ first ∷ is) (cond b (first ∷ is) (first ∷ with_id is id))) other ≡ ((id == other) || has_id (first ∷ is) other)
     by true b e rest = refl
     by false true e rest =
         let same : id ≡ first = same_id id first e in
@@ -150,7 +154,8 @@ module _ {M : Type 0} where
   unfolding IsStrictlySortedBy
   targets-rise sent = rise_from [] (map (λ (m : ℕ × M). m.0) sent) tt
 
-  all_from : (P : ℕ → Type 0) (is : List ℕ) (sent : List (ℕ × M)) → AllByRecursion P is → AllByRecursion (λ (m : ℕ × M). P m.0) sent → AllByRecursion P (fold with_id is (map (λ (m : ℕ × M). m.0) sent))
+  all_from : (P : ℕ → Type 0) (is : List ℕ) (sent : List (ℕ × M)) → AllByRecursion P is → AllByRecursion (λ (m : ℕ × M). P m.0) sent
+      → AllByRecursion P (fold with_id is (map (λ (m : ℕ × M). m.0) sent))
   all_from P is [] h k = h
   all_from P is (m ∷ sent) h k = all_from P (with_id is m.0) sent (all-with_id P is m.0 h k.0) k.1
 
@@ -165,14 +170,16 @@ module _ {M : Type 0} where
   astray-apart is [] = tt
   astray-apart is (m ∷ sent) = by (has_id is m.0) refl (astray-apart is sent)
     where
-      by : (b : Bool) → has_id is m.0 ≡ b → AllByRecursion (λ (x : ℕ × M). has_id is x.0 ≡ false) (astray is sent) → AllByRecursion (λ (x : ℕ × M). has_id is x.0 ≡ false) (cond (not b) (m ∷ astray is sent) (astray is sent))
+      by : (b : Bool) → has_id is m.0 ≡ b → AllByRecursion (λ (x : ℕ × M). has_id is x.0 ≡ false) (astray is sent)
+          → AllByRecursion (λ (x : ℕ × M). has_id is x.0 ≡ false) (cond (not b) (m ∷ astray is sent) (astray is sent))
       by true e rest = rest
       by false e rest = (e, rest)
 
   received_too : (id : ℕ) (m : ℕ × M) (sent : List (ℕ × M)) → is_empty (messages_to id sent) ≡ false → is_empty (messages_to id (m ∷ sent)) ≡ false
   received_too id m sent h = by (m.0 == id)
     where
-      by : (b : Bool) → is_empty (map (λ (x : ℕ × M). x.1) (cond b (m ∷ filter (λ (x : ℕ × M). x.0 == id) sent) (filter (λ (x : ℕ × M). x.0 == id) sent))) ≡ false
+      by : (b : Bool)
+          → is_empty (map (λ (x : ℕ × M). x.1) (cond b (m ∷ filter (λ (x : ℕ × M). x.0 == id) sent) (filter (λ (x : ℕ × M). x.0 == id) sent))) ≡ false
       by true = grind (arith, nat_tests)
       by false = h
 
@@ -181,10 +188,12 @@ module _ {M : Type 0} where
   all_receive [] = tt
   all_receive (m ∷ sent) = (
     first_receives (m.0 == m.0) (grind (arith, nat_tests)),
-    all_weaker (λ (x : ℕ × M). is_empty (messages_to x.0 sent) ≡ false) (λ (x : ℕ × M). is_empty (messages_to x.0 (m ∷ sent)) ≡ false) (λ x h. received_too x.0 m sent h) sent (all_receive sent),
+    all_weaker (λ (x : ℕ × M). is_empty (messages_to x.0 sent) ≡ false) (λ (x : ℕ × M). is_empty (messages_to x.0 (m ∷ sent)) ≡ false)
+        (λ x h. received_too x.0 m sent h) sent (all_receive sent),
   )
     where
-      first_receives : (b : Bool) → b ≡ true → is_empty (map (λ (x : ℕ × M). x.1) (cond b (m ∷ filter (λ (x : ℕ × M). x.0 == m.0) sent) (filter (λ (x : ℕ × M). x.0 == m.0) sent))) ≡ false
+      first_receives : (b : Bool) → b ≡ true
+          → is_empty (map (λ (x : ℕ × M). x.1) (cond b (m ∷ filter (λ (x : ℕ × M). x.0 == m.0) sent) (filter (λ (x : ℕ × M). x.0 == m.0) sent))) ≡ false
       first_receives true e = grind (arith, nat_tests)
       first_receives false e = absurd (cc)
 
@@ -205,7 +214,8 @@ module _ {M : Type 0} where
   unfolding IsStrictlySortedBy
   AreWaiting-none is = record { rise = tt; apart = tt; some = tt }
 
-  pub AreWaiting-after : (missing : Missing) (combining : Option (Combining M)) (is : List ℕ) (sent : List (ℕ × M)) → AreWaiting is (waiting_after missing combining (astray is sent))
+  pub AreWaiting-after : (missing : Missing) (combining : Option (Combining M)) (is : List ℕ) (sent : List (ℕ × M))
+      → AreWaiting is (waiting_after missing combining (astray is sent))
   AreWaiting-after Drop combining is sent = AreWaiting-none is
   AreWaiting-after Create combining is sent =
       let strays : List (ℕ × M) = astray is sent in
@@ -213,10 +223,14 @@ module _ {M : Type 0} where
       record {
         rise = subst (IsStrictlySortedBy nat_cmp) (sym (ids_of_inboxes f (targets strays))) (targets-rise strays);
         apart = all_inboxes (λ w. has_id is w.0 ≡ false) f (targets strays) (all-targets (λ id. has_id is id ≡ false) strays (astray-apart is sent));
-        some = all_inboxes (λ w. is_empty w.1 ≡ false) f (targets strays) (all-targets (λ id. is_empty (f id) ≡ false) strays (all_weaker (λ (m : ℕ × M). is_empty (messages_to m.0 strays) ≡ false) (λ (m : ℕ × M). is_empty (f m.0) ≡ false) (λ m h. combined-some combining (messages_to m.0 strays) h) strays (all_receive strays)));
+        some =
+            all_inboxes (λ w. is_empty w.1 ≡ false) f (targets strays) (all-targets (λ id. is_empty (f id) ≡ false) strays (all_weaker
+            (λ (m : ℕ × M). is_empty (messages_to m.0 strays) ≡ false) (λ (m : ℕ × M). is_empty (f m.0) ≡ false)
+            (λ m h. combined-some combining (messages_to m.0 strays) h) strays (all_receive strays)));
       }
 
-  has_target : (is : List ℕ) (sent : List (ℕ × M)) (id : ℕ) → has_id (fold with_id is (map (λ (m : ℕ × M). m.0) sent)) id ≡ (has_id (map (λ (m : ℕ × M). m.0) sent) id || has_id is id)
+  has_target : (is : List ℕ) (sent : List (ℕ × M)) (id : ℕ)
+      → has_id (fold with_id is (map (λ (m : ℕ × M). m.0) sent)) id ≡ (has_id (map (λ (m : ℕ × M). m.0) sent) id || has_id is id)
   has_target is [] id = refl
   has_target is (m ∷ sent) id =
       has_target (with_id is m.0) sent id
@@ -229,28 +243,34 @@ module _ {M : Type 0} where
   has_id-targets sent id = has_target [] sent id ∙ or_false (has_id (map (λ (m : ℕ × M). m.0) sent) id)
 
   -- rising ids are the targets where they have the same ids
-  pub targets-are : (is : List ℕ) (sent : List (ℕ × M)) → IsStrictlySortedBy nat_cmp is → ((id : ℕ) → has_id is id ≡ has_id (map (λ m. m.0) sent) id) → is ≡ targets sent
+  pub targets-are : (is : List ℕ) (sent : List (ℕ × M)) → IsStrictlySortedBy nat_cmp is
+      → ((id : ℕ) → has_id is id ≡ has_id (map (λ m. m.0) sent) id) → is ≡ targets sent
   targets-are is sent rise same =
       same_rising is (targets sent) rise (targets-rise sent) (λ id. same id ∙ sym (has_id-targets sent id))
 
-  astray_sent : (is : List ℕ) (sent : List (ℕ × M)) (id : ℕ) → has_id (map (λ (m : ℕ × M). m.0) (astray is sent)) id ≡ true → has_id (map (λ (m : ℕ × M). m.0) sent) id ≡ true
+  astray_sent : (is : List ℕ) (sent : List (ℕ × M)) (id : ℕ) → has_id (map (λ (m : ℕ × M). m.0) (astray is sent)) id ≡ true
+      → has_id (map (λ (m : ℕ × M). m.0) sent) id ≡ true
   astray_sent is [] id h = h
   astray_sent is (m ∷ sent) id h = by (has_id is m.0) (m.0 == id) refl (astray_sent is sent id) h
     where
       there : List (ℕ × M) → Bool
       there l = has_id (map (λ (x : ℕ × M). x.0) l) id
 
-      by : (b a : Bool) → (m.0 == id) ≡ a → (there (astray is sent) ≡ true → there sent ≡ true) → has_id (map (λ (x : ℕ × M). x.0) (cond (not b) (m ∷ astray is sent) (astray is sent))) id ≡ true → (a || there sent) ≡ true
+      by : (b a : Bool) → (m.0 == id) ≡ a → (there (astray is sent) ≡ true → there sent ≡ true)
+          → has_id (map (λ (x : ℕ × M). x.0) (cond (not b) (m ∷ astray is sent) (astray is sent))) id ≡ true → (a || there sent) ≡ true
       by b true e rest k = refl
       by true false e rest k = rest k
       by false false e rest k = rest (sym (ap (λ c. c || there (astray is sent)) e) ∙ k)
 
   -- who waits was sent to
-  pub waiting_sent : (missing : Missing) (combining : Option (Combining M)) (is : List ℕ) (sent : List (ℕ × M)) (id : ℕ) → has_id (map (λ w. w.0) (waiting_after missing combining (astray is sent))) id ≡ true → has_id (map (λ m. m.0) sent) id ≡ true
+  pub waiting_sent : (missing : Missing) (combining : Option (Combining M)) (is : List ℕ) (sent : List (ℕ × M)) (id : ℕ)
+      → has_id (map (λ w. w.0) (waiting_after missing combining (astray is sent))) id ≡ true → has_id (map (λ m. m.0) sent) id ≡ true
   waiting_sent Drop combining is sent id h = absurd (cc)
   waiting_sent Create combining is sent id h =
       let strays : List (ℕ × M) = astray is sent in
-      let there : has_id (map (λ (m : ℕ × M). m.0) strays) id ≡ true = sym (or_false (has_id (map (λ (m : ℕ × M). m.0) strays) id)) ∙ (sym (has_target [] strays id) ∙ (sym (ap (λ l. has_id l id) (ids_of_inboxes (λ id. delivered combining id strays) (targets strays))) ∙ h)) in
+      let there : has_id (map (λ (m : ℕ × M). m.0) strays) id ≡ true =
+      sym (or_false (has_id (map (λ (m : ℕ × M). m.0) strays) id))
+      ∙ (sym (has_target [] strays id) ∙ (sym (ap (λ l. has_id l id) (ids_of_inboxes (λ id. delivered combining id strays) (targets strays))) ∙ h)) in
       astray_sent is sent id there
 
 module _ {V M : Type 0} where
@@ -264,16 +284,24 @@ module _ {V M : Type 0} where
       by true rest = (p, h)
       by false rest = (h.0, rest)
 
-  placed-rise : (x : Standing V M) (xs : List (Standing V M)) → has_id (ids xs) x.state.id ≡ false → IsStrictlySortedBy nat_cmp (ids xs) → IsStrictlySortedBy nat_cmp (ids (placed x xs))
+  placed-rise : (x : Standing V M) (xs : List (Standing V M)) → has_id (ids xs) x.state.id ≡ false → IsStrictlySortedBy nat_cmp (ids xs)
+      → IsStrictlySortedBy nat_cmp (ids (placed x xs))
   unfolding IsStrictlySortedBy
   placed-rise x [] new h = (tt, tt)
   placed-rise x (y ∷ ys) new h =
       let both = or_none (y.state.id == x.state.id) (has_id (ids ys) x.state.id) new in
       by (ltb x.state.id y.state.id) refl both.0 (placed-rise x ys both.1 h.1)
     where
-      by : (a : Bool) → ltb x.state.id y.state.id ≡ a → (y.state.id == x.state.id) ≡ false → IsStrictlySortedBy nat_cmp (ids (placed x ys)) → IsStrictlySortedBy nat_cmp (ids (cond a (x ∷ y ∷ ys) (y ∷ placed x ys)))
-      by true e unlike rest =
-          ((less_here x.state.id y.state.id e, all_weaker (λ i. nat_cmp y.state.id i ≡ Less) (λ i. nat_cmp x.state.id i ≡ Less) (λ i l. less_both x.state.id y.state.id i e l) (ids ys) h.0), h)
+      by : (a : Bool) → ltb x.state.id y.state.id ≡ a → (y.state.id == x.state.id) ≡ false → IsStrictlySortedBy nat_cmp (ids (placed x ys))
+          → IsStrictlySortedBy nat_cmp (ids (cond a (x ∷ y ∷ ys) (y ∷ placed x ys)))
+      by true e unlike rest = (
+        (
+          less_here x.state.id y.state.id e,
+          all_weaker (λ i. nat_cmp y.state.id i ≡ Less) (λ i. nat_cmp x.state.id i ≡ Less)
+              (λ i l. less_both x.state.id y.state.id i e l) (ids ys) h.0,
+        ),
+        h,
+      )
       by false e unlike rest =
           (all-placed (λ i. nat_cmp y.state.id i ≡ Less) x ys (above_other x.state.id y.state.id e unlike) h.0, rest)
 
@@ -281,24 +309,31 @@ module _ {V M : Type 0} where
   has_id-placed x [] id = refl
   has_id-placed x (y ∷ ys) id = by (ltb x.state.id y.state.id) (has_id-placed x ys id)
     where
-      by : (a : Bool) → has_id (ids (placed x ys)) id ≡ ((x.state.id == id) || has_id (ids ys) id) → has_id (ids (cond a (x ∷ y ∷ ys) (y ∷ placed x ys))) id ≡ ((x.state.id == id) || has_id (ids (y ∷ ys)) id)
+      by : (a : Bool) → has_id (ids (placed x ys)) id ≡ ((x.state.id == id) || has_id (ids ys) id)
+          → has_id (ids (cond a (x ∷ y ∷ ys) (y ∷ placed x ys))) id ≡ ((x.state.id == id) || has_id (ids (y ∷ ys)) id)
       by true rest = refl
       by false rest =
           ap (λ b. (y.state.id == id) || b) rest ∙ or_swap (y.state.id == id) (x.state.id == id) (has_id (ids ys) id)
 
   module _ (program : Program V M) where
-    pub apart_still : (w : ℕ × List M) (xs : List (Standing V M)) (ws : List (ℕ × List M)) → AllByRecursion (λ id. nat_cmp w.0 id ≡ Less) (map (λ (v : ℕ × List M). v.0) ws) → AllByRecursion (λ (v : ℕ × List M). has_id (ids xs) v.0 ≡ false) ws → AllByRecursion (λ (v : ℕ × List M). has_id (ids (placed (made program w) xs)) v.0 ≡ false) ws
+    pub apart_still : (w : ℕ × List M) (xs : List (Standing V M)) (ws : List (ℕ × List M))
+        → AllByRecursion (λ id. nat_cmp w.0 id ≡ Less) (map (λ (v : ℕ × List M). v.0) ws)
+        → AllByRecursion (λ (v : ℕ × List M). has_id (ids xs) v.0 ≡ false) ws
+        → AllByRecursion (λ (v : ℕ × List M). has_id (ids (placed (made program w) xs)) v.0 ≡ false) ws
     apart_still w xs [] h k = tt
     apart_still w xs (v ∷ ws) h k =
         (has_id-placed (made program w) xs v.0 ∙ (ap (λ b. b || has_id (ids xs) v.0) (apart_from_less w.0 v.0 h.0) ∙ k.0), apart_still w xs ws h.1 k.1)
 
-    pub with_made-rise : (xs : List (Standing V M)) (ws : List (ℕ × List M)) → IsStrictlySortedBy nat_cmp (ids xs) → IsStrictlySortedBy nat_cmp (map (λ (w : ℕ × List M). w.0) ws) → AllByRecursion (λ (w : ℕ × List M). has_id (ids xs) w.0 ≡ false) ws → IsStrictlySortedBy nat_cmp (ids (with_made program xs ws))
+    pub with_made-rise : (xs : List (Standing V M)) (ws : List (ℕ × List M)) → IsStrictlySortedBy nat_cmp (ids xs)
+        → IsStrictlySortedBy nat_cmp (map (λ (w : ℕ × List M). w.0) ws)
+        → AllByRecursion (λ (w : ℕ × List M). has_id (ids xs) w.0 ≡ false) ws → IsStrictlySortedBy nat_cmp (ids (with_made program xs ws))
     unfolding IsStrictlySortedBy
     with_made-rise xs [] h k apart = h
     with_made-rise xs (w ∷ ws) h k apart =
         with_made-rise (placed (made program w) xs) ws (placed-rise (made program w) xs apart.0 h) k.1 (apart_still w xs ws k.0 apart.1)
 
-    has_id-with_made : (xs : List (Standing V M)) (ws : List (ℕ × List M)) (id : ℕ) → has_id (ids (with_made program xs ws)) id ≡ (has_id (map (λ (w : ℕ × List M). w.0) ws) id || has_id (ids xs) id)
+    has_id-with_made : (xs : List (Standing V M)) (ws : List (ℕ × List M)) (id : ℕ)
+        → has_id (ids (with_made program xs ws)) id ≡ (has_id (map (λ (w : ℕ × List M). w.0) ws) id || has_id (ids xs) id)
     has_id-with_made xs [] id = refl
     has_id-with_made xs (w ∷ ws) id =
         has_id-with_made (placed (made program w) xs) ws id
@@ -308,7 +343,8 @@ module _ {V M : Type 0} where
 
     module _ (c : Configuration V M) where
       -- the vertices of a superstep stand by rising id
-      pub present-rise : IsStrictlySortedBy nat_cmp (ids c.standings) → AreWaiting (ids c.standings) c.waiting → IsStrictlySortedBy nat_cmp (ids (present program c))
+      pub present-rise : IsStrictlySortedBy nat_cmp (ids c.standings) → AreWaiting (ids c.standings) c.waiting
+          → IsStrictlySortedBy nat_cmp (ids (present program c))
       present-rise h waits = with_made-rise c.standings c.waiting h waits.rise waits.apart
 
       -- they are those that have a state, and those that wait

@@ -21,7 +21,8 @@ use Rattle.pg_model.specs.declared.view.View.{View}
 
 module _ {V M : Type 0} (job : Job V M) (rows : Rows) where
   -- a vertex of the run has inputs where it is active
-  has_inputs : (s : ℕ) (x : Standing V M) → s < run_length job rows → standing_at x.state.id (present_at job rows s) ≡ Some x → is_some (inputs_at job rows s x.state.id) ≡ is_active x
+  has_inputs : (s : ℕ) (x : Standing V M) → s < run_length job rows → standing_at x.state.id (present_at job rows s) ≡ Some x
+      → is_some (inputs_at job rows s x.state.id) ≡ is_active x
   has_inputs s x within at = by (is_active x) refl
     where
       by : (b : Bool) → is_active x ≡ b → is_some (inputs_at job rows s x.state.id) ≡ is_active x
@@ -29,14 +30,18 @@ module _ {V M : Type 0} (job : Job V M) (rows : Rows) where
       by false e = ap is_some (no_inputs_idle job rows s x.state.id x at e) ∙ sym e
 
   -- of the vertices whose ids pass a test, as many have inputs in a superstep of the run as are executed in it
-  pub count-inputs_of : HasRisingIds rows → (s : ℕ) → s < run_length job rows → (picks : ℕ → Bool) → count_by (λ id. is_some (inputs_at job rows s id)) (filter picks (ids (present_at job rows s))) ≡ count_by is_active (filter (λ x. picks x.state.id) (present_at job rows s))
+  pub count-inputs_of : HasRisingIds rows → (s : ℕ) → s < run_length job rows → (picks : ℕ → Bool)
+      → count_by (λ id. is_some (inputs_at job rows s id)) (filter picks (ids (present_at job rows s))) ≡ count_by is_active (filter (λ x. picks x.state.id) (present_at job rows s))
   count-inputs_of rising s within picks =
       let xs : List (Standing V M) = present_at job rows s in
       let test : ℕ → Bool = λ id. is_some (inputs_at job rows s id) in
       let some : Standing V M → Bool = λ x. picks x.state.id in
       ap (count_by test) (filter-map picks (λ (x : Standing V M). x.state.id) xs)
       ∙ (count_by-map test (λ (x : Standing V M). x.state.id) (filter some xs)
-      ∙ same_count (λ (x : Standing V M). test x.state.id) is_active (filter some xs) (all_weaker (λ (x : Standing V M). standing_at x.state.id xs ≡ Some x) (λ (x : Standing V M). test x.state.id ≡ is_active x) (λ x at. has_inputs s x within at) (filter some xs) (all-filter (λ (x : Standing V M). standing_at x.state.id xs ≡ Some x) some xs (found_by_id xs (ids_rise job rows rising s)))))
+      ∙ same_count (λ (x : Standing V M). test x.state.id) is_active (filter some xs) (all_weaker
+      (λ (x : Standing V M). standing_at x.state.id xs ≡ Some x) (λ (x : Standing V M). test x.state.id ≡ is_active x)
+      (λ x at. has_inputs s x within at) (filter some xs)
+      (all-filter (λ (x : Standing V M). standing_at x.state.id xs ≡ Some x) some xs (found_by_id xs (ids_rise job rows rising s)))))
 
 module _ {V M : Type 0} (value_eq : V → V → Bool) (message_eq : M → M → Bool) where
   changed_from_none : (new : Option (Inputs V M)) → is_changed value_eq message_eq None new ≡ is_some new
@@ -49,16 +54,21 @@ module _ {V M : Type 0} (value_eq : V → V → Bool) (message_eq : M → M → 
     is_needed-none s id = changed_from_none (inputs_at job rows s id)
 
     -- beside no run, as many are needed of some vertices as are executed of them
-    pub needed_in-none : HasRisingIds rows → (s : ℕ) → s < run_length job rows → (picks : ℕ → Bool) → needed_in value_eq message_eq job None rows picks s ≡ count_by is_active (filter (λ x. picks x.state.id) (present_at job rows s))
+    pub needed_in-none : HasRisingIds rows → (s : ℕ) → s < run_length job rows → (picks : ℕ → Bool)
+        → needed_in value_eq message_eq job None rows picks s ≡ count_by is_active (filter (λ x. picks x.state.id) (present_at job rows s))
     needed_in-none rising s within picks =
-        ap (λ (test : ℕ → Bool). count_by test (filter picks (ids (present_at job rows s)))) (λ i id. is_needed-none s id i) ∙ count-inputs_of job rows rising s within picks
+        ap (λ (test : ℕ → Bool). count_by test (filter picks (ids (present_at job rows s)))) (λ i id. is_needed-none s id i)
+        ∙ count-inputs_of job rows rising s within picks
 
     -- beside no run, every execution of the run is needed
-    pub needed_below-none : HasRisingIds rows → (s : ℕ) → s ≤ run_length job rows → needed_below value_eq message_eq job None rows s ≡ executions_below job rows s
+    pub needed_below-none : HasRisingIds rows → (s : ℕ) → s ≤ run_length job rows
+        → needed_below value_eq message_eq job None rows s ≡ executions_below job rows s
     unfolding needed_below executions_below
     needed_below-none rising zero within = refl
     needed_below-none rising (suc s) within =
-        let each = needed_in-none rising s (omega arith) (λ id. true) ∙ ap (count_by is_active) (all_pass (λ (x : Standing V M). true) (λ x. refl) (present_at job rows s)) in
+        let each =
+        needed_in-none rising s (omega arith) (λ id. true)
+        ∙ ap (count_by is_active) (all_pass (λ (x : Standing V M). true) (λ x. refl) (present_at job rows s)) in
         ap₂ ◌+◌ (needed_below-none rising s (omega arith)) each
 
     -- so as many are needed as the run has
@@ -81,17 +91,20 @@ nat_itself n = eq-eqb n n refl
 int_itself : (n : ℤ) → int_eq n n ≡ true
 int_itself n = (Decides-int_eq n n).1 refl
 
-module _ {V M : Type 0} (value_eq : V → V → Bool) (message_eq : M → M → Bool) (values : (a : V) → value_eq a a ≡ true) (messages : (a : M) → message_eq a a ≡ true) where
+module _ {V M : Type 0} (value_eq : V → V → Bool) (message_eq : M → M → Bool) (values : (a : V) → value_eq a a ≡ true)
+    (messages : (a : M) → message_eq a a ≡ true) where
   view_itself : (a : View) → view_eq value_eq message_eq a a ≡ true
   view_itself a =
-      ap₂ ◌&&◌ (nat_itself a.superstep) (ap₂ ◌&&◌ (itself _ (option_itself int_eq int_itself) a.aggregates) (ap₂ ◌&&◌ (option_itself ◌==◌ nat_itself a.total_vertices) (option_itself ◌==◌ nat_itself a.total_edges)))
+      ap₂ ◌&&◌ (nat_itself a.superstep) (ap₂ ◌&&◌ (itself _ (option_itself int_eq int_itself) a.aggregates)
+      (ap₂ ◌&&◌ (option_itself ◌==◌ nat_itself a.total_vertices) (option_itself ◌==◌ nat_itself a.total_edges)))
 
   edge_itself : (a : ℕ × ℤ) → edge_eq value_eq message_eq a a ≡ true
   edge_itself a = ap₂ ◌&&◌ (nat_itself a.0) (int_itself a.1)
 
   inputs_itself : (a : Inputs V M) → inputs_eq value_eq message_eq a a ≡ true
   inputs_itself a =
-      ap₂ ◌&&◌ (view_itself a.view) (ap₂ ◌&&◌ (nat_itself a.id) (ap₂ ◌&&◌ (values a.value) (ap₂ ◌&&◌ (itself _ edge_itself a.edges) (itself message_eq messages a.inbox))))
+      ap₂ ◌&&◌ (view_itself a.view)
+      (ap₂ ◌&&◌ (nat_itself a.id) (ap₂ ◌&&◌ (values a.value) (ap₂ ◌&&◌ (itself _ edge_itself a.edges) (itself message_eq messages a.inbox))))
 
   pub unchanged : (o : Option (Inputs V M)) → is_changed value_eq message_eq o o ≡ false
   unchanged None = refl
@@ -104,7 +117,8 @@ module _ {V M : Type 0} (value_eq : V → V → Bool) (message_eq : M → M → 
     needed_below-same zero = refl
     needed_below-same (suc s) =
         let is : List ℕ = filter (λ id. true) (ids (present_at job rows s)) in
-        let none : count_by (λ id. is_needed value_eq message_eq job (Some rows) rows s id) is ≡ 0 = ap (λ (test : ℕ → Bool). count_by test is) (λ i id. unchanged (inputs_at job rows s id) i) ∙ count-none is in
+        let none : count_by (λ id. is_needed value_eq message_eq job (Some rows) rows s id) is ≡ 0 =
+        ap (λ (test : ℕ → Bool). count_by test is) (λ i id. unchanged (inputs_at job rows s id) i) ∙ count-none is in
         ap₂ ◌+◌ (needed_below-same s) none
 
     -- not in the whole run

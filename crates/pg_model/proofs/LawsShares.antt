@@ -41,21 +41,29 @@ at_place-append place a b =
 module _ {V M : Type 0} (program : Program V M) (view : View) where
   -- only the vertices that are executed send
   pub sends-active : (xs : List (Standing V M)) → sends program view (filter is_active xs) ≡ sends program view xs
-  sends-active xs = flat_map-filter (λ (x : Standing V M). (outcome program view x).sent) is_active (λ x e. ap (λ (r : Record V M). r.sent) (outcome-idle program view x e)) xs
+  sends-active xs =
+      flat_map-filter (λ (x : Standing V M). (outcome program view x).sent) is_active
+      (λ x e. ap (λ (r : Record V M). r.sent) (outcome-idle program view x e)) xs
 
   -- and so are all messages with their senders
   pub sendings-active : (xs : List (Standing V M)) → sendings program view (filter is_active xs) ≡ sendings program view xs
-  sendings-active xs = flat_map-filter (λ (x : Standing V M). sendings_from x.state.id 0 (outcome program view x).sent) is_active (λ x e. ap (λ (r : Record V M). sendings_from x.state.id 0 r.sent) (outcome-idle program view x e)) xs
+  sendings-active xs =
+      flat_map-filter (λ (x : Standing V M). sendings_from x.state.id 0 (outcome program view x).sent) is_active
+      (λ x e. ap (λ (r : Record V M). sendings_from x.state.id 0 r.sent) (outcome-idle program view x e)) xs
 
   -- only they contribute
   pub contributions-active : (xs : List (Standing V M)) → contributions program view (filter is_active xs) ≡ contributions program view xs
-  contributions-active xs = flat_map-filter (λ (x : Standing V M). (outcome program view x).contributed) is_active (λ x e. ap (λ (r : Record V M). r.contributed) (outcome-idle program view x e)) xs
+  contributions-active xs =
+      flat_map-filter (λ (x : Standing V M). (outcome program view x).contributed) is_active
+      (λ x e. ap (λ (r : Record V M). r.contributed) (outcome-idle program view x e)) xs
 
   -- the contributions at a place are each vertex's, one after another
-  pub at_place-contributions : (place : ℕ) (xs : List (Standing V M)) → at_place place (contributions program view xs) ≡ flat_map (λ x. at_place place (outcome program view x).contributed) xs
+  pub at_place-contributions : (place : ℕ) (xs : List (Standing V M))
+      → at_place place (contributions program view xs) ≡ flat_map (λ x. at_place place (outcome program view x).contributed) xs
   at_place-contributions place [] = refl
   at_place-contributions place (x ∷ xs) =
-      at_place-append place (outcome program view x).contributed (contributions program view xs) ∙ ap (◌++◌ (at_place place (outcome program view x).contributed)) (at_place-contributions place xs)
+      at_place-append place (outcome program view x).contributed (contributions program view xs)
+      ∙ ap (◌++◌ (at_place place (outcome program view x).contributed)) (at_place-contributions place xs)
 
 module _ {V M : Type 0} (job : Job V M) (rows : Rows) (n : ℕ) where
   partition_of : Standing V M → ℕ
@@ -63,37 +71,54 @@ module _ {V M : Type 0} (job : Job V M) (rows : Rows) (n : ℕ) where
 
   module _ (p : ℕ) where
     -- a superstep takes a partition's vertices to what it makes of them
-    pub standings_of_share-next : (s : ℕ) → standings_of_share job rows n p (suc s) ≡ map (standing_after job (view_at job rows s) (present_at job rows s)) (present_in_share job rows n p s)
+    pub standings_of_share-next : (s : ℕ)
+        → standings_of_share job rows n p (suc s) ≡ map (standing_after job (view_at job rows s) (present_at job rows s)) (present_in_share job rows n p s)
     unfolding configuration next
-    standings_of_share-next s = filter-map (λ (x : Standing V M). belongs n p x.state.id) (standing_after job (view_at job rows s) (present_at job rows s)) (present_at job rows s)
+    standings_of_share-next s =
+        filter-map (λ (x : Standing V M). belongs n p x.state.id) (standing_after job (view_at job rows s) (present_at job rows s)) (present_at job rows s)
 
     -- so the share grows by the records of the superstep
-    pub share-next : (s : ℕ) → share job rows n p (suc s) ≡ record { states = map (λ x. state_after x.state (outcome job.program (view_at job rows s) x)) (present_in_share job rows n p s); records = (share job rows n p s).records ++ records_in job rows n p s ∷ [] }
+    pub share-next : (s : ℕ)
+        → share job rows n p (suc s) ≡ record { states = map (λ x. state_after x.state (outcome job.program (view_at job rows s) x)) (present_in_share job rows n p s); records = (share job rows n p s).records ++ records_in job rows n p s ∷ [] }
     unfolding share records_below
     share-next s =
-        let states : map (λ (x : Standing V M). x.state) (standings_of_share job rows n p (suc s)) ≡ map (λ (x : Standing V M). state_after x.state (outcome job.program (view_at job rows s) x)) (present_in_share job rows n p s) = ap (map (λ (x : Standing V M). x.state)) (standings_of_share-next s) ∙ map-map (λ (x : Standing V M). x.state) (standing_after job (view_at job rows s) (present_at job rows s)) (present_in_share job rows n p s) in
+        let states : map (λ (x : Standing V M). x.state) (standings_of_share job rows n p (suc s)) ≡ map
+        (λ (x : Standing V M). state_after x.state (outcome job.program (view_at job rows s) x))
+        (present_in_share job rows n p s) = ap (map (λ (x : Standing V M). x.state)) (standings_of_share-next s)
+        ∙ map-map (λ (x : Standing V M). x.state) (standing_after job (view_at job rows s) (present_at job rows s)) (present_in_share job rows n p s) in
         λ i. record { states = states i; records = records_below job rows n p s ++ records_in job rows n p s ∷ [] }
 
     -- a partition's ids rise
     pub ids_rise_in_share : HasRisingIds rows → (s : ℕ) → IsStrictlySortedBy nat_cmp (ids (present_in_share job rows n p s))
     ids_rise_in_share rising s =
         let xs : List (Standing V M) = present_at job rows s in
-        subst (IsStrictlySortedBy nat_cmp) (filter-map (belongs n p) (λ (x : Standing V M). x.state.id) xs) (IsStrictlySortedBy-filter nat_cmp (belongs n p) (ids xs) (ids_rise job rows rising s))
+        subst (IsStrictlySortedBy nat_cmp) (filter-map (belongs n p) (λ (x : Standing V M). x.state.id) xs)
+        (IsStrictlySortedBy-filter nat_cmp (belongs n p) (ids xs) (ids_rise job rows rising s))
 
     -- the records of a superstep have all that the partition's vertices sent in it
-    pub sends-records_in : (s : ℕ) → flat_map (λ r. r.1.sent) (records_in job rows n p s) ≡ sends job.program (view_at job rows s) (present_in_share job rows n p s)
+    pub sends-records_in : (s : ℕ)
+        → flat_map (λ r. r.1.sent) (records_in job rows n p s) ≡ sends job.program (view_at job rows s) (present_in_share job rows n p s)
     sends-records_in s =
-        flat_map-map (λ (r : ℕ × Record V M). r.1.sent) (λ (x : Standing V M). (x.state.id, outcome job.program (view_at job rows s) x)) (filter is_active (present_in_share job rows n p s)) ∙ sends-active job.program (view_at job rows s) (present_in_share job rows n p s)
+        flat_map-map (λ (r : ℕ × Record V M). r.1.sent) (λ (x : Standing V M). (x.state.id, outcome job.program (view_at job rows s) x))
+        (filter is_active (present_in_share job rows n p s))
+        ∙ sends-active job.program (view_at job rows s) (present_in_share job rows n p s)
 
     -- with their senders too
     pub sendings-records_in : (s : ℕ) → sendings_of (records_in job rows n p s) ≡ sendings job.program (view_at job rows s) (present_in_share job rows n p s)
     sendings-records_in s =
-        flat_map-map (λ (r : ℕ × Record V M). sendings_from r.0 0 r.1.sent) (λ (x : Standing V M). (x.state.id, outcome job.program (view_at job rows s) x)) (filter is_active (present_in_share job rows n p s)) ∙ sendings-active job.program (view_at job rows s) (present_in_share job rows n p s)
+        flat_map-map (λ (r : ℕ × Record V M). sendings_from r.0 0 r.1.sent)
+        (λ (x : Standing V M). (x.state.id, outcome job.program (view_at job rows s) x))
+        (filter is_active (present_in_share job rows n p s))
+        ∙ sendings-active job.program (view_at job rows s) (present_in_share job rows n p s)
 
     -- and all that they contributed
-    pub contributions-records_in : (s : ℕ) → flat_map (λ r. r.1.contributed) (records_in job rows n p s) ≡ contributions job.program (view_at job rows s) (present_in_share job rows n p s)
+    pub contributions-records_in : (s : ℕ)
+        → flat_map (λ r. r.1.contributed) (records_in job rows n p s) ≡ contributions job.program (view_at job rows s) (present_in_share job rows n p s)
     contributions-records_in s =
-        flat_map-map (λ (r : ℕ × Record V M). r.1.contributed) (λ (x : Standing V M). (x.state.id, outcome job.program (view_at job rows s) x)) (filter is_active (present_in_share job rows n p s)) ∙ contributions-active job.program (view_at job rows s) (present_in_share job rows n p s)
+        flat_map-map (λ (r : ℕ × Record V M). r.1.contributed)
+        (λ (x : Standing V M). (x.state.id, outcome job.program (view_at job rows s) x))
+        (filter is_active (present_in_share job rows n p s))
+        ∙ contributions-active job.program (view_at job rows s) (present_in_share job rows n p s)
 
     length-records_in : (s : ℕ) → length (records_in job rows n p s) ≡ count_by is_active (present_in_share job rows n p s)
     length-records_in s = length-map (filter is_active (present_in_share job rows n p s)) _ ∙ length-filter is_active (present_in_share job rows n p s)
@@ -104,7 +129,8 @@ module _ {V M : Type 0} (job : Job V M) (rows : Rows) (n : ℕ) where
     within x = mod-lt x.state.id some
 
     -- all vertices that have a state are those of the partitions, in another order
-    pub standings_in_shares : (s : ℕ) → IsPermutation (configuration job rows s).standings (flat_map (λ p. standings_of_share job rows n p s) (range_with_len 0 n))
+    pub standings_in_shares : (s : ℕ)
+        → IsPermutation (configuration job rows s).standings (flat_map (λ p. standings_of_share job rows n p s) (range_with_len 0 n))
     unfolding partition_of
     standings_in_shares s = classes partition_of n (configuration job rows s).standings within
 
@@ -117,7 +143,8 @@ module _ {V M : Type 0} (job : Job V M) (rows : Rows) (n : ℕ) where
     pub executed_in_shares : (s : ℕ) → sum_by (λ p. length (records_in job rows n p s)) (range_with_len 0 n) ≡ executed job rows (present_at job rows s)
     unfolding partition_of
     executed_in_shares s =
-        ap (λ (f : ℕ → ℕ). sum_by f (range_with_len 0 n)) (λ i p. length-records_in p s i) ∙ count-classes partition_of is_active n (present_at job rows s) within
+        ap (λ (f : ℕ → ℕ). sum_by f (range_with_len 0 n)) (λ i p. length-records_in p s i)
+        ∙ count-classes partition_of is_active n (present_at job rows s) within
 
     -- so the shares have a record for each execution of the run so far
     pub executions_in_shares : (s : ℕ) → sum_by (λ p. sum_by length (share job rows n p s).records) (range_with_len 0 n) ≡ executions_below job rows s
@@ -129,28 +156,38 @@ module _ {V M : Type 0} (job : Job V M) (rows : Rows) (n : ℕ) where
         ∙ ap₂ ◌+◌ (executions_in_shares s) (executed_in_shares s))
 
     -- all contributions at a place are those of the partitions' records, in another order
-    pub contributions_in_shares : (s place : ℕ) → IsPermutation (at_place place (contributions job.program (view_at job rows s) (present_at job rows s))) (flat_map (λ p. at_place place (flat_map (λ r. r.1.contributed) (records_in job rows n p s))) (range_with_len 0 n))
+    pub contributions_in_shares : (s place : ℕ)
+        → IsPermutation (at_place place (contributions job.program (view_at job rows s) (present_at job rows s))) (flat_map (λ p. at_place place (flat_map (λ r. r.1.contributed) (records_in job rows n p s))) (range_with_len 0 n))
     unfolding partition_of
     contributions_in_shares s place =
         let view : View = view_at job rows s in
         let xs : List (Standing V M) = present_at job rows s in
-        let mine : ℕ → List ℤ = λ p. flat_map (λ (x : Standing V M). at_place place (outcome job.program view x).contributed) (present_in_share job rows n p s) in
+        let mine : ℕ → List ℤ =
+        λ p. flat_map (λ (x : Standing V M). at_place place (outcome job.program view x).contributed) (present_in_share job rows n p s) in
         let part : ℕ → List ℤ = λ p. at_place place (flat_map (λ (r : ℕ × Record V M). r.1.contributed) (records_in job rows n p s)) in
-        let same : (p : ℕ) → mine p ≡ part p = λ p. sym (ap (at_place place) (contributions-records_in p s) ∙ at_place-contributions job.program view place (present_in_share job rows n p s)) in
-        subst₂ (λ (l : List ℤ) (f : ℕ → List ℤ). IsPermutation l (flat_map f (range_with_len 0 n))) (sym (at_place-contributions job.program view place xs)) (λ i p. same p i) (flat_map-classes (λ (x : Standing V M). at_place place (outcome job.program view x).contributed) partition_of n xs within)
+        let same : (p : ℕ) → mine p ≡ part p =
+        λ p. sym (ap (at_place place) (contributions-records_in p s) ∙ at_place-contributions job.program view place (present_in_share job rows n p s)) in
+        subst₂ (λ (l : List ℤ) (f : ℕ → List ℤ). IsPermutation l (flat_map f (range_with_len 0 n)))
+        (sym (at_place-contributions job.program view place xs)) (λ i p. same p i)
+        (flat_map-classes (λ (x : Standing V M). at_place place (outcome job.program view x).contributed) partition_of n xs within)
 
     -- so what is gathered at a place can be gathered from the partitions' records
-    pub gathered_in_shares : (is_value : ℤ → Type 0) (a : Aggregating) → IsCommutativeMonoid is_value a.aggregate a.initial → (s place : ℕ) (value : ℤ) → is_value value → All is_value (at_place place (contributions job.program (view_at job rows s) (present_at job rows s))) → gathered_at a value (flat_map (λ p. at_place place (flat_map (λ r. r.1.contributed) (records_in job rows n p s))) (range_with_len 0 n)) ≡ gathered_at a value (at_place place (contributions job.program (view_at job rows s) (present_at job rows s)))
+    pub gathered_in_shares : (is_value : ℤ → Type 0) (a : Aggregating) → IsCommutativeMonoid is_value a.aggregate a.initial
+        → (s place : ℕ) (value : ℤ) → is_value value
+        → All is_value (at_place place (contributions job.program (view_at job rows s) (present_at job rows s)))
+        → gathered_at a value (flat_map (λ p. at_place place (flat_map (λ r. r.1.contributed) (records_in job rows n p s))) (range_with_len 0 n)) ≡ gathered_at a value (at_place place (contributions job.program (view_at job rows s) (present_at job rows s)))
     gathered_in_shares is_value a m s place value p h = gathered_at-IsPermutation a is_value m value _ _ p h (contributions_in_shares s place)
 
     -- as many executions are needed in a superstep as are needed of the partitions' vertices
-    pub needed_in_shares : (value_eq : V → V → Bool) (message_eq : M → M → Bool) (kept : Option Rows) (s : ℕ) → sum_by (λ p. needed_in value_eq message_eq job kept rows (belongs n p) s) (range_with_len 0 n) ≡ needed_in value_eq message_eq job kept rows (λ id. true) s
+    pub needed_in_shares : (value_eq : V → V → Bool) (message_eq : M → M → Bool) (kept : Option Rows) (s : ℕ)
+        → sum_by (λ p. needed_in value_eq message_eq job kept rows (belongs n p) s) (range_with_len 0 n) ≡ needed_in value_eq message_eq job kept rows (λ id. true) s
     needed_in_shares value_eq message_eq kept s =
         let is : List ℕ = ids (present_at job rows s) in
         let test : ℕ → Bool = is_needed value_eq message_eq job kept rows s in
         count-classes (λ id. id % n) test n is (λ id. mod-lt id some) ∙ sym (ap (count_by test) (all_pass (λ id. true) (λ id. refl) is))
 
   -- beside no run, as many are needed of a partition's vertices as it has records of the superstep
-  pub needed_in_share-none : (value_eq : V → V → Bool) (message_eq : M → M → Bool) → HasRisingIds rows → (s p : ℕ) → s < run_length job rows → needed_in value_eq message_eq job None rows (belongs n p) s ≡ length (records_in job rows n p s)
+  pub needed_in_share-none : (value_eq : V → V → Bool) (message_eq : M → M → Bool) → HasRisingIds rows → (s p : ℕ) → s < run_length job rows
+      → needed_in value_eq message_eq job None rows (belongs n p) s ≡ length (records_in job rows n p s)
   needed_in_share-none value_eq message_eq rising s p within' =
       needed_in-none value_eq message_eq job rows rising s within' (belongs n p) ∙ sym (length-records_in p s)

@@ -18,12 +18,14 @@ apart a b e = grind (arith, nat_tests)
 
 module _ {V M : Type 0} where
   -- what leaves each vertex its id is found where the vertex was
-  pub standing_at-map : (f : Standing V M → Standing V M) → ((x : Standing V M) → (f x).state.id ≡ x.state.id) → (id : ℕ) (xs : List (Standing V M)) → standing_at id (map f xs) ≡ option_map f (standing_at id xs)
+  pub standing_at-map : (f : Standing V M → Standing V M) → ((x : Standing V M) → (f x).state.id ≡ x.state.id)
+      → (id : ℕ) (xs : List (Standing V M)) → standing_at id (map f xs) ≡ option_map f (standing_at id xs)
   standing_at-map f k id [] = refl
   standing_at-map f k id (x ∷ xs) =
       ap (λ (n : ℕ). cond (n == id) (Some (f x)) (standing_at id (map f xs))) (k x) ∙ by (x.state.id == id) (standing_at-map f k id xs)
     where
-      by : (b : Bool) → standing_at id (map f xs) ≡ option_map f (standing_at id xs) → cond b (Some (f x)) (standing_at id (map f xs)) ≡ option_map f (cond b (Some x) (standing_at id xs))
+      by : (b : Bool) → standing_at id (map f xs) ≡ option_map f (standing_at id xs)
+          → cond b (Some (f x)) (standing_at id (map f xs)) ≡ option_map f (cond b (Some x) (standing_at id xs))
       by true e = refl
       by false e = e
 
@@ -32,8 +34,10 @@ module _ {V M : Type 0} where
   standing_is id [] x e = absurd (none-some x e)
   standing_is id (y ∷ ys) x e = by (y.state.id == id) refl e (standing_is id ys x)
     where
-      by : (b : Bool) → (y.state.id == id) ≡ b → cond b (Some y) (standing_at id ys) ≡ Some x → (standing_at id ys ≡ Some x → (x.state.id ≡ id) × Contains ys x) → (x.state.id ≡ id) × Contains (y ∷ ys) x
-      by true t e' later = let same : y ≡ x = same_Some y x e' in (sym (ap (λ (z : Standing V M). z.state.id) same) ∙ eqb-true y.state.id id t, (0, omega arith, same))
+      by : (b : Bool) → (y.state.id == id) ≡ b → cond b (Some y) (standing_at id ys) ≡ Some x
+          → (standing_at id ys ≡ Some x → (x.state.id ≡ id) × Contains ys x) → (x.state.id ≡ id) × Contains (y ∷ ys) x
+      by true t e' later =
+          let same : y ≡ x = same_Some y x e' in (sym (ap (λ (z : Standing V M). z.state.id) same) ∙ eqb-true y.state.id id t, (0, omega arith, same))
       by false t e' later = let r = later e' in (r.0, contains_later y x ys r.1)
 
   -- where ids rise, each vertex is found by its id
@@ -42,9 +46,15 @@ module _ {V M : Type 0} where
   found_by_id [] h = tt
   found_by_id (x ∷ xs) h = (
     ap (λ (b : Bool). cond b (Some x) (standing_at x.state.id xs)) (eq-eqb x.state.id x.state.id refl),
-    all_both (λ (y : Standing V M). nat_cmp x.state.id y.state.id ≡ Less) (λ (y : Standing V M). standing_at y.state.id xs ≡ Some y) (λ (y : Standing V M). standing_at y.state.id (x ∷ xs) ≡ Some y) (λ y less at. ap (λ (b : Bool). cond b (Some x) (standing_at y.state.id xs)) (apart x.state.id y.state.id less) ∙ at) xs (all_from_map (λ (y : Standing V M). y.state.id) (λ (n : ℕ). nat_cmp x.state.id n ≡ Less) xs h.0) (found_by_id xs h.1),
+    all_both (λ (y : Standing V M). nat_cmp x.state.id y.state.id ≡ Less) (λ (y : Standing V M). standing_at y.state.id xs ≡ Some y)
+        (λ (y : Standing V M). standing_at y.state.id (x ∷ xs) ≡ Some y)
+        (λ y less at. ap (λ (b : Bool). cond b (Some x) (standing_at y.state.id xs)) (apart x.state.id y.state.id less) ∙ at) xs
+        (all_from_map (λ (y : Standing V M). y.state.id) (λ (n : ℕ). nat_cmp x.state.id n ≡ Less) xs h.0) (found_by_id xs h.1),
   )
 
   -- the same of one of them
-  pub standing_at-Contains : (xs : List (Standing V M)) (x : Standing V M) → IsStrictlySortedBy nat_cmp (ids xs) → Contains xs x → standing_at x.state.id xs ≡ Some x
-  standing_at-Contains xs x h at = All-contains (λ (y : Standing V M). standing_at y.state.id xs ≡ Some y) xs x (All-from_recursion (λ (y : Standing V M). standing_at y.state.id xs ≡ Some y) xs (found_by_id xs h)) at
+  pub standing_at-Contains : (xs : List (Standing V M)) (x : Standing V M) → IsStrictlySortedBy nat_cmp (ids xs) → Contains xs x
+      → standing_at x.state.id xs ≡ Some x
+  standing_at-Contains xs x h at =
+      All-contains (λ (y : Standing V M). standing_at y.state.id xs ≡ Some y) xs x
+      (All-from_recursion (λ (y : Standing V M). standing_at y.state.id xs ≡ Some y) xs (found_by_id xs h)) at

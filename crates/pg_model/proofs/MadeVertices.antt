@@ -15,7 +15,14 @@ use Rattle.pg_model.specs.Programs.{infinity, sssp, sssp_step, sssp_aggregators,
 use Rattle.pg_model.specs.declared.run.Ending.TheVariants.{Finished, LimitReached}
 
 abbrev from_1 : Missing → ℕ → Job ℤ ℤ
-from_1 missing limit = record { program = sssp 1; combining = None; aggregators = sssp_aggregators; deciding = decides_nothing; missing = missing; limit = limit }
+from_1 missing limit = record {
+  program = sssp 1;
+  combining = None;
+  aggregators = sssp_aggregators;
+  deciding = decides_nothing;
+  missing = missing;
+  limit = limit;
+}
 
 abbrev row : EdgeList → Row
 row edges = record { input = pos 0; edges = edges }
@@ -65,7 +72,14 @@ dropped-answer = refl
 
 -- ---- pagerank: the vertex that is made counts from the superstep after its first
 abbrev ranking : Job ℤ ℤ
-ranking = record { program = pagerank 2; combining = None; aggregators = pagerank_aggregators; deciding = pagerank_deciding (pos 0); missing = Create; limit = 1000 }
+ranking = record {
+  program = pagerank 2;
+  combining = None;
+  aggregators = pagerank_aggregators;
+  deciding = pagerank_deciding (pos 0);
+  missing = Create;
+  limit = 1000;
+}
 
 abbrev pointing : Rows
 pointing = (1, row ((2, pos 1) ∷ [])) ∷ []

@@ -84,7 +84,14 @@ star-needed = refl
 
 -- ---- pagerank that ends once the ranks stay: 1 and 2 point at each other, and then with a vertex 3 beside them
 abbrev ranking : Job ℤ ℤ
-ranking = record { program = pagerank 30; combining = None; aggregators = pagerank_aggregators; deciding = pagerank_deciding (pos 1); missing = Drop; limit = 1000 }
+ranking = record {
+  program = pagerank 30;
+  combining = None;
+  aggregators = pagerank_aggregators;
+  deciding = pagerank_deciding (pos 1);
+  missing = Drop;
+  limit = 1000;
+}
 
 abbrev pair : Rows
 pair = (1, row (to 2 ∷ [])) ∷ (2, row (to 1 ∷ [])) ∷ []
@@ -130,7 +137,9 @@ two_senders-executions = refl
 
 -- ---- the greatest input that reaches a vertex, and the number of edges to each
 abbrev inputs : Rows
-inputs = (1, record { input = pos 7; edges = to 2 ∷ [] }) ∷ (2, record { input = pos 3; edges = to 3 ∷ [] }) ∷ (3, record { input = pos 5; edges = to 2 ∷ to 9 ∷ [] }) ∷ []
+inputs =
+    (1, record { input = pos 7; edges = to 2 ∷ [] }) ∷ (2, record { input = pos 3; edges = to 3 ∷ [] }) ∷
+    (3, record { input = pos 5; edges = to 2 ∷ to 9 ∷ [] }) ∷ []
 
 greatest-answer : answer (plain max_value max_aggregators) inputs ≡ record { values = (1, pos 7) ∷ (2, pos 7) ∷ (3, pos 7) ∷ []; aggregates = pos 7 ∷ []; ending = Finished; supersteps = 4; sent = 7; dropped = 2 }
 unfolding first next configuration length_from executions_below answer visible_in view_of outcome gathered_from max_step

@@ -14,7 +14,14 @@ use Rattle.pg_model.specs.Programs.{infinity, sssp, sssp_step, sssp_aggregators,
 use Rattle.pg_model.specs.declared.run.Ending.TheVariants.{Finished, LimitReached}
 
 abbrev from_1 : Option (Combining ℤ) → ℕ → Job ℤ ℤ
-from_1 combining limit = record { program = sssp 1; combining = combining; aggregators = sssp_aggregators; deciding = decides_nothing; missing = Drop; limit = limit }
+from_1 combining limit = record {
+  program = sssp 1;
+  combining = combining;
+  aggregators = sssp_aggregators;
+  deciding = decides_nothing;
+  missing = Drop;
+  limit = limit;
+}
 
 abbrev row : EdgeList → Row
 row edges = record { input = pos 0; edges = edges }

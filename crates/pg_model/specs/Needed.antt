@@ -40,7 +40,8 @@ module _ {V M : Type 0} where
   module _ (value_eq : V → V → Bool) (message_eq : M → M → Bool) where
     abbrev pub view_eq : View → View → Bool
     view_eq a b =
-        (a.superstep == b.superstep) && (pointwise (option_eq int_eq) a.aggregates b.aggregates && (option_eq ◌==◌ a.total_vertices b.total_vertices && option_eq ◌==◌ a.total_edges b.total_edges))
+        (a.superstep == b.superstep) && (pointwise (option_eq int_eq) a.aggregates b.aggregates &&
+        (option_eq ◌==◌ a.total_vertices b.total_vertices && option_eq ◌==◌ a.total_edges b.total_edges))
 
     abbrev pub edge_eq : ℕ × ℤ → ℕ × ℤ → Bool
     edge_eq a b = (a.0 == b.0) && int_eq a.1 b.1

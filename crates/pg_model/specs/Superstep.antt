@@ -155,7 +155,8 @@ gathered_at aggregating value contributions = fold aggregating.aggregate (cond a
 unfoldable pub gathered_from : ℕ → List Aggregating → List ℤ → List (ℕ × ℤ) → List ℤ
 gathered_from place [] values contributions = []
 gathered_from place (a ∷ rest) [] contributions = []
-gathered_from place (a ∷ rest) (value ∷ values) contributions = gathered_at a value (at_place place contributions) ∷ gathered_from (place + 1) rest values contributions
+gathered_from place (a ∷ rest) (value ∷ values) contributions =
+    gathered_at a value (at_place place contributions) ∷ gathered_from (place + 1) rest values contributions
 
 module _ {V M : Type 0} (job : Job V M) where
   -- what the master shows in superstep s, which begins with c

@@ -48,14 +48,16 @@ module _ {V M : Type 0} (job : Job V M) (old rows : Rows) (n p : ℕ) (trace new
     (are : (id : ℕ) → has_id differing id ≡ has_id touched id) (untouched : AreTouched touched old rows) where
   -- the first stats of the old run
   old_first : (stats : List PartitionStats) → stats ≡ stats_to job old n p (run_length job old) → slice_get stats 0 ≡ Some (stats_at job old n p 0)
-  old_first stats are = ap (λ (l : List PartitionStats). slice_get l 0) (are ∙ ap (λ (k : ℕ). map (stats_at job old n p) (range_with_len 0 k)) (add-one (run_length job old)))
+  old_first stats are =
+      ap (λ (l : List PartitionStats). slice_get l 0) (are ∙ ap (λ (k : ℕ). map (stats_at job old n p) (range_with_len 0 k)) (add-one (run_length job old)))
 
   counted : (first : PartitionStats) → Some first ≡ Some (stats_at job old n p 0) → first.census ≡ census_of (states_in job n p old 0)
   unfolding stats_at
   counted first e = let same : first ≡ stats_at job old n p 0 = cc in ap (λ (x : PartitionStats). x.census) same
 
   -- a census that was recounted is that of the run
-  pub recensus_is : (stats : List PartitionStats) → stats ≡ stats_to job old n p (run_length job old) → (first : PartitionStats) → slice_get stats 0 ≡ Some first
+  pub recensus_is : (stats : List PartitionStats) → stats ≡ stats_to job old n p (run_length job old) → (first : PartitionStats)
+      → slice_get stats 0 ≡ Some first
       → (census : Census) → IsRecensus trace 0 new_trace 0 differing first.census census → census ≡ census_of (states_in job n p rows 0)
   recensus_is stats are_old first at census h =
       census_is job n p old rows whole.rise holds.rise trace new_trace 0 0 differing rise

@@ -11,7 +11,8 @@ use Rattle.pg_trace.specs.Trace.{Trace, first_supersteps}
 
 module _ {V M : Type 0} (job : Job V M) (kept : Option Rows) (rows : Rows) (n p : ℕ) where
   -- the trace without what lies beyond is that of the whole run
-  whole : (course : Holding V M) → Holds job kept rows n p (run_length job rows) course → IsWhole job rows n p (first_supersteps (run_length job rows) course.trace)
+  whole : (course : Holding V M) → Holds job kept rows n p (run_length job rows) course
+      → IsWhole job rows n p (first_supersteps (run_length job rows) course.trace)
   whole course holds =
       let r : ℕ = run_length job rows in
       record {

@@ -10,7 +10,8 @@ use Rattle.pg_stats.specs.declared.stats.Census.{Census}
 use Rattle.pg_stats.specs.declared.stats.Traffic.{Traffic}
 use Rattle.pg_trace.specs.Trace.{Trace}
 
-pub counted_at : {V M : Type 0} (old looked trace : Trace V M) (s : ℕ) (seen ids : List ℕ) (before old_before old_after after : Census) → looked ≡ trace → seen ≡ ids
+pub counted_at : {V M : Type 0} (old looked trace : Trace V M) (s : ℕ) (seen ids : List ℕ) (before old_before old_after after : Census)
+    → looked ≡ trace → seen ≡ ids
     → IsCountedBeside old looked s seen before old_before old_after after → IsCountedBeside old trace s ids before old_before old_after after
 counted_at old looked trace s seen ids before old_before old_after after same are h =
     subst (λ (x : List ℕ). IsCountedBeside old trace s x before old_before old_after after) are

@@ -44,7 +44,8 @@ listed {X = X} n f xs many at = from n 0 f xs many (λ q below. at q below ∙ a
     from (suc n) a f [] many at = absurd (omega (arith, many))
     from (suc n) a f (x ∷ xs) many at =
         ap₂ ◌∷◌ (first x (a + 0) a (at 0 (let e : 0 < suc n = omega arith in e)) (let e : a + 0 ≡ a = omega arith in e))
-        (from n (a + 1) f xs (omega (arith, many)) (λ q below. at (suc q) (omega (arith, below)) ∙ ap (λ (k : ℕ). Some (f k)) (let e : a + suc q ≡ a + 1 + q = omega arith in e)))
+        (from n (a + 1) f xs (omega (arith, many))
+        (λ q below. at (suc q) (omega (arith, below)) ∙ ap (λ (k : ℕ). Some (f k)) (let e : a + suc q ≡ a + 1 + q = omega arith in e)))
       where
         first : (x : X) (k a : ℕ) → Some x ≡ Some (f k) → k ≡ a → x ≡ f a
         first x k a e same = let y : x ≡ f k = cc in y ∙ ap f same
@@ -101,12 +102,14 @@ module _ {V M : Type 0} (job : Job V M) (rows : Rows) (n p : ℕ) where
   gathered_is : 0 < n → (registry : Registered) → job.aggregators ≡ aggregators_of registry → (s : ℕ) (trace : Trace V M) → HoldsRun job rows n p (s + 1) trace
       → gathered_afresh 0 (aggregators_of registry) (contributions_of (records_of s trace)) ≡ gathered_in job rows n p s
   gathered_is some registry same s trace holds =
-      ap₂ (λ (aggregators : List Aggregating) (rs : List (ℕ × Record V M)). gathered_afresh 0 aggregators (contributions_of rs)) (sym same) (records_held job rows n p trace s (s + 1) holds (omega arith))
+      ap₂ (λ (aggregators : List Aggregating) (rs : List (ℕ × Record V M)). gathered_afresh 0 aggregators (contributions_of rs)) (sym same)
+      (records_held job rows n p trace s (s + 1) holds (omega arith))
       ∙ sym (gathered_of_run job rows n p some s)
 
 module _ {V M : Type 0} (job : Job V M) (rows : Rows) (n p : ℕ) (some : 0 < n) (registry : Registered) (same : job.aggregators ≡ aggregators_of registry)
     (s : ℕ) (course : Holding V M) (missing : course.missing ≡ job.missing) (holds : HoldsRun job rows n p (s + 1) course.trace)
-    (kept : Option Rows) (sent : List (Logged M)) (to_each : length sent ≡ n) (sends : (q : ℕ) → q < n → IsSentTo job kept rows n p q s (slice_get sent q)) where
+    (kept : Option Rows) (sent : List (Logged M)) (to_each : length sent ≡ n)
+    (sends : (q : ℕ) → q < n → IsSentTo job kept rows n p q s (slice_get sent q)) where
   bundles_are : map (λ l. l.bundle) sent ≡ map (bundle_to job rows n p some s) (range_with_len 0 n)
   bundles_are =
       listed n (bundle_to job rows n p some s) (map (λ (l : Logged M). l.bundle) sent) (length-map sent (λ (l : Logged M). l.bundle) ∙ to_each)
@@ -129,7 +132,8 @@ module _ {V M : Type 0} (job : Job V M) (rows : Rows) (n p : ℕ) (some : 0 < n)
   module _ (old : Rows) (moved : List ℕ) (are_moved : AreMoved moved old rows) (is_old : kept ≡ Some old) (of : course.partition ≡ p)
       (trace : Trace V M) (whole : HoldsRun job old n p (run_length job old) trace)
       (old_logs : Slots M) (logged : (q : ℕ) → q < n → bundle_in (slot_at old_logs s p q) ≡ Some (bundle_sent job old n p q s)) where
-    told : s < run_length job old → (q : ℕ) → q < length sent → IsTold (bundle_to job old n p some s q) (bundle_to job rows n p some s q) (slot_at old_logs s p q) (slice_get sent q)
+    told : s < run_length job old → (q : ℕ) → q < length sent
+        → IsTold (bundle_to job old n p some s q) (bundle_to job rows n p some s q) (slot_at old_logs s p q) (slice_get sent q)
     told there q below =
         by (slice_get sent q)
         (subst (λ (k : Option Rows). IsSentTo job k rows n p q s (slice_get sent q)) is_old (sends q (subst (λ m. q < m) to_each below)))
@@ -187,10 +191,12 @@ module _ {V M : Type 0} (job : Job V M) (rows : Rows) (n p : ℕ) (some : 0 < n)
             → contributed_by (value_at id (records_in job old n p s)) ≡ contributed_by (value_at id (records_in job rows n p s))
         alike_at all id = by (has_id course.changed id) refl
           where
-            by : (t : Bool) → has_id course.changed id ≡ t → contributed_by (value_at id (records_in job old n p s)) ≡ contributed_by (value_at id (records_in job rows n p s))
+            by : (t : Bool) → has_id course.changed id ≡ t
+                → contributed_by (value_at id (records_in job old n p s)) ≡ contributed_by (value_at id (records_in job rows n p s))
             by true e =
                 ap (λ (rs : List (ℕ × Record V M)). contributed_by (value_at id rs)) (sym old_records)
-                ∙ (same_contributions (contributed_by (record_at id s trace)) (contributed_by (record_at id s course.trace)) (passes (contributes_alike trace course.trace s) course.changed all id e)
+                ∙ (same_contributions (contributed_by (record_at id s trace)) (contributed_by (record_at id s course.trace))
+                (passes (contributes_alike trace course.trace s) course.changed all id e)
                 ∙ ap (λ (rs : List (ℕ × Record V M)). contributed_by (value_at id rs)) new_records)
             by false e = ap contributed_by (only.records id e)
 
@@ -198,6 +204,7 @@ module _ {V M : Type 0} (job : Job V M) (rows : Rows) (n p : ℕ) (some : 0 < n)
         by true e =
             h.alike e ∙ (old_gathered ∙ (gathered_of_run job old n p some s
             ∙ (ap (gathered_afresh 0 job.aggregators)
-            (contribute_the_same (records_in job old n p s) (records_in job rows n p s) (records_rise job old n p s whole.rise) (records_rise job rows n p s holds.rise) (alike_at e))
+            (contribute_the_same (records_in job old n p s) (records_in job rows n p s) (records_rise job old n p s whole.rise)
+            (records_rise job rows n p s holds.rise) (alike_at e))
             ∙ sym (gathered_of_run job rows n p some s))))
         by false e = h.otherwise e ∙ gathered_is job rows n p some registry same s course.trace holds

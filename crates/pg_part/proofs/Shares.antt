@@ -84,7 +84,8 @@ module _ {V M : Type 0} (job : Job V M) (n p : ℕ) where
       (found rows r trace holds s within ids mine.1)
 
   -- as the run begins, so it is of any ids
-  pub found_first : (rows : Rows) (r : ℕ) (trace : Trace V M) → HoldsRun job rows n p r trace → (ids : List ℕ) → states_among 0 ids trace ≡ some_of ids (states_in rows 0)
+  pub found_first : (rows : Rows) (r : ℕ) (trace : Trace V M) → HoldsRun job rows n p r trace → (ids : List ℕ)
+      → states_among 0 ids trace ≡ some_of ids (states_in rows 0)
   unfolding share
   found_first rows r trace holds ids = ap (λ states. some_of ids states) holds.initial
 
@@ -106,21 +107,25 @@ module _ {V M : Type 0} (job : Job V M) (n p : ℕ) where
       ]
 
   -- a census that was recounted at these ids is that of the run
-  pub census_is : (old rows : Rows) → HasRisingIds old → HasRisingIds rows → (before_trace trace : Trace V M) (s t : ℕ) (ids : List ℕ) → IsStrictlySortedBy nat_cmp ids
+  pub census_is : (old rows : Rows) → HasRisingIds old → HasRisingIds rows → (before_trace trace : Trace V M) (s t : ℕ) (ids : List ℕ)
+      → IsStrictlySortedBy nat_cmp ids
       → states_among s ids before_trace ≡ some_of ids (states_in old s) → states_among t ids trace ≡ some_of ids (states_in rows t)
       → ((id : ℕ) → belongs n p id ≡ true → has_id ids id ≡ false → state_at job old s id ≡ state_at job rows t id)
-      → (before after : Census) → before ≡ census_of (states_in old s) → IsRecensus before_trace s trace t ids before after → after ≡ census_of (states_in rows t)
+      → (before after : Census) → before ≡ census_of (states_in old s) → IsRecensus before_trace s trace t ids before after
+      → after ≡ census_of (states_in rows t)
   census_is old rows old_rise new_rise before_trace trace s t ids rise found_old found_new same before after b h =
       recounted_is (states_in old s) (states_in rows t) ids (states_rise old old_rise s) (states_rise rows new_rise t) rise (same_states old rows s t ids same)
       before (census_of (states_among s ids before_trace)) (census_of (states_among t ids trace)) after b (ap census_of found_old) (ap census_of found_new) h
 
   -- one that was counted beside an old run is, where all others were moved alike
-  pub census_beside_is : (old rows : Rows) → HasRisingIds old → HasRisingIds rows → (old_trace trace : Trace V M) (s : ℕ) (ids : List ℕ) → IsStrictlySortedBy nat_cmp ids
+  pub census_beside_is : (old rows : Rows) → HasRisingIds old → HasRisingIds rows → (old_trace trace : Trace V M) (s : ℕ) (ids : List ℕ)
+      → IsStrictlySortedBy nat_cmp ids
       → states_among s ids old_trace ≡ some_of ids (states_in old s) → states_among (s + 1) ids old_trace ≡ some_of ids (states_in old (s + 1))
       → states_among s ids trace ≡ some_of ids (states_in rows s) → states_among (s + 1) ids trace ≡ some_of ids (states_in rows (s + 1))
       → ((id : ℕ) → belongs n p id ≡ true → has_id ids id ≡ false → IsMovedAlike job old rows s id)
       → (before old_before old_after after : Census) → before ≡ census_of (states_in rows s) → old_before ≡ census_of (states_in old s)
-      → old_after ≡ census_of (states_in old (s + 1)) → IsCountedBeside old_trace trace s ids before old_before old_after after → after ≡ census_of (states_in rows (s + 1))
+      → old_after ≡ census_of (states_in old (s + 1)) → IsCountedBeside old_trace trace s ids before old_before old_after after
+      → after ≡ census_of (states_in rows (s + 1))
   census_beside_is old rows old_rise new_rise old_trace trace s ids rise old_then old_next new_then new_next alike before old_before old_after after b ob oa h =
       counted_beside_is (states_in old s) (states_in old (s + 1)) (states_in rows s) (states_in rows (s + 1)) ids
       (states_rise old old_rise s) (states_rise old old_rise (s + 1)) (states_rise rows new_rise s) (states_rise rows new_rise (s + 1)) rise

@@ -32,8 +32,10 @@ slice_get-range made a (suc n) (suc k) within =
 
 -- the stats after a superstep, by other names of what is looked at
 pub next_stats_at : {V M : Type 0} (registry : Registered) (graph rows : Rows) (ids moved : List ℕ) (now stats then old_stats : List PartitionStats) (logs : Option (Slots M))
-    (seen course : Holding V M) (k s : ℕ) (sent bundles : List (Logged M)) (after : PartitionStats) → graph ≡ rows → ids ≡ moved → now ≡ stats → then ≡ old_stats → seen ≡ course
-    → k ≡ s → sent ≡ bundles → IsNextStats registry graph ids now then logs seen k sent after → IsNextStats registry rows moved stats old_stats logs course s bundles after
+    (seen course : Holding V M) (k s : ℕ) (sent bundles : List (Logged M)) (after : PartitionStats) → graph ≡ rows → ids ≡ moved
+    → now ≡ stats → then ≡ old_stats → seen ≡ course
+    → k ≡ s → sent ≡ bundles → IsNextStats registry graph ids now then logs seen k sent after
+    → IsNextStats registry rows moved stats old_stats logs course s bundles after
 next_stats_at {V} {M} registry graph rows ids moved now stats then old_stats logs seen course k s sent bundles after g m n o c p b h =
     subst (λ (x : List (Logged M)). IsNextStats registry rows moved stats old_stats logs course s x after) b
     (subst (λ (x : ℕ). IsNextStats registry rows moved stats old_stats logs course x sent after) p
@@ -45,14 +47,16 @@ next_stats_at {V} {M} registry graph rows ids moved now stats then old_stats log
 
 module _ {V M : Type 0} (job : Job V M) where
   -- stats up to a superstep have those of each as it begins
-  pub stats_of : (rows : Rows) (n p m s : ℕ) (stats : List PartitionStats) → stats ≡ stats_to job rows n p m → s ≤ m → slice_get stats s ≡ Some (stats_at job rows n p s)
+  pub stats_of : (rows : Rows) (n p m s : ℕ) (stats : List PartitionStats) → stats ≡ stats_to job rows n p m → s ≤ m
+      → slice_get stats s ≡ Some (stats_at job rows n p s)
   stats_of rows n p m s stats are within =
       ap (λ (l : List PartitionStats). slice_get l s) are
       ∙ (slice_get-range (stats_at job rows n p) 0 (m + 1) s (omega (arith, within))
       ∙ ap (λ (k : ℕ). Some (stats_at job rows n p k)) (let e : 0 + s ≡ s = omega arith in e))
 
   -- with those of one superstep more
-  one_more : (rows : Rows) (n p r : ℕ) (stats : List PartitionStats) (next : PartitionStats) → stats ≡ stats_to job rows n p r → next ≡ stats_at job rows n p (r + 1)
+  one_more : (rows : Rows) (n p r : ℕ) (stats : List PartitionStats) (next : PartitionStats) → stats ≡ stats_to job rows n p r
+      → next ≡ stats_at job rows n p (r + 1)
       → stats ++ next ∷ [] ≡ stats_to job rows n p (r + 1)
   one_more rows n p r stats next are is =
       ap₂ (λ (l : List PartitionStats) (x : PartitionStats). l ++ x ∷ []) are is

@@ -52,6 +52,7 @@ module _ {V M : Type 0} (job : Job V M) where
     pub stats : HasStats kept rows n p r part
 
   -- a step took it to the next superstep
-  pub record HasMadeStep (value_eq : V → V → Bool) (message_eq : M → M → Bool) (kept : Option Rows) (rows : Rows) (n p r : ℕ) (part : PartState V M) (sent : List (Logged M)) (calls calls_after : ℕ) : Type 0 where
+  pub record HasMadeStep (value_eq : V → V → Bool) (message_eq : M → M → Bool) (kept : Option Rows) (rows : Rows) (n p r : ℕ)
+      (part : PartState V M) (sent : List (Logged M)) (calls calls_after : ℕ) : Type 0 where
     pub course : HasStepped job value_eq message_eq kept rows n p r part.course sent calls calls_after
     pub stats : HasStats kept rows n p (r + 1) part

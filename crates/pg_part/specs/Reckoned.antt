@@ -46,27 +46,31 @@ module _ {V M : Type 0} where
     pub rest : after ≡ begun_with registry after.census
 
   -- the stats after superstep s, by those before it
-  pub record IsReckoned (registry : Registered) (rows : Rows) (course : Holding V M) (s : ℕ) (bundles : List (Logged M)) (before after : PartitionStats) : Type 0 where
+  pub record IsReckoned (registry : Registered) (rows : Rows) (course : Holding V M) (s : ℕ) (bundles : List (Logged M))
+      (before after : PartitionStats) : Type 0 where
     pub census : IsRecensus course.trace s course.trace (s + 1) course.changed before.census after.census
     pub traffic : after.traffic ≡ traffic_of course.missing rows (map (λ l. l.bundle) bundles)
     pub gathered : after.gathered ≡ gathered_of registry course.trace s
 
   -- the same beside the old run, by those that it had before and after it too
-  pub record IsReckonedBeside (registry : Registered) (rows : Rows) (moved : List ℕ) (old : Trace V M) (old_logs : Slots M) (course : Holding V M) (s : ℕ) (bundles : List (Logged M)) (before old_before old_after after : PartitionStats) : Type 0 where
+  pub record IsReckonedBeside (registry : Registered) (rows : Rows) (moved : List ℕ) (old : Trace V M) (old_logs : Slots M)
+      (course : Holding V M) (s : ℕ) (bundles : List (Logged M)) (before old_before old_after after : PartitionStats) : Type 0 where
     pub census : IsCountedBeside old course.trace s course.changed before.census old_before.census old_after.census after.census
     pub traffic : IsRetold course.missing rows moved old_logs s course.partition bundles old_after.traffic after.traffic
     pub alike : list_all (contributes_alike old course.trace s) course.changed ≡ true → after.gathered ≡ old_after.gathered
     pub otherwise : list_all (contributes_alike old course.trace s) course.changed ≡ false → after.gathered ≡ gathered_of registry course.trace s
 
   -- by the old run's too where the superstep was made beside it, and else by those before it
-  pub record IsNextStats (registry : Registered) (rows : Rows) (moved : List ℕ) (stats old_stats : List PartitionStats) (old_logs : Option (Slots M)) (course : Holding V M) (s : ℕ) (bundles : List (Logged M)) (after : PartitionStats) : Type 0 where
+  pub record IsNextStats (registry : Registered) (rows : Rows) (moved : List ℕ) (stats old_stats : List PartitionStats)
+      (old_logs : Option (Slots M)) (course : Holding V M) (s : ℕ) (bundles : List (Logged M)) (after : PartitionStats) : Type 0 where
     pub alone : course.beside_old ≡ false → (before : PartitionStats) → slice_get stats s ≡ Some before → IsReckoned registry rows course s bundles before after
     pub beside : course.beside_old ≡ true → (old : Trace V M) (logs : Slots M) (before old_before old_after : PartitionStats) → course.kept ≡ Some old
         → old_logs ≡ Some logs → slice_get stats s ≡ Some before → slice_get old_stats s ≡ Some old_before → slice_get old_stats (s + 1) ≡ Some old_after
         → IsReckonedBeside registry rows moved old logs course s bundles before old_before old_after after
 
   -- with the stats after superstep s, what was reckoned before it is this
-  pub record HasNextStats (registry : Registered) (old_logs : Option (Slots M)) (course : Holding V M) (s : ℕ) (bundles : List (Logged M)) (before after : Reckoning) : Type 0 where
+  pub record HasNextStats (registry : Registered) (old_logs : Option (Slots M)) (course : Holding V M) (s : ℕ) (bundles : List (Logged M))
+      (before after : Reckoning) : Type 0 where
     pub graph_is : after.graph ≡ before.graph
     pub moved_are : after.moved.items ≡ before.moved.items
     pub old_stats_are : after.old_stats.items ≡ before.old_stats.items

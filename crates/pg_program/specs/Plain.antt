@@ -40,7 +40,9 @@ both_true false b h = absurd (true≢false (sym h))
 
 -- of two pairs, and of two lists, whose parts are told apart
 module _ {A : Type 0} {is_value : A → Type 0} {eq : A → A → Bool} (exact : (x y : A) → is_value x → is_value y → IsTrue (eq x y) → x ≡ y) where
-  pub pair_exact : {B : Type 0} {is_second : B → Type 0} {eq_second : B → B → Bool} → ((x y : B) → is_second x → is_second y → IsTrue (eq_second x y) → x ≡ y) → (x y : A × B) → are_both is_value is_second x → are_both is_value is_second y → IsTrue (eq x.0 y.0 && eq_second x.1 y.1) → x ≡ y
+  pub pair_exact : {B : Type 0} {is_second : B → Type 0} {eq_second : B → B → Bool}
+      → ((x y : B) → is_second x → is_second y → IsTrue (eq_second x y) → x ≡ y) → (x y : A × B) → are_both is_value is_second x
+      → are_both is_value is_second y → IsTrue (eq x.0 y.0 && eq_second x.1 y.1) → x ≡ y
   pair_exact {B} {is_second} {eq_second} second x y p q equal =
       let parts : IsTrue (eq x.0 y.0) × IsTrue (eq_second x.1 y.1) = both_true (eq x.0 y.0) (eq_second x.1 y.1) equal in
       ap (λ (a : A). (a, x.1)) (exact x.0 y.0 p.0 q.0 parts.0) ∙ ap (λ (b : B). (y.0, b)) (second x.1 y.1 p.1 q.1 parts.1)

@@ -27,7 +27,8 @@ pub afresh_more : (registry : Registered) (place : ℕ) (r : Registration) → o
 afresh_more registry place r at cs so_far value here after e v h pushed =
     let firsts : List Aggregating = map (λ (e : List ℕ × Registration). aggregating_of e.1) (take place registry) in
     let last : ℤ = fold (operation_of r.kind) (initial_of r.kind) (at_place place cs) in
-    let many : length firsts ≡ place = length-map (take place registry) (λ (e : List ℕ × Registration). aggregating_of e.1) ∙ length_taken registry place r at in
+    let many : length firsts ≡ place =
+    length-map (take place registry) (λ (e : List ℕ × Registration). aggregating_of e.1) ∙ length_taken registry place r at in
     let one : gathered_afresh 0 (firsts ++ aggregating_of r ∷ []) cs ≡ gathered_afresh 0 firsts cs ++ last ∷ [] =
     afresh_push 0 firsts (aggregating_of r) cs
     ∙ ap (λ k. gathered_afresh 0 firsts cs ++ fold (operation_of r.kind) (initial_of r.kind) (at_place k cs) ∷ []) (zero-add (length firsts) ∙ many) in

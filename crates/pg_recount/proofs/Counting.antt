@@ -58,4 +58,5 @@ module _ {V : Type 0} where
         → IsSum (census_of (states_among s ids trace)) (census_of (option_to_list found)) after → after ≡ census_of (states_among s (ids ++ id ∷ []) trace)
     with_push ids id found after is h =
         among_push ids id after
-        (subst (λ l. IsSum (census_of (states_among s ids trace)) (census_of l) after) (ap option_to_list is ∙ sym (append-nil (option_to_list (state_at id s trace)))) h)
+        (subst (λ l. IsSum (census_of (states_among s ids trace)) (census_of l) after)
+        (ap option_to_list is ∙ sym (append-nil (option_to_list (state_at id s trace)))) h)

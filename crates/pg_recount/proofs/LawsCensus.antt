@@ -86,10 +86,12 @@ module _ {V : Type 0} where
         λ i. record { vertices = v i; edges = e i; awake = a i }
 
   -- of two runs: the states before and after a superstep in the old one, and in the new one
-  module _ (old old' new new' : List (VertexState V)) (ids : List ℕ) (old_rise : StatesRise old) (old_rise' : StatesRise old') (rise : StatesRise new) (rise' : StatesRise new')
+  module _ (old old' new new' : List (VertexState V)) (ids : List ℕ) (old_rise : StatesRise old) (old_rise' : StatesRise old')
+      (rise : StatesRise new) (rise' : StatesRise new')
       (rising : IsStrictlySortedBy nat_cmp ids)
       (alike : (id : ℕ) → has_id ids id ≡ false
-      → ((state_of id old ≡ state_of id new) × (state_of id old' ≡ state_of id new')) ⊎ ((state_of id old' ≡ state_of id old) × (state_of id new' ≡ state_of id new))) where
+      → ((state_of id old ≡ state_of id new) × (state_of id old' ≡ state_of id new')) ⊎
+      ((state_of id old' ≡ state_of id old) × (state_of id new' ≡ state_of id new))) where
     -- whatever is summed up of them
     turned_alike : (w : VertexState V → ℕ)
         → (sum_by w old + sum_by w new') + (sum_by w (some_of ids old') + sum_by w (some_of ids new))
@@ -108,7 +110,8 @@ module _ {V : Type 0} where
         one id other =
             ap₂ ◌+◌ (at_states w old old_rise id) (at_states w new' rise' id)
             ∙ (elim (alike id other) [
-              | inl same ↦ swapped (weight (state_of id old)) (weight (state_of id new')) (weight (state_of id old')) (weight (state_of id new)) (ap weight same.0) (ap weight same.1)
+              | inl same ↦ swapped (weight (state_of id old)) (weight (state_of id new')) (weight (state_of id old'))
+                  (weight (state_of id new)) (ap weight same.0) (ap weight same.1)
               | inr still ↦ ap₂ ◌+◌ (ap weight (sym still.0)) (ap weight still.1)
             ]
             ∙ sym (ap₂ ◌+◌ (at_states w old' old_rise' id) (at_states w new rise id)))
@@ -117,7 +120,8 @@ module _ {V : Type 0} where
             swapped a b c d e f = omega (arith, e, f)
 
     -- the census of the new run after it
-    pub counted_beside_is : (before old_before old_after turned old_turned after : Census) → before ≡ census_of new → old_before ≡ census_of old → old_after ≡ census_of old'
+    pub counted_beside_is : (before old_before old_after turned old_turned after : Census) → before ≡ census_of new
+        → old_before ≡ census_of old → old_after ≡ census_of old'
         → IsRecounted before (census_of (some_of ids new)) (census_of (some_of ids new')) turned
         → IsRecounted old_before (census_of (some_of ids old)) (census_of (some_of ids old')) old_turned
         → IsRecounted turned old_turned old_after after → after ≡ census_of new'

@@ -113,7 +113,8 @@ module _ {V M : Type 0} (job : Job V M) (rows : Rows) (n p : ℕ) (some : 0 < n)
       ∙ (same_sums _ _ (range_with_len 0 n) each
       ∙ (count-classes (λ (t : Sending M). t.target % n) test n all (λ t. mod-lt t.target some)
       ∙ (ap (count_by test) (sendings-records_in job rows n p s)
-      ∙ (sym (count_by-map (λ (m : ℕ × M). picks m.0) (λ (t : Sending M). (t.target, t.message)) (sendings job.program (view_at job rows s) (present_in_share job rows n p s)))
+      ∙ (sym (count_by-map (λ (m : ℕ × M). picks m.0) (λ (t : Sending M). (t.target, t.message))
+      (sendings job.program (view_at job rows s) (present_in_share job rows n p s)))
       ∙ ap (count_by (λ (m : ℕ × M). picks m.0)) (sendings-sends job.program (view_at job rows s) (present_in_share job rows n p s))))))
 
   pub traffic_of_run : RowsRise rows → traffic_in job rows n p s ≡ traffic_of job.missing rows (map bundle_to (range_with_len 0 n))
@@ -142,7 +143,9 @@ module _ {V M : Type 0} (job : Job V M) (rows : Rows) (n p : ℕ) (some : 0 < n)
   pub gathered_of_run : gathered_in job rows n p s ≡ gathered_afresh 0 job.aggregators (contributions_of (records_in job rows n p s))
   gathered_of_run =
       ap (gathered_afresh 0 job.aggregators)
-      (sym (flat_map-map (λ (r : ℕ × Record V M). r.1.contributed) (λ (x : Standing V M). (x.state.id, outcome job.program (view_at job rows s) x)) (filter is_active (present_in_share job rows n p s))
+      (sym (flat_map-map (λ (r : ℕ × Record V M). r.1.contributed)
+      (λ (x : Standing V M). (x.state.id, outcome job.program (view_at job rows s) x))
+      (filter is_active (present_in_share job rows n p s))
       ∙ contributions-active job.program (view_at job rows s) (present_in_share job rows n p s)))
 
 -- contributions that are told to be the same are
@@ -163,7 +166,8 @@ same_contributions (x ∷ xs) (y ∷ ys) e =
 
 module _ {V M : Type 0} where
   -- what the records contribute, by their ids
-  by_keys : (records : List (ℕ × Record V M)) → HasRisingIds records → contributions_of records ≡ flat_map (λ id. contributed_by (value_at id records)) (keys_of records)
+  by_keys : (records : List (ℕ × Record V M)) → HasRisingIds records
+      → contributions_of records ≡ flat_map (λ id. contributed_by (value_at id records)) (keys_of records)
   unfolding IsStrictlySortedBy
   by_keys [] r = refl
   by_keys (e ∷ es) r =

@@ -64,7 +64,8 @@ module _ {M : Type 0} where
 
       by : (t : Bool) → (p.0 == id) ≡ t
           → weighed (λ (p : ℕ × Contents M). p.0) (weight picks) (find (λ p. p.0 == id) ps) ≡ cond (picks id) (length (letters_at id ps)) 0
-          → weighed (λ (p : ℕ × Contents M). p.0) (weight picks) (cond t (Some p) (find (λ p. p.0 == id) ps)) ≡ cond (picks id) (length (letters_in (cond t (Some p.1) (value_at id ps)))) 0
+          → weighed (λ (p : ℕ × Contents M). p.0) (weight picks) (cond t (Some p) (find (λ p. p.0 == id) ps)) ≡ cond (picks id)
+          (length (letters_in (cond t (Some p.1) (value_at id ps)))) 0
       by true e h = ap (λ (k : ℕ). cond (picks k) (length p.1.letters) 0) (let same : p.0 ≡ id = grind (arith, nat_tests, e) in same)
       by false e h = h
 
@@ -101,7 +102,8 @@ module _ {M : Type 0} where
       λ parcels rises. same_sums _ _ ids (λ id. at_parcels picks id parcels rises) in
       let same : (id : ℕ) → has_id ids id ≡ false → at key w id after ≡ at key w id before =
       λ id n. at_parcels picks id after r'
-      ∙ (ap (λ (k : ℕ). cond (picks id) k 0) (sym (letters_by_entries id after) ∙ (ap (sum_by (λ (e : Entry M). e.count)) (sym (changed.others id n)) ∙ letters_by_entries id before))
+      ∙ (ap (λ (k : ℕ). cond (picks id) k 0)
+      (sym (letters_by_entries id after) ∙ (ap (sum_by (λ (e : Entry M). e.count)) (sym (changed.others id n)) ∙ letters_by_entries id before))
       ∙ sym (at_parcels picks id before r)) in
       ap (λ n. messages_where picks after + n) (sym (among before r))
       ∙ (same_but_at key w key w after before ids changed.rise same ∙ ap (λ n. messages_where picks before + n) (among after r'))
@@ -116,13 +118,15 @@ module _ {M : Type 0} where
       λ p. same_sums _ _ ids (λ id. at_parcels p id parcels r) in
       ap (λ n. messages_where picks' parcels + n) (sym (among picks))
       ∙ (same_but_at key (weight picks') key (weight picks) parcels parcels ids rising
-      (λ id n. at_parcels picks' id parcels r ∙ (ap (λ (b : Bool). cond b (length (letters_at id parcels)) 0) (same id n) ∙ sym (at_parcels picks id parcels r)))
+      (λ id n. at_parcels picks' id parcels r ∙
+      (ap (λ (b : Bool). cond b (length (letters_at id parcels)) 0) (same id n) ∙ sym (at_parcels picks id parcels r)))
       ∙ ap (λ n. messages_where picks parcels + n) (among picks'))
 
   -- at one receiver: what is sent, and what of it is dropped
   told_at : (picks : ℕ → Bool) (before after : Parcels M) (logged : Logged M) → HasRisingIds before → HasRisingIds after → logged.bundle ≡ after
       → TellsChanges before logged
-      → messages_where picks after + messages_among picks (told_by logged) before ≡ messages_where picks before + messages_among picks (told_by logged) logged.bundle
+      → messages_where picks after + messages_among picks (told_by logged) before ≡ messages_where picks before + messages_among picks
+      (told_by logged) logged.bundle
   told_at picks before after logged r r' is tells = by logged.changed tells
     where
       by : (changed : Option (List ℕ)) → elim changed as (λ _. Type 0) [ None ↦ ⊥ | Some ids ↦ AreChanged before logged.bundle ids ]
@@ -130,7 +134,8 @@ module _ {M : Type 0} where
           ≡ messages_where picks before + messages_among picks (elim changed as (λ _. List ℕ) [ None ↦ [] | Some ids ↦ ids ]) logged.bundle
       by None t = absurd t
       by (Some ids) t =
-          subst (λ (b : Parcels M). messages_where picks b + messages_among picks ids before ≡ messages_where picks before + messages_among picks ids logged.bundle)
+          subst (λ
+          (b : Parcels M). messages_where picks b + messages_among picks ids before ≡ messages_where picks before + messages_among picks ids logged.bundle)
           is (changed_count picks before logged.bundle ids r (subst HasRisingIds (sym is) r') t)
 
   sent_at : (before after : Parcels M) (old new : Option (Logged M)) → HasRisingIds before → HasRisingIds after → IsTold before after old new
@@ -155,7 +160,8 @@ module _ {M : Type 0} where
       ≡ messages_where (is_nobody old_rows) before + (messages_among (is_nobody rows) (told_by logged) logged.bundle + messages_among (is_nobody rows) moved b))
       (sym t.0) (omega (arith, told, turn, here))
 
-  module _ (olds news : ℕ → Parcels M) (logs : Slots M) (s p : ℕ) (bundles : List (Logged M)) (old_rise : (q : ℕ) → HasRisingIds (olds q)) (rise : (q : ℕ) → HasRisingIds (news q))
+  module _ (olds news : ℕ → Parcels M) (logs : Slots M) (s p : ℕ) (bundles : List (Logged M)) (old_rise : (q : ℕ) → HasRisingIds (olds q))
+      (rise : (q : ℕ) → HasRisingIds (news q))
       (told : (q : ℕ) → q < length bundles → IsTold (olds q) (news q) (slot_at logs s p q) (slice_get bundles q)) where
     pub traffic_is : (missing : Missing) (old_rows rows : Rows) (moved : List ℕ) → AreMoved moved old_rows rows → (before after : Traffic)
         → before ≡ traffic_of missing old_rows (map olds (range_with_len 0 (length bundles)))
@@ -174,11 +180,13 @@ module _ {M : Type 0} where
               (λ q. messages_where is_any (olds q)) (λ q. turned_at sent_come (slot_at logs s p q) (slice_get bundles q))
               (λ q w. sent_at (olds q) (news q) (slot_at logs s p q) (slice_get bundles q) (old_rise q) (rise q) (told q w)),
         ) in
-        let d : after.dropped ≡ dropped_of missing rows (map news ns) = dropped_is missing after.dropped before.dropped (ap (λ (t : Traffic). t.dropped) b) h.dropped in
+        let d : after.dropped ≡ dropped_of missing rows (map news ns) =
+        dropped_is missing after.dropped before.dropped (ap (λ (t : Traffic). t.dropped) b) h.dropped in
         λ i. record { sent = e i; dropped = d i }
       where
         dropped_is : (missing : Missing) (after before : ℕ) → before ≡ dropped_of missing old_rows (map olds (range_with_len 0 (length bundles)))
-            → after + turned (dropped_gone missing rows moved) logs s p bundles (length bundles) ≡ before + turned (dropped_come missing rows moved) logs s p bundles (length bundles)
+            → after + turned (dropped_gone missing rows moved) logs s p bundles (length bundles) ≡ before + turned
+            (dropped_come missing rows moved) logs s p bundles (length bundles)
             → after ≡ dropped_of missing rows (map news (range_with_len 0 (length bundles)))
         dropped_is Drop after before b h =
             let ns : List ℕ = range_with_len 0 (length bundles) in
@@ -188,7 +196,8 @@ module _ {M : Type 0} where
               b,
               sum_map (messages_where (is_nobody old_rows)) olds ns,
               sum_map (messages_where (is_nobody rows)) news ns,
-              below_all (length bundles) (λ q. messages_where (is_nobody rows) (news q)) (λ q. turned_at (dropped_gone Drop rows moved) (slot_at logs s p q) (slice_get bundles q))
+              below_all (length bundles) (λ q. messages_where (is_nobody rows) (news q))
+                  (λ q. turned_at (dropped_gone Drop rows moved) (slot_at logs s p q) (slice_get bundles q))
                   (λ q. messages_where (is_nobody old_rows) (olds q)) (λ q. turned_at (dropped_come Drop rows moved) (slot_at logs s p q) (slice_get bundles q))
                   (λ q w. dropped_at rows old_rows moved m (olds q) (news q) (slot_at logs s p q) (slice_get bundles q) (old_rise q) (rise q) (told q w)),
             )
@@ -202,6 +211,7 @@ module _ {M : Type 0} where
                   (λ q w. none (slot_at logs s p q) (slice_get bundles q)),
             )
           where
-            none : (before after : Option (Logged M)) → 0 + turned_at (dropped_gone Create rows moved) before after ≡ 0 + turned_at (dropped_come Create rows moved) before after
+            none : (before after : Option (Logged M))
+                → 0 + turned_at (dropped_gone Create rows moved) before after ≡ 0 + turned_at (dropped_come Create rows moved) before after
             none before None = refl
             none before (Some l) = refl

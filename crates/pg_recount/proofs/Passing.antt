@@ -17,7 +17,8 @@ use Rattle.pg_recount.specs.Traffic.{IsWithBundle, bundle_at, dropped_of, is_any
 use Rattle.pg_stats.specs.declared.stats.Traffic.{Traffic}
 
 module _ {M : Type 0} (rows : Rows) where
-  dropped_push : (missing : Missing) (bs : List (Parcels M)) (b : Parcels M) → dropped_of missing rows (bs ++ b ∷ []) ≡ dropped_of missing rows bs + dropped_of missing rows (b ∷ [])
+  dropped_push : (missing : Missing) (bs : List (Parcels M)) (b : Parcels M)
+      → dropped_of missing rows (bs ++ b ∷ []) ≡ dropped_of missing rows bs + dropped_of missing rows (b ∷ [])
   dropped_push Drop bs b =
       sum_by_push (messages_where (is_nobody rows)) bs b
       ∙ ap (λ n. dropped_of Drop rows bs + n) (sym (zero-add (messages_where (is_nobody rows) b)))

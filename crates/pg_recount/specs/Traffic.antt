@@ -79,7 +79,8 @@ module _ {M : Type 0} where
   turned count logs s p bundles n = sum_by (λ q. turned_at count (slot_at logs s p q) (slice_get bundles q)) (range_with_len 0 n)
 
   -- traffic without what is gone and with what has come
-  pub record IsRetold (missing : Missing) (rows : Rows) (moved : List ℕ) (logs : Slots M) (s p : ℕ) (bundles : List (Logged M)) (before after : Traffic) : Type 0 where
+  pub record IsRetold (missing : Missing) (rows : Rows) (moved : List ℕ) (logs : Slots M) (s p : ℕ) (bundles : List (Logged M))
+      (before after : Traffic) : Type 0 where
     pub sent : after.sent + turned sent_gone logs s p bundles (length bundles) ≡ before.sent + turned sent_come logs s p bundles (length bundles)
     pub dropped : after.dropped + turned (dropped_gone missing rows moved) logs s p bundles (length bundles)
         ≡ before.dropped + turned (dropped_come missing rows moved) logs s p bundles (length bundles)

@@ -30,11 +30,13 @@ use Rattle.pg_trace.specs.Trace.{StatesRise, begun}
 -- ---- those of a partition, by rising id
 
 module _ {X : Type 0} (n p : ℕ) where
-  own_above : (k : ℕ) (xs : List (ℕ × X)) → AllByRecursion (λ i. nat_cmp k i ≡ Less) (keys_of xs) → AllByRecursion (λ i. nat_cmp k i ≡ Less) (keys_of (own n p xs))
+  own_above : (k : ℕ) (xs : List (ℕ × X)) → AllByRecursion (λ i. nat_cmp k i ≡ Less) (keys_of xs)
+      → AllByRecursion (λ i. nat_cmp k i ≡ Less) (keys_of (own n p xs))
   own_above k [] h = tt
   own_above k (x ∷ xs) h = by (belongs n p x.0) (own_above k xs h.1)
     where
-      by : (b : Bool) → AllByRecursion (λ i. nat_cmp k i ≡ Less) (keys_of (own n p xs)) → AllByRecursion (λ i. nat_cmp k i ≡ Less) (keys_of (cond b (x ∷ own n p xs) (own n p xs)))
+      by : (b : Bool) → AllByRecursion (λ i. nat_cmp k i ≡ Less) (keys_of (own n p xs))
+          → AllByRecursion (λ i. nat_cmp k i ≡ Less) (keys_of (cond b (x ∷ own n p xs) (own n p xs)))
       by true rest = (h.0, rest)
       by false rest = rest
 
@@ -72,7 +74,8 @@ module _ {V M : Type 0} (program : Program V M) (n p : ℕ) where
   states_rise rows rise = subst (IsStrictlySortedBy nat_cmp) (sym (ids_of_states (own n p rows))) (own_rise n p rows rise)
 
 -- one row more
-pub own_more : {X Y : Type 0} (n p : ℕ) (f : ℕ × X → Y) (x : ℕ × X) (rest : List (ℕ × X)) → map f (own n p (x ∷ [])) ++ map f (own n p rest) ≡ map f (own n p (x ∷ rest))
+pub own_more : {X Y : Type 0} (n p : ℕ) (f : ℕ × X → Y) (x : ℕ × X) (rest : List (ℕ × X))
+    → map f (own n p (x ∷ [])) ++ map f (own n p rest) ≡ map f (own n p (x ∷ rest))
 own_more n p f x rest = by (belongs n p x.0)
   where
     by : (b : Bool) → map f (cond b (x ∷ []) []) ++ map f (own n p rest) ≡ map f (cond b (x ∷ own n p rest) (own n p rest))
@@ -101,7 +104,8 @@ picked_rise picks (k ∷ ids) h = by (picks k) (picked_rise picks ids h.1) (abov
     above [] a = tt
     above (i ∷ ids) a = one (picks i) (above ids a.1)
       where
-        one : (b : Bool) → AllByRecursion (λ i. nat_cmp k i ≡ Less) (filter picks ids) → AllByRecursion (λ i. nat_cmp k i ≡ Less) (cond b (i ∷ filter picks ids) (filter picks ids))
+        one : (b : Bool) → AllByRecursion (λ i. nat_cmp k i ≡ Less) (filter picks ids)
+            → AllByRecursion (λ i. nat_cmp k i ≡ Less) (cond b (i ∷ filter picks ids) (filter picks ids))
         one true later = (a.0, later)
         one false later = later
 
@@ -160,7 +164,8 @@ module _ {V M : Type 0} (program : Program V M) (n p : ℕ) where
           h ∙ sym (ap (λ (t : Bool). cond (belongs n p id) (option_map (state_first program id) (cond t (Some r.1) (row_at id rows))) None) (found ∙ e))
 
   change_at : (rows : Rows) (ids : List ℕ) (id : ℕ)
-      → value_at id (first_changes program rows n p ids) ≡ cond (has_id ids id && belongs n p id) (Some (option_map (state_first program id) (row_at id rows))) None
+      → value_at id (first_changes program rows n p ids) ≡ cond (has_id ids id && belongs n p id)
+      (Some (option_map (state_first program id) (row_at id rows))) None
   change_at rows [] id = refl
   change_at rows (k ∷ ids) id = by (belongs n p k) refl (k == id) refl (change_at rows ids id)
     where
@@ -212,11 +217,14 @@ module _ {V M : Type 0} (program : Program V M) (n p : ℕ) where
       each (k ∷ ids) = (one k (row_at k rows), each ids)
 
   -- what the old run began with, changed at the touched ids, is what the new one begins with
-  pub first_again : (kept rows : Rows) → HasRisingIds kept → HasRisingIds rows → (ids : List ℕ) → IsStrictlySortedBy nat_cmp ids → ((id : ℕ) → has_id ids id ≡ false → row_at id kept ≡ row_at id rows)
-      → with_first (first_changes program rows n p ids) (map (λ r. state_first program r.0 r.1) (own n p kept)) ≡ map (λ r. state_first program r.0 r.1) (own n p rows)
+  pub first_again : (kept rows : Rows) → HasRisingIds kept → HasRisingIds rows → (ids : List ℕ) → IsStrictlySortedBy nat_cmp ids
+      → ((id : ℕ) → has_id ids id ≡ false → row_at id kept ≡ row_at id rows)
+      → with_first (first_changes program rows n p ids) (map (λ r. state_first program r.0 r.1) (own n p kept)) ≡ map
+      (λ r. state_first program r.0 r.1) (own n p rows)
   unfolding states_at begins
   first_again kept rows rise rise' ids ordered same =
-      ap values_of (same_entries (with_changes changes (states_at kept)) (states_at rows) (rises-changes changes (states_at kept) (rise-by_id _ (states_rise program n p kept rise)))
+      ap values_of (same_entries (with_changes changes (states_at kept)) (states_at rows)
+      (rises-changes changes (states_at kept) (rise-by_id _ (states_rise program n p kept rise)))
       (rise-by_id _ (states_rise program n p rows rise')) at)
       ∙ values-by_id (map (λ r. state_first program r.0 r.1) (own n p rows))
     where

@@ -106,7 +106,8 @@ module _ {M : Type 0} where
       first = record { sender = v; place = k; target = m.0; message = m.1 }
 
       by : (b : Bool) → by_sender u (sendings_from v (k + 1) ms) ≡ cond b (sendings_from v (k + 1) ms) []
-          → cond b (first ∷ by_sender u (sendings_from v (k + 1) ms)) (by_sender u (sendings_from v (k + 1) ms)) ≡ cond b (first ∷ sendings_from v (k + 1) ms) []
+          → cond b (first ∷ by_sender u (sendings_from v (k + 1) ms)) (by_sender u (sendings_from v (k + 1) ms)) ≡ cond b
+          (first ∷ sendings_from v (k + 1) ms) []
       by true h = ap (λ l. first ∷ l) h
       by false h = h
 
@@ -118,7 +119,8 @@ one_class k y a (suc n) low high = by (k == a) refl (λ above. one_class k y (a 
     none : (b m : ℕ) → k < b → flat_map (λ q. cond (k == q) y []) (range_with_len b m) ≡ []
     none b zero h = refl
     none b (suc m) h =
-        ap (λ (c : Bool). cond c y [] ++ flat_map (λ q. cond (k == q) y []) (range_with_len (b + 1) m)) (let e : (k == b) ≡ false = grind (arith, nat_tests) in e)
+        ap (λ (c : Bool). cond c y [] ++ flat_map (λ q. cond (k == q) y []) (range_with_len (b + 1) m))
+        (let e : (k == b) ≡ false = grind (arith, nat_tests) in e)
         ∙ none (b + 1) m (omega arith)
 
     by : (b : Bool) → (k == a) ≡ b → (a + 1 ≤ k → flat_map (λ q. cond (k == q) y []) (range_with_len (a + 1) n) ≡ y)
@@ -130,7 +132,8 @@ one_class k y a (suc n) low high = by (k == a) refl (λ above. one_class k y (a 
         above e' = grind (arith, nat_tests)
 
 -- one of each number
-each_one : {Y : Type 0} (f : ℕ → List Y) (g : ℕ → Y) (a n : ℕ) → ((q : ℕ) → q < a + n → f q ≡ g q ∷ []) → flat_map f (range_with_len a n) ≡ map g (range_with_len a n)
+each_one : {Y : Type 0} (f : ℕ → List Y) (g : ℕ → Y) (a n : ℕ) → ((q : ℕ) → q < a + n → f q ≡ g q ∷ [])
+    → flat_map f (range_with_len a n) ≡ map g (range_with_len a n)
 each_one f g a zero h = refl
 each_one f g a (suc n) h =
     ap (λ l. l ++ flat_map f (range_with_len (a + 1) n)) (h a (omega arith))
@@ -199,7 +202,8 @@ module _ {V M : Type 0} (job : Job V M) (rows : Rows) (n p s : ℕ) (rising : Ha
   unfolding to_part lists by_sender
   are_all some = record {
     rise = non_decreasing (λ (s : ℕ × ℕ × M). s.0) (as_sends to_part)
-        (up_sends to_part (up-filter (λ t. t.sender) (λ t. belongs n p t.target) all (up_by_sender all (sendings_rise program view xs (ids_rise job rows rising s)))));
+        (up_sends to_part
+        (up-filter (λ t. t.sender) (λ t. belongs n p t.target) all (up_by_sender all (sendings_rise program view xs (ids_rise job rows rising s)))));
     same = λ u.
         sent_by-as_sends u to_part
         ∙ (ap as_sends (either_order (λ t. t.sender == u) (λ t. belongs n p t.target) all)
@@ -255,7 +259,8 @@ module _ {V M : Type 0} (job : Job V M) (rows : Rows) (n p s : ℕ) (rising : Ha
       each t false e = cond_both (belongs n p t.target) false false (λ (c : Bool). c ≡ false) (λ _. refl) (λ _. refl)
 
   -- the bundles to the partition are those of what each partition sent to it
-  pub bundles_are : (logs : Slots M) → HasMessages job rows n p (s + 1) logs → bundles_at logs n p s ≡ map (λ q. bundle_sent job rows n q p s) (range_with_len 0 n)
+  pub bundles_are : (logs : Slots M) → HasMessages job rows n p (s + 1) logs
+      → bundles_at logs n p s ≡ map (λ q. bundle_sent job rows n q p s) (range_with_len 0 n)
   bundles_are logs has =
       each_one (λ q. option_to_list (bundle_in (slot_at logs s q p))) (λ q. bundle_sent job rows n q p s) 0 n
       (λ q below. ap option_to_list (has s q refl (omega (arith, below))))

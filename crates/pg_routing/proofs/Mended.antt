@@ -71,7 +71,8 @@ module _ {M : Type 0} (n q u : ℕ) where
 
       by : (b e : Bool) → (k == u) ≡ e → sent_by u (map (λ i. i.1) later) ≡ cond e (map (λ i. i.1) later) []
           → sent_by u (map (λ i. i.1) (cond b (first ∷ later) later)) ≡ cond e (map (λ i. i.1) (cond b (first ∷ later) later)) []
-      by true true f h = ap (λ (t : Bool). cond t ((k, m.0, m.1) ∷ sent_by u (map (λ i. i.1) later)) (sent_by u (map (λ i. i.1) later))) f ∙ ap (λ l. (k, m.0, m.1) ∷ l) h
+      by true true f h =
+          ap (λ (t : Bool). cond t ((k, m.0, m.1) ∷ sent_by u (map (λ i. i.1) later)) (sent_by u (map (λ i. i.1) later))) f ∙ ap (λ l. (k, m.0, m.1) ∷ l) h
       by true false f h = ap (λ (t : Bool). cond t ((k, m.0, m.1) ∷ sent_by u (map (λ i. i.1) later)) (sent_by u (map (λ i. i.1) later))) f ∙ h
       by false e f h = h
 
@@ -91,7 +92,8 @@ module _ {V M : Type 0} (n q u : ℕ) where
       ∙ by (r.0 == u) refl))
     where
       by : (e : Bool) → (r.0 == u) ≡ e
-          → cond e (sent_here r.0 (Some r.1)) [] ++ sent_here u (value_at u records) ≡ sent_here u (cond (is_at (nat_cmp u) r.0) (Some r.1) (value_at u records))
+          → cond e (sent_here r.0 (Some r.1)) [] ++ sent_here u (value_at u records) ≡ sent_here u
+          (cond (is_at (nat_cmp u) r.0) (Some r.1) (value_at u records))
       by true e =
           let found : is_at (nat_cmp u) r.0 ≡ true = at_key u r.0 ∙ e in
           ap (λ o. sent_here r.0 (Some r.1) ++ sent_here u o) (none_past u r records rise found)
@@ -143,12 +145,14 @@ module _ {V M : Type 0} (n q u : ℕ) where
             later : List (ℕ × (ℕ × ℕ))
             later = filter (λ i. belongs n q i.0) (map (λ m. (m.0, (k, m.0))) sent)
 
-            by : (b : Bool) → is_withdrawn (map (λ i. i.1) later) u t ≡ false → is_withdrawn (map (λ i. i.1) (cond b ((m.0, (k, m.0)) ∷ later) later)) u t ≡ false
+            by : (b : Bool) → is_withdrawn (map (λ i. i.1) later) u t ≡ false
+                → is_withdrawn (map (λ i. i.1) (cond b ((m.0, (k, m.0)) ∷ later) later)) u t ≡ false
             by true h = ap (λ (c : Bool). (c && (m.0 == t)) || is_withdrawn (map (λ i. i.1) later) u t) e ∙ h
             by false h = h
 
     -- whom it sent to itself
-    by_itself : (k : ℕ) → (k == u) ≡ true → (o : Option (Record V M)) → AllByRecursion (λ x. is_withdrawn (items_to n q (pairs_by k o)) u x.1 ≡ true) (sent_here k o)
+    by_itself : (k : ℕ) → (k == u) ≡ true → (o : Option (Record V M))
+        → AllByRecursion (λ x. is_withdrawn (items_to n q (pairs_by k o)) u x.1 ≡ true) (sent_here k o)
     unfolding sent_here
     by_itself k e None = tt
     by_itself k e (Some r) = each r.sent
@@ -156,7 +160,8 @@ module _ {V M : Type 0} (n q u : ℕ) where
         all : List (ℕ × M) → List (ℕ × ℕ)
         all sent = items_to n q (map (λ m. (m.0, (k, m.0))) sent)
 
-        each : (sent : List (ℕ × M)) → AllByRecursion (λ (x : ℕ × ℕ × M). is_withdrawn (all sent) u x.1 ≡ true) (items_to n q (map (λ m. (m.0, (k, m.0, m.1))) sent))
+        each : (sent : List (ℕ × M))
+            → AllByRecursion (λ (x : ℕ × ℕ × M). is_withdrawn (all sent) u x.1 ≡ true) (items_to n q (map (λ m. (m.0, (k, m.0, m.1))) sent))
         each [] = tt
         each (m ∷ sent) = by (belongs n q m.0) (each sent)
           where
@@ -217,7 +222,8 @@ module _ {V M : Type 0} (n q u : ℕ) where
         by true e h later =
             subst (λ k. AllByRecursion (λ x. is_withdrawn (withdrawn (c ∷ changes)) u x.1 ≡ true) (sent_here k (record_at k s old))) (eqb-true c.0 u e)
             (all_weaker (λ x. first x.1 ≡ true) (λ x. is_withdrawn (withdrawn (c ∷ changes)) u x.1 ≡ true)
-            (λ x g. withdrawn-more c changes x.1 ∙ or_left (first x.1) (rest x.1) g) (sent_here c.0 (record_at c.0 s old)) (by_itself c.0 e (record_at c.0 s old)))
+            (λ x g. withdrawn-more c changes x.1 ∙ or_left (first x.1) (rest x.1) g) (sent_here c.0 (record_at c.0 s old))
+            (by_itself c.0 e (record_at c.0 s old)))
         by false e h later =
             all_weaker (λ x. rest x.1 ≡ true) (λ x. is_withdrawn (withdrawn (c ∷ changes)) u x.1 ≡ true)
             (λ x g. withdrawn-more c changes x.1 ∙ or_right (first x.1) (rest x.1) g) (sent_here u (record_at u s old)) (later h)
@@ -237,7 +243,8 @@ module _ {V M : Type 0} (n q u : ℕ) where
         both P (x ∷ xs) h k = ((h.0, k.0), both P xs h.1 k.1)
 
         by : (o : Option (Option (Record V M))) → value_at u changes ≡ o
-            → filter (λ x. not (is_withdrawn (withdrawn changes) x.0 x.1)) (sent_here u (record_at u s old)) ≡ elim o [ None ↦ sent_here u (record_at u s old) | Some o ↦ [] ]
+            → filter (λ x. not (is_withdrawn (withdrawn changes) x.0 x.1))
+            (sent_here u (record_at u s old)) ≡ elim o [ None ↦ sent_here u (record_at u s old) | Some o ↦ [] ]
         by None e =
             all_picked (λ x. not (is_withdrawn (withdrawn changes) x.0 x.1)) (sent_here u (record_at u s old))
             (all_weaker (λ x. x.0 ≡ u) (λ x. not (is_withdrawn (withdrawn changes) x.0 x.1) ≡ true)
@@ -270,7 +277,8 @@ module _ {V M : Type 0} (n q u : ℕ) where
         by o e =
             ap (λ o. sent_here u (unwrap_or o (value_at u before))) e
             ∙ (cases o
-            ∙ sym (ap (λ (o : Option (Option (Record V M))). elim o [ None ↦ sent_here u (record_at u s old) | Some o ↦ [] ] ++ sent_here u (unwrap_or o None)) e))
+            ∙ sym (ap (λ (o : Option (Option (Record V M))). elim o [ None ↦ sent_here u (record_at u s old) | Some o ↦ [] ] ++ sent_here u
+            (unwrap_or o None)) e))
           where
             cases : (o : Option (Option (Record V M))) → sent_here u (unwrap_or o (value_at u before))
                 ≡ elim o [ None ↦ sent_here u (record_at u s old) | Some o ↦ [] ] ++ sent_here u (unwrap_or o None)

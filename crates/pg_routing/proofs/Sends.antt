@@ -51,7 +51,8 @@ module _ {V M : Type 0} (n q : ℕ) where
   by_records (r ∷ records) =
       items-append n q (map (λ m. (m.0, (r.0, m.0, m.1))) r.1.sent) (sends_by_records records)
       ∙ (ap₂ ◌++◌ (one_sender n q r.0 0 r.1.sent) (by_records records)
-      ∙ (sym (map-append (λ (t : Sending M). (t.sender, t.target, t.message)) (filter (to_them n q) (sendings_from r.0 0 r.1.sent)) (filter (to_them n q) (sendings_of records)))
+      ∙ (sym (map-append (λ (t : Sending M). (t.sender, t.target, t.message)) (filter (to_them n q) (sendings_from r.0 0 r.1.sent))
+      (filter (to_them n q) (sendings_of records)))
       ∙ ap as_sends (sym (filter-append (to_them n q) (sendings_from r.0 0 r.1.sent) (sendings_of records)))))
 
   -- changes send what the records send that they leave

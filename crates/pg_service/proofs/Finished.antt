@@ -28,8 +28,10 @@ module _ {P C A V M : Type 0} (program_of : P → Program V M) (combining_of : C
 
   module _ (ended : Progress P C A V M) (run : Run V) (left : Traces V M) (opened : Opened) (same : IsSameRun core ended)
       (right : IsRight (job_by program_of combining_of master_of core) kept core)
-      (keeps : (old : Option Rows) → IsRight (job_by program_of combining_of master_of core) old core → IsRight (job_by program_of combining_of master_of core) old ended)
-      (finishes : (old : Option Rows) → IsRight (job_by program_of combining_of master_of ended) old ended → IsFinished (job_by program_of combining_of master_of ended) ended run left) where
+      (keeps : (old : Option Rows) → IsRight (job_by program_of combining_of master_of core) old core → IsRight
+      (job_by program_of combining_of master_of core) old ended)
+      (finishes : (old : Option Rows) → IsRight (job_by program_of combining_of master_of ended) old ended → IsFinished
+      (job_by program_of combining_of master_of ended) ended run left) where
     -- and still is at the end
     same_job : job_by program_of combining_of master_of core ≡ job_by program_of combining_of master_of ended
     same_job = λ i.

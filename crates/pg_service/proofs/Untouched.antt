@@ -65,9 +65,13 @@ module _ (q : ℕ) where
       put_there rows made id apart (λ row. cond (is_some (weight_at target row.edges)) (Err EdgeExists)
       (cond _ (Err Full) (Ok (record row { edges = with_edge target weight row.edges })))) (row_at id rows) h
   one_edit rows made (SetEdge id target weight) apart h =
-      put_there rows made id apart (λ row. cond (is_some (weight_at target row.edges)) (Ok (record row { edges = with_edge target weight row.edges })) (Err NoEdge)) (row_at id rows) h
+      put_there rows made id apart
+      (λ row. cond (is_some (weight_at target row.edges)) (Ok (record row { edges = with_edge target weight row.edges })) (Err NoEdge))
+      (row_at id rows) h
   one_edit rows made (RemoveEdge id target) apart h =
-      put_there rows made id apart (λ row. cond (is_some (weight_at target row.edges)) (Ok (record row { edges = without_edge target row.edges })) (Err NoEdge)) (row_at id rows) h
+      put_there rows made id apart
+      (λ row. cond (is_some (weight_at target row.edges)) (Ok (record row { edges = without_edge target row.edges })) (Err NoEdge))
+      (row_at id rows) h
 
   neither : (b c : Bool) → (b || c) ≡ false → (b ≡ false) × (c ≡ false)
   neither true c h = absurd (true≢false h)
@@ -84,7 +88,13 @@ module _ (q : ℕ) where
       apart same = true≢false (sym (eq-eqb (source_of edit) q (sym same)) ∙ (neither (source_of edit == q) (has_id (sources edits) q) out).0)
 
       by : (r : Result Rows EditKind) → edited rows edit ≡ r
-          → ◌≡◌ {A = Result Rows EditFault} (elim r [ Ok changed ↦ all_edited (position + 1) changed edits | Err kind ↦ Err (record { position = position; kind = kind }) ]) (Ok made)
+          → ◌≡◌ {A = Result Rows EditFault} (elim r [
+            | Ok changed ↦ all_edited (position + 1) changed edits
+            | Err kind ↦ Err (record {
+              position = position;
+              kind = kind;
+            })
+          ]) (Ok made)
           → ((changed : Rows) → all_edited (position + 1) changed edits ≡ Ok made → SameRow changed made)
           → SameRow rows made
       by (Ok changed) is h later = one_edit rows changed edit apart is ∙ later changed h

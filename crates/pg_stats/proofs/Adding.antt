@@ -61,7 +61,8 @@ stats_of_all-push registered stats before after adds visible all is = λ i. reco
     dropped : after.dropped ≡ capped (sum_by (λ (s : PartitionStats). s.traffic.dropped) (all ++ stats ∷ []))
     dropped =
         adds.dropped
-        ∙ (ap (λ (g : GlobalStats). min (g.dropped + stats.traffic.dropped) (2 ^ 64 - 1)) is ∙ capped_push (λ (s : PartitionStats). s.traffic.dropped) all stats)
+        ∙ (ap (λ (g : GlobalStats). min (g.dropped + stats.traffic.dropped) (2 ^ 64 - 1)) is ∙ capped_push
+        (λ (s : PartitionStats). s.traffic.dropped) all stats)
 
     gathered : after.gathered ≡ gathered_from 0 (aggregators_of registered) visible (gathered_by (all ++ stats ∷ []))
     gathered =

@@ -32,14 +32,16 @@ use Rattle.pg_trace.specs.Trace.{Trace, records_of}
 
 module _ {V M : Type 0} where
   -- the value of an id, by its state
-  value_of : (id : ℕ) (xs : List (Standing V M)) → value_at id (map (λ x. (x.state.id, x.state.value)) xs) ≡ option_map (λ x. x.value) (option_map (λ x. x.state) (standing_at id xs))
+  value_of : (id : ℕ) (xs : List (Standing V M))
+      → value_at id (map (λ x. (x.state.id, x.state.value)) xs) ≡ option_map (λ x. x.value) (option_map (λ x. x.state) (standing_at id xs))
   value_of id [] = refl
   value_of id (x ∷ xs) =
       ap (λ (b : Bool). cond b (Some x.state.value) (value_at id (map (λ x. (x.state.id, x.state.value)) xs))) (at_key id x.state.id)
       ∙ by (x.state.id == id) (value_of id xs)
     where
       by : (b : Bool) → value_at id (map (λ x. (x.state.id, x.state.value)) xs) ≡ option_map (λ x. x.value) (option_map (λ x. x.state) (standing_at id xs))
-          → cond b (Some x.state.value) (value_at id (map (λ x. (x.state.id, x.state.value)) xs)) ≡ option_map (λ x. x.value) (option_map (λ x. x.state) (cond b (Some x) (standing_at id xs)))
+          → cond b (Some x.state.value) (value_at id (map (λ x. (x.state.id, x.state.value)) xs)) ≡ option_map (λ x. x.value)
+          (option_map (λ x. x.state) (cond b (Some x) (standing_at id xs)))
       by true later = refl
       by false later = later
 
@@ -77,7 +79,8 @@ module _ {V M : Type 0} (job : Job V M) (old : Rows) (rise : HasRisingIds old) (
 -- ---- one partition
 
 module _ {V M : Type 0} (job : Job V M) (old rows : Rows) (n p id : ℕ) (mine : belongs n p id ≡ true) (part : PartState V M)
-    (holds : HoldsShare job (Some old) rows n p (run_length job rows) part) (other : has_id (apart_in (run_length job rows) (run_length job old) (Some part)) id ≡ false) where
+    (holds : HoldsShare job (Some old) rows n p (run_length job rows) part)
+    (other : has_id (apart_in (run_length job rows) (run_length job old) (Some part)) id ≡ false) where
   abbrev s : ℕ
   s = run_length job rows
 
@@ -94,7 +97,8 @@ module _ {V M : Type 0} (job : Job V M) (old rows : Rows) (n p id : ℕ) (mine :
         | inl less ↦ (
             let none : (t : ℕ) → t < end - s → value_at id (records_in job old n p (s + t)) ≡ None = λ t within.
             ap (value_at id) (sym (holds.course.beside.later (s + t) (omega arith) (omega (arith, within, less))))
-            ∙ none_valued id (records_of (s + t) part.course.trace) (none_in_range id (λ t. keys_of (records_of t part.course.trace)) s (end - s) apart.1 t within) in
+            ∙ none_valued id (records_of (s + t) part.course.trace)
+            (none_in_range id (λ t. keys_of (records_of t part.course.trace)) s (end - s) apart.1 t within) in
             let all : s + (end - s) ≡ end = omega (arith, less) in
             ap (λ (k : ℕ). state_at job old k id) (sym all)
             ∙ (stays job old holds.course.beside.whole.rise n p id mine s (end - s) (omega (arith, all)) none
@@ -105,9 +109,15 @@ module _ {V M : Type 0} (job : Job V M) (old rows : Rows) (n p id : ℕ) (mine :
 
 -- ---- all of them
 
-module _ {V M : Type 0} (job : Job V M) (old rows : Rows) (n s : ℕ) (parts : List (Option (PartState V M))) (ended : HaveEnded job (Some old) rows n s parts) where
+module _ {V M : Type 0} (job : Job V M) (old rows : Rows) (n s : ℕ) (parts : List (Option (PartState V M)))
+    (ended : HaveEnded job (Some old) rows n s parts) where
   have_shares : HaveShares job rows n s parts
-  have_shares = record { shares = λ p within. subst (λ (k : ℕ). HasShare job rows n p k (get_or parts p None)) (sym ended.last) (by p (get_or parts p None) (ended.parts_are p within)); some = ended.some }
+  have_shares =
+      record {
+        shares = λ p within. subst (λ (k : ℕ). HasShare job rows n p k (get_or parts p None)) (sym ended.last)
+            (by p (get_or parts p None) (ended.parts_are p within));
+        some = ended.some;
+      }
     where
       by : (p : ℕ) (part : Option (PartState V M)) → HasEnded job (Some old) rows n p part → HasShare job rows n p (run_length job rows) part
       by p None h = absurd h
@@ -120,9 +130,11 @@ module _ {V M : Type 0} (job : Job V M) (old rows : Rows) (n s : ℕ) (parts : L
       by None h = absurd h
       by (Some part) h = h.course.beside.whole.rise
 
-  state_kept : (id : ℕ) → has_id (flat_map (apart_in s (run_length job old)) parts) id ≡ false → state_at job old (run_length job old) id ≡ state_at job rows s id
+  state_kept : (id : ℕ) → has_id (flat_map (apart_in s (run_length job old)) parts) id ≡ false
+      → state_at job old (run_length job old) id ≡ state_at job rows s id
   state_kept id other =
-      by (get_or parts (id % n) None) (ended.parts_are (id % n) (mod-lt id ended.some)) (none_at id (apart_in s (run_length job old)) None refl parts (id % n) other)
+      by (get_or parts (id % n) None) (ended.parts_are (id % n) (mod-lt id ended.some))
+      (none_at id (apart_in s (run_length job old)) None refl parts (id % n) other)
     where
       by : (part : Option (PartState V M)) → HasEnded job (Some old) rows n (id % n) part → has_id (apart_in s (run_length job old) part) id ≡ false
           → state_at job old (run_length job old) id ≡ state_at job rows s id
@@ -188,6 +200,7 @@ module _ {V M : Type 0} (job : Job V M) (rows : Rows) (n s : ℕ) (parts : List 
       (subst (λ (k : ℕ). (id : ℕ) → has_id is id ≡ has_id (flat_map (apart_in s k) parts) id) keeps.supersteps_are same)
 
 -- ids that rise, with values, rise
-pub new_values_rise : {V M : Type 0} (n s : ℕ) (traces : List (Option (Trace V M))) (is : List ℕ) → IsStrictlySortedBy nat_cmp is → ChangesRise (new_values n s traces is)
+pub new_values_rise : {V M : Type 0} (n s : ℕ) (traces : List (Option (Trace V M))) (is : List ℕ) → IsStrictlySortedBy nat_cmp is
+    → ChangesRise (new_values n s traces is)
 new_values_rise n s traces is rise =
     subst (IsStrictlySortedBy nat_cmp) (sym (keys_made (λ id. option_map (λ x. x.value) (state_by n s traces id)) is)) rise

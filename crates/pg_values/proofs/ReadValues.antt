@@ -53,7 +53,8 @@ none_valued id (e ∷ es) h =
     let p = neither (e.0 == id) (has_id (keys_of es) id) h in
     ap (λ (b : Bool). cond b (Some e.1) (value_at id es)) (at_key id e.0 ∙ p.0) ∙ none_valued id es p.1
 
-none_ran : {X : Type 0} (id s : ℕ) (rs : List (List (ℕ × X))) → ((t : ℕ) → t < s → has_id (keys_of (get_or rs t [])) id ≡ false) → last_record id (take s rs) ≡ None
+none_ran : {X : Type 0} (id s : ℕ) (rs : List (List (ℕ × X))) → ((t : ℕ) → t < s → has_id (keys_of (get_or rs t [])) id ≡ false)
+    → last_record id (take s rs) ≡ None
 none_ran id zero rs h = refl
 none_ran id (suc s) [] h = refl
 none_ran id (suc s) (r ∷ rs) h =
@@ -70,7 +71,8 @@ none_in_range id f a (suc n) h t less = by t less (none_in_range id f (a + 1) n 
     by zero less later = ap (λ k. has_id (f k) id) (let e : a + 0 ≡ a = omega arith in e) ∙ parts.0
     by (suc t) less later = ap (λ k. has_id (f k) id) (let e : a + suc t ≡ a + 1 + t = omega arith in e) ∙ later t (omega arith)
 
-pub none_at : {X : Type 0} (id : ℕ) (f : X → List ℕ) (d : X) → has_id (f d) id ≡ false → (xs : List X) (i : ℕ) → has_id (flat_map f xs) id ≡ false → has_id (f (get_or xs i d)) id ≡ false
+pub none_at : {X : Type 0} (id : ℕ) (f : X → List ℕ) (d : X) → has_id (f d) id ≡ false → (xs : List X) (i : ℕ)
+    → has_id (flat_map f xs) id ≡ false → has_id (f (get_or xs i d)) id ≡ false
 none_at id f d none [] i h = none
 none_at id f d none (x ∷ xs) i h = by i (λ i. none_at id f d none xs i parts.1)
   where
@@ -83,11 +85,14 @@ none_at id f d none (x ∷ xs) i h = by i (λ i. none_at id f d none xs i parts.
 
 -- ---- one partition
 
-module _ {V M : Type 0} (job : Job V M) (rows : Rows) (n p s id : ℕ) (mine : belongs n p id ≡ true) (trace : Trace V M) (holds : HoldsRun job rows n p s trace) where
-  none_among : (xs : List (Standing V M)) → has_id (map (λ x. x.id) (map (λ x. x.state) (filter (λ x. belongs n p x.state.id) xs))) id ≡ false → has_id (ids xs) id ≡ false
+module _ {V M : Type 0} (job : Job V M) (rows : Rows) (n p s id : ℕ) (mine : belongs n p id ≡ true) (trace : Trace V M)
+    (holds : HoldsRun job rows n p s trace) where
+  none_among : (xs : List (Standing V M))
+      → has_id (map (λ x. x.id) (map (λ x. x.state) (filter (λ x. belongs n p x.state.id) xs))) id ≡ false → has_id (ids xs) id ≡ false
   none_among xs h =
       let picked = filter (λ x. belongs n p x.state.id) xs in
-      let is : map (λ x. x.id) (map (λ x. x.state) picked) ≡ filter (belongs n p) (ids xs) = map-map (λ x. x.id) (λ x. x.state) picked ∙ sym (filter-map (belongs n p) (λ x. x.state.id) xs) in
+      let is : map (λ x. x.id) (map (λ x. x.state) picked) ≡ filter (belongs n p) (ids xs) =
+      map-map (λ x. x.id) (λ x. x.state) picked ∙ sym (filter-map (belongs n p) (λ x. x.state.id) xs) in
       sym (ap (λ b. b && has_id (ids xs) id) mine) ∙ (sym (has_id-filter (belongs n p) (ids xs) id) ∙ (sym (ap (λ l. has_id l id) is) ∙ h))
 
   -- where messages to nobody are dropped, an id with which the partition didn't begin has no state
@@ -103,7 +108,9 @@ module _ {V M : Type 0} (job : Job V M) (rows : Rows) (n p s id : ℕ) (mine : b
   none_before h =
       let keys : ℕ → List ℕ = λ t. keys_of (records_of t trace) in
       let parts = neither _ _ (sym (list_any-append (λ other. other == id) (map (λ x. x.id) trace.initial) (ran_between 0 s trace)) ∙ h) in
-      let ran = none_ran id s trace.records (λ t less. ap (λ k. has_id (keys k) id) (let e : t ≡ 0 + t = omega arith in e) ∙ none_in_range id keys 0 (s - 0) parts.1 t (omega (arith, less))) in
+      let ran =
+      none_ran id s trace.records (λ t less. ap (λ k. has_id (keys k) id) (let e : t ≡ 0 + t = omega arith in e)
+      ∙ none_in_range id keys 0 (s - 0) parts.1 t (omega (arith, less))) in
       let began = none_keyed (λ x. x.id) id trace.initial parts.0 in
       sym (state_of_run trace id s job rows n p s holds mine (let all : s ≤ s = omega arith in all))
       ∙ ap₂ (λ o i. option_or (option_map (left_by id) o) i) ran began
@@ -123,7 +130,8 @@ module _ {V M : Type 0} (job : Job V M) (rows : Rows) (n s : ℕ) (parts : List 
   pub state_is : (id : ℕ) → state_in n s parts id ≡ run_state job rows id s
   state_is id = by (get_or parts (id % n) None) (have.shares (id % n) (mod-lt id have.some))
     where
-      by : (part : Option (PartState V M)) → HasShare job rows n (id % n) s part → option_and_then (λ part. state_at id s part.course.trace) part ≡ run_state job rows id s
+      by : (part : Option (PartState V M)) → HasShare job rows n (id % n) s part
+          → option_and_then (λ part. state_at id s part.course.trace) part ≡ run_state job rows id s
       by None h = absurd h
       by (Some part) h = state_of_run part.course.trace id s job rows n (id % n) s h (eq-eqb (id % n) (id % n) refl) (let all : s ≤ s = omega arith in all)
 
@@ -131,7 +139,8 @@ module _ {V M : Type 0} (job : Job V M) (rows : Rows) (n s : ℕ) (parts : List 
   unlisted id h =
       by (get_or parts (id % n) None) (have.shares (id % n) (mod-lt id have.some)) (none_at id (ids_of_part job.missing s) None refl parts (id % n) h)
     where
-      by : (part : Option (PartState V M)) → HasShare job rows n (id % n) s part → has_id (ids_of_part job.missing s part) id ≡ false → run_state job rows id s ≡ None
+      by : (part : Option (PartState V M)) → HasShare job rows n (id % n) s part → has_id (ids_of_part job.missing s part) id ≡ false
+          → run_state job rows id s ≡ None
       by None holds none = absurd holds
       by (Some part) holds none = none_listed job rows n (id % n) s id (eq-eqb (id % n) (id % n) refl) part.course.trace holds job.missing refl none
 
@@ -157,15 +166,18 @@ module _ {V M : Type 0} (job : Job V M) (rows : Rows) (n s : ℕ) (parts : List 
 
 -- ---- what is read at rising ids rises
 
-all_valued : {V : Type 0} (P : ℕ → Type 0) (f : ℕ → Option (VertexState V)) (is : List ℕ) → AllByRecursion P is → AllByRecursion P (keys_of (flat_map (λ id. valued id (f id)) is))
+all_valued : {V : Type 0} (P : ℕ → Type 0) (f : ℕ → Option (VertexState V)) (is : List ℕ) → AllByRecursion P is
+    → AllByRecursion P (keys_of (flat_map (λ id. valued id (f id)) is))
 all_valued P f [] all = tt
 all_valued {V} P f (i ∷ is) all = by (f i) (all_valued P f is all.1)
   where
-    by : (o : Option (VertexState V)) → AllByRecursion P (keys_of (flat_map (λ id. valued id (f id)) is)) → AllByRecursion P (keys_of (valued i o ++ flat_map (λ id. valued id (f id)) is))
+    by : (o : Option (VertexState V)) → AllByRecursion P (keys_of (flat_map (λ id. valued id (f id)) is))
+        → AllByRecursion P (keys_of (valued i o ++ flat_map (λ id. valued id (f id)) is))
     by None later = later
     by (Some x) later = (all.0, later)
 
-pub valued_rise : {V : Type 0} (f : ℕ → Option (VertexState V)) (is : List ℕ) → IsStrictlySortedBy nat_cmp is → HasRisingIds (flat_map (λ id. valued id (f id)) is)
+pub valued_rise : {V : Type 0} (f : ℕ → Option (VertexState V)) (is : List ℕ) → IsStrictlySortedBy nat_cmp is
+    → HasRisingIds (flat_map (λ id. valued id (f id)) is)
 unfolding IsStrictlySortedBy
 valued_rise f [] rise = tt
 valued_rise {V} f (i ∷ is) rise = by (f i) (valued_rise f is rise.1)
@@ -183,7 +195,8 @@ module _ {V M : Type 0} (n s : ℕ) (parts : List (Option (PartState V M))) wher
       ∙ by (get_or parts (id % n) None)
     where
       by : (o : Option (PartState V M))
-          → option_and_then (λ trace. state_at id s trace) (option_map (λ part. part.course.trace) o) ≡ option_and_then (λ part. state_at id s part.course.trace) o
+          → option_and_then (λ trace. state_at id s trace) (option_map (λ part. part.course.trace) o) ≡ option_and_then
+          (λ part. state_at id s part.course.trace) o
       by None = refl
       by (Some part) = refl
 

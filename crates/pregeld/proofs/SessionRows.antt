@@ -59,7 +59,17 @@ printing = tt
 
 -- the options of a program where nothing else is said
 abbrev defaults : ProgramName → Options
-defaults program = record { program = program; source = 1; k = 2; rounds = 30; eps = pos 0; combiner = NoCombiner; partitions = 1; limit = 1000; missing = Drop }
+defaults program = record {
+  program = program;
+  source = 1;
+  k = 2;
+  rounds = 30;
+  eps = pos 0;
+  combiner = NoCombiner;
+  partitions = 1;
+  limit = 1000;
+  missing = Drop;
+}
 
 two_hops : session (job_in (defaults Sssp)) (codes "import list 2\n1 2 5\n2 3\nrefresh\ndump\n")
     ≡ codes "edition 1\nrefreshed edition 1 supersteps 3 ending finished calls 5 losses 0\nvalue 1 0\nvalue 2 5\nvalue 3 6\nend 3\n"

@@ -18,7 +18,9 @@ loop-id-preserved g c =
     record {
       ids = ap (map (λ x. x.id)) pushed ∙ (map-append (λ x. x.id) have (more ∷ []) ∙ (ap (λ l. l ++ c.in-Some.id ∷ []) c.loop-id.invariant.ids
           ∙ sym (map-append (λ x. x.0) before (one ∷ []))));
-      new = ap (map (λ x. x.new)) pushed ∙ (map-append (λ x. x.new) have (more ∷ []) ∙ (ap₂ ◌++◌ c.loop-id.invariant.new (ap (λ x. x ∷ []) (c.in_ok-new.ensures.found ∙ ap (λ t. found_at program c.args.missing c.args.superstep t one) c.loop-id.invariant.states))
+      new =
+          ap (map (λ x. x.new)) pushed ∙ (map-append (λ x. x.new) have (more ∷ []) ∙ (ap₂ ◌++◌ c.loop-id.invariant.new
+          (ap (λ x. x ∷ []) (c.in_ok-new.ensures.found ∙ ap (λ t. found_at program c.args.missing c.args.superstep t one) c.loop-id.invariant.states))
           ∙ sym (map-append (found_at program c.args.missing c.args.superstep c.args.trace.now) before (one ∷ []))));
       old = subst (AllByRecursion beside) (sym pushed) (all-append beside have (more ∷ []) c.loop-id.invariant.old (refl, tt));
       states = c.in_ok-new.ensures.same ∙ c.loop-id.invariant.states;

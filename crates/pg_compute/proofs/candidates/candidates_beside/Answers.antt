@@ -23,9 +23,17 @@ loop-id-preserved g c =
     record {
       ids = ap (map (λ x. x.id)) pushed ∙ (map-append (λ x. x.id) have (more ∷ []) ∙ (ap (λ l. l ++ c.in-Some.id ∷ []) c.loop-id.invariant.ids
           ∙ sym (map-append (λ x. x.0) before (one ∷ []))));
-      new = ap (map (λ x. x.new)) pushed ∙ (map-append (λ x. x.new) have (more ∷ []) ∙ (ap₂ ◌++◌ c.loop-id.invariant.new (ap (λ x. x ∷ []) (c.in_ok-new.ensures.found ∙ ap (λ t. found_at program c.args.missing c.args.superstep t one) c.loop-id.invariant.states))
+      new =
+          ap (map (λ x. x.new)) pushed ∙ (map-append (λ x. x.new) have (more ∷ []) ∙ (ap₂ ◌++◌ c.loop-id.invariant.new
+          (ap (λ x. x ∷ []) (c.in_ok-new.ensures.found ∙ ap (λ t. found_at program c.args.missing c.args.superstep t one) c.loop-id.invariant.states))
           ∙ sym (map-append (found_at program c.args.missing c.args.superstep c.args.trace.now) before (one ∷ []))));
-      old = subst (AllByRecursion beside) (sym pushed) (all-append beside have (more ∷ []) c.loop-id.invariant.old (subst (λ t. IsFound program c.args.missing combining t c.args.superstep (map (λ b. b.now) c.args.old_bundles.now) c.in-Some.id c.in_ok-old.old) c.loop-id.invariant.old_states c.in_ok-old.ensures.found, tt));
+      old =
+          subst (AllByRecursion beside) (sym pushed) (all-append beside have (more ∷ []) c.loop-id.invariant.old (
+            subst
+                (λ t. IsFound program c.args.missing combining t c.args.superstep
+                (map (λ b. b.now) c.args.old_bundles.now) c.in-Some.id c.in_ok-old.old) c.loop-id.invariant.old_states c.in_ok-old.ensures.found,
+            tt,
+          ));
       told = subst (AllByRecursion (IsTold value_eq message_eq)) (sym pushed)
           (all-append (IsTold value_eq message_eq) have (more ∷ []) c.loop-id.invariant.told (c.tell_same.ensures, tt));
       states = c.in_ok-new.ensures.same ∙ c.loop-id.invariant.states;

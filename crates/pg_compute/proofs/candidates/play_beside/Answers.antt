@@ -17,7 +17,9 @@ returns g c =
       candidates = c.in_ok-candidates.candidates.items;
       ids_are = c.in_ok-candidates.ensures.ids ∙ ap keys_of own;
       new_are = c.in_ok-candidates.ensures.new ∙ ap (map (found_at program c.args.missing c.args.superstep c.args.trace.now)) own;
-      beside_are = subst (λ bundles. AllByRecursion (λ k. IsFound program c.args.missing combining c.args.old.now c.args.superstep bundles k.id k.old) c.in_ok-candidates.candidates.items)
+      beside_are =
+          subst (λ bundles. AllByRecursion
+          (λ k. IsFound program c.args.missing combining c.args.old.now c.args.superstep bundles k.id k.old) c.in_ok-candidates.candidates.items)
           (ap (map (λ b. b.now)) c.as_slice-2.ensures.value ∙ c.in_ok-old_lent.ensures) c.in_ok-candidates.ensures.old;
       told = c.in_ok-candidates.ensures.told;
       looked_at_are = c.ended.ensures.looked_at ∙ c.in_ok-playing.ensures.looked_at;

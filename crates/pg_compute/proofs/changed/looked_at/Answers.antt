@@ -16,7 +16,8 @@ returns g c =
     × (has_id c.as_slice-2.result.now id ≡ true → Delivers combining id (map (λ b. b.now) c.as_slice-3.result.now) []) =
     λ id other. c.in_ok-add_receiving.ensures id (lent id other) in
     let parts : (id : ℕ) → has_id c.rising.result.items id ≡ false → (has_id c.in_ok-ids.ids.items id ≡ false) × (has_id restless id ≡ false) =
-    λ id other. in_neither c.in_ok-ids.ids.items restless c.add_all.new.ids.items (c.in_ok-add_all.ensures ∙ ap (λ l. c.in_ok-ids.ids.items ++ l) c.as_slice.ensures.value) id
+    λ id other. in_neither c.in_ok-ids.ids.items restless c.add_all.new.ids.items
+    (c.in_ok-add_all.ensures ∙ ap (λ l. c.in_ok-ids.ids.items ++ l) c.as_slice.ensures.value) id
     (received id other).0 in
     record {
       rise = c.rising.ensures.rise;

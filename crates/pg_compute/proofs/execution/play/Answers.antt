@@ -27,7 +27,9 @@ loop-candidate-preserved g c =
           ∙ ap₂ (λ m v. capped (m + cond (runs v one) 1 0)) c.loop-candidate.invariant.meter same
           ∙ more_calls c.args.stage.meter (count_by (runs c.args.stage.view) before) (cond (runs c.args.stage.view one) 1 0)
           ∙ ap (λ n. capped (c.args.stage.meter + n)) (sym (count_by-push (runs c.args.stage.view) before one));
-      whole = append_assoc before (one ∷ []) c.next.new.self.rest.items ∙ (ap (λ l. before ++ l) (sym c.in-Some.ensures.steps.0) ∙ c.loop-candidate.invariant.whole);
+      whole =
+          append_assoc before (one ∷ []) c.next.new.self.rest.items
+          ∙ (ap (λ l. before ++ l) (sym c.in-Some.ensures.steps.0) ∙ c.loop-candidate.invariant.whole);
     }
 
 pub returns-clause-looked_at : goal.returns-clause-looked_at

@@ -13,4 +13,5 @@ returns-clause-changes g c =
       | else-seen-via-else-seen w ↦ ap (λ (b : Bool). b && same) w.if-seen.false
     ] in
     subst (λ (b : Bool). IfOk c.play_other.result (λ p. p.changes.items
-    ≡ c.args.played.changes.items ++ change_unless program c.args.played.stage.view (b || are_at_rest one.old one.new) one)) (sym apart) c.play_other.ensures.changes
+    ≡ c.args.played.changes.items ++ change_unless program c.args.played.stage.view (b || are_at_rest one.old one.new) one))
+    (sym apart) c.play_other.ensures.changes

@@ -16,11 +16,17 @@ loop-partition-preserved g c =
       each = pushed_length _ _ _ _ c.in_ok-push.ensures.items c.loop-partition.invariant.each;
       begun = λ job e m a.
           let here = subst (λ (r : PartRows). HoldsShare job None r.graph r.partitions r.partition 0 part)
-          (c.rows-rows.ensures ∙ (λ i. record { graph = c.args.graph.now; partition = c.new.ensures i; partitions = c.partitioner_of-partitioner.ensures.value i }))
+          (c.rows-rows.ensures ∙ (λ i. record {
+            graph = c.args.graph.now;
+            partition = c.new.ensures i;
+            partitions = c.partitioner_of-partitioner.ensures.value i;
+          }))
           (c.in_ok-begin.ensures.holds job e (m ∙ sym c.missing.ensures) a) in
-          begun_more job None c.args.graph.now n c.loop-partition.parts.items _ part c.loop-partition.partition c.loop-partition.invariant.each (c.loop-partition.invariant.begun job e m a) c.in_ok-push.ensures.items here;
+          begun_more job None c.args.graph.now n c.loop-partition.parts.items _ part c.loop-partition.partition c.loop-partition.invariant.each
+          (c.loop-partition.invariant.begun job e m a) c.in_ok-push.ensures.items here;
     }
 
 pub returns-clause-begun : goal.returns-clause-begun
 returns-clause-begun g c job e m a p within =
-    c.loop-partition.invariant.begun job e m a p (omega (arith, within, c.loop-partition-test.false, c.partitions-partition-end.ensures.value, c.partitioner_of-partitioner.ensures.value))
+    c.loop-partition.invariant.begun job e m a p
+    (omega (arith, within, c.loop-partition-test.false, c.partitions-partition-end.ensures.value, c.partitioner_of-partitioner.ensures.value))

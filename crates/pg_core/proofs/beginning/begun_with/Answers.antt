@@ -17,15 +17,24 @@ loop-left-preserved g c =
     let left = c.in-Some.left in
     let rest = c.next.new.self.rest.items in
     let k = c.loop-left.partition in
-    let rows_are = c.rows-rows.ensures ∙ (λ i. record { graph = c.args.graph.now; partition = c.new.ensures i; partitions = c.partitioner_of-partitioner.ensures.value i }) in
-    let whole_yet : before ++ left ∷ [] ++ rest ≡ c.args.lefts.items = append_assoc before (left ∷ []) rest ∙ (ap (λ l. before ++ l) (sym c.in-Some.ensures.steps.0) ∙ c.loop-left.invariant.whole) in
-    let here = ap (λ l. slice_get l k) (sym whole_yet ∙ append_assoc before (left ∷ []) rest) ∙ (ap (slice_get (before ++ left ∷ rest)) c.loop-left.invariant.partition_is ∙ slice_get-between before rest left) in
+    let rows_are = c.rows-rows.ensures ∙ (λ i. record {
+      graph = c.args.graph.now;
+      partition = c.new.ensures i;
+      partitions = c.partitioner_of-partitioner.ensures.value i;
+    }) in
+    let whole_yet : before ++ left ∷ [] ++ rest ≡ c.args.lefts.items =
+    append_assoc before (left ∷ []) rest ∙ (ap (λ l. before ++ l) (sym c.in-Some.ensures.steps.0) ∙ c.loop-left.invariant.whole) in
+    let here =
+    ap (λ l. slice_get l k) (sym whole_yet ∙ append_assoc before (left ∷ []) rest)
+    ∙ (ap (slice_get (before ++ left ∷ rest)) c.loop-left.invariant.partition_is ∙ slice_get-between before rest left) in
     record {
       partition_is = ap (λ (k : ℕ). k + 1) c.loop-left.invariant.partition_is ∙ sym (length_push before left);
       whole = whole_yet;
       each = ap length c.in_ok-push.ensures.items ∙ (length_push c.loop-left.parts.items (Some part) ∙ ap (λ (k : ℕ). k + 1) c.loop-left.invariant.each);
       begun = λ job kept e m a untouched moves whole.
-          let begins = subst (λ (r : PartRows). IsLeft job kept r.partitions r.partition left → AreTouched c.args.touched.now kept r.graph → AreMoved c.args.moved.now kept r.graph → HoldsShare job (Some kept) r.graph r.partitions r.partition 0 part) rows_are
+          let begins =
+          subst (λ (r : PartRows). IsLeft job kept r.partitions r.partition left → AreTouched c.args.touched.now kept r.graph
+          → AreMoved c.args.moved.now kept r.graph → HoldsShare job (Some kept) r.graph r.partitions r.partition 0 part) rows_are
           (c.in_ok-part.ensures.holds job kept e (m ∙ sym c.missing.ensures) a) in
           begun_more job (Some kept) c.args.graph.now n c.loop-left.parts.items _ part k c.loop-left.invariant.each
           (c.loop-left.invariant.begun job kept e m a untouched moves (λ p within. whole p (omega (arith, within)))) c.in_ok-push.ensures.items
@@ -36,5 +45,6 @@ pub returns-clause-begun : goal.returns-clause-begun
 returns-clause-begun g c job kept e m a untouched moves whole p within =
     let rest = c.loop-left.left-iterator.rest in
     let counted = sym (length-append c.loop-left.yielded rest.items) ∙ ap length c.loop-left.invariant.whole in
-    let all : c.loop-left.partition ≡ c.args.limits.partitions = omega (arith, rest.ok.0, c.in-None.ensures.steps.0, counted, c.requires, c.loop-left.invariant.partition_is) in
+    let all : c.loop-left.partition ≡ c.args.limits.partitions =
+    omega (arith, rest.ok.0, c.in-None.ensures.steps.0, counted, c.requires, c.loop-left.invariant.partition_is) in
     c.loop-left.invariant.begun job kept e m a untouched moves (λ p less. whole p (omega (arith, less, all))) p (omega (arith, within, all))

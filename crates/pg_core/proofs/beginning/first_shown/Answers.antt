@@ -19,4 +19,5 @@ returns-clause-places g c =
     let many = c.args.gathered.now in
     let listed = c.in_ok-push.ensures.items ∙ ap (λ l. l ++ visible ∷ []) c.new-shown.ensures.items in
     subst (All (λ v. length v.values ≡ length many)) (sym listed)
-    (All-cons (λ (v : Visible). length v.values ≡ length many) visible [] (c.in_ok-visible.ensures.places ∙ ap length c.in_ok-seen.ensures) (All-nil (λ (v : Visible). length v.values ≡ length many)))
+    (All-cons (λ (v : Visible). length v.values ≡ length many) visible [] (c.in_ok-visible.ensures.places ∙ ap length c.in_ok-seen.ensures)
+    (All-nil (λ (v : Visible). length v.values ≡ length many)))

@@ -13,12 +13,16 @@ loop-part-preserved g c =
     let rest = c.next.new.self.rest.items in
     let after = c.push.new.self.items in
     let whole_yet = append_assoc before (part ∷ []) rest ∙ (ap (λ l. before ++ l) (sym c.in-Some.ensures.steps.0) ∙ c.loop-part.invariant.whole) in
-    let here = ap (λ l. get_or l (length before) None) (sym whole_yet ∙ append_assoc before (part ∷ []) rest) ∙ (get_or_at before rest part None ∙ c.unwrap.ensures) in
+    let here =
+    ap (λ l. get_or l (length before) None) (sym whole_yet ∙ append_assoc before (part ∷ []) rest) ∙ (get_or_at before rest part None ∙ c.unwrap.ensures) in
     record {
       whole = whole_yet;
-      each = ap length c.in_ok-push.ensures.items ∙ (length_push c.loop-part.lefts.items c.in_ok-left.left ∙ (ap (λ (k : ℕ). k + 1) c.loop-part.invariant.each ∙ sym (length_push before part)));
+      each =
+          ap length c.in_ok-push.ensures.items
+          ∙ (length_push c.loop-part.lefts.items c.in_ok-left.left ∙ (ap (λ (k : ℕ). k + 1) c.loop-part.invariant.each ∙ sym (length_push before part)));
       left = subst (λ (m : ℕ). HaveLeft s parts m after) (sym (length_push before part))
-          (left_more s parts c.loop-part.lefts.items after c.in_ok-left.left c.unwrap.result (length before) c.loop-part.invariant.each here c.loop-part.invariant.left c.in_ok-push.ensures.items c.in_ok-left.ensures);
+          (left_more s parts c.loop-part.lefts.items after c.in_ok-left.left c.unwrap.result
+          (length before) c.loop-part.invariant.each here c.loop-part.invariant.left c.in_ok-push.ensures.items c.in_ok-left.ensures);
     }
 
 pub returns-clause-left : goal.returns-clause-left

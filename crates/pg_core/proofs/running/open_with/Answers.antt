@@ -12,7 +12,9 @@ invariant_of-result g c =
     let limits = c.args.limits in
     let parts = c.args.parts.items in
     let start = c.args.start in
-    subst (λ events. IsLawful limits program.declared master.registrations start.registry start.state events parts start.shown.items start.tally) (sym c.new.ensures.items)
+    subst
+    (λ events. IsLawful limits program.declared master.registrations start.registry start.state events parts start.shown.items start.tally)
+    (sym c.new.ensures.items)
     (IsLawful-opened program master combining limits c.args.graph.now parts c.requires.each c.requires.begun.beside c.requires.begun.begun start c.requires.started c.requires.registered)
 
 pub returns-clause-opened : goal.returns-clause-opened

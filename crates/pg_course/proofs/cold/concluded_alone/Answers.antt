@@ -10,6 +10,7 @@ returns-clause-concluded g c =
       further = c.in_ok-course.ensures;
       to_each = c.in_ok-sent.ensures.to_each ∙ all;
       sends = λ q below.
-          subst₂ (λ n changes. IsFresh (g.C.MessageCombiner.combining c.args.combiner.now) (items_to n q (flat_map sends_of changes)) (slice_get c.in_ok-sent.sent q))
+          subst₂ (λ n changes. IsFresh (g.C.MessageCombiner.combining c.args.combiner.now) (items_to n q (flat_map sends_of changes))
+          (slice_get c.in_ok-sent.sent q))
           all c.as_slice.ensures.value (c.in_ok-sent.ensures.sends q (subst (λ n. q < n) (sym all) below));
     }

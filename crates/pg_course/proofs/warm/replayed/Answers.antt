@@ -36,11 +36,14 @@ returns-clause-replayed g c =
     subst (λ h. IsReplayed value_eq message_eq combining h old old_logs program logs c.args.old_view.now view bundles meter played) c.course.view_is
     (record {
       ids = ids;
-      looked = subst (λ b. AreLookedAt combining bundles course.partitions course.partition course.place course.trace course.restless course.resting logs old_logs b ids)
+      looked = subst
+          (λ b. AreLookedAt combining bundles course.partitions course.partition course.place course.trace course.restless course.resting logs old_logs b ids)
           c.is_same_view-seen.ensures c.in_ok-ids.ensures;
       is = subst (λ b. IsPlayed value_eq message_eq program course.missing combining view course.partitions course.partition course.place course.trace bundles
           (Some (old, bundles_before old_logs course.partitions course.partition course.place)) ids (not b) b meter played) c.is_same_view-seen.ensures
-          (subst₂ (λ x y. IsPlayed value_eq message_eq program course.missing combining view course.partitions course.partition course.place course.trace bundles
-          (Some (old, x)) y (not seen) seen meter played) (c.as_slice-2.ensures.value ∙ c.in_ok-old_bundles.ensures) c.as_slice-3.ensures.value c.in_ok-played.ensures);
+          (subst₂
+          (λ x y. IsPlayed value_eq message_eq program course.missing combining view course.partitions course.partition course.place course.trace bundles
+          (Some (old, x)) y (not seen) seen meter played)
+          (c.as_slice-2.ensures.value ∙ c.in_ok-old_bundles.ensures) c.as_slice-3.ensures.value c.in_ok-played.ensures);
       alike = λ id. subst (λ l. DeliverAlike combining id l bundles) (c.as_slice.ensures.value ∙ c.in_ok-old_bundles.ensures) (c.tell_alike.ensures id);
     })

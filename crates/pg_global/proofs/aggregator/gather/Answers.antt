@@ -19,5 +19,7 @@ pub returns-clause-order : goal.returns-clause-order
 returns-clause-order g c =
     let aggregator = c.args.aggregator.now in
     let contributions = c.args.contributions.now in
-    let fit : All (FitsSigned w64) contributions = λ k d h. rw (get_or_default contributions k d (pos 0) h) (c.loop-contribution.invariant.fits k (omega arith)) in
-    λ others moved. returns-clause-value g c ∙ sym (fold-IsPermutation (g.met.A.Aggregator.lawful aggregator) c.args.from contributions others c.ranges.from fit moved)
+    let fit : All (FitsSigned w64) contributions =
+    λ k d h. rw (get_or_default contributions k d (pos 0) h) (c.loop-contribution.invariant.fits k (omega arith)) in
+    λ others moved. returns-clause-value g c
+    ∙ sym (fold-IsPermutation (g.met.A.Aggregator.lawful aggregator) c.args.from contributions others c.ranges.from fit moved)

@@ -29,5 +29,9 @@ loop-place-preserved c = elim c.match-get.branch [
         found = w.row_at-row.ensures.same ∙ c.loop-place.invariant.found;
         long = length-set c.loop-place.seen.items place (Some source) ∙ c.loop-place.invariant.long;
       })
-  | in_default-get w ↦ rw (w.seen-is, w.last-is) (record { seen = c.loop-place.invariant.seen; found = c.loop-place.invariant.found; long = c.loop-place.invariant.long })
+  | in_default-get w ↦ rw (w.seen-is, w.last-is) (record {
+    seen = c.loop-place.invariant.seen;
+    found = c.loop-place.invariant.found;
+    long = c.loop-place.invariant.long;
+  })
 ]

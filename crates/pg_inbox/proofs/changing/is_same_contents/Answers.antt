@@ -13,7 +13,8 @@ returns-in-None-folded g c target = (
 pub returns-in-Some-folded-2 : goal.returns-in-Some-folded-2
 returns-in-Some-folded-2 g c target = (
   (λ h. absurd (search (rules, h))),
-  λ h. absurd (fold_apart target c.args.new.now c.args.old.now c.in-Some-folded-2.field-0.now (sym c.folded-in-None.ensures ∙ ap option_copied c.in-Some-folded-2.is)
+  λ h. absurd (fold_apart target c.args.new.now c.args.old.now c.in-Some-folded-2.field-0.now
+      (sym c.folded-in-None.ensures ∙ ap option_copied c.in-Some-folded-2.is)
       (sym c.folded.ensures ∙ ap option_copied c.in-None.is) c.requires.old.0 (sym h)),
 )
 

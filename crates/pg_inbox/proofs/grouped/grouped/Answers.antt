@@ -6,8 +6,10 @@ use Rattle.pg_inbox.proofs.grouped.grouped.Goals as goal
 
 pub side_by_side-requires : goal.side_by_side-requires
 side_by_side-requires g c =
-    IsNonDecreasingBy-from_sort (λ i. i.0) c.sort_by_key.new.self.items (c.in_ok-sort_by_key.ensures.sorted (λ i. i.0) (always_returns_same _ _ _ (λ a r f k. search (rules, of_calls))))
+    IsNonDecreasingBy-from_sort (λ i. i.0) c.sort_by_key.new.self.items
+    (c.in_ok-sort_by_key.ensures.sorted (λ i. i.0) (always_returns_same _ _ _ (λ a r f k. search (rules, of_calls))))
 
 pub returns : goal.returns
 returns g c =
-    groups_of_sorted c.args.items.items c.sort_by_key.new.self.items c.in_ok-groups.groups.items (c.in_ok-sort_by_key.ensures.stable (λ i. i.0) (always_returns_same _ _ _ (λ a r f k. search (rules, of_calls)))) c.in_ok-groups.ensures
+    groups_of_sorted c.args.items.items c.sort_by_key.new.self.items c.in_ok-groups.groups.items
+    (c.in_ok-sort_by_key.ensures.stable (λ i. i.0) (always_returns_same _ _ _ (λ a r f k. search (rules, of_calls)))) c.in_ok-groups.ensures

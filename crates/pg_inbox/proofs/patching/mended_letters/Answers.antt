@@ -11,7 +11,8 @@ pub returns-clause-items : goal.returns-clause-items
 returns-clause-items g c =
     let sorted = c.sort_by_key.new.self.items in
     sorted_in_order c.add_letters.new.after.items sorted
-    (IsNonDecreasingBy-from_sort (λ x. x.0) sorted (c.in_ok-sort_by_key.ensures.sorted (λ x. x.0) (always_returns_same _ _ _ (λ a r f k. search (rules, of_calls)))))
+    (IsNonDecreasingBy-from_sort (λ x. x.0) sorted
+    (c.in_ok-sort_by_key.ensures.sorted (λ x. x.0) (always_returns_same _ _ _ (λ a r f k. search (rules, of_calls)))))
     (c.in_ok-sort_by_key.ensures.stable (λ x. x.0) (always_returns_same _ _ _ (λ a r f k. search (rules, of_calls))))
     ∙ ap in_order (c.in_ok-add_letters.ensures.items
     ∙ ap (λ l. l ++ additions c.args.mends.now) (c.in_ok-after.ensures.items

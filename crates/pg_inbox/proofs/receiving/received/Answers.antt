@@ -21,7 +21,8 @@ returns g c =
     let sorted = c.sort_by_key.new.self.items in
     c.in_ok-inbox-2.ensures
     ∙ (ap messages (sorted_in_order c.in_ok-letters.letters.items sorted
-    (IsNonDecreasingBy-from_sort (λ x. x.0) sorted (c.in_ok-sort_by_key.ensures.sorted (λ x. x.0) (always_returns_same _ _ _ (λ a r f k. search (rules, of_calls)))))
+    (IsNonDecreasingBy-from_sort (λ x. x.0) sorted
+    (c.in_ok-sort_by_key.ensures.sorted (λ x. x.0) (always_returns_same _ _ _ (λ a r f k. search (rules, of_calls)))))
     (c.in_ok-sort_by_key.ensures.stable (λ x. x.0) (always_returns_same _ _ _ (λ a r f k. search (rules, of_calls))))
     ∙ ap in_order c.in_ok-letters.ensures)
     ∙ sym (received_in_order 0 combining (sym c.combines.ensures ∙ c.if-combines.false) _))

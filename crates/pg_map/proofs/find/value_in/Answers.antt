@@ -7,7 +7,8 @@ use Rattle.pg_map.proofs.Search.{lookup_found, lookup_missing, searchable}
 use Rattle.pg_map.proofs.find.value_in.Goals as goal
 
 pub returns-then-begun-eq0 : goal.returns-then-begun-eq0
-returns-then-begun-eq0 g c = sym (get_before listed c.args.id c.args.chunks.now c.args.begun c.requires.chunks c.requires.rise c.requires.parts c.if-begun-eq0.true)
+returns-then-begun-eq0 g c =
+    sym (get_before listed c.args.id c.args.chunks.now c.args.begun c.requires.chunks c.requires.rise c.requires.parts c.if-begun-eq0.true)
 
 pub returns-in-Ok : goal.returns-in-Ok
 returns-in-Ok g c =
@@ -21,7 +22,8 @@ returns-in-Ok g c =
     let rises = subst HasRisingIds (sym listed_is)
     (rises_in listed id chunks begun c.requires.chunks c.requires.rise c.requires.parts (begun - 1) last c.requires.bound chunk c.index-chunks-begun.is) in
     let found = lookup_found c.as_slice-entries.result.now id c.in-Ok.place c.index-entries-place.result rises c.in-Ok.ensures.bound here in
-    let same = get_in listed id chunks begun c.requires.chunks c.requires.rise c.requires.parts (begun - 1) last c.requires.bound chunk c.index-chunks-begun.is in
+    let same =
+    get_in listed id chunks begun c.requires.chunks c.requires.rise c.requires.parts (begun - 1) last c.requires.bound chunk c.index-chunks-begun.is in
     sym found ∙ ap (value_at id) listed_is ∙ sym same
 
 pub returns-in-Err : goal.returns-in-Err
@@ -36,5 +38,6 @@ returns-in-Err g c =
     (rises_in listed id chunks begun c.requires.chunks c.requires.rise c.requires.parts (begun - 1) last c.requires.bound chunk c.index-chunks-begun.is) in
     let gap = c.in-Err.ensures.position (λ e. e.0) (answers_always _ _ _ (λ f a r g h. search rules)) (searchable c.as_slice-entries.result.now id rises) in
     let missing = lookup_missing c.as_slice-entries.result.now id c.in-Err.field-0 rises gap in
-    let same = get_in listed id chunks begun c.requires.chunks c.requires.rise c.requires.parts (begun - 1) last c.requires.bound chunk c.index-chunks-begun.is in
+    let same =
+    get_in listed id chunks begun c.requires.chunks c.requires.rise c.requires.parts (begun - 1) last c.requires.bound chunk c.index-chunks-begun.is in
     sym missing ∙ ap (value_at id) listed_is ∙ sym same

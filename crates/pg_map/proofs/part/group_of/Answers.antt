@@ -6,6 +6,7 @@ use Rattle.pg_map.proofs.part.group_of.Goals as goal
 pub returns-clause-part : goal.returns-clause-part
 returns-clause-part g c =
     let chunks = c.args.chunks.items in (
-      subst (λ p. StartsAt p.first (entries_of chunks)) (sym c.index.ensures) (starts_at_first listed chunks c.index.result.now c.requires.some c.requires.chunks),
+      subst (λ p. StartsAt p.first (entries_of chunks)) (sym c.index.ensures)
+          (starts_at_first listed chunks c.index.result.now c.requires.some c.requires.chunks),
       c.in_ok-count.ensures ∙ ap (sum_by (λ p. p.count)) c.as_slice.ensures.value ∙ counted_all listed chunks c.requires.chunks,
     )

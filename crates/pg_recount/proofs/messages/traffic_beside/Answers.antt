@@ -20,7 +20,8 @@ loop-to-preserved g c =
     slice_get-get_or c.args.bundles.now c.loop-to.to c.index-bundles-to.result within ∙ ap Some (sym c.index-bundles-to.is) in
     let number : c.new.result ≡ c.loop-to.to = omega (arith, c.new.ensures, within, c.requires) in
     let old : option_copied c.bundle_of-old.result ≡ option_map (λ l. l.bundle) (slot_at c.args.old_logs.now c.args.superstep c.args.from c.loop-to.to) =
-    c.bundle_of-old.ensures ∙ ap (option_map (λ (l : Logged g.row.M.Denot). l.bundle)) (c.get.ensures ∙ ap (slot_at c.args.old_logs.now c.args.superstep c.args.from) number) in
+    c.bundle_of-old.ensures
+    ∙ ap (option_map (λ (l : Logged g.row.M.Denot). l.bundle)) (c.get.ensures ∙ ap (slot_at c.args.old_logs.now c.args.superstep c.args.from) number) in
     record {
       sent_gone = turned_on sent_gone logs s from bundles q _ here _ old _ _ _ c.loop-to.invariant.sent_gone c.in_ok-sent_turnover.ensures.gone c.in_ok-sent.ensures.gone;
       sent_come = turned_on sent_come logs s from bundles q _ here _ old _ _ _ c.loop-to.invariant.sent_come c.in_ok-sent_turnover.ensures.come c.in_ok-sent.ensures.come;

@@ -16,5 +16,6 @@ loop-target-preserved g c =
       len = length-set parts place c.push.new.self ∙ c.loop-target.invariant.len;
       parts = λ q below. item_put c.args.partitions q parts place before c.in-Some.target c.in-Some.item c.push.new.self
           (c.number-place.ensures ∙ c.partition.ensures.value) within part (c.loop-target.invariant.parts q below);
-      whole = append_assoc before (one ∷ []) c.next.new.self.rest.items ∙ (ap (λ l. before ++ l) (sym c.in-Some.ensures.steps.0) ∙ c.loop-target.invariant.whole);
+      whole =
+          append_assoc before (one ∷ []) c.next.new.self.rest.items ∙ (ap (λ l. before ++ l) (sym c.in-Some.ensures.steps.0) ∙ c.loop-target.invariant.whole);
     }

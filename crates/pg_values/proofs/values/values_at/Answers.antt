@@ -15,7 +15,8 @@ returns g c job rows missing shares =
     ∙ (c.in_ok-held.ensures
     ∙ (ap (flat_map (λ id. valued id (state_by n s (traces_of parts) id))) c.as_slice.ensures.value
     ∙ (same_values n s parts ids ∙ values_are job rows n s parts shares ids c.rising-ids.ensures.rise
-    (λ id. c.rising-ids.ensures.same id ∙ (ap (λ l. has_id l id) c.in_ok-all_ids.ensures ∙ ap (λ m. has_id (flat_map (ids_of_part m s) parts) id) (sym missing))))))
+    (λ id. c.rising-ids.ensures.same id ∙
+    (ap (λ l. has_id l id) c.in_ok-all_ids.ensures ∙ ap (λ m. has_id (flat_map (ids_of_part m s) parts) id) (sym missing))))))
 
 pub of-requires-clause-rise : goal.of-requires-clause-rise
 of-requires-clause-rise g c κs within =

@@ -16,7 +16,9 @@ returns g c =
       few = subst (λ (n : ℕ). n ≤ 16) (ap length registry_is) c.in_ok-gathered.ensures.few;
       state_is = c.in_ok-state.ensures ∙ (λ i. first_state (c.partitions.ensures.value i) (c.workers.ensures.value i));
       tally_is = (λ i. record {
-        gathered = (c.in_ok-gathered.ensures.value ∙ (ap (map (λ e. (aggregating_of e.1).initial)) registry_is ∙ sym (map-map (λ a. a.initial) (λ e. aggregating_of e.1) master.registrations))) i;
+        gathered =
+            (c.in_ok-gathered.ensures.value ∙
+            (ap (map (λ e. (aggregating_of e.1).initial)) registry_is ∙ sym (map-map (λ a. a.initial) (λ e. aggregating_of e.1) master.registrations))) i;
         sent = 0;
         dropped = 0;
       });

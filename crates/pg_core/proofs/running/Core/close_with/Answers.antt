@@ -41,7 +41,10 @@ returns-in_ok-open_next-in-None-clause-right g c kept right are =
     let counts = tally_next job rows s stats are core.tally tally so_far (ap (λ t. t.gathered) c.after-tally.ensures)
     (ap (λ t. t.sent) c.after-tally.ensures ∙ ap (λ core. capped (core.tally.sent + stats.sent)) c.self.view_is)
     (ap (λ t. t.dropped) c.after-tally.ensures ∙ ap (λ core. capped (core.tally.dropped + stats.dropped)) c.self.view_is) in
-    let shows = ap (λ (gathered : List ℤ). visible_in job.deciding (record { vertices = stats.vertices; edges = stats.edges }) (s + 1) gathered) (ap (λ t. t.gathered) c.after-tally.ensures)
+    let shows = ap (λ (gathered : List ℤ). visible_in job.deciding (record {
+      vertices = stats.vertices;
+      edges = stats.edges;
+    }) (s + 1) gathered) (ap (λ t. t.gathered) c.after-tally.ensures)
     ∙ visible_next job rows s stats are in
     record {
       right = subst (IsRight job kept) (sym c.in_ok-open_next-in-None.ensures) (IsRight-next job kept core right _ tally on within shows counts);

@@ -16,7 +16,9 @@ returns-clause-places g c =
     let inside = c.self.inside in
     let registry_is = c.self.invariant.registry_is in
     let shown = c.as_slice-seen.ensures in
-    let seen = ap length shown ∙ (c.visible-visible.ensures.places ∙ (ap (λ core. length (master core.master).registrations) (sym c.self.view_is) ∙ ap length (sym registry_is))) in
+    let seen =
+    ap length shown
+    ∙ (c.visible-visible.ensures.places ∙ (ap (λ core. length (master core.master).registrations) (sym c.self.view_is) ∙ ap length (sym registry_is))) in
     length-gathered inside.registry c.as_slice-seen.result.now _ c.in_ok-stats.stats c.in_ok-stats.ensures.value seen
     ∙ (ap length registry_is ∙ ap (λ core. length (master core.master).registrations) c.self.view_is)
 
@@ -29,9 +31,12 @@ returns-clause-right g c kept right =
     let s = core.state.current in
     let n = core.limits.partitions in
     let registered = (master core.master).registrations in
-    let many = subst (λ core. length core.state.places ≡ core.limits.partitions) c.self.view_is (length-places_lawful inside.limits inside.state inside.history.items c.self.invariant.events) in
+    let many =
+    subst (λ core. length core.state.places ≡ core.limits.partitions) c.self.view_is
+    (length-places_lawful inside.limits inside.state inside.history.items c.self.invariant.events) in
     let each = subst (λ core. length core.parts ≡ core.limits.partitions) c.self.view_is c.self.invariant.each in
-    let stays = subst (λ core. (p r : ℕ) → place_at p core.state ≡ Some r → core.state.current < r → IsSome (part_at p core)) c.self.view_is c.self.invariant.stays in
+    let stays =
+    subst (λ core. (p r : ℕ) → place_at p core.state ≡ Some r → core.state.current < r → IsSome (part_at p core)) c.self.view_is c.self.invariant.stays in
     let some = subst (λ core. 0 < core.limits.partitions) c.self.view_is c.limit.ensures.are.partitions_least in
     let now = c.current.ensures ∙ ap (λ core. core.state.current) c.self.view_is in
     let registry_is = c.self.invariant.registry_is ∙ ap (λ core. (master core.master).registrations) c.self.view_is in

@@ -14,7 +14,10 @@ invariant_of-self-2 g c =
     let parts = inside.parts.items in
     let shown = inside.shown.items in
     let allowed = subst (λ core. is_allowed core.state (Close Next) ≡ true) (sym c.self.view_is) c.requires.allowed in
-    let places = subst (λ core. length c.args.tally.gathered ≡ length (g.M.MasterCompute.master core.master).registrations) (sym c.self.view_is) c.requires.places in
+    let places =
+    subst (λ core. length c.args.tally.gathered ≡ length (g.M.MasterCompute.master core.master).registrations) (sym c.self.view_is) c.requires.places in
     subst (λ state. IsLawful inside.limits declared registered inside.registry state c.push.new.self.items parts shown c.args.tally) (sym c.close.ensures)
-    (subst (λ events. IsLawful inside.limits declared registered inside.registry (after inside.state (Close Ended)) events parts shown c.args.tally) (sym c.in_ok-push.ensures.items)
+    (subst
+    (λ events. IsLawful inside.limits declared registered inside.registry (after inside.state (Close Ended)) events parts shown c.args.tally)
+    (sym c.in_ok-push.ensures.items)
     (IsLawful-end inside.limits declared registered inside.registry inside.state inside.history.items parts shown inside.tally c.self.invariant allowed c.args.tally places))

@@ -18,9 +18,11 @@ returns g c =
     let rows = core.graph in
     let n = core.limits.partitions in
     let ended = c.requires in
-    let places = subst (λ core. core.state.ended ≡ true → (p : ℕ) → p < core.limits.partitions → place_at p core.state ≡ Some (core.state.current + 1)) c.self.view_is
+    let places =
+    subst (λ core. core.state.ended ≡ true → (p : ℕ) → p < core.limits.partitions → place_at p core.state ≡ Some (core.state.current + 1)) c.self.view_is
     (place_at_end inside.limits.partitions inside.limits.workers inside.history.items inside.state c.self.invariant.events) ended in
-    let stays = subst (λ core. (p r : ℕ) → place_at p core.state ≡ Some r → core.state.current < r → IsSome (part_at p core)) c.self.view_is c.self.invariant.stays in
+    let stays =
+    subst (λ core. (p r : ℕ) → place_at p core.state ≡ Some r → core.state.current < r → IsSome (part_at p core)) c.self.view_is c.self.invariant.stays in
     let here : (p : ℕ) → p < n → IsSome (part_at p core) = λ p within. stays p (core.state.current + 1) (places p within) (omega arith) in
     let each = subst (λ core. length core.parts ≡ core.limits.partitions) c.self.view_is c.self.invariant.each in
     let some = subst (λ core. 0 < core.limits.partitions) c.self.view_is c.partitioner_of.ensures.some in
@@ -34,6 +36,8 @@ returns g c =
     let all_ended = subst (λ (n : ℕ). HaveEnded job kept rows n c.next_superstep-supersteps.result c.as_slice-parts.result.now) (sym partitions_are)
     (subst (λ (s : ℕ). HaveEnded job kept rows n s c.as_slice-parts.result.now) (sym many)
     (subst (HaveEnded job kept rows n (core.state.current + 1)) (sym parts_are) have)) in
-    let keeps = subst (KeepsEnd job kept) (sym (c.ended_of-ended.ensures ∙ ap (λ core. option_map ended_by core.kept) c.self.view_is)) (keeps_end job kept n core.kept right.beside) in
+    let keeps =
+    subst (KeepsEnd job kept) (sym (c.ended_of-ended.ensures ∙ ap (λ core. option_map ended_by core.kept) c.self.view_is))
+    (keeps_end job kept n core.kept right.beside) in
     are job kept rows policy all_ended keeps ∙ ap (λ (k : ℕ). values_of job rows (configuration job rows k)) many)
     c.values_beside.ensures

@@ -12,4 +12,5 @@ returns-clause-right g c kept right are =
     let halts = ap (λ v. v.halt) (c.visible.ensures.right kept right ∙ ap (visible_at job core.graph) now) in
     let many = ap (λ (k : ℕ). k + 1) (c.number.ensures ∙ now) in
     let most = c.limit-limit.ensures.value ∙ ap (λ core. core.limits.limit) c.self.view_is in
-    c.ending_of.ensures ∙ ending_next job core.graph core.state.current c.args.stats.now are c.visible.result.now.halt (c.number.result + 1) c.limit-limit.result halts many most
+    c.ending_of.ensures
+    ∙ ending_next job core.graph core.state.current c.args.stats.now are c.visible.result.now.halt (c.number.result + 1) c.limit-limit.result halts many most

@@ -15,7 +15,8 @@ finished-requires-clause-here g c =
     let inside = c.self.inside in
     let ended = subst (λ core. core.state.ended ≡ true) (sym c.self.view_is) c.requires in
     λ κs lives p within. c.self.invariant.stays p (inside.state.current + 1)
-    (place_at_end inside.limits.partitions inside.limits.workers inside.history.items inside.state c.self.invariant.events ended p (omega (arith, within, c.self.invariant.each)))
+    (place_at_end inside.limits.partitions inside.limits.workers inside.history.items inside.state c.self.invariant.events ended p
+    (omega (arith, within, c.self.invariant.each)))
     (omega arith)
 
 pub invariant_of-common : goal.invariant_of-common
@@ -31,22 +32,31 @@ returns g c =
     let job = job_by g.P.Computation.program g.C.MessageCombiner.combining g.M.MasterCompute.master core in
     let rows = core.graph in
     let ended = c.requires in
-    let places = subst (λ core. core.state.ended ≡ true → (p : ℕ) → p < core.limits.partitions → place_at p core.state ≡ Some (core.state.current + 1)) c.self.view_is
+    let places =
+    subst (λ core. core.state.ended ≡ true → (p : ℕ) → p < core.limits.partitions → place_at p core.state ≡ Some (core.state.current + 1)) c.self.view_is
     (place_at_end inside.limits.partitions inside.limits.workers inside.history.items inside.state c.self.invariant.events) ended in
-    let stays = subst (λ core. (p r : ℕ) → place_at p core.state ≡ Some r → core.state.current < r → IsSome (part_at p core)) c.self.view_is c.self.invariant.stays in
+    let stays =
+    subst (λ core. (p r : ℕ) → place_at p core.state ≡ Some r → core.state.current < r → IsSome (part_at p core)) c.self.view_is c.self.invariant.stays in
     let here : (p : ℕ) → p < core.limits.partitions → IsSome (part_at p core) = λ p within. stays p (core.state.current + 1) (places p within) (omega arith) in
     let each = subst (λ core. length core.parts ≡ core.limits.partitions) c.self.view_is c.self.invariant.each in
     let many = c.next_superstep-supersteps.ensures.value in
     IfOk-weaker c.finished.result _ _
     (λ done given kept right values.
     let counts = ap (λ core. core.tally) c.self.view_is ∙ tally_last job kept core right ended places here each in
-    let ends = ap (λ core. unwrap_or core.ending LimitReached) c.self.view_is ∙ ap (λ e. unwrap_or e LimitReached) (ending_last job kept core right ended places here each) in
+    let ends =
+    ap (λ core. unwrap_or core.ending LimitReached) c.self.view_is
+    ∙ ap (λ e. unwrap_or e LimitReached) (ending_last job kept core right ended places here each) in
     let lefts = subst (λ (m : ℕ). HaveLeft (core.state.current + 1) core.parts m done.1.lefts) each
     (subst₂ (λ (s : ℕ) parts. HaveLeft s parts (length parts) done.1.lefts) many (ap (λ core. core.parts) c.self.view_is) given.lefts) in
     let lefts_each = given.each ∙ (ap (λ core. length core.parts) c.self.view_is ∙ each) in
     record {
-      answers = given.answers ∙ answer_is job rows core.state.current (right.at_end ended) c.args.values inside.tally (unwrap_or inside.ending LimitReached) c.next_superstep-supersteps.result values counts ends many;
+      answers =
+          given.answers
+          ∙ answer_is job rows core.state.current (right.at_end ended) c.args.values inside.tally
+          (unwrap_or inside.ending LimitReached) c.next_superstep-supersteps.result values counts ends many;
       leaves = subst (IsLeftBy job rows core.limits.partitions) (sym given.others)
-          (left_as job kept core right ended places here each done.1.lefts inside.graph.now inside.logs inside.shown.items c.args.values lefts_each lefts (ap (λ core. core.graph) c.self.view_is) (ap (λ core. core.logs) c.self.view_is) (ap (λ core. core.shown) c.self.view_is) values);
+          (left_as job kept core right ended places here each done.1.lefts inside.graph.now inside.logs inside.shown.items c.args.values lefts_each lefts
+          (ap (λ core. core.graph) c.self.view_is) (ap (λ core. core.logs) c.self.view_is)
+          (ap (λ core. core.shown) c.self.view_is) values);
     })
     c.finished.ensures

@@ -23,8 +23,11 @@ invariant_of-self-2 g c =
     let more : inside.state.current + 1 < length shown = omega (arith, length_push inside.shown.items visible, c.self.invariant.shown_so_far) in
     let seen = c.in_ok-visible.ensures.places ∙ (ap length c.in_ok-seen.ensures ∙ places) in
     subst (λ state. IsLawful limits declared registered inside.registry state c.push-2.new.self.items parts c.push.new.self.items tally) (sym c.close.ensures)
-    (subst (λ events. IsLawful limits declared registered inside.registry (after inside.state (Close Next)) events parts c.push.new.self.items tally) (sym c.in_ok-push-2.ensures.items)
-    (subst (λ shown. IsLawful limits declared registered inside.registry (after inside.state (Close Next)) (inside.history.items ++ Close Next ∷ []) parts shown tally) (sym c.in_ok-push.ensures.items)
+    (subst
+    (λ events. IsLawful limits declared registered inside.registry (after inside.state (Close Next)) events parts c.push.new.self.items tally)
+    (sym c.in_ok-push-2.ensures.items)
+    (subst (λ shown. IsLawful limits declared registered inside.registry (after inside.state (Close Next))
+    (inside.history.items ++ Close Next ∷ []) parts shown tally) (sym c.in_ok-push.ensures.items)
     (IsLawful-next limits declared registered inside.registry inside.state inside.history.items parts shown inside.tally
     (IsLawful-shown limits declared registered inside.registry inside.state inside.history.items parts inside.shown.items inside.tally c.self.invariant visible seen) allowed tally places within more)))
 
@@ -39,6 +42,8 @@ invariant_of-self-in_err-push-2 g c =
     let tally = c.args.tally in
     let places = subst (λ core. length tally.gathered ≡ length (g.M.MasterCompute.master core.master).registrations) (sym c.self.view_is) c.requires.places in
     let seen = c.in_ok-visible.ensures.places ∙ (ap length c.in_ok-seen.ensures ∙ places) in
-    subst (λ events. IsLawful limits declared registered inside.registry inside.state events parts c.push.new.self.items inside.tally) (sym c.in_err-push-2.ensures.items)
-    (subst (λ shown. IsLawful limits declared registered inside.registry inside.state inside.history.items parts shown inside.tally) (sym c.in_ok-push.ensures.items)
+    subst (λ events. IsLawful limits declared registered inside.registry inside.state events parts c.push.new.self.items inside.tally)
+    (sym c.in_err-push-2.ensures.items)
+    (subst (λ shown. IsLawful limits declared registered inside.registry inside.state inside.history.items parts shown inside.tally)
+    (sym c.in_ok-push.ensures.items)
     (IsLawful-shown limits declared registered inside.registry inside.state inside.history.items parts inside.shown.items inside.tally c.self.invariant visible seen))

@@ -9,7 +9,9 @@ use Rattle.pg_core.proofs.running.Core.run_on.Goals as goal
 pub close-requires-after_bounds : goal.close-requires-after_bounds
 close-requires-after_bounds g c =
     let core = c.step_all.new.self in
-    let all = subst₂ (λ (s n : ℕ). ArePast s n core) c.new.ensures (ap (λ l. l.partitions) (sym c.in_ok-step_all.ensures.goes.same.limits_are)) c.in_ok-step_all.ensures.past in
+    let all =
+    subst₂ (λ (s n : ℕ). ArePast s n core) c.new.ensures
+    (ap (λ l. l.partitions) (sym c.in_ok-step_all.ensures.goes.same.limits_are)) c.in_ok-step_all.ensures.past in
     let now = c.in_ok-step_all.ensures.stays ∙ c.loop-number.invariant.stays in
     let many = length-places_lawful core.limits core.state core.history c.history.ensures.leads in
     let near = AreNear-from_Reaches core.limits.partitions core.limits.workers core.history core.state c.history.ensures.leads in
@@ -37,7 +39,9 @@ loop-number-preserved g c =
     let message_eq = g.P.Message.PartialEq.eq in
     let first = c.args.self.now in
     let core = c.step_all.new.self in
-    let all = subst₂ (λ (s n : ℕ). ArePast s n core) c.new.ensures (ap (λ l. l.partitions) (sym c.in_ok-step_all.ensures.goes.same.limits_are)) c.in_ok-step_all.ensures.past in
+    let all =
+    subst₂ (λ (s n : ℕ). ArePast s n core) c.new.ensures
+    (ap (λ l. l.partitions) (sym c.in_ok-step_all.ensures.goes.same.limits_are)) c.in_ok-step_all.ensures.past in
     let now = c.in_ok-step_all.ensures.stays ∙ c.loop-number.invariant.stays in
     let has = subst (λ closed. HasClosed closed core c.close.new.self) c.in-Next.is c.in_ok-close.ensures.core in
     let stepped = goes_further program_of combining_of master_of value_eq message_eq first c.loop-number.self core c.args.meter.now c.loop-number.meter c.step_all.new.meter c.loop-number.invariant.goes c.in_ok-step_all.ensures.goes in

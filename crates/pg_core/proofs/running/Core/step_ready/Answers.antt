@@ -31,8 +31,11 @@ stepped g c kept right =
     let taken = c.take-part.new.self in
     let taken_is = c.take-part.ensures.core in
     let promised = c.take-part.ensures.right kept right in
-    let right_there = subst (λ core. IsRight (job_by program_of combining_of master_of core) kept core) (sym taken_is) (subst (IsRight job kept) taken_is promised.0) in
-    let lent_there = subst (λ core. IsStepLent (job_by program_of combining_of master_of core) kept core p r part) (sym taken_is) (IsStepLent-without job kept core p r part promised.1) in
+    let right_there =
+    subst (λ core. IsRight (job_by program_of combining_of master_of core) kept core) (sym taken_is) (subst (IsRight job kept) taken_is promised.0) in
+    let lent_there =
+    subst (λ core. IsStepLent (job_by program_of combining_of master_of core) kept core p r part) (sym taken_is)
+    (IsStepLent-without job kept core p r part promised.1) in
     subst (λ core. HasMadeStep (job_by program_of combining_of master_of core) value_eq message_eq kept core.graph core.limits.partitions p r c.in-Ok.part c.in-Ok.sent c.args.meter.now c.step_of.new.meter) taken_is
     (subst₂ (λ part' sent'. HasMadeStep (job_by program_of combining_of master_of taken) value_eq message_eq kept taken.graph taken.limits.partitions p r part' sent' c.args.meter.now c.step_of.new.meter)
     (sym c.in-Ok.part-is) (sym c.in-Ok.sent-is)
@@ -57,7 +60,10 @@ returns-in-Ok-clause-right g c =
     on_ok_weaker c.stepped.result
     (λ keeps kept right.
     let promised = c.take-part.ensures.right kept right in
-    let kept_so = subst (λ core. IsRight (job_by program_of combining_of master_of core) kept core → IsStepOf (job_by program_of combining_of master_of core) kept core p c.in-Ok.part c.in-Ok.sent → IsRight (job_by program_of combining_of master_of core) kept c.stepped.new.self) taken_is (keeps kept) in
+    let kept_so =
+    subst (λ core. IsRight (job_by program_of combining_of master_of core) kept core → IsStepOf
+    (job_by program_of combining_of master_of core) kept core p c.in-Ok.part c.in-Ok.sent → IsRight
+    (job_by program_of combining_of master_of core) kept c.stepped.new.self) taken_is (keeps kept) in
     kept_so (subst (IsRight job kept) taken_is promised.0)
     (IsStepOf-from_HasMadeStep job kept (without_part p core) p c.take-part.result.course.place c.in-Ok.part c.in-Ok.sent g.P.Value.PartialEq.eq g.P.Message.PartialEq.eq c.args.meter.now c.step_of.new.meter c.take-part.ensures.at.place_is (stepped g c kept right)))
     c.stepped.ensures.right
@@ -69,6 +75,8 @@ returns-in-Ok-clause-counted g c =
     on_ok_weaker c.stepped.result
     (λ takes kept r right at.
     let same = same_Some c.take-part.result.course.place r (sym c.take-part.ensures.at.place_is ∙ at) in
-    subst (λ (r : ℕ). c.step_of.new.meter ≡ capped (c.args.meter.now + needed_in g.P.Value.PartialEq.eq g.P.Message.PartialEq.eq job kept core.graph (belongs core.limits.partitions c.args.partition) r)) same
+    subst (λ (r : ℕ). c.step_of.new.meter ≡ capped
+    (c.args.meter.now + needed_in g.P.Value.PartialEq.eq g.P.Message.PartialEq.eq job kept core.graph
+    (belongs core.limits.partitions c.args.partition) r)) same
     (stepped g c kept right).course.counted)
     c.stepped.ensures.core

@@ -31,7 +31,9 @@ invariant_of-self g c =
     let inside = c.self.inside in
     let declared = (g.P.Computation.program inside.program.now).declared in
     let registered = (g.M.MasterCompute.master inside.master.now).registrations in
-    subst (λ events. IsLawful inside.limits declared registered inside.registry inside.state events inside.parts.items inside.shown.items inside.tally) (sym c.in_err-note_step.ensures.refused) c.self.invariant
+    subst
+    (λ events. IsLawful inside.limits declared registered inside.registry inside.state events inside.parts.items inside.shown.items inside.tally)
+    (sym c.in_err-note_step.ensures.refused) c.self.invariant
 
 pub invariant_of-self-2 : goal.invariant_of-self-2
 invariant_of-self-2 g c =
@@ -43,8 +45,11 @@ invariant_of-self-2 g c =
     let allowed = subst (λ core. is_allowed core.state (Step p) ≡ true) (sym c.self.view_is) c.requires.allowed in
     let next = subst (λ core. IsNext core.limits.partitions core.state p part) (sym c.self.view_is) c.requires.next in
     subst (λ state. IsLawful inside.limits declared registered inside.registry state c.note_step.new.history.items c.put_part.new.parts.items inside.shown.items inside.tally) (sym c.step.ensures)
-    (subst (λ events. IsLawful inside.limits declared registered inside.registry (after inside.state (Step p)) events c.put_part.new.parts.items inside.shown.items inside.tally) (sym c.in_ok-note_step.ensures.history)
-    (subst (λ parts. IsLawful inside.limits declared registered inside.registry (after inside.state (Step p)) (inside.history.items ++ Step p ∷ []) parts inside.shown.items inside.tally) (sym c.put_part.ensures)
+    (subst (λ events. IsLawful inside.limits declared registered inside.registry
+    (after inside.state (Step p)) events c.put_part.new.parts.items inside.shown.items inside.tally)
+    (sym c.in_ok-note_step.ensures.history)
+    (subst (λ parts. IsLawful inside.limits declared registered inside.registry (after inside.state (Step p))
+    (inside.history.items ++ Step p ∷ []) parts inside.shown.items inside.tally) (sym c.put_part.ensures)
     (IsLawful-step inside.limits declared registered inside.registry inside.state inside.history.items inside.parts.items inside.shown.items inside.tally c.self.invariant p allowed part next)))
 
 pub returns-clause-core : goal.returns-clause-core
@@ -83,6 +88,9 @@ returns-clause-right g c kept right is_step =
     let p = c.args.partition in
     let job = job_by g.P.Computation.program g.C.MessageCombiner.combining g.M.MasterCompute.master core in
     let steps = StepsFrom-from_allowed core.state p c.requires.allowed in
-    let many = subst (λ core. length core.state.places ≡ core.limits.partitions) c.self.view_is (length-places_lawful inside.limits inside.state inside.history.items c.self.invariant.events) in
+    let many =
+    subst (λ core. length core.state.places ≡ core.limits.partitions) c.self.view_is
+    (length-places_lawful inside.limits inside.state inside.history.items c.self.invariant.events) in
     let each = subst (λ core. length core.parts ≡ core.limits.partitions) c.self.view_is c.self.invariant.each in
-    IsRight-step job kept core p right c.requires.allowed c.args.part c.args.sent _ is_step (returns-clause-core g c) (omega (arith, some_within core.state.places p steps.from steps.at, many, each))
+    IsRight-step job kept core p right c.requires.allowed c.args.part c.args.sent _ is_step (returns-clause-core g c)
+    (omega (arith, some_within core.state.places p steps.from steps.at, many, each))

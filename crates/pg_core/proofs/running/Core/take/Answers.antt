@@ -31,7 +31,8 @@ returns-clause-part g c =
     let ready = subst (λ core. is_ready core p ≡ true) (sym c.self.view_is) c.requires in
     let some = (and_parts (is_allowed inside.state (Step p)) _ ready).1 in
     subst (λ core. part_at p core ≡ Some c.unwrap.result) c.self.view_is
-    (here_is parts p c.index_mut.result.now c.unwrap.result some (c.index_mut.ensures.value ∙ ap (λ (p : ℕ). get_or parts p c.index_mut.result.now) c.number.ensures)
+    (here_is parts p c.index_mut.result.now c.unwrap.result some (c.index_mut.ensures.value
+    ∙ ap (λ (p : ℕ). get_or parts p c.index_mut.result.now) c.number.ensures)
     (sym c.take.ensures.value ∙ c.unwrap.ensures))
 
 pub returns-clause-at : goal.returns-clause-at
@@ -41,7 +42,9 @@ returns-clause-at g c =
     let p = c.args.partition in
     let ready = subst (λ core. is_ready core p ≡ true) (sym c.self.view_is) c.requires in
     let some = (and_parts (is_allowed inside.state (Step p)) _ ready).1 in
-    let here = here_is parts p c.index_mut.result.now c.unwrap.result some (c.index_mut.ensures.value ∙ ap (λ (p : ℕ). get_or parts p c.index_mut.result.now) c.number.ensures) (sym c.take.ensures.value ∙ c.unwrap.ensures) in
+    let here =
+    here_is parts p c.index_mut.result.now c.unwrap.result some (c.index_mut.ensures.value
+    ∙ ap (λ (p : ℕ). get_or parts p c.index_mut.result.now) c.number.ensures) (sym c.take.ensures.value ∙ c.unwrap.ensures) in
     subst (λ core. IsPartAt core.limits.partitions core.state p c.unwrap.result) c.self.view_is (c.self.invariant.here p c.unwrap.result here)
 
 pub returns-clause-right : goal.returns-clause-right
@@ -53,9 +56,13 @@ returns-clause-right g c kept right =
     let job = job_by g.P.Computation.program g.C.MessageCombiner.combining g.M.MasterCompute.master core in
     let was = and_parts (is_allowed core.state (Step p)) _ c.requires in
     let some = subst (λ core. IsSome (part_at p core)) (sym c.self.view_is) was.1 in
-    let here = here_is parts p c.index_mut.result.now c.unwrap.result some (c.index_mut.ensures.value ∙ ap (λ (p : ℕ). get_or parts p c.index_mut.result.now) c.number.ensures) (sym c.take.ensures.value ∙ c.unwrap.ensures) in
+    let here =
+    here_is parts p c.index_mut.result.now c.unwrap.result some (c.index_mut.ensures.value
+    ∙ ap (λ (p : ℕ). get_or parts p c.index_mut.result.now) c.number.ensures) (sym c.take.ensures.value ∙ c.unwrap.ensures) in
     let there = subst (λ core. part_at p core ≡ Some c.unwrap.result) c.self.view_is here in
-    let many = subst (λ core. length core.state.places ≡ core.limits.partitions) c.self.view_is (length-places_lawful inside.limits inside.state inside.history.items c.self.invariant.events) in
+    let many =
+    subst (λ core. length core.state.places ≡ core.limits.partitions) c.self.view_is
+    (length-places_lawful inside.limits inside.state inside.history.items c.self.invariant.events) in
     let new = (λ i. record {
       program = inside.program.now;
       combiner = inside.combiner.now;
@@ -71,8 +78,11 @@ returns-clause-right g c kept right =
       tally = inside.tally;
       ending = inside.ending;
       kept = inside.kept;
-    }) ∙ ap (without_part p) c.self.view_is in
-    (subst (IsRight job kept) (sym new) (IsRight-take job kept core p right was.0 (some_inside core.parts p was.1)), IsStepLent-taken job kept core p right was.0 many c.unwrap.result there)
+    }) ∙ ap (without_part p) c.self.view_is in (
+      subst (IsRight job kept) (sym new)
+          (IsRight-take job kept core p right was.0 (some_inside core.parts p was.1)),
+      IsStepLent-taken job kept core p right was.0 many c.unwrap.result there,
+    )
 
 pub returns-clause-gone : goal.returns-clause-gone
 returns-clause-gone g c =
@@ -80,7 +90,8 @@ returns-clause-gone g c =
     let p = c.args.partition in
     let ready = subst (λ core. is_ready core p ≡ true) (sym c.self.view_is) c.requires in
     let some = (and_parts (is_allowed inside.state (Step p)) _ ready).1 in
-    ap (λ (l : List _). get_or l p None) (λ i. set inside.parts.items (c.number.ensures i) (c.take.ensures.after i)) ∙ get_or-set_same inside.parts.items p None None (some_inside inside.parts.items p some)
+    ap (λ (l : List _). get_or l p None) (λ i. set inside.parts.items (c.number.ensures i) (c.take.ensures.after i))
+    ∙ get_or-set_same inside.parts.items p None None (some_inside inside.parts.items p some)
 
 pub returns-clause-reached : goal.returns-clause-reached
 returns-clause-reached g c =

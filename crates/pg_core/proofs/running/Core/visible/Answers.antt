@@ -9,4 +9,5 @@ returns-clause-right g c kept right =
     let core = c.args.self.now in
     let job = job_by g.P.Computation.program g.C.MessageCombiner.combining g.M.MasterCompute.master core in
     made_at (visible_at job core.graph) core.shown (core.state.current + 1) c.args.superstep c.index.result.now right.shown (omega (arith, c.requires))
-    (c.index.ensures ∙ (ap (λ (s : ℕ). get_or c.self.inside.shown.items s c.index.result.now) c.number.ensures ∙ ap (λ core. get_or core.shown c.args.superstep c.index.result.now) c.self.view_is))
+    (c.index.ensures ∙ (ap (λ (s : ℕ). get_or c.self.inside.shown.items s c.index.result.now) c.number.ensures
+    ∙ ap (λ core. get_or core.shown c.args.superstep c.index.result.now) c.self.view_is))

@@ -30,7 +30,8 @@ returns-clause-stepped g c =
     if_ok_both c.concluded_alone.result _ _ _
     (λ stepped concluded counted job kept rows n p s logs program combining holds past within has bundled sees.
     subst (HasStepped job value_eq message_eq kept rows n p s stepped.course stepped.sent c.args.stage.meter) (sym counted)
-    (alone_steps value_eq message_eq c.args.self (g.P.Computation.program c.args.program.now) (g.C.MessageCombiner.combining c.args.combiner.now) c.args.stage.view
+    (alone_steps value_eq message_eq c.args.self (g.P.Computation.program c.args.program.now)
+    (g.C.MessageCombiner.combining c.args.combiner.now) c.args.stage.view
     c.args.stage.meter c.args.bundles.now c.in_ok-played.played c.in_ok-played.ensures.played c.in_ok-played.ensures.some stepped.course stepped.sent
     concluded job kept rows n p s logs program combining holds past within has bundled sees))
     c.concluded_alone.ensures.concluded c.concluded_alone.ensures.counted

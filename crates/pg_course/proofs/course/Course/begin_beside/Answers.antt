@@ -29,7 +29,8 @@ returns-clause-differing g c id =
 
 pub returns-clause-rise : goal.returns-clause-rise
 returns-clause-rise g c =
-    subst (IsStrictlySortedBy nat_cmp) (sym (ap₂ ◌++◌ c.of.ensures.restless c.of.ensures.resting ∙ append-nil c.rising-differing.result.items)) c.rising-differing.ensures.rise
+    subst (IsStrictlySortedBy nat_cmp)
+    (sym (ap₂ ◌++◌ c.of.ensures.restless c.of.ensures.resting ∙ append-nil c.rising-differing.result.items)) c.rising-differing.ensures.rise
 
 pub returns-clause-holds : goal.returns-clause-holds
 returns-clause-holds g c job kept program missing whole touched =
@@ -53,7 +54,8 @@ returns-clause-holds g c job kept program missing whole touched =
     let old : IsWhole job kept n p c.args.old = subst (λ r. IsWhole job kept r.partitions r.partition c.args.old) (sym c.rows.view_is) whole in
     let same : AreTouched c.args.touched.now kept graph = subst (λ r. AreTouched c.args.touched.now kept r.graph) (sym c.rows.view_is) touched in
     subst (λ r. Holds job (Some kept) r.graph r.partitions r.partition 0 course) c.rows.view_is
-    (holds_beside job kept graph n p c.in_ok-changes.ensures.rising program' program c.args.missing (sym missing) c.args.old old ids c.rising-differing.ensures.rise
+    (holds_beside job kept graph n p c.in_ok-changes.ensures.rising program' program c.args.missing
+    (sym missing) c.args.old old ids c.rising-differing.ensures.rise
     (λ id other. same id (sym (ap (λ l. has_id l id) c.in_ok-copied.ensures) ∙ (sym (c.rising-differing.ensures.same id) ∙ other)))
     course refl refl refl c.new.ensures
     (c.in_ok-trace.ensures ∙ ap (λ l. record c.args.old { initial = with_first l c.args.old.initial })

@@ -54,7 +54,8 @@ returns-in_ok-played-in-Some-clause-stepped g c =
     (subst (λ h. IsReplayed value_eq message_eq combining' h old c.args.old_logs.now program' c.args.logs.now c.args.old_view.now c.args.stage.view
     c.args.bundles.now c.args.stage.meter played) rest c.in_ok-played-in-Some.ensures.replayed)
     stepped.course stepped.sent
-    (subst (λ h. IsConcluded value_eq message_eq combining' h old c.args.old_logs.now played.looked_at.items played.changes.items stepped.course stepped.sent) rest
+    (subst
+    (λ h. IsConcluded value_eq message_eq combining' h old c.args.old_logs.now played.looked_at.items played.changes.items stepped.course stepped.sent) rest
     concluded) in
     subst (HasStepped job value_eq message_eq kept rows n p s stepped.course stepped.sent c.args.stage.meter) (sym counted)
     (steps job kept rows n p s program combining holds within has bundled sees lent))

@@ -25,5 +25,6 @@ returns-clause-stepped g c =
       | inr e ↦ inr (sym saw ∙ e)
     ] in
     h job kept rows n p s c.args.logs.now program combining holds
-    (past_without job kept n p s c.args.logs.now (option_copied c.args.old_logs) old_visible missing old) within has (c.as_slice-in-None.ensures.value ∙ bundled) sees)
+    (past_without job kept n p s c.args.logs.now (option_copied c.args.old_logs) old_visible missing old) within has
+    (c.as_slice-in-None.ensures.value ∙ bundled) sees)
     c.alone.ensures.stepped

@@ -24,7 +24,8 @@ returns-clause-holds g c job kept program missing same left touched moved =
     let at = stats_of job kept n p (run_length job kept) 0 old.stats.items stats_are (let least : 0 ≤ run_length job kept = omega arith in least) in
     let first = c.in_ok-first.first in
     let begun = c.in_ok-first.ensures old.trace earlier begins.kept (ap (λ l. slice_get l 0) c.as_slice.ensures.value ∙ at) in
-    let counted = recensus_is job kept graph n p old.trace course.trace whole.run holds.run c.args.touched.now (differing course) begins.rise begins.differing touched
+    let counted =
+    recensus_is job kept graph n p old.trace course.trace whole.run holds.run c.args.touched.now (differing course) begins.rise begins.differing touched
     old.stats.items stats_are earlier at first.census begun.census in
     let reckoned = c.in_ok-reckoning.ensures in
     record {

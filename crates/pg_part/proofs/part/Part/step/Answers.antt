@@ -23,7 +23,10 @@ returns-clause-stepped g c job kept rows n p r program combining same held lent 
     let after = next_is job rows n p r some registry same before course sent stepped.to_each c.args.logs.now next
     kept held.stats stepped.holds stepped.changed_are stepped.sends _ _ beside is_next in
     record {
-      course = subst (λ (m : ℕ). HasStepped job g.V.PartialEq.eq g.M.PartialEq.eq kept rows n p r course sent m c.step.new.meter) c.copy-counted.ensures stepped;
-      stats = has_next job kept rows n p r before _ held.stats (reckoned.graph_is ∙ ap (λ s. s.graph) as_before) (reckoned.moved_are ∙ ap (λ s. s.moved) as_before) (reckoned.old_stats_are ∙ ap (λ s. s.old_stats) as_before)
+      course =
+          subst (λ (m : ℕ). HasStepped job g.V.PartialEq.eq g.M.PartialEq.eq kept rows n p r course sent m c.step.new.meter) c.copy-counted.ensures stepped;
+      stats =
+          has_next job kept rows n p r before _ held.stats (reckoned.graph_is ∙ ap (λ s. s.graph) as_before)
+          (reckoned.moved_are ∙ ap (λ s. s.moved) as_before) (reckoned.old_stats_are ∙ ap (λ s. s.old_stats) as_before)
           next (reckoned.stats_are ∙ ap (λ s. s.stats ++ next ∷ []) as_before) after;
     }

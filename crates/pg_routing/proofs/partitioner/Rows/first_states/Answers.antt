@@ -6,4 +6,5 @@ use Rattle.pg_routing.proofs.partitioner.Rows.first_states.Goals as goal
 pub returns-clause-rise : goal.returns-clause-rise
 returns-clause-rise g c =
     subst StatesRise (sym c.in_ok-states.ensures.states)
-    (states_rise (g.P.Computation.program c.args.program.now) c.self.inside.partitions c.self.inside.partition c.self.inside.graph.now c.in_ok-states.ensures.rising)
+    (states_rise
+    (g.P.Computation.program c.args.program.now) c.self.inside.partitions c.self.inside.partition c.self.inside.graph.now c.in_ok-states.ensures.rising)
