@@ -326,7 +326,7 @@ module _ {V M : Type 0} (job : Job V M) (kept : Option Rows) {P C A : Type 0} (c
         })
 
 -- what a part's step promises is what a step taken in asks for
- pub IsStepOf-from_HasMadeStep : {V M : Type 0} (job : Job V M) (kept : Option Rows) {P C A : Type 0} (core : Progress P C A V M) (p r : ℕ)
+pub IsStepOf-from_HasMadeStep : {V M : Type 0} (job : Job V M) (kept : Option Rows) {P C A : Type 0} (core : Progress P C A V M) (p r : ℕ)
     (part : PartState V M) (sent : List (Logged M)) (value_eq : V → V → Bool) (message_eq : M → M → Bool) (calls calls_after : ℕ)
     → place_at p core.state ≡ Some r
     → parts_of.HasMadeStep job value_eq message_eq kept core.graph core.limits.partitions p r part sent calls calls_after
