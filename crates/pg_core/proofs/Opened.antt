@@ -31,11 +31,8 @@ module _ {V M : Type 0} (job : Job V M) (rows : Rows) where
   unfolding configuration first
   visible_first gathered are =
       let standings = map (beginning job.program) rows in
-      let totals : record { vertices = length rows; edges = capped (edge_count rows) } ≡ record {
-        vertices = length standings;
-        edges = capped
-            (edges_of standings);
-      } =
+      let edges : ℕ = capped (edges_of standings) in
+      let totals : record { vertices = length rows; edges = capped (edge_count rows) } ≡ record { vertices = length standings; edges = edges } =
       (λ i. record { vertices = sym (length-map rows (beginning job.program)) i; edges = capped (sym (beginning-edges job.program rows) i) }) in
       (λ i. visible_in job.deciding (totals i) 0 (are i))
 
