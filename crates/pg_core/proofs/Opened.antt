@@ -31,8 +31,8 @@ module _ {V M : Type 0} (job : Job V M) (rows : Rows) where
   unfolding configuration first
   visible_first gathered are =
       let standings = map (beginning job.program) rows in
-      let totals : record { vertices = length rows; edges = capped (edge_count rows) } ≡ record { vertices = length standings; edges = capped
-          (edges_of standings) } =
+      let edges : ℕ = capped (edges_of standings) in
+      let totals : record { vertices = length rows; edges = capped (edge_count rows) } ≡ record { vertices = length standings; edges = edges } =
       (λ i. record { vertices = sym (length-map rows (beginning job.program)) i; edges = capped (sym (beginning-edges job.program rows) i) }) in
       (λ i. visible_in job.deciding (totals i) 0 (are i))
 
@@ -63,7 +63,7 @@ module _ {V M : Type 0} (program : Program V M) (master : Master) (combining : O
   first_place : (p r : ℕ) → place_at p (first_state limits.partitions limits.workers) ≡ Some r → (p < limits.partitions) × (r ≡ 0)
   first_place p r at =
       let within : p < limits.partitions =
-          subst (λ (n : ℕ). p < n) (length-first limits.partitions limits.workers) (some_within (first_state limits.partitions limits.workers).places p r at) in
+      subst (λ (n : ℕ). p < n) (length-first limits.partitions limits.workers) (some_within (first_state limits.partitions limits.workers).places p r at) in
       let zero_there : Some r ≡ Some 0 = sym at ∙ starts_at limits.partitions limits.workers p within in
       (within, cc)
 
@@ -93,7 +93,7 @@ module _ {V M : Type 0} (program : Program V M) (master : Master) (combining : O
         gathered_places = ap (λ (t : Tally). length t.gathered) started.tally_is ∙ (length-map _ _ ∙ length-map _ _);
       } in
       subst (λ (s : State). IsLawful limits program.declared master.registrations start.registry s [] parts start.shown.items start.tally)
-          (sym started.state_is) lawful
+      (sym started.state_is) lawful
 
   pub IsRight-opened : {P C A : Type 0} (core : Progress P C A V M) → AreLimits limits → core.graph ≡ rows → core.limits ≡ limits
       → core.parts ≡ parts → core.state ≡ first_state limits.partitions limits.workers → ((s p q : ℕ) → slot_at core.logs s p q ≡ None)
@@ -126,7 +126,7 @@ module _ {V M : Type 0} (program : Program V M) (master : Master) (combining : O
       by_place s p (Some r) at past = let none = (first_place p r at).1 in let less : s < r = ltb-true s r past in omega (arith, none, less)
 
 -- a core that has just opened is of the job that it was opened with
- pub job_as_opened : {P C A V M : Type 0} (program_of : P → Program V M) (combining_of : C → Option (Combining M)) (master_of : A → Master)
+pub job_as_opened : {P C A V M : Type 0} (program_of : P → Program V M) (combining_of : C → Option (Combining M)) (master_of : A → Master)
     (core : Progress P C A V M) (program : P) (combiner : C) (master : A) (graph : Rows) (limits : Limits) (run : ℕ)
     → IsOpened core program combiner master graph limits run
     → job_of (program_of program) (combining_of combiner) (master_of master) limits.missing limits.limit ≡ job_by program_of combining_of master_of core
@@ -147,7 +147,7 @@ module _ {V M : Type 0} (program : Program V M) (combining : Option (Combining M
       → HaveBegunBeside program limits.missing registered rows touched old.graph old.lefts limits.partitions limits.partitions parts
       → IsLeftBy (job_of program combining master limits.missing limits.limit) kept limits.partitions old → AreTouched touched kept rows
       → (p : ℕ) → p < limits.partitions → HasBegun (job_of program combining master limits.missing limits.limit)
-          (Some kept) rows limits.partitions p (get_or parts p None)
+      (Some kept) rows limits.partitions p (get_or parts p None)
   have_begun_beside touched old kept begun left untouched =
       let job : Job V M = job_of program combining master limits.missing limits.limit in
       let begins = subst (λ (r : Rows). HaveBegunBeside program limits.missing registered rows touched r old.lefts limits.partitions limits.partitions parts) left.graph_is begun in

@@ -92,7 +92,7 @@ module _ {V M : Type 0} (limits : Limits) (declared : Declared) (registered regi
       let within : p < length parts = part_within p steps.from steps.at in
       let own : get_or (set parts p (Some part)) p None ≡ Some part = get_or-set_same parts p (Some part) None within in
       let kept : (q : ℕ) → q ≢ p → get_or (set parts p (Some part)) q None ≡ get_or parts q None =
-          λ q apart. get_or-set_other parts p q (Some part) None apart in
+      λ q apart. get_or-set_other parts p q (Some part) None apart in
       record {
         registry_is = lawful.registry_is;
         few = lawful.few;
@@ -160,22 +160,22 @@ IsLentBeside-kept {V} {M} job (Some old) rows n p r logs (Some kept) mine keeps 
     elim (cases_lt r (run_length job old)) [
       | inl less ↦ (
           let there : logs_in r (Some kept) ≡ Some kept.logs =
-              cond-true (nat_lt r (length kept.shown)) (Some kept.logs) None (lt-ltb r (length kept.shown) (omega (arith, many, less))) in
+          cond-true (nat_lt r (length kept.shown)) (Some kept.logs) None (lt-ltb r (length kept.shown) (omega (arith, many, less))) in
           let shows : visible_in r (Some kept) ≡ Some (visible_at job old r) =
-              ap (λ l. slice_get l r) keeps.shown ∙ slice_get-made (visible_at job old) (run_length job old) r less in
+          ap (λ l. slice_get l r) keeps.shown ∙ slice_get-made (visible_at job old) (run_length job old) r less in
           let lends : LendsLogs job old n p r logs kept.logs = record {
             there = less;
             received = λ s q before within. keeps.sent s q p (omega (arith, before, less)) within mine;
             sent = λ q within. keeps.sent r p q less mine within;
             told =
                 λ s q before within. TellsAt-from_sent job old rows n q p s (slot_at kept.logs s q p) (slot_at logs s q p)
-                    (omega (arith, before, less)) (keeps.sent s q p (omega (arith, before, less)) within mine) (sent s q before within);
+                (omega (arith, before, less)) (keeps.sent s q p (omega (arith, before, less)) within mine) (sent s q before within);
           } in
           subst₂ (IsLentBeside job (Some old) n p r logs) (sym there) (sym shows) (lends, refl)
           )
       | inr more ↦ (
           let gone : logs_in r (Some kept) ≡ None =
-              cond-false (nat_lt r (length kept.shown)) (Some kept.logs) None (le-ltb r (length kept.shown) (omega (arith, many, more))) in
+          cond-false (nat_lt r (length kept.shown)) (Some kept.logs) None (le-ltb r (length kept.shown) (omega (arith, many, more))) in
           subst (λ o. IsLentBeside job (Some old) n p r logs o (visible_in r (Some kept))) (sym gone) more
           )
     ]
@@ -209,12 +209,12 @@ module _ {V M : Type 0} (job : Job V M) (kept : Option Rows) {P C A : Type 0} (c
       let steps = StepsFrom-from_allowed core.state p allowed in
       let n : ℕ = core.limits.partitions in
       let holds : HoldsShare job kept core.graph n p steps.from part =
-          subst (λ place. HoldsAt job kept core.graph n p place part) steps.at (right.parts p part at) in
+      subst (λ place. HoldsAt job kept core.graph n p place part) steps.at (right.parts p part at) in
       let p_within : p < n = subst (λ (k : ℕ). p < k) many (some_within core.state.places p steps.from steps.at) in
       let is : steps.from ≡ part.course.place = sym holds.course.place_is in
       let sent : (s q : ℕ) → s + 1 ≡ steps.from → q < n → IsSentTo job kept core.graph n q p s (slot_at core.logs s q p) =
       (λ s q before within. right.logs.sent s q p
-          (past s q before (place_at q core.state) (steps.others q (subst (λ (k : ℕ). q < k) (sym many) within))) p_within) in
+      (past s q before (place_at q core.state) (steps.others q (subst (λ (k : ℕ). q < k) (sym many) within))) p_within) in
       let lent : HasMessages job core.graph n p steps.from core.logs =
       (λ s q before within. sent_is s q (slot_at core.logs s q p) (sent s q before within)) in
       subst (λ (r : ℕ). IsStepLent job kept core p r part) is (record {
@@ -255,7 +255,7 @@ module _ {V M : Type 0} (job : Job V M) (kept : Option Rows) {P C A : Type 0} (c
           sent = λ s u q past within. elim (cases_eq u p) [
             | inl same ↦ subst (λ (u : ℕ). IsSentTo job kept core.graph n u q s (slot_at new.logs s u q)) (sym same)
                 (let before : is_past s (Some (r + 1)) ≡ true = sym (ap (is_past s) own_place) ∙
-                    (ap (λ (u : ℕ). is_past s (place_at u (after core.state (Step p)))) (sym same) ∙ past) in
+                (ap (λ (u : ℕ). is_past s (place_at u (after core.state (Step p)))) (sym same) ∙ past) in
                 elim (cases_eq s r) [
                   | inl now ↦ (
                       let here : (p == p) && ((r == r) && nat_lt q (length sent)) ≡ true =
@@ -263,12 +263,12 @@ module _ {V M : Type 0} (job : Job V M) (kept : Option Rows) {P C A : Type 0} (c
                       ∙ (ap (λ b. b && nat_lt q (length sent)) (eq-eqb r r refl) ∙ lt-ltb q (length sent) (omega (arith, is_step.to_each, within))) in
                       subst (λ (s : ℕ). IsSentTo job kept core.graph n p q s (slot_at new.logs s p q)) (sym now)
                       (subst (IsSentTo job kept core.graph n p q r)
-                          (sym (put r p q ∙ cond-true _ (slice_get sent q) (slot_at core.logs r p q) here))
-                          (is_step.sends r q steps.at within))
+                      (sym (put r p q ∙ cond-true _ (slice_get sent q) (slot_at core.logs r p q) here))
+                      (is_step.sends r q steps.at within))
                       )
                   | inr apart ↦ (
                       let still : is_past s (place_at p core.state) ≡ true =
-                          ap (is_past s) steps.at ∙ lt-ltb s r (omega (arith, ltb-true s (r + 1) before, apart)) in
+                      ap (is_past s) steps.at ∙ lt-ltb s r (omega (arith, ltb-true s (r + 1) before, apart)) in
                       subst (IsSentTo job kept core.graph n p q s) (sym (earlier s q apart)) (right.logs.sent s p q still within)
                       )
                 ])
@@ -278,7 +278,7 @@ module _ {V M : Type 0} (job : Job V M) (kept : Option Rows) {P C A : Type 0} (c
           no_more = λ s u q not_yet. elim (cases_eq u p) [
             | inl same ↦ subst (λ (u : ℕ). slot_at new.logs s u q ≡ None) (sym same)
                 (let none : (is_past s (Some (r + 1)) && nat_lt q n) ≡ false = ap (λ place. is_past s place && nat_lt q n) (sym own_place) ∙
-                    (ap (λ (u : ℕ). is_past s (place_at u (after core.state (Step p))) && nat_lt q n) (sym same) ∙ not_yet) in
+                (ap (λ (u : ℕ). is_past s (place_at u (after core.state (Step p))) && nat_lt q n) (sym same) ∙ not_yet) in
                 let before : (is_past s (place_at p core.state) && nat_lt q n) ≡ false =
                 (elim (and_cases (nat_lt s (r + 1)) (nat_lt q n) none) [
                   | inl late ↦ and_left _ (nat_lt q n) (ap (is_past s) steps.at ∙ le-ltb s r (omega (arith, ltb-false s (r + 1) late)))
@@ -296,7 +296,7 @@ module _ {V M : Type 0} (job : Job V M) (kept : Option Rows) {P C A : Type 0} (c
                   | inr apart ↦ earlier s q apart ∙ right.logs.no_more s p q before
                 ])
             | inr apart ↦ elsewhere s u q apart
-            ∙ right.logs.no_more s u q (ap (λ place. is_past s place && nat_lt q n) (sym (place_after_other core.state p u apart)) ∙ not_yet)
+                ∙ right.logs.no_more s u q (ap (λ place. is_past s place && nat_lt q n) (sym (place_after_other core.state p u apart)) ∙ not_yet)
           ];
         }
 
@@ -326,7 +326,7 @@ module _ {V M : Type 0} (job : Job V M) (kept : Option Rows) {P C A : Type 0} (c
         })
 
 -- what a part's step promises is what a step taken in asks for
- pub IsStepOf-from_HasMadeStep : {V M : Type 0} (job : Job V M) (kept : Option Rows) {P C A : Type 0} (core : Progress P C A V M) (p r : ℕ)
+pub IsStepOf-from_HasMadeStep : {V M : Type 0} (job : Job V M) (kept : Option Rows) {P C A : Type 0} (core : Progress P C A V M) (p r : ℕ)
     (part : PartState V M) (sent : List (Logged M)) (value_eq : V → V → Bool) (message_eq : M → M → Bool) (calls calls_after : ℕ)
     → place_at p core.state ≡ Some r
     → parts_of.HasMadeStep job value_eq message_eq kept core.graph core.limits.partitions p r part sent calls calls_after
@@ -335,7 +335,7 @@ IsStepOf-from_HasMadeStep job kept core p r part sent value_eq message_eq calls 
   holds =
       λ s is. let same : r ≡ s = same_Some r s (sym at ∙ is) in
       subst (λ (s : ℕ). HoldsShare job kept core.graph core.limits.partitions p (s + 1) part) same
-          (record { course = stepped.course.holds; stats = stepped.stats });
+      (record { course = stepped.course.holds; stats = stepped.stats });
   to_each = stepped.course.to_each;
   sends =
       λ s q is within. let same : r ≡ s = same_Some r s (sym at ∙ is) in
@@ -353,7 +353,7 @@ set_twice (z ∷ zs) zero x y = refl
 set_twice (z ∷ zs) (suc p) x y = ap (λ l. z ∷ l) (set_twice zs p x y)
 
 -- a step that was taken in after its part was taken
- pub HasMadeStep-from_TakesIn : {P C A V M : Type 0} (core : Progress P C A V M) (p : ℕ) (part : PartState V M) (sent : List (Logged M))
+pub HasMadeStep-from_TakesIn : {P C A V M : Type 0} (core : Progress P C A V M) (p : ℕ) (part : PartState V M) (sent : List (Logged M))
     (new : Progress P C A V M)
     → TakesIn p part sent (without_part p core) new → HasMadeStep p core new
 HasMadeStep-from_TakesIn core p part sent new takes = record {
