@@ -32,8 +32,8 @@ use Rattle.pg_stats.proofs.LawsStats.{are_stats_after}
 
 -- ---- what is so of every run
 
-module _ {V M : Type 0} (limits : Limits) (declared : Declared) (registered registry : Registered) (state : State) (history : List Event)
-    (parts : List (Option (PartState V M))) (shown : List Visible) (tally : Tally)
+module _ {V M : Type 0} {limits : Limits} {declared : Declared} {registered registry : Registered} {state : State} {history : List Event}
+    {parts : List (Option (PartState V M))} {shown : List Visible} {tally : Tally}
     (lawful : IsLawful limits declared registered registry state history parts shown tally) where
   -- something was shown that isn't taken in yet
   pub IsLawful-shown : (visible : Visible) → length visible.values ≡ length registered

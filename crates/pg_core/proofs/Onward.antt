@@ -224,8 +224,8 @@ module _ {P C A V M : Type 0} (program_of : P → Program V M) (combining_of : C
   pub goes_nowhere : (a : Progress P C A V M) (x : ℕ) → Goes a a x x
   goes_nowhere a x = record { same = IsSameRun-refl a; right = λ kept right. right; counted = λ kept right. refl }
 
-  pub goes_further : (a b c : Progress P C A V M) (x y z : ℕ) → Goes a b x y → Goes b c y z → Goes a c x z
-  goes_further a b c x y z first second =
+  pub goes_further : {a b c : Progress P C A V M} {x y z : ℕ} → Goes a b x y → Goes b c y z → Goes a c x z
+  goes_further {a} {b} {c} {x} {y} {z} first second =
       let next : GoesOn value_eq message_eq (job_at a) b c y z = subst (λ job. GoesOn value_eq message_eq job b c y z) (job_same a b first.same) second in
       record {
         same = IsSameRun-trans a b c first.same second.same;
@@ -237,11 +237,11 @@ module _ {P C A V M : Type 0} (program_of : P → Program V M) (combining_of : C
             ∙ first.counted kept right;
       }
 
-  pub goes_by_step : (a b : Progress P C A V M) (p r x y : ℕ) → HasMadeStep p a b → p < a.limits.partitions → place_at p a.state ≡ Some r
+  pub goes_by_step : {a b : Progress P C A V M} {p r x y : ℕ} → HasMadeStep p a b → p < a.limits.partitions → place_at p a.state ≡ Some r
       → r ≤ a.state.current → ((kept : Option Rows) → IsRight (job_at a) kept a → IsRight (job_at a) kept b)
       → ((kept : Option Rows) (r : ℕ) → IsRight (job_at a) kept a → place_at p a.state ≡ Some r → y ≡ capped
       (x + needed_in value_eq message_eq (job_at a) kept a.graph (belongs a.limits.partitions p) r)) → Goes a b x y
-  goes_by_step a b p r x y made within at reached right counts = record {
+  goes_by_step {a} {b} {p} {r} {x} {y} made within at reached right counts = record {
     same = same_by_step p a b made;
     right = right;
     counted = λ kept is_right.
@@ -253,9 +253,9 @@ module _ {P C A V M : Type 0} (program_of : P → Program V M) (combining_of : C
         (still_step value_eq message_eq (job_at a) kept a.graph a.limits.partitions a.state p r within at (omega (arith, reached, is_right.within)));
   }
 
-  pub goes_by_close : (closed : Closed) (a b : Progress P C A V M) (x : ℕ) → HasClosed closed a b
+  pub goes_by_close : {closed : Closed} {a b : Progress P C A V M} {x : ℕ} → HasClosed closed a b
       → ((kept : Option Rows) → IsRight (job_at a) kept a → ClosesRight (job_at a) kept closed a b) → Goes a b x x
-  goes_by_close closed a b x has closes = record {
+  goes_by_close {closed} {a} {b} {x} has closes = record {
     same = same_by_close closed a b has;
     right = λ kept right. (closes kept right).right;
     counted =
@@ -270,7 +270,7 @@ module _ {P C A V M : Type 0} (program_of : P → Program V M) (combining_of : C
       unmoved Ended kept = refl
 
   -- what was counted once the run has ended
-  module _ (a b : Progress P C A V M) (x y : ℕ) (goes : Goes a b x y) (ended : b.state.ended ≡ true)
+  module _ {a b : Progress P C A V M} {x y : ℕ} (goes : Goes a b x y) (ended : b.state.ended ≡ true)
       (places : (p : ℕ) → p < b.limits.partitions → place_at p b.state ≡ Some (b.state.current + 1)) (fits : y ≡ capped y)
       (kept : Option Rows) (right : IsRight (job_at a) kept a) where
     pub counted_at_end : y ≡ capped (x + still_needed value_eq message_eq (job_at a) kept a.graph a.limits.partitions a.state)

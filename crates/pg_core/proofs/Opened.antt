@@ -127,10 +127,10 @@ module _ {V M : Type 0} (program : Program V M) (master : Master) (combining : O
 
 -- a core that has just opened is of the job that it was opened with
 pub job_as_opened : {P C A V M : Type 0} (program_of : P → Program V M) (combining_of : C → Option (Combining M)) (master_of : A → Master)
-    (core : Progress P C A V M) (program : P) (combiner : C) (master : A) (graph : Rows) (limits : Limits) (run : ℕ)
+    {core : Progress P C A V M} {program : P} {combiner : C} {master : A} {graph : Rows} {limits : Limits} {run : ℕ}
     → IsOpened core program combiner master graph limits run
     → job_of (program_of program) (combining_of combiner) (master_of master) limits.missing limits.limit ≡ job_by program_of combining_of master_of core
-job_as_opened program_of combining_of master_of core program combiner master graph limits run opened = λ i.
+job_as_opened program_of combining_of master_of opened = λ i.
     let l : Limits = sym opened.limits_are i in
     job_of (program_of (sym opened.program_is i)) (combining_of (sym opened.combiner_is i)) (master_of (sym opened.master_is i)) l.missing l.limit
 

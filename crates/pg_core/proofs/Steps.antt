@@ -47,8 +47,8 @@ IsNext-from_IsFurther partitions state p before after at further = record {
 
 -- ---- what is so of every run
 
-module _ {V M : Type 0} (limits : Limits) (declared : Declared) (registered registry : Registered) (state : State) (history : List Event)
-    (parts : List (Option (PartState V M))) (shown : List Visible) (tally : Tally)
+module _ {V M : Type 0} {limits : Limits} {declared : Declared} {registered registry : Registered} {state : State} {history : List Event}
+    {parts : List (Option (PartState V M))} {shown : List Visible} {tally : Tally}
     (lawful : IsLawful limits declared registered registry state history parts shown tally) (p : ℕ)
     (allowed : is_allowed state (Step p) ≡ true) where
   -- there is a place for the part of a partition that is somewhere

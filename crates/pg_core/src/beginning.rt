@@ -170,11 +170,7 @@ pub(crate) fn begun_parts_beside<P: Computation>(
         graph.now touched.now old.graph old.lefts limits.partitions limits.partitions begun.0.items) }
     ensures common { IfOk result (λ begun. begun.1 ≡ old.common) }
 {
-    let Traces {
-        lefts,
-        graph: before,
-        common,
-    } = old;
+    let (lefts, before, common) = old.into_parts();
     let moved = moved(alloc, &before, graph, touched)?;
     let moved = moved.as_slice();
     let parts = begun_with(

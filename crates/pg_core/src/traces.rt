@@ -74,11 +74,21 @@ pub(crate) fn ended_of<V, M: Plain>(kept: &Option<Common<V, M>>) -> Option<Ended
 
 /// What a whole run leaves: what each partition leaves, the graph, what the partitions sent, what the master showed, and
 /// the values with which the vertices ended. A run on another graph opens beside it.
-#[derive(Drop)]
 pub struct Traces<V, M: Plain> {
     pub(crate) lefts: Vec<Left<V, M>>,
     pub(crate) graph: Graph,
     pub(crate) common: Common<V, M>,
+}
+
+// By hand, so that it is let go by one call wherever that is, and not field by field.
+impl<V: Drop, M: Plain> Drop for Traces<V, M> {
+    fn drop(self) {
+        let Traces {
+            lefts: _,
+            graph: _,
+            common: _,
+        } = self;
+    }
 }
 
 impl<V, M: Plain> Model for Traces<V, M> {
@@ -87,4 +97,20 @@ impl<V, M: Plain> Model for Traces<V, M> {
     ghost Value = { Traces V M };
 
     ghost view = { λ t. record { lefts = t.lefts.items; graph = t.graph; common = t.common } };
+}
+
+impl<V, M: Plain> Traces<V, M> {
+    /// What each partition leaves, the graph, and what all have in common.
+    pub(crate) fn into_parts(self) -> (Vec<Left<V, M>>, Graph, Common<V, M>)
+        ensures lefts { result.0.items ≡ self.lefts }
+        ensures graph { result.1 ≡ self.graph }
+        ensures common { result.2 ≡ self.common }
+    {
+        let Traces {
+            lefts,
+            graph,
+            common,
+        } = self;
+        (lefts, graph, common)
+    }
 }

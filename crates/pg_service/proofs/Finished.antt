@@ -24,7 +24,7 @@ module _ {P C A V M : Type 0} (program_of : P → Program V M) (combining_of : C
 
   -- its job is the service's
   meant : Opened → job_meant program_of combining_of master_of job ≡ job_by program_of combining_of master_of core
-  meant opened = job_as_opened program_of combining_of master_of core job.program job.combiner job.master graph job.limits 0 opened
+  meant opened = job_as_opened program_of combining_of master_of opened
 
   module _ (ended : Progress P C A V M) (run : Run V) (left : Traces V M) (opened : Opened) (same : IsSameRun core ended)
       (right : IsRight (job_by program_of combining_of master_of core) kept core)

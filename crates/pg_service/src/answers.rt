@@ -12,11 +12,21 @@ use std::marker::Model;
 
 /// What a refresh has published: the edition of the graph that it ran on, and the answer of the
 /// run, with its aggregates by name.
-#[derive(Drop)]
 pub struct Answers<V> {
     edition: Edition,
     run: Run<V>,
     registry: Registry,
+}
+
+// By hand, so that it is let go by one call wherever that is, and not field by field.
+impl<V: Drop> Drop for Answers<V> {
+    fn drop(self) {
+        let Answers {
+            edition: _,
+            run: _,
+            registry: _,
+        } = self;
+    }
 }
 
 impl<V> Model for Answers<V> {

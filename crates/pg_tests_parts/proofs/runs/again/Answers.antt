@@ -18,7 +18,7 @@ open_beside-requires-clause-left g c =
     let same = c.in_ok-run_out.ensures.same in
     let jobs = job_same program_of combining_of master_of g.P.Value.PartialEq.eq g.P.Message.PartialEq.eq first last same in
     let right = subst (λ job. IsRight job None last) (sym jobs) (c.in_ok-run_out.ensures.right None c.in_ok-first.ensures.right) in
-    let job = jobs ∙ sym (job_as_opened program_of combining_of master_of first c.args.program.now c.args.combiner.now c.args.master.now c.args.graph.now c.args.limits 7 opened) in
+    let job = jobs ∙ sym (job_as_opened program_of combining_of master_of opened) in
     let leaves = subst₂ (λ (rows : Rows) (n : ℕ). IsLeftBy (job_by program_of combining_of master_of last) rows n left) (same.graph_is ∙ opened.graph_is)
     (ap (λ l. l.partitions) (same.limits_are ∙ opened.limits_are)) (c.in_ok-left.ensures None right).leaves in
     λ κs lives. record {

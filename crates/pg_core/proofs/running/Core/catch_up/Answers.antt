@@ -11,5 +11,6 @@ loop-place-init g c =
           (λ q part is. subst (λ core. part_at q core ≡ Some part → IsPartAt core.limits.partitions core.state q part) c.self.view_is
           (c.self.invariant.here q part) is);
       stays = refl;
-      goes = goes_nowhere g.P.Computation.program g.C.MessageCombiner.combining g.M.MasterCompute.master g.P.Value.PartialEq.eq g.P.Message.PartialEq.eq core c.args.meter.now;
+      goes = goes_nowhere g.P.Computation.program g.C.MessageCombiner.combining g.M.MasterCompute.master g.P.Value.PartialEq.eq g.P.Message.PartialEq.eq
+          core c.args.meter.now;
     }

@@ -20,4 +20,4 @@ invariant_of-self-2 g c =
     (subst
     (λ events. IsLawful inside.limits declared registered inside.registry (after inside.state (Close Ended)) events parts shown c.args.tally)
     (sym c.in_ok-push.ensures.items)
-    (IsLawful-end inside.limits declared registered inside.registry inside.state inside.history.items parts shown inside.tally c.self.invariant allowed c.args.tally places))
+    (IsLawful-end c.self.invariant allowed c.args.tally places))

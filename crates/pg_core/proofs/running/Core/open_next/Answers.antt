@@ -28,8 +28,7 @@ invariant_of-self-2 g c =
     (sym c.in_ok-push-2.ensures.items)
     (subst (λ shown. IsLawful limits declared registered inside.registry (after inside.state (Close Next))
     (inside.history.items ++ Close Next ∷ []) parts shown tally) (sym c.in_ok-push.ensures.items)
-    (IsLawful-next limits declared registered inside.registry inside.state inside.history.items parts shown inside.tally
-    (IsLawful-shown limits declared registered inside.registry inside.state inside.history.items parts inside.shown.items inside.tally c.self.invariant visible seen) allowed tally places within more)))
+    (IsLawful-next (IsLawful-shown c.self.invariant visible seen) allowed tally places within more)))
 
 pub invariant_of-self-in_err-push-2 : goal.invariant_of-self-in_err-push-2
 invariant_of-self-in_err-push-2 g c =
@@ -46,4 +45,4 @@ invariant_of-self-in_err-push-2 g c =
     (sym c.in_err-push-2.ensures.items)
     (subst (λ shown. IsLawful limits declared registered inside.registry inside.state inside.history.items parts shown inside.tally)
     (sym c.in_ok-push.ensures.items)
-    (IsLawful-shown limits declared registered inside.registry inside.state inside.history.items parts inside.shown.items inside.tally c.self.invariant visible seen))
+    (IsLawful-shown c.self.invariant visible seen))

@@ -26,9 +26,9 @@ returns-in-Ended-clause-goes g c =
     let message_eq = g.P.Message.PartialEq.eq in
     let first = c.args.self.now in
     let core = c.step_all.new.self in
-    let stepped = goes_further program_of combining_of master_of value_eq message_eq first c.loop-number.self core c.args.meter.now c.loop-number.meter c.step_all.new.meter c.loop-number.invariant.goes c.in_ok-step_all.ensures.goes in
-    goes_further program_of combining_of master_of value_eq message_eq first core c.close.new.self c.args.meter.now c.step_all.new.meter c.step_all.new.meter stepped
-    (goes_by_close program_of combining_of master_of value_eq message_eq c.in_ok-close.field-0 core c.close.new.self c.step_all.new.meter c.in_ok-close.ensures.core c.in_ok-close.ensures.right)
+    let stepped = goes_further program_of combining_of master_of value_eq message_eq c.loop-number.invariant.goes c.in_ok-step_all.ensures.goes in
+    goes_further program_of combining_of master_of value_eq message_eq stepped
+    (goes_by_close program_of combining_of master_of value_eq message_eq c.in_ok-close.ensures.core c.in_ok-close.ensures.right)
 
 pub loop-number-preserved : goal.loop-number-preserved
 loop-number-preserved g c =
@@ -44,10 +44,10 @@ loop-number-preserved g c =
     (ap (λ l. l.partitions) (sym c.in_ok-step_all.ensures.goes.same.limits_are)) c.in_ok-step_all.ensures.past in
     let now = c.in_ok-step_all.ensures.stays ∙ c.loop-number.invariant.stays in
     let has = subst (λ closed. HasClosed closed core c.close.new.self) c.in-Next.is c.in_ok-close.ensures.core in
-    let stepped = goes_further program_of combining_of master_of value_eq message_eq first c.loop-number.self core c.args.meter.now c.loop-number.meter c.step_all.new.meter c.loop-number.invariant.goes c.in_ok-step_all.ensures.goes in
+    let stepped = goes_further program_of combining_of master_of value_eq message_eq c.loop-number.invariant.goes c.in_ok-step_all.ensures.goes in
     record {
       there = past_close c.loop-number.number core all c.close.new.self has now;
       stays = ap (λ core. core.state.current) has.core_is ∙ ap (λ (k : ℕ). k + 1) now;
-      goes = goes_further program_of combining_of master_of value_eq message_eq first core c.close.new.self c.args.meter.now c.step_all.new.meter c.step_all.new.meter stepped
-          (goes_by_close program_of combining_of master_of value_eq message_eq c.in_ok-close.field-0 core c.close.new.self c.step_all.new.meter c.in_ok-close.ensures.core c.in_ok-close.ensures.right);
+      goes = goes_further program_of combining_of master_of value_eq message_eq stepped
+          (goes_by_close program_of combining_of master_of value_eq message_eq c.in_ok-close.ensures.core c.in_ok-close.ensures.right);
     }

@@ -8,7 +8,8 @@ pub returns-clause-counted : goal.returns-clause-counted
 returns-clause-counted g c kept right =
     let core = c.drive.new.self in
     let ended = c.in_ok-drive.ensures.ended in
-    counted_at_end g.P.Computation.program g.C.MessageCombiner.combining g.M.MasterCompute.master g.P.Value.PartialEq.eq g.P.Message.PartialEq.eq c.args.self.now core c.args.meter.now c.drive.new.meter c.in_ok-drive.ensures.goes ended
+    counted_at_end g.P.Computation.program g.C.MessageCombiner.combining g.M.MasterCompute.master g.P.Value.PartialEq.eq g.P.Message.PartialEq.eq
+    c.in_ok-drive.ensures.goes ended
     (place_at_end core.limits.partitions core.limits.workers core.history core.state c.history.ensures.leads ended)
     (omega (arith, c.count.ensures.fits)) kept right
 
@@ -20,7 +21,8 @@ returns-clause-counted_all g c kept right first =
     let some =
     subst (λ l. 0 < l.partitions)
     (ap (λ core. core.limits) c.self.view_is ∙ c.in_ok-drive.ensures.goes.same.limits_are) c.limit.ensures.are.partitions_least in
-    counted_from_first g.P.Computation.program g.C.MessageCombiner.combining g.M.MasterCompute.master g.P.Value.PartialEq.eq g.P.Message.PartialEq.eq old core c.args.meter.now c.drive.new.meter c.in_ok-drive.ensures.goes ended
+    counted_from_first g.P.Computation.program g.C.MessageCombiner.combining g.M.MasterCompute.master g.P.Value.PartialEq.eq g.P.Message.PartialEq.eq
+    c.in_ok-drive.ensures.goes ended
     (place_at_end core.limits.partitions core.limits.workers core.history core.state c.history.ensures.leads ended)
     (omega (arith, c.count.ensures.fits)) kept right some
     (λ p within. ap (place_at p) first ∙ starts_at old.limits.partitions old.limits.workers p within)

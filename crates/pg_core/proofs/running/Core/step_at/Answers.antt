@@ -35,5 +35,5 @@ returns-in_ok-step_ready-clause-goes g c =
     let p = c.args.partition in
     let at =
     sym (c.place.ensures ∙ ap (λ core. place_at p core.state) c.self.view_is) ∙ same_place c.place.result c.args.place (sym c.eq.ensures ∙ c.if-eq.true) in
-    goes_by_step g.P.Computation.program g.C.MessageCombiner.combining g.M.MasterCompute.master g.P.Value.PartialEq.eq g.P.Message.PartialEq.eq core c.step_ready.new.self p c.args.place c.args.meter.now c.step_ready.new.meter
+    goes_by_step g.P.Computation.program g.C.MessageCombiner.combining g.M.MasterCompute.master g.P.Value.PartialEq.eq g.P.Message.PartialEq.eq
     c.in_ok-step_ready.ensures.made c.requires.there at c.requires.before.open_or_before c.in_ok-step_ready.ensures.right c.in_ok-step_ready.ensures.counted

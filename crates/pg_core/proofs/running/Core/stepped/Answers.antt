@@ -24,7 +24,7 @@ put_part-requires-after_bounds g c =
     let registered = (g.M.MasterCompute.master inside.master.now).registrations in
     let allowed = subst (λ core. is_allowed core.state (Step p) ≡ true) (sym c.self.view_is) c.requires.allowed in
     let steps = StepsFrom-from_allowed inside.state p allowed in
-    λ κs lives. part_within inside.limits declared registered inside.registry inside.state inside.history.items inside.parts.items inside.shown.items inside.tally c.self.invariant p allowed p steps.from steps.at
+    λ κs lives. part_within c.self.invariant p allowed p steps.from steps.at
 
 pub invariant_of-self : goal.invariant_of-self
 invariant_of-self g c =
@@ -50,7 +50,7 @@ invariant_of-self-2 g c =
     (sym c.in_ok-note_step.ensures.history)
     (subst (λ parts. IsLawful inside.limits declared registered inside.registry (after inside.state (Step p))
     (inside.history.items ++ Step p ∷ []) parts inside.shown.items inside.tally) (sym c.put_part.ensures)
-    (IsLawful-step inside.limits declared registered inside.registry inside.state inside.history.items inside.parts.items inside.shown.items inside.tally c.self.invariant p allowed part next)))
+    (IsLawful-step c.self.invariant p allowed part next)))
 
 pub returns-clause-core : goal.returns-clause-core
 returns-clause-core g c =

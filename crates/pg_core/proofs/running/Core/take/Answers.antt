@@ -21,7 +21,7 @@ invariant_of-self g c =
     let allowed = (and_parts (is_allowed inside.state (Step p)) _ ready).0 in
     subst (λ parts. IsLawful inside.limits declared registered inside.registry inside.state inside.history.items parts inside.shown.items inside.tally)
     (λ i. set inside.parts.items (sym c.number.ensures i) (sym c.take.ensures.after i))
-    (IsLawful-take inside.limits declared registered inside.registry inside.state inside.history.items inside.parts.items inside.shown.items inside.tally c.self.invariant p allowed)
+    (IsLawful-take c.self.invariant p allowed)
 
 pub returns-clause-part : goal.returns-clause-part
 returns-clause-part g c =
