@@ -17,6 +17,7 @@ use Rattle.pg_machine.specs.declared.event.Event.TheVariants.{Step}
 use Rattle.pg_core.specs.declared.tally.Tally.{Tally}
 use Rattle.pg_core.proofs.Parts.{slice_get-made}
 use Rattle.pg_machine.proofs.LawsMachine.{Reaches-push, length-first, length-places_all, some_within}
+use Rattle.pg_machine.proofs.LawsSteps.{StepsFrom, StepsFrom-from_allowed, length-places_lawful, place_after_other, place_after_own}
 use Rattle.pg_global.specs.Registry.{Registered}
 use Rattle.pg_graph.specs.Rows.{Rows}
 use Rattle.pg_inbox.specs.Bundles.{Parcels}
