@@ -36,7 +36,8 @@ returns-clause-right g c kept right =
     (length-places_lawful inside.limits inside.state inside.history.items c.self.invariant.events) in
     let each = subst (λ core. length core.parts ≡ core.limits.partitions) c.self.view_is c.self.invariant.each in
     let stays =
-    subst (λ core. (p r : ℕ) → place_at p core.state ≡ Some r → core.state.current < r → IsSome (part_at p core)) c.self.view_is c.self.invariant.stays in
+    subst (λ core. (p r : ℕ) → place_at p core.state ≡ Some r → core.state.current < r → IsSome (part_at p core))
+    c.self.view_is c.self.invariant.stays in
     let some = subst (λ core. 0 < core.limits.partitions) c.self.view_is c.limit.ensures.are.partitions_least in
     let now = c.current.ensures ∙ ap (λ core. core.state.current) c.self.view_is in
     let registry_is = c.self.invariant.registry_is ∙ ap (λ core. (master core.master).registrations) c.self.view_is in

@@ -19,10 +19,12 @@ returns g c =
     let n = core.limits.partitions in
     let ended = c.requires in
     let places =
-    subst (λ core. core.state.ended ≡ true → (p : ℕ) → p < core.limits.partitions → place_at p core.state ≡ Some (core.state.current + 1)) c.self.view_is
+    subst (λ core. core.state.ended ≡ true → (p : ℕ) → p < core.limits.partitions → place_at p core.state ≡ Some (core.state.current + 1))
+    c.self.view_is
     (place_at_end inside.limits.partitions inside.limits.workers inside.history.items inside.state c.self.invariant.events) ended in
     let stays =
-    subst (λ core. (p r : ℕ) → place_at p core.state ≡ Some r → core.state.current < r → IsSome (part_at p core)) c.self.view_is c.self.invariant.stays in
+    subst (λ core. (p r : ℕ) → place_at p core.state ≡ Some r → core.state.current < r → IsSome (part_at p core))
+    c.self.view_is c.self.invariant.stays in
     let here : (p : ℕ) → p < n → IsSome (part_at p core) = λ p within. stays p (core.state.current + 1) (places p within) (omega arith) in
     let each = subst (λ core. length core.parts ≡ core.limits.partitions) c.self.view_is c.self.invariant.each in
     let some = subst (λ core. 0 < core.limits.partitions) c.self.view_is c.partitioner_of.ensures.some in

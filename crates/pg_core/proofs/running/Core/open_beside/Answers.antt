@@ -27,5 +27,6 @@ returns-clause-right g c kept left untouched =
     let job = job_of program combining master c.args.limits.missing c.args.limits.limit in
     let begun = have_begun_beside program combining master c.args.limits c.args.graph.now start.start.registry start.ensures.registry_is c.in_ok-parts.parts.items c.args.touched.now c.args.old kept c.in_ok-parts.ensures.begun left untouched in
     let common = subst (IsCommonOf job kept c.args.limits.partitions) (sym c.in_ok-parts.ensures.common) left.common in
-    subst (λ job. IsRight job (Some kept) core) (job_as_opened g.P.Computation.program g.C.MessageCombiner.combining g.M.MasterCompute.master c.open_with.ensures.opened)
+    subst (λ job. IsRight job (Some kept) core)
+    (job_as_opened g.P.Computation.program g.C.MessageCombiner.combining g.M.MasterCompute.master c.open_with.ensures.opened)
     (c.open_with.ensures.right (Some kept) common begun)

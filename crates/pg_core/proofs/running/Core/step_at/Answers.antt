@@ -13,7 +13,8 @@ step_ready-requires-after_bounds g c =
     subst (λ core. length core.state.places ≡ core.limits.partitions) c.self.view_is
     (length-places_lawful inside.limits inside.state inside.history.items c.self.invariant.events) in
     let at =
-    sym (c.place.ensures ∙ ap (λ core. place_at p core.state) c.self.view_is) ∙ same_place c.place.result c.args.place (sym c.eq.ensures ∙ c.if-eq.true) in
+    sym (c.place.ensures ∙ ap (λ core. place_at p core.state) c.self.view_is)
+    ∙ same_place c.place.result c.args.place (sym c.eq.ensures ∙ c.if-eq.true) in
     λ κs lives. ready_there c.args.place p core c.requires.before many c.requires.there at
 
 pub returns-in_ok-step_ready-clause-past : goal.returns-in_ok-step_ready-clause-past
@@ -26,7 +27,8 @@ returns-in_ok-step_ready-clause-past g c =
     (length-places_lawful inside.limits inside.state inside.history.items c.self.invariant.events) in
     let each = subst (λ core. length core.parts ≡ core.limits.partitions) c.self.view_is c.self.invariant.each in
     let at =
-    sym (c.place.ensures ∙ ap (λ core. place_at p core.state) c.self.view_is) ∙ same_place c.place.result c.args.place (sym c.eq.ensures ∙ c.if-eq.true) in
+    sym (c.place.ensures ∙ ap (λ core. place_at p core.state) c.self.view_is)
+    ∙ same_place c.place.result c.args.place (sym c.eq.ensures ∙ c.if-eq.true) in
     past_step c.args.place p core c.requires.before many c.step_ready.new.self c.in_ok-step_ready.ensures.made each c.requires.there at
 
 pub returns-in_ok-step_ready-clause-goes : goal.returns-in_ok-step_ready-clause-goes
@@ -34,6 +36,7 @@ returns-in_ok-step_ready-clause-goes g c =
     let core = c.args.self.now in
     let p = c.args.partition in
     let at =
-    sym (c.place.ensures ∙ ap (λ core. place_at p core.state) c.self.view_is) ∙ same_place c.place.result c.args.place (sym c.eq.ensures ∙ c.if-eq.true) in
+    sym (c.place.ensures ∙ ap (λ core. place_at p core.state) c.self.view_is)
+    ∙ same_place c.place.result c.args.place (sym c.eq.ensures ∙ c.if-eq.true) in
     goes_by_step g.P.Computation.program g.C.MessageCombiner.combining g.M.MasterCompute.master g.P.Value.PartialEq.eq g.P.Message.PartialEq.eq
     c.in_ok-step_ready.ensures.made c.requires.there at c.requires.before.open_or_before c.in_ok-step_ready.ensures.right c.in_ok-step_ready.ensures.counted
