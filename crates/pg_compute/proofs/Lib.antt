@@ -7,5 +7,4 @@ pub mod Playing
 pub mod ReadVertices
 pub mod Recording
 pub mod Sames
-pub mod Searching
 pub mod States

@@ -5,9 +5,10 @@ use Rattle.std.specs.List.{AllByRecursion, slice_get}
 use Rattle.std.specs.List.Sorted.{IsStrictlySortedBy}
 use Rattle.std.specs.Ordering.{nat_cmp}
 use Rattle.std.specs.declared.cmp.Ordering.TheVariants.{Less}
-use Rattle.std.proofs.lemmas.Bool.{cases_Bool, cases_lt}
+use Rattle.std.proofs.lemmas.Bool.{cases_Bool, cases_lt, or_left}
 use Rattle.std.proofs.lemmas.Bool.Decides.{nat_tests}
 use Rattle.std.proofs.lemmas.Option.{slice_get_within}
+use Rattle.std.proofs.Math.Bool.{or-true}
 use Rattle.pg_model.proofs.LawsLists.{sorted-append}
 use Rattle.pg_model.specs.Superstep.{is_active, has_id}
 use Rattle.pg_model.specs.declared.configuration.Standing.{Standing}
@@ -36,14 +37,6 @@ all_less : (low : ℕ) (places : List ℕ) → AllByRecursion (λ place. place <
     → AllByRecursion (λ place. AllByRecursion (λ other. nat_cmp place other ≡ Less) (low ∷ [])) places
 all_less low [] h = tt
 all_less low (p ∷ places) h = ((less_at p low h.0, tt), all_less low places h.1)
-
-or_true : (a : Bool) → (a || true) ≡ true
-or_true true = refl
-or_true false = refl
-
-or_left : (a b : Bool) → a ≡ true → (a || b) ≡ true
-or_left true b h = refl
-or_left false b h = let k : false ≡ true = h in cc
 
 within_of : (low : ℕ) (places : List ℕ) → AllByRecursion (λ place. place < low) places → (place : ℕ) → has_id places place ≡ true → place < low
 within_of low [] h place has = let k : false ≡ true = has in cc
@@ -77,7 +70,7 @@ module _ {V M : Type 0} (xs : List (Standing V M)) where
               ∙ ⊎_elim
               (λ (l : place < low). or_left (has_id places place) (low == place) (found.covers place x at l active))
               (λ (l : low ≤ place). let same : (low == place) ≡ true = (let e : low ≡ place = omega arith in search
-              (tests, rules)) in ap (λ b. has_id places place || b) same ∙ or_true (has_id places place))
+              (tests, rules)) in ap (λ b. has_id places place || b) same ∙ or-true (has_id places place))
               (cases_lt place low);
         })
 

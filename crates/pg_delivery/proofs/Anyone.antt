@@ -5,7 +5,8 @@ use Rattle.std.proofs.lemmas.Bool.{cases_Bool, cases_lt}
 use Rattle.pg_model.specs.Superstep.{is_active}
 use Rattle.pg_model.specs.declared.configuration.Standing.{Standing}
 use Rattle.pg_delivery.specs.Worklist.{ListsActive}
-use Rattle.pg_delivery.proofs.LawsPlaces.{element, listed_place, place_listed}
+use Rattle.pg_delivery.proofs.LawsPlaces.{element}
+use Rattle.pg_model.proofs.LawsListed.{has_id-get_or, listed_place}
 
 and_false : (a b : Bool) → b ≡ false → (a && b) ≡ false
 and_false true b h = h
@@ -30,7 +31,7 @@ module _ {V M : Type 0} where
       → ((x : Standing V M) → slice_get xs (get_or work k 0) ≡ Some x → found ≡ is_active x)
       → true ≡ not (list_all (λ x. not (is_active x)) xs)
   anyone_active xs work k found lists inside passes is =
-      let f = element xs (get_or work k 0) (lists.within (get_or work k 0) (place_listed work k inside)) in
+      let f = element xs (get_or work k 0) (lists.within (get_or work k 0) (has_id-get_or work k 0 inside)) in
       sym (ap not (some_active xs (get_or work k 0) f.0 f.1 (sym (is f.0 f.1) ∙ passes)))
 
   pub nobody_active : (xs : List (Standing V M)) (work : List ℕ) (k : ℕ) → ListsActive xs work → length work ≤ k

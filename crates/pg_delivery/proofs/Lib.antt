@@ -5,6 +5,4 @@ mod Delivering
 pub mod LawsPlaces
 mod Merging
 pub mod Messages
-mod Ordering
-mod Searching
 mod Settling

@@ -4,7 +4,7 @@ use Rattle.std.specs.List.{AllByRecursion}
 use Rattle.std.specs.List.Sorted.{IsStrictlySortedBy}
 use Rattle.std.specs.Ordering.{nat_cmp}
 use Rattle.std.specs.declared.cmp.Ordering.TheVariants.{Less}
-use Rattle.std.proofs.lemmas.Bool.{ltb-true}
+use Rattle.std.proofs.lemmas.Bool.{ltb-true, or_parts}
 use Rattle.std.proofs.lemmas.Bool.Decides.{nat_tests}
 use Rattle.std.proofs.lemmas.List.{append_assoc}
 use Rattle.pg_model.proofs.LawsLists.{all_weaker}
@@ -28,10 +28,6 @@ lt_from_Less a b e = grind (arith, nat_tests)
 
 above_unlike : (a b : ℕ) → ltb a b ≡ false → (b == a) ≡ false → b < a
 above_unlike a b h k = grind (arith, nat_tests)
-
-or_none : (a b : Bool) → (a || b) ≡ false → (a ≡ false) × (b ≡ false)
-or_none true b h = let k : true ≡ false = h in cc
-or_none false b h = (refl, h)
 
 module _ {V M : Type 0} (program : Program V M) (id : ℕ) where
   all_below : (taken : List (ℕ × List M)) (w : ℕ × List M) → AllByRecursion (λ (v : ℕ × List M). v.0 < id) taken
@@ -138,7 +134,7 @@ module _ {V M : Type 0} (program : Program V M) where
       → AllByRecursion (λ (w : ℕ × List M). has_id (ids (x ∷ xs)) w.0 ≡ false) ws
       → AllByRecursion (λ (w : ℕ × List M). has_id (ids xs) w.0 ≡ false) ws
   apart_later x xs [] h = tt
-  apart_later x xs (w ∷ ws) h = ((or_none (x.state.id == w.0) (has_id (ids xs) w.0) h.0).1, apart_later x xs ws h.1)
+  apart_later x xs (w ∷ ws) h = ((or_parts (x.state.id == w.0) (has_id (ids xs) w.0) h.0).1, apart_later x xs ws h.1)
 
   above_rest : (x : Standing V M) (xs : List (Standing V M)) (ws : List (ℕ × List M))
       → first_is_below x.state.id ws ≡ false → IsStrictlySortedBy nat_cmp (map (λ (w : ℕ × List M). w.0) ws)
@@ -147,7 +143,7 @@ module _ {V M : Type 0} (program : Program V M) where
   unfolding IsStrictlySortedBy
   above_rest x xs [] first rise apart = tt
   above_rest x xs (w ∷ ws) first rise apart =
-      let unlike = (or_none (x.state.id == w.0) (has_id (ids xs) w.0) apart.0).0 in
+      let unlike = (or_parts (x.state.id == w.0) (has_id (ids xs) w.0) apart.0).0 in
       let less : x.state.id < w.0 = above_unlike w.0 x.state.id first unlike in
       (less, all_weaker (λ (v : ℕ × List M). w.0 < v.0) (λ (v : ℕ × List M). x.state.id < v.0) (λ v l. omega (arith, l, less)) ws (above_first w.0 ws rise.0))
 

@@ -9,6 +9,8 @@ use Rattle.std.specs.Ordering.{nat_cmp}
 use Rattle.std.specs.declared.cmp.Ordering.TheVariants.{Less}
 use Rattle.std.proofs.lemmas.List.{append-nil}
 use Rattle.std.proofs.lemmas.Bool.Decides.{nat_tests}
+use Rattle.std.proofs.Math.Bool.{or-false, or_assoc}
+use Rattle.std.proofs.lemmas.Bool.{or_right, or_left, or_cases}
 use Rattle.pg_map.specs.Entries.{value_at}
 use Rattle.pg_model.specs.Superstep.{has_id, is_empty}
 use Rattle.pg_inbox.specs.Bundles.{Entry, Parcels, each_entry, entries_in, entries_of}
@@ -17,36 +19,16 @@ use Rattle.pg_inbox.specs.declared.parcel.Contents.{Contents}
 use Rattle.pg_inbox.proofs.Bundling.{at_id}
 use Rattle.pg_inbox.proofs.Grouping.{same_id}
 
-or_false : (b : Bool) → (b || false) ≡ b
-or_false true = refl
-or_false false = refl
-
-or_assoc : (a b c : Bool) → (a || (b || c)) ≡ ((a || b) || c)
-or_assoc true b c = refl
-or_assoc false b c = refl
-
-or_right : (a b : Bool) → b ≡ true → (a || b) ≡ true
-or_right true b h = refl
-or_right false b h = h
-
-or_left : (a b : Bool) → a ≡ true → (a || b) ≡ true
-or_left true b h = refl
-or_left false b h = absurd cc
-
-or_cases : (a b : Bool) → (a || b) ≡ true → (a ≡ true) ⊎ (b ≡ true)
-or_cases true b h = inl refl
-or_cases false b h = inr h
-
 itself : (a : ℕ) → (a == a) ≡ true
 itself a = grind (arith, nat_tests)
 
 pub has_id-push : (ids : List ℕ) (id q : ℕ) → has_id (ids ++ id ∷ []) q ≡ (has_id ids q || (id == q))
-has_id-push [] id q = or_false (id == q)
-has_id-push (i ∷ ids) id q = ap (λ b. (i == q) || b) (has_id-push ids id q) ∙ or_assoc (i == q) (has_id ids q) (id == q)
+has_id-push [] id q = or-false (id == q)
+has_id-push (i ∷ ids) id q = ap (λ b. (i == q) || b) (has_id-push ids id q) ∙ sym (or_assoc (i == q) (has_id ids q) (id == q))
 
 pub has_id-append : (xs ys : List ℕ) (q : ℕ) → has_id (xs ++ ys) q ≡ (has_id xs q || has_id ys q)
 has_id-append [] ys q = refl
-has_id-append (x ∷ xs) ys q = ap (λ b. (x == q) || b) (has_id-append xs ys q) ∙ or_assoc (x == q) (has_id xs q) (has_id ys q)
+has_id-append (x ∷ xs) ys q = ap (λ b. (x == q) || b) (has_id-append xs ys q) ∙ sym (or_assoc (x == q) (has_id xs q) (has_id ys q))
 
 all-without : (P : ℕ → Type 0) (xs : List ℕ) (y : ℕ) (ys : List ℕ) → AllByRecursion P (xs ++ y ∷ ys) → AllByRecursion P (xs ++ ys)
 all-without P [] y ys h = h.1

@@ -3,7 +3,6 @@ pub mod Bundling
 pub mod Delivery
 pub mod Differing
 pub mod Grouping
-pub mod Ordering
 pub mod Replacing
 pub mod SameDelivery
 pub mod Senders

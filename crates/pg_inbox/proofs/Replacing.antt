@@ -8,6 +8,8 @@ use Rattle.std.specs.Map.{keys_of}
 use Rattle.std.specs.Option.{option_map, unwrap_or}
 use Rattle.std.specs.Ordering.{nat_cmp}
 use Rattle.std.proofs.lemmas.List.{append-nil}
+use Rattle.std.proofs.lemmas.Bool.{or_parts}
+use Rattle.std.proofs.Math.Bool.{and-true, and-false}
 use Rattle.pg_map.specs.Entries.{ChangesRise, HasRisingIds, value_at, with_change, with_changes}
 use Rattle.pg_map.proofs.Changing.{change_other, rises-changes, value_at-with_changes}
 use Rattle.pg_model.proofs.LawsLists.{all_pass}
@@ -62,14 +64,6 @@ module _ {X Y : Type 0} (f : ℕ × X → Y) where
 
 -- ---- what is done to one target
 
-and_true : (b : Bool) → (b && true) ≡ b
-and_true true = refl
-and_true false = refl
-
-and_false : (b : Bool) → (b && false) ≡ false
-and_false true = refl
-and_false false = refl
-
 module _ {M : Type 0} (q : ℕ) where
   none_withdrawn : (added : Sends M) → senders_of (items_to q (map as_addition added)) ≡ []
   none_withdrawn [] = refl
@@ -92,8 +86,8 @@ module _ {M : Type 0} (q : ℕ) where
 
       by : (b : Bool) → has_id (senders_of (items_to q (mends_of withdrawn added))) sender ≡ is_withdrawn withdrawn sender q
           → has_id (senders_of (map (λ i. i.1) (cond b (as_withdrawal w ∷ mends) mends))) sender ≡ (((w.0 == sender) && b) || is_withdrawn withdrawn sender q)
-      by true h = ap₂ ◌||◌ (sym (and_true (w.0 == sender))) h
-      by false h = h ∙ ap (λ b. b || is_withdrawn withdrawn sender q) (sym (and_false (w.0 == sender)))
+      by true h = ap₂ ◌||◌ (sym (and-true (w.0 == sender))) h
+      by false h = h ∙ ap (λ b. b || is_withdrawn withdrawn sender q) (sym (and-false (w.0 == sender)))
 
   added_alone : (added : Sends M) → additions (items_to q (map as_addition added)) ≡ letters_to q added
   added_alone [] = refl
@@ -215,10 +209,6 @@ module _ {M : Type 0} (combining : Option (Combining M)) (withdrawn : List (ℕ 
             ∙ ap contents (ap (λ ms. mended ms (letters_to q before)) (sym e) ∙ mended_here q withdrawn added before after replaced)
 
 -- ---- at no other target do they differ
-
-or_parts : (a b : Bool) → (a || b) ≡ false → (a ≡ false) × (b ≡ false)
-or_parts true b h = absurd (true≢false h)
-or_parts false b h = (refl, h)
 
 module _ {X : Type 0} where
   pub unchanged_at : (changes : List (ℕ × Option X)) (entries : List (ℕ × X)) (q : ℕ) → has_id (keys_of changes) q ≡ false

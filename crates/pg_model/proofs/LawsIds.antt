@@ -6,6 +6,7 @@ use Rattle.std.proofs.lemmas.List.{length-map}
 use Rattle.std.specs.Ordering.{nat_cmp}
 use Rattle.std.specs.Map.{keys_of}
 use Rattle.std.specs.List.Sorted.{IsStrictlySortedBy}
+use Rattle.std.proofs.Math.Bool.{or-true}
 use Rattle.pg_graph.specs.Rows.{Rows, HasRisingIds}
 use Rattle.pg_edits.specs.declared.row.Row.{Row}
 use Rattle.pg_graph.specs.declared.missing.Missing.{Missing}
@@ -43,10 +44,6 @@ standing_after job view xs x = record {
   state = state_after x.state (outcome job.program view x);
   inbox = delivered job.combining x.state.id (sends job.program view xs);
 }
-
-or_true : (a : Bool) → (a || true) ≡ true
-or_true true = refl
-or_true false = refl
 
 or_right : (a b : Bool) → (a || b) ≡ true → a ≡ false → b ≡ true
 or_right true b h e = absurd (true≢false e)
@@ -143,7 +140,7 @@ module _ {V M : Type 0} where
       ids-grow s id h =
           let c : Configuration V M = configuration job rows s in
           ap (λ is. has_id is id) (ids-next s c)
-          ∙ (has_id-present job.program c id ∙ (ap (λ b. has_id (map (λ w. w.0) c.waiting) id || b) h ∙ or_true (has_id (map (λ w. w.0) c.waiting) id)))
+          ∙ (has_id-present job.program c id ∙ (ap (λ b. has_id (map (λ w. w.0) c.waiting) id || b) h ∙ or-true (has_id (map (λ w. w.0) c.waiting) id)))
 
       -- an id was sent to at least two supersteps ago
       pub record WasSentTo (s id : ℕ) : Type 0 where

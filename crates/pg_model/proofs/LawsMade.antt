@@ -4,8 +4,9 @@ use Rattle.std.specs.List.{AllByRecursion}
 use Rattle.std.specs.List.Sorted.{IsStrictlySortedBy}
 use Rattle.std.specs.Ordering.{nat_cmp}
 use Rattle.std.specs.declared.cmp.Ordering.TheVariants.{Less}
-use Rattle.std.proofs.lemmas.Bool.{cases_order}
+use Rattle.std.proofs.lemmas.Bool.{cases_order, or_parts}
 use Rattle.std.proofs.lemmas.Bool.Decides.{nat_tests}
+use Rattle.std.proofs.Math.Bool.{or_assoc, or-false}
 use Rattle.pg_graph.specs.declared.missing.Missing.{Missing}
 use Rattle.pg_graph.specs.declared.missing.Missing.TheVariants.{Drop, Create}
 use Rattle.pg_model.proofs.LawsLists.{all_weaker}
@@ -21,14 +22,6 @@ or_swap : (a b c : Bool) → (a || (b || c)) ≡ (b || (a || c))
 or_swap true true c = refl
 or_swap true false c = refl
 or_swap false b c = refl
-
-or_assoc : (a b c : Bool) → ((a || b) || c) ≡ (a || (b || c))
-or_assoc true b c = refl
-or_assoc false b c = refl
-
-or_false : (b : Bool) → (b || false) ≡ b
-or_false true = refl
-or_false false = refl
 
 or_twice : (a b : Bool) → (a || b) ≡ (a || (a || b))
 or_twice true b = refl
@@ -59,10 +52,6 @@ same_id a b h = grind (arith, nat_tests)
 
 apart_from_less : (a b : ℕ) → nat_cmp a b ≡ Less → (a == b) ≡ false
 apart_from_less a b h = grind (arith, nat_tests)
-
-or_none : (a b : Bool) → (a || b) ≡ false → (a ≡ false) × (b ≡ false)
-or_none true b h = absurd (cc)
-or_none false b h = (refl, h)
 
 apart_from_above : (i a : ℕ) → nat_cmp a i ≡ Less → (i == a) ≡ false
 apart_from_above i a e = grind (arith, nat_tests)
@@ -240,7 +229,7 @@ module _ {M : Type 0} where
 
   -- an id is a target where a message goes to it
   pub has_id-targets : (sent : List (ℕ × M)) (id : ℕ) → has_id (targets sent) id ≡ has_id (map (λ m. m.0) sent) id
-  has_id-targets sent id = has_target [] sent id ∙ or_false (has_id (map (λ (m : ℕ × M). m.0) sent) id)
+  has_id-targets sent id = has_target [] sent id ∙ or-false (has_id (map (λ (m : ℕ × M). m.0) sent) id)
 
   -- rising ids are the targets where they have the same ids
   pub targets-are : (is : List ℕ) (sent : List (ℕ × M)) → IsStrictlySortedBy nat_cmp is
@@ -269,7 +258,7 @@ module _ {M : Type 0} where
   waiting_sent Create combining is sent id h =
       let strays : List (ℕ × M) = astray is sent in
       let there : has_id (map (λ (m : ℕ × M). m.0) strays) id ≡ true =
-      sym (or_false (has_id (map (λ (m : ℕ × M). m.0) strays) id))
+      sym (or-false (has_id (map (λ (m : ℕ × M). m.0) strays) id))
       ∙ (sym (has_target [] strays id) ∙ (sym (ap (λ l. has_id l id) (ids_of_inboxes (λ id. delivered combining id strays) (targets strays))) ∙ h)) in
       astray_sent is sent id there
 
@@ -289,7 +278,7 @@ module _ {V M : Type 0} where
   unfolding IsStrictlySortedBy
   placed-rise x [] new h = (tt, tt)
   placed-rise x (y ∷ ys) new h =
-      let both = or_none (y.state.id == x.state.id) (has_id (ids ys) x.state.id) new in
+      let both = or_parts (y.state.id == x.state.id) (has_id (ids ys) x.state.id) new in
       by (ltb x.state.id y.state.id) refl both.0 (placed-rise x ys both.1 h.1)
     where
       by : (a : Bool) → ltb x.state.id y.state.id ≡ a → (y.state.id == x.state.id) ≡ false → IsStrictlySortedBy nat_cmp (ids (placed x ys))

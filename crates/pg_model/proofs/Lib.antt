@@ -7,12 +7,14 @@ pub mod LawsFolds
 pub mod LawsIds
 pub mod LawsInputs
 pub mod LawsLength
+pub mod LawsListed
 pub mod LawsLists
 pub mod LawsMade
 pub mod LawsNeeded
 pub mod LawsPresent
 pub mod LawsPublications
 pub mod LawsRising
+pub mod LawsSearching
 pub mod LawsShares
 pub mod LawsSharesAlike
 pub mod LawsStandings

@@ -11,6 +11,7 @@ use Rattle.pg_model.specs.declared.view.View.{View}
 use Rattle.pg_program.specs.Computation.{Executes, step_on}
 use Rattle.pg_program.specs.Context.{Context}
 use Rattle.std.specs.Prelude.{◌<◌, ◌^◌, ℤ}
+use Rattle.std.proofs.lemmas.Bool.{or_parts}
 use Rattle.pg_scratch.specs.Pass.{ran, context_after}
 
 module _ {V M : Type 0} (program : Program V M) (view : View) (x : Standing V M) where
@@ -61,20 +62,12 @@ not_false : (b : Bool) → not b ≡ false → b ≡ true
 not_false true h = refl
 not_false false h = sym h
 
-or_left : (a b : Bool) → (a || b) ≡ false → a ≡ false
-or_left true b h = h
-or_left false b h = refl
-
-or_right : (a b : Bool) → (a || b) ≡ false → b ≡ false
-or_right true b h = let k : true ≡ false = h in cc
-or_right false b h = h
-
 module _ {V M : Type 0} (program : Program V M) (view : View) (x : Standing V M) (still : is_active x ≡ false) where
   pub idle_halted : x.state.halted ≡ true
-  idle_halted = not_false x.state.halted (or_left (not x.state.halted) (not (is_empty x.inbox)) still)
+  idle_halted = not_false x.state.halted (or_parts (not x.state.halted) (not (is_empty x.inbox)) still).0
 
   pub idle_empty : x.inbox ≡ []
-  idle_empty = length-zero x.inbox (not_false (is_empty x.inbox) (or_right (not x.state.halted) (not (is_empty x.inbox)) still))
+  idle_empty = length-zero x.inbox (not_false (is_empty x.inbox) (or_parts (not x.state.halted) (not (is_empty x.inbox)) still).1)
 
   pub ran-idle : x ≡ ran program view x
   ran-idle =

@@ -5,7 +5,7 @@ use Rattle.std.specs.List.{slice_get, count_by}
 use Rattle.std.specs.List.Sorted.{IsStrictlySortedBy}
 use Rattle.std.specs.Option.{option_map}
 use Rattle.std.specs.Ordering.{nat_cmp}
-use Rattle.std.proofs.lemmas.Bool.{cases_lt}
+use Rattle.std.proofs.lemmas.Bool.{cases_lt, or_right, or_left}
 use Rattle.std.proofs.lemmas.List.{flat_map_more, append-nil, length-map}
 use Rattle.std.proofs.lemmas.List.Sums.{sum_by_push, sum_by-cons, sum_by-set}
 use Rattle.std.proofs.lemmas.Map.Keys.{below_from_sorted}
@@ -20,7 +20,8 @@ use Rattle.pg_program.specs.Context.{Context, ShowsDeclared}
 use Rattle.pg_scratch.specs.Pass.{ran, context_after, ran_context, with_unhalted}
 use Rattle.pg_scratch.specs.Totals.{Counts, Exchanges}
 use Rattle.pg_delivery.specs.Worklist.{ListsActive}
-use Rattle.pg_delivery.proofs.LawsPlaces.{element, has_id-push, listed_place, place_listed}
+use Rattle.pg_delivery.proofs.LawsPlaces.{element, has_id-push}
+use Rattle.pg_model.proofs.LawsListed.{has_id-get_or, listed_place}
 use Rattle.pg_scratch.proofs.Executing.{ran-idle, idle_halted, context_after-idle}
 
 -- ---- lists of which the first i elements are changed
@@ -112,14 +113,6 @@ pub record PassedTo {V M : Type 0} (program : Program V M) (first now : List (St
 same_place : {X : Type 0} (xs : List X) (i j : ℕ) (x y : X) → slice_get xs i ≡ Some x → slice_get xs j ≡ Some y → i ≡ j → y ≡ x
 same_place xs i j x y at_i at_j same =
     let e : Some y ≡ Some x = sym at_j ∙ ap (slice_get xs) (sym same) ∙ at_i in cc
-
-or_true : (a b : Bool) → b ≡ true → (a || b) ≡ true
-or_true true b h = refl
-or_true false b h = h
-
-or_left : (a b : Bool) → a ≡ true → (a || b) ≡ true
-or_left true b h = refl
-or_left false b h = let k : false ≡ true = h in cc
 
 -- ---- the number of edges, as a vertex is exchanged
 less_and_more : (n k : ℕ) → k ≤ n → n ≡ n - k + k
@@ -267,7 +260,7 @@ module _ {V M : Type 0} (program : Program V M) (first now : List (Standing V M)
             ap (λ (z : Standing V M). (ran program cx_first.view z).state.halted) (sym is_x) ∙ awake in
             let equal : (place == i) ≡ true = search (tests, rules) in
             ap (λ l. has_id l i) (grows ∙ ap (λ b. cond b unhalted (unhalted ++ place ∷ [])) woken) ∙ has_id-push unhalted place i
-            ∙ or_true (has_id unhalted i) (place == i) equal)
+            ∙ or_right (has_id unhalted i) (place == i) equal)
             (cases_lt i place);
         counts =
             let at : slice_get now place ≡ Some x = ap (λ (l : List (Standing V M)). slice_get l place) passed.standings
@@ -369,7 +362,7 @@ module _ {V M : Type 0} (program : Program V M) (first now : List (Standing V M)
 
     pub place_inside : get_or work k 0 < length now
     place_inside =
-        let l = lists.within (get_or work k 0) (place_listed work k inside) in
+        let l = lists.within (get_or work k 0) (has_id-get_or work k 0 inside) in
         omega (arith, l, ap length passed.standings, length-changed_below (ran program cx_first.view) low first)
 
     pub pass_on : (after : List (Standing V M)) (cx' : Context M) (unhalted' : List ℕ) (edges' : Option ℕ)
@@ -380,7 +373,7 @@ module _ {V M : Type 0} (program : Program V M) (first now : List (Standing V M)
         → (low : ℕ) × PassedTo program first after cx_first cx' work unhalted' edges' (k + 1) low
     pass_on after cx' unhalted' edges' step context grows exchanges =
         let at : ℕ = get_or work k 0 in
-        let within = lists.within at (place_listed work k inside) in
+        let within = lists.within at (has_id-get_or work k 0 inside) in
         let there = skip_to program first now cx_first cx work unhalted edges k low at passed (passed.ahead k (omega arith) inside) (omega arith)
         (λ j a b. ⊎_elim (λ (l : k < j). let r = below_from_sorted work k j 0 rising l b in omega arith)
         (λ (l : j ≤ k). let e : j ≡ k = omega arith in omega (arith, ap (λ (n : ℕ). get_or work n 0) e)) (cases_lt k j)) in

@@ -6,7 +6,7 @@ use Rattle.std.specs.List.Sorted.{IsStrictlySortedBy}
 use Rattle.std.specs.Option.{unwrap_or}
 use Rattle.std.specs.Ordering.{nat_cmp}
 use Rattle.std.specs.declared.cmp.Ordering.TheVariants.{Less}
-use Rattle.std.proofs.lemmas.Bool.{cases_lt}
+use Rattle.std.proofs.lemmas.Bool.{cases_lt, or_right}
 use Rattle.std.proofs.lemmas.Bool.Decides.{nat_tests}
 use Rattle.std.proofs.lemmas.List.{length-map}
 use Rattle.std.proofs.lemmas.Option.{slice_get_within}
@@ -34,10 +34,6 @@ use Rattle.pg_scratch.specs.Stages.{HasStepped, IsPrepared}
 use Rattle.pg_delivery.specs.Worklist.{ListsActive}
 use Rattle.pg_scratch.specs.declared.superstep.Progress.{Progress}
 
-or_true : (a b : Bool) → b ≡ true → (a || b) ≡ true
-or_true true b h = refl
-or_true false b h = h
-
 less_at : (a b : ℕ) → a < b → nat_cmp a b ≡ Less
 less_at a b h = grind (arith, nat_tests)
 
@@ -60,7 +56,7 @@ range-has : (a n place : ℕ) → a ≤ place → place < a + n → has_id (rang
 range-has a zero place low high = absurd (omega arith)
 range-has a (suc n) place low high =
     ⊎_elim
-    (λ (l : a < place). or_true (a == place) (has_id (range_with_len (a + 1) n) place) (range-has (a + 1) n place (omega arith) (omega arith)))
+    (λ (l : a < place). or_right (a == place) (has_id (range_with_len (a + 1) n) place) (range-has (a + 1) n place (omega arith) (omega arith)))
     (λ (l : place ≤ a). let same : a ≡ place = omega arith in let t : (a == place) ≡ true = search (tests, rules)
     in ap (λ b. b || has_id (range_with_len (a + 1) n) place) t)
     (cases_lt a place)

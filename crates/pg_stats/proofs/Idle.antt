@@ -5,6 +5,7 @@ use Rattle.std.proofs.lemmas.Bool.Decides.{nat_tests}
 use Rattle.std.proofs.lemmas.List.{length-map}
 use Rattle.std.proofs.lemmas.List.Folds.{list_all-map, sum_by-zero}
 use Rattle.std.proofs.lemmas.List.Sums.{sum_by-cons}
+use Rattle.std.proofs.Math.Bool.{and-true}
 use Rattle.pg_graph.specs.Rows.{Rows}
 use Rattle.pg_graph.specs.declared.missing.Missing.{Missing}
 use Rattle.pg_graph.specs.declared.missing.Missing.TheVariants.{Drop, Create}
@@ -58,10 +59,6 @@ both_zero a b = grind (arith, nat_tests)
 
 three_zero : (a b c : ℕ) → (((a == 0) && (b == 0)) && (c == 0)) ≡ (a + (b + c) == 0)
 three_zero a b c = grind (arith, nat_tests)
-
-and_true : (b : Bool) → (b && true) ≡ b
-and_true true = refl
-and_true false = refl
 
 not_and_zero : (b : Bool) (n : ℕ) → (not b && (n == 0)) ≡ (cond b 1 0 + n == 0)
 not_and_zero true n = sym (sum_some n)
@@ -121,7 +118,7 @@ module _ {M : Type 0} where
       → (((awake == 0) && (sum_by (arrives is Drop) sent == 0)) && is_empty (waiting_after missing combining (astray is sent)))
       ≡ (awake + sum_by (arrives is missing) sent == 0)
   none_left Drop combining is sent awake =
-      and_true ((awake == 0) && (sum_by (arrives is Drop) sent == 0)) ∙ both_zero awake (sum_by (arrives is Drop) sent)
+      and-true ((awake == 0) && (sum_by (arrives is Drop) sent == 0)) ∙ both_zero awake (sum_by (arrives is Drop) sent)
   none_left Create combining is sent awake =
       let strays : List (ℕ × M) = astray is sent in
       let each : ℕ → ℕ × List M = λ id. (id, delivered combining id strays) in
@@ -167,8 +164,8 @@ module _ {V M : Type 0} (job : Job V M) (rows : Rows) where
       let c : Configuration V M = first job rows in
       let awake : Bool = count_by (λ (x : Standing V M). not x.state.halted) c.standings == 0 in
       is_all_idle-parts c
-      ∙ (and_true (awake && list_all (λ (x : Standing V M). is_empty x.inbox) c.standings)
-      ∙ (ap (λ b. awake && b) (list_all-map (λ (x : Standing V M). is_empty x.inbox) (beginning job.program) rows ∙ list_all-true rows) ∙ and_true awake))
+      ∙ (and-true (awake && list_all (λ (x : Standing V M). is_empty x.inbox) c.standings)
+      ∙ (ap (λ b. awake && b) (list_all-map (λ (x : Standing V M). is_empty x.inbox) (beginning job.program) rows ∙ list_all-true rows) ∙ and-true awake))
 
   -- after a superstep a configuration is idle where nobody is awake and no message of it arrives
   pub is_all_idle-next : (s : ℕ) → is_all_idle (configuration job rows (suc s))

@@ -4,6 +4,7 @@ use Rattle.std.proofs.Common.{◌≡◌, ℕ, zero, suc, ◌+◌, ◌<◌, ℤ, 
 use Rattle.std.specs.List.{AllByRecursion, enumerate_from, list_all, range_with_len}
 use Rattle.std.proofs.lemmas.List.Folds.{flat_map-map, list_all-map, sum_by-zero}
 use Rattle.std.proofs.lemmas.List.Sorted.{IsPermutation-refl}
+use Rattle.std.proofs.Math.Bool.{and-true}
 use Rattle.pg_global.specs.Registry.{Registered}
 use Rattle.pg_graph.specs.Rows.{Rows}
 use Rattle.pg_model.specs.Job.{Aggregating, Job}
@@ -19,10 +20,6 @@ use Rattle.pg_stats.specs.declared.stats.PartitionStats.{PartitionStats}
 use Rattle.pg_stats.proofs.Gathering.{GathersParts, all_gather_parts, gathered_afresh-none, gathered_from-none, gathered_in_parts, initial_values_fit}
 use Rattle.pg_stats.proofs.Idle.{both_zero, is_all_idle-first, is_all_idle-next}
 use Rattle.pg_stats.proofs.Summing.{arrives, census-awake, census-edges, census-vertices, dropped_in_shares, messages_in_shares, none_arrives, sent_in_shares, sum_by-map, sum_of_sums}
-
-and_true : (b : Bool) → (b && true) ≡ b
-and_true true = refl
-and_true false = refl
 
 none_made : {X : Type 0} (ps : List ℕ) → flat_map {A = X} (λ p. []) ps ≡ []
 none_made [] = refl
@@ -70,7 +67,7 @@ module _ {V M : Type 0} (job : Job V M) (rows : Rows) (n : ℕ) where
         let ps : List ℕ = range_with_len 0 n in
         let awake : ℕ → ℕ = λ p. (census_at job rows n p 0).awake in
         list_all-map is_idle (λ p. stats_at job rows n p 0) ps
-        ∙ (ap (λ (f : ℕ → Bool). list_all f ps) (λ i p. and_true (awake p == 0) i)
+        ∙ (ap (λ (f : ℕ → Bool). list_all f ps) (λ i p. and-true (awake p == 0) i)
         ∙ (sym (sum_by-zero awake ps)
         ∙ (ap (λ (k : ℕ). k == 0) (census-awake job rows n some 0) ∙ sym (is_all_idle-first job rows))))
 

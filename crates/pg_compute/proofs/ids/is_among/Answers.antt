@@ -1,5 +1,5 @@
 use Rattle.std.proofs.Common.{sym}
-use Rattle.pg_compute.proofs.Searching.{has_id-found, has_id-missing, searchable}
+use Rattle.pg_model.proofs.LawsSearching.{has_id-found, has_id-missing, searchable}
 use Rattle.pg_compute.proofs.ids.is_among.Goals as goal
 
 pub returns-in-Ok : goal.returns-in-Ok

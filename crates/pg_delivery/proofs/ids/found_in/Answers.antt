@@ -1,4 +1,4 @@
-use Rattle.pg_delivery.proofs.Searching.{searchable, has_id-missing, slice_get-found}
+use Rattle.pg_model.proofs.LawsSearching.{searchable, has_id-missing, slice_get-found}
 use Rattle.pg_delivery.proofs.ids.found_in.Goals as goal
 
 pub returns-in-Ok : goal.returns-in-Ok

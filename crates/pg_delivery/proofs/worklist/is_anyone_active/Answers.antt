@@ -1,9 +1,9 @@
-use Rattle.pg_delivery.proofs.LawsPlaces.{place_listed}
+use Rattle.pg_model.proofs.LawsListed.{has_id-get_or}
 use Rattle.pg_delivery.proofs.Anyone.{anyone_active, nobody_active}
 use Rattle.pg_delivery.proofs.worklist.is_anyone_active.Goals as goal
 
 pub is_active_at-requires : goal.is_active_at-requires
-is_active_at-requires g c = c.requires.within _ (place_listed c.args.work.now c.loop-place.place-index c.loop-place-test.true)
+is_active_at-requires g c = c.requires.within _ (has_id-get_or c.args.work.now c.loop-place.place-index 0 c.loop-place-test.true)
 
 pub returns-then-is_active_at : goal.returns-then-is_active_at
 returns-then-is_active_at g c =

@@ -1,4 +1,4 @@
-use Rattle.pg_delivery.proofs.Ordering.{ordered-same, ordered-rising}
+use Rattle.pg_model.proofs.LawsListed.{ordered-same, ordered-rising}
 use Rattle.pg_delivery.proofs.worklist.put_in_order.Goals as goal
 
 pub returns-clause-rising : goal.returns-clause-rising

@@ -1,7 +1,7 @@
 use Rattle.std.proofs.Common.{ap, ◌∙◌, ◌++◌}
 use Rattle.std.specs.Map.{keys_of}
 use Rattle.pg_inbox.proofs.Differing.{targets_in_order}
-use Rattle.pg_inbox.proofs.Ordering.{ordered-rising, ordered-same}
+use Rattle.pg_model.proofs.LawsListed.{ordered-rising, ordered-same}
 use Rattle.pg_inbox.proofs.changing.targets_of_both.Goals as goal
 
 pub returns : goal.returns

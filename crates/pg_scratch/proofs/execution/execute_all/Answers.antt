@@ -1,5 +1,5 @@
 use Rattle.std.proofs.Common.{◌∙◌, arith}
-use Rattle.pg_delivery.proofs.LawsPlaces.{place_listed}
+use Rattle.pg_model.proofs.LawsListed.{has_id-get_or}
 use Rattle.pg_scratch.proofs.Passing.{passed_first, passed_standings, passed_context, passed_lists, place_inside, still_shown, same_writes, still_fits, pass_on, known_within, nobody-standings, nobody-context, zero-from_test, positive-from_test}
 use Rattle.pg_scratch.proofs.execution.execute_all.Goals as goal
 
@@ -17,7 +17,7 @@ returns-then-is_empty-clause-context g c =
 
 pub index-requires : goal.index-requires
 index-requires g c =
-    let inside = c.requires.lists.within _ (place_listed c.args.work.now 0 (positive-from_test _ _ c.is_empty.ensures c.if-is_empty.false)) in
+    let inside = c.requires.lists.within _ (has_id-get_or c.args.work.now 0 0 (positive-from_test _ _ c.is_empty.ensures c.if-is_empty.false)) in
     omega (arith, inside, c.args.standings.now.ok.0)
 
 pub loop-place-init : goal.loop-place-init
