@@ -37,7 +37,13 @@ impl Model for MasterState {
 
     ghost Value = { MasterView };
 
-    ghost view = { λ m. record { superstep = m.superstep; total_vertices = m.total_vertices; total_edges = m.total_edges; values = m.values.items; halt = m.halt } };
+    ghost view = { λ m. record {
+      superstep = m.superstep;
+      total_vertices = m.total_vertices;
+      total_edges = m.total_edges;
+      values = m.values.items;
+      halt = m.halt;
+    } };
 }
 
 impl MasterState {

@@ -138,7 +138,12 @@ module _ {V M : Type 0} where
   -- and leaves the state that this step says
   pub next_state_of_inputs : (job : Job V M) (rows : Rows) (s id : ℕ) (x : Standing V M) (i : Inputs V M)
       → standing_at id (present_at job rows s) ≡ Some x → inputs_at job rows s id ≡ Some i
-      → state_after x.state (outcome job.program (view_at job rows s) x) ≡ record { id = i.id; value = (job.program.step i).value; edges = (job.program.step i).edges; halted = (job.program.step i).halted }
+      → state_after x.state (outcome job.program (view_at job rows s) x) ≡ record {
+        id = i.id;
+        value = (job.program.step i).value;
+        edges = (job.program.step i).edges;
+        halted = (job.program.step i).halted;
+      }
   next_state_of_inputs job rows s id x i at e =
       let r = executed_from_inputs job rows s id i e in
       let same : r.0 ≡ x = same_Some r.0 x (sym r.1.present ∙ at) in

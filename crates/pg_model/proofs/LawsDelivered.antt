@@ -38,13 +38,14 @@ module _ {M : Type 0} where
   received : (id : ℕ) (ts : List (Sending M))
       → map (λ (t : Sending M). t.message) (filter (λ (t : Sending M). t.target == id) ts) ≡ messages_to id (map (λ (t : Sending M). (t.target, t.message)) ts)
   received id [] = refl
-  received id (t ∷ ts) = by (t.target == id) (received id ts)
+  received id (t ∷ ts) = by (t.target == id) _ _ (received id ts)
     where
-      by : (b : Bool)
-          → map (λ (t : Sending M). t.message) (filter (λ (t : Sending M). t.target == id) ts) ≡ messages_to id (map (λ (t : Sending M). (t.target, t.message)) ts)
-          → map (λ (t : Sending M). t.message) (cond b (t ∷ filter (λ (t : Sending M). t.target == id) ts) (filter (λ (t : Sending M). t.target == id) ts)) ≡ map (λ (m : ℕ × M). m.1) (cond b ((t.target, t.message) ∷ filter (λ (m : ℕ × M). m.0 == id) (map (λ (t : Sending M). (t.target, t.message)) ts)) (filter (λ (m : ℕ × M). m.0 == id) (map (λ (t : Sending M). (t.target, t.message)) ts)))
-      by true h = ap (◌∷◌ t.message) h
-      by false h = h
+      by : (b : Bool) (xs : List (Sending M)) (ms : List (ℕ × M))
+          → map (λ (x : Sending M). x.message) xs ≡ map (λ (m : ℕ × M). m.1) ms
+          → map (λ (x : Sending M). x.message) (cond b (t ∷ xs) xs)
+          ≡ map (λ (m : ℕ × M). m.1) (cond b ((t.target, t.message) ∷ ms) ms)
+      by true xs ms h = ap (◌∷◌ t.message) h
+      by false xs ms h = h
 
 less_by_sender : {M : Type 0} (a b : Sending M) → a.sender < b.sender → sending_cmp a b ≡ Less
 less_by_sender a b h = grind (arith, nat_tests)

@@ -71,7 +71,8 @@ module _ {V M : Type 0} where
 
     -- and each of them has its outcome's state, with what was sent to it
     pub standing_at-next : (s : ℕ) (c : Configuration V M) (id : ℕ)
-        → standing_at id (next job s c).standings ≡ option_map (standing_after job (view_in job s c) (present job.program c)) (standing_at id (present job.program c))
+        → standing_at id (next job s c).standings
+        ≡ option_map (standing_after job (view_in job s c) (present job.program c)) (standing_at id (present job.program c))
     unfolding next
     standing_at-next s c id = standing_at-map _ (λ x. refl) id (present job.program c)
 

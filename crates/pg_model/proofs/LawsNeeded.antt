@@ -31,7 +31,8 @@ module _ {V M : Type 0} (job : Job V M) (rows : Rows) where
 
   -- of the vertices whose ids pass a test, as many have inputs in a superstep of the run as are executed in it
   pub count-inputs_of : HasRisingIds rows → (s : ℕ) → s < run_length job rows → (picks : ℕ → Bool)
-      → count_by (λ id. is_some (inputs_at job rows s id)) (filter picks (ids (present_at job rows s))) ≡ count_by is_active (filter (λ x. picks x.state.id) (present_at job rows s))
+      → count_by (λ id. is_some (inputs_at job rows s id)) (filter picks (ids (present_at job rows s)))
+      ≡ count_by is_active (filter (λ x. picks x.state.id) (present_at job rows s))
   count-inputs_of rising s within picks =
       let xs : List (Standing V M) = present_at job rows s in
       let test : ℕ → Bool = λ id. is_some (inputs_at job rows s id) in

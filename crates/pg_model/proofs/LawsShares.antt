@@ -79,7 +79,10 @@ module _ {V M : Type 0} (job : Job V M) (rows : Rows) (n : ℕ) where
 
     -- so the share grows by the records of the superstep
     pub share-next : (s : ℕ)
-        → share job rows n p (suc s) ≡ record { states = map (λ x. state_after x.state (outcome job.program (view_at job rows s) x)) (present_in_share job rows n p s); records = (share job rows n p s).records ++ records_in job rows n p s ∷ [] }
+        → share job rows n p (suc s) ≡ record {
+          states = map (λ x. state_after x.state (outcome job.program (view_at job rows s) x)) (present_in_share job rows n p s);
+          records = (share job rows n p s).records ++ records_in job rows n p s ∷ [];
+        }
     unfolding share records_below
     share-next s =
         let states : map (λ (x : Standing V M). x.state) (standings_of_share job rows n p (suc s)) ≡ map
@@ -157,7 +160,8 @@ module _ {V M : Type 0} (job : Job V M) (rows : Rows) (n : ℕ) where
 
     -- all contributions at a place are those of the partitions' records, in another order
     pub contributions_in_shares : (s place : ℕ)
-        → IsPermutation (at_place place (contributions job.program (view_at job rows s) (present_at job rows s))) (flat_map (λ p. at_place place (flat_map (λ r. r.1.contributed) (records_in job rows n p s))) (range_with_len 0 n))
+        → IsPermutation (at_place place (contributions job.program (view_at job rows s) (present_at job rows s)))
+        (flat_map (λ p. at_place place (flat_map (λ r. r.1.contributed) (records_in job rows n p s))) (range_with_len 0 n))
     unfolding partition_of
     contributions_in_shares s place =
         let view : View = view_at job rows s in
@@ -175,12 +179,14 @@ module _ {V M : Type 0} (job : Job V M) (rows : Rows) (n : ℕ) where
     pub gathered_in_shares : (is_value : ℤ → Type 0) (a : Aggregating) → IsCommutativeMonoid is_value a.aggregate a.initial
         → (s place : ℕ) (value : ℤ) → is_value value
         → All is_value (at_place place (contributions job.program (view_at job rows s) (present_at job rows s)))
-        → gathered_at a value (flat_map (λ p. at_place place (flat_map (λ r. r.1.contributed) (records_in job rows n p s))) (range_with_len 0 n)) ≡ gathered_at a value (at_place place (contributions job.program (view_at job rows s) (present_at job rows s)))
+        → gathered_at a value (flat_map (λ p. at_place place (flat_map (λ r. r.1.contributed) (records_in job rows n p s))) (range_with_len 0 n))
+        ≡ gathered_at a value (at_place place (contributions job.program (view_at job rows s) (present_at job rows s)))
     gathered_in_shares is_value a m s place value p h = gathered_at-IsPermutation a is_value m value _ _ p h (contributions_in_shares s place)
 
     -- as many executions are needed in a superstep as are needed of the partitions' vertices
     pub needed_in_shares : (value_eq : V → V → Bool) (message_eq : M → M → Bool) (kept : Option Rows) (s : ℕ)
-        → sum_by (λ p. needed_in value_eq message_eq job kept rows (belongs n p) s) (range_with_len 0 n) ≡ needed_in value_eq message_eq job kept rows (λ id. true) s
+        → sum_by (λ p. needed_in value_eq message_eq job kept rows (belongs n p) s) (range_with_len 0 n)
+        ≡ needed_in value_eq message_eq job kept rows (λ id. true) s
     needed_in_shares value_eq message_eq kept s =
         let is : List ℕ = ids (present_at job rows s) in
         let test : ℕ → Bool = is_needed value_eq message_eq job kept rows s in

@@ -34,7 +34,14 @@ two_hops = (1, row ((2, pos 5) ∷ [])) ∷ (2, row ((3, pos 1) ∷ [])) ∷ (3,
 abbrev removed : Rows
 removed = (1, row ((2, pos 5) ∷ [])) ∷ (3, row []) ∷ []
 
-created-answer : answer (from_1 Create 1000) removed ≡ record { values = (1, pos 0) ∷ (2, pos 5) ∷ (3, infinity) ∷ []; aggregates = pos 2 ∷ []; ending = Finished; supersteps = 2; sent = 1; dropped = 0 }
+created-answer : answer (from_1 Create 1000) removed ≡ record {
+  values = (1, pos 0) ∷ (2, pos 5) ∷ (3, infinity) ∷ [];
+  aggregates = pos 2 ∷ [];
+  ending = Finished;
+  supersteps = 2;
+  sent = 1;
+  dropped = 0;
+}
 unfolding first next configuration length_from executions_below answer visible_in view_of outcome gathered_from sssp_step
 created-answer = refl
 
@@ -50,7 +57,14 @@ created-needed = refl
 abbrev added : Rows
 added = (1, row ((2, pos 5) ∷ [])) ∷ (2, row []) ∷ (3, row []) ∷ []
 
-added-answer : answer (from_1 Create 1000) added ≡ record { values = (1, pos 0) ∷ (2, pos 5) ∷ (3, infinity) ∷ []; aggregates = pos 2 ∷ []; ending = Finished; supersteps = 2; sent = 1; dropped = 0 }
+added-answer : answer (from_1 Create 1000) added ≡ record {
+  values = (1, pos 0) ∷ (2, pos 5) ∷ (3, infinity) ∷ [];
+  aggregates = pos 2 ∷ [];
+  ending = Finished;
+  supersteps = 2;
+  sent = 1;
+  dropped = 0;
+}
 unfolding first next configuration length_from executions_below answer visible_in view_of outcome gathered_from sssp_step
 added-answer = refl
 
@@ -62,11 +76,25 @@ added-needed = refl
 abbrev one : Rows
 one = (1, row ((2, pos 5) ∷ [])) ∷ []
 
-waiting-answer : answer (from_1 Create 1) one ≡ record { values = (1, pos 0) ∷ []; aggregates = pos 1 ∷ []; ending = LimitReached; supersteps = 1; sent = 1; dropped = 0 }
+waiting-answer : answer (from_1 Create 1) one ≡ record {
+  values = (1, pos 0) ∷ [];
+  aggregates = pos 1 ∷ [];
+  ending = LimitReached;
+  supersteps = 1;
+  sent = 1;
+  dropped = 0;
+}
 unfolding first next configuration length_from executions_below answer visible_in view_of outcome gathered_from sssp_step
 waiting-answer = refl
 
-dropped-answer : answer (from_1 Drop 1) one ≡ record { values = (1, pos 0) ∷ []; aggregates = pos 1 ∷ []; ending = Finished; supersteps = 1; sent = 1; dropped = 1 }
+dropped-answer : answer (from_1 Drop 1) one ≡ record {
+  values = (1, pos 0) ∷ [];
+  aggregates = pos 1 ∷ [];
+  ending = Finished;
+  supersteps = 1;
+  sent = 1;
+  dropped = 1;
+}
 unfolding first next configuration length_from executions_below answer visible_in view_of outcome gathered_from sssp_step
 dropped-answer = refl
 
@@ -84,7 +112,14 @@ ranking = record {
 abbrev pointing : Rows
 pointing = (1, row ((2, pos 1) ∷ [])) ∷ []
 
-ranks-answer : answer ranking pointing ≡ record { values = (1, pos 75000000000) ∷ (2, pos 202500000000) ∷ []; aggregates = pos 872500000000 ∷ []; ending = Finished; supersteps = 3; sent = 2; dropped = 0 }
+ranks-answer : answer ranking pointing ≡ record {
+  values = (1, pos 75000000000) ∷ (2, pos 202500000000) ∷ [];
+  aggregates = pos 872500000000 ∷ [];
+  ending = Finished;
+  supersteps = 3;
+  sent = 2;
+  dropped = 0;
+}
 unfolding first next configuration length_from executions_below answer visible_in view_of outcome gathered_from pagerank_step
 ranks-answer = refl
 
@@ -105,7 +140,14 @@ edge_back = (1, row ((2, pos 1) ∷ (3, pos 1) ∷ [])) ∷ (2, row ((3, pos 1) 
 abbrev edge_to_nobody : Rows
 edge_to_nobody = (1, row ((2, pos 1) ∷ (3, pos 1) ∷ (4, pos 1) ∷ [])) ∷ (2, row ((3, pos 1) ∷ [])) ∷ (3, row []) ∷ []
 
-three_edges-answer : answer shedding three_edges ≡ record { values = (1, pos 1) ∷ (2, pos 1) ∷ (3, pos 1) ∷ []; aggregates = []; ending = Finished; supersteps = 2; sent = 0; dropped = 0 }
+three_edges-answer : answer shedding three_edges ≡ record {
+  values = (1, pos 1) ∷ (2, pos 1) ∷ (3, pos 1) ∷ [];
+  aggregates = [];
+  ending = Finished;
+  supersteps = 2;
+  sent = 0;
+  dropped = 0;
+}
 unfolding first next configuration length_from executions_below answer visible_in view_of outcome gathered_from shed_step
 three_edges-answer = refl
 
@@ -113,7 +155,14 @@ three_edges-executions : executions shedding three_edges ≡ 6
 unfolding first next configuration length_from executions_below answer visible_in view_of outcome gathered_from shed_step
 three_edges-executions = refl
 
-edge_back-answer : answer shedding edge_back ≡ record { values = (1, pos 1) ∷ (2, pos 1) ∷ (3, pos 1) ∷ []; aggregates = []; ending = Finished; supersteps = 2; sent = 0; dropped = 0 }
+edge_back-answer : answer shedding edge_back ≡ record {
+  values = (1, pos 1) ∷ (2, pos 1) ∷ (3, pos 1) ∷ [];
+  aggregates = [];
+  ending = Finished;
+  supersteps = 2;
+  sent = 0;
+  dropped = 0;
+}
 unfolding first next configuration length_from executions_below answer visible_in view_of outcome gathered_from shed_step
 edge_back-answer = refl
 
@@ -121,7 +170,14 @@ edge_back-needed : needed_count int_eq int_eq shedding (Some three_edges) edge_b
 unfolding first next configuration length_from executions_below answer visible_in view_of outcome gathered_from inputs_at needed_below shed_step
 edge_back-needed = refl
 
-edge_to_nobody-answer : answer shedding edge_to_nobody ≡ record { values = (1, pos 2) ∷ (2, pos 2) ∷ (3, pos 2) ∷ []; aggregates = []; ending = Finished; supersteps = 2; sent = 0; dropped = 0 }
+edge_to_nobody-answer : answer shedding edge_to_nobody ≡ record {
+  values = (1, pos 2) ∷ (2, pos 2) ∷ (3, pos 2) ∷ [];
+  aggregates = [];
+  ending = Finished;
+  supersteps = 2;
+  sent = 0;
+  dropped = 0;
+}
 unfolding first next configuration length_from executions_below answer visible_in view_of outcome gathered_from shed_step
 edge_to_nobody-answer = refl
 

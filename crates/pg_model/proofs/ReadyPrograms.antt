@@ -31,7 +31,14 @@ path = (1, row (to 2 ∷ [])) ∷ (2, row (to 1 ∷ to 3 ∷ [])) ∷ (3, row (t
 abbrev parted : Rows
 parted = (1, row []) ∷ (2, row (to 3 ∷ [])) ∷ (3, row (to 2 ∷ [])) ∷ []
 
-path-answer : answer components path ≡ record { values = (1, pos 1) ∷ (2, pos 1) ∷ (3, pos 1) ∷ []; aggregates = []; ending = Finished; supersteps = 4; sent = 8; dropped = 0 }
+path-answer : answer components path ≡ record {
+  values = (1, pos 1) ∷ (2, pos 1) ∷ (3, pos 1) ∷ [];
+  aggregates = [];
+  ending = Finished;
+  supersteps = 4;
+  sent = 8;
+  dropped = 0;
+}
 unfolding first next configuration length_from executions_below answer visible_in view_of outcome gathered_from cc_step
 path-answer = refl
 
@@ -39,7 +46,14 @@ path-executions : executions components path ≡ 10
 unfolding first next configuration length_from executions_below answer visible_in view_of outcome gathered_from cc_step
 path-executions = refl
 
-parted-answer : answer components parted ≡ record { values = (1, pos 1) ∷ (2, pos 2) ∷ (3, pos 2) ∷ []; aggregates = []; ending = Finished; supersteps = 3; sent = 3; dropped = 0 }
+parted-answer : answer components parted ≡ record {
+  values = (1, pos 1) ∷ (2, pos 2) ∷ (3, pos 2) ∷ [];
+  aggregates = [];
+  ending = Finished;
+  supersteps = 3;
+  sent = 3;
+  dropped = 0;
+}
 unfolding first next configuration length_from executions_below answer visible_in view_of outcome gathered_from cc_step
 parted-answer = refl
 
@@ -62,7 +76,14 @@ triangle =
 abbrev star : Rows
 star = (1, row (to 3 ∷ [])) ∷ (2, row (to 3 ∷ [])) ∷ (3, row (to 1 ∷ to 2 ∷ to 4 ∷ [])) ∷ (4, row (to 3 ∷ [])) ∷ []
 
-triangle-answer : answer peeling triangle ≡ record { values = (1, pos 1) ∷ (2, pos 1) ∷ (3, pos 1) ∷ (4, pos 0) ∷ []; aggregates = pos 1 ∷ []; ending = Finished; supersteps = 2; sent = 1; dropped = 0 }
+triangle-answer : answer peeling triangle ≡ record {
+  values = (1, pos 1) ∷ (2, pos 1) ∷ (3, pos 1) ∷ (4, pos 0) ∷ [];
+  aggregates = pos 1 ∷ [];
+  ending = Finished;
+  supersteps = 2;
+  sent = 1;
+  dropped = 0;
+}
 unfolding first next configuration length_from executions_below answer visible_in view_of outcome gathered_from peel_step
 triangle-answer = refl
 
@@ -70,7 +91,14 @@ triangle-executions : executions peeling triangle ≡ 5
 unfolding first next configuration length_from executions_below answer visible_in view_of outcome gathered_from peel_step
 triangle-executions = refl
 
-star-answer : answer peeling star ≡ record { values = (1, pos 0) ∷ (2, pos 0) ∷ (3, pos 0) ∷ (4, pos 0) ∷ []; aggregates = pos 4 ∷ []; ending = Finished; supersteps = 2; sent = 3; dropped = 0 }
+star-answer : answer peeling star ≡ record {
+  values = (1, pos 0) ∷ (2, pos 0) ∷ (3, pos 0) ∷ (4, pos 0) ∷ [];
+  aggregates = pos 4 ∷ [];
+  ending = Finished;
+  supersteps = 2;
+  sent = 3;
+  dropped = 0;
+}
 unfolding first next configuration length_from executions_below answer visible_in view_of outcome gathered_from peel_step
 star-answer = refl
 
@@ -99,7 +127,14 @@ pair = (1, row (to 2 ∷ [])) ∷ (2, row (to 1 ∷ [])) ∷ []
 abbrev three : Rows
 three = (1, row (to 2 ∷ [])) ∷ (2, row (to 1 ∷ [])) ∷ (3, row []) ∷ []
 
-pair-answer : answer ranking pair ≡ record { values = (1, pos 500000000000) ∷ (2, pos 500000000000) ∷ []; aggregates = pos 0 ∷ []; ending = MasterHalted; supersteps = 3; sent = 6; dropped = 0 }
+pair-answer : answer ranking pair ≡ record {
+  values = (1, pos 500000000000) ∷ (2, pos 500000000000) ∷ [];
+  aggregates = pos 0 ∷ [];
+  ending = MasterHalted;
+  supersteps = 3;
+  sent = 6;
+  dropped = 0;
+}
 unfolding first next configuration length_from executions_below answer visible_in view_of outcome gathered_from pagerank_step
 pair-answer = refl
 
@@ -107,7 +142,14 @@ pair-executions : executions ranking pair ≡ 6
 unfolding first next configuration length_from executions_below answer visible_in view_of outcome gathered_from pagerank_step
 pair-executions = refl
 
-three-answer : answer ranking three ≡ record { values = (1, pos 333333333333) ∷ (2, pos 333333333333) ∷ (3, pos 50000000000) ∷ []; aggregates = pos 0 ∷ []; ending = MasterHalted; supersteps = 4; sent = 8; dropped = 0 }
+three-answer : answer ranking three ≡ record {
+  values = (1, pos 333333333333) ∷ (2, pos 333333333333) ∷ (3, pos 50000000000) ∷ [];
+  aggregates = pos 0 ∷ [];
+  ending = MasterHalted;
+  supersteps = 4;
+  sent = 8;
+  dropped = 0;
+}
 unfolding first next configuration length_from executions_below answer visible_in view_of outcome gathered_from pagerank_step
 three-answer = refl
 
@@ -127,7 +169,14 @@ abbrev two_senders : Rows
 two_senders =
     (1, record { input = pos 10; edges = to 3 ∷ [] }) ∷ (2, record { input = pos 20; edges = to 3 ∷ [] }) ∷ (3, row []) ∷ []
 
-two_senders-answer : answer tallying two_senders ≡ record { values = (1, (pos 10, [])) ∷ (2, (pos 20, [])) ∷ (3, (pos 2, pos 10 ∷ pos 20 ∷ [])) ∷ []; aggregates = []; ending = Finished; supersteps = 2; sent = 2; dropped = 0 }
+two_senders-answer : answer tallying two_senders ≡ record {
+  values = (1, (pos 10, [])) ∷ (2, (pos 20, [])) ∷ (3, (pos 2, pos 10 ∷ pos 20 ∷ [])) ∷ [];
+  aggregates = [];
+  ending = Finished;
+  supersteps = 2;
+  sent = 2;
+  dropped = 0;
+}
 unfolding first next configuration length_from executions_below answer visible_in view_of outcome gathered_from tally_step
 two_senders-answer = refl
 
@@ -141,7 +190,14 @@ inputs =
     (1, record { input = pos 7; edges = to 2 ∷ [] }) ∷ (2, record { input = pos 3; edges = to 3 ∷ [] }) ∷
     (3, record { input = pos 5; edges = to 2 ∷ to 9 ∷ [] }) ∷ []
 
-greatest-answer : answer (plain max_value max_aggregators) inputs ≡ record { values = (1, pos 7) ∷ (2, pos 7) ∷ (3, pos 7) ∷ []; aggregates = pos 7 ∷ []; ending = Finished; supersteps = 4; sent = 7; dropped = 2 }
+greatest-answer : answer (plain max_value max_aggregators) inputs ≡ record {
+  values = (1, pos 7) ∷ (2, pos 7) ∷ (3, pos 7) ∷ [];
+  aggregates = pos 7 ∷ [];
+  ending = Finished;
+  supersteps = 4;
+  sent = 7;
+  dropped = 2;
+}
 unfolding first next configuration length_from executions_below answer visible_in view_of outcome gathered_from max_step
 greatest-answer = refl
 
@@ -149,7 +205,14 @@ greatest-executions : executions (plain max_value max_aggregators) inputs ≡ 7
 unfolding first next configuration length_from executions_below answer visible_in view_of outcome gathered_from max_step
 greatest-executions = refl
 
-degrees-answer : answer (plain indegree indegree_aggregators) inputs ≡ record { values = (1, pos 0) ∷ (2, pos 2) ∷ (3, pos 1) ∷ []; aggregates = pos 3 ∷ []; ending = Finished; supersteps = 2; sent = 4; dropped = 1 }
+degrees-answer : answer (plain indegree indegree_aggregators) inputs ≡ record {
+  values = (1, pos 0) ∷ (2, pos 2) ∷ (3, pos 1) ∷ [];
+  aggregates = pos 3 ∷ [];
+  ending = Finished;
+  supersteps = 2;
+  sent = 4;
+  dropped = 1;
+}
 unfolding first next configuration length_from executions_below answer visible_in view_of outcome gathered_from indegree_step
 degrees-answer = refl
 

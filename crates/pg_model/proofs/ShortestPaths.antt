@@ -34,7 +34,14 @@ needed combining kept rows = needed_count int_eq int_eq (from_1 combining 1000) 
 abbrev two_hops : Rows
 two_hops = (1, row ((2, pos 5) ∷ [])) ∷ (2, row ((3, pos 1) ∷ [])) ∷ (3, row []) ∷ []
 
-two_hops-answer : answer (from_1 None 1000) two_hops ≡ record { values = (1, pos 0) ∷ (2, pos 5) ∷ (3, pos 6) ∷ []; aggregates = pos 3 ∷ []; ending = Finished; supersteps = 3; sent = 2; dropped = 0 }
+two_hops-answer : answer (from_1 None 1000) two_hops ≡ record {
+  values = (1, pos 0) ∷ (2, pos 5) ∷ (3, pos 6) ∷ [];
+  aggregates = pos 3 ∷ [];
+  ending = Finished;
+  supersteps = 3;
+  sent = 2;
+  dropped = 0;
+}
 unfolding first next configuration length_from executions_below answer visible_in view_of outcome gathered_from sssp_step
 two_hops-answer = refl
 
@@ -44,7 +51,14 @@ two_hops-executions = refl
 
 -- the limit is tested last
 
-two_hops-limit_1-answer : answer (from_1 None 1) two_hops ≡ record { values = (1, pos 0) ∷ (2, infinity) ∷ (3, infinity) ∷ []; aggregates = pos 1 ∷ []; ending = LimitReached; supersteps = 1; sent = 1; dropped = 0 }
+two_hops-limit_1-answer : answer (from_1 None 1) two_hops ≡ record {
+  values = (1, pos 0) ∷ (2, infinity) ∷ (3, infinity) ∷ [];
+  aggregates = pos 1 ∷ [];
+  ending = LimitReached;
+  supersteps = 1;
+  sent = 1;
+  dropped = 0;
+}
 unfolding first next configuration length_from executions_below answer visible_in view_of outcome gathered_from sssp_step
 two_hops-limit_1-answer = refl
 
@@ -52,7 +66,14 @@ two_hops-limit_1-executions : executions (from_1 None 1) two_hops ≡ 3
 unfolding first next configuration length_from executions_below answer visible_in view_of outcome gathered_from sssp_step
 two_hops-limit_1-executions = refl
 
-two_hops-limit_3-answer : answer (from_1 None 3) two_hops ≡ record { values = (1, pos 0) ∷ (2, pos 5) ∷ (3, pos 6) ∷ []; aggregates = pos 3 ∷ []; ending = Finished; supersteps = 3; sent = 2; dropped = 0 }
+two_hops-limit_3-answer : answer (from_1 None 3) two_hops ≡ record {
+  values = (1, pos 0) ∷ (2, pos 5) ∷ (3, pos 6) ∷ [];
+  aggregates = pos 3 ∷ [];
+  ending = Finished;
+  supersteps = 3;
+  sent = 2;
+  dropped = 0;
+}
 unfolding first next configuration length_from executions_below answer visible_in view_of outcome gathered_from sssp_step
 two_hops-limit_3-answer = refl
 
@@ -64,7 +85,14 @@ two_hops-limit_3-executions = refl
 abbrev shortcut : Rows
 shortcut = (1, row ((2, pos 5) ∷ (3, pos 2) ∷ [])) ∷ (2, row ((3, pos 1) ∷ [])) ∷ (3, row []) ∷ []
 
-shortcut-answer : answer (from_1 None 1000) shortcut ≡ record { values = (1, pos 0) ∷ (2, pos 5) ∷ (3, pos 2) ∷ []; aggregates = pos 3 ∷ []; ending = Finished; supersteps = 3; sent = 3; dropped = 0 }
+shortcut-answer : answer (from_1 None 1000) shortcut ≡ record {
+  values = (1, pos 0) ∷ (2, pos 5) ∷ (3, pos 2) ∷ [];
+  aggregates = pos 3 ∷ [];
+  ending = Finished;
+  supersteps = 3;
+  sent = 3;
+  dropped = 0;
+}
 unfolding first next configuration length_from executions_below answer visible_in view_of outcome gathered_from sssp_step
 shortcut-answer = refl
 
@@ -80,7 +108,14 @@ shortcut-needed = refl
 abbrev withdrawn : Rows
 withdrawn = (1, row ((3, pos 2) ∷ [])) ∷ (2, row ((3, pos 1) ∷ [])) ∷ (3, row []) ∷ []
 
-withdrawn-answer : answer (from_1 None 1000) withdrawn ≡ record { values = (1, pos 0) ∷ (2, infinity) ∷ (3, pos 2) ∷ []; aggregates = pos 2 ∷ []; ending = Finished; supersteps = 2; sent = 1; dropped = 0 }
+withdrawn-answer : answer (from_1 None 1000) withdrawn ≡ record {
+  values = (1, pos 0) ∷ (2, infinity) ∷ (3, pos 2) ∷ [];
+  aggregates = pos 2 ∷ [];
+  ending = Finished;
+  supersteps = 2;
+  sent = 1;
+  dropped = 0;
+}
 unfolding first next configuration length_from executions_below answer visible_in view_of outcome gathered_from sssp_step
 withdrawn-answer = refl
 
@@ -102,7 +137,14 @@ restored-needed = refl
 abbrev removed : Rows
 removed = (1, row ((2, pos 5) ∷ [])) ∷ (3, row []) ∷ []
 
-removed-answer : answer (from_1 None 1000) removed ≡ record { values = (1, pos 0) ∷ (3, infinity) ∷ []; aggregates = pos 1 ∷ []; ending = Finished; supersteps = 1; sent = 1; dropped = 1 }
+removed-answer : answer (from_1 None 1000) removed ≡ record {
+  values = (1, pos 0) ∷ (3, infinity) ∷ [];
+  aggregates = pos 1 ∷ [];
+  ending = Finished;
+  supersteps = 1;
+  sent = 1;
+  dropped = 1;
+}
 unfolding first next configuration length_from executions_below answer visible_in view_of outcome gathered_from sssp_step
 removed-answer = refl
 
@@ -121,7 +163,14 @@ fork = (1, row ((2, pos 1) ∷ (3, pos 1) ∷ [])) ∷ (2, row ((4, pos 1) ∷ [
 abbrev diamond : Rows
 diamond = (1, row ((2, pos 1) ∷ (3, pos 1) ∷ [])) ∷ (2, row ((4, pos 1) ∷ [])) ∷ (3, row ((4, pos 5) ∷ [])) ∷ (4, row []) ∷ []
 
-fork-answer : answer (from_1 (Some least_message) 1000) fork ≡ record { values = (1, pos 0) ∷ (2, pos 1) ∷ (3, pos 1) ∷ (4, pos 2) ∷ []; aggregates = pos 4 ∷ []; ending = Finished; supersteps = 3; sent = 3; dropped = 0 }
+fork-answer : answer (from_1 (Some least_message) 1000) fork ≡ record {
+  values = (1, pos 0) ∷ (2, pos 1) ∷ (3, pos 1) ∷ (4, pos 2) ∷ [];
+  aggregates = pos 4 ∷ [];
+  ending = Finished;
+  supersteps = 3;
+  sent = 3;
+  dropped = 0;
+}
 unfolding first next configuration length_from executions_below answer visible_in view_of outcome gathered_from sssp_step
 fork-answer = refl
 
@@ -129,7 +178,14 @@ fork-executions : executions (from_1 (Some least_message) 1000) fork ≡ 7
 unfolding first next configuration length_from executions_below answer visible_in view_of outcome gathered_from sssp_step
 fork-executions = refl
 
-diamond-answer : answer (from_1 (Some least_message) 1000) diamond ≡ record { values = (1, pos 0) ∷ (2, pos 1) ∷ (3, pos 1) ∷ (4, pos 2) ∷ []; aggregates = pos 4 ∷ []; ending = Finished; supersteps = 3; sent = 4; dropped = 0 }
+diamond-answer : answer (from_1 (Some least_message) 1000) diamond ≡ record {
+  values = (1, pos 0) ∷ (2, pos 1) ∷ (3, pos 1) ∷ (4, pos 2) ∷ [];
+  aggregates = pos 4 ∷ [];
+  ending = Finished;
+  supersteps = 3;
+  sent = 4;
+  dropped = 0;
+}
 unfolding first next configuration length_from executions_below answer visible_in view_of outcome gathered_from sssp_step
 diamond-answer = refl
 
@@ -162,7 +218,14 @@ loop = (1, row ((1, negsuc 0) ∷ [])) ∷ []
 abbrev far : Rows
 far = (1, row ((2, infinity) ∷ [])) ∷ (2, row ((3, pos 1) ∷ [])) ∷ (3, row []) ∷ []
 
-loop-answer : answer (from_1 None 4) loop ≡ record { values = (1, negsuc 2) ∷ []; aggregates = pos 1 ∷ []; ending = LimitReached; supersteps = 4; sent = 4; dropped = 0 }
+loop-answer : answer (from_1 None 4) loop ≡ record {
+  values = (1, negsuc 2) ∷ [];
+  aggregates = pos 1 ∷ [];
+  ending = LimitReached;
+  supersteps = 4;
+  sent = 4;
+  dropped = 0;
+}
 unfolding first next configuration length_from executions_below answer visible_in view_of outcome gathered_from sssp_step
 loop-answer = refl
 
@@ -170,7 +233,14 @@ loop-executions : executions (from_1 None 4) loop ≡ 4
 unfolding first next configuration length_from executions_below answer visible_in view_of outcome gathered_from sssp_step
 loop-executions = refl
 
-far-answer : answer (from_1 None 1000) far ≡ record { values = (1, pos 0) ∷ (2, infinity) ∷ (3, infinity) ∷ []; aggregates = pos 1 ∷ []; ending = Finished; supersteps = 2; sent = 1; dropped = 0 }
+far-answer : answer (from_1 None 1000) far ≡ record {
+  values = (1, pos 0) ∷ (2, infinity) ∷ (3, infinity) ∷ [];
+  aggregates = pos 1 ∷ [];
+  ending = Finished;
+  supersteps = 2;
+  sent = 1;
+  dropped = 0;
+}
 unfolding first next configuration length_from executions_below answer visible_in view_of outcome gathered_from sssp_step
 far-answer = refl
 

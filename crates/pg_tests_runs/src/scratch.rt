@@ -178,7 +178,8 @@ struct SetsFive {
 
 impl MasterCompute for SetsFive {
     ghost master = { λ m. record {
-      registrations = (codes "regular", record { kind = LongSum; persistent = false }) ∷ (codes "persistent", record { kind = LongSum; persistent = true }) ∷ [];
+      registrations = (codes "regular", record { kind = LongSum; persistent = false })
+          ∷ (codes "persistent", record { kind = LongSum; persistent = true }) ∷ [];
       deciding = λ s totals gathered. record { values = slice_set gathered 0 (pos 5); halt = s == m.halts_at };
     } };
 

@@ -16,7 +16,8 @@ only_first (suc k) h =
 
 -- a view of two places, of which the first is shown
 shows : (superstep : ℕ) (aggregates : List (Option ℤ)) → aggregates ≡ Some (negsuc 3) ∷ None ∷ []
-    → ShowsDeclared (record { reads = 1; writes = 1; total_vertices = true; total_edges = true }) (record { superstep = superstep; aggregates = aggregates; total_vertices = Some 6; total_edges = Some 8 })
+    → ShowsDeclared (record { reads = 1; writes = 1; total_vertices = true; total_edges = true })
+    (record { superstep = superstep; aggregates = aggregates; total_vertices = Some 6; total_edges = Some 8 })
 shows superstep aggregates listed = record {
   aggregates = λ place declared.
       let first = only_first place declared in
