@@ -2,6 +2,7 @@ ghost use Rattle.std.specs.Prelude.{◌≡◌, ◌++◌, ◌∷◌, [], map, tru
 ghost use Rattle.pg_edits.specs.EdgeList.{with_edge};
 ghost use Rattle.pg_program.specs.Context.{ShowsDeclared};
 
+use crate::graphs::id;
 use pg_graph::{Edges, Memory, Superstep, VertexId};
 use pg_model::{Declared, Place, Sequence, VertexState, View};
 use pg_program::{Computation, Cx, EdgeRoom, Meter, Plain, Tally, Vertex};
@@ -80,10 +81,6 @@ fn context(alloc: Global) -> Result<Cx<i64>, Memory>
         total_edges: Some(8),
     };
     Ok(Cx::new(alloc, view, Echo.declared(), Meter::new()))
-}
-
-fn id(number: u64) -> Result<VertexId, Fail> {
-    Ok(VertexId::new(number).ok_or("a number above 2^63 - 1")?)
 }
 
 // Appends a value.

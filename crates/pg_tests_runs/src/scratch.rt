@@ -5,11 +5,12 @@ ghost use Rattle.pg_global.specs.Master.{leaves_all};
 ghost use Rattle.pg_global.specs.declared.aggregator.AnyAggregator.TheVariants.{LongSum};
 ghost use Rattle.pg_model.specs.Programs.{infinity};
 
+use crate::graphs::{graph_of, id};
 use pg_global::{
     AnyAggregator, AnyCombiner, MasterCompute, MasterState, MessageCombiner, NoMaster,
     RegisterFault, Registry,
 };
-use pg_graph::{Batch, Edit, Graph, Memory, Missing, VertexId};
+use pg_graph::{Graph, Memory, Missing, VertexId};
 use pg_model::{Declared, Place, Run};
 use pg_program::{Computation, Cx, Meter, Vertex};
 use pg_scratch::{RunFault, run};
@@ -214,28 +215,6 @@ impl MasterCompute for Nameless {
     fn compute(&self, _alloc: Global, _state: &mut MasterState) -> Result<(), Memory> {
         Ok(())
     }
-}
-
-fn id(number: u64) -> Result<VertexId, Fail> {
-    Ok(VertexId::new(number).ok_or("a number above 2^63 - 1")?)
-}
-
-// The graph of these vertices with their inputs, and of these edges with their weights.
-fn graph_of(
-    alloc: Global,
-    vertices: &[(u64, i64)],
-    edges: &[(u64, u64, i64)],
-) -> Result<Graph, Fail> {
-    let mut batch = Batch::new(alloc);
-    for (number, input) in vertices {
-        batch.push(Edit::AddVertex(id(*number)?, *input))?;
-    }
-    for (source, target, weight) in edges {
-        batch.push(Edit::AddEdge(id(*source)?, id(*target)?, *weight))?;
-    }
-    let mut graph = Graph::new(alloc);
-    graph.apply(alloc, &batch)?;
-    Ok(graph)
 }
 
 // An answer and the calls that it took: each vertex as `id=value`, the aggregates, the ending with the

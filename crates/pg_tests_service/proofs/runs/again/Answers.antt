@@ -4,7 +4,7 @@ use Rattle.pg_core.specs.Traces.{IsLeftBy}
 use Rattle.pg_core.proofs.Onward.{job_same}
 use Rattle.pg_core.proofs.Opened.{job_as_opened}
 use Rattle.pg_graph.specs.Rows.{Rows}
-use Rattle.pg_tests_parts.proofs.runs.again.Goals as goal
+use Rattle.pg_tests_service.proofs.runs.again.Goals as goal
 
 pub open_beside-requires-clause-left : goal.open_beside-requires-clause-left
 open_beside-requires-clause-left g c =

@@ -3,36 +3,15 @@ ghost use Rattle.pg_core.specs.Progress.{part_at};
 ghost use Rattle.pg_global.specs.Master.{is_registered};
 ghost use Rattle.pg_global.specs.Registry.{first_refusal};
 
+use crate::graphs::graph_of;
 use pg_core::{Core, Event, Limits};
 use pg_global::{AnyCombiner, MasterCompute, MessageCombiner, NoMaster};
-use pg_graph::{Batch, Edit, Graph, Memory, Missing, PartitionId, Superstep, VertexId};
+use pg_graph::{Graph, Memory, Missing, PartitionId, Superstep};
 use pg_model::Run;
 use pg_program::{Computation, Meter, Tally};
 use std::alloc::{AllocError, Global};
 use std::process::Abort;
 use std::test::Fail;
-
-fn id(number: u64) -> Result<VertexId, Fail> {
-    Ok(VertexId::new(number).ok_or("a number above 2^63 - 1")?)
-}
-
-// The graph of these vertices with their inputs, and of these edges.
-pub(crate) fn graph_of(
-    alloc: Global,
-    vertices: &[(u64, i64)],
-    edges: &[(u64, u64)],
-) -> Result<Graph, Fail> {
-    let mut batch = Batch::new(alloc);
-    for (number, input) in vertices {
-        batch.push(Edit::AddVertex(id(*number)?, *input))?;
-    }
-    for (source, target) in edges {
-        batch.push(Edit::AddEdge(id(*source)?, id(*target)?, 1))?;
-    }
-    let mut graph = Graph::new(alloc);
-    graph.apply(alloc, &batch)?;
-    Ok(graph)
-}
 
 // One step of a partition that is ready.
 pub(crate) fn step_once<P: Computation, C: MessageCombiner<P::Message>, M: MasterCompute>(
