@@ -1,5 +1,6 @@
 pub mod Begun
 pub mod Changing
+pub mod Cut
 pub mod InGroups
 pub mod InParts
 pub mod Parts

@@ -1,5 +1,5 @@
 -- Entries in two parts, the ids of one below those of the other: what is found, and what changes make of each.
-use Rattle.std.proofs.Common.{◌≡◌, ℕ, zero, suc, ◌+◌, ◌<◌, ◌≤◌, length, get_or, take, drop, Bool, true, false, cond, List, [], ◌∷◌, ◌++◌, Option, Some, None, Ordering, is_some, leb, refl, ap, ◌∙◌, arith}
+use Rattle.std.proofs.Common.{◌≡◌, ℕ, zero, suc, ◌+◌, ◌<◌, ◌≤◌, length, get_or, take, drop, Bool, true, false, cond, List, [], ◌∷◌, ◌++◌, Option, Some, None, Ordering, is_some, leb, refl, ap, sym, ◌∙◌, subst, arith}
 use Rattle.std.specs.declared.cmp.Ordering.TheVariants.{Less, Equal, Greater}
 use Rattle.std.specs.Ordering.{nat_cmp, match_ordering}
 use Rattle.std.specs.BTreeMap.{insert_entry, is_at}
@@ -50,6 +50,10 @@ module _ {X : Type 0} where
   pub rises_after : (e : ℕ × X) (es : List (ℕ × X)) → HasRisingIds (e ∷ es) → HasRisingIds es
   unfolding IsStrictlySortedBy
   rises_after e es rising = rising.1
+
+  pub none_rise : (es : List (ℕ × X)) → es ≡ [] → HasRisingIds es
+  unfolding IsStrictlySortedBy
+  none_rise es none = subst (λ l. HasRisingIds l) (sym none) tt
 
   pub from_first : (e : ℕ × X) (es : List (ℕ × X)) → HasRisingIds (e ∷ es) → From e.0 (e ∷ es)
   from_first e es rising = (omega arith, from_weaker e.0 (e.0 + 1) es (omega arith) (above_first e es rising))

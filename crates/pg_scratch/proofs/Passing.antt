@@ -1,5 +1,6 @@
 -- A pass over the places of a list, which leaves out idle vertices alone.
-use Rattle.std.proofs.Common.{◌≡◌, ℕ, zero, suc, ◌+◌, ◌-◌, ◌^◌, ◌<◌, ◌≤◌, Bool, true, false, cond, not, ◌||◌, List, [], ◌∷◌, ◌++◌, length, map, get_or, set, take, drop, Option, None, Some, refl, sym, ap, ◌∙◌, subst, ⊎_elim, arith, rules, tests}
+use Rattle.std.proofs.Common.{◌≡◌, ℕ, zero, suc, ◌+◌, ◌-◌, ◌^◌, ◌<◌, ◌≤◌, Bool, true, false, cond, not, ◌||◌, List, [], ◌∷◌, ◌++◌, length, map}
+use Rattle.std.proofs.Common.{get_or, set, take, drop, Option, None, Some, refl, sym, ap, ◌∙◌, subst, ⊎_elim, arith, rules, tests}
 use Rattle.std.specs.Prelude.{◌==◌, ℤ, IfSome}
 use Rattle.std.specs.List.{slice_get, count_by}
 use Rattle.std.specs.List.Sorted.{IsStrictlySortedBy}

@@ -7,7 +7,8 @@ use Rattle.std.proofs.lemmas.List.{length-map}
 use Rattle.std.proofs.lemmas.List.Sums.{sum_by-cons}
 use Rattle.pg_model.specs.Job.{Program, Combining, Job}
 use Rattle.pg_model.specs.InOrder.{IsInOrder}
-use Rattle.pg_model.specs.Superstep.{is_active, ids, edges_of, outcome, state_after, sends, contributions, delivered, astray, waiting_after, dropped_count, present, standings_after, view_of, view_in, visible, gathered_from, next, capped}
+use Rattle.pg_model.specs.Superstep.{is_active, ids, edges_of, outcome, state_after, sends, contributions, delivered, astray, waiting_after}
+use Rattle.pg_model.specs.Superstep.{dropped_count, present, standings_after, view_of, view_in, visible, gathered_from, next, capped}
 use Rattle.pg_model.specs.declared.configuration.Standing.{Standing}
 use Rattle.pg_model.specs.declared.configuration.Configuration.{Configuration}
 use Rattle.pg_model.specs.declared.view.View.{View}

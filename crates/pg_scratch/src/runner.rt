@@ -146,20 +146,17 @@ fn begin<P: Computation>(
     ensures edges { IfOk result (λ p. (p.edges ≡ edge_count graph.now) × (p.edges < 2 ^ 64)) }
     ensures meter { IfOk result (λ p. p.meter ≡ meter) }
 {
-    let vertices = graph.vertices() as usize;
+    let work = all_places(alloc, graph.vertices() as usize)?;
+    let gathered = initial_values(alloc, registrations)?;
     let standings = standings_of(alloc, graph, program)?;
     let ids = Ids::of_vertices(alloc, standings.as_slice())?;
     let configuration = Configuration {
         standings: Sequence::from_vec(standings),
         waiting: Sequence::new(alloc),
-        gathered: initial_values(alloc, registrations)?,
+        gathered,
         sent: 0,
         dropped: 0,
     };
-    let mut work = Vec::with_capacity(alloc, vertices)?;
-    for place in 0..vertices {
-        work.push(place)?;
-    }
     Ok(Progress {
         configuration,
         ids,
@@ -171,6 +168,17 @@ fn begin<P: Computation>(
             contributed: Sequence::new(alloc),
         },
     })
+}
+
+/// The places of so many vertices.
+fn all_places(alloc: Global, vertices: usize) -> Result<Vec<usize>, Memory>
+    ensures { IfOk result (λ places. places.items ≡ range_with_len 0 vertices) }
+{
+    let mut places = Vec::with_capacity(alloc, vertices)?;
+    for place in 0..vertices {
+        places.push(place)?;
+    }
+    Ok(places)
 }
 
 /// The run of a job whose aggregators are registered, with the meter after it.

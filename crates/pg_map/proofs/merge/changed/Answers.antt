@@ -1,8 +1,10 @@
-use Rattle.std.proofs.Common.{◌∙◌, subst}
+use Rattle.std.proofs.Common.{ap, ◌++◌, ◌∙◌, subst, sym}
+use Rattle.std.proofs.lemmas.List.{nil_from_length}
+use Rattle.std.proofs.lemmas.Result.{IfOk-weaker}
 use Rattle.pg_map.specs.Chunks.{AreGroups, all_of, grouped}
-use Rattle.pg_map.specs.Entries.{ChangesRise, HasRisingIds}
+use Rattle.pg_map.specs.Entries.{ChangesRise, HasRisingIds, with_changes}
 use Rattle.pg_map.proofs.InParts.{part_turn}
-use Rattle.pg_map.proofs.Parts.{rises_left, rises_right}
+use Rattle.pg_map.proofs.Parts.{none_rise, rises_left, rises_right}
 use Rattle.pg_map.proofs.merge.changed.Goals as goal
 
 pub merge_group-requires-clause-changes_rise : goal.merge_group-requires-clause-changes_rise
@@ -30,3 +32,17 @@ loop-group-preserved g c =
           (subst (λ l. HasRisingIds (all_of l)) at now.invariant.entries_rise);
       changes_rise = rises_right here later (subst ChangesRise parts now.invariant.changes_rise);
     }
+
+pub merge-requires-clause-entries_rise : goal.merge-requires-clause-entries_rise
+merge-requires-clause-entries_rise g c = none_rise c.as_slice.result.now (c.as_slice.ensures.value ∙ c.new-none.ensures.items)
+
+pub returns-clause-entries : goal.returns-clause-entries
+returns-clause-entries g c =
+    let now = c.loop-group in
+    let none = c.as_slice.ensures.value ∙ c.new-none.ensures.items in
+    let over = nil_from_length now.left.now c.in_default.ensures.cases in
+    IfOk-weaker c.finish.result _ _
+    (λ made is. is ∙ c.in_ok-merge.ensures
+    ∙ ap (λ l. now.gathering ++ with_changes now.todo.now l) (none ∙ sym (ap all_of over))
+    ∙ now.invariant.made)
+    c.finish.ensures.entries

@@ -1,6 +1,9 @@
-use Rattle.std.proofs.Common.{◌∙◌, arith}
+use Rattle.std.proofs.Common.{subst, sym, ◌∙◌, arith}
+use Rattle.std.proofs.lemmas.List.{nil_from_length}
+use Rattle.pg_delivery.specs.Worklist.{ListsActive}
 use Rattle.pg_model.proofs.LawsListed.{has_id-get_or}
-use Rattle.pg_scratch.proofs.Passing.{passed_first, passed_standings, passed_context, passed_lists, place_inside, still_shown, same_writes, still_fits, pass_on, known_within, nobody-standings, nobody-context, zero-from_test, positive-from_test}
+use Rattle.pg_scratch.proofs.Passing.{passed_first, passed_standings, passed_context, passed_lists, place_inside, still_shown, same_writes}
+use Rattle.pg_scratch.proofs.Passing.{still_fits, pass_on, known_within, nobody-standings, nobody-context, zero-from_test, positive-from_test}
 use Rattle.pg_scratch.proofs.execution.execute_all.Goals as goal
 
 pub returns-then-is_empty-clause-standings : goal.returns-then-is_empty-clause-standings
@@ -95,3 +98,11 @@ pub returns-clause-edges : goal.returns-clause-edges
 returns-clause-edges g c =
     let p = c.loop-place.invariant in
     p.1.counts
+
+pub returns-then-is_empty-clause-lists : goal.returns-then-is_empty-clause-lists
+returns-then-is_empty-clause-lists g c =
+    let none = nil_from_length c.args.work.now (zero-from_test _ _ c.is_empty.ensures c.if-is_empty.true) in
+    subst (ListsActive c.args.standings.now.items) (none ∙ sym c.in_ok-unhalted.ensures.items) c.requires.lists
+
+pub returns-then-is_empty-clause-edges : goal.returns-then-is_empty-clause-edges
+returns-then-is_empty-clause-edges g c = c.exact.ensures _ c.requires.edges

@@ -1,15 +1,23 @@
-use Rattle.std.proofs.Common.{◌≡◌, ℕ, ◌+◌, ap, sym, ◌∙◌, length, [], ◌∷◌, ◌++◌, arith}
+use Rattle.std.proofs.Common.{◌≡◌, ℕ, ℤ, List, [], ap, sym, ◌∙◌}
 use Rattle.std.specs.List.{range_with_len}
-use Rattle.pg_scratch.proofs.Runs.{range-push}
+use Rattle.pg_model.specs.Superstep.{ids}
+use Rattle.pg_model.specs.declared.configuration.Configuration.{Configuration}
+use Rattle.pg_model.specs.declared.configuration.Standing.{Standing}
 use Rattle.pg_scratch.proofs.runner.begin.Goals as goal
 
-pub loop-place-preserved : goal.loop-place-preserved
-loop-place-preserved g c =
-    let e : 0 + c.loop-place.place ≡ c.loop-place.place = omega arith in
-    c.in_ok-push.ensures.items ∙ ap (λ l. l ++ c.loop-place.place ∷ []) c.loop-place.invariant
-    ∙ ap (λ (n : ℕ). range_with_len 0 c.loop-place.place ++ n ∷ []) (sym e) ∙ sym (range-push 0 c.loop-place.place)
+abbrev first : {V M : Type 0} → List (Standing V M) → List (ℕ × List M) → List ℤ → Configuration V M
+first standings waiting gathered = record { standings = standings; waiting = waiting; gathered = gathered; sent = 0; dropped = 0 }
+
+same_first : {V M : Type 0} (xs ys : List (Standing V M)) (waiting : List (ℕ × List M)) (us vs : List ℤ)
+    → xs ≡ ys → waiting ≡ [] → us ≡ vs → first xs waiting us ≡ first ys [] vs
+same_first xs ys waiting us vs p q r = cc
+
+pub returns-clause-configuration : goal.returns-clause-configuration
+returns-clause-configuration g c =
+    same_first _ _ _ _ _ (c.from_vec.ensures ∙ c.in_ok-standings.ensures) c.new.ensures c.in_ok-gathered.ensures
+
+pub returns-clause-ids : goal.returns-clause-ids
+returns-clause-ids g c = c.in_ok-ids.ensures ∙ ap ids (c.as_slice.ensures.value ∙ sym c.from_vec.ensures)
 
 pub returns-clause-work : goal.returns-clause-work
-returns-clause-work g c =
-    let e : c.loop-place.place ≡ length c.args.graph.now = omega (arith, c.loop-place-test.false, c.loop-place.auto, c.vertices-vertices.ensures.value) in
-    c.loop-place.invariant ∙ ap (range_with_len 0) e
+returns-clause-work g c = c.in_ok-work.ensures ∙ ap (range_with_len 0) c.vertices.ensures.value

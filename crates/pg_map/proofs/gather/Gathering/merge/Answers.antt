@@ -1,5 +1,7 @@
-use Rattle.std.proofs.Common.{◌+◌, ◌∙◌, subst}
-use Rattle.pg_map.specs.Entries.{ChangesRise, HasRisingIds}
+use Rattle.std.proofs.Common.{ap, ◌+◌, ◌++◌, ◌∙◌, subst, sym}
+use Rattle.std.proofs.lemmas.List.{nil_from_length}
+use Rattle.std.proofs.lemmas.Result.{IfOk-equal}
+use Rattle.pg_map.specs.Entries.{ChangesRise, HasRisingIds, with_changes}
 use Rattle.pg_map.proofs.Parts.{From, rises_after}
 use Rattle.pg_map.proofs.Turns.{below_by, not_below_by, same_by, apart_by, pass_turn, skip_turn, put_turn, remove_turn, from_entry, from_none}
 use Rattle.pg_map.proofs.gather.Gathering.merge.Goals as goal
@@ -59,3 +61,10 @@ loop-change-preserved g c =
       entries_rise = now.invariant.entries_rise;
       changes_rise = rises_after c.in-Some.change.now c.in-Some.later.now (subst ChangesRise next now.invariant.changes_rise);
     }
+
+pub returns : goal.returns
+returns g c =
+    let now = c.loop-change in
+    let over = nil_from_length now.todo.now c.in_default.ensures.cases in
+    IfOk-equal c.extend.result _ _ _ c.extend.ensures
+    (sym (ap (λ l. now.self ++ with_changes l now.left.now) over) ∙ now.invariant.made)

@@ -1,6 +1,8 @@
-use Rattle.std.proofs.Common.{◌∙◌, subst}
+use Rattle.std.proofs.Common.{ap, ◌++◌, ◌∙◌, subst, sym}
+use Rattle.std.proofs.lemmas.List.{nil_from_length}
+use Rattle.std.proofs.lemmas.Result.{IfOk-equal}
 use Rattle.pg_map.specs.Chunks.{AreChunks, entries_of, listed}
-use Rattle.pg_map.specs.Entries.{ChangesRise, HasRisingIds}
+use Rattle.pg_map.specs.Entries.{ChangesRise, HasRisingIds, with_changes}
 use Rattle.pg_map.proofs.InParts.{part_turn}
 use Rattle.pg_map.proofs.Parts.{rises_left, rises_right}
 use Rattle.pg_map.proofs.gather.Gathering.merge_chunks.Goals as goal
@@ -29,3 +31,11 @@ loop-chunk-preserved g c =
           (subst (λ l. HasRisingIds (entries_of l)) at now.invariant.entries_rise);
       changes_rise = rises_right here later (subst ChangesRise parts now.invariant.changes_rise);
     }
+
+pub returns : goal.returns
+returns g c =
+    let now = c.loop-chunk in
+    let none = c.as_slice.ensures.value ∙ c.new-none.ensures.items in
+    let over = nil_from_length now.left.now c.in_default.ensures.cases in
+    IfOk-equal c.merge.result _ _ _ c.merge.ensures
+    (ap (λ l. now.self ++ with_changes now.todo.now l) (none ∙ sym (ap entries_of over)) ∙ now.invariant.made)

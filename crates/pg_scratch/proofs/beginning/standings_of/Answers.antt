@@ -1,0 +1,21 @@
+use Rattle.std.proofs.Common.{[], ◌∷◌, ◌++◌, ap, map, sym, ◌∙◌}
+use Rattle.std.proofs.lemmas.List.{append-nil, append_assoc}
+use Rattle.pg_model.specs.Run.{beginning}
+use Rattle.pg_scratch.proofs.beginning.standings_of.Goals as goal
+
+pub loop-id-preserved : goal.loop-id-preserved
+loop-id-preserved g c =
+    let begins = beginning (g.P.Computation.program c.args.program.now) in
+    let items = c.loop-id.standings.items in
+    let rest = map begins c.next.new.self in
+    ap (λ l. l ++ rest) c.in_ok-push.ensures.items
+    ∙ append_assoc items (_ ∷ []) rest
+    ∙ ap (λ x. items ++ x ∷ rest) c.in_ok-standing_of.ensures
+    ∙ sym (ap (λ l. items ++ map begins l) c.in-Some.ensures.steps)
+    ∙ c.loop-id.invariant
+
+pub returns : goal.returns
+returns g c =
+    let begins = beginning (g.P.Computation.program c.args.program.now) in
+    let items = c.loop-id.standings.items in
+    sym (append-nil items) ∙ sym (ap (λ l. items ++ map begins l) c.in-None.ensures.steps.0) ∙ c.loop-id.invariant

@@ -1,0 +1,21 @@
+use Rattle.std.proofs.Common.{◌≡◌, ℕ, ◌+◌, ◌<◌, min, List, [], ◌∷◌, ◌++◌, length, get_or, take, ap, subst, sym, ◌∙◌, arith}
+use Rattle.std.proofs.lemmas.List.{take_more}
+use Rattle.std.proofs.lemmas.List.Sums.{sum_by_push}
+use Rattle.pg_model.specs.Superstep.{capped, edges_of}
+use Rattle.pg_model.specs.declared.configuration.Standing.{Standing}
+use Rattle.pg_scratch.proofs.totals.counted.Goals as goal
+
+counted_more : {V M : Type 0} (xs : List (Standing V M)) (x : Standing V M) (i total n total' : ℕ) → i < length xs → x ≡ get_or xs i x
+    → total ≡ capped (edges_of (take i xs)) → n ≡ length x.state.edges → total' ≡ min (total + n) 18446744073709551615
+    → total' ≡ capped (edges_of (take (i + 1) xs))
+counted_more xs x i total n total' within is so_far here added =
+    let more : edges_of (take (i + 1) xs) ≡ edges_of (take i xs) + length x.state.edges =
+    ap edges_of (take_more xs i x within) ∙ ap (λ y. edges_of (take i xs ++ y ∷ [])) (sym is)
+    ∙ sum_by_push (λ y. length y.state.edges) (take i xs) x in
+    subst (λ e. total' ≡ capped e) (sym more) (omega (arith, so_far, here, added))
+
+pub loop-standing-preserved : goal.loop-standing-preserved
+loop-standing-preserved g c =
+    counted_more c.args.standings.now c.standing-item.result c.loop-standing.standing-index c.loop-standing.total
+    (length c.as_slice.result.now) _ c.loop-standing-test.true c.standing-item.is c.loop-standing.invariant
+    (ap length c.as_slice.ensures.value) c.saturating_add-total.ensures
