@@ -1,0 +1,9 @@
+use Rattle.std.proofs.Common.{◌++◌, ◌∷◌, [], ap, ◌∙◌}
+use Rattle.pg_trace.proofs.Moved.{moved_one}
+use Rattle.pg_trace.proofs.records.changes_kept.Goals as goal
+
+pub loop-id-preserved : goal.loop-id-preserved
+loop-id-preserved g c =
+    let before = c.loop-id.all.items in
+    moved_one before c.next.new.self.rest.items c.in-Some.ensures.steps.0 c.loop-id.invariant
+    (c.in_ok-push.ensures.items ∙ ap (λ x. before ++ (c.in-Some.id, x) ∷ []) c.in_ok-kept_if_any.ensures)
