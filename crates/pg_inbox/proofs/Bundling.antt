@@ -1,5 +1,6 @@
 -- A bundle has at each target what goes to it of the sends.
-use Rattle.std.proofs.Common.{◌≡◌, ℕ, ◌==◌, ◌||◌, not, Bool, true, false, cond, List, [], ◌∷◌, map, Option, None, Some, refl, sym, ap, ◌∙◌, subst, arith, ⊎_elim}
+use Rattle.std.proofs.Common.{◌≡◌, ℕ, ◌==◌, ◌||◌, not, Bool, true, false, cond, List, [], ◌∷◌, map}
+use Rattle.std.proofs.Common.{Option, None, Some, refl, sym, ap, ◌∙◌, subst, arith, true≢false, ⊎_elim}
 use Rattle.std.specs.List.{AllByRecursion, filter}
 use Rattle.std.specs.List.Sorted.{IsStrictlySortedBy}
 use Rattle.std.specs.BTreeMap.{is_at}
@@ -26,6 +27,14 @@ at_id q id = grind (arith, nat_tests)
 
 pub some_not_empty : {X : Type 0} (x : X) (l : List X) → is_empty (x ∷ l) ≡ false
 some_not_empty x l = grind (arith, nat_tests)
+
+pub any_of_some : {X : Type 0} (l : List X) → is_empty l ≡ false → any_of l ≡ Some l
+any_of_some [] none = absurd (true≢false none)
+any_of_some (x ∷ l) some = refl
+
+pub any_of_none : {X : Type 0} (l : List X) → is_empty l ≡ true → any_of l ≡ None
+any_of_none [] none = refl
+any_of_none (x ∷ l) none = absurd (true≢false (sym none ∙ some_not_empty x l))
 
 -- ---- look-ups
 
@@ -121,10 +130,11 @@ module _ {M : Type 0} where
       by false h = h
 
   -- the contents of groups are the bundle
-  pub bundle_from_groups : (combining : Option (Combining M)) (sent : Sends M) (items : List (ℕ × (ℕ × M))) (groups : List (ℕ × List (ℕ × M))) (parcels : Parcels M)
+  pub bundle_from_groups : (combining : Option (Combining M)) (sent : Sends M)
+      {items : List (ℕ × (ℕ × M))} {groups : List (ℕ × List (ℕ × M))} {parcels : Parcels M}
       → items ≡ map as_item sent → AreGroups items groups → parcels ≡ map (λ g. (g.0, contents_of combining g.1)) groups
       → (parcels ≡ bundle_of combining sent) × HasRisingIds parcels
-  bundle_from_groups combining sent items groups parcels are grouped made =
+  bundle_from_groups combining sent {items} {groups} {parcels} are grouped made =
       let rise : HasRisingIds parcels = subst HasRisingIds (sym made) (rises-values (contents_of combining) groups grouped.rise) in (
         is_bundle_of combining parcels sent rise (λ q. ap (value_at q) made
             ∙ (value_at-values (contents_of combining) q groups

@@ -1,5 +1,6 @@
 -- The bundles of lists of sends come to what the superstep delivers of all of them.
-use Rattle.std.proofs.Common.{◌≡◌, ℕ, ◌==◌, ◌≤◌, Bool, true, false, cond, List, [], ◌∷◌, ◌++◌, map, Option, None, Some, refl, sym, ap, ap₂, ◌∙◌, subst, ◌||◌, All, IsPermutation, filter, flat_map, fold, is_some, append_assoc, length, arith}
+use Rattle.std.proofs.Common.{◌≡◌, ℕ, ◌==◌, ◌≤◌, Bool, true, false, cond, List, [], ◌∷◌, ◌++◌, map, Option, None, Some, refl, sym, ap, ap₂}
+use Rattle.std.proofs.Common.{◌∙◌, subst, ◌||◌, All, IsPermutation, filter, flat_map, fold, is_some, append_assoc, length, arith}
 use Rattle.std.specs.List.{AllByRecursion, list_any}
 use Rattle.std.specs.Option.{option_to_list, option_map}
 use Rattle.std.proofs.lemmas.List.{append-nil, map-append}

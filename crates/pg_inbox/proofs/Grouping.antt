@@ -1,5 +1,6 @@
 -- Items that are put to their targets one after another, and what there is at each target then.
-use Rattle.std.proofs.Common.{◌≡◌, ℕ, ◌<◌, ◌≤◌, ◌==◌, Bool, true, false, cond, not, ◌&&◌, is_lt, List, [], ◌∷◌, ◌++◌, length, map, get_or, suc, Option, None, Some, refl, sym, ap, ◌∙◌, subst, arith, append_assoc}
+use Rattle.std.proofs.Common.{◌≡◌, ℕ, ◌<◌, ◌≤◌, ◌==◌, Bool, true, false, cond, not, ◌&&◌, is_lt, List, [], ◌∷◌, ◌++◌, length}
+use Rattle.std.proofs.Common.{map, get_or, suc, Option, None, Some, refl, sym, ap, ◌∙◌, subst, arith, append_assoc}
 use Rattle.std.specs.List.{AllByRecursion, filter, fold}
 use Rattle.std.specs.List.Sorted.{IsNonDecreasingBy, IsStableByKey, IsStrictlySortedBy, ties}
 use Rattle.std.specs.Ordering.{nat_cmp, match_ordering}

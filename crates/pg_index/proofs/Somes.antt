@@ -1,5 +1,5 @@
 -- The changes that give something.
-use Rattle.std.proofs.Common.{◌≡◌, ℕ, Bool, true, false, cond, List, [], ◌∷◌, Option, None, Some, refl, sym, ap, ◌∙◌}
+use Rattle.std.proofs.Common.{◌≡◌, ℕ, ◌==◌, Bool, true, false, cond, length, List, [], ◌∷◌, Option, None, Some, refl, sym, ap, ◌∙◌, arith, true≢false}
 use Rattle.std.specs.BTreeMap.{is_at}
 use Rattle.std.specs.List.{AllByRecursion}
 use Rattle.std.specs.List.Sorted.{IsStrictlySortedBy}
@@ -7,6 +7,7 @@ use Rattle.std.specs.Map.{keys_of}
 use Rattle.std.specs.Option.{unwrap_or}
 use Rattle.std.specs.Ordering.{nat_cmp}
 use Rattle.std.specs.declared.cmp.Ordering.TheVariants.{Less}
+use Rattle.std.proofs.lemmas.Bool.Decides.{nat_tests}
 use Rattle.pg_map.specs.Entries.{ChangesRise, HasRisingIds, value_at, with_changes}
 use Rattle.pg_map.proofs.Changing.{rises-changes, value_at-with_changes}
 use Rattle.pg_map.proofs.Rising.{none_past, same_entries}
@@ -14,6 +15,13 @@ use Rattle.pg_map.proofs.Rising.{none_past, same_entries}
 pub nothing_rises : (X : Type 0) → HasRisingIds {V = X} []
 unfolding IsStrictlySortedBy
 nothing_rises X = tt
+
+-- a list whose length, told by a number, was tested
+pub nil_from_test : {X : Type 0} (l : List X) (n : ℕ) → n ≡ length l → true ≡ (n == 0) → l ≡ []
+nil_from_test [] n len none = refl
+nil_from_test (x ∷ l) n len none =
+    let some : (length (x ∷ l) == 0) ≡ false = grind (arith, nat_tests) in
+    absurd (true≢false (none ∙ ap (λ k. k == 0) len ∙ some))
 
 module _ {X : Type 0} where
   abbrev pub somes : List (ℕ × Option X) → List (ℕ × X)

@@ -1,6 +1,7 @@
 -- Censuses of more vertices.
-use Rattle.std.proofs.Common.{◌≡◌, ℕ, cond, not, Bool, true, false, List, [], ◌∷◌, ◌++◌, length, refl, ap, subst, sym, ◌∙◌, zero-add, sum_by, Option}
-use Rattle.std.proofs.lemmas.List.{append-nil, length-append}
+use Rattle.std.proofs.Common.{◌≡◌, ℕ, ◌+◌, ◌<◌, cond, not, Bool, true, false, List, [], ◌∷◌, ◌++◌, length, get_or, take}
+use Rattle.std.proofs.Common.{refl, ap, subst, sym, ◌∙◌, zero-add, sum_by, Option}
+use Rattle.std.proofs.lemmas.List.{append-nil, length-append, take_more}
 use Rattle.std.proofs.lemmas.Grind.{flat_map-append}
 use Rattle.std.proofs.lemmas.List.Sums.{sum_by-append}
 use Rattle.std.specs.Option.{option_to_list}
@@ -16,6 +17,9 @@ same_sum a b c d h k =
     let e : c.edges ≡ d.edges = h.edges ∙ sym k.edges in
     let w : c.awake ≡ d.awake = h.awake ∙ sym k.awake in
     λ i. record { vertices = v i; edges = e i; awake = w i }
+
+pub one_taken : {X : Type 0} (xs : List X) (i : ℕ) {x : X} → i < length xs → x ≡ get_or xs i x → take i xs ++ x ∷ [] ≡ take (i + 1) xs
+one_taken xs i {x} within is = ap (λ y. take i xs ++ y ∷ []) is ∙ sym (take_more xs i x within)
 
 module _ {V : Type 0} where
   pub census-append : (xs ys : List (VertexState V)) → IsSum (census_of xs) (census_of ys) (census_of (xs ++ ys))

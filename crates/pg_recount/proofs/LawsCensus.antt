@@ -1,5 +1,6 @@
 -- The census of states that differ from others at some ids alone.
-use Rattle.std.proofs.Common.{◌≡◌, ℕ, suc, ◌+◌, cond, not, false, List, [], ◌∷◌, length, refl, ap, ap₂, sym, ◌∙◌, arith, sum_by, flat_map, Option, None, Some, inl, inr, ◌⊎◌}
+use Rattle.std.proofs.Common.{◌≡◌, ℕ, suc, ◌+◌, cond, not, false, List, [], ◌∷◌, length, refl, ap, ap₂}
+use Rattle.std.proofs.Common.{sym, ◌∙◌, arith, sum_by, flat_map, Option, None, Some, inl, inr, ◌⊎◌}
 use Rattle.std.specs.List.Sorted.{IsStrictlySortedBy}
 use Rattle.std.specs.Option.{option_to_list}
 use Rattle.std.specs.Ordering.{nat_cmp}

@@ -1,5 +1,6 @@
 -- What is counted of bundles and records is what the run comes to.
-use Rattle.std.proofs.Common.{◌≡◌, ℕ, suc, ◌+◌, ◌<◌, ◌%◌, ◌==◌, ◌&&◌, ◌||◌, cond, not, Bool, true, false, is_some, List, [], ◌∷◌, ◌++◌, map, length, ℤ, refl, ap, ap₂, sym, ◌∙◌, arith, mod-lt, filter, flat_map, sum_by, count_by, Option, None, Some, true≢false}
+use Rattle.std.proofs.Common.{◌≡◌, ℕ, suc, ◌+◌, ◌<◌, ◌%◌, ◌==◌, ◌&&◌, ◌||◌, cond, not, Bool, true, false, is_some, List, [], ◌∷◌, ◌++◌, map, length}
+use Rattle.std.proofs.Common.{ℤ, refl, ap, ap₂, sym, ◌∙◌, arith, mod-lt, filter, flat_map, sum_by, count_by, Option, None, Some, true≢false}
 use Rattle.std.specs.List.{AllByRecursion, range_with_len}
 use Rattle.std.specs.List.Sorted.{IsStrictlySortedBy}
 use Rattle.std.specs.BTreeMap.{is_at}

@@ -1,5 +1,6 @@
 -- The traffic of bundles that differ from others at some targets alone, on graphs that differ in some vertices alone.
-use Rattle.std.proofs.Common.{◌≡◌, ℕ, zero, suc, ◌+◌, ◌<◌, ◌==◌, cond, not, Bool, true, false, List, [], ◌∷◌, map, length, refl, ap, sym, ◌∙◌, subst, arith, sum_by, Option, None, Some, zero-add, add-one}
+use Rattle.std.proofs.Common.{◌≡◌, ℕ, zero, suc, ◌+◌, ◌<◌, ◌==◌, cond, not, Bool, true, false, List, [], ◌∷◌, map, length}
+use Rattle.std.proofs.Common.{refl, ap, sym, ◌∙◌, subst, arith, sum_by, Option, None, Some, zero-add, add-one}
 use Rattle.std.specs.List.{range_with_len, slice_get}
 use Rattle.std.specs.List.Sorted.{IsStrictlySortedBy}
 use Rattle.std.specs.List.{find}
@@ -20,7 +21,8 @@ use Rattle.pg_inbox.specs.declared.parcel.Contents.{Contents}
 use Rattle.pg_map.specs.Entries.{HasRisingIds, value_at}
 use Rattle.pg_model.proofs.LawsPresent.{at_key}
 use Rattle.pg_model.specs.Superstep.{has_id}
-use Rattle.pg_recount.specs.Traffic.{AreMoved, IsRetold, IsTold, dropped_come, dropped_gone, dropped_of, is_any, is_nobody, is_vertex, messages_among, sent_come, sent_gone, told_by, traffic_of, turned, turned_at}
+use Rattle.pg_recount.specs.Traffic.{AreMoved, IsRetold, IsTold, dropped_come, dropped_gone, dropped_of, is_any, is_nobody}
+use Rattle.pg_recount.specs.Traffic.{is_vertex, messages_among, sent_come, sent_gone, told_by, traffic_of, turned, turned_at}
 use Rattle.pg_recount.proofs.Passing.{sum_range}
 use Rattle.pg_recount.proofs.Sums.{at, at-rising, same_but_at, same_sums, same_sums_in, weighed}
 use Rattle.pg_stats.specs.declared.stats.Traffic.{Traffic}

@@ -60,9 +60,9 @@ module _ {M : Type 0} where
       sum_range q at ∙ ap (λ (n : Option (Logged M)). turned count logs s p bundles q + turned_at count (slot_at logs s p q) n) e
 
   -- so a count goes on
-  pub turned_on : (count : Parcels M → Logged M → ℕ) (logs : Slots M) (s p : ℕ) (bundles : List (Logged M)) (q : ℕ) (logged : Logged M)
-      → slice_get bundles q ≡ Some logged → (before : Option (Parcels M)) → before ≡ option_map (λ l. l.bundle) (slot_at logs s p q)
-      → (a here after : ℕ) → a ≡ turned count logs s p bundles q → here ≡ count (parcels_in before) logged → after ≡ a + here
+  pub turned_on : (count : Parcels M → Logged M → ℕ) (logs : Slots M) (s p : ℕ) (bundles : List (Logged M)) (q : ℕ) {logged : Logged M}
+      → slice_get bundles q ≡ Some logged → {before : Option (Parcels M)} → before ≡ option_map (λ l. l.bundle) (slot_at logs s p q)
+      → {a here after : ℕ} → a ≡ turned count logs s p bundles q → here ≡ count (parcels_in before) logged → after ≡ a + here
       → after ≡ turned count logs s p bundles (q + 1)
-  turned_on count logs s p bundles q logged e before b a here after so_far h k =
+  turned_on count logs s p bundles q {logged} e b so_far h k =
       k ∙ (ap₂ ◌+◌ so_far (h ∙ ap (λ (o : Option (Parcels M)). count (parcels_in o) logged) b) ∙ sym (turned_more count logs s p bundles q logged e))

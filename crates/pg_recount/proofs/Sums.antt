@@ -1,5 +1,6 @@
 -- Sums over lists by a key: where two lists come to the same at all keys but some, their sums differ by what they come to at those.
-use Rattle.std.proofs.Common.{◌≡◌, ℕ, zero, suc, ◌+◌, ◌<◌, ◌≤◌, Bool, true, false, cond, ◌==◌, ◌||◌, List, [], ◌∷◌, map, refl, ap, ap₂, sym, ◌∙◌, arith, filter, subst, sum_by, zero-add, Option, None, Some}
+use Rattle.std.proofs.Common.{◌≡◌, ℕ, zero, suc, ◌+◌, ◌<◌, ◌≤◌, Bool, true, false, cond, ◌==◌, ◌||◌, List, [], ◌∷◌, map}
+use Rattle.std.proofs.Common.{refl, ap, ap₂, sym, ◌∙◌, arith, filter, subst, sum_by, zero-add, Option, None, Some}
 use Rattle.std.specs.List.{AllByRecursion, find}
 use Rattle.std.specs.List.Sorted.{IsStrictlySortedBy}
 use Rattle.std.specs.Ordering.{nat_cmp}

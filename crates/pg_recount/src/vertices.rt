@@ -12,7 +12,6 @@ use pg_trace::{StateRef, States, Trace};
 use std::alloc::AllocError;
 
 /// The census of these vertices.
-#[tactic(auto, using(crate::proofs::Counting::census_push))]
 pub fn census<V: Plain>(states: &[VertexState<V>]) -> Result<Census, Memory>
     ensures { IfOk result (λ census. census ≡ census_of states.now) }
 {
@@ -24,7 +23,6 @@ pub fn census<V: Plain>(states: &[VertexState<V>]) -> Result<Census, Memory>
 }
 
 /// The census of those of these vertices that have a state as a superstep begins. Costs a look-up for each.
-#[tactic(auto, using(crate::proofs::Counting::among_push))]
 pub fn census_among<V: Plain, M: Plain>(
     trace: &Trace<V, M>,
     superstep: Superstep,
@@ -51,7 +49,6 @@ pub struct Turned {
 
 /// The censuses of those of these vertices that have a state as a superstep begins, and as the next one begins. Costs one
 /// look-up for each.
-#[tactic(auto, using(crate::proofs::Counting::with_push))]
 pub fn turned_among<V: Plain, M: Plain>(
     trace: &Trace<V, M>,
     superstep: Superstep,

@@ -1,7 +1,8 @@
 -- Lists made item by item, and counts that stop.
-use Rattle.std.proofs.Common.{◌≡◌, ℕ, ◌+◌, Bool, true, cond, filter, List, [], ◌∷◌, ◌++◌, refl, ap, sym, ◌∙◌, arith, append_assoc, flat_map, count_by, suc, zero, ◌<◌, length, Some}
+use Rattle.std.proofs.Common.{◌≡◌, ℕ, ◌+◌, Bool, true, cond, filter, List, [], ◌∷◌, ◌++◌, refl, ap, sym, ◌∙◌}
+use Rattle.std.proofs.Common.{arith, append_assoc, flat_map, count_by, suc, zero, ◌<◌, get_or, length, take, Some}
 use Rattle.std.specs.List.{AllByRecursion, range_with_len, slice_get}
-use Rattle.std.proofs.lemmas.List.{append-nil}
+use Rattle.std.proofs.lemmas.List.{append-nil, take_more}
 use Rattle.std.proofs.lemmas.List.Sums.{sum_by_push}
 use Rattle.pg_model.specs.Superstep.{capped}
 
@@ -11,6 +12,9 @@ module _ {X Y : Type 0} where
   flat_map-push f (y ∷ ys) x = ap (λ l. f y ++ l) (flat_map-push f ys x) ∙ sym (append_assoc (f y) (flat_map f ys) (f x))
 
 module _ {X : Type 0} where
+  pub one_taken : (xs : List X) (i : ℕ) {x : X} → i < length xs → x ≡ get_or xs i x → take i xs ++ x ∷ [] ≡ take (i + 1) xs
+  one_taken xs i {x} within is = ap (λ y. take i xs ++ y ∷ []) is ∙ sym (take_more xs i x within)
+
   pub count_by-push : (p : X → Bool) (xs : List X) (x : X) → count_by p (xs ++ x ∷ []) ≡ count_by p xs + cond (p x) 1 0
   count_by-push p xs x = sum_by_push (λ y. cond (p y) 1 0) xs x
 

@@ -10,12 +10,14 @@ parcels_of-requires-after_bounds g c κs within =
 
 pub from_rising-requires : goal.from_rising-requires
 from_rising-requires g c =
-    (bundle_from_groups (g.C.MessageCombiner.combining c.args.combiner.now) c.args.sent.now c.in_ok-letters.letters.items c.in_ok-groups.groups.items c.in_ok-parcels.parcels.items c.in_ok-letters.ensures.items c.in_ok-groups.ensures c.in_ok-parcels.ensures).1
+    (bundle_from_groups (g.C.MessageCombiner.combining c.args.combiner.now) c.args.sent.now
+    c.in_ok-letters.ensures.items c.in_ok-groups.ensures c.in_ok-parcels.ensures).1
 
 pub returns : goal.returns
 returns g c =
     c.in_ok-parcels-2.ensures
-    ∙ (bundle_from_groups (g.C.MessageCombiner.combining c.args.combiner.now) c.args.sent.now c.in_ok-letters.letters.items c.in_ok-groups.groups.items c.in_ok-parcels.parcels.items c.in_ok-letters.ensures.items c.in_ok-groups.ensures c.in_ok-parcels.ensures).0
+    ∙ (bundle_from_groups (g.C.MessageCombiner.combining c.args.combiner.now) c.args.sent.now
+    c.in_ok-letters.ensures.items c.in_ok-groups.ensures c.in_ok-parcels.ensures).0
 
 pub invariant_of-result : goal.invariant_of-result
 invariant_of-result g c =

@@ -20,4 +20,4 @@ returns-clause-items g c =
 
 pub returns-clause-values : goal.returns-clause-values
 returns-clause-values g c =
-    values_sorted (λ l. g.M.Plain.is_value l.1) c.add_letters.new.after.items c.sort_by_key.new.self.items c.in_ok-sort_by_key.ensures.permutation c.in_ok-add_letters.ensures.values
+    values_sorted (λ l. g.M.Plain.is_value l.1) _ _ c.in_ok-sort_by_key.ensures.permutation c.in_ok-add_letters.ensures.values

@@ -1,6 +1,5 @@
-use Rattle.std.proofs.Common.{◌≡◌, ◌++◌, [], ◌∷◌, IfOk, append_assoc, sym, ap, ◌∙◌, subst, arith}
-use Rattle.std.proofs.lemmas.Grind.{common_steps}
-use Rattle.std.proofs.lemmas.List.{append-nil}
+use Rattle.std.proofs.Common.{◌≡◌, ◌++◌, [], ◌∷◌, IfOk, append_assoc, sym, ap, ◌∙◌, subst}
+use Rattle.std.proofs.lemmas.List.{append-nil, nil_from_length}
 use Rattle.pg_map.specs.Entries.{HasRisingIds}
 use Rattle.pg_index.proofs.Somes.{somes, somes_are, somes_rise}
 use Rattle.pg_index.proofs.changes.fresh.Goals as goal
@@ -21,12 +20,14 @@ loop-id-preserved g c =
 
 pub from_rising-requires : goal.from_rising-requires
 from_rising-requires g c =
-    let done : c.loop-id.id-iterator.rest.items ≡ [] = grind (arith, common_steps) in
+    let left = c.loop-id.id-iterator.rest in
+    let done : left.items ≡ [] = nil_from_length left.items (sym left.ok.0 ∙ c.in-None.ensures.steps.0) in
     let all = sym (append-nil c.loop-id.there.items) ∙ ap (λ l. c.loop-id.there.items ++ somes l) (sym done) ∙ c.loop-id.invariant in
     subst (λ l. HasRisingIds l) (sym all) (somes_rise c.args.changes.items c.requires)
 
 pub returns : goal.returns
 returns g c =
-    let done : c.loop-id.id-iterator.rest.items ≡ [] = grind (arith, common_steps) in
+    let left = c.loop-id.id-iterator.rest in
+    let done : left.items ≡ [] = nil_from_length left.items (sym left.ok.0 ∙ c.in-None.ensures.steps.0) in
     let all = sym (append-nil c.loop-id.there.items) ∙ ap (λ l. c.loop-id.there.items ++ somes l) (sym done) ∙ c.loop-id.invariant in
     subst (λ l. IfOk c.from_rising.result (λ records. records ≡ l)) (all ∙ somes_are c.args.changes.items c.requires) c.from_rising.ensures

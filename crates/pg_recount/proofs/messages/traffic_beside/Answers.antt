@@ -23,8 +23,10 @@ loop-to-preserved g c =
     c.bundle_of-old.ensures
     ∙ ap (option_map (λ (l : Logged g.row.M.Denot). l.bundle)) (c.get.ensures ∙ ap (slot_at c.args.old_logs.now c.args.superstep c.args.from) number) in
     record {
-      sent_gone = turned_on sent_gone logs s from bundles q _ here _ old _ _ _ c.loop-to.invariant.sent_gone c.in_ok-sent_turnover.ensures.gone c.in_ok-sent.ensures.gone;
-      sent_come = turned_on sent_come logs s from bundles q _ here _ old _ _ _ c.loop-to.invariant.sent_come c.in_ok-sent_turnover.ensures.come c.in_ok-sent.ensures.come;
-      dropped_gone = turned_on (dropped_gone c.args.missing c.args.graph.now c.args.moved.now) logs s from bundles q _ here _ old _ _ _ c.loop-to.invariant.dropped_gone c.in_ok-dropped_turnover.ensures.gone c.in_ok-dropped.ensures.gone;
-      dropped_come = turned_on (dropped_come c.args.missing c.args.graph.now c.args.moved.now) logs s from bundles q _ here _ old _ _ _ c.loop-to.invariant.dropped_come c.in_ok-dropped_turnover.ensures.come c.in_ok-dropped.ensures.come;
+      sent_gone = turned_on sent_gone logs s from bundles q here old c.loop-to.invariant.sent_gone c.in_ok-sent_turnover.ensures.gone c.in_ok-sent.ensures.gone;
+      sent_come = turned_on sent_come logs s from bundles q here old c.loop-to.invariant.sent_come c.in_ok-sent_turnover.ensures.come c.in_ok-sent.ensures.come;
+      dropped_gone = turned_on (dropped_gone c.args.missing c.args.graph.now c.args.moved.now) logs s from bundles q here old
+          c.loop-to.invariant.dropped_gone c.in_ok-dropped_turnover.ensures.gone c.in_ok-dropped.ensures.gone;
+      dropped_come = turned_on (dropped_come c.args.missing c.args.graph.now c.args.moved.now) logs s from bundles q here old
+          c.loop-to.invariant.dropped_come c.in_ok-dropped_turnover.ensures.come c.in_ok-dropped.ensures.come;
     }

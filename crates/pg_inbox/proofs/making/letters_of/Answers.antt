@@ -1,0 +1,15 @@
+use Rattle.std.proofs.Common.{◌∷◌, [], ◌++◌, ap, ◌∙◌}
+use Rattle.pg_inbox.specs.Holding.{as_item}
+use Rattle.pg_inbox.proofs.Filling.{all_pushed, mapped_more}
+use Rattle.pg_inbox.proofs.making.letters_of.Goals as goal
+
+pub loop-sender-preserved : goal.loop-sender-preserved
+loop-sender-preserved g c =
+    let before = c.loop-sender.letters.items in
+    let send = c.loop-sender-item.result in
+    let pushed = c.in_ok-push.ensures.items in
+    record {
+      items = mapped_more as_item c.args.sent.now c.loop-sender.sender-index c.loop-sender-test.true c.loop-sender-item.is
+          c.loop-sender.invariant.items (pushed ∙ ap (λ m. before ++ (send.1, (send.0, m)) ∷ []) c.in_ok-message.ensures);
+      values = all_pushed (λ l. g.M.Plain.is_value l.1.1) before c.loop-sender.invariant.values pushed c.fits.ensures;
+    }

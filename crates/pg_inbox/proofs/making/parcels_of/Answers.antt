@@ -1,0 +1,21 @@
+use Rattle.std.proofs.Common.{ℕ, List, ◌++◌, ◌∷◌, [], ap, append_assoc, subst, sym, ◌∙◌}
+use Rattle.std.specs.List.{AllByRecursion}
+use Rattle.pg_inbox.specs.Bundles.{contents_of}
+use Rattle.pg_inbox.specs.Holding.{IsLetters}
+use Rattle.pg_inbox.proofs.Filling.{mapped_taken}
+use Rattle.pg_inbox.proofs.making.parcels_of.Goals as goal
+
+pub loop-target-preserved : goal.loop-target-preserved
+loop-target-preserved g c =
+    let contents = contents_of (g.C.MessageCombiner.combining c.args.combiner.now) in
+    let before = c.loop-target.parcels.items in
+    let yielded = c.loop-target.yielded in
+    let target = c.in-Some.target in
+    let group : ℕ × List (ℕ × g.row.M.Denot) = (target, c.in-Some.letters) in
+    record {
+      so_far = mapped_taken (λ e. (e.0, contents e.1)) yielded group c.loop-target.invariant.so_far
+          (c.in_ok-push.ensures.items ∙ ap (λ p. before ++ (target, p) ∷ []) c.in_ok-of.ensures);
+      left = (subst (AllByRecursion (λ e. IsLetters g.M.Plain.is_value e.1)) c.in-Some.ensures.steps.0 c.loop-target.invariant.left).1;
+      whole = append_assoc yielded (group ∷ []) c.next.new.self.rest.items
+          ∙ ap (λ l. yielded ++ l) (sym c.in-Some.ensures.steps.0) ∙ c.loop-target.invariant.whole;
+    }

@@ -1,0 +1,25 @@
+use Rattle.std.proofs.Common.{◌++◌, ap, subst, sym, ◌∙◌}
+use Rattle.std.specs.List.{AllByRecursion}
+use Rattle.std.proofs.lemmas.List.{append-nil}
+use Rattle.pg_inbox.specs.Mending.{added_by}
+use Rattle.pg_inbox.proofs.Filling.{gathered_after}
+use Rattle.pg_inbox.proofs.patching.add_letters.Goals as goal
+use Rattle.pg_inbox.proofs.patching.add_letters.Goals.{in-Added+in_ok-add_letter, in_default}
+
+pub loop-mend-preserved : goal.loop-mend-preserved
+loop-mend-preserved g c =
+    let before = c.loop-mend.after.items in
+    elim c.match-mend.branch [
+      | in-Added+in_ok-add_letter w ↦ record {
+        items = gathered_after added_by c.args.after.now.items c.args.mends.now c.loop-mend.mend-index c.loop-mend-test.true c.mend-item.is
+            c.loop-mend.invariant.items
+            (ap (λ v. v.items) w.after-is ∙ w.in_ok-add_letter.ensures.items ∙ ap (λ m. before ++ added_by m) (sym w.in-Added.is));
+        values = subst (λ v. AllByRecursion (λ l. g.M.Plain.is_value l.1) v.items) (sym w.after-is) w.in_ok-add_letter.ensures.values;
+      }
+      | in_default w ↦ record {
+        items = gathered_after added_by c.args.after.now.items c.args.mends.now c.loop-mend.mend-index c.loop-mend-test.true c.mend-item.is
+            c.loop-mend.invariant.items
+            (ap (λ v. v.items) w.after-is ∙ sym (append-nil before) ∙ ap (λ m. before ++ added_by m) (sym w.in_default.is));
+        values = subst (λ v. AllByRecursion (λ l. g.M.Plain.is_value l.1) v.items) (sym w.after-is) c.loop-mend.invariant.values;
+      }
+    ]

@@ -1,0 +1,7 @@
+use Rattle.pg_inbox.proofs.Filling.{mapped_more}
+use Rattle.pg_inbox.proofs.patching.targets_of.Goals as goal
+
+pub loop-target-preserved : goal.loop-target-preserved
+loop-target-preserved g c =
+    mapped_more (λ e. e.0) c.args.groups.now c.loop-target.target-index c.loop-target-test.true c.loop-target-item.is
+    c.loop-target.invariant c.in_ok-push.ensures.items

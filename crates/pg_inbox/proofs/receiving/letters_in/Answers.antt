@@ -1,0 +1,7 @@
+use Rattle.pg_inbox.proofs.Filling.{gathered_more}
+use Rattle.pg_inbox.proofs.receiving.letters_in.Goals as goal
+
+pub loop-parcel-preserved : goal.loop-parcel-preserved
+loop-parcel-preserved g c =
+    gathered_more (λ p. p.letters) c.args.parcels.now c.loop-parcel.parcel-index c.loop-parcel-test.true c.parcel-item.is
+    c.loop-parcel.invariant c.in_ok-copy_letters.ensures

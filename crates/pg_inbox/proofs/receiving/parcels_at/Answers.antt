@@ -1,0 +1,27 @@
+use Rattle.std.proofs.Common.{◌++◌, ap, map, subst, sym, ◌∙◌}
+use Rattle.std.specs.Option.{option_to_list}
+use Rattle.std.proofs.ByRecursion.{All-more}
+use Rattle.std.proofs.lemmas.Grind.{flat_map-append}
+use Rattle.std.proofs.lemmas.List.{append-nil, map-append}
+use Rattle.pg_map.specs.Entries.{value_at}
+use Rattle.pg_inbox.specs.Holding.{HoldsAt}
+use Rattle.pg_inbox.specs.Inboxes.{contents_to}
+use Rattle.pg_inbox.proofs.Filling.{joined_more}
+use Rattle.pg_inbox.proofs.receiving.parcels_at.Goals as goal
+
+pub loop-bundle-preserved : goal.loop-bundle-preserved
+loop-bundle-preserved g c =
+    let id = c.args.id in
+    let before = c.loop-bundle.parcels.items in
+    let bundle = c.bundle-item.result in
+    let all = c.args.bundles.now in
+    let i = c.loop-bundle.bundle-index in
+    record {
+      items = joined_more (λ bs. contents_to id (map (λ b. b.now) bs))
+          (λ xs ys. ap (contents_to id) (map-append (λ b. b.now) xs ys)
+          ∙ flat_map-append (λ b. option_to_list (value_at id b)) (map (λ b. b.now) xs) (map (λ b. b.now) ys))
+          all i c.loop-bundle-test.true c.bundle-item.is c.loop-bundle.invariant.items
+          (c.in_ok-add_parcel.ensures.items ∙ ap (λ l. before ++ l) (sym (append-nil (option_to_list (value_at id bundle.now)))));
+      hold = All-more (λ b. HoldsAt g.M.Plain.is_value (value_at id b.now)) all i bundle c.loop-bundle-test.true c.loop-bundle.invariant.hold
+          (subst (λ b. HoldsAt g.M.Plain.is_value (value_at id b.now)) c.bundle-item.is c.in_ok-add_parcel.ensures.holds);
+    }

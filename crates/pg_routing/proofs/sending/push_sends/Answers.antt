@@ -1,0 +1,17 @@
+use Rattle.std.proofs.Common.{◌++◌, ◌∷◌, [], ap, append_assoc, map, sym, ◌∙◌, take}
+use Rattle.std.proofs.lemmas.List.{map-append}
+use Rattle.pg_routing.proofs.Listing.{one_taken}
+use Rattle.pg_routing.proofs.sending.push_sends.Goals as goal
+
+pub loop-target-preserved : goal.loop-target-preserved
+loop-target-preserved g c =
+    let sender = c.args.sender in
+    let start = c.args.sends.now.items in
+    let sent = c.args.sent.now in
+    let i = c.loop-target.target-index in
+    let one = c.loop-target-item.result in
+    let sends = map (λ m. (m.0, (sender, m.0, m.1))) in
+    c.in_ok-push.ensures.items ∙ ap (λ m. c.loop-target.sends.items ++ (one.0, (sender, one.0, m)) ∷ []) c.in_ok-message.ensures
+    ∙ ap (λ l. l ++ sends (one ∷ [])) c.loop-target.invariant ∙ append_assoc start (sends (take i sent)) (sends (one ∷ []))
+    ∙ ap (λ l. start ++ l) (sym (map-append (λ m. (m.0, (sender, m.0, m.1))) (take i sent) (one ∷ []))
+    ∙ ap sends (one_taken sent i c.loop-target-test.true c.loop-target-item.is))
