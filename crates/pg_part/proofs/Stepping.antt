@@ -1,5 +1,6 @@
 -- What a partition has come to after a step.
-use Rattle.std.proofs.Common.{◌≡◌, ℕ, zero, suc, ◌+◌, ◌<◌, ◌≤◌, Bool, true, false, List, [], ◌∷◌, ◌++◌, map, length, Option, None, Some, Ok, Result, IfOk, refl, ap, ap₂, sym, ◌∙◌, subst, arith}
+use Rattle.std.proofs.Common.{◌≡◌, ℕ, zero, suc, ◌+◌, ◌<◌, ◌≤◌, Bool, true, false, List, [], ◌∷◌, ◌++◌, map, length}
+use Rattle.std.proofs.Common.{Option, None, Some, Ok, Result, IfOk, refl, ap, ap₂, sym, ◌∙◌, subst, arith}
 use Rattle.std.specs.List.{range_with_len, slice_get}
 use Rattle.std.proofs.lemmas.List.FromFn.{map-range_with_len_more}
 use Rattle.pg_course.specs.Course.{AreAllChanged, AreTheOnlyBeside, Holding, Holds, IsSentTo}
@@ -31,7 +32,8 @@ slice_get-range made a (suc n) (suc k) within =
     slice_get-range made (a + 1) n k (omega (arith, within)) ∙ ap (λ (i : ℕ). Some (made i)) (let e : a + 1 + k ≡ a + suc k = omega arith in e)
 
 -- the stats after a superstep, by other names of what is looked at
-pub next_stats_at : {V M : Type 0} (registry : Registered) (graph rows : Rows) (ids moved : List ℕ) (now stats then old_stats : List PartitionStats) (logs : Option (Slots M))
+pub next_stats_at : {V M : Type 0} (registry : Registered) (graph rows : Rows) (ids moved : List ℕ)
+    (now stats then old_stats : List PartitionStats) (logs : Option (Slots M))
     (seen course : Holding V M) (k s : ℕ) (sent bundles : List (Logged M)) (after : PartitionStats) → graph ≡ rows → ids ≡ moved
     → now ≡ stats → then ≡ old_stats → seen ≡ course
     → k ≡ s → sent ≡ bundles → IsNextStats registry graph ids now then logs seen k sent after
@@ -91,7 +93,8 @@ module _ {V M : Type 0} (job : Job V M) where
         beside_is job rows n p some registry same r course holds.missing_is holds.run (Some old) sent to_each sends
         old before.moved has.beside.1 refl holds.partition_is holds.beside.trace holds.beside.whole old_logs lent.0.sent
         only earlier old_earlier old_later next refl refl refl
-        (subst (λ (g : Rows). IsReckonedBeside registry g before.moved holds.beside.trace old_logs course r sent earlier old_earlier old_later next) has.graph_is reckoned)
+        (subst (λ (g : Rows). IsReckonedBeside registry g before.moved holds.beside.trace old_logs course r sent earlier old_earlier old_later next)
+        has.graph_is reckoned)
 
     -- any other step
     alone : (kept : Option Rows) → HasStats job kept rows n p r before → Holds job kept rows n p (r + 1) course
