@@ -1,5 +1,6 @@
 -- The vertices that a step looks at are all that may be active.
-use Rattle.std.proofs.Common.{◌≡◌, ℕ, zero, suc, ◌<◌, ◌==◌, ◌||◌, not, Bool, true, false, cond, List, [], ◌∷◌, map, length, slice_index_or, Option, None, Some, option_map, is_some, refl, sym, ap, ◌∙◌, arith, true≢false, filter, inl, inr}
+use Rattle.std.proofs.Common.{◌≡◌, ℕ, zero, suc, ◌<◌, ◌==◌, ◌||◌, not, Bool, true, false, cond, List, [], ◌∷◌, map, length, slice_index_or}
+use Rattle.std.proofs.Common.{Option, None, Some, option_map, is_some, refl, sym, ap, ◌∙◌, arith, true≢false, filter, inl, inr}
 use Rattle.std.proofs.lemmas.Bool.{cases_lt, eqb-true}
 use Rattle.std.proofs.lemmas.List.{get_or-take, get_or_append_left, get_or_push, length-append}
 use Rattle.std.proofs.lemmas.Option.{none-some, same_Some}

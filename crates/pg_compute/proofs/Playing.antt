@@ -15,7 +15,8 @@ use Rattle.pg_compute.proofs.Changing.{entries-rise}
 use Rattle.pg_routing.proofs.Beginning.{own_rise}
 
 -- what is played changes records by rising id
-pub played_rise : {V M : Type 0} (value_eq : V → V → Bool) (message_eq : M → M → Bool) (program : Program V M) (missing : Missing) (combining : Option (Combining M)) (view : View)
+pub played_rise : {V M : Type 0} (value_eq : V → V → Bool) (message_eq : M → M → Bool) (program : Program V M)
+    (missing : Missing) (combining : Option (Combining M)) (view : View)
     (n p s : ℕ) (trace : Trace V M) (bundles : List (Parcels M)) (beside : Option (Trace V M × List (Parcels M))) (ids : List ℕ)
     (all seen : Bool) (before : ℕ) (played : Played V M)
     → IsPlayed value_eq message_eq program missing combining view n p s trace bundles beside ids all seen before played → ChangesRise played.changes.items
@@ -25,7 +26,8 @@ played_rise value_eq message_eq program missing combining view n p s trace bundl
     (subst (IsStrictlySortedBy nat_cmp) (sym is.ids_are) (own_rise n p is.callees is.are.rise)))
 
 -- and looks at vertices by rising id
-pub looked_at_rise : {V M : Type 0} (value_eq : V → V → Bool) (message_eq : M → M → Bool) (program : Program V M) (missing : Missing) (combining : Option (Combining M)) (view : View)
+pub looked_at_rise : {V M : Type 0} (value_eq : V → V → Bool) (message_eq : M → M → Bool) (program : Program V M)
+    (missing : Missing) (combining : Option (Combining M)) (view : View)
     (n p s : ℕ) (trace : Trace V M) (bundles : List (Parcels M)) (beside : Option (Trace V M × List (Parcels M))) (ids : List ℕ)
     (all seen : Bool) (before : ℕ) (played : Played V M)
     → IsPlayed value_eq message_eq program missing combining view n p s trace bundles beside ids all seen before played

@@ -1,5 +1,6 @@
 -- What is the same where a vertex is found the same in two runs; and a trace that holds a run holds less of it.
-use Rattle.std.proofs.Common.{◌≡◌, ℕ, zero, suc, ◌≤◌, ◌&&◌, not, Bool, true, false, cond, [], ◌∷◌, take, Option, None, Some, option_map, is_some, refl, sym, ap, ap₂, ◌∙◌, arith, true≢false, inl, inr}
+use Rattle.std.proofs.Common.{◌≡◌, ℕ, zero, suc, ◌≤◌, ◌&&◌, not, Bool, true, false, cond, [], ◌∷◌, take, Option, None}
+use Rattle.std.proofs.Common.{Some, option_map, is_some, refl, sym, ap, ap₂, ◌∙◌, arith, true≢false, inl, inr}
 use Rattle.std.proofs.lemmas.Bool.{cases_lt}
 use Rattle.std.proofs.lemmas.List.{take-append-le, take-take, take_all}
 use Rattle.pg_graph.specs.Rows.{Rows}

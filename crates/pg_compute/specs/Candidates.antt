@@ -45,6 +45,17 @@ pub record AreCallees {M : Type 0} (combining : Option (Combining M)) (bundles :
   pub have : (id : ℕ) → has_id ids id ≡ true → has_id (keys_of callees) id ≡ true
   pub others : all ≡ true → (id : ℕ) → has_id (keys_of callees) id ≡ false → Delivers combining id bundles []
 
+-- these are the vertices that a step looks at, as it finds them
+pub record AreFound {V M : Type 0} (value_eq : V → V → Bool) (message_eq : M → M → Bool) (program : Program V M) (missing : Missing)
+    (combining : Option (Combining M)) (n p s : ℕ) (trace : Trace V M) (bundles : List (Parcels M))
+    (beside : Option (Trace V M × List (Parcels M))) (ids : List ℕ) (all : Bool) (candidates : List (Candidate V M)) : Type 0 where
+  pub callees : List (ℕ × List M)
+  pub are : AreCallees combining bundles ids all callees
+  pub ids_are : map (λ c. c.id) candidates ≡ keys_of (own n p callees)
+  pub new_are : map (λ c. c.new) candidates ≡ map (found_at program missing s trace) (own n p callees)
+  pub beside_are : AllByRecursion (λ c. IsFoundBeside program missing combining s beside c.id c.old) candidates
+  pub told : AllByRecursion (IsTold value_eq message_eq) candidates
+
 -- these vertices were looked at, with this view, and executed where they didn't read what they read in another run,
 -- where that saw the same
 pub record IsPlayed {V M : Type 0} (value_eq : V → V → Bool) (message_eq : M → M → Bool) (program : Program V M) (missing : Missing)

@@ -4,7 +4,7 @@ ghost use Rattle.std.specs.List.Sorted.{IsStrictlySortedBy};
 ghost use Rattle.std.specs.Ordering.{nat_cmp};
 ghost use Rattle.std.specs.List.{AllByRecursion};
 ghost use Rattle.std.specs.Map.{keys_of};
-ghost use Rattle.pg_compute.specs.Candidates.{AreCallees, IsPlayed, awake_ids, found_at};
+ghost use Rattle.pg_compute.specs.Candidates.{AreCallees, AreFound, IsPlayed, awake_ids, found_at};
 ghost use Rattle.pg_routing.specs.Starting.{own};
 ghost use Rattle.pg_compute.specs.Found.{IsFound, IsTold};
 ghost use Rattle.pg_program.specs.Context.{ShowsDeclared};
@@ -135,13 +135,35 @@ pub fn play_alone<P: Computation, C: MessageCombiner<P::Message>>(
         (C.combining combiner.now) stage.view share.partitions share.partition superstep trace.now
         bundles.now None (awake_ids superstep trace.now) true false stage.meter played) }
 {
+    let candidates = found_alone(
+        alloc, program, combiner, missing, &share, superstep, trace, bundles,
+    )?;
+    let playing = play(alloc, program, candidates, false, stage)?;
+    Ok(ended(playing))
+}
+
+/// The vertices that aren't halted and all that receive something, as they stand in the run.
+fn found_alone<P: Computation, C: MessageCombiner<P::Message>>(
+    alloc: Global,
+    program: &P,
+    combiner: &C,
+    missing: Missing,
+    share: &Share,
+    superstep: Superstep,
+    trace: &Trace<P::Value, P::Message>,
+    bundles: &[Bundle<P::Message>],
+) -> Result<Vec<Candidate<P::Value, P::Message>>, Memory>
+    ensures { IfOk result (λ candidates.
+        AreFound P.Value.PartialEq.eq P.Message.PartialEq.eq (P.program program.now) missing (C.combining combiner.now)
+        share.now.partitions share.now.partition superstep trace.now bundles.now None (awake_ids superstep trace.now) true
+        candidates.items) }
+{
     let ids = awake_ids(alloc, trace, superstep)?;
     let lent = lent_bundles(alloc, bundles)?;
     let callees = callees(alloc, lent.as_slice(), ids.as_slice(), true, combiner)?;
-    let callees = own(alloc, &share, callees)?;
+    let callees = own(alloc, share, callees)?;
     let candidates = candidates_alone(alloc, program, missing, superstep, trace, callees)?;
-    let playing = play(alloc, program, candidates, false, stage)?;
-    Ok(ended(playing))
+    Ok(candidates)
 }
 
 /// Looks at these vertices, in the new run and in the old one, and executes those that are active and don't read
@@ -170,9 +192,49 @@ pub fn play_beside<P: Computation, C: MessageCombiner<P::Message>>(
         (C.combining combiner.now) stage.view share.partitions share.partition superstep trace.now
         bundles.now (Some (old.now, old_bundles.now)) ids.now (not seen) seen stage.meter played) }
 {
+    let candidates = found_beside(
+        alloc,
+        program,
+        combiner,
+        missing,
+        &share,
+        superstep,
+        trace,
+        bundles,
+        old,
+        old_bundles,
+        ids,
+        seen,
+    )?;
+    let playing = play(alloc, program, candidates, seen, stage)?;
+    Ok(ended(playing))
+}
+
+/// These vertices, in the new run and in the old one; and where the old run saw something else, all that receive
+/// something too.
+fn found_beside<P: Computation, C: MessageCombiner<P::Message>>(
+    alloc: Global,
+    program: &P,
+    combiner: &C,
+    missing: Missing,
+    share: &Share,
+    superstep: Superstep,
+    trace: &Trace<P::Value, P::Message>,
+    bundles: &[Bundle<P::Message>],
+    old: &Trace<P::Value, P::Message>,
+    old_bundles: &[Bundle<P::Message>],
+    ids: &[VertexId],
+    seen: bool,
+) -> Result<Vec<Candidate<P::Value, P::Message>>, Memory>
+    requires { IsStrictlySortedBy nat_cmp ids.now }
+    ensures { IfOk result (λ candidates.
+        AreFound P.Value.PartialEq.eq P.Message.PartialEq.eq (P.program program.now) missing (C.combining combiner.now)
+        share.now.partitions share.now.partition superstep trace.now bundles.now (Some (old.now, old_bundles.now)) ids.now
+        (not seen) candidates.items) }
+{
     let lent = lent_bundles(alloc, bundles)?;
     let callees = callees(alloc, lent.as_slice(), ids, !seen, combiner)?;
-    let callees = own(alloc, &share, callees)?;
+    let callees = own(alloc, share, callees)?;
     let old_lent = lent_bundles(alloc, old_bundles)?;
     let candidates = candidates_beside(
         alloc,
@@ -185,8 +247,7 @@ pub fn play_beside<P: Computation, C: MessageCombiner<P::Message>>(
         old_lent.as_slice(),
         callees,
     )?;
-    let playing = play(alloc, program, candidates, seen, stage)?;
-    Ok(ended(playing))
+    Ok(candidates)
 }
 
 /// These vertices, with what is delivered to each, as they stand in the run and in the old one.

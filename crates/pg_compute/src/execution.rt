@@ -129,7 +129,8 @@ fn play_one<P: Computation>(
         ≡ played.changes.items ++ change_of P.Value.PartialEq.eq P.Message.PartialEq.eq (P.program program.now) played.stage.view seen candidate) }
     ensures view { IfOk result (λ p. p.stage.view ≡ played.stage.view) }
     ensures meter { IfOk result (λ p. p.stage.meter
-        ≡ capped (played.stage.meter + cond (is_run P.Value.PartialEq.eq P.Message.PartialEq.eq (P.program program.now) played.stage.view seen candidate) 1 0)) }
+        ≡ capped (played.stage.meter + cond (is_run P.Value.PartialEq.eq P.Message.PartialEq.eq (P.program program.now)
+        played.stage.view seen candidate) 1 0)) }
 {
     let mut played = played;
     played.looked_at.push(candidate.id)?;

@@ -1,5 +1,6 @@
 -- What all parts have come to as the open superstep is closed.
-use Rattle.std.proofs.Common.{◌≡◌, ℕ, ℤ, suc, ◌+◌, ◌<◌, true, List, [], ◌∷◌, ◌++◌, length, map, get_or, Option, None, Some, refl, ap, ap₂, sym, ◌∙◌, subst, arith, flat_map}
+use Rattle.std.proofs.Common.{◌≡◌, ℕ, ℤ, suc, ◌+◌, ◌<◌, true, List, [], ◌∷◌, ◌++◌, length, map, get_or}
+use Rattle.std.proofs.Common.{Option, None, Some, refl, ap, ap₂, sym, ◌∙◌, subst, arith, flat_map}
 use Rattle.std.specs.List.{range_with_len, slice_get}
 use Rattle.std.specs.Option.{IsSome, option_to_list}
 use Rattle.std.proofs.lemmas.Bool.{and_parts, true≢false}
@@ -66,7 +67,8 @@ module _ {P C A V M : Type 0} (job : Job V M) (kept : Option Rows) (core : Progr
     (many : length core.state.places ≡ core.limits.partitions) (each : length core.parts ≡ core.limits.partitions)
     (stays : (p r : ℕ) → place_at p core.state ≡ Some r → core.state.current < r → IsSome (part_at p core))
     (allowed : is_allowed core.state (Close Next) ≡ true) where
-  pub stats_are : flat_map stats_here core.parts ≡ map (λ p. stats_at job core.graph core.limits.partitions p (core.state.current + 1)) (range_with_len 0 core.limits.partitions)
+  pub stats_are : flat_map stats_here core.parts ≡ map (λ p. stats_at job core.graph core.limits.partitions p (core.state.current + 1))
+      (range_with_len 0 core.limits.partitions)
   stats_are =
       flat_map-singles stats_here (λ p. stats_at job core.graph core.limits.partitions p (core.state.current + 1)) 0 core.parts
       (λ p within. one p (omega (arith, within, each))

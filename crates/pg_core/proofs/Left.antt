@@ -1,5 +1,6 @@
 -- What a run over partitions gives once it has ended.
-use Rattle.std.proofs.Common.{◌≡◌, ℕ, ◌+◌, ◌-◌, ◌<◌, ◌≤◌, true, cond, List, [], ◌∷◌, ◌++◌, length, get_or, Option, None, Some, option_map, is_some, refl, ap, sym, ◌∙◌, subst, arith, inl, inr, eq-or-lt_of_le}
+use Rattle.std.proofs.Common.{◌≡◌, ℕ, ◌+◌, ◌-◌, ◌<◌, ◌≤◌, true, cond, List, [], ◌∷◌, ◌++◌, length, get_or, Option, None}
+use Rattle.std.proofs.Common.{Some, option_map, is_some, refl, ap, sym, ◌∙◌, subst, arith, inl, inr, eq-or-lt_of_le}
 use Rattle.std.specs.List.{slice_get}
 use Rattle.std.specs.Option.{IsSome, unwrap_or}
 use Rattle.std.proofs.lemmas.Bool.{lt-ltb, true≢false}

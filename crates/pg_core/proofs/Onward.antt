@@ -1,5 +1,6 @@
 -- A run that is driven on.
-use Rattle.std.proofs.Common.{◌≡◌, ℕ, ◌+◌, ◌<◌, ◌≤◌, ◌≢◌, Bool, true, false, cond, not, length, get_or, set, Option, None, Some, is_some, refl, ap, sym, ◌∙◌, subst, subst₂, arith, inl, inr}
+use Rattle.std.proofs.Common.{◌≡◌, ℕ, ◌+◌, ◌<◌, ◌≤◌, ◌≢◌, Bool, true, false, cond, not, length, get_or, set, Option}
+use Rattle.std.proofs.Common.{None, Some, is_some, refl, ap, sym, ◌∙◌, subst, subst₂, arith, inl, inr}
 use Rattle.std.specs.Prelude.{◌==◌, nat_lt, nat_le}
 use Rattle.std.specs.Option.{IsSome, option_eq}
 use Rattle.std.proofs.lemmas.Bool.{and_from, cases_eq, cases_lt, eq-eqb, eqb-true, le-leb, le-ltb, leb-true, lt-ltb, true≢false}
@@ -265,7 +266,8 @@ module _ {P C A V M : Type 0} (program_of : P → Program V M) (combining_of : C
   }
     where
       unmoved : (closed : Closed) (kept : Option Rows)
-          → capped (x + still_needed value_eq message_eq (job_at a) kept a.graph a.limits.partitions (after a.state (Close closed))) ≡ capped (x + still_needed value_eq message_eq (job_at a) kept a.graph a.limits.partitions a.state)
+          → capped (x + still_needed value_eq message_eq (job_at a) kept a.graph a.limits.partitions (after a.state (Close closed)))
+          ≡ capped (x + still_needed value_eq message_eq (job_at a) kept a.graph a.limits.partitions a.state)
       unmoved Next kept = refl
       unmoved Ended kept = refl
 

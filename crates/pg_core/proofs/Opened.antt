@@ -44,7 +44,8 @@ module _ {V M : Type 0} (job : Job V M) (rows : Rows) where
 -- a part that is among those that have begun
 module _ {V M : Type 0} (program : Program V M) (master : Master) (combining : Option (Combining M)) (limits : Limits) (rows : Rows)
     (parts : List (Option (PartState V M))) (each : length parts ≡ limits.partitions) (old : Option Rows)
-    (begun : (p : ℕ) → p < limits.partitions → HasBegun (job_of program combining master limits.missing limits.limit) old rows limits.partitions p (get_or parts p None)) where
+    (begun : (p : ℕ) → p < limits.partitions
+    → HasBegun (job_of program combining master limits.missing limits.limit) old rows limits.partitions p (get_or parts p None)) where
   begun_part : (p : ℕ) (part : PartState V M) → get_or parts p None ≡ Some part
       → HoldsShare (job_of program combining master limits.missing limits.limit) old rows limits.partitions p 0 part
   begun_part p part is =
@@ -150,5 +151,6 @@ module _ {V M : Type 0} (program : Program V M) (combining : Option (Combining M
       (Some kept) rows limits.partitions p (get_or parts p None)
   have_begun_beside touched old kept begun left untouched =
       let job : Job V M = job_of program combining master limits.missing limits.limit in
-      let begins = subst (λ (r : Rows). HaveBegunBeside program limits.missing registered rows touched r old.lefts limits.partitions limits.partitions parts) left.graph_is begun in
+      let begins = subst (λ (r : Rows). HaveBegunBeside program limits.missing registered rows touched r old.lefts limits.partitions limits.partitions parts)
+      left.graph_is begun in
       begins job refl refl (ap aggregators_of (sym same)) untouched left.whole

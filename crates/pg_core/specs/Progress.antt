@@ -1,5 +1,6 @@
 -- A run over partitions between two events, and when it is right.
-use Rattle.std.specs.Prelude.{◌≡◌, ◌==◌, ℕ, ◌+◌, ◌<◌, ◌≤◌, nat_lt, Bool, true, false, cond, ◌&&◌, List, [], ◌∷◌, ◌++◌, map, length, slice_index_or, slice_set, take, Option, None, Some, IsSome, is_some}
+use Rattle.std.specs.Prelude.{◌≡◌, ◌==◌, ℕ, ◌+◌, ◌<◌, ◌≤◌, nat_lt, Bool, true, false, cond, ◌&&◌, List, [], ◌∷◌, ◌++◌}
+use Rattle.std.specs.Prelude.{map, length, slice_index_or, slice_set, take, Option, None, Some, IsSome, is_some}
 use Rattle.std.specs.List.{All, filter, range_with_len, slice_get}
 use Rattle.pg_machine.specs.Limits.{Limits}
 use Rattle.pg_core.specs.Traces.{KeepsCommon, Common, logs_in, shown_below, visible_in}

@@ -55,8 +55,7 @@ impl<'a, P: Computation, C: MessageCombiner<P::Message>, M: MasterCompute> Core<
             return Ok(());
         }
         self.catch_up(alloc, meter)?;
-        self.run_on(alloc, meter)?;
-        Ok(())
+        self.run_on(alloc, meter)
     }
 
     /// Steps the partitions that are behind, up to the open superstep.

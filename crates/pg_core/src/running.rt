@@ -1,5 +1,6 @@
 //! The core: a run over partitions between two events.
-ghost use Rattle.std.specs.Prelude.{◌≡◌, ℕ, ◌<◌, ◌≤◌, ◌∷◌, ◌++◌, [], true, cond, length, Option, None, Some, IsSome, IfErr, IfOk, IfSome, OnOk, slice_get, slice_index_or, slice_set, take};
+ghost use Rattle.std.specs.Prelude.{◌≡◌, ℕ, ◌<◌, ◌≤◌, ◌∷◌, ◌++◌, [], true, cond, length, Option, None, Some, IsSome};
+ghost use Rattle.std.specs.Prelude.{IfErr, IfOk, IfSome, OnOk, slice_get, slice_index_or, slice_set, take};
 ghost use Rattle.pg_machine.specs.Machine.{Reaches, RestoresFollowLosses, StepsTell, first_state, host_of, is_allowed};
 ghost use Rattle.pg_core.specs.Progress.{HasPut, IsNext, IsOpened, IsPartAt, IsRight, IsStepLent, IsStepOf, TakesIn};
 ghost use Rattle.pg_core.specs.Progress.{is_ready as ready_test, job_by, part_at, ready_of, without_part};

@@ -1,5 +1,6 @@
 -- A step beside nothing, or past the end of the old run.
-use Rattle.std.proofs.Common.{◌≡◌, ℕ, suc, ◌+◌, ◌<◌, ◌≤◌, Bool, true, false, List, [], ◌++◌, map, length, Option, None, Some, option_map, is_some, refl, sym, ap, ◌∙◌, arith, subst, true≢false, flat_map, count_by, inl, inr}
+use Rattle.std.proofs.Common.{◌≡◌, ℕ, suc, ◌+◌, ◌<◌, ◌≤◌, Bool, true, false, List, [], ◌++◌, map, length, Option, None, Some, option_map}
+use Rattle.std.proofs.Common.{is_some, refl, sym, ap, ◌∙◌, arith, subst, true≢false, flat_map, count_by, inl, inr}
 use Rattle.std.specs.List.{AllByRecursion, slice_get}
 use Rattle.std.specs.List.Sorted.{IsStrictlySortedBy}
 use Rattle.std.specs.Ordering.{nat_cmp}
@@ -184,7 +185,13 @@ module _ {V M : Type 0} (value_eq : V → V → Bool) (message_eq : M → M → 
   }
 
   pub stepped_alone : (after : Holding V M) (sent : List (Logged M))
-      → after ≡ record course { place = s + 1; trace = with_replaced s played.changes.items (reaching s course.trace); restless = differing_past course.kept course.restless played.looked_at.items; changed = played.looked_at.items; beside_old = false }
+      → after ≡ record course {
+        place = s + 1;
+        trace = with_replaced s played.changes.items (reaching s course.trace);
+        restless = differing_past course.kept course.restless played.looked_at.items;
+        changed = played.looked_at.items;
+        beside_old = false;
+      }
       → length sent ≡ n
       → ((q : ℕ) → q < n → IsFresh job.combining (items_to n q (flat_map sends_of played.changes.items)) (slice_get sent q))
       → HasStepped job value_eq message_eq kept rows n p s after sent before played.meter
@@ -212,7 +219,13 @@ module _ {V M : Type 0} (value_eq : V → V → Bool) (message_eq : M → M → 
       long = let e = holds.supersteps in omega (arith, past, e)
 
       next_part : Holding V M
-      next_part = record course { place = s + 1; trace = with_replaced s played.changes.items (reaching s course.trace); restless = differing_past course.kept course.restless played.looked_at.items; changed = played.looked_at.items; beside_old = false }
+      next_part = record course {
+        place = s + 1;
+        trace = with_replaced s played.changes.items (reaching s course.trace);
+        restless = differing_past course.kept course.restless played.looked_at.items;
+        changed = played.looked_at.items;
+        beside_old = false;
+      }
 
       besides : (k : Option Rows) → kept_length job k ≤ s → IsBeside job k rows n p s course → IsBeside job k rows n p (s + 1) next_part
       besides None ends beside = beside
@@ -271,9 +284,16 @@ module _ {V M : Type 0} (value_eq : V → V → Bool) (message_eq : M → M → 
       (subst
       (λ k. IsPlayed value_eq message_eq job.program course.missing k view course.partitions course.partition course.place course.trace bundles None
       (awake_ids course.place course.trace) true false before played) (sym combining_is)
-      (subst (λ k. IsPlayed value_eq message_eq k course.missing combining view course.partitions course.partition course.place course.trace bundles None (awake_ids course.place course.trace) true false before played) (sym program_is) is))))))
+      (subst (λ k. IsPlayed value_eq message_eq k course.missing combining view course.partitions course.partition course.place course.trace bundles None
+      (awake_ids course.place course.trace) true false before played) (sym program_is) is))))))
       after sent
-      (concluded.further ∙ ap (λ k. record course { place = k + 1; trace = with_replaced k played.changes.items (reaching k course.trace); restless = differing_past course.kept course.restless played.looked_at.items; changed = played.looked_at.items; beside_old = false }) here)
+      (concluded.further ∙ ap (λ k. record course {
+        place = k + 1;
+        trace = with_replaced k played.changes.items (reaching k course.trace);
+        restless = differing_past course.kept course.restless played.looked_at.items;
+        changed = played.looked_at.items;
+        beside_old = false;
+      }) here)
       (concluded.to_each ∙ all)
       (λ q below. subst (λ k. IsFresh k (items_to n q (flat_map sends_of played.changes.items)) (slice_get sent q)) (sym combining_is)
       (subst (λ k. IsFresh combining (items_to k q (flat_map sends_of played.changes.items)) (slice_get sent q)) all

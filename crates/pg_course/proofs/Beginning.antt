@@ -26,24 +26,25 @@ pub holds_beside : {V M : Type 0} (job : Job V M) (kept rows : Rows) (n p : ℕ)
     → course.trace ≡ record old { initial = with_first (first_changes program rows n p touched) old.initial } → course.kept ≡ Some old
     → course.restless ≡ touched → course.resting ≡ []
     → Holds job (Some kept) rows n p 0 course
-holds_beside job kept rows n p rise program is missing missing_is old whole touched ordered same course at_partition of_all at_missing here trace_is is_kept touched_are none_rest = record {
-  partition_is = at_partition;
-  partitions_are = of_all;
-  missing_is = at_missing ∙ missing_is;
-  place_is = here;
-  run = subst (HoldsRun job rows n p 0) (sym trace_is) (record { rise = rise; initial = begun_as ∙ fresh.initial; records = fresh.records });
-  supersteps = let long = ap (λ t. length t.records) trace_is in let all = whole.supersteps in omega (arith, long, all);
-  beside = record {
-    trace = old;
-    is = is_kept;
-    whole = whole.run;
-    later = λ s low high. ap (records_of s) trace_is ∙ records_held job kept n p old s (run_length job kept) whole.run high;
-    others = λ id mine other high. alike id other;
-    as_ended = λ id mine other none.
-        subst (λ k. state_at job kept k id ≡ state_at job rows 0 id) (let e : 0 ≡ run_length job kept = omega (arith, none) in e) (alike id other);
-    rest = λ id mine among _. absurd (true≢false (sym among ∙ ap (λ l. has_id l id) none_rest));
-  };
-}
+holds_beside job kept rows n p rise program is missing missing_is old whole touched ordered same course at_partition
+    of_all at_missing here trace_is is_kept touched_are none_rest = record {
+      partition_is = at_partition;
+      partitions_are = of_all;
+      missing_is = at_missing ∙ missing_is;
+      place_is = here;
+      run = subst (HoldsRun job rows n p 0) (sym trace_is) (record { rise = rise; initial = begun_as ∙ fresh.initial; records = fresh.records });
+      supersteps = let long = ap (λ t. length t.records) trace_is in let all = whole.supersteps in omega (arith, long, all);
+      beside = record {
+        trace = old;
+        is = is_kept;
+        whole = whole.run;
+        later = λ s low high. ap (records_of s) trace_is ∙ records_held job kept n p old s (run_length job kept) whole.run high;
+        others = λ id mine other high. alike id other;
+        as_ended = λ id mine other none.
+            subst (λ k. state_at job kept k id ≡ state_at job rows 0 id) (let e : 0 ≡ run_length job kept = omega (arith, none) in e) (alike id other);
+        rest = λ id mine among _. absurd (true≢false (sym among ∙ ap (λ l. has_id l id) none_rest));
+      };
+    }
   where
     alike : (id : ℕ) → has_id (differing course) id ≡ false → state_at job kept 0 id ≡ state_at job rows 0 id
     alike id other =

@@ -1,5 +1,6 @@
 -- A step beside an old run that has the superstep: which vertices it may leave unread.
-use Rattle.std.proofs.Common.{◌≡◌, ℕ, zero, suc, ◌+◌, ◌<◌, ◌&&◌, not, Bool, true, false, List, [], ◌∷◌, map, None, Some, is_some, refl, sym, ap, ap₂, ◌∙◌, arith, subst, subst₂, true≢false, inl, inr, ◌⊎◌}
+use Rattle.std.proofs.Common.{◌≡◌, ℕ, zero, suc, ◌+◌, ◌<◌, ◌&&◌, not, Bool, true, false, List, [], ◌∷◌, map, None, Some}
+use Rattle.std.proofs.Common.{is_some, refl, sym, ap, ap₂, ◌∙◌, arith, subst, subst₂, true≢false, inl, inr, ◌⊎◌}
 use Rattle.std.specs.List.{AllByRecursion, range_with_len}
 use Rattle.std.specs.List.Sorted.{IsStrictlySortedBy}
 use Rattle.std.specs.Ordering.{nat_cmp}

@@ -1,5 +1,6 @@
 -- A step beside an old run takes a partition's share of the run one superstep further.
-use Rattle.std.proofs.Common.{◌≡◌, ℕ, suc, ◌+◌, ◌<◌, ◌≤◌, ◌==◌, ◌&&◌, ◌||◌, Bool, true, false, not, cond, List, [], ◌∷◌, ◌++◌, map, length, Option, None, Some, option_map, refl, sym, ap, ap₂, ◌∙◌, arith, subst, true≢false, flat_map, count_by, inl, inr, ◌⊎◌, le_refl}
+use Rattle.std.proofs.Common.{◌≡◌, ℕ, suc, ◌+◌, ◌<◌, ◌≤◌, ◌==◌, ◌&&◌, ◌||◌, Bool, true, false, not, cond, List, [], ◌∷◌, ◌++◌, map, length, Option, None}
+use Rattle.std.proofs.Common.{Some, option_map, refl, sym, ap, ap₂, ◌∙◌, arith, subst, true≢false, flat_map, count_by, inl, inr, ◌⊎◌, le_refl}
 use Rattle.std.specs.List.{AllByRecursion, slice_get}
 use Rattle.std.specs.List.Sorted.{IsStrictlySortedBy}
 use Rattle.std.specs.Ordering.{nat_cmp}
@@ -42,7 +43,8 @@ use Rattle.pg_routing.specs.Sending.{IsMended, items_to, pairs_of, sends_of}
 use Rattle.pg_course.specs.Warm.{IsConcluded, IsReplayed}
 use Rattle.pg_compute.specs.declared.execution.Played.{Played}
 use Rattle.pg_compute.specs.declared.found.Candidate.{Candidate}
-use Rattle.pg_course.proofs.BesideOld.{IsWarmStep, WasRead, all_are_read, all_mine, all_were_read, are_candidates, candidates, candidates_rise, is_restless, kept, kept_holds, old_reads_nothing, reads_nothing}
+use Rattle.pg_course.proofs.BesideOld.{IsWarmStep, WasRead, all_are_read, all_mine, all_were_read, are_candidates, candidates}
+use Rattle.pg_course.proofs.BesideOld.{candidates_rise, is_restless, kept, kept_holds, old_reads_nothing, reads_nothing}
 use Rattle.pg_compute.proofs.Changing.{entries, entries-among, entries-rise, told_at}
 use Rattle.pg_compute.proofs.Looking.{both, failing, in_either, in_neither, passing}
 use Rattle.pg_inbox.proofs.Replacing.{unchanged_at}
@@ -395,7 +397,15 @@ module _ {V M : Type 0} (value_eq : V → V → Bool) (message_eq : M → M → 
           ∙ (both (not (has_same_state value_eq trace next_trace (s + 1) id)) _ (passing _ looked_at id found).0).1
 
   pub warm_step : (after : Holding V M) (sent : List (Logged M))
-      → after ≡ record course { place = s + 1; trace = next_trace; kept = Some trace; restless = restless; resting = without course.resting looked_at ++ resting; changed = looked_at; beside_old = true }
+      → after ≡ record course {
+        place = s + 1;
+        trace = next_trace;
+        kept = Some trace;
+        restless = restless;
+        resting = without course.resting looked_at ++ resting;
+        changed = looked_at;
+        beside_old = true;
+      }
       → AreTold value_eq trace next_trace (s + 1) looked_at
       → length sent ≡ n
       → ((q : ℕ) → q < n → IsMended job.combining (items_to n q (flat_map (pairs_of trace s) played.changes.items))

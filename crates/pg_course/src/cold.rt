@@ -40,7 +40,7 @@ pub(crate) fn played<P: Computation, C: MessageCombiner<P::Message>>(
         partition: course.partition,
         partitions: course.partitions,
     };
-    let played = play_alone(
+    play_alone(
         alloc,
         program,
         combiner,
@@ -50,8 +50,7 @@ pub(crate) fn played<P: Computation, C: MessageCombiner<P::Message>>(
         &course.trace,
         bundles,
         stage,
-    )?;
-    Ok(played)
+    )
 }
 
 /// The course with the changed records, and what it sends.

@@ -62,7 +62,7 @@ pub(crate) fn replayed<P: Computation, C: MessageCombiner<P::Message>>(
         combiner,
         seen,
     )?;
-    let played = play_beside(
+    play_beside(
         alloc,
         program,
         combiner,
@@ -79,8 +79,7 @@ pub(crate) fn replayed<P: Computation, C: MessageCombiner<P::Message>>(
         ids.as_slice(),
         seen,
         stage,
-    )?;
-    Ok(played)
+    )
 }
 
 /// The course with the changed records, and what it sends.

@@ -17,7 +17,8 @@ counted_at old looked trace s seen ids before old_before old_after after same ar
     subst (λ (x : List ℕ). IsCountedBeside old trace s x before old_before old_after after) are
     (subst (λ x. IsCountedBeside old x s seen before old_before old_after after) same h)
 
-pub retold_at : {M : Type 0} (seen missing : Missing) (rows : Rows) (moved : List ℕ) (logs : Slots M) (s q p : ℕ) (bundles : List (Logged M)) (before after : Traffic)
+pub retold_at : {M : Type 0} (seen missing : Missing) (rows : Rows) (moved : List ℕ) (logs : Slots M)
+    (s q p : ℕ) (bundles : List (Logged M)) (before after : Traffic)
     → seen ≡ missing → q ≡ p → IsRetold seen rows moved logs s q bundles before after → IsRetold missing rows moved logs s p bundles before after
 retold_at seen missing rows moved logs s q p bundles before after same at h =
     subst (λ m. IsRetold m rows moved logs s p bundles before after) same (subst (λ (k : ℕ). IsRetold seen rows moved logs s k bundles before after) at h)

@@ -1,5 +1,6 @@
 -- The stats of a run as a superstep begins: by those before it, and by those of an old run.
-use Rattle.std.proofs.Common.{◌≡◌, ℕ, zero, suc, ◌+◌, ◌<◌, ◌==◌, ◌&&◌, ◌||◌, true≢false, Bool, true, false, List, [], ◌∷◌, map, length, Option, None, Some, option_map, refl, ap, ap₂, sym, ◌∙◌, subst, arith, add-one}
+use Rattle.std.proofs.Common.{◌≡◌, ℕ, zero, suc, ◌+◌, ◌<◌, ◌==◌, ◌&&◌, ◌||◌, true≢false, Bool, true, false, List, [], ◌∷◌}
+use Rattle.std.proofs.Common.{map, length, Option, None, Some, option_map, refl, ap, ap₂, sym, ◌∙◌, subst, arith, add-one}
 use Rattle.std.specs.List.{AllByRecursion, list_all, range_with_len, slice_get}
 use Rattle.std.proofs.lemmas.Bool.{eqb-true}
 use Rattle.std.proofs.lemmas.List.{length-map}

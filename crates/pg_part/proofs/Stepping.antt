@@ -1,7 +1,9 @@
 -- What a partition has come to after a step.
-use Rattle.std.proofs.Common.{◌≡◌, ℕ, zero, suc, ◌+◌, ◌<◌, ◌≤◌, Bool, true, false, List, [], ◌∷◌, ◌++◌, map, length, Option, None, Some, Ok, Result, IfOk, refl, ap, ap₂, sym, ◌∙◌, subst, arith}
+use Rattle.std.proofs.Common.{◌≡◌, ℕ, zero, suc, ◌+◌, ◌<◌, ◌≤◌, Bool, true, false, List, [], ◌∷◌, ◌++◌, map, length}
+use Rattle.std.proofs.Common.{Option, None, Some, Ok, Result, IfOk, refl, ap, ap₂, sym, ◌∙◌, subst, subst₂, arith, get_or}
 use Rattle.std.specs.List.{range_with_len, slice_get}
 use Rattle.std.proofs.lemmas.List.FromFn.{map-range_with_len_more}
+use Rattle.std.proofs.lemmas.Option.{get_or_from_slice_get}
 use Rattle.pg_course.specs.Course.{AreAllChanged, AreTheOnlyBeside, Holding, Holds, IsSentTo}
 use Rattle.pg_course.specs.Lent.{IsLentBeside}
 use Rattle.pg_global.specs.Registry.{Registered}
@@ -18,6 +20,7 @@ use Rattle.pg_recount.specs.Traffic.{AreMoved}
 use Rattle.pg_stats.specs.GlobalStats.{aggregators_of}
 use Rattle.pg_stats.specs.Stats.{stats_at}
 use Rattle.pg_stats.specs.declared.stats.PartitionStats.{PartitionStats}
+use Rattle.pg_trace.specs.Trace.{Trace}
 
 -- what holds of a result that is Ok holds of what it has
 pub ok_of : {X E : Type 0} (Q : X → Type 0) (r : Result X E) (x : X) → r ≡ Ok x → IfOk r Q → Q x
@@ -30,8 +33,28 @@ slice_get-range made a (suc n) zero within = ap (λ (i : ℕ). Some (made i)) (l
 slice_get-range made a (suc n) (suc k) within =
     slice_get-range made (a + 1) n k (omega (arith, within)) ∙ ap (λ (i : ℕ). Some (made i)) (let e : a + 1 + k ≡ a + suc k = omega arith in e)
 
+-- the stats that were read at a place are those that stand there
+pub stats_there : (stats : List PartitionStats) {place s : ℕ} {found before : PartitionStats}
+    → place ≡ s → found ≡ get_or stats place found → slice_get stats s ≡ Some before → found ≡ before
+stats_there stats {place} {s} {found} {before} same here at =
+    here ∙ (ap (λ (k : ℕ). get_or stats k found) same ∙ get_or_from_slice_get stats s before found at)
+
+-- the stats after a superstep beside an old run, by other names of what is read of that run and before
+pub reckoned_beside_at : {V M : Type 0} (registry : Registered) (rows : Rows) (moved : List ℕ) (course : Holding V M) (s : ℕ)
+    (bundles : List (Logged M)) (after : PartitionStats) {old old' : Trace V M} {logs logs' : Slots M}
+    {before before' old_before old_before' old_after old_after' : PartitionStats}
+    → old ≡ old' → logs ≡ logs' → before ≡ before' → old_before ≡ old_before' → old_after ≡ old_after'
+    → IsReckonedBeside registry rows moved old logs course s bundles before old_before old_after after
+    → IsReckonedBeside registry rows moved old' logs' course s bundles before' old_before' old_after' after
+reckoned_beside_at registry rows moved course s bundles after {old} {old'} {logs} {logs'} {before} {before'} {old_before} {old_before'} {old_after}
+    same_old same_logs same before_is after_is h =
+    subst (λ x. IsReckonedBeside registry rows moved old' logs' course s bundles before' old_before' x after) after_is
+    (subst₂ (λ x y. IsReckonedBeside registry rows moved old' logs' course s bundles x y old_after after) same before_is
+    (subst₂ (λ x y. IsReckonedBeside registry rows moved x y course s bundles before old_before old_after after) same_old same_logs h))
+
 -- the stats after a superstep, by other names of what is looked at
-pub next_stats_at : {V M : Type 0} (registry : Registered) (graph rows : Rows) (ids moved : List ℕ) (now stats then old_stats : List PartitionStats) (logs : Option (Slots M))
+pub next_stats_at : {V M : Type 0} (registry : Registered) (graph rows : Rows) (ids moved : List ℕ)
+    (now stats then old_stats : List PartitionStats) (logs : Option (Slots M))
     (seen course : Holding V M) (k s : ℕ) (sent bundles : List (Logged M)) (after : PartitionStats) → graph ≡ rows → ids ≡ moved
     → now ≡ stats → then ≡ old_stats → seen ≡ course
     → k ≡ s → sent ≡ bundles → IsNextStats registry graph ids now then logs seen k sent after
@@ -91,7 +114,8 @@ module _ {V M : Type 0} (job : Job V M) where
         beside_is job rows n p some registry same r course holds.missing_is holds.run (Some old) sent to_each sends
         old before.moved has.beside.1 refl holds.partition_is holds.beside.trace holds.beside.whole old_logs lent.0.sent
         only earlier old_earlier old_later next refl refl refl
-        (subst (λ (g : Rows). IsReckonedBeside registry g before.moved holds.beside.trace old_logs course r sent earlier old_earlier old_later next) has.graph_is reckoned)
+        (subst (λ (g : Rows). IsReckonedBeside registry g before.moved holds.beside.trace old_logs course r sent earlier old_earlier old_later next)
+        has.graph_is reckoned)
 
     -- any other step
     alone : (kept : Option Rows) → HasStats job kept rows n p r before → Holds job kept rows n p (r + 1) course

@@ -2,7 +2,8 @@
 ghost use Rattle.std.specs.Prelude.{◌≡◌, ◌+◌, ◌<◌, ◌≤◌, ◌^◌, ◌∷◌, [], true, false, length, IfOk, IsSome, Some};
 ghost use Rattle.std.specs.List.{list_all, slice_get};
 ghost use Rattle.std.specs.Option.{option_copied};
-ghost use Rattle.pg_part.specs.Reckoned.{HasBegunBeside, HasNextStats, IsCountedBeside, IsNextStats, IsReckoned, IsReckonedBeside, IsRecensus, begun_with, gathered_of};
+ghost use Rattle.pg_part.specs.Reckoned.{HasBegunBeside, HasNextStats, IsCountedBeside, IsNextStats, IsReckoned};
+ghost use Rattle.pg_part.specs.Reckoned.{IsReckonedBeside, IsRecensus, begun_with, gathered_of};
 ghost use Rattle.pg_recount.specs.Contributed.{contributes_alike};
 ghost use Rattle.pg_trace.specs.Trace.{Trace as TraceOf};
 

@@ -1,7 +1,9 @@
-use Rattle.std.proofs.Common.{◌≡◌, ℕ, ◌++◌, [], ◌∷◌, List, append_assoc, map, ap, ap₂, sym, ◌∙◌, subst, None, refl}
+use Rattle.std.proofs.Common.{◌≡◌, ℕ, ◌++◌, [], ◌∷◌, List, append_assoc, map, ap, ap₂, sym, ◌∙◌, subst, None, refl, arith}
 use Rattle.std.specs.List.{AllByRecursion}
-use Rattle.std.proofs.lemmas.List.{map-append}
+use Rattle.std.proofs.lemmas.List.{map-append, nil_from_length}
+use Rattle.std.specs.Map.{keys_of}
 use Rattle.pg_model.proofs.LawsLists.{all-append}
+use Rattle.pg_routing.proofs.Listing.{all_yielded}
 use Rattle.pg_compute.specs.Candidates.{found_at}
 use Rattle.pg_compute.specs.declared.found.Candidate.{Candidate}
 use Rattle.pg_compute.proofs.candidates.candidates_alone.Goals as goal
@@ -25,4 +27,27 @@ loop-id-preserved g c =
       old = subst (AllByRecursion beside) (sym pushed) (all-append beside have (more ∷ []) c.loop-id.invariant.old (refl, tt));
       states = c.in_ok-new.ensures.same ∙ c.loop-id.invariant.states;
       whole = append_assoc before (one ∷ []) c.next.new.self.rest.items ∙ (ap (λ l. before ++ l) (sym c.in-Some.ensures.steps.0) ∙ c.loop-id.invariant.whole);
+    }
+
+pub loop-id-init : goal.loop-id-init
+loop-id-init g c =
+    let none = sym c.in_ok-candidates.ensures.items in
+    record {
+      ids = ap (map (λ x. x.id)) (sym none);
+      new = ap (map (λ x. x.new)) (sym none);
+      old = subst (AllByRecursion (λ (x : Candidate g.row.P-Value.Denot g.row.P-Message.Denot). x.old ≡ None)) none tt;
+      states = c.states-states.ensures;
+      whole = c.into_iter-id-iterator.ensures.into_iter_gives.0;
+    }
+
+pub returns : goal.returns
+returns g c =
+    let rest = c.loop-id.id-iterator.rest in
+    let none : rest.items ≡ [] = nil_from_length rest.items (omega (arith, rest.ok.0, c.in-None.ensures.steps.0)) in
+    let all = all_yielded c.loop-id.yielded rest.items c.args.callees.items c.loop-id.invariant.whole none in
+    record {
+      ids = c.loop-id.invariant.ids ∙ ap keys_of all;
+      new = c.loop-id.invariant.new
+          ∙ ap (map (found_at (g.P.Computation.program c.args.program.now) c.args.missing c.args.superstep c.args.trace.now)) all;
+      old = c.loop-id.invariant.old;
     }

@@ -11,7 +11,8 @@ invariant-loop-id g l =
     record {
       ids : map (λ c. c.id) l.candidates.items ≡ keys_of l.yielded;
       new : map (λ c. c.new) l.candidates.items ≡ map (found_at program l.missing l.superstep l.trace) l.yielded;
-      old : AllByRecursion (λ c. IsFound program l.missing (g.C.MessageCombiner.combining l.combiner) l.old l.superstep (map (λ b. b.now) l.old_bundles) c.id c.old) l.candidates.items;
+      old : AllByRecursion (λ c. IsFound program l.missing (g.C.MessageCombiner.combining l.combiner) l.old l.superstep
+          (map (λ b. b.now) l.old_bundles) c.id c.old) l.candidates.items;
       told : AllByRecursion (IsTold g.P.Value.PartialEq.eq g.P.Message.PartialEq.eq) l.candidates.items;
       states : l.states ≡ l.trace;
       old_states : l.old_states ≡ l.old;

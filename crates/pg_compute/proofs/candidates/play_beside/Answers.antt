@@ -1,27 +1,17 @@
-use Rattle.std.proofs.Common.{not, map, ap, ◌∙◌, subst}
-use Rattle.std.specs.List.{AllByRecursion}
-use Rattle.std.specs.Map.{keys_of}
-use Rattle.pg_compute.specs.Candidates.{AreCallees, found_at}
-use Rattle.pg_compute.specs.Found.{IsFound}
+use Rattle.std.proofs.Common.{◌∙◌}
 use Rattle.pg_compute.proofs.candidates.play_beside.Goals as goal
 
 pub returns : goal.returns
 returns g c =
-    let program = g.P.Computation.program c.args.program.now in
-    let combining = g.C.MessageCombiner.combining c.args.combiner.now in
-    let own = c.in_ok-callees-2.ensures in
+    let found = c.in_ok-candidates.ensures in
     record {
-      callees = c.in_ok-callees.callees.items;
-      are = subst (λ bundles. AreCallees combining bundles c.args.ids.now (not c.args.seen) c.in_ok-callees.callees.items)
-          (ap (map (λ b. b.now)) c.as_slice.ensures.value ∙ c.in_ok-lent.ensures) c.in_ok-callees.ensures;
+      callees = found.callees;
+      are = found.are;
       candidates = c.in_ok-candidates.candidates.items;
-      ids_are = c.in_ok-candidates.ensures.ids ∙ ap keys_of own;
-      new_are = c.in_ok-candidates.ensures.new ∙ ap (map (found_at program c.args.missing c.args.superstep c.args.trace.now)) own;
-      beside_are =
-          subst (λ bundles. AllByRecursion
-          (λ k. IsFound program c.args.missing combining c.args.old.now c.args.superstep bundles k.id k.old) c.in_ok-candidates.candidates.items)
-          (ap (map (λ b. b.now)) c.as_slice-2.ensures.value ∙ c.in_ok-old_lent.ensures) c.in_ok-candidates.ensures.old;
-      told = c.in_ok-candidates.ensures.told;
+      ids_are = found.ids_are;
+      new_are = found.new_are;
+      beside_are = found.beside_are;
+      told = found.told;
       looked_at_are = c.ended.ensures.looked_at ∙ c.in_ok-playing.ensures.looked_at;
       changes_are = c.ended.ensures.changes ∙ c.in_ok-playing.ensures.changes;
       counted = c.ended.ensures.meter ∙ c.in_ok-playing.ensures.meter;

@@ -1,4 +1,4 @@
-use Rattle.std.proofs.Common.{◌≡◌, ◌+◌, ◌++◌, cond, [], ◌∷◌, append_assoc, map, rules, ap, ap₂, sym, ◌∙◌}
+use Rattle.std.proofs.Common.{◌≡◌, ◌+◌, ◌++◌, cond, [], ◌∷◌, append_assoc, map, ap, ap₂, sym, ◌∙◌, arith}
 use Rattle.std.specs.List.{count_by, flat_map}
 use Rattle.pg_model.specs.Superstep.{capped}
 use Rattle.pg_model.specs.declared.view.View.{View}
@@ -32,30 +32,18 @@ loop-candidate-preserved g c =
           ∙ (ap (λ l. before ++ l) (sym c.in-Some.ensures.steps.0) ∙ c.loop-candidate.invariant.whole);
     }
 
-pub returns-clause-looked_at : goal.returns-clause-looked_at
-returns-clause-looked_at g c =
-    let before = c.loop-candidate.yielded in
-    let rest = c.loop-candidate.candidate-iterator.rest in
-    let none : rest.items ≡ [] = nil_from_length rest.items (search rules) in
-    c.loop-candidate.invariant.looked_at
-    ∙ ap (map (λ c. c.id)) (all_yielded before rest.items c.args.candidates.items c.loop-candidate.invariant.whole none)
-
-pub returns-clause-changes : goal.returns-clause-changes
-returns-clause-changes g c =
-    let before = c.loop-candidate.yielded in
-    let rest = c.loop-candidate.candidate-iterator.rest in
-    let none : rest.items ≡ [] = nil_from_length rest.items (search rules) in
+pub returns : goal.returns
+returns g c =
     let program = g.P.Computation.program c.args.program.now in
-    c.loop-candidate.invariant.changes
-    ∙ ap (flat_map (change_of g.P.Value.PartialEq.eq g.P.Message.PartialEq.eq program c.args.stage.view c.args.seen))
-    (all_yielded before rest.items c.args.candidates.items c.loop-candidate.invariant.whole none)
-
-pub returns-clause-meter : goal.returns-clause-meter
-returns-clause-meter g c =
-    let before = c.loop-candidate.yielded in
+    let value_eq = g.P.Value.PartialEq.eq in
+    let message_eq = g.P.Message.PartialEq.eq in
     let rest = c.loop-candidate.candidate-iterator.rest in
-    let none : rest.items ≡ [] = nil_from_length rest.items (search rules) in
-    let program = g.P.Computation.program c.args.program.now in
-    let runs = is_run g.P.Value.PartialEq.eq g.P.Message.PartialEq.eq program c.args.stage.view c.args.seen in
-    c.loop-candidate.invariant.meter
-    ∙ ap (λ l. capped (c.args.stage.meter + count_by runs l)) (all_yielded before rest.items c.args.candidates.items c.loop-candidate.invariant.whole none)
+    let none : rest.items ≡ [] = nil_from_length rest.items (omega (arith, rest.ok.0, c.in-None.ensures.steps.0)) in
+    let all = all_yielded c.loop-candidate.yielded rest.items c.args.candidates.items c.loop-candidate.invariant.whole none in
+    record {
+      looked_at = c.loop-candidate.invariant.looked_at ∙ ap (map (λ c. c.id)) all;
+      changes = c.loop-candidate.invariant.changes ∙ ap (flat_map (change_of value_eq message_eq program c.args.stage.view c.args.seen)) all;
+      view = c.loop-candidate.invariant.view;
+      meter = c.loop-candidate.invariant.meter
+          ∙ ap (λ l. capped (c.args.stage.meter + count_by (is_run value_eq message_eq program c.args.stage.view c.args.seen) l)) all;
+    }

@@ -1,17 +1,28 @@
-use Rattle.std.proofs.Common.{◌≡◌, Bool, false, ◌&&◌, ◌||◌, ◌++◌, IfOk, ap, ap₂, sym, ◌∙◌, subst}
-use Rattle.pg_compute.specs.Found.{are_at_rest, are_same_reading, change_unless}
+use Rattle.std.proofs.Common.{◌≡◌, ◌+◌, not, cond, is_some, Bool, false, ◌&&◌, ◌||◌, ◌++◌, IfOk, ap, ap₂, sym, ◌∙◌, subst}
+use Rattle.std.proofs.lemmas.Result.{IfOk-weaker}
+use Rattle.pg_model.specs.Superstep.{capped}
+use Rattle.pg_compute.specs.Found.{are_at_rest, are_same_reading, change_unless, reads}
 use Rattle.pg_compute.proofs.execution.play_one.Goals.{else-seen-via-then-seen+else-are_same_reading, else-seen-via-else-seen}
 use Rattle.pg_compute.proofs.execution.play_one.Goals as goal
 
-pub returns-clause-changes : goal.returns-clause-changes
-returns-clause-changes g c =
+pub returns : goal.returns
+returns g c =
     let program = g.P.Computation.program c.args.program.now in
+    let before = c.args.played in
+    let view = before.stage.view in
     let one = c.args.candidate in
     let same = are_same_reading g.P.Value.PartialEq.eq g.P.Message.PartialEq.eq one.old one.new in
     let apart : (c.args.seen && same) ≡ false = elim c.else-seen.branch [
       | else-seen-via-then-seen+else-are_same_reading w ↦ ap₂ ◌&&◌ w.if-seen.true (sym w.are_same_reading.ensures.value ∙ w.if-are_same_reading.false)
       | else-seen-via-else-seen w ↦ ap (λ (b : Bool). b && same) w.if-seen.false
     ] in
-    subst (λ (b : Bool). IfOk c.play_other.result (λ p. p.changes.items
-    ≡ c.args.played.changes.items ++ change_unless program c.args.played.stage.view (b || are_at_rest one.old one.new) one))
-    (sym apart) c.play_other.ensures.changes
+    record {
+      looked_at = IfOk-weaker c.play_other.result _ _ (λ p is. is ∙ c.in_ok-push.ensures.items) c.play_other.ensures.looked_at;
+      changes = subst (λ (b : Bool). IfOk c.play_other.result (λ p. p.changes.items
+          ≡ before.changes.items ++ change_unless program view (b || are_at_rest one.old one.new) one))
+          (sym apart) c.play_other.ensures.changes;
+      view = c.play_other.ensures.view;
+      meter = subst (λ (b : Bool). IfOk c.play_other.result (λ p. p.stage.meter
+          ≡ capped (before.stage.meter + cond (not b && is_some (reads view one.new)) 1 0)))
+          (sym apart) c.play_other.ensures.meter;
+    }

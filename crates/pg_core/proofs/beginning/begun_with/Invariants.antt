@@ -8,5 +8,6 @@ invariant-loop-left g l = record {
   partition_is : l.partition ≡ length l.yielded;
   whole : l.yielded ++ l.left-iterator.rest.items ≡ l.fn.lefts.items;
   each : length l.parts.items ≡ l.partition;
-  begun : HaveBegunWith (g.P.Computation.program l.program) l.fn.limits.missing l.registry l.graph l.touched l.moved l.fn.lefts.items l.fn.limits.partitions l.partition l.parts.items;
+  begun : HaveBegunWith (g.P.Computation.program l.program) l.fn.limits.missing l.registry l.graph l.touched
+      l.moved l.fn.lefts.items l.fn.limits.partitions l.partition l.parts.items;
 }

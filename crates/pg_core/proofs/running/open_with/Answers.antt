@@ -15,7 +15,8 @@ invariant_of-result g c =
     subst
     (λ events. IsLawful limits program.declared master.registrations start.registry start.state events parts start.shown.items start.tally)
     (sym c.new.ensures.items)
-    (IsLawful-opened program master combining limits c.args.graph.now parts c.requires.each c.requires.begun.beside c.requires.begun.begun start c.requires.started c.requires.registered)
+    (IsLawful-opened program master combining limits c.args.graph.now parts c.requires.each c.requires.begun.beside
+    c.requires.begun.begun start c.requires.started c.requires.registered)
 
 pub returns-clause-opened : goal.returns-clause-opened
 returns-clause-opened g c =
@@ -31,7 +32,8 @@ returns-clause-opened g c =
       run_is = refl;
       state_is = c.requires.started.state_is;
       history_is = c.new.ensures.items;
-      parts_are = begun_are_here program master combining c.args.limits c.args.graph.now c.args.parts.items c.requires.each c.requires.begun.beside c.requires.begun.begun;
+      parts_are = begun_are_here program master combining c.args.limits c.args.graph.now c.args.parts.items
+          c.requires.each c.requires.begun.beside c.requires.begun.begun;
     }
 
 pub returns-clause-right : goal.returns-clause-right

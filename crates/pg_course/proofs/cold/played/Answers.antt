@@ -1,4 +1,5 @@
 use Rattle.std.proofs.Common.{◌<◌, None, true, false, subst}
+use Rattle.std.proofs.lemmas.Result.{IfOk-weaker}
 use Rattle.pg_compute.specs.Candidates.{IsPlayed, awake_ids}
 use Rattle.pg_course.proofs.cold.played.Goals as goal
 
@@ -6,8 +7,10 @@ pub returns-clause-played : goal.returns-clause-played
 returns-clause-played g c =
     let program = g.P.Computation.program c.args.program.now in
     let combining = g.C.MessageCombiner.combining c.args.combiner.now in
+    IfOk-weaker c.play_alone.result _ _ (λ played is.
     subst (λ h. IsPlayed g.P.Value.PartialEq.eq g.P.Message.PartialEq.eq program h.missing combining c.args.stage.view h.partitions h.partition h.place h.trace
-    c.args.bundles.now None (awake_ids h.place h.trace) true false c.args.stage.meter c.in_ok-played.played) c.course.view_is c.in_ok-played.ensures
+    c.args.bundles.now None (awake_ids h.place h.trace) true false c.args.stage.meter played) c.course.view_is is) c.play_alone.ensures
 
 pub returns-clause-some : goal.returns-clause-some
-returns-clause-some g c = subst (λ h. 0 < h.partitions) c.course.view_is c.partitions.ensures.some
+returns-clause-some g c =
+    IfOk-weaker c.play_alone.result _ _ (λ played is. subst (λ h. 0 < h.partitions) c.course.view_is c.partitions.ensures.some) c.play_alone.ensures

@@ -1,4 +1,5 @@
-use Rattle.std.proofs.Common.{Some, not, ◌∙◌, subst, subst₂}
+use Rattle.std.proofs.Common.{◌<◌, Some, not, ◌∙◌, subst, subst₂}
+use Rattle.std.proofs.lemmas.Result.{IfOk-weaker}
 use Rattle.pg_inbox.specs.Alike.{DeliverAlike}
 use Rattle.pg_compute.specs.Candidates.{AreLookedAt, IsPlayed}
 use Rattle.pg_routing.specs.Routes.{bundles_before}
@@ -18,7 +19,6 @@ returns-clause-replayed g c =
     let view = c.args.stage.view in
     let meter = c.args.stage.meter in
     let bundles = c.args.bundles.now in
-    let played = c.in_ok-played.played in
     let ids = c.in_ok-ids.ids.items in
     let course : Holding g.row.P-Value.Denot g.row.P-Message.Denot = record {
       partition = c.course.inside.partition;
@@ -33,6 +33,7 @@ returns-clause-replayed g c =
       beside_old = c.course.inside.beside_old;
     } in
     let seen = c.is_same_view-seen.result in
+    IfOk-weaker c.play_beside.result _ _ (λ played is_played.
     subst (λ h. IsReplayed value_eq message_eq combining h old old_logs program logs c.args.old_view.now view bundles meter played) c.course.view_is
     (record {
       ids = ids;
@@ -44,6 +45,10 @@ returns-clause-replayed g c =
           (subst₂
           (λ x y. IsPlayed value_eq message_eq program course.missing combining view course.partitions course.partition course.place course.trace bundles
           (Some (old, x)) y (not seen) seen meter played)
-          (c.as_slice-2.ensures.value ∙ c.in_ok-old_bundles.ensures) c.as_slice-3.ensures.value c.in_ok-played.ensures);
+          (c.as_slice-2.ensures.value ∙ c.in_ok-old_bundles.ensures) c.as_slice-3.ensures.value is_played);
       alike = λ id. subst (λ l. DeliverAlike combining id l bundles) (c.as_slice.ensures.value ∙ c.in_ok-old_bundles.ensures) (c.tell_alike.ensures id);
-    })
+    })) c.play_beside.ensures
+
+pub returns-clause-some : goal.returns-clause-some
+returns-clause-some g c =
+    IfOk-weaker c.play_beside.result _ _ (λ played is. subst (λ h. 0 < h.partitions) c.course.view_is c.partitions.ensures.some) c.play_beside.ensures

@@ -10,7 +10,8 @@ open_with-requires-clause-begun g c =
     let master = g.M.MasterCompute.master c.args.master.now in
     λ κs lives. record {
       beside = None;
-      begun = have_begun program combining master c.args.limits c.args.graph.now c.in_ok-start.start.registry c.in_ok-start.ensures.registry_is c.in_ok-parts.parts.items c.in_ok-parts.ensures.begun;
+      begun = have_begun program combining master c.args.limits c.args.graph.now c.in_ok-start.start.registry
+          c.in_ok-start.ensures.registry_is c.in_ok-parts.parts.items c.in_ok-parts.ensures.begun;
     }
 
 pub returns-clause-right : goal.returns-clause-right
@@ -19,7 +20,8 @@ returns-clause-right g c =
     let combining = g.C.MessageCombiner.combining c.args.combiner.now in
     let master = g.M.MasterCompute.master c.args.master.now in
     let core = c.open_with.result in
-    let begun = have_begun program combining master c.args.limits c.args.graph.now c.in_ok-start.start.registry c.in_ok-start.ensures.registry_is c.in_ok-parts.parts.items c.in_ok-parts.ensures.begun in
+    let begun = have_begun program combining master c.args.limits c.args.graph.now c.in_ok-start.start.registry
+    c.in_ok-start.ensures.registry_is c.in_ok-parts.parts.items c.in_ok-parts.ensures.begun in
     subst (λ job. IsRight job None core)
     (job_as_opened g.P.Computation.program g.C.MessageCombiner.combining g.M.MasterCompute.master c.open_with.ensures.opened)
     (c.open_with.ensures.right None refl begun)

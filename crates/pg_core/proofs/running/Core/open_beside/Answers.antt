@@ -14,7 +14,8 @@ open_with-requires-clause-begun g c =
     let left = c.requires.left in
     λ κs lives. record {
       beside = Some left.kept;
-      begun = have_begun_beside program combining master c.args.limits c.args.graph.now start.start.registry start.ensures.registry_is c.in_ok-parts.parts.items c.args.touched.now c.args.old left.kept c.in_ok-parts.ensures.begun left.left_by left.untouched;
+      begun = have_begun_beside program combining master c.args.limits c.args.graph.now start.start.registry start.ensures.registry_is c.in_ok-parts.parts.items
+          c.args.touched.now c.args.old left.kept c.in_ok-parts.ensures.begun left.left_by left.untouched;
     }
 
 pub returns-clause-right : goal.returns-clause-right
@@ -25,7 +26,8 @@ returns-clause-right g c kept left untouched =
     let start = c.in_ok-start in
     let core = c.open_with.result in
     let job = job_of program combining master c.args.limits.missing c.args.limits.limit in
-    let begun = have_begun_beside program combining master c.args.limits c.args.graph.now start.start.registry start.ensures.registry_is c.in_ok-parts.parts.items c.args.touched.now c.args.old kept c.in_ok-parts.ensures.begun left untouched in
+    let begun = have_begun_beside program combining master c.args.limits c.args.graph.now start.start.registry start.ensures.registry_is
+    c.in_ok-parts.parts.items c.args.touched.now c.args.old kept c.in_ok-parts.ensures.begun left untouched in
     let common = subst (IsCommonOf job kept c.args.limits.partitions) (sym c.in_ok-parts.ensures.common) left.common in
     subst (λ job. IsRight job (Some kept) core)
     (job_as_opened g.P.Computation.program g.C.MessageCombiner.combining g.M.MasterCompute.master c.open_with.ensures.opened)

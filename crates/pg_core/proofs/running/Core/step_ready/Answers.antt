@@ -16,7 +16,8 @@ stepped : (g : Given.Over) (c : goal.After-stepped g) (kept : Option Rows)
     → let core = c.args.self.now in
     let job = job_by g.P.Computation.program g.C.MessageCombiner.combining g.M.MasterCompute.master core in
     IsRight job kept core
-    → HasMadeStep job g.P.Value.PartialEq.eq g.P.Message.PartialEq.eq kept core.graph core.limits.partitions c.args.partition c.take-part.result.course.place c.in-Ok.part c.in-Ok.sent c.args.meter.now c.step_of.new.meter
+    → HasMadeStep job g.P.Value.PartialEq.eq g.P.Message.PartialEq.eq kept core.graph core.limits.partitions c.args.partition
+    c.take-part.result.course.place c.in-Ok.part c.in-Ok.sent c.args.meter.now c.step_of.new.meter
 stepped g c kept right =
     let program_of = g.P.Computation.program in
     let combining_of = g.C.MessageCombiner.combining in
@@ -36,8 +37,10 @@ stepped g c kept right =
     let lent_there =
     subst (λ core. IsStepLent (job_by program_of combining_of master_of core) kept core p r part) (sym taken_is)
     (IsStepLent-without job kept core p r part promised.1) in
-    subst (λ core. HasMadeStep (job_by program_of combining_of master_of core) value_eq message_eq kept core.graph core.limits.partitions p r c.in-Ok.part c.in-Ok.sent c.args.meter.now c.step_of.new.meter) taken_is
-    (subst₂ (λ part' sent'. HasMadeStep (job_by program_of combining_of master_of taken) value_eq message_eq kept taken.graph taken.limits.partitions p r part' sent' c.args.meter.now c.step_of.new.meter)
+    subst (λ core. HasMadeStep (job_by program_of combining_of master_of core) value_eq message_eq kept core.graph core.limits.partitions
+    p r c.in-Ok.part c.in-Ok.sent c.args.meter.now c.step_of.new.meter) taken_is
+    (subst₂ (λ part' sent'. HasMadeStep (job_by program_of combining_of master_of taken) value_eq message_eq kept taken.graph
+    taken.limits.partitions p r part' sent' c.args.meter.now c.step_of.new.meter)
     (sym c.in-Ok.part-is) (sym c.in-Ok.sent-is)
     (c.in-Ok.ensures.stepped kept p right_there lent_there))
 
@@ -65,7 +68,8 @@ returns-in-Ok-clause-right g c =
     (job_by program_of combining_of master_of core) kept core p c.in-Ok.part c.in-Ok.sent → IsRight
     (job_by program_of combining_of master_of core) kept c.stepped.new.self) taken_is (keeps kept) in
     kept_so (subst (IsRight job kept) taken_is promised.0)
-    (IsStepOf-from_HasMadeStep job kept (without_part p core) p c.take-part.result.course.place c.in-Ok.part c.in-Ok.sent g.P.Value.PartialEq.eq g.P.Message.PartialEq.eq c.args.meter.now c.step_of.new.meter c.take-part.ensures.at.place_is (stepped g c kept right)))
+    (IsStepOf-from_HasMadeStep job kept (without_part p core) p c.take-part.result.course.place c.in-Ok.part c.in-Ok.sent g.P.Value.PartialEq.eq
+    g.P.Message.PartialEq.eq c.args.meter.now c.step_of.new.meter c.take-part.ensures.at.place_is (stepped g c kept right)))
     c.stepped.ensures.right
 
 pub returns-in-Ok-clause-counted : goal.returns-in-Ok-clause-counted

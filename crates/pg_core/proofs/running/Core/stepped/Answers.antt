@@ -44,7 +44,8 @@ invariant_of-self-2 g c =
     let registered = (g.M.MasterCompute.master inside.master.now).registrations in
     let allowed = subst (λ core. is_allowed core.state (Step p) ≡ true) (sym c.self.view_is) c.requires.allowed in
     let next = subst (λ core. IsNext core.limits.partitions core.state p part) (sym c.self.view_is) c.requires.next in
-    subst (λ state. IsLawful inside.limits declared registered inside.registry state c.note_step.new.history.items c.put_part.new.parts.items inside.shown.items inside.tally) (sym c.step.ensures)
+    subst (λ state. IsLawful inside.limits declared registered inside.registry state c.note_step.new.history.items
+    c.put_part.new.parts.items inside.shown.items inside.tally) (sym c.step.ensures)
     (subst (λ events. IsLawful inside.limits declared registered inside.registry
     (after inside.state (Step p)) events c.put_part.new.parts.items inside.shown.items inside.tally)
     (sym c.in_ok-note_step.ensures.history)

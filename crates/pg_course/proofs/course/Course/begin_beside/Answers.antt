@@ -15,7 +15,8 @@ restarted-requires-clause-rise g c =
     let program = g.P.Computation.program c.args.program.now in
     let share = first_changes program c.rows.inside.graph.now c.rows.inside.partitions c.rows.inside.partition in
     subst ChangesRise (sym (c.in_ok-changes.ensures.changes ∙ ap share c.as_slice.ensures.value))
-    (changes_rise program c.rows.inside.partitions c.rows.inside.partition c.rows.inside.graph.now c.rising-differing.result.items c.rising-differing.ensures.rise)
+    (changes_rise program c.rows.inside.partitions c.rows.inside.partition c.rows.inside.graph.now
+    c.rising-differing.result.items c.rising-differing.ensures.rise)
 
 pub restarted-requires-clause-by_id : goal.restarted-requires-clause-by_id
 restarted-requires-clause-by_id g c =

@@ -1,7 +1,11 @@
-use Rattle.std.proofs.Common.{ℕ, ◌<◌, [], ◌∷◌, ◌++◌, ap, sym, ◌∙◌, subst, refl}
-use Rattle.pg_course.specs.Course.{HasStepped, Holds}
+use Rattle.std.proofs.Common.{◌≡◌, ℕ, ◌+◌, ◌^◌, ◌<◌, ◌≤◌, [], ◌∷◌, ◌++◌, length, ap, sym, ◌∙◌, subst, refl, arith}
+use Rattle.std.proofs.lemmas.List.{length_push}
+use Rattle.pg_course.specs.Course.{HasStepped, Holds, IsFurther}
 use Rattle.pg_part.proofs.Stepping.{has_next, next_is, next_stats_at, ok_of}
 use Rattle.pg_part.proofs.part.Part.step.Goals as goal
+
+below_next : {place k n : ℕ} → place ≡ k → n ≡ k + 1 → place < n
+below_next at long = omega arith
 
 pub returns-clause-stepped : goal.returns-clause-stepped
 returns-clause-stepped g c job kept rows n p r program combining same held lent beside =
@@ -30,3 +34,28 @@ returns-clause-stepped g c job kept rows n p r program combining same held lent 
           (reckoned.moved_are ∙ ap (λ s. s.moved) as_before) (reckoned.old_stats_are ∙ ap (λ s. s.old_stats) as_before)
           next (reckoned.stats_are ∙ ap (λ s. s.stats ++ next ∷ []) as_before) after;
     }
+
+pub step-requires-clause-counts : goal.step-requires-clause-counts
+step-requires-clause-counts g c κs lives = subst (λ s. s.course.place + 1 < 2 ^ 32) (sym c.self.view_is) c.requires.counts
+
+pub after-reckoning-requires-clause-counts : goal.after-reckoning-requires-clause-counts
+after-reckoning-requires-clause-counts g c κs lives =
+    subst (λ (k : ℕ). k + 1 < 2 ^ 32) (sym (c.place-superstep.ensures ∙ ap (λ s. s.course.place) c.self.view_is)) c.requires.counts
+
+pub after-reckoning-requires-clause-few : goal.after-reckoning-requires-clause-few
+after-reckoning-requires-clause-few g c κs lives =
+    let many = ap length c.bundles-bundles.ensures ∙ (c.in_ok-course.ensures.to_each ∙ sym c.partitions.ensures) in
+    subst (λ (k : ℕ). k ≤ 64) (sym many) c.partitions-2.ensures.most
+
+pub after-reckoning-requires-clause-there : goal.after-reckoning-requires-clause-there
+after-reckoning-requires-clause-there g c κs lives = below_next c.place-superstep.ensures c.self.invariant
+
+pub invariant_of-result : goal.invariant_of-result
+invariant_of-result g c =
+    let reckoned = ok_of _ _ c.in_ok-reckoning.reckoning c.in_ok-reckoning.ensures c.after-reckoning.ensures in
+    ap length reckoned.stats_are
+    ∙ (length_push c.self.inside.reckoning.stats.items reckoned.next
+    ∙ ap (λ (k : ℕ). k + 1) (c.self.invariant ∙ sym c.in_ok-course.ensures.further.place_is))
+
+pub returns-clause-further : goal.returns-clause-further
+returns-clause-further g c = subst (λ s. IsFurther s.course c.in_ok-course.course) c.self.view_is c.in_ok-course.ensures.further

@@ -11,6 +11,7 @@ returns g c =
       old_stats_are = refl;
       next = c.in_ok-next.next;
       stats_are = c.in_ok-push.ensures.items;
-      is_next = next_stats_at c.args.registry.now _ before.graph _ before.moved.items _ before.stats.items _ before.old_stats.items _ _ c.args.course.now _ c.args.superstep _ c.args.bundles.now c.in_ok-next.next
+      is_next = next_stats_at c.args.registry.now _ before.graph _ before.moved.items _ before.stats.items _ before.old_stats.items
+          _ _ c.args.course.now _ c.args.superstep _ c.args.bundles.now c.in_ok-next.next
           refl c.as_slice.ensures.value c.as_slice-2.ensures.value c.as_slice-3.ensures.value refl refl refl c.in_ok-next.ensures;
     }

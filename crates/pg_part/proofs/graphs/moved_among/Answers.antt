@@ -1,0 +1,14 @@
+use Rattle.std.proofs.Common.{◌++◌, [], ◌∷◌, take, ap, sym, ◌∙◌}
+use Rattle.std.proofs.lemmas.List.Elements.{filter_more}
+use Rattle.pg_part.specs.Moved.{moved_among}
+use Rattle.pg_part.proofs.graphs.moved_among.Goals as goal
+
+pub loop-id-preserved : goal.loop-id-preserved
+loop-id-preserved c =
+    let among = moved_among c.args.before.now c.args.after.now in
+    let ids = c.args.ids.now in
+    let i = c.loop-id.id-index in
+    c.in_ok-add_if_moved.ensures
+    ∙ (ap (λ l. l ++ among (c.id-item.result ∷ [])) c.loop-id.invariant
+    ∙ (ap (λ id. among (take i ids) ++ among (id ∷ [])) c.id-item.is
+    ∙ sym (filter_more _ ids i c.id-item.result c.loop-id-test.true)))

@@ -1,0 +1,48 @@
+use Rattle.std.proofs.Common.{◌≡◌, ℕ, ◌<◌, ◌+◌, length, get_or, None, ap, sym, ◌∙◌, subst, true≢false}
+use Rattle.std.specs.Prelude.{IfSome, IsSome}
+use Rattle.std.specs.Option.{option_copied}
+use Rattle.std.proofs.lemmas.Option.{none-some, same_Some, slice_get_within}
+use Rattle.std.proofs.lemmas.Result.{IfOk-weaker}
+use Rattle.pg_part.specs.Reckoned.{IsReckoned}
+use Rattle.pg_part.proofs.Stepping.{reckoned_beside_at, stats_there}
+use Rattle.pg_part.proofs.reckoning.next_stats.Goals.{then-beside_old+in-Some+in-Some-found-2+in-None-1, then-beside_old+in-Some+in-None-1}
+use Rattle.pg_part.proofs.reckoning.next_stats.Goals.{then-beside_old+in-None-1, else-beside_old}
+use Rattle.pg_part.proofs.reckoning.next_stats.Goals as goal
+
+pub returns-in-Some-Some-Some : goal.returns-in-Some-Some-Some
+returns-in-Some-Some-Some g c =
+    let place = c.number-place.ensures in
+    let found = c.in-Some-Some-Some in
+    record {
+      alone = λ off before at. absurd (true≢false (sym c.if-beside_old.true ∙ (c.beside_old.ensures ∙ off)));
+      beside = λ on old logs before old_before old_after kept logs_are at old_at next.
+          reckoned_beside_at c.args.registry.now c.args.graph.now c.args.moved.now c.args.course.now c.args.superstep c.args.bundles.now c.in_ok-after.after
+          (same_Some _ _ (sym (ap option_copied found.is-0) ∙ (c.kept.ensures ∙ kept)))
+          (same_Some _ _ (sym (ap option_copied found.is-1) ∙ logs_are))
+          (stats_there c.args.stats.now place c.index-stats-place.is at)
+          (stats_there c.args.old_stats.now place c.index-old_stats-place.is old_at)
+          (stats_there c.args.old_stats.now (ap (λ (k : ℕ). k + 1) place)
+          (subst (λ r. IfSome r (λ x. x.now ≡ get_or c.args.old_stats.now (c.number-place.result + 1) x.now)) found.is-2 c.get.ensures.lookup.1) next)
+          c.in_ok-after.ensures;
+    }
+
+pub returns : goal.returns
+returns g c =
+    IfOk-weaker c.stats_after.result _ _ (λ after reckoned. record {
+      alone = λ off before at. subst (λ b. IsReckoned c.args.registry.now c.args.graph.now c.args.course.now c.args.superstep c.args.bundles.now b after)
+          (stats_there c.args.stats.now c.number-place.ensures c.index-stats-place-2.is at) reckoned;
+      beside = λ on old logs before old_before old_after kept logs_are at old_at next. absurd (elim c.if-beside_old.branch [
+        | then-beside_old+in-Some+in-Some-found-2+in-None-1 w ↦
+            let none : w.get.result ≡ None = assumption in
+            let there = slice_get_within c.args.old_stats.now (c.args.superstep + 1) old_after next in
+            true≢false (sym (subst (λ r. IsSome r) none (w.get.ensures.lookup.2
+            (subst (λ (k : ℕ). k + 1 < length c.args.old_stats.now) (sym c.number-place.ensures) there))))
+        | then-beside_old+in-Some+in-None-1 w ↦
+            let none : c.args.old_logs ≡ None = assumption in
+            none-some _ (sym (ap option_copied none) ∙ logs_are)
+        | then-beside_old+in-None-1 w ↦
+            let none : w.kept.result ≡ None = assumption in
+            none-some _ (sym (ap option_copied none) ∙ (w.kept.ensures ∙ kept))
+        | else-beside_old w ↦ true≢false (sym on ∙ (sym c.beside_old.ensures ∙ w.if-beside_old.false))
+      ]);
+    }) c.stats_after.ensures
