@@ -1,4 +1,4 @@
-use Rattle.pg_inbox.proofs.Ordering.{ordered-rising, ordered-same}
+use Rattle.pg_model.proofs.LawsListed.{ordered-rising, ordered-same}
 use Rattle.pg_compute.proofs.ids.rising.Goals as goal
 
 pub returns-clause-rise : goal.returns-clause-rise
