@@ -1,5 +1,6 @@
 -- A batch leaves the row of each vertex that none of its edits names.
-use Rattle.std.proofs.Common.{◌≡◌, ℕ, ◌+◌, Bool, true, false, cond, ◌||◌, ◌==◌, List, [], ◌∷◌, ◌++◌, Option, None, Some, is_some, Result, Ok, Err, refl, sym, ap, ◌∙◌, subst, true≢false}
+use Rattle.std.proofs.Common.{◌≡◌, ℕ, ◌+◌, Bool, true, false, cond, ◌||◌, ◌==◌, List, [], ◌∷◌, ◌++◌, Option}
+use Rattle.std.proofs.Common.{None, Some, is_some, Result, Ok, Err, refl, sym, ap, ◌∙◌, subst, true≢false}
 use Rattle.std.proofs.lemmas.Bool.{cases_eq, eq-eqb}
 use Rattle.pg_edits.specs.EdgeList.{weight_at, with_edge, without_edge}
 use Rattle.pg_graph.specs.Edit.{all_edited, batch_edited, batch_limit, edge_limit, edited, vertex_limit}
