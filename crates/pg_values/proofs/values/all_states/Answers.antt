@@ -1,5 +1,5 @@
 use Rattle.std.proofs.Common.{◌≡◌, ◌+◌, ◌<◌, ℕ, List, [], ◌∷◌, ◌++◌, Option, option_map, length, get_or, take, ap, sym, ◌∙◌}
-use Rattle.std.proofs.lemmas.List.{map-append, take_more}
+use Rattle.std.proofs.lemmas.List.{map-append, take_all, take_more}
 use Rattle.pg_part.specs.Part.{PartState}
 use Rattle.pg_trace.specs.Trace.{Trace}
 use Rattle.pg_values.specs.Values.{traces_of}
@@ -18,3 +18,6 @@ pub loop-part-preserved : goal.loop-part-preserved
 loop-part-preserved g c =
     traces_of-more c.args.parts.now c.loop-part.part-index c.loop-part-test.true c.part-item.is c.loop-part.invariant
     (c.in_ok-push.ensures.items ∙ ap (λ t. c.loop-part.states.items ++ t ∷ []) c.states_of.ensures)
+
+pub returns : goal.returns
+returns g c = c.loop-part.invariant ∙ ap traces_of (take_all c.loop-part.part-index c.args.parts.now c.loop-part-test.false)
