@@ -1,5 +1,6 @@
 -- The values with which a run ended, by those of the run beside which it ran.
-use Rattle.std.proofs.Common.{◌≡◌, ℕ, zero, suc, ◌+◌, ◌-◌, ◌<◌, ◌≤◌, ◌%◌, Bool, true, false, cond, ◌||◌, List, [], ◌∷◌, map, get_or, Option, None, Some, option_map, refl, ap, sym, ◌∙◌, subst, arith, inl, inr, flat_map, unwrap_or}
+use Rattle.std.proofs.Common.{◌≡◌, ℕ, zero, suc, ◌+◌, ◌-◌, ◌<◌, ◌≤◌, ◌%◌, Bool, true, false, cond, ◌||◌, List, [], ◌∷◌, map, get_or}
+use Rattle.std.proofs.Common.{Option, None, Some, option_map, refl, ap, sym, ◌∙◌, subst, arith, inl, inr, flat_map, unwrap_or}
 use Rattle.std.specs.Prelude.{◌==◌}
 use Rattle.std.specs.List.Sorted.{IsStrictlySortedBy}
 use Rattle.std.specs.Map.{keys_of}

@@ -1,5 +1,6 @@
 -- The values that the partitions of a run have are the run's.
-use Rattle.std.proofs.Common.{◌≡◌, ℕ, zero, suc, ◌+◌, ◌-◌, ◌<◌, ◌≤◌, ◌%◌, Bool, true, false, cond, ◌||◌, ◌&&◌, List, [], ◌∷◌, ◌++◌, map, take, get_or, Option, None, Some, option_and_then, option_map, refl, ap, ap₂, sym, ◌∙◌, arith, true≢false, filter, flat_map}
+use Rattle.std.proofs.Common.{◌≡◌, ℕ, zero, suc, ◌+◌, ◌-◌, ◌<◌, ◌≤◌, ◌%◌, Bool, true, false, cond, ◌||◌, ◌&&◌, List, [], ◌∷◌, ◌++◌, map, take, get_or}
+use Rattle.std.proofs.Common.{length, Option, None, Some, option_and_then, option_map, refl, ap, ap₂, sym, ◌∙◌, arith, true≢false, filter, flat_map}
 use Rattle.std.specs.Prelude.{◌==◌}
 use Rattle.std.specs.List.{AllByRecursion, find, range_with_len}
 use Rattle.std.specs.List.Sorted.{IsStrictlySortedBy}
@@ -9,6 +10,7 @@ use Rattle.std.specs.Ordering.{nat_cmp}
 use Rattle.std.proofs.Math.ListN.{get_or-map}
 use Rattle.std.proofs.Math.Nat.{mod-lt}
 use Rattle.std.proofs.lemmas.Bool.{eq-eqb}
+use Rattle.std.proofs.lemmas.List.{take_more}
 use Rattle.std.proofs.lemmas.List.Folds.{list_any-append}
 use Rattle.std.proofs.lemmas.Simd.{map-map}
 use Rattle.pg_values.specs.Values.{HasShare, HaveShares, ids_before, ids_of_part, ran_between, state_by, state_in, traces_of, valued}
@@ -30,10 +32,18 @@ use Rattle.pg_model.proofs.LawsPresent.{at_key, standing_at-none}
 use Rattle.pg_model.proofs.LawsRising.{flat_map-rising, has_id-filter}
 use Rattle.pg_model.proofs.LawsStandings.{found_by_id}
 use Rattle.pg_part.specs.Part.{PartState}
+use Rattle.pg_routing.proofs.Listing.{flat_map-push}
 use Rattle.pg_trace.specs.OfRun.{HoldsRun, run_state}
 use Rattle.pg_index.specs.Records.{last_record}
 use Rattle.pg_trace.specs.Trace.{Trace, left_by, records_of, state_at}
 use Rattle.pg_trace.proofs.RunStates.{state_of_run}
+
+-- what each element has is gathered, one element more
+pub gathered_more : {X Y : Type 0} (f : X → List Y) (xs : List X) (i : ℕ) {x : X} {before after : List Y} → i < length xs → x ≡ get_or xs i x
+    → before ≡ flat_map f (take i xs) → after ≡ before ++ f x → after ≡ flat_map f (take (i + 1) xs)
+gathered_more f xs i {x} within is so_far pushed =
+    pushed ∙ ap (λ l. l ++ f x) so_far ∙ sym (flat_map-push f (take i xs) x)
+    ∙ ap (flat_map f) (ap (λ y. take i xs ++ y ∷ []) is ∙ sym (take_more xs i x within))
 
 -- ---- what isn't listed isn't found
 
