@@ -1,5 +1,6 @@
 -- What the batch of a list of edges makes of a graph.
-use Rattle.std.proofs.Common.{◌≡◌, ℕ, pos, ◌+◌, ◌<◌, ◌≤◌, true, false, cond, List, [], ◌∷◌, ◌++◌, length, Some, Result, Ok, Err, MatchResult, ◌⊎◌, nat_le, nat_lt, refl, sym, ◌∙◌, inl, inr, arith}
+use Rattle.std.proofs.Common.{◌≡◌, ℕ, pos, ◌+◌, ◌<◌, ◌≤◌, true, false, cond, List, [], ◌∷◌, ◌++◌, length, Some, Result, Ok, Err, MatchResult, ◌⊎◌}
+use Rattle.std.proofs.Common.{nat_le, nat_lt, refl, sym, ◌∙◌, inl, inr, arith}
 use Rattle.std.specs.Option.{is_some}
 use Rattle.std.proofs.lemmas.Bool.{cases_Bool}
 use borrow.Author.Tests.{leb-true, ltb-true}
@@ -14,7 +15,8 @@ use Rattle.pg_edits.specs.declared.edit.EditKind.{EditKind}
 use Rattle.pg_edits.specs.declared.edit.EditKind.TheVariants.{Full}
 use Rattle.pg_import.proofs.Graphs.{has_vertex-with_ends, row_there, with_line_edge-at, with_vertex-new, with_vertex-there}
 use Rattle.pg_import.proofs.Limits.{Grows, Grows-with_lines, Grows-with_line_edge, Grows-with_vertex, edge_count-new, vertex_count-new}
-use Rattle.pg_import.specs.Batch.{Makes, batch_of, edge_edit, has_edge, has_vertex, line_edits, vertex_edits, with_ends, with_line, with_line_edge, with_lines, with_vertex}
+use Rattle.pg_import.specs.Batch.{Makes, batch_of, edge_edit, has_edge, has_vertex, line_edits, vertex_edits, with_ends, with_line, with_line_edge}
+use Rattle.pg_import.specs.Batch.{with_lines, with_vertex}
 use Rattle.pg_import.specs.declared.line.Line.{Line}
 
 -- a graph that is larger than graphs may be

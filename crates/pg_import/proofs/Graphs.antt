@@ -1,5 +1,6 @@
 -- What is in a graph once a line, or a part of one, was added.
-use Rattle.std.proofs.Common.{◌≡◌, ℕ, ◌&&◌, Bool, true, false, cond, List, [], ◌∷◌, pos, Option, None, Some, Ordering, Less, Equal, Greater, ◌⊎◌, refl, ap, sym, ◌∙◌, inl, inr}
+use Rattle.std.proofs.Common.{◌≡◌, ℕ, ◌&&◌, Bool, true, false, cond, List, [], ◌∷◌, pos, Option, None, Some, Ordering, Less, Equal, Greater, ◌⊎◌}
+use Rattle.std.proofs.Common.{refl, ap, sym, ◌∙◌, inl, inr}
 use Rattle.std.specs.BTreeMap.{insert_entry, is_at}
 use Rattle.std.specs.Map.{lookup}
 use Rattle.std.specs.Option.{is_some, option_and_then}

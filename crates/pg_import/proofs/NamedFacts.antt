@@ -4,7 +4,8 @@ use Rattle.std.specs.BTreeMap.{is_at}
 use Rattle.std.specs.Ordering.{nat_cmp}
 use Rattle.std.proofs.lemmas.Bool.{cases_Bool}
 use Rattle.pg_graph.specs.Rows.{Rows}
-use Rattle.pg_import.proofs.Graphs.{has_edge-with_line_edge, has_edge-with_vertex, has_vertex-with_line_edge, has_vertex-with_vertex, same_from_is_at, with_vertex-there}
+use Rattle.pg_import.proofs.Graphs.{has_edge-with_line_edge, has_edge-with_vertex, has_vertex-with_line_edge, has_vertex-with_vertex, same_from_is_at}
+use Rattle.pg_import.proofs.Graphs.{with_vertex-there}
 use Rattle.pg_import.proofs.NamedEdgeFacts.{cond-or}
 use Rattle.pg_import.specs.Batch.{has_edge, has_vertex, with_line_edge, with_vertex}
 use Rattle.pg_import.specs.Named.{Shows}

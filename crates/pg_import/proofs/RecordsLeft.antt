@@ -1,10 +1,12 @@
 -- The records that a reader has left, one after another.
-use Rattle.std.proofs.Common.{◌≡◌, ℕ, zero, suc, ◌+◌, ◌<◌, ◌≤◌, ◌==◌, if◌then◌else◌, Bool, true, false, List, [], ◌∷◌, length, Option, None, Some, Result, Ok, Err, IfOk, OnOk, MatchBool, MatchResult, refl, ap, sym, ◌∙◌, add-one, arith, inl, inr}
+use Rattle.std.proofs.Common.{◌≡◌, ℕ, zero, suc, ◌+◌, ◌<◌, ◌≤◌, ◌==◌, if◌then◌else◌, Bool, true, false, List, [], ◌∷◌, length, Option, None, Some}
+use Rattle.std.proofs.Common.{Result, Ok, Err, IfOk, OnOk, MatchBool, MatchResult, refl, ap, sym, ◌∙◌, add-one, arith, inl, inr}
 use Rattle.std.specs.Bool.{⊤}
 use Rattle.std.specs.Result.{IsErrAnd}
 use Rattle.std.proofs.lemmas.Bool.{cases_Bool}
 use Rattle.csv.specs.Machine.{Read, ends_at_end, ends_with, after_end, in_field, is_end, next_record, start_field, start_record, step}
-use Rattle.csv.specs.Reading.{ReadRecord, Reached, Ready, default_config, is_bom, reader_config, reader_state, reader_trim, records, records_from, records_next, source_of, strip_bom, took_first}
+use Rattle.csv.specs.Reading.{ReadRecord, Reached, Ready, default_config, is_bom, reader_config, reader_state, reader_trim, records, records_from}
+use Rattle.csv.specs.Reading.{records_next, source_of, strip_bom, took_first}
 use Rattle.csv.specs.declared.reader.Trim.TheVariants as trim
 use Rattle.csv.specs.declared.reader.Reader.{Reader}
 use Rattle.csv.proofs.ReadFacts.{rows-end, rows-more}

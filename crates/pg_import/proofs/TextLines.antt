@@ -1,5 +1,6 @@
 -- The lines of a text, as `split_inclusive` gives them.
-use Rattle.std.proofs.Common.{◌≡◌, ℕ, ◌+◌, ◌<◌, ◌≤◌, ◌==◌, Bool, List, [], ◌∷◌, ◌++◌, length, take, drop, min, Option, MatchOption, Bor, refl, ap, sym, subst, ◌∙◌, arith, inl, inr, ⊎_elim}
+use Rattle.std.proofs.Common.{◌≡◌, ℕ, ◌+◌, ◌<◌, ◌≤◌, ◌==◌, Bool, List, [], ◌∷◌, ◌++◌, length, take, drop, min, Option, MatchOption, Bor, refl, ap}
+use Rattle.std.proofs.Common.{sym, subst, ◌∙◌, arith, inl, inr, ⊎_elim}
 use denote.Param.Members.{Mut}
 use Rattle.std.specs.Fn.{CalledAt, ComputesKey}
 use Rattle.std.specs.Io.BufRead.{drop_through, take_through}

@@ -7,7 +7,8 @@ use Rattle.std.proofs.lemmas.Bool.{cases_eq}
 use Rattle.std.proofs.lemmas.Map.Entries.{lookup_head, lookup_tail}
 use Rattle.std.proofs.lemmas.Map.Keys.{sorted_tail}
 use Rattle.pg_map.specs.Entries.{ChangesRise, HasRisingIds, value_at, with_change, with_changes}
-use Rattle.pg_map.proofs.Rising.{find, at_same, at_other, none_past, same_entries, find-insert_same, find-insert_other, find-remove_same, find-remove_other, rises-insert, rises-remove}
+use Rattle.pg_map.proofs.Rising.{find, at_same, at_other, none_past, same_entries, find-insert_same, find-insert_other, find-remove_same}
+use Rattle.pg_map.proofs.Rising.{find-remove_other, rises-insert, rises-remove}
 
 module _ {V : Type 0} where
   -- ---- one change

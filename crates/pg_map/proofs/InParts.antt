@@ -1,5 +1,6 @@
 -- Entries in parts, which are chunks or groups: where a search finds them, and which changes fall into which part.
-use Rattle.std.proofs.Common.{◌≡◌, ℕ, zero, suc, ◌+◌, ◌<◌, ◌≤◌, List, [], ◌∷◌, ◌++◌, length, get_or, take, drop, true, false, Option, None, refl, sum_by, length-append, sym, ap, ◌∙◌, subst, arith, leb, ltb}
+use Rattle.std.proofs.Common.{◌≡◌, ℕ, zero, suc, ◌+◌, ◌<◌, ◌≤◌, List, [], ◌∷◌, ◌++◌, length, get_or, take, drop, true, false, Option, None, refl}
+use Rattle.std.proofs.Common.{sum_by, length-append, sym, ap, ◌∙◌, subst, arith, leb, ltb}
 use Rattle.std.specs.List.{flat_map}
 use Rattle.std.specs.List.Sorted.{IsNonDecreasingBy, IsPartitionPoint, IsStrictlySortedBy}
 use Rattle.std.proofs.lemmas.Bool.{ltb-true, ltb-false, leb-true, leb-false}
@@ -11,7 +12,8 @@ use Rattle.pg_map.specs.Entries.{HasRisingIds, ChangesRise, entries_from, with_c
 use Rattle.pg_map.specs.declared.part.Part.{Part}
 use Rattle.pg_map.proofs.Rising.{find}
 use Rattle.pg_map.proofs.Search.{rises}
-use Rattle.pg_map.proofs.Parts.{Below, From, from_weaker, from_first, below_middle, rises_left, rises_right, none_below, none_from, find-left, find-right, none_kept, all_kept, from-append, changes_in_parts, split_all}
+use Rattle.pg_map.proofs.Parts.{Below, From, from_weaker, from_first, below_middle, rises_left, rises_right, none_below, none_from, find-left}
+use Rattle.pg_map.proofs.Parts.{find-right, none_kept, all_kept, from-append, changes_in_parts, split_all}
 
 module _ {X T : Type 0} (listed : Part T → List (ℕ × X)) where
   abbrev entries_of : List (Part T) → List (ℕ × X)

@@ -1,5 +1,5 @@
 -- One execution, and the vertices that aren't executed.
-use Rattle.std.proofs.Common.{◌≡◌, ℕ, ◌+◌, Bool, true, false, cond, not, ◌||◌, List, [], ◌∷◌, ◌++◌, refl, sym, ap, ◌∙◌, arith, rules, tests}
+use Rattle.std.proofs.Common.{◌≡◌, ℕ, ◌+◌, Bool, true, false, cond, not, List, [], ◌∷◌, ◌++◌, refl, sym, ap, ◌∙◌, arith, rules, tests}
 use Rattle.std.proofs.lemmas.List.{append-nil}
 use Rattle.pg_model.proofs.LawsAgreement.{outcome-active, outcome-idle}
 use Rattle.pg_model.specs.Job.{Program}

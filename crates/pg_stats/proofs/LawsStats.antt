@@ -1,6 +1,6 @@
 -- The stats of all partitions together are those of the run: from them follow the totals, the gathered values, the counts of
 -- messages and whether all is idle as the next superstep begins.
-use Rattle.std.proofs.Common.{◌≡◌, ℕ, zero, suc, ◌+◌, ◌<◌, ℤ, Bool, true, false, ◌&&◌, ◌==◌, List, [], ◌∷◌, map, length, All, FitsSigned, w64, refl, ap, ap₂, sym, ◌∙◌, subst, arith, add-one, flat_map, sum_by, IsPermutation}
+use Rattle.std.proofs.Common.{◌≡◌, ℕ, zero, suc, ◌+◌, ◌<◌, ℤ, Bool, ◌&&◌, ◌==◌, List, [], ◌∷◌, map, length, All, FitsSigned, w64, refl, ap, ap₂, sym, ◌∙◌, subst, arith, add-one, flat_map, sum_by, IsPermutation}
 use Rattle.std.specs.List.{AllByRecursion, enumerate_from, list_all, range_with_len}
 use Rattle.std.proofs.lemmas.List.Folds.{flat_map-map, list_all-map, sum_by-zero}
 use Rattle.std.proofs.lemmas.List.Sorted.{IsPermutation-refl}

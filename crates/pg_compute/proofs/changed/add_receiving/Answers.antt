@@ -1,4 +1,4 @@
-use Rattle.std.proofs.Common.{[], ap, inl, inr, subst, ◌∙◌}
+use Rattle.std.proofs.Common.{ap, inl, inr, ◌∙◌}
 use Rattle.std.proofs.lemmas.List.{take_all}
 use Rattle.pg_model.specs.Superstep.{has_id}
 use Rattle.pg_compute.proofs.Looking.{in_either_more}

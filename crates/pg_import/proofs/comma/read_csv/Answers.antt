@@ -8,7 +8,8 @@ use Rattle.pg_import.proofs.RecordsLeft.{starts_text}
 use Rattle.pg_import.specs.Comma.{csv_of, is_header, trimmed}
 use Rattle.pg_import.specs.Records.{TakesRecord, records_left}
 use Rattle.pg_import.proofs.comma.read_csv.Goals as goal
-use Rattle.pg_import.proofs.comma.read_csv.Goals.{else-number-eq-HEADER-via-then-number-eq-HEADER+else-is_header, else-number-eq-HEADER-via-else-number-eq-HEADER}
+use Rattle.pg_import.proofs.comma.read_csv.Goals.{else-number-eq-HEADER-via-then-number-eq-HEADER+else-is_header}
+use Rattle.pg_import.proofs.comma.read_csv.Goals.{else-number-eq-HEADER-via-else-number-eq-HEADER}
 
 pub loop-lines-init : goal.loop-lines-init
 loop-lines-init c =

@@ -25,7 +25,8 @@ loop-group-preserved g c =
     let parts = c.split_at.ensures.by_index.0 in
     let groups = subst AreGroups at now.invariant.groups in
     record {
-      made = part_turn grouped now.gathering _ now.left.now c.in-Some.others.now c.in-Some.group.now now.todo.now here later c.cut_of.result at parts c.split_at.ensures.front c.split_at.ensures.back now.invariant.groups.0 now.invariant.entries_rise c.cut_of.ensures.cut c.in_ok-merge_group.ensures
+      made = part_turn grouped now.gathering _ now.left.now c.in-Some.others.now c.in-Some.group.now now.todo.now here later c.cut_of.result at parts
+          c.split_at.ensures.front c.split_at.ensures.back now.invariant.groups.0 now.invariant.entries_rise c.cut_of.ensures.cut c.in_ok-merge_group.ensures
           ∙ now.invariant.made;
       groups = (groups.0.1, groups.1.1);
       entries_rise = rises_right (grouped c.in-Some.group.now) (all_of c.in-Some.others.now)

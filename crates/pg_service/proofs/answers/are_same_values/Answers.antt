@@ -1,4 +1,4 @@
-use Rattle.std.proofs.Common.{ℕ, ◌<◌, length, get_or, ap, sym, ◌∙◌, arith}
+use Rattle.std.proofs.Common.{◌<◌, length, get_or, ap, sym, ◌∙◌, arith}
 use Rattle.std.proofs.lemmas.List.{take_more_same}
 use Rattle.pg_service.proofs.answers.are_same_values.Goals as goal
 

@@ -11,7 +11,8 @@ begun-self-inside-requires g c = firsts_rise grouped c.self.inside.groups.now c.
 pub returns-then-self-eq0-clause-value : goal.returns-then-self-eq0-clause-value
 returns-then-self-eq0-clause-value g c =
     sym
-    (get_before grouped c.args.id c.self.inside.groups.now c.begun-self-inside.result c.self.invariant.0.0 c.self.invariant.1 c.begun-self-inside.ensures.parts c.if-self-eq0.true)
+    (get_before grouped c.args.id c.self.inside.groups.now c.begun-self-inside.result c.self.invariant.0.0 c.self.invariant.1
+    c.begun-self-inside.ensures.parts c.if-self-eq0.true)
     ∙ ap (value_at c.args.id) c.self.view_is
 
 pub begun-self-inside-requires-2 : goal.begun-self-inside-requires-2

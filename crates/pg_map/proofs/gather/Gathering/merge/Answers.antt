@@ -14,7 +14,8 @@ loop-change-preserved-then-lt g c =
     let at = c.in-Some-split_first.ensures.cases.0 in
     let below = below_by entry.0 c.in-Some.change.now.0 c.if-lt.ensures in
     record {
-      made = pass_turn now.self _ _ _ _ _ c.in-Some.ensures.cases.0 now.invariant.changes_rise entry _ at _ c.in_ok-push-in-Some-split_first.ensures c.in_ok-share-in-Some-split_first.ensures below ∙ now.invariant.made;
+      made = pass_turn now.self _ _ _ _ _ c.in-Some.ensures.cases.0 now.invariant.changes_rise entry _ at _ c.in_ok-push-in-Some-split_first.ensures
+          c.in_ok-share-in-Some-split_first.ensures below ∙ now.invariant.made;
       entries_rise = rises_after entry _ (subst HasRisingIds at now.invariant.entries_rise);
       changes_rise = now.invariant.changes_rise;
     }
@@ -37,12 +38,15 @@ loop-change-preserved-in_ok-push-in_default-split_first g c =
     let now = c.loop-change in
     let next = c.in-Some.ensures.cases.0 in
     let above : From (c.in-Some.change.now.0 + 1) now.left.now = elim c.in_default-split_first.branch [
-      | in_default-split_first-via-in-Some-2+else-eq w ↦ from_entry now.self now.self _ _ _ _ next now.invariant.changes_rise w.in-Some-split_first.entry.now _ w.in-Some-split_first.ensures.cases.0 now.invariant.entries_rise
+      | in_default-split_first-via-in-Some-2+else-eq w ↦ from_entry now.self now.self _ _ _ _ next now.invariant.changes_rise
+          w.in-Some-split_first.entry.now _ w.in-Some-split_first.ensures.cases.0 now.invariant.entries_rise
           (not_below_by _ _ w.if-lt.ensures) (apart_by _ _ w.if-eq.ensures)
-      | in_default-split_first-via-in_default-split_first w ↦ from_none now.self now.self _ _ _ _ next now.invariant.changes_rise w.in_default-split_first.ensures.cases
+      | in_default-split_first-via-in_default-split_first w ↦ from_none now.self now.self _ _ _ _ next now.invariant.changes_rise
+          w.in_default-split_first.ensures.cases
     ] in
     record {
-      made = put_turn now.self _ _ _ _ _ next now.invariant.changes_rise above _ _ c.in-Some-1₀.is c.in_ok-share-in_default-split_first.ensures c.in_ok-push-in_default-split_first.ensures ∙ now.invariant.made;
+      made = put_turn now.self _ _ _ _ _ next now.invariant.changes_rise above _ _ c.in-Some-1₀.is c.in_ok-share-in_default-split_first.ensures
+          c.in_ok-push-in_default-split_first.ensures ∙ now.invariant.made;
       entries_rise = now.invariant.entries_rise;
       changes_rise = rises_after c.in-Some.change.now c.in-Some.later.now (subst ChangesRise next now.invariant.changes_rise);
     }
@@ -52,9 +56,11 @@ loop-change-preserved g c =
     let now = c.loop-change in
     let next = c.in-Some.ensures.cases.0 in
     let above : From (c.in-Some.change.now.0 + 1) now.left.now = elim c.in_default-split_first.branch [
-      | in_default-split_first-via-in-Some-2+else-eq w ↦ from_entry now.self now.self _ _ _ _ next now.invariant.changes_rise w.in-Some-split_first.entry.now _ w.in-Some-split_first.ensures.cases.0 now.invariant.entries_rise
+      | in_default-split_first-via-in-Some-2+else-eq w ↦ from_entry now.self now.self _ _ _ _ next now.invariant.changes_rise
+          w.in-Some-split_first.entry.now _ w.in-Some-split_first.ensures.cases.0 now.invariant.entries_rise
           (not_below_by _ _ w.if-lt.ensures) (apart_by _ _ w.if-eq.ensures)
-      | in_default-split_first-via-in_default-split_first w ↦ from_none now.self now.self _ _ _ _ next now.invariant.changes_rise w.in_default-split_first.ensures.cases
+      | in_default-split_first-via-in_default-split_first w ↦ from_none now.self now.self _ _ _ _ next now.invariant.changes_rise
+          w.in_default-split_first.ensures.cases
     ] in
     record {
       made = remove_turn now.self now.self _ _ _ _ next now.invariant.changes_rise above c.in_default-1₀.is ∙ now.invariant.made;

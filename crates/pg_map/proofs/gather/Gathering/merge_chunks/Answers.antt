@@ -24,7 +24,8 @@ loop-chunk-preserved g c =
     let later = c.split_at.result.1.now in
     let parts = c.split_at.ensures.by_index.0 in
     record {
-      made = part_turn listed now.self _ now.left.now c.in-Some.others.now c.in-Some.chunk.now now.todo.now here later c.cut_of.result at parts c.split_at.ensures.front c.split_at.ensures.back now.invariant.chunks now.invariant.entries_rise c.cut_of.ensures.cut c.in_ok-merge_chunk.ensures
+      made = part_turn listed now.self _ now.left.now c.in-Some.others.now c.in-Some.chunk.now now.todo.now here later c.cut_of.result at parts
+          c.split_at.ensures.front c.split_at.ensures.back now.invariant.chunks now.invariant.entries_rise c.cut_of.ensures.cut c.in_ok-merge_chunk.ensures
           ∙ now.invariant.made;
       chunks = (subst AreChunks at now.invariant.chunks).1;
       entries_rise = rises_right (listed c.in-Some.chunk.now) (entries_of c.in-Some.others.now)

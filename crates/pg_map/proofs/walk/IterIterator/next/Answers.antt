@@ -28,7 +28,8 @@ pub returns-clause-steps : goal.returns-clause-steps
 returns-clause-steps g c =
     let whole : viewed c.self.inside ≡ viewed c.if-is_empty.self-inside = elim c.if-is_empty.branch [
       | then-is_empty+in_ok-chunk w ↦
-          opens _ _ w.in_ok-chunk.chunk.now _ _ _ _ (used_up c.self.inside.entries.now _ w.if-is_empty.true c.is_empty.ensures) w.opened.ensures.entries w.in_ok-chunk.ensures.cases.0
+          opens _ _ w.in_ok-chunk.chunk.now _ _ _ _ (used_up c.self.inside.entries.now _ w.if-is_empty.true c.is_empty.ensures)
+          w.opened.ensures.entries w.in_ok-chunk.ensures.cases.0
           (w.as_slice-self-inside.ensures.value ∙ ap (λ v. v.items) w.deref.ensures) ∙ ap viewed (sym w.self-inside-is)
       | else-is_empty w ↦ ap viewed (sym w.self-inside-is)
     ] in

@@ -1,0 +1,24 @@
+use Rattle.std.proofs.Common.{◌++◌, refl, ap, subst, sym, ◌∙◌}
+use Rattle.pg_model.specs.Superstep.{astray, dropped_count, waiting_after}
+use Rattle.pg_delivery.specs.Arranged.{IsArranged}
+use Rattle.pg_delivery.specs.Worklist.{ListsActive}
+use Rattle.pg_delivery.proofs.Arranging.{received_same}
+use Rattle.pg_delivery.proofs.receiving.receive.Goals as goal
+
+pub returns : goal.returns
+returns g c =
+    let combining = g.C.MessageCombiner.combining c.args.combiner.now in
+    let missing = c.args.missing in
+    let ids = c.args.roster.ids in
+    let sent = c.as_slice.result.now in
+    let arranged = subst (λ l. IsArranged l sent) c.into_vec.ensures
+    (subst (λ l. IsArranged c.into_vec.result.items l) (sym c.as_slice.ensures.value) c.in_ok-sent.ensures) in
+    let strays = c.in_ok-deliver.ensures.strays ∙ ap (λ l. l ++ astray ids sent) c.new-strays.ensures.items in
+    record {
+      standings = c.in_ok-deliver.ensures.standings ∙ received_same combining c.args.sent sent arranged c.args.roster.standings.items;
+      ids_stay = refl;
+      lists = subst (λ xs. ListsActive xs c.in_ok-work.work.items) c.as_slice-2.ensures.value c.in_ok-work.ensures.lists;
+      work_rises = c.in_ok-work.ensures.in_order;
+      waiting = c.in_ok-astray.ensures.waiting ∙ ap (waiting_after missing combining) strays ∙ arranged.waits missing combining ids;
+      dropped = c.in_ok-astray.ensures.dropped ∙ ap (dropped_count missing) strays ∙ arranged.dropped missing ids;
+    }
