@@ -1,5 +1,6 @@
 -- A batch is, for each vertex, what its own edits make of its row, where no limit can be met.
-use Rattle.std.proofs.Common.{◌≡◌, ℕ, ℤ, ◌+◌, ◌<◌, ◌≤◌, Bool, true, false, cond, List, [], ◌∷◌, length, Option, None, Some, Ordering, is_some, Result, Ok, Err, MatchResult, ◌⊎◌, inl, inr, eqb, refl, sym, ap, ◌∙◌, subst, ⊎_elim, arith}
+use Rattle.std.proofs.Common.{◌≡◌, ℕ, ℤ, ◌+◌, ◌<◌, ◌≤◌, Bool, true, false, cond, List, [], ◌∷◌, length, Option, None, Some, Ordering, is_some, Result}
+use Rattle.std.proofs.Common.{Ok, Err, MatchResult, ◌⊎◌, inl, inr, eqb, refl, sym, ap, ◌∙◌, subst, ⊎_elim, arith}
 use Rattle.std.specs.List.{AllByRecursion}
 use Rattle.std.specs.declared.cmp.Ordering.TheVariants.{Less, Equal, Greater}
 use Rattle.std.specs.Ordering.{nat_cmp, match_ordering}
@@ -23,7 +24,9 @@ use Rattle.pg_edits.specs.declared.edit.EditFault.{EditFault}
 use Rattle.pg_edits.proofs.AtPlace.{cut_absent}
 use Rattle.pg_graph.proofs.Batches.{after, first_edit, all_edited-nil, Err_not_Ok, Ok_not_Err, Err_same}
 use Rattle.pg_graph.proofs.Drafting.{edges-with_row, edges-without_row}
-use Rattle.pg_graph.proofs.Edited.{AddVertex-exists, AddVertex-ok, RemoveVertex-missing, SetInput-missing, AddEdge-missing, SetEdge-missing, RemoveEdge-missing, RemoveVertex-ok, SetInput-ok, AddEdge-exists, AddEdge-ok, SetEdge-none, SetEdge-ok, RemoveEdge-none, RemoveEdge-ok}
+use Rattle.pg_graph.proofs.Edited.{AddVertex-exists, AddVertex-ok, RemoveVertex-missing, SetInput-missing, AddEdge-missing, SetEdge-missing}
+use Rattle.pg_graph.proofs.Edited.{RemoveEdge-missing, RemoveVertex-ok, SetInput-ok, AddEdge-exists, AddEdge-ok, SetEdge-none, SetEdge-ok}
+use Rattle.pg_graph.proofs.Edited.{RemoveEdge-none, RemoveEdge-ok}
 
 -- ---- one edit
 

@@ -7,7 +7,8 @@ ghost use Rattle.std.specs.Ordering.{nat_cmp};
 ghost use Rattle.pg_map.specs.Entries.{HasRisingIds, with_changes};
 ghost use Rattle.pg_inbox.specs.Holding.{HoldsAt};
 ghost use Rattle.pg_inbox.specs.Inboxes.{letters_at};
-ghost use Rattle.pg_inbox.specs.Mending.{HasJust, HasMore, additions, as_addition, as_withdrawal, changes_of, mended, mended_at, mends_of, others, senders_of, withdrawn_by};
+ghost use Rattle.pg_inbox.specs.Mending.{HasJust, HasMore, additions, as_addition, as_withdrawal, changes_of, mended, mended_at, mends_of, others};
+ghost use Rattle.pg_inbox.specs.Mending.{senders_of, withdrawn_by};
 ghost use Rattle.pg_inbox.specs.Patched.{IsPatched, TellsChanges};
 
 use crate::changing::differing_among;

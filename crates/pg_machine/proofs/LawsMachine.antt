@@ -1,13 +1,16 @@
 -- The laws of the status machine.
-use Rattle.std.proofs.Common.{◌≡◌, ℕ, zero, suc, ◌+◌, ◌<◌, ◌≢◌, Bool, true, false, cond, not, ◌&&◌, List, [], ◌∷◌, ◌++◌, length, get_or, set, refl, ap, sym, ◌∙◌, subst, arith, zero-add, Option, None, Some, is_some, inl, inr}
+use Rattle.std.proofs.Common.{◌≡◌, ℕ, zero, suc, ◌+◌, ◌<◌, ◌≢◌, Bool, true, false, cond, not, ◌&&◌, List, [], ◌∷◌, ◌++◌, length, get_or, set, refl}
+use Rattle.std.proofs.Common.{ap, sym, ◌∙◌, subst, arith, zero-add, Option, None, Some, is_some, inl, inr}
 use Rattle.std.specs.Prelude.{◌==◌, slice_index_or}
 use Rattle.std.specs.List.{list_all}
 use Rattle.std.specs.Option.{option_map}
-use Rattle.std.proofs.lemmas.Bool.{and_parts, and_from, or_parts, cond-false, eqb-true, eq-eqb, ne_eqb, ltb-true, true≢false, not-true, both_ways, cases_eq, cases_lt, cases_Bool}
+use Rattle.std.proofs.lemmas.Bool.{and_parts, and_from, or_parts, cond-false, eqb-true, eq-eqb, ne_eqb, ltb-true, true≢false, not-true, both_ways}
+use Rattle.std.proofs.lemmas.Bool.{cases_eq, cases_lt, cases_Bool}
 use Rattle.std.proofs.lemmas.List.{length-set, get_or-set_same, get_or-set_other, get_or_past}
 use Rattle.std.proofs.lemmas.List.FromFn.{get_or-map-range_with_len, length-map-range_with_len}
 use Rattle.std.proofs.lemmas.List.Sums.{AllPass-from_list_all, sum_by-cons}
-use Rattle.pg_machine.specs.Machine.{State, first_state, place_at, is_at, may_happen, is_allowed, places_without, after, after_all, are_allowed, Reaches, takes, was_lost, is_step, steps_of, RestoresFollowLosses, StepsTell}
+use Rattle.pg_machine.specs.Machine.{State, first_state, place_at, is_at, may_happen, is_allowed, places_without, after, after_all, are_allowed}
+use Rattle.pg_machine.specs.Machine.{Reaches, takes, was_lost, is_step, steps_of, RestoresFollowLosses, StepsTell}
 use Rattle.pg_machine.specs.declared.event.Closed.TheVariants.{Next, Ended}
 use Rattle.pg_machine.specs.declared.event.Event.{Event}
 use Rattle.pg_machine.specs.declared.event.Event.TheVariants.{Step, Lose, Host, Restore, Save, Close}

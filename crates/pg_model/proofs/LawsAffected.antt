@@ -1,5 +1,6 @@
 -- Two runs of one job: what an unaffected vertex keeps, which executions are needed, and what is delivered and gathered.
-use Rattle.std.proofs.Common.{◌≡◌, ℕ, suc, ◌+◌, ◌<◌, ◌≤◌, Bool, true, false, cond, List, [], ◌∷◌, ℤ, Option, None, Some, option_map, option_and_then, is_some, refl, ap, ap₂, sym, ◌∙◌, arith, true≢false, inl, inr, ◌⊎◌, filter, flat_map, count_by, fold}
+use Rattle.std.proofs.Common.{◌≡◌, ℕ, suc, ◌+◌, ◌<◌, ◌≤◌, Bool, true, false, cond, List, [], ◌∷◌, ℤ, Option, None, Some, option_map, option_and_then}
+use Rattle.std.proofs.Common.{is_some, refl, ap, ap₂, sym, ◌∙◌, arith, true≢false, inl, inr, ◌⊎◌, filter, flat_map, count_by, fold}
 use Rattle.std.specs.List.Sorted.{IsStrictlySortedBy}
 use Rattle.std.specs.Ordering.{nat_cmp}
 use Rattle.std.proofs.lemmas.Bool.{cond_both, cases_lt, cases_Bool, false_from_ne_true, true_from_ne_false}
@@ -7,19 +8,23 @@ use Rattle.std.proofs.lemmas.Option.{none-some}
 use Rattle.pg_graph.specs.Rows.{Rows, HasRisingIds, row_at}
 use Rattle.pg_graph.specs.declared.missing.Missing.{Missing}
 use Rattle.pg_graph.specs.declared.missing.Missing.TheVariants.{Drop, Create}
-use Rattle.pg_model.specs.Affected.{HaveActive, StandsAlike, IsSeenAgain, IsUnaffected, AreCandidates, IsTakenOver, SendsAlike, ContributesAlike, AllSendAlike, AllContributeAlike}
-use Rattle.pg_model.specs.ByIds.{state_first, outcome_in, made_of, read_off, standing_with, arriving, state_at, inbox_at, outcome_at, delivered_at, contributions_at, picked_at, messages_of, contributions_of, IsIdleAt}
+use Rattle.pg_model.specs.Affected.{HaveActive, StandsAlike, IsSeenAgain, IsUnaffected, AreCandidates, IsTakenOver, SendsAlike, ContributesAlike}
+use Rattle.pg_model.specs.Affected.{AllSendAlike, AllContributeAlike}
+use Rattle.pg_model.specs.ByIds.{state_first, outcome_in, made_of, read_off, standing_with, arriving, state_at, inbox_at, outcome_at, delivered_at}
+use Rattle.pg_model.specs.ByIds.{contributions_at, picked_at, messages_of, contributions_of, IsIdleAt}
 use Rattle.pg_model.specs.Job.{Job, Inputs, Aggregating}
 use Rattle.pg_model.specs.Needed.{standing_at, inputs_if_active, inputs_at, is_changed, IsNeeded, is_needed, needed_in}
 use Rattle.pg_model.specs.Run.{configuration, present_at, visible_at, view_at, run_length}
-use Rattle.pg_model.specs.Superstep.{ids, is_active, has_id, inputs_of, messages_to, combined, at_place, gathered_at, gathered_from, outcome, state_after, sends, contributions, next}
+use Rattle.pg_model.specs.Superstep.{ids, is_active, has_id, inputs_of, messages_to, combined, at_place, gathered_at, gathered_from, outcome}
+use Rattle.pg_model.specs.Superstep.{state_after, sends, contributions, next}
 use Rattle.pg_model.proofs.LawsAgreement.{outcome-idle, state_after-idle}
 use Rattle.pg_model.proofs.LawsDelivered.{messages_to-sends}
 use Rattle.pg_model.proofs.LawsIds.{ids_rise}
 use Rattle.pg_model.proofs.LawsInputs.{no_inputs_past, no_inputs_missing, no_inputs_idle}
 use Rattle.pg_model.proofs.LawsLists.{all_pass}
 use Rattle.pg_model.proofs.LawsNeeded.{unchanged}
-use Rattle.pg_model.proofs.LawsPresent.{standing_at-none, standing_at-state, state_at-first, inbox_at-first, IsIdleAt-from_inputs, state_at-next, inbox_at-next, inputs_within, missing_or_idle, flat_map-present}
+use Rattle.pg_model.proofs.LawsPresent.{standing_at-none, standing_at-state, state_at-first, inbox_at-first, IsIdleAt-from_inputs, state_at-next}
+use Rattle.pg_model.proofs.LawsPresent.{inbox_at-next, inputs_within, missing_or_idle, flat_map-present}
 use Rattle.pg_model.proofs.LawsRising.{flat_map-rising, count-rising}
 use Rattle.pg_model.proofs.LawsShares.{at_place-contributions}
 use Rattle.pg_model.specs.declared.configuration.Standing.{Standing}

@@ -1,5 +1,6 @@
 -- Equal inputs give equal records: why what an execution of one run gave may stand in another run.
-use Rattle.std.proofs.Common.{◌≡◌, ℕ, zero, suc, ◌+◌, ◌<◌, Bool, true, false, cond, ltb, List, [], ◌∷◌, ℤ, length, get_or, None, Some, option_and_then, refl, ap, ap₂, sym, ◌∙◌, subst, arith, true≢false, add-zero, zero-add}
+use Rattle.std.proofs.Common.{◌≡◌, ℕ, zero, suc, ◌+◌, ◌<◌, Bool, true, false, cond, ltb, List, [], ◌∷◌, ℤ, length, get_or, None, Some}
+use Rattle.std.proofs.Common.{option_and_then, refl, ap, ap₂, sym, ◌∙◌, subst, arith, true≢false, add-zero, zero-add}
 use Rattle.std.proofs.lemmas.Bool.{lt-ltb}
 use Rattle.std.proofs.lemmas.Option.{same_Some}
 use Rattle.pg_graph.specs.Rows.{Rows}

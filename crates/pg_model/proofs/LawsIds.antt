@@ -1,6 +1,7 @@
 -- Ids and places through a run: where messages to nobody are dropped, the ids stay those of the graph; where they make
 -- vertices, ids are only added, and only such as were sent to. There is a value for each aggregator all along.
-use Rattle.std.proofs.Common.{◌≡◌, ℕ, zero, suc, ◌+◌, ◌<◌, ◌||◌, Bool, true, false, List, [], ◌∷◌, ℤ, map, length, refl, ap, ap₂, sym, ◌∙◌, subst, arith, option_map, ◌⊎◌, inl, inr, Option, true≢false}
+use Rattle.std.proofs.Common.{◌≡◌, ℕ, zero, suc, ◌+◌, ◌<◌, ◌||◌, Bool, true, false, List, [], ◌∷◌, ℤ, map, length, refl, ap, ap₂, sym, ◌∙◌, subst}
+use Rattle.std.proofs.Common.{arith, option_map, ◌⊎◌, inl, inr, Option, true≢false}
 use Rattle.std.proofs.lemmas.Bool.{cases_Bool}
 use Rattle.std.proofs.lemmas.List.{length-map}
 use Rattle.std.specs.Ordering.{nat_cmp}
@@ -13,7 +14,8 @@ use Rattle.pg_graph.specs.declared.missing.Missing.{Missing}
 use Rattle.pg_graph.specs.declared.missing.Missing.TheVariants.{Drop}
 use Rattle.pg_model.specs.InOrder.{AreWaiting, IsInOrder}
 use Rattle.pg_model.specs.Job.{Job, Program, Combining, Totals, Aggregating}
-use Rattle.pg_model.specs.Superstep.{ids, has_id, next, totals_of, present, visible_in, gathered_from, view_in, state_after, outcome, delivered, sends, astray, waiting_after}
+use Rattle.pg_model.specs.Superstep.{ids, has_id, next, totals_of, present, visible_in, gathered_from, view_in, state_after, outcome, delivered}
+use Rattle.pg_model.specs.Superstep.{sends, astray, waiting_after}
 use Rattle.pg_model.specs.Needed.{standing_at}
 use Rattle.pg_model.specs.Run.{first, beginning, configuration, present_at, view_at}
 use Rattle.pg_model.specs.declared.configuration.Standing.{Standing}

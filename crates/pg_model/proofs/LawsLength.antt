@@ -1,5 +1,6 @@
 -- The length of a run is the least number of supersteps with which it ends.
-use Rattle.std.proofs.Common.{◌≡◌, ℕ, zero, suc, ◌+◌, ◌-◌, ◌<◌, ◌≤◌, Bool, true, false, cond, ◌==◌, Option, None, Some, is_some, refl, sym, subst, arith, eq-eqb, true≢false, inl, inr, eq-or-lt_of_le}
+use Rattle.std.proofs.Common.{◌≡◌, ℕ, zero, suc, ◌+◌, ◌-◌, ◌<◌, ◌≤◌, Bool, true, false, cond, ◌==◌, Option, None, Some, is_some, refl, sym, subst}
+use Rattle.std.proofs.Common.{arith, eq-eqb, true≢false, inl, inr, eq-or-lt_of_le}
 use Rattle.std.specs.Option.{unwrap_or}
 use Rattle.std.proofs.lemmas.Bool.{cond_both, cases_lt, cases_order, both_ways}
 use Rattle.pg_graph.specs.Rows.{Rows}

@@ -1,5 +1,6 @@
 -- Vertices that messages make: who waits, where they stand, and how the ids grow.
-use Rattle.std.proofs.Common.{◌≡◌, ℕ, ◌<◌, Bool, true, false, cond, not, ◌||◌, ◌==◌, ltb, List, [], ◌∷◌, map, Option, None, Some, refl, ap, sym, ◌∙◌, subst, arith, fold, filter, true≢false, ap₂, inl, inr}
+use Rattle.std.proofs.Common.{◌≡◌, ℕ, ◌<◌, Bool, true, false, cond, not, ◌||◌, ◌==◌, ltb, List, [], ◌∷◌, map, Option, None, Some, refl, ap, sym, ◌∙◌}
+use Rattle.std.proofs.Common.{subst, arith, fold, filter, true≢false, ap₂, inl, inr}
 use Rattle.std.specs.List.{AllByRecursion}
 use Rattle.std.specs.List.Sorted.{IsStrictlySortedBy}
 use Rattle.std.specs.Ordering.{nat_cmp}
@@ -12,7 +13,8 @@ use Rattle.pg_graph.specs.declared.missing.Missing.TheVariants.{Drop, Create}
 use Rattle.pg_model.proofs.LawsLists.{all_weaker}
 use Rattle.pg_model.specs.InOrder.{AreWaiting}
 use Rattle.pg_model.specs.Job.{Combining, Program}
-use Rattle.pg_model.specs.Superstep.{ids, is_empty, has_id, with_id, messages_to, combined, delivered, astray, targets, waiting_after, placed, made, with_made, present}
+use Rattle.pg_model.specs.Superstep.{ids, is_empty, has_id, with_id, messages_to, combined, delivered, astray, targets, waiting_after, placed, made}
+use Rattle.pg_model.specs.Superstep.{with_made, present}
 use Rattle.pg_model.specs.declared.configuration.Standing.{Standing}
 use Rattle.pg_model.specs.declared.configuration.Configuration.{Configuration}
 

@@ -1,5 +1,6 @@
 -- Needed executions: all of them beside no run, none beside the same run, and the test decides which.
-use Rattle.std.proofs.Common.{◌≡◌, ℕ, zero, suc, ◌+◌, ◌<◌, ◌≤◌, Bool, true, false, not, ◌&&◌, ◌==◌, List, [], ◌∷◌, ℤ, Option, None, Some, is_some, refl, ap, ap₂, sym, ◌∙◌, arith, count_by, filter}
+use Rattle.std.proofs.Common.{◌≡◌, ℕ, zero, suc, ◌+◌, ◌<◌, ◌≤◌, Bool, true, false, not, ◌&&◌, ◌==◌, List, [], ◌∷◌, ℤ, Option, None, Some, is_some}
+use Rattle.std.proofs.Common.{refl, ap, ap₂, sym, ◌∙◌, arith, count_by, filter}
 use Rattle.std.specs.Cmp.Lexicographic.{pointwise}
 use Rattle.std.specs.Option.{option_eq}
 use Rattle.std.specs.Ordering.{int_eq}

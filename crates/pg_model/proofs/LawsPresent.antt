@@ -1,5 +1,7 @@
 -- The vertices of a superstep, told by their ids: how each stands there, what it has received, and what they give.
-use Rattle.std.proofs.Common.{◌≡◌, ℕ, zero, suc, ◌<◌, Bool, true, false, cond, not, ◌||◌, ◌==◌, ltb, List, [], ◌∷◌, ◌++◌, map, Option, None, Some, option_map, option_and_then, is_some, refl, ap, ap₂, sym, ◌∙◌, subst, arith, true≢false, inl, inr, ◌⊎◌, filter, flat_map}
+use Rattle.std.proofs.Common.{◌≡◌, ℕ, zero, suc, ◌<◌, Bool, true, false, cond, not, ◌||◌, ◌==◌, ltb, List, [], ◌∷◌, ◌++◌, map, Option, None, Some}
+use Rattle.std.proofs.Common.{option_map, option_and_then, is_some, refl, ap, ap₂, sym, ◌∙◌, subst, arith, true≢false, inl, inr, ◌⊎◌, filter}
+use Rattle.std.proofs.Common.{flat_map}
 use Rattle.std.specs.BTreeMap.{is_at}
 use Rattle.std.specs.List.{AllByRecursion}
 use Rattle.std.specs.List.Sorted.{IsStrictlySortedBy}
@@ -13,12 +15,14 @@ use Rattle.pg_graph.proofs.Drafting.{none_there}
 use Rattle.pg_graph.specs.Rows.{Rows, HasRisingIds, row_at}
 use Rattle.pg_graph.specs.declared.missing.Missing.{Missing}
 use Rattle.pg_graph.specs.declared.missing.Missing.TheVariants.{Drop, Create}
-use Rattle.pg_model.specs.ByIds.{state_first, state_left, state_of, waiting_at, outcome_in, made_of, inbox_of, read_off, standing_with, arriving, state_at, inbox_at, outcome_at, delivered_at, IsIdleAt}
+use Rattle.pg_model.specs.ByIds.{state_first, state_left, state_of, waiting_at, outcome_in, made_of, inbox_of, read_off, standing_with, arriving}
+use Rattle.pg_model.specs.ByIds.{state_at, inbox_at, outcome_at, delivered_at, IsIdleAt}
 use Rattle.pg_model.specs.InOrder.{AreWaiting}
 use Rattle.pg_model.specs.Job.{Job, Program, Inputs, Combining}
 use Rattle.pg_model.specs.Needed.{standing_at, inputs_if_active, inputs_at}
 use Rattle.pg_model.specs.Run.{beginning, configuration, first, present_at, view_at, run_length}
-use Rattle.pg_model.specs.Superstep.{ids, is_empty, is_active, has_id, messages_to, combined, delivered, astray, targets, waiting_after, placed, made, with_made, present, idle, sends, next}
+use Rattle.pg_model.specs.Superstep.{ids, is_empty, is_active, has_id, messages_to, combined, delivered, astray, targets, waiting_after, placed, made}
+use Rattle.pg_model.specs.Superstep.{with_made, present, idle, sends, next}
 use Rattle.pg_model.proofs.LawsAgreement.{outcome-idle, state_after-idle}
 use Rattle.pg_model.proofs.LawsIds.{ids_rise, ids-next, standing_at-next, standing_after}
 use Rattle.pg_model.proofs.LawsInputs.{inputs_of_executed}

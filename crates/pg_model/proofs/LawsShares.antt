@@ -1,5 +1,6 @@
 -- The shares of n partitions make up the run.
-use Rattle.std.proofs.Common.{◌≡◌, ℕ, zero, suc, ◌+◌, ◌<◌, ◌%◌, Bool, true, ◌==◌, List, [], ◌∷◌, ◌++◌, map, ℤ, length, refl, ap, ap₂, sym, ◌∙◌, subst, subst₂, arith, mod-lt, filter, flat_map, sum_by, count_by, IsPermutation, All, Option, None}
+use Rattle.std.proofs.Common.{◌≡◌, ℕ, zero, suc, ◌+◌, ◌<◌, ◌%◌, Bool, true, ◌==◌, List, [], ◌∷◌, ◌++◌, map, ℤ, length, refl, ap, ap₂, sym, ◌∙◌, subst}
+use Rattle.std.proofs.Common.{subst₂, arith, mod-lt, filter, flat_map, sum_by, count_by, IsPermutation, All, Option, None}
 use Rattle.std.specs.List.{range_with_len}
 use Rattle.std.specs.List.Sorted.{IsStrictlySortedBy}
 use Rattle.std.specs.Ordering.{nat_cmp}

@@ -11,7 +11,8 @@ use Rattle.pg_model.specs.Job.{Job}
 use Rattle.pg_model.specs.Superstep.{visible_in, view_of, outcome, gathered_from, next}
 use Rattle.pg_model.specs.Run.{first, configuration, length_from, executions_below, executions, answer}
 use Rattle.pg_model.specs.Needed.{inputs_at, needed_below, needed_count}
-use Rattle.pg_model.specs.Programs.{infinity, sssp, sssp_step, sssp_aggregators, pagerank, pagerank_step, pagerank_aggregators, pagerank_deciding, shed, shed_step, decides_nothing}
+use Rattle.pg_model.specs.Programs.{infinity, sssp, sssp_step, sssp_aggregators, pagerank, pagerank_step, pagerank_aggregators, pagerank_deciding}
+use Rattle.pg_model.specs.Programs.{shed, shed_step, decides_nothing}
 use Rattle.pg_model.specs.declared.run.Ending.TheVariants.{Finished, LimitReached}
 
 abbrev from_1 : Missing → ℕ → Job ℤ ℤ

@@ -9,7 +9,9 @@ use Rattle.pg_model.specs.Job.{Job, Aggregating, Program}
 use Rattle.pg_model.specs.Superstep.{visible_in, view_of, outcome, gathered_from, next}
 use Rattle.pg_model.specs.Run.{first, configuration, length_from, executions_below, executions, answer}
 use Rattle.pg_model.specs.Needed.{inputs_at, needed_below, needed_count}
-use Rattle.pg_model.specs.Programs.{cc, cc_step, max_value, max_step, max_aggregators, indegree, indegree_step, indegree_aggregators, pagerank, pagerank_step, pagerank_aggregators, pagerank_deciding, peel, peel_step, peel_aggregators, tally, tally_step, decides_nothing}
+use Rattle.pg_model.specs.Programs.{cc, cc_step, max_value, max_step, max_aggregators, indegree, indegree_step, indegree_aggregators, pagerank}
+use Rattle.pg_model.specs.Programs.{pagerank_step, pagerank_aggregators, pagerank_deciding, peel, peel_step, peel_aggregators, tally, tally_step}
+use Rattle.pg_model.specs.Programs.{decides_nothing}
 use Rattle.pg_model.specs.declared.run.Ending.TheVariants.{MasterHalted, Finished}
 
 abbrev plain : Program ℤ ℤ → List Aggregating → Job ℤ ℤ

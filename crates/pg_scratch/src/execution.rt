@@ -1,5 +1,6 @@
 //! The executions of a superstep.
-ghost use Rattle.std.specs.Prelude.{◌≡◌, ℕ, [], ◌∷◌, ◌++◌, ◌+◌, ◌<◌, ◌^◌, true, false, cond, not, List, length, map, slice_get, slice_set, Some, OnOk, IfOk, IfSome, ◌≤◌};
+ghost use Rattle.std.specs.Prelude.{◌≡◌, ℕ, [], ◌∷◌, ◌++◌, ◌+◌, ◌<◌, ◌^◌, true, false, cond, not, List, length, map, slice_get, slice_set, Some};
+ghost use Rattle.std.specs.Prelude.{OnOk, IfOk, IfSome, ◌≤◌};
 ghost use Rattle.std.specs.Ordering.{nat_cmp};
 ghost use Rattle.std.specs.List.Sorted.{IsStrictlySortedBy};
 ghost use Rattle.pg_model.specs.Job.{Program};

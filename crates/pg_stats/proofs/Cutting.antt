@@ -1,5 +1,6 @@
 -- What contributions come to may be gathered part by part, whatever numbers they are.
-use Rattle.std.proofs.Common.{◌≡◌, ℕ, zero, suc, ◌+◌, ◌-◌, ◌%◌, ◌^◌, ◌<◌, ◌≤◌, ◌≤ℤ◌, ℤ, pos, negsuc, List, [], ◌∷◌, ◌++◌, map, All, FitsSigned, w64, of_z, to_z, refl, ap, sym, ◌∙◌, subst, arith, rules, fold, flat_map, IsPermutation, inl, inr}
+use Rattle.std.proofs.Common.{◌≡◌, ℕ, zero, suc, ◌+◌, ◌-◌, ◌%◌, ◌^◌, ◌<◌, ◌≤◌, ◌≤ℤ◌, ℤ, pos, negsuc, List, [], ◌∷◌, ◌++◌, map, All, FitsSigned, w64}
+use Rattle.std.proofs.Common.{of_z, to_z, refl, ap, sym, ◌∙◌, subst, arith, rules, fold, flat_map, IsPermutation, inl, inr}
 use Rattle.std.specs.Int.{int_bit_and, int_bit_or, int_max, int_min, int_wrapping_add}
 use Rattle.std.specs.List.{AllByRecursion}
 use Rattle.std.specs.Prelude.{bit_and, bit_or}

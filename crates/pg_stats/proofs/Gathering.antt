@@ -1,5 +1,6 @@
 -- What partitions gathered, gathered again: what all contributions come to.
-use Rattle.std.proofs.Common.{◌≡◌, ℕ, zero, suc, ◌+◌, ◌<◌, ℤ, Bool, cond, List, [], ◌∷◌, ◌++◌, map, All, FitsSigned, w64, Some, filter, refl, ap, ap₂, ◌∙◌, subst, arith, fold, flat_map, IsPermutation}
+use Rattle.std.proofs.Common.{◌≡◌, ℕ, zero, suc, ◌+◌, ◌<◌, ℤ, Bool, cond, List, [], ◌∷◌, ◌++◌, map, All, FitsSigned, w64, Some, filter, refl, ap, ap₂}
+use Rattle.std.proofs.Common.{◌∙◌, subst, arith, fold, flat_map, IsPermutation}
 use Rattle.std.specs.List.{AllByRecursion, enumerate_from, slice_get}
 use Rattle.std.specs.Prelude.{◌==◌}
 use Rattle.std.proofs.lemmas.Bool.{cond_both, eq-eqb, ne_eqb}

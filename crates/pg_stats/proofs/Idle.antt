@@ -1,5 +1,6 @@
 -- When a configuration is idle: nobody in it is awake, and no message arrived.
-use Rattle.std.proofs.Common.{◌≡◌, ℕ, suc, ◌+◌, Bool, true, false, cond, not, ◌&&◌, ◌||◌, ◌==◌, List, [], ◌∷◌, map, length, Option, None, Some, refl, ap, ap₂, sym, ◌∙◌, arith, filter, sum_by, count_by, true≢false}
+use Rattle.std.proofs.Common.{◌≡◌, ℕ, suc, ◌+◌, Bool, true, false, cond, not, ◌&&◌, ◌||◌, ◌==◌, List, [], ◌∷◌, map, length, Option, None, Some, refl}
+use Rattle.std.proofs.Common.{ap, ap₂, sym, ◌∙◌, arith, filter, sum_by, count_by, true≢false}
 use Rattle.std.specs.List.{list_all}
 use Rattle.std.proofs.lemmas.Bool.Decides.{nat_tests}
 use Rattle.std.proofs.lemmas.List.{length-map}

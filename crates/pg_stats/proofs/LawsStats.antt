@@ -1,6 +1,7 @@
 -- The stats of all partitions together are those of the run: from them follow the totals, the gathered values, the counts of
 -- messages and whether all is idle as the next superstep begins.
-use Rattle.std.proofs.Common.{◌≡◌, ℕ, zero, suc, ◌+◌, ◌<◌, ℤ, Bool, ◌&&◌, ◌==◌, List, [], ◌∷◌, map, length, All, FitsSigned, w64, refl, ap, ap₂, sym, ◌∙◌, subst, arith, add-one, flat_map, sum_by, IsPermutation}
+use Rattle.std.proofs.Common.{◌≡◌, ℕ, zero, suc, ◌+◌, ◌<◌, ℤ, Bool, ◌&&◌, ◌==◌, List, [], ◌∷◌, map, length, All, FitsSigned, w64, refl, ap, ap₂, sym}
+use Rattle.std.proofs.Common.{◌∙◌, subst, arith, add-one, flat_map, sum_by, IsPermutation}
 use Rattle.std.specs.List.{AllByRecursion, enumerate_from, list_all, range_with_len}
 use Rattle.std.proofs.lemmas.List.Folds.{flat_map-map, list_all-map, sum_by-zero}
 use Rattle.std.proofs.lemmas.List.Sorted.{IsPermutation-refl}
@@ -19,7 +20,8 @@ use Rattle.pg_stats.specs.declared.global_stats.GlobalStats.{GlobalStats}
 use Rattle.pg_stats.specs.declared.stats.PartitionStats.{PartitionStats}
 use Rattle.pg_stats.proofs.Gathering.{GathersParts, all_gather_parts, gathered_afresh-none, gathered_from-none, gathered_in_parts, initial_values_fit}
 use Rattle.pg_stats.proofs.Idle.{both_zero, is_all_idle-first, is_all_idle-next}
-use Rattle.pg_stats.proofs.Summing.{arrives, census-awake, census-edges, census-vertices, dropped_in_shares, messages_in_shares, none_arrives, sent_in_shares, sum_by-map, sum_of_sums}
+use Rattle.pg_stats.proofs.Summing.{arrives, census-awake, census-edges, census-vertices, dropped_in_shares, messages_in_shares, none_arrives}
+use Rattle.pg_stats.proofs.Summing.{sent_in_shares, sum_by-map, sum_of_sums}
 
 none_made : {X : Type 0} (ps : List ℕ) → flat_map {A = X} (λ p. []) ps ≡ []
 none_made [] = refl
