@@ -35,37 +35,6 @@ impl<'a, P: Computation, C: MessageCombiner<P::Message>, M: MasterCompute> Core<
         self.finish_with(alloc, values)
     }
 
-    /// The same, where these are the values with which the vertices ended.
-    fn finish_with(
-        self,
-        alloc: Global,
-        values: Values<P::Value>,
-    ) -> Result<(Run<P::Value>, Traces<P::Value, P::Message>), Memory>
-        requires { self.state.ended ≡ true }
-        ensures { let job = job_by P.program C.combining M.master self.entry in
-            IfOk result (λ done. (kept : Option Rows) → IsRight job kept self.entry
-            → values ≡ values_of job self.entry.graph
-            (configuration job self.entry.graph (self.entry.state.current + 1))
-            → IsFinished job self.entry done.0 done.1) }
-    {
-        let supersteps = self.next_superstep();
-        let Core {
-            graph,
-            parts,
-            logs,
-            shown,
-            tally,
-            ending,
-            ..
-        } = self;
-        let common = Common {
-            logs,
-            shown,
-            values,
-        };
-        finished(alloc, graph, parts, common, tally, ending, supersteps)
-    }
-
     /// The values with which the vertices of a run that has ended did so.
     fn end_values(&self, alloc: Global) -> Result<Values<P::Value>, Memory>
         requires { self.now.state.ended ≡ true }
@@ -91,7 +60,7 @@ impl<'a, P: Computation, C: MessageCombiner<P::Message>, M: MasterCompute> Core<
 
 /// The answer of a run of so many supersteps on a graph, and what it leaves: what its parts leave, which stand at its
 /// end, and what all partitions have in common. What was counted, and why the run ended, is in the answer.
-fn finished<V: Plain, M: Plain>(
+pub(crate) fn finished<V: Plain, M: Plain>(
     alloc: Global,
     graph: &Graph,
     parts: Vec<Option<Part<V, M>>>,

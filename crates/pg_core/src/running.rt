@@ -1,33 +1,35 @@
 //! The core: a run over partitions between two events.
-ghost use Rattle.std.specs.Prelude.{◌≡◌, ℕ, ◌<◌, ◌≤◌, ◌∷◌, ◌++◌, [], true, cond, length, Option, None, Some, IsSome};
+ghost use Rattle.std.specs.Prelude.{◌≡◌, ℕ, ◌+◌, ◌<◌, ◌≤◌, ◌∷◌, ◌++◌, [], true, cond, length, Option, None, Some, IsSome};
 ghost use Rattle.std.specs.Prelude.{IfErr, IfOk, IfSome, OnOk, slice_get, slice_index_or, slice_set, take};
 ghost use Rattle.pg_machine.specs.Machine.{Reaches, RestoresFollowLosses, StepsTell, first_state, host_of, is_allowed};
 ghost use Rattle.pg_core.specs.Progress.{HasPut, IsNext, IsOpened, IsPartAt, IsRight, IsStepLent, IsStepOf, TakesIn};
 ghost use Rattle.pg_core.specs.Progress.{is_ready as ready_test, job_by, part_at, ready_of, without_part};
 ghost use Rattle.pg_core.specs.Beginning.{AreBegun, HasBegun, HasStarted};
+ghost use Rattle.pg_core.specs.Closing.{IsFinished};
 ghost use Rattle.pg_global.specs.Master.{has_places, is_registered, job_of};
 ghost use Rattle.pg_global.specs.Registry.{first_refusal};
 ghost use Rattle.pg_core.specs.Traces.{IsLeftBeside, IsLeftBy, KeepsCommon, logs_in, visible_in};
 ghost use Rattle.pg_course.specs.Course.{AreTouched};
 ghost use Rattle.std.specs.Option.{option_copied};
 ghost use Rattle.pg_graph.specs.Rows.{Rows};
-ghost use Rattle.pg_model.specs.Run.{visible_at};
+ghost use Rattle.pg_model.specs.Run.{configuration, values_of, visible_at};
 
 use crate::beginning::{Start, begun_parts, begun_parts_beside};
+use crate::finishing::finished;
 use crate::traces::Common;
 use crate::{Event, Limits, State, Tally, Traces};
 use pg_global::{MasterCompute, MessageCombiner, Registry, Visible};
 use pg_graph::{Graph, Memory, PartitionId, Superstep, VertexId, WorkerId};
 use pg_inbox::{Logged, Logs};
-use pg_model::Ending;
+use pg_model::{Ending, Run};
 use pg_part::{Part, Partitioner, Sent};
 use pg_program::{Computation, Plain};
+use pg_values::Values;
 use std::alloc::Global;
 use std::marker::Model;
 
 /// A run over partitions between two events: where it stands, the parts that aren't taken, what was sent, and what
 /// the master showed so far.
-#[derive(Drop)]
 pub struct Core<'a, P: Computation, C: MessageCombiner<P::Message>, M: MasterCompute> {
     pub(crate) program: &'a P,
     pub(crate) combiner: &'a C,
@@ -44,6 +46,30 @@ pub struct Core<'a, P: Computation, C: MessageCombiner<P::Message>, M: MasterCom
     pub(crate) registry: Registry,
     pub(crate) ending: Option<Ending>,
     pub(crate) kept: Option<Common<P::Value, P::Message>>,
+}
+
+// By hand, so that it is let go by one call wherever that is, and not field by field.
+impl<'a, P: Computation, C: MessageCombiner<P::Message>, M: MasterCompute> Drop
+    for Core<'a, P, C, M> {
+    fn drop(self) {
+        let Core {
+            program: _,
+            combiner: _,
+            master: _,
+            graph: _,
+            limits: _,
+            run: _,
+            state: _,
+            history: _,
+            parts: _,
+            logs: _,
+            shown: _,
+            tally: _,
+            registry: _,
+            ending: _,
+            kept: _,
+        } = self;
+    }
 }
 
 impl<'a, P: Computation, C: MessageCombiner<P::Message>, M: MasterCompute> Model
@@ -341,6 +367,45 @@ impl<'a, P: Computation, C: MessageCombiner<P::Message>, M: MasterCompute> Core<
         ensures { result ≡ self.now.run }
     {
         self.run
+    }
+
+    /// The answer of a run that has ended, and all that it leaves, where these are the values with which the vertices ended.
+    pub(crate) fn finish_with(
+        self,
+        alloc: Global,
+        values: Values<P::Value>,
+    ) -> Result<(Run<P::Value>, Traces<P::Value, P::Message>), Memory>
+        requires { self.state.ended ≡ true }
+        ensures { let job = job_by P.program C.combining M.master self.entry in
+            IfOk result (λ done. (kept : Option Rows) → IsRight job kept self.entry
+            → values ≡ values_of job self.entry.graph
+            (configuration job self.entry.graph (self.entry.state.current + 1))
+            → IsFinished job self.entry done.0 done.1) }
+    {
+        let supersteps = self.next_superstep();
+        let Core {
+            program: _,
+            combiner: _,
+            master: _,
+            graph,
+            limits: _,
+            run: _,
+            state: _,
+            history: _,
+            parts,
+            logs,
+            shown,
+            tally,
+            registry: _,
+            ending,
+            kept: _,
+        } = self;
+        let common = Common {
+            logs,
+            shown,
+            values,
+        };
+        finished(alloc, graph, parts, common, tally, ending, supersteps)
     }
 }
 
