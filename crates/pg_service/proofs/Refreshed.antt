@@ -1,5 +1,5 @@
--- What a refresh leaves of a service, and what it reports.
-use Rattle.std.proofs.Common.{◌≡◌, ℕ, Bool, [], Option, None, Some, Result, Ok, Err, IfErr, OnErr, IsErrAnd}
+-- What an edit and a refresh leave of a service, and what a refresh reports.
+use Rattle.std.proofs.Common.{◌≡◌, ℕ, ◌+◌, Bool, [], Option, None, Some, Result, Ok, Err, IfErr, IfSome, OnErr, IsErrAnd}
 use Rattle.std.proofs.Common.{refl, ap, sym, subst, ◌∙◌, arith}
 use Rattle.pg_core.specs.Traces.{IsLeftBy, Traces}
 use Rattle.pg_global.specs.Master.{Master, job_of}
@@ -53,6 +53,21 @@ module _ {V M : Type 0} {program : Program V M} {combining : Option (Combining M
       untouched = λ q _. ap (row_at q) leaves.graph_is;
     });
   }
+
+  -- and where another edition of the graph comes after, beside which the run is kept
+  pub stands_later : {made : Rows} {later : ℕ} {beside : Option (KeptRun V M)}
+      → later ≡ edition + 1 → IfSome beside (IsKept Own limits.partitions made)
+      → Stands program combining master limits made later published beside
+  stands_later {made = made} {later = later} next is_kept =
+      record { can_run = stands.can_run; answered = not_current published stands.answered; beside = is_kept }
+    where
+      not_current : (o : Option (Answered V)) → IfSome o (IsAnswered Own master.registrations graph edition)
+          → IfSome o (IsAnswered Own master.registrations made later)
+      not_current None is = tt
+      not_current (Some answers) is = let l = is.published.not_later in record {
+        published = record { not_later = omega (arith, l, next); is_answer = λ same. absurd (omega (arith, l, next, same)) };
+        named = is.named;
+      }
 
 module _ {P C A V M : Type 0} (program_of : P → Program V M) (combining_of : C → Option (Combining M)) (master_of : A → Master)
     {state old : ServiceState P C A V} (is : state ≡ old) where

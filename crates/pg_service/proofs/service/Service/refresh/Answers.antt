@@ -103,8 +103,8 @@ invariant_of-self-3 g c =
 
 pub returns-clause-report : goal.returns-clause-report
 returns-clause-report g c =
-    reported g.P.Computation.program g.C.MessageCombiner.combining g.M.MasterCompute.master c.self.view_is g.P.Value.PartialEq.eq g.P.Message.PartialEq.eq c.in_ok-run.run'
-    c.in_ok-report.ensures c.partitions.ensures.value c.in_ok-run.ensures.answer c.in_ok-run.ensures.calls
+    reported g.P.Computation.program g.C.MessageCombiner.combining g.M.MasterCompute.master c.self.view_is g.P.Value.PartialEq.eq g.P.Message.PartialEq.eq
+    c.in_ok-run.run' c.in_ok-report.ensures c.partitions.ensures.value c.in_ok-run.ensures.answer c.in_ok-run.ensures.calls
     (ap (option_map (λ run. run.traces.graph)) c.take-kept.ensures.value)
 
 pub returns-clause-unlost : goal.returns-clause-unlost
