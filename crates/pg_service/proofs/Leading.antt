@@ -1,6 +1,6 @@
 -- What follows of any edits and refreshes.
 use Rattle.std.proofs.Common.{◌≡◌, ℕ, ◌+◌, ◌≤◌, List, [], ◌∷◌, ◌++◌, length, take, Option, None, Some}
-use Rattle.std.proofs.Common.{Result, Ok, Err, OnErr, OnOk, refl, sym, ap, subst, ◌∙◌, arith}
+use Rattle.std.proofs.Common.{Result, Ok, Err, IsErr, MatchResult, OnErr, OnOk, true≢false, refl, sym, ap, subst, ◌∙◌, arith}
 use Rattle.std.specs.List.{All, last_or}
 use Rattle.std.proofs.Math.Seq.{take-length}
 use Rattle.std.proofs.lemmas.List.{length-append, take-append-le}
@@ -112,6 +112,13 @@ module _ {P C A V M : Type 0} (own : ServiceJob P C A) (job : Job V M) where
       → Led own job (batches ++ batch ∷ []) published new
   edit_accepted batch old new makes is batches published led =
       subst (Led own job (batches ++ batch ∷ []) published) (sym is) (accepted batches published old batch new.graph led makes)
+
+  -- a refused batch
+  pub edit_refused : {R F : Type 0} (batch : List Edit) (old new : ServiceState P C A V) (result : Result R F) → IsErr result
+      → OnErr result (new ≡ old) → (batches : List (List Edit)) (published : Publications V) → Led own job batches published old
+      → MatchResult result (λ edition. Led own job (batches ++ batch ∷ []) published new) (λ fault. Led own job batches published new)
+  edit_refused batch old new (Ok edition) refused err batches published led = absurd (true≢false (sym refused))
+  edit_refused batch old new (Err fault) refused err batches published led = subst (Led own job batches published) (sym err) led
 
   -- a refresh, by what it promises of the service
   pub refresh_leads : {R F : Type 0} (result : Result R F) (old new : ServiceState P C A V)

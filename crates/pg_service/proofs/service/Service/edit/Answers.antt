@@ -1,9 +1,90 @@
-use Rattle.std.proofs.Common.{rules}
-use Rattle.pg_service.specs.Service.{next_graph}
-use Rattle.pg_service.proofs.Leading.{edit_accepted}
+use Rattle.std.proofs.Common.{rules, ◌≡◌, ◌+◌, ap, sym, subst, ◌∙◌, arith}
+use Rattle.std.proofs.lemmas.Result.{IfOk-from_err}
+use Rattle.pg_service.specs.Service.{Stands, next_graph}
+use Rattle.pg_service.proofs.Leading.{edit_accepted, edit_refused}
+use Rattle.pg_service.proofs.Refreshed.{refused_so, stands_later}
 use Rattle.pg_service.proofs.service.Service.edit.Goals as goal
+
+pub returns-in_default-clause-leads : goal.returns-in_default-clause-leads
+returns-in_default-clause-leads g c batches published led = led
+
+pub invariant_of-self : goal.invariant_of-self
+invariant_of-self g c = record {
+  can_run = c.self.invariant.can_run;
+  answered = c.self.invariant.answered;
+  beside = c.note.ensures.before _ _ _ c.self.invariant.beside;
+}
+
+pub returns-in_err-note-clause-ok : goal.returns-in_err-note-clause-ok
+returns-in_err-note-clause-ok g c = IfOk-from_err c.from_residual.result _ c.from_residual.ensures.0
+
+pub returns-in_err-note-clause-edition : goal.returns-in_err-note-clause-edition
+returns-in_err-note-clause-edition g c = IfOk-from_err c.from_residual.result _ c.from_residual.ensures.0
+
+pub returns-in_err-note-clause-rest : goal.returns-in_err-note-clause-rest
+returns-in_err-note-clause-rest g c = IfOk-from_err c.from_residual.result _ c.from_residual.ensures.0
+
+pub returns-in_err-note-clause-err : goal.returns-in_err-note-clause-err
+returns-in_err-note-clause-err g c =
+    refused_so c.from_residual.result
+    (λ i. record (c.self.view_is i) { kept = (c.note.ensures.graph ∙ ap (λ s. s.kept) c.self.view_is) i })
+
+pub returns-in_err-note-clause-leads : goal.returns-in_err-note-clause-leads
+returns-in_err-note-clause-leads g c batches published led =
+    edit_refused _ _ c.args.batch.now c.args.self.now _ c.from_residual.result c.from_residual.ensures.0
+    (returns-in_err-note-clause-err g c) batches published led
+
+pub invariant_of-self-in_err-apply : goal.invariant_of-self-in_err-apply
+invariant_of-self-in_err-apply g c =
+    let inside = c.self.inside in
+    let program = g.P.Computation.program inside.program in
+    let combining = g.C.MessageCombiner.combining inside.combiner in
+    let master = g.M.MasterCompute.master inside.master in
+    subst (λ graph. Stands program combining master inside.limits graph inside.edition inside.published c.note.new.kept)
+    (sym c.in_err-apply.ensures.err) (record {
+      can_run = c.self.invariant.can_run;
+      answered = c.self.invariant.answered;
+      beside = c.note.ensures.before _ _ _ c.self.invariant.beside;
+    })
+
+pub returns-in_err-apply-clause-ok : goal.returns-in_err-apply-clause-ok
+returns-in_err-apply-clause-ok g c = IfOk-from_err c.from_residual-in_err-apply.result _ c.from_residual-in_err-apply.ensures.0
+
+pub returns-in_err-apply-clause-edition : goal.returns-in_err-apply-clause-edition
+returns-in_err-apply-clause-edition g c = IfOk-from_err c.from_residual-in_err-apply.result _ c.from_residual-in_err-apply.ensures.0
+
+pub returns-in_err-apply-clause-rest : goal.returns-in_err-apply-clause-rest
+returns-in_err-apply-clause-rest g c = IfOk-from_err c.from_residual-in_err-apply.result _ c.from_residual-in_err-apply.ensures.0
+
+pub returns-in_err-apply-clause-err : goal.returns-in_err-apply-clause-err
+returns-in_err-apply-clause-err g c =
+    refused_so c.from_residual-in_err-apply.result
+    (λ i. record (c.self.view_is i) {
+      graph = (c.in_err-apply.ensures.err ∙ ap (λ s. s.graph) c.self.view_is) i;
+      kept = (c.note.ensures.graph ∙ ap (λ s. s.kept) c.self.view_is) i;
+    })
+
+pub returns-in_err-apply-clause-leads : goal.returns-in_err-apply-clause-leads
+returns-in_err-apply-clause-leads g c batches published led =
+    edit_refused _ _ c.args.batch.now c.args.self.now _ c.from_residual-in_err-apply.result c.from_residual-in_err-apply.ensures.0
+    (returns-in_err-apply-clause-err g c) batches published led
+
+pub invariant_of-self-2 : goal.invariant_of-self-2
+invariant_of-self-2 g c =
+    let next : c.new-self-inside.result ≡ c.self.inside.edition + 1 = omega arith in
+    stands_later c.self.invariant next
+    (c.in_ok-note.ensures.after _ _ c.self.inside.graph c.apply.new.self c.in_ok-apply.ensures.ok c.self.invariant.beside)
+
+pub returns-clause-rest : goal.returns-clause-rest
+returns-clause-rest g c =
+    let next : c.new-self-inside.result ≡ c.self.inside.edition + 1 = omega arith in
+    λ i. record (c.self.view_is i) {
+      graph = c.apply.new.self;
+      edition = (next ∙ ap (λ s. s.edition + 1) c.self.view_is) i;
+      kept = (c.note.ensures.graph ∙ ap (λ s. s.kept) c.self.view_is) i;
+    }
 
 pub returns-clause-leads : goal.returns-clause-leads
 unfolding next_graph
 returns-clause-leads g c batches published led =
-    edit_accepted _ _ c.args.batch.now c.args.self.now _ (search rules) (search rules) batches published led
+    edit_accepted _ _ c.args.batch.now c.args.self.now _ (search rules) (returns-clause-rest g c) batches published led
