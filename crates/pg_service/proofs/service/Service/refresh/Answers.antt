@@ -1,4 +1,4 @@
-use Rattle.std.proofs.Common.{IfSome, option_map, ap, sym, subst, ◌∙◌}
+use Rattle.std.proofs.Common.{rules, IfSome, option_map, ap, sym, subst, ◌∙◌}
 use Rattle.std.proofs.lemmas.Result.{IfOk-from_err}
 use Rattle.pg_service.specs.Job.{job_meant}
 use Rattle.pg_service.specs.Kept.{IsKept}
@@ -24,14 +24,9 @@ returns-in_err-registry-clause-published g c = IfOk-from_err c.from_residual.res
 pub returns-in_err-registry-clause-refused : goal.returns-in_err-registry-clause-refused
 returns-in_err-registry-clause-refused g c = refused_by _ c.from_residual.result c.from_residual.ensures.1
 
-pub returns-in_err-registry-clause-err : goal.returns-in_err-registry-clause-err
-returns-in_err-registry-clause-err g c =
-    refused_so c.from_residual.result
-    (λ i. record (c.self.view_is i) { kept = option_map (λ run. run.traces.graph) (c.take-kept.ensures.after i) })
-
 pub returns-in_err-registry-clause-leads : goal.returns-in_err-registry-clause-leads
 returns-in_err-registry-clause-leads g c =
-    refresh_leads _ _ c.from_residual.result c.args.self.now _ (returns-in_err-registry-clause-published g c) (returns-in_err-registry-clause-err g c)
+    refresh_leads _ _ c.from_residual.result c.args.self.now _ (returns-in_err-registry-clause-published g c) (search rules)
 
 pub invariant_of-self-2 : goal.invariant_of-self-2
 invariant_of-self-2 g c = stands_alone c.self.invariant c.take-kept.ensures.after
