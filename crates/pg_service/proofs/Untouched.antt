@@ -1,11 +1,11 @@
 -- A batch leaves the row of each vertex that none of its edits names.
 use Rattle.std.proofs.Common.{◌≡◌, ℕ, ◌+◌, Bool, true, false, cond, ◌||◌, ◌==◌, List, [], ◌∷◌, ◌++◌, Option}
 use Rattle.std.proofs.Common.{None, Some, is_some, Result, Ok, Err, refl, sym, ap, ◌∙◌, subst, true≢false}
-use Rattle.std.proofs.lemmas.Bool.{cases_eq, eq-eqb}
+use Rattle.std.proofs.lemmas.Bool.{eq-eqb}
 use Rattle.pg_edits.specs.EdgeList.{weight_at, with_edge, without_edge}
-use Rattle.pg_graph.specs.Edit.{all_edited, batch_edited, batch_limit, edge_limit, edited, vertex_limit}
+use Rattle.pg_graph.specs.Edit.{all_edited, batch_edited, edited}
 use Rattle.pg_edits.specs.RowEdit.{source_of}
-use Rattle.pg_graph.specs.Rows.{Rows, edge_count, row_at, vertex_count, with_row, without_row}
+use Rattle.pg_graph.specs.Rows.{Rows, row_at, with_row, without_row}
 use Rattle.pg_edits.specs.declared.row.Row.{Row}
 use Rattle.pg_edits.specs.declared.edit.Edit.{Edit}
 use Rattle.pg_edits.specs.declared.edit.Edit.TheVariants.{AddVertex, RemoveVertex, SetInput, AddEdge, SetEdge, RemoveEdge}
