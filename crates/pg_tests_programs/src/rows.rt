@@ -1,6 +1,5 @@
-use crate::graphs::{graph_of, id};
 use pg_global::{AnyCombiner, NoMaster};
-use pg_graph::{Edges, Missing, Superstep, VertexId};
+use pg_graph::{Batch, Edges, Edit, Graph, Missing, Superstep, VertexId};
 use pg_model::{Ending, Sequence};
 use pg_program::{Computation, Cx, EdgeRoom, Meter, Plain, Tally, Vertex, View};
 use pg_ready::{Cc, Indegree, MaxValue, Pagerank, Peel, ReadyMaster, ReadyProgram, Sssp};
@@ -69,6 +68,23 @@ fn finished<'a>(
     }
 }
 
+fn id(rt: &impl Abort, number: u64) -> VertexId {
+    VertexId::new(number).expect(rt, "an id")
+}
+
+fn graph_of(rt: &impl Abort, alloc: Global, small: &Small<'_>) -> Result<Graph, Fail> {
+    let mut batch = Batch::new(alloc);
+    for (number, input) in small.vertices {
+        batch.push(Edit::AddVertex(id(rt, *number), *input))?;
+    }
+    for (source, target, weight) in small.edges {
+        batch.push(Edit::AddEdge(id(rt, *source), id(rt, *target), *weight))?;
+    }
+    let mut graph = Graph::new(alloc);
+    assert!(rt; graph.apply(alloc, &batch).is_ok());
+    Ok(graph)
+}
+
 // The vertices have these values, by rising id.
 fn values_are(rt: &impl Abort, values: &[(VertexId, i64)], wanted: &[i64]) {
     assert_eq!(rt; values.len(), wanted.len());
@@ -86,7 +102,7 @@ fn answers(
     small: &Small<'_>,
     wanted: &Wanted<'_>,
 ) -> Result<(), Fail> {
-    let graph = graph_of(alloc, small.vertices, small.edges)?;
+    let graph = graph_of(rt, alloc, small)?;
     let master = ReadyMaster { program: *program };
     let mut meter = Meter::new();
     let missing = Missing::Drop;
@@ -188,7 +204,7 @@ fn pagerank_rounds(rt: HostRuntime) -> Result<(), Fail> {
 // The rank of the one vertex of a graph, where this message came.
 fn rank_after(rt: &impl Abort, alloc: Global, message: i64) -> Result<i64, Fail> {
     let program = Pagerank { rounds: 1, eps: 0 };
-    let mut vertex = Vertex::new(id(1)?, 0, Edges::new(), EdgeRoom::new(alloc))?;
+    let mut vertex = Vertex::new(id(rt, 1), 0, Edges::new(), EdgeRoom::new(alloc))?;
     let view = View {
         superstep: Superstep::new(1),
         aggregates: Sequence::new(alloc),
@@ -269,7 +285,7 @@ fn combined_inbox(rt: HostRuntime) -> Result<(), Fail> {
         edges: &[(1, 2, 1), (1, 3, 1), (2, 4, 1)],
     };
     let wanted = finished(&[0, 1, 1, 2], &[4], 3, 3, 7);
-    let program = ReadyProgram::Sssp(Sssp { source: id(1)? });
+    let program = ReadyProgram::Sssp(Sssp { source: id(&rt, 1) });
     answers(&rt, rt.alloc(), &program, AnyCombiner::Min, &small, &wanted)?;
     answers(
         &rt,
@@ -355,7 +371,7 @@ fn whatever_the_combiner(
 #[test]
 fn two_hops_by_each_combiner(rt: HostRuntime) -> Result<(), Fail> {
     let distances = finished(&[0, 5, 6], &[3], 3, 2, 5);
-    let sssp = ReadyProgram::Sssp(Sssp { source: id(1)? });
+    let sssp = ReadyProgram::Sssp(Sssp { source: id(&rt, 1) });
     whatever_the_combiner(&rt, rt.alloc(), &sssp, &distances)?;
     let labels = finished(&[1, 1, 1], &[], 3, 3, 6);
     whatever_the_combiner(&rt, rt.alloc(), &ReadyProgram::Cc(Cc), &labels)?;
@@ -382,7 +398,7 @@ fn sender_order(rt: HostRuntime) -> Result<(), Fail> {
         vertices: &[(1, 10), (2, 20), (3, 0)],
         edges: &[(1, 3, 1), (2, 3, 1)],
     };
-    let graph = graph_of(alloc, small.vertices, small.edges)?;
+    let graph = graph_of(&rt, alloc, &small)?;
     let (combiner, missing) = (AnyCombiner::NoCombiner, Missing::Drop);
     let mut meter = Meter::new();
     let answer = run(
