@@ -3,6 +3,7 @@ use Rattle.std.proofs.Common.{◌≡◌, ℕ, ◌<◌, ◌==◌, ◌||◌, not, 
 use Rattle.std.proofs.Common.{Option, None, Some, option_map, refl, sym, ap, ◌∙◌, subst, true≢false}
 use Rattle.std.specs.List.{AllByRecursion}
 use Rattle.std.specs.Map.{keys_of}
+use Rattle.std.specs.Prelude.{Err, IfOk, Ok, Result}
 use Rattle.std.proofs.lemmas.Bool.{eqb-true, true_from_ne_false}
 use Rattle.std.proofs.lemmas.Option.{none-some, same_Some}
 use Rattle.pg_graph.specs.Rows.{Rows}
@@ -33,6 +34,12 @@ use Rattle.pg_compute.proofs.Coverage.{awake_in_run}
 use Rattle.pg_compute.proofs.Finding.{arrives_in_run, arrives_nothing, found_in_run}
 use Rattle.pg_trace.specs.OfRun.{HoldsRun}
 use Rattle.pg_trace.specs.Trace.{Trace, state_at}
+
+-- what a result is by four clauses
+pub IfOk-four : {T E : Type 0} (r : Result T E) (P Q R S U : T → Type 0) → ((x : T) → P x → Q x → R x → S x → U x)
+    → IfOk r P → IfOk r Q → IfOk r R → IfOk r S → IfOk r U
+IfOk-four (Ok x) P Q R S U h p q r s = h x p q r s
+IfOk-four (Err e) P Q R S U h p q r s = tt
 
 -- ---- those of a partition
 

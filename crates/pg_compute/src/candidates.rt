@@ -33,13 +33,9 @@ pub(crate) fn awake_ids<V: Drop, M: Drop>(
     match superstep.number().checked_sub(1) {
         Some(before) => {
             let records = trace.records(alloc, Superstep::new(before))?;
-            let ids = awake_after(alloc, records.as_slice())?;
-            Ok(ids)
+            awake_after(alloc, records.as_slice())
         }
-        None => {
-            let ids = trace.initial_ids(alloc)?;
-            Ok(ids)
-        }
+        None => trace.initial_ids(alloc),
     }
 }
 
@@ -89,11 +85,9 @@ fn callees<M: Plain, C: MessageCombiner<M>>(
         AreCallees (C.combining combiner.now) (map (λ b. b.now) bundles.now) ids.now all callees.items) }
 {
     if all {
-        let callees = all_callees(alloc, bundles, ids, combiner)?;
-        return Ok(callees);
+        return all_callees(alloc, bundles, ids, combiner);
     }
-    let callees = inboxes_at(alloc, bundles, ids, combiner)?;
-    Ok(callees)
+    inboxes_at(alloc, bundles, ids, combiner)
 }
 
 /// These vertices and all that receive something. Where no vertex is given it costs what the inboxes do, and else a
@@ -111,8 +105,7 @@ fn all_callees<M: Plain, C: MessageCombiner<M>>(
     if ids.is_empty() {
         return Ok(inboxes);
     }
-    let callees = with_empty(alloc, ids, inboxes)?;
-    Ok(callees)
+    with_empty(alloc, ids, inboxes)
 }
 
 /// Looks at the vertices that aren't halted and at all that receive something, and executes those that are active. Costs
@@ -162,8 +155,7 @@ fn found_alone<P: Computation, C: MessageCombiner<P::Message>>(
     let lent = lent_bundles(alloc, bundles)?;
     let callees = callees(alloc, lent.as_slice(), ids.as_slice(), true, combiner)?;
     let callees = own(alloc, share, callees)?;
-    let candidates = candidates_alone(alloc, program, missing, superstep, trace, callees)?;
-    Ok(candidates)
+    candidates_alone(alloc, program, missing, superstep, trace, callees)
 }
 
 /// Looks at these vertices, in the new run and in the old one, and executes those that are active and don't read
@@ -236,7 +228,7 @@ fn found_beside<P: Computation, C: MessageCombiner<P::Message>>(
     let callees = callees(alloc, lent.as_slice(), ids, !seen, combiner)?;
     let callees = own(alloc, share, callees)?;
     let old_lent = lent_bundles(alloc, old_bundles)?;
-    let candidates = candidates_beside(
+    candidates_beside(
         alloc,
         program,
         combiner,
@@ -246,8 +238,7 @@ fn found_beside<P: Computation, C: MessageCombiner<P::Message>>(
         old,
         old_lent.as_slice(),
         callees,
-    )?;
-    Ok(candidates)
+    )
 }
 
 /// These vertices, with what is delivered to each, as they stand in the run and in the old one.
@@ -317,7 +308,7 @@ fn found<P: Computation, C: MessageCombiner<P::Message>>(
     ensures same { states.new ≡ states.old }
 {
     let delivered = inbox(alloc, bundles, id, combiner)?;
-    let vertex = vertex_at(
+    vertex_at(
         alloc,
         program,
         missing,
@@ -325,8 +316,7 @@ fn found<P: Computation, C: MessageCombiner<P::Message>>(
         superstep,
         id,
         Sequence::from_vec(delivered),
-    )?;
-    Ok(vertex)
+    )
 }
 
 /// These vertices, with what is delivered to each, as they stand in the run.

@@ -134,8 +134,7 @@ fn changed_before<M: Plain>(
     match superstep.number().checked_sub(1) {
         Some(before) => {
             let before = Superstep::new(before);
-            let ids = changed_at(alloc, partitions, to, before, logs, old_logs)?;
-            Ok(ids)
+            changed_at(alloc, partitions, to, before, logs, old_logs)
         }
         None => Ok(Vec::new(alloc)),
     }

@@ -1,6 +1,7 @@
 use Rattle.std.proofs.Common.{length, map, true, sym, subst, ◌∙◌}
 use Rattle.std.proofs.lemmas.Bool.{eqb-true}
 use Rattle.std.proofs.lemmas.List.{nil_from_length}
+use Rattle.std.proofs.lemmas.Result.{IfOk-weaker}
 use Rattle.pg_compute.specs.Candidates.{AreCallees}
 use Rattle.pg_compute.proofs.Callees.{are_callees, are_receivers}
 use Rattle.pg_compute.proofs.candidates.all_callees.Goals as goal
@@ -18,5 +19,5 @@ pub returns : goal.returns
 returns g c =
     let combining = g.C.MessageCombiner.combining c.args.combiner.now in
     let bundles = map (λ b. b.now) c.args.bundles.now in
-    subst (AreCallees combining bundles c.args.ids.now true) (sym c.in_ok-callees.ensures)
-    (are_callees combining bundles c.args.ids.now c.in_ok-inboxes.inboxes.items c.in_ok-inboxes.ensures)
+    IfOk-weaker c.with_empty.result _ _ (λ callees is. subst (AreCallees combining bundles c.args.ids.now true) (sym is)
+    (are_callees combining bundles c.args.ids.now c.in_ok-inboxes.inboxes.items c.in_ok-inboxes.ensures)) c.with_empty.ensures

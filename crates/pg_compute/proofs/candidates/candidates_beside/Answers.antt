@@ -2,6 +2,7 @@ use Rattle.std.proofs.Common.{◌≡◌, ℕ, ◌++◌, [], ◌∷◌, List, app
 use Rattle.std.specs.List.{AllByRecursion}
 use Rattle.std.proofs.lemmas.List.{map-append, nil_from_length}
 use Rattle.std.specs.Map.{keys_of}
+use Rattle.std.proofs.lemmas.Result.{IfOk-from_err}
 use Rattle.pg_model.proofs.LawsLists.{all-append}
 use Rattle.pg_routing.proofs.Listing.{all_yielded}
 use Rattle.pg_compute.specs.Candidates.{found_at}
@@ -72,3 +73,27 @@ returns g c =
       old = c.loop-id.invariant.old;
       told = c.loop-id.invariant.told;
     }
+
+pub returns-in_err-candidates : goal.returns-in_err-candidates
+returns-in_err-candidates g c =
+    let none = c.from_residual.ensures.0 in
+    let at = c.from_residual.result in
+    record { ids = IfOk-from_err at _ none; new = IfOk-from_err at _ none; old = IfOk-from_err at _ none; told = IfOk-from_err at _ none }
+
+pub returns-in_err-new : goal.returns-in_err-new
+returns-in_err-new g c =
+    let none = c.from_residual-in_err-new.ensures.0 in
+    let at = c.from_residual-in_err-new.result in
+    record { ids = IfOk-from_err at _ none; new = IfOk-from_err at _ none; old = IfOk-from_err at _ none; told = IfOk-from_err at _ none }
+
+pub returns-in_err-old : goal.returns-in_err-old
+returns-in_err-old g c =
+    let none = c.from_residual-in_err-old.ensures.0 in
+    let at = c.from_residual-in_err-old.result in
+    record { ids = IfOk-from_err at _ none; new = IfOk-from_err at _ none; old = IfOk-from_err at _ none; told = IfOk-from_err at _ none }
+
+pub returns-in_err-push : goal.returns-in_err-push
+returns-in_err-push g c =
+    let none = c.from_residual-in_err-push.ensures.0 in
+    let at = c.from_residual-in_err-push.result in
+    record { ids = IfOk-from_err at _ none; new = IfOk-from_err at _ none; old = IfOk-from_err at _ none; told = IfOk-from_err at _ none }

@@ -1,6 +1,7 @@
 use Rattle.std.proofs.Common.{◌≡◌, ◌++◌, [], ◌∷◌, take, ap, ap₂, sym, ◌∙◌, subst, subst₂, true}
 use Rattle.std.proofs.lemmas.List.{take_all, take_more}
 use Rattle.std.proofs.lemmas.List.Elements.{filter_more}
+use Rattle.std.proofs.lemmas.Result.{IfOk-from_err}
 use Rattle.pg_model.proofs.LawsLists.{all-append}
 use Rattle.pg_compute.specs.Differing.{AreTold, has_same_state, resting_among, restless_among}
 use Rattle.pg_trace.specs.Trace.{state_at}
@@ -54,3 +55,9 @@ returns g c =
       resting = found.resting ∙ ap (resting_among value_eq old new s) all;
       told = subst (AreTold value_eq old new s) all found.told;
     }
+
+pub returns-in_err-add_if_differing : goal.returns-in_err-add_if_differing
+returns-in_err-add_if_differing g c =
+    let none = c.from_residual.ensures.0 in
+    let at = c.from_residual.result in
+    record { restless = IfOk-from_err at _ none; resting = IfOk-from_err at _ none; told = IfOk-from_err at _ none }

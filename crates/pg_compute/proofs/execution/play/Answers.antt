@@ -1,5 +1,6 @@
 use Rattle.std.proofs.Common.{◌≡◌, ◌+◌, ◌++◌, cond, [], ◌∷◌, append_assoc, map, ap, ap₂, sym, ◌∙◌, arith}
 use Rattle.std.specs.List.{count_by, flat_map}
+use Rattle.std.proofs.lemmas.Result.{IfOk-from_err}
 use Rattle.pg_model.specs.Superstep.{capped}
 use Rattle.pg_model.specs.declared.view.View.{View}
 use Rattle.pg_compute.specs.Found.{change_of, is_run}
@@ -47,3 +48,15 @@ returns g c =
       meter = c.loop-candidate.invariant.meter
           ∙ ap (λ l. capped (c.args.stage.meter + count_by (is_run value_eq message_eq program c.args.stage.view c.args.seen) l)) all;
     }
+
+pub returns-in_err-with_capacity : goal.returns-in_err-with_capacity
+returns-in_err-with_capacity g c =
+    let none = c.from_residual.ensures.0 in
+    let at = c.from_residual.result in
+    record { looked_at = IfOk-from_err at _ none; changes = IfOk-from_err at _ none; view = IfOk-from_err at _ none; meter = IfOk-from_err at _ none }
+
+pub returns-in_err-played : goal.returns-in_err-played
+returns-in_err-played g c =
+    let none = c.from_residual-in_err-played.ensures.0 in
+    let at = c.from_residual-in_err-played.result in
+    record { looked_at = IfOk-from_err at _ none; changes = IfOk-from_err at _ none; view = IfOk-from_err at _ none; meter = IfOk-from_err at _ none }

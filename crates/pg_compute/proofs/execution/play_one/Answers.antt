@@ -1,5 +1,5 @@
 use Rattle.std.proofs.Common.{◌≡◌, ◌+◌, not, cond, is_some, Bool, false, ◌&&◌, ◌||◌, ◌++◌, IfOk, ap, ap₂, sym, ◌∙◌, subst}
-use Rattle.std.proofs.lemmas.Result.{IfOk-weaker}
+use Rattle.std.proofs.lemmas.Result.{IfOk-from_err, IfOk-weaker}
 use Rattle.pg_model.specs.Superstep.{capped}
 use Rattle.pg_compute.specs.Found.{are_at_rest, are_same_reading, change_unless, reads}
 use Rattle.pg_compute.proofs.execution.play_one.Goals.{else-seen-via-then-seen+else-are_same_reading, else-seen-via-else-seen}
@@ -26,3 +26,9 @@ returns g c =
           ≡ capped (before.stage.meter + cond (not b && is_some (reads view one.new)) 1 0)))
           (sym apart) c.play_other.ensures.meter;
     }
+
+pub returns-in_err-push : goal.returns-in_err-push
+returns-in_err-push g c =
+    let none = c.from_residual.ensures.0 in
+    let at = c.from_residual.result in
+    record { looked_at = IfOk-from_err at _ none; changes = IfOk-from_err at _ none; view = IfOk-from_err at _ none; meter = IfOk-from_err at _ none }

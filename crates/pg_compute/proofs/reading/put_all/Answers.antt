@@ -1,16 +1,18 @@
-use Rattle.std.proofs.Common.{◌≡◌, ℕ, List, ◌++◌, [], ◌∷◌, ap, sym, ◌∙◌}
-use Rattle.std.proofs.lemmas.List.Sums.{fold_push}
-use Rattle.std.specs.BTreeMap.{insert_entry}
-use Rattle.std.specs.Ordering.{nat_cmp}
+use Rattle.std.proofs.Common.{◌≡◌, [], ap, sym, ◌∙◌, arith}
+use Rattle.std.proofs.lemmas.List.{nil_from_length}
 use Rattle.pg_compute.specs.Lists.{with_entries}
 use Rattle.pg_compute.proofs.reading.put_all.Goals as goal
 
-with_entries-push : {X : Type 0} (es entries : List (ℕ × X)) (e : ℕ × X)
-    → with_entries (es ++ e ∷ []) entries ≡ insert_entry nat_cmp (with_entries es entries) e.0 e.1
-with_entries-push {X} es entries e = fold_push (λ (before : List (ℕ × X)) (x : ℕ × X). insert_entry nat_cmp before x.0 x.1) entries es e
+pub loop-id-init : goal.loop-id-init
+loop-id-init g c = ap (λ l. with_entries l c.args.all.now.entries) c.into_iter-id-iterator.ensures.into_iter_gives.0
 
 pub loop-id-preserved : goal.loop-id-preserved
 loop-id-preserved g c =
-    c.in_ok-insert.ensures.entries
-    ∙ (ap (λ entries. insert_entry nat_cmp entries c.in-Some.id c.in-Some.inbox) c.loop-id.invariant
-    ∙ sym (with_entries-push c.loop-id.yielded c.args.all.now.entries (c.in-Some.id, c.in-Some.inbox)))
+    ap (with_entries c.next.new.self.rest.items) c.in_ok-insert.ensures.entries
+    ∙ ap (λ l. with_entries l c.loop-id.all.entries) (sym c.in-Some.ensures.steps.0) ∙ c.loop-id.invariant
+
+pub returns : goal.returns
+returns g c =
+    let rest = c.loop-id.id-iterator.rest in
+    let none : rest.items ≡ [] = nil_from_length rest.items (omega (arith, rest.ok.0, c.in-None.ensures.steps.0)) in
+    sym (ap (λ l. with_entries l c.loop-id.all.entries) none) ∙ c.loop-id.invariant

@@ -1,4 +1,5 @@
 use Rattle.std.proofs.Common.{length, ap, sym, ◌∙◌, subst, refl}
+use Rattle.std.proofs.lemmas.Result.{IfOk-from_err}
 use Rattle.pg_global.proofs.Shown.{shows_declared}
 use Rattle.pg_model.specs.Superstep.{view_of}
 use Rattle.pg_program.specs.Context.{ShowsDeclared}
@@ -11,3 +12,9 @@ returns-clause-shown g c =
     let place = c.args.superstep in
     subst (ShowsDeclared declared) (sym (c.in_ok-view.ensures ∙ ap (λ d. view_of d place visible) c.declared.ensures))
     (shows_declared declared place (length visible.values) visible c.requires.declared refl)
+
+pub returns-in_err-view : goal.returns-in_err-view
+returns-in_err-view g c =
+    let none = c.from_residual.ensures.0 in
+    let at = c.from_residual.result in
+    record { view = IfOk-from_err at _ none; shown = IfOk-from_err at _ none; meter = IfOk-from_err at _ none; fits = IfOk-from_err at _ none }
