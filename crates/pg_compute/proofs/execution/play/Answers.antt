@@ -1,4 +1,4 @@
-use Rattle.std.proofs.Common.{◌≡◌, ◌+◌, ◌++◌, cond, [], ◌∷◌, append_assoc, map, ap, ap₂, sym, ◌∙◌, arith}
+use Rattle.std.proofs.Common.{◌≡◌, ℕ, ◌+◌, ◌<◌, ◌^◌, ◌++◌, cond, [], ◌∷◌, append_assoc, map, ap, ap₂, refl, sym, ◌∙◌, subst, arith}
 use Rattle.std.specs.List.{count_by, flat_map}
 use Rattle.std.proofs.lemmas.Result.{IfOk-from_err}
 use Rattle.pg_model.specs.Superstep.{capped}
@@ -6,6 +6,8 @@ use Rattle.pg_model.specs.declared.view.View.{View}
 use Rattle.pg_compute.specs.Found.{change_of, is_run}
 use Rattle.std.proofs.lemmas.List.{map-append, nil_from_length}
 use Rattle.pg_routing.proofs.Listing.{all_yielded, count_by-push, flat_map-push, more_calls}
+use Rattle.pg_program.specs.Context.{ShowsDeclared}
+use Rattle.pg_compute.proofs.Playing.{capped_fits, capped_same}
 use Rattle.pg_compute.proofs.execution.play.Goals as goal
 
 pub loop-candidate-preserved : goal.loop-candidate-preserved
@@ -60,3 +62,19 @@ returns-in_err-played g c =
     let none = c.from_residual-in_err-played.ensures.0 in
     let at = c.from_residual-in_err-played.result in
     record { looked_at = IfOk-from_err at _ none; changes = IfOk-from_err at _ none; view = IfOk-from_err at _ none; meter = IfOk-from_err at _ none }
+
+pub loop-candidate-init : goal.loop-candidate-init
+loop-candidate-init g c = record {
+  looked_at = c.in_ok-with_capacity.ensures.items;
+  changes = c.new.ensures.items;
+  view = refl;
+  meter = capped_same c.args.stage.meter c.requires.fits;
+  whole = c.into_iter-candidate-iterator.ensures.into_iter_gives.0;
+}
+
+pub play_one-requires-clause-shown : goal.play_one-requires-clause-shown
+play_one-requires-clause-shown g c κs within =
+    subst (ShowsDeclared (g.P.Computation.program c.args.program.now).declared) (sym c.loop-candidate.invariant.view) c.requires.shown
+
+pub play_one-requires-clause-fits : goal.play_one-requires-clause-fits
+play_one-requires-clause-fits g c κs within = subst (λ (k : ℕ). k < 2 ^ 64) (sym c.loop-candidate.invariant.meter) (capped_fits _)
