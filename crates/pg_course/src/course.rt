@@ -409,8 +409,7 @@ impl<V: Plain, M: Plain> Course<V, M> {
         ensures { IfOk result (λ bundles. bundles.items
             ≡ bundles_before logs.now self.now.partitions self.now.partition self.now.place) }
     {
-        let bundles = bundles_before(alloc, logs, self.partitions, self.partition, self.place)?;
-        Ok(bundles)
+        bundles_before(alloc, logs, self.partitions, self.partition, self.place)
     }
 
     /// Its trace of the old run, and the rest of it.

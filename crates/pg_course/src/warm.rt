@@ -124,7 +124,7 @@ fn mended<V: Plain, M: Plain, C: MessageCombiner<M>>(
 ) -> Result<Sent<M>, Memory>
     ensures { IfOk result (λ sent. IsSentBeside (C.combining combiner.now) course.now old.now old_logs.now changes.now sent) }
 {
-    let sent = mended_bundles(
+    mended_bundles(
         alloc,
         course.partitions,
         course.partition,
@@ -133,8 +133,7 @@ fn mended<V: Plain, M: Plain, C: MessageCombiner<M>>(
         old,
         old_logs,
         combiner,
-    )?;
-    Ok(sent)
+    )
 }
 
 /// The course one superstep further, with these changes of records, and with the trace of the old run.

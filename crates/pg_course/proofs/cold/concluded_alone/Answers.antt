@@ -1,5 +1,6 @@
 use Rattle.std.proofs.Common.{◌<◌, sym, ◌∙◌, subst, subst₂}
 use Rattle.std.specs.List.{flat_map, slice_get}
+use Rattle.std.proofs.lemmas.Result.{IfOk-from_err}
 use Rattle.pg_routing.specs.Sending.{IsFresh, items_to, sends_of}
 use Rattle.pg_course.proofs.cold.concluded_alone.Goals as goal
 
@@ -14,3 +15,15 @@ returns-clause-concluded g c =
           (slice_get c.in_ok-sent.sent q))
           all c.as_slice.ensures.value (c.in_ok-sent.ensures.sends q (subst (λ n. q < n) (sym all) below));
     }
+
+pub returns-in_err-sent : goal.returns-in_err-sent
+returns-in_err-sent g c =
+    let none = c.from_residual.ensures.0 in
+    let at = c.from_residual.result in
+    record { concluded = IfOk-from_err at _ none; counted = IfOk-from_err at _ none }
+
+pub returns-in_err-course : goal.returns-in_err-course
+returns-in_err-course g c =
+    let none = c.from_residual-in_err-course.ensures.0 in
+    let at = c.from_residual-in_err-course.result in
+    record { concluded = IfOk-from_err at _ none; counted = IfOk-from_err at _ none }

@@ -1,4 +1,5 @@
 use Rattle.std.proofs.Common.{subst}
+use Rattle.std.proofs.lemmas.Result.{IfOk-from_err}
 use Rattle.pg_course.specs.Warm.{IsSentBeside}
 use Rattle.pg_course.proofs.warm.concluded.Goals as goal
 
@@ -10,3 +11,15 @@ returns-clause-concluded g c = record {
       subst (λ changes. IsSentBeside (g.C.MessageCombiner.combining c.args.combiner.now) c.args.course c.args.old c.args.old_logs.now changes c.in_ok-sent.sent)
       c.as_slice.ensures.value c.in_ok-sent.ensures;
 }
+
+pub returns-in_err-sent : goal.returns-in_err-sent
+returns-in_err-sent g c =
+    let none = c.from_residual.ensures.0 in
+    let at = c.from_residual.result in
+    record { concluded = IfOk-from_err at _ none; counted = IfOk-from_err at _ none }
+
+pub returns-in_err-course : goal.returns-in_err-course
+returns-in_err-course g c =
+    let none = c.from_residual-in_err-course.ensures.0 in
+    let at = c.from_residual-in_err-course.result in
+    record { concluded = IfOk-from_err at _ none; counted = IfOk-from_err at _ none }

@@ -1,5 +1,6 @@
 use Rattle.std.proofs.Common.{◌≡◌, ◌+◌, ◌≤◌, ◌++◌, length, Some, ap, ◌∙◌, subst, subst₂, arith, true}
 use Rattle.std.proofs.lemmas.List.{length-set}
+use Rattle.std.proofs.lemmas.Result.{IfOk-from_err}
 use Rattle.pg_map.specs.Entries.{with_changes}
 use Rattle.pg_compute.specs.Differing.{AreTold, resting_among, restless_among, without}
 use Rattle.pg_course.specs.Course.{Holding}
@@ -62,3 +63,15 @@ returns-clause-told g c =
     subst (λ (h : Holding g.row.V.Denot g.row.M.Denot). AreCompared value_eq h old c.args.looked_at.items c.args.changes.items) c.course.view_is
     (subst (AreTold value_eq old trace (place + 1)) c.as_slice.ensures.value
     (subst₂ (λ t k. AreTold value_eq old t k c.as_slice.result.now) c.in_ok-trace.ensures next c.in_ok-differing.ensures.told))
+
+pub returns-in_err-trace : goal.returns-in_err-trace
+returns-in_err-trace g c =
+    let none = c.from_residual.ensures.0 in
+    let at = c.from_residual.result in
+    record { further = IfOk-from_err at _ none; told = IfOk-from_err at _ none }
+
+pub returns-in_err-differing : goal.returns-in_err-differing
+returns-in_err-differing g c =
+    let none = c.from_residual-in_err-differing.ensures.0 in
+    let at = c.from_residual-in_err-differing.result in
+    record { further = IfOk-from_err at _ none; told = IfOk-from_err at _ none }

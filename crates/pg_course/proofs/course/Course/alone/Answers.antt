@@ -1,5 +1,5 @@
 use Rattle.std.proofs.Common.{sym, ap, subst}
-use Rattle.std.proofs.lemmas.Result.{IfOk-weaker}
+use Rattle.std.proofs.lemmas.Result.{IfOk-from_err, IfOk-weaker}
 use Rattle.pg_compute.proofs.Playing.{played_rise}
 use Rattle.pg_course.specs.Course.{HasStepped}
 use Rattle.pg_course.proofs.Alone.{alone_steps}
@@ -35,3 +35,9 @@ returns-clause-stepped g c =
     c.args.stage.meter c.args.bundles.now c.in_ok-played.played c.in_ok-played.ensures.played c.in_ok-played.ensures.some stepped.course stepped.sent
     concluded job kept rows n p s logs program combining holds past within has bundled sees))
     c.concluded_alone.ensures.concluded c.concluded_alone.ensures.counted
+
+pub returns-in_err-played : goal.returns-in_err-played
+returns-in_err-played g c =
+    let none = c.from_residual.ensures.0 in
+    let at = c.from_residual.result in
+    record { further = IfOk-from_err at _ none; to_each = IfOk-from_err at _ none; stepped = IfOk-from_err at _ none }

@@ -1,6 +1,7 @@
 use Rattle.std.proofs.Common.{Some, ◌++◌, append-nil, ap, ap₂, sym, ◌∙◌, subst, refl, false}
 use Rattle.std.specs.List.Sorted.{IsStrictlySortedBy}
 use Rattle.std.specs.Ordering.{nat_cmp}
+use Rattle.std.proofs.lemmas.Result.{IfOk-from_err}
 use Rattle.pg_map.specs.Entries.{ChangesRise}
 use Rattle.pg_model.specs.Superstep.{has_id}
 use Rattle.pg_course.specs.Course.{AreTouched, Holding, Holds, IsWhole}
@@ -61,3 +62,39 @@ returns-clause-holds g c job kept program missing whole touched =
     course refl refl refl c.new.ensures
     (c.in_ok-trace.ensures ∙ ap (λ l. record c.args.old { initial = with_first l c.args.old.initial })
     (c.in_ok-changes.ensures.changes ∙ ap (first_changes program' graph n p) c.as_slice.ensures.value)) refl c.of.ensures.restless c.of.ensures.resting)
+
+pub returns-in_err-copied : goal.returns-in_err-copied
+returns-in_err-copied g c =
+    let none = c.from_residual.ensures.0 in
+    let at = c.from_residual.result in
+    record {
+      begins = IfOk-from_err at _ none;
+      rise = IfOk-from_err at _ none;
+      differing = IfOk-from_err at _ none;
+      kept = IfOk-from_err at _ none;
+      holds = IfOk-from_err at _ none;
+    }
+
+pub returns-in_err-changes : goal.returns-in_err-changes
+returns-in_err-changes g c =
+    let none = c.from_residual-in_err-changes.ensures.0 in
+    let at = c.from_residual-in_err-changes.result in
+    record {
+      begins = IfOk-from_err at _ none;
+      rise = IfOk-from_err at _ none;
+      differing = IfOk-from_err at _ none;
+      kept = IfOk-from_err at _ none;
+      holds = IfOk-from_err at _ none;
+    }
+
+pub returns-in_err-trace : goal.returns-in_err-trace
+returns-in_err-trace g c =
+    let none = c.from_residual-in_err-trace.ensures.0 in
+    let at = c.from_residual-in_err-trace.result in
+    record {
+      begins = IfOk-from_err at _ none;
+      rise = IfOk-from_err at _ none;
+      differing = IfOk-from_err at _ none;
+      kept = IfOk-from_err at _ none;
+      holds = IfOk-from_err at _ none;
+    }

@@ -1,5 +1,5 @@
 use Rattle.std.proofs.Common.{◌≡◌, ◌<◌, None, ap, sym, ◌∙◌, subst}
-use Rattle.std.proofs.lemmas.Result.{IfOk-weaker}
+use Rattle.std.proofs.lemmas.Result.{IfOk-from_err, IfOk-weaker}
 use Rattle.pg_compute.proofs.Playing.{looked_at_rise, played_rise}
 use Rattle.pg_course.specs.Course.{HasStepped, Holding, Holds}
 use Rattle.pg_course.specs.Warm.{IsConcluded, IsReplayed, further}
@@ -71,3 +71,9 @@ returns-in-None-clause-stepped g c =
     h job kept rows n p s c.args.logs.now program combining
     (subst (Holds job kept rows n p s) rest holds) (nothing_kept job kept rows n p s course holds none) within has bundled sees)
     c.alone.ensures.stepped
+
+pub returns-in_err-played-in-Some : goal.returns-in_err-played-in-Some
+returns-in_err-played-in-Some g c =
+    let none = c.from_residual.ensures.0 in
+    let at = c.from_residual.result in
+    record { further = IfOk-from_err at _ none; to_each = IfOk-from_err at _ none; stepped = IfOk-from_err at _ none }

@@ -1,6 +1,6 @@
 use Rattle.std.proofs.Common.{ap, sym, ◌∙◌, subst}
 use Rattle.std.specs.Option.{option_copied, option_map}
-use Rattle.std.proofs.lemmas.Result.{IfOk-weaker}
+use Rattle.std.proofs.lemmas.Result.{IfOk-from_err, IfOk-weaker}
 use Rattle.pg_model.specs.Superstep.{view_of}
 use Rattle.pg_routing.specs.Routes.{bundles_before}
 use Rattle.pg_course.specs.Course.{HasStepped}
@@ -18,3 +18,9 @@ returns-clause-stepped g c =
     (c.in_ok-lent.ensures.view ∙ (λ i. view_of (declared i) (holds.place_is i) (lent.sees i)))
     (c.in_ok-lent.ensures.old_view ∙ (λ i. option_map (view_of (declared i) (holds.place_is i)) seen))
     old)) c.step_with.ensures.stepped
+
+pub returns-in_err-lent : goal.returns-in_err-lent
+returns-in_err-lent g c =
+    let none = c.from_residual.ensures.0 in
+    let at = c.from_residual.result in
+    record { further = IfOk-from_err at _ none; to_each = IfOk-from_err at _ none; stepped = IfOk-from_err at _ none }
