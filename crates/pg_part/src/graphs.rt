@@ -22,8 +22,7 @@ pub fn moved(
         → AreMoved ids.items before.now after.now) }
 {
     let ids = rising(Vec::from_slice(alloc, touched)?);
-    let moved = moved_among(alloc, before, after, ids.as_slice())?;
-    Ok(moved)
+    moved_among(alloc, before, after, ids.as_slice())
 }
 
 /// Those of these ids.

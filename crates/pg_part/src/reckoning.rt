@@ -136,8 +136,7 @@ pub(crate) fn first_stats_beside<V: Plain, M: Plain>(
     let trace = course.trace();
     let ids = course.differing(alloc)?;
     let census = recensus(before, kept, start, trace, start, ids.as_slice())?;
-    let stats = first_stats(alloc, registry, census)?;
-    Ok(stats)
+    first_stats(alloc, registry, census)
 }
 
 /// The census as a superstep begins, by that as one begins in another trace, where all other vertices have the same
@@ -337,11 +336,10 @@ fn next_stats<V: Plain, M: Plain>(
         let found = (course.kept(), old_logs, old_stats.get(place + 1));
         if let (Some(old), Some(old_logs), Some(old_after)) = found {
             let (before, old_before) = (&stats[place], &old_stats[place]);
-            let after = stats_beside(
+            return stats_beside(
                 alloc, registry, graph, moved, old, old_logs, course, superstep, bundles, before,
                 old_before, old_after,
-            )?;
-            return Ok(after);
+            );
         }
     }
     stats_after(

@@ -1,4 +1,5 @@
 use Rattle.std.proofs.Common.{◌++◌, [], ◌∷◌, take, ap, sym, ◌∙◌}
+use Rattle.std.proofs.lemmas.List.{take_all}
 use Rattle.std.proofs.lemmas.List.Elements.{filter_more}
 use Rattle.pg_part.specs.Moved.{moved_among}
 use Rattle.pg_part.proofs.graphs.moved_among.Goals as goal
@@ -12,3 +13,6 @@ loop-id-preserved c =
     ∙ (ap (λ l. l ++ among (c.id-item.result ∷ [])) c.loop-id.invariant
     ∙ (ap (λ id. among (take i ids) ++ among (id ∷ [])) c.id-item.is
     ∙ sym (filter_more _ ids i c.id-item.result c.loop-id-test.true)))
+
+pub returns : goal.returns
+returns c = c.loop-id.invariant ∙ ap (moved_among c.args.before.now c.args.after.now) (take_all c.loop-id.id-index c.args.ids.now c.loop-id-test.false)

@@ -13,18 +13,18 @@ pub returns-in-Some-Some-Some : goal.returns-in-Some-Some-Some
 returns-in-Some-Some-Some g c =
     let place = c.number-place.ensures in
     let found = c.in-Some-Some-Some in
-    record {
+    IfOk-weaker c.stats_beside.result _ _ (λ after reckoned. record {
       alone = λ off before at. absurd (true≢false (sym c.if-beside_old.true ∙ (c.beside_old.ensures ∙ off)));
       beside = λ on old logs before old_before old_after kept logs_are at old_at next.
-          reckoned_beside_at c.args.registry.now c.args.graph.now c.args.moved.now c.args.course.now c.args.superstep c.args.bundles.now c.in_ok-after.after
+          reckoned_beside_at c.args.registry.now c.args.graph.now c.args.moved.now c.args.course.now c.args.superstep c.args.bundles.now after
           (same_Some _ _ (sym (ap option_copied found.is-0) ∙ (c.kept.ensures ∙ kept)))
           (same_Some _ _ (sym (ap option_copied found.is-1) ∙ logs_are))
           (stats_there c.args.stats.now place c.index-stats-place.is at)
           (stats_there c.args.old_stats.now place c.index-old_stats-place.is old_at)
           (stats_there c.args.old_stats.now (ap (λ (k : ℕ). k + 1) place)
           (subst (λ r. IfSome r (λ x. x.now ≡ get_or c.args.old_stats.now (c.number-place.result + 1) x.now)) found.is-2 c.get.ensures.lookup.1) next)
-          c.in_ok-after.ensures;
-    }
+          reckoned;
+    }) c.stats_beside.ensures
 
 pub returns : goal.returns
 returns g c =

@@ -1,4 +1,5 @@
 use Rattle.std.proofs.Common.{ap, sym, ◌∙◌, ◌∷◌, []}
+use Rattle.std.proofs.lemmas.Result.{IfOk-from_err}
 use Rattle.pg_routing.specs.Starting.{first_states}
 use Rattle.pg_part.proofs.Beginning.{begun_stats, first_are}
 use Rattle.pg_stats.specs.Stats.{census_of}
@@ -23,3 +24,33 @@ returns-clause-holds g c job program missing same =
         beside = tt;
       };
     }
+
+pub returns-in_err-states : goal.returns-in_err-states
+returns-in_err-states g c =
+    let none = c.from_residual.ensures.0 in
+    let at = c.from_residual.result in
+    record { begins = IfOk-from_err at _ none; holds = IfOk-from_err at _ none }
+
+pub returns-in_err-census : goal.returns-in_err-census
+returns-in_err-census g c =
+    let none = c.from_residual-in_err-census.ensures.0 in
+    let at = c.from_residual-in_err-census.result in
+    record { begins = IfOk-from_err at _ none; holds = IfOk-from_err at _ none }
+
+pub returns-in_err-first : goal.returns-in_err-first
+returns-in_err-first g c =
+    let none = c.from_residual-in_err-first.ensures.0 in
+    let at = c.from_residual-in_err-first.result in
+    record { begins = IfOk-from_err at _ none; holds = IfOk-from_err at _ none }
+
+pub returns-in_err-course : goal.returns-in_err-course
+returns-in_err-course g c =
+    let none = c.from_residual-in_err-course.ensures.0 in
+    let at = c.from_residual-in_err-course.result in
+    record { begins = IfOk-from_err at _ none; holds = IfOk-from_err at _ none }
+
+pub returns-in_err-reckoning : goal.returns-in_err-reckoning
+returns-in_err-reckoning g c =
+    let none = c.from_residual-in_err-reckoning.ensures.0 in
+    let at = c.from_residual-in_err-reckoning.result in
+    record { begins = IfOk-from_err at _ none; holds = IfOk-from_err at _ none }

@@ -1,5 +1,6 @@
 use Rattle.std.proofs.Common.{ap, sym, ◌∙◌, ◌∷◌, [], subst, arith, ◌≤◌}
 use Rattle.std.specs.List.{slice_get}
+use Rattle.std.proofs.lemmas.Result.{IfOk-from_err}
 use Rattle.pg_course.specs.Course.{IsWhole, differing}
 use Rattle.pg_model.specs.Run.{run_length}
 use Rattle.pg_part.proofs.Beginning.{begun_stats, recensus_is}
@@ -36,3 +37,21 @@ returns-clause-holds g c job kept program missing same left touched moved =
         beside = (reckoned.old_stats_are ∙ stats_are, subst (λ ids. AreMoved ids kept graph) (sym reckoned.moved_are) moved);
       };
     }
+
+pub returns-in_err-course : goal.returns-in_err-course
+returns-in_err-course g c =
+    let none = c.from_residual.ensures.0 in
+    let at = c.from_residual.result in
+    record { begins = IfOk-from_err at _ none; holds = IfOk-from_err at _ none }
+
+pub returns-in_err-first : goal.returns-in_err-first
+returns-in_err-first g c =
+    let none = c.from_residual-in_err-first.ensures.0 in
+    let at = c.from_residual-in_err-first.result in
+    record { begins = IfOk-from_err at _ none; holds = IfOk-from_err at _ none }
+
+pub returns-in_err-reckoning : goal.returns-in_err-reckoning
+returns-in_err-reckoning g c =
+    let none = c.from_residual-in_err-reckoning.ensures.0 in
+    let at = c.from_residual-in_err-reckoning.result in
+    record { begins = IfOk-from_err at _ none; holds = IfOk-from_err at _ none }

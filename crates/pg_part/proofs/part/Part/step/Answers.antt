@@ -1,11 +1,17 @@
 use Rattle.std.proofs.Common.{◌≡◌, ℕ, ◌+◌, ◌^◌, ◌<◌, ◌≤◌, [], ◌∷◌, ◌++◌, length, ap, sym, ◌∙◌, subst, refl, arith}
 use Rattle.std.proofs.lemmas.List.{length_push}
+use Rattle.std.proofs.lemmas.Result.{IfOk-from_err}
+use Rattle.std.specs.Prelude.{Err, IfErr, Ok, Result}
 use Rattle.pg_course.specs.Course.{HasStepped, Holds, IsFurther}
 use Rattle.pg_part.proofs.Stepping.{has_next, next_is, next_stats_at, ok_of}
 use Rattle.pg_part.proofs.part.Part.step.Goals as goal
 
 below_next : {place k n : ℕ} → place ≡ k → n ≡ k + 1 → place < n
 below_next at long = omega arith
+
+unchanged : {T E X : Type 0} (r : Result T E) (x : X) → IfErr r (λ _. x ≡ x)
+unchanged (Ok found) x = tt
+unchanged (Err lost) x = refl
 
 pub returns-clause-stepped : goal.returns-clause-stepped
 returns-clause-stepped g c job kept rows n p r program combining same held lent beside =
@@ -59,3 +65,15 @@ invariant_of-result g c =
 
 pub returns-clause-further : goal.returns-clause-further
 returns-clause-further g c = subst (λ s. IsFurther s.course c.in_ok-course.course) c.self.view_is c.in_ok-course.ensures.further
+
+pub returns-in_err-course : goal.returns-in_err-course
+returns-in_err-course g c =
+    let none = c.from_residual.ensures.0 in
+    let at = c.from_residual.result in
+    record { further = IfOk-from_err at _ none; uncounted = unchanged at c.args.meter.now; stepped = IfOk-from_err at _ none }
+
+pub returns-in_err-reckoning : goal.returns-in_err-reckoning
+returns-in_err-reckoning g c =
+    let none = c.from_residual-in_err-reckoning.ensures.0 in
+    let at = c.from_residual-in_err-reckoning.result in
+    record { further = IfOk-from_err at _ none; uncounted = unchanged at c.args.meter.now; stepped = IfOk-from_err at _ none }
