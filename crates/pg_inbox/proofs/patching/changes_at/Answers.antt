@@ -1,5 +1,7 @@
-use Rattle.pg_inbox.specs.Mending.{mended_at}
+use Rattle.pg_inbox.specs.Mending.{mended_at, changes_of}
 use Rattle.pg_inbox.proofs.Filling.{mapped_more}
+use Rattle.std.proofs.Common.{ap, ◌∙◌}
+use Rattle.std.proofs.lemmas.List.{take_all}
 use Rattle.pg_inbox.proofs.patching.changes_at.Goals as goal
 
 pub loop-group-preserved : goal.loop-group-preserved
@@ -8,3 +10,15 @@ loop-group-preserved g c = record {
       c.loop-group.group-index c.loop-group-test.true c.group-item.is c.loop-group.invariant.items c.in_ok-add_change.ensures.items;
   hold = c.in_ok-add_change.ensures.hold;
 }
+
+pub add_change-requires-after_bounds : goal.add_change-requires-after_bounds
+add_change-requires-after_bounds g c κs within = c.loop-group.invariant.hold
+
+pub returns-clause-items : goal.returns-clause-items
+returns-clause-items g c =
+    c.loop-group.invariant.items
+    ∙ ap (changes_of (g.C.MessageCombiner.combining c.args.combiner.now) c.args.old.now)
+    (take_all c.loop-group.group-index c.args.groups.now c.loop-group-test.false)
+
+pub returns-clause-hold : goal.returns-clause-hold
+returns-clause-hold g c = c.loop-group.invariant.hold
