@@ -1,7 +1,8 @@
-use Rattle.std.proofs.Common.{◌∷◌, [], ◌++◌, ap, ◌∙◌, map}
+use Rattle.std.proofs.Common.{◌∷◌, [], ◌++◌, ap, ◌∙◌, map, subst, sym}
 use Rattle.pg_inbox.specs.Holding.{as_item}
 use Rattle.pg_inbox.proofs.Filling.{all_pushed, mapped_more}
 use Rattle.std.proofs.lemmas.List.{take_all}
+use Rattle.std.specs.List.{AllByRecursion}
 use Rattle.pg_inbox.proofs.making.letters_of.Goals as goal
 
 pub loop-sender-preserved : goal.loop-sender-preserved
@@ -21,3 +22,9 @@ returns-clause-items g c =
 
 pub returns-clause-values : goal.returns-clause-values
 returns-clause-values g c = c.loop-sender.invariant.values
+
+pub loop-sender-init : goal.loop-sender-init
+loop-sender-init g c = record {
+  items = c.in_ok-letters.ensures.items;
+  values = subst (AllByRecursion (λ l. g.M.Plain.is_value l.1.1)) (sym c.in_ok-letters.ensures.items) tt;
+}

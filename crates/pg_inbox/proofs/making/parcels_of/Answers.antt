@@ -33,3 +33,12 @@ returns g c =
     c.loop-target.invariant.so_far
     ∙ ap (map (λ e. (e.0, contents e.1)))
     (moved_all c.loop-target.yielded (nil_from_length left.items (sym left.ok.0 ∙ c.in-None.ensures.steps.0)) c.loop-target.invariant.whole)
+
+pub loop-target-init : goal.loop-target-init
+loop-target-init g c =
+    let whole = c.into_iter-target-iterator.ensures.into_iter_gives.0 in
+    record {
+      so_far = c.in_ok-parcels.ensures.items;
+      left = subst (AllByRecursion (λ e. IsLetters g.M.Plain.is_value e.1)) (sym whole) c.requires;
+      whole = whole;
+    }

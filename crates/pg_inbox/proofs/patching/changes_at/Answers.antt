@@ -1,7 +1,9 @@
 use Rattle.pg_inbox.specs.Mending.{mended_at, changes_of}
 use Rattle.pg_inbox.proofs.Filling.{mapped_more}
-use Rattle.std.proofs.Common.{ap, ◌∙◌}
+use Rattle.std.proofs.Common.{ap, ◌∙◌, subst, sym}
 use Rattle.std.proofs.lemmas.List.{take_all}
+use Rattle.std.specs.List.{AllByRecursion}
+use Rattle.pg_inbox.specs.Holding.{HoldsAt}
 use Rattle.pg_inbox.proofs.patching.changes_at.Goals as goal
 
 pub loop-group-preserved : goal.loop-group-preserved
@@ -22,3 +24,9 @@ returns-clause-items g c =
 
 pub returns-clause-hold : goal.returns-clause-hold
 returns-clause-hold g c = c.loop-group.invariant.hold
+
+pub loop-group-init : goal.loop-group-init
+loop-group-init g c = record {
+  items = c.in_ok-changes.ensures.items;
+  hold = subst (AllByRecursion (λ e. HoldsAt g.M.Plain.is_value e.1)) (sym c.in_ok-changes.ensures.items) tt;
+}

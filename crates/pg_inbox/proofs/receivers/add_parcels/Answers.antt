@@ -3,6 +3,7 @@ use Rattle.pg_map.specs.Entries.{HasRisingIds}
 use Rattle.pg_inbox.specs.Holding.{Holds}
 use Rattle.pg_inbox.proofs.Filling.{all_pushed}
 use Rattle.pg_inbox.proofs.Taking.{moved_all, moved_one}
+use Rattle.std.specs.List.{AllByRecursion}
 use Rattle.pg_inbox.proofs.receivers.add_parcels.Goals as goal
 
 pub loop-target-init : goal.loop-target-init
@@ -32,3 +33,16 @@ returns-clause-rise g c = subst HasRisingIds c.bundle.view_is c.iter-target-item
 
 pub returns-clause-hold : goal.returns-clause-hold
 returns-clause-hold g c = c.loop-target.invariant.hold
+
+pub returns-in_err-share-clause-rise : goal.returns-in_err-share-clause-rise
+returns-in_err-share-clause-rise g c = subst HasRisingIds c.bundle.view_is c.iter-target-items.ensures.rising
+
+pub returns-in_err-share-clause-hold : goal.returns-in_err-share-clause-hold
+returns-in_err-share-clause-hold g c = c.loop-target.invariant.hold
+
+pub returns-in_err-push-clause-rise : goal.returns-in_err-push-clause-rise
+returns-in_err-push-clause-rise g c = subst HasRisingIds c.bundle.view_is c.iter-target-items.ensures.rising
+
+pub returns-in_err-push-clause-hold : goal.returns-in_err-push-clause-hold
+returns-in_err-push-clause-hold g c =
+    subst (AllByRecursion (λ e. Holds g.M.Plain.is_value e.1)) (sym c.in_err-push.ensures.items) c.loop-target.invariant.hold
