@@ -1,17 +1,19 @@
-use Rattle.std.proofs.Common.{◌≡◌, ◌+◌, ◌≤◌, suc, IfOk, List, [], ◌∷◌, ◌++◌, length, ap, arith, subst, sym, ◌∙◌}
+use Rattle.std.proofs.Common.{◌≡◌, ℕ, ◌+◌, ◌≤◌, suc, IfOk, List, [], ◌∷◌, ◌++◌, length, ap, arith, subst, sym, ◌∙◌}
 use Rattle.std.specs.List.{AllByRecursion}
 use Rattle.std.proofs.lemmas.List.{append-nil, length-append, nil_from_length}
 use Rattle.pg_inbox.specs.Bundles.{contents_of}
 use Rattle.pg_inbox.specs.Held.{contents_in}
 use Rattle.pg_inbox.proofs.parcel.packed.Goals as goal
 
+too_many : (n : ℕ) → suc n + 1 + 1 ≤ 2 → ⊥
+too_many n few = omega arith
+
 only_two : {X : Type 0} (before : List X) (first last : X) {middle all : List X} → all ≡ middle ++ last ∷ [] → middle ≡ before ++ first ∷ [] → length all ≤ 2
     → first ∷ last ∷ [] ≡ all
 only_two [] first last is was few = sym (is ∙ ap (λ l. l ++ last ∷ []) was)
-only_two (x ∷ before) first last {middle} {all} is was few =
-    let whole : length all ≡ length middle + 1 = ap length is ∙ length-append middle (last ∷ []) in
-    let part : length middle ≡ suc (length before) + 1 = ap length was ∙ length-append (x ∷ before) (first ∷ []) in
-    absurd (omega (arith, few, whole, part))
+only_two (x ∷ before) first last {middle} is was few =
+    let part = ap length was ∙ length-append (x ∷ before) (first ∷ []) in
+    absurd (too_many (length before) (subst (λ n. n ≤ 2) (ap length is ∙ length-append middle (last ∷ []) ∙ ap (λ n. n + 1) part) few))
 
 pub returns-then-len-gt2 : goal.returns-then-len-gt2
 returns-then-len-gt2 g c = c.packed_many.ensures
