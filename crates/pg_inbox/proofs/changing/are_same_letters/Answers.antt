@@ -34,8 +34,7 @@ returns g c =
     let i = c.loop-place.place in
     let old = c.args.old.now.letters in
     let new = c.args.new.now.letters in
-    let over = subst (λ n. n ≤ i) c.len-place-end.ensures.value c.loop-place-test.false in
-    (
+    let over = subst (λ n. n ≤ i) c.len-place-end.ensures.value c.loop-place-test.false in (
       (λ same. sym (take_all i old over) ∙ c.loop-place.invariant.so_far ∙ take_all i new (subst (λ n. n ≤ i) c.loop-place.invariant.lengths over)),
       λ same. refl,
     )

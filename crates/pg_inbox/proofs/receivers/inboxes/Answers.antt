@@ -17,8 +17,8 @@ returns g c =
     let groups = c.in_ok-groups.groups.items in
     let all = c.in_ok-parcels.ensures.items ∙ sym (flat_map-of_map (λ b. b) (λ b. b.now) c.args.bundles.now) in
     let are =
-        are_inboxes is_value combining (laws.lawful c.args.combiner.now) bundles groups
-        (subst (λ l. AreGroups l groups) all c.in_ok-groups.ensures)
-        (all_to_map HasRisingIds (λ b. b.now) c.args.bundles.now c.in_ok-parcels.ensures.rise)
-        (subst (AllByRecursion (λ e. Holds is_value e.1)) all c.in_ok-parcels.ensures.hold) in
+    are_inboxes is_value combining (laws.lawful c.args.combiner.now) bundles groups
+    (subst (λ l. AreGroups l groups) all c.in_ok-groups.ensures)
+    (all_to_map HasRisingIds (λ b. b.now) c.args.bundles.now c.in_ok-parcels.ensures.rise)
+    (subst (AllByRecursion (λ e. Holds is_value e.1)) all c.in_ok-parcels.ensures.hold) in
     IfOk-weaker c.inboxes_of.result _ _ (λ inboxes is. subst (AreInboxes combining bundles) (sym is) are) c.inboxes_of.ensures

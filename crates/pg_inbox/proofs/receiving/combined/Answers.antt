@@ -26,10 +26,10 @@ returns g c =
     let messages = c.args.messages.now in
     elim c.if-not-is_empty.branch [
       | then-not-is_empty+in_ok-so_far+else-loop-message-test+in_ok-push w ↦ let so_far = w.loop-message.so_far in
-        ap (λ v. v.items) w.inbox-is ∙ w.in_ok-push.ensures.items ∙ ap (λ l. l ++ so_far ∷ []) c.new-inbox.ensures.items
-        ∙ combined_all combining messages so_far c.requires (sym c.is_empty.ensures ∙ w.if-not-is_empty.true)
-        (subst (λ l. IfSome combining (λ k. so_far ≡ fold k.combine k.initial l)) (take_all w.loop-message.message-index messages w.loop-message-test.false)
-        w.loop-message.invariant)
+          ap (λ v. v.items) w.inbox-is ∙ w.in_ok-push.ensures.items ∙ ap (λ l. l ++ so_far ∷ []) c.new-inbox.ensures.items
+          ∙ combined_all combining messages so_far c.requires (sym c.is_empty.ensures ∙ w.if-not-is_empty.true)
+          (subst (λ l. IfSome combining (λ k. so_far ≡ fold k.combine k.initial l)) (take_all w.loop-message.message-index messages w.loop-message-test.false)
+          w.loop-message.invariant)
       | else-not-is_empty w ↦ ap (λ v. v.items) w.inbox-is ∙ c.new-inbox.ensures.items
-        ∙ combined_none combining messages c.requires (sym c.is_empty.ensures ∙ w.if-not-is_empty.false)
+          ∙ combined_none combining messages c.requires (sym c.is_empty.ensures ∙ w.if-not-is_empty.false)
     ]

@@ -13,8 +13,8 @@ pub returns-then-combines : goal.returns-then-combines
 returns-then-combines g c =
     let combining = g.C.MessageCombiner.combining c.args.combiner.now in
     let all =
-        ap (combined combining) (c.as_slice.ensures.value ∙ c.in_ok-parts.ensures)
-        ∙ sym (received_combined 0 combining (sym c.combines.ensures ∙ c.if-combines.true) c.args.parcels.now) in
+    ap (combined combining) (c.as_slice.ensures.value ∙ c.in_ok-parts.ensures)
+    ∙ sym (received_combined 0 combining (sym c.combines.ensures ∙ c.if-combines.true) c.args.parcels.now) in
     IfOk-weaker c.combined.result _ _ (λ inbox is. is ∙ all) c.combined.ensures
 
 pub returns : goal.returns
@@ -22,10 +22,10 @@ returns g c =
     let combining = g.C.MessageCombiner.combining c.args.combiner.now in
     let sorted = c.sort_by_key.new.self.items in
     let all =
-        ap messages (sorted_in_order c.in_ok-letters.letters.items sorted
-        (IsNonDecreasingBy-from_sort (λ x. x.0) sorted
-        (c.in_ok-sort_by_key.ensures.sorted (λ x. x.0) (always_returns_same _ _ _ (λ a r f k. search (rules, of_calls)))))
-        (c.in_ok-sort_by_key.ensures.stable (λ x. x.0) (always_returns_same _ _ _ (λ a r f k. search (rules, of_calls))))
-        ∙ ap in_order c.in_ok-letters.ensures)
-        ∙ sym (received_in_order 0 combining (sym c.combines.ensures ∙ c.if-combines.false) c.args.parcels.now) in
+    ap messages (sorted_in_order c.in_ok-letters.letters.items sorted
+    (IsNonDecreasingBy-from_sort (λ x. x.0) sorted
+    (c.in_ok-sort_by_key.ensures.sorted (λ x. x.0) (always_returns_same _ _ _ (λ a r f k. search (rules, of_calls)))))
+    (c.in_ok-sort_by_key.ensures.stable (λ x. x.0) (always_returns_same _ _ _ (λ a r f k. search (rules, of_calls))))
+    ∙ ap in_order c.in_ok-letters.ensures)
+    ∙ sym (received_in_order 0 combining (sym c.combines.ensures ∙ c.if-combines.false) c.args.parcels.now) in
     IfOk-weaker c.messages_of.result _ _ (λ inbox is. is ∙ all) c.messages_of.ensures
