@@ -7,3 +7,4 @@ pub mod Grouping
 pub mod Replacing
 pub mod SameDelivery
 pub mod Senders
+pub mod Taking

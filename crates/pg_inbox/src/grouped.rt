@@ -17,8 +17,7 @@ pub(crate) fn grouped<X: Drop>(
     ensures { IfOk result (λ groups. AreGroups items.items groups.items) }
 {
     items.sort_by_key(|item| item.0)?;
-    let groups = side_by_side(alloc, items)?;
-    Ok(groups)
+    side_by_side(alloc, items)
 }
 
 /// Items that stand by rising target already.

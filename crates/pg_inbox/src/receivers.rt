@@ -29,8 +29,7 @@ pub fn inboxes<M: Plain, C: MessageCombiner<M>>(
 {
     let parcels = all_parcels(alloc, bundles)?;
     let groups = grouped(alloc, parcels)?;
-    let inboxes = inboxes_of(alloc, groups, combiner)?;
-    Ok(inboxes)
+    inboxes_of(alloc, groups, combiner)
 }
 
 /// What all bundles have for each of their targets, bundle by bundle.

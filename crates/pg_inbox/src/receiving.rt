@@ -30,8 +30,7 @@ pub fn inbox<M: Plain, C: MessageCombiner<M>>(
     ensures { IfOk result (λ inbox. Delivers (C.combining combiner.now) id (map (λ b. b.now) bundles.now) inbox.items) }
 {
     let parcels = parcels_at(alloc, bundles, id)?;
-    let inbox = received(alloc, parcels.as_slice(), combiner)?;
-    Ok(inbox)
+    received(alloc, parcels.as_slice(), combiner)
 }
 
 /// What the bundles have for a vertex, bundle by bundle.
@@ -78,13 +77,11 @@ pub(crate) fn received<M: Plain, C: MessageCombiner<M>>(
 {
     if combiner.combines() {
         let parts = folded_in(alloc, parcels)?;
-        let inbox = combined(alloc, parts.as_slice(), combiner)?;
-        return Ok(inbox);
+        return combined(alloc, parts.as_slice(), combiner);
     }
     let mut letters = letters_in(alloc, parcels)?;
     letters.sort_by_key(|letter| letter.0)?;
-    let inbox = messages_of(alloc, letters)?;
-    Ok(inbox)
+    messages_of(alloc, letters)
 }
 
 /// What the messages of each bundle come to.

@@ -1,6 +1,7 @@
 use Rattle.std.proofs.Common.{of_calls, rules}
 use Rattle.std.proofs.lemmas.Fn.{always_returns_same}
 use Rattle.std.proofs.lemmas.List.Sorted.{IsNonDecreasingBy-from_sort}
+use Rattle.std.proofs.lemmas.Result.{IfOk-weaker}
 use Rattle.pg_inbox.proofs.Grouping.{groups_of_sorted}
 use Rattle.pg_inbox.proofs.grouped.grouped.Goals as goal
 
@@ -11,5 +12,6 @@ side_by_side-requires g c =
 
 pub returns : goal.returns
 returns g c =
-    groups_of_sorted c.args.items.items c.sort_by_key.new.self.items c.in_ok-groups.groups.items
-    (c.in_ok-sort_by_key.ensures.stable (λ i. i.0) (always_returns_same _ _ _ (λ a r f k. search (rules, of_calls)))) c.in_ok-groups.ensures
+    let stable = c.in_ok-sort_by_key.ensures.stable (λ i. i.0) (always_returns_same _ _ _ (λ a r f k. search (rules, of_calls))) in
+    IfOk-weaker c.side_by_side.result _ _ (λ groups is. groups_of_sorted c.args.items.items c.sort_by_key.new.self.items groups.items stable is)
+    c.side_by_side.ensures

@@ -1,6 +1,8 @@
-use Rattle.std.proofs.Common.{◌∷◌, [], ◌++◌, ap, ◌∙◌}
+use Rattle.std.proofs.Common.{◌∷◌, [], ◌++◌, ap, ◌∙◌, map, subst, sym}
 use Rattle.pg_inbox.specs.Holding.{as_item}
 use Rattle.pg_inbox.proofs.Filling.{all_pushed, mapped_more}
+use Rattle.std.proofs.lemmas.List.{take_all}
+use Rattle.std.specs.List.{AllByRecursion}
 use Rattle.pg_inbox.proofs.making.letters_of.Goals as goal
 
 pub loop-sender-preserved : goal.loop-sender-preserved
@@ -13,3 +15,16 @@ loop-sender-preserved g c =
           c.loop-sender.invariant.items (pushed ∙ ap (λ m. before ++ (send.1, (send.0, m)) ∷ []) c.in_ok-message.ensures);
       values = all_pushed (λ l. g.M.Plain.is_value l.1.1) before c.loop-sender.invariant.values pushed c.fits.ensures;
     }
+
+pub returns-clause-items : goal.returns-clause-items
+returns-clause-items g c =
+    c.loop-sender.invariant.items ∙ ap (map as_item) (take_all c.loop-sender.sender-index c.args.sent.now c.loop-sender-test.false)
+
+pub returns-clause-values : goal.returns-clause-values
+returns-clause-values g c = c.loop-sender.invariant.values
+
+pub loop-sender-init : goal.loop-sender-init
+loop-sender-init g c = record {
+  items = c.in_ok-letters.ensures.items;
+  values = subst (AllByRecursion (λ l. g.M.Plain.is_value l.1.1)) (sym c.in_ok-letters.ensures.items) tt;
+}

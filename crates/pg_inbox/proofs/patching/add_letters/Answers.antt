@@ -1,7 +1,7 @@
 use Rattle.std.proofs.Common.{◌++◌, ap, subst, sym, ◌∙◌}
 use Rattle.std.specs.List.{AllByRecursion}
-use Rattle.std.proofs.lemmas.List.{append-nil}
-use Rattle.pg_inbox.specs.Mending.{added_by}
+use Rattle.std.proofs.lemmas.List.{append-nil, take_all}
+use Rattle.pg_inbox.specs.Mending.{added_by, additions}
 use Rattle.pg_inbox.proofs.Filling.{gathered_after}
 use Rattle.pg_inbox.proofs.patching.add_letters.Goals as goal
 use Rattle.pg_inbox.proofs.patching.add_letters.Goals.{in-Added+in_ok-add_letter, in_default}
@@ -23,3 +23,14 @@ loop-mend-preserved g c =
         values = subst (λ v. AllByRecursion (λ l. g.M.Plain.is_value l.1) v.items) (sym w.after-is) c.loop-mend.invariant.values;
       }
     ]
+
+pub add_letter-requires-after_bounds : goal.add_letter-requires-after_bounds
+add_letter-requires-after_bounds g c κs within = c.loop-mend.invariant.values
+
+pub returns-clause-items : goal.returns-clause-items
+returns-clause-items g c =
+    c.loop-mend.invariant.items
+    ∙ ap (λ l. c.args.after.now.items ++ additions l) (take_all c.loop-mend.mend-index c.args.mends.now c.loop-mend-test.false)
+
+pub returns-clause-values : goal.returns-clause-values
+returns-clause-values g c = c.loop-mend.invariant.values

@@ -16,3 +16,8 @@ invariant_of-result g c =
     let changes = c.as_slice.ensures.value in
     subst (HoldAll is_value) (sym (c.in_ok-change.ensures.ok ∙ ap₂ with_changes changes c.in_ok-parcels.ensures))
     (hold-changes is_value c.in_ok-changes.changes.items c.old.inside.parcels c.in_ok-changes.ensures.hold c.old.invariant)
+
+pub returns : goal.returns
+returns g c =
+    c.in_ok-change.ensures.ok
+    ∙ ap₂ with_changes (c.as_slice.ensures.value ∙ c.in_ok-changes.ensures.items) (c.in_ok-parcels.ensures ∙ c.old.view_is)

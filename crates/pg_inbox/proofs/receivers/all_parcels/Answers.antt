@@ -1,7 +1,9 @@
-use Rattle.std.proofs.Common.{subst}
+use Rattle.std.proofs.Common.{subst, ap, ◌∙◌}
 use Rattle.std.proofs.ByRecursion.{All-more}
 use Rattle.pg_map.specs.Entries.{HasRisingIds}
 use Rattle.pg_inbox.proofs.Filling.{gathered_more}
+use Rattle.std.specs.List.{AllByRecursion, flat_map}
+use Rattle.std.proofs.lemmas.List.{take_all}
 use Rattle.pg_inbox.proofs.receivers.all_parcels.Goals as goal
 
 pub loop-bundle-preserved : goal.loop-bundle-preserved
@@ -13,3 +15,19 @@ loop-bundle-preserved g c = record {
       (subst (λ b. HasRisingIds b.now) c.bundle-item.is c.in_ok-add_parcels.ensures.rise);
   hold = c.in_ok-add_parcels.ensures.hold;
 }
+
+pub add_parcels-requires-after_bounds : goal.add_parcels-requires-after_bounds
+add_parcels-requires-after_bounds g c κs within = c.loop-bundle.invariant.hold
+
+pub returns-clause-items : goal.returns-clause-items
+returns-clause-items g c =
+    c.loop-bundle.invariant.items
+    ∙ ap (flat_map (λ b. b.now)) (take_all c.loop-bundle.bundle-index c.args.bundles.now c.loop-bundle-test.false)
+
+pub returns-clause-rise : goal.returns-clause-rise
+returns-clause-rise g c =
+    subst (AllByRecursion (λ b. HasRisingIds b.now)) (take_all c.loop-bundle.bundle-index c.args.bundles.now c.loop-bundle-test.false)
+    c.loop-bundle.invariant.rise
+
+pub returns-clause-hold : goal.returns-clause-hold
+returns-clause-hold g c = c.loop-bundle.invariant.hold

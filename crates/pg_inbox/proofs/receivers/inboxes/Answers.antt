@@ -1,5 +1,6 @@
 use Rattle.std.proofs.Common.{◌∙◌, map, subst, sym}
 use Rattle.std.specs.List.{AllByRecursion}
+use Rattle.std.proofs.lemmas.Result.{IfOk-weaker}
 use Rattle.pg_map.specs.Entries.{HasRisingIds}
 use Rattle.pg_inbox.specs.Grouping.{AreGroups}
 use Rattle.pg_inbox.specs.Holding.{Holds}
@@ -15,8 +16,9 @@ returns g c =
     let bundles = map (λ b. b.now) c.args.bundles.now in
     let groups = c.in_ok-groups.groups.items in
     let all = c.in_ok-parcels.ensures.items ∙ sym (flat_map-of_map (λ b. b) (λ b. b.now) c.args.bundles.now) in
-    subst (AreInboxes combining bundles) (sym c.in_ok-inboxes.ensures)
-    (are_inboxes is_value combining (laws.lawful c.args.combiner.now) bundles groups
+    let are =
+    are_inboxes is_value combining (laws.lawful c.args.combiner.now) bundles groups
     (subst (λ l. AreGroups l groups) all c.in_ok-groups.ensures)
     (all_to_map HasRisingIds (λ b. b.now) c.args.bundles.now c.in_ok-parcels.ensures.rise)
-    (subst (AllByRecursion (λ e. Holds is_value e.1)) all c.in_ok-parcels.ensures.hold))
+    (subst (AllByRecursion (λ e. Holds is_value e.1)) all c.in_ok-parcels.ensures.hold) in
+    IfOk-weaker c.inboxes_of.result _ _ (λ inboxes is. subst (AreInboxes combining bundles) (sym is) are) c.inboxes_of.ensures

@@ -1,4 +1,5 @@
 use Rattle.std.proofs.Common.{ap, ◌∙◌, map, subst, sym}
+use Rattle.std.proofs.lemmas.Result.{IfOk-weaker}
 use Rattle.pg_map.specs.Entries.{value_at}
 use Rattle.pg_inbox.specs.Holding.{HoldsAt}
 use Rattle.pg_inbox.specs.Inboxes.{Delivers, received_of}
@@ -12,7 +13,10 @@ returns g c =
     let bundles = c.args.bundles.now in
     let is_value = g.M.Plain.is_value in
     let laws = g.met.C.MessageCombiner g.world.𝓛 g.world.𝓜 g.world.𝓡 ((λ s x. x), (λ x. x), (λ x. x), λ x. x) in
-    subst (Delivers combining id (map (λ b. b.now) bundles))
-    (sym (c.in_ok-inbox.ensures ∙ ap (received_of combining) (c.as_slice.ensures.value ∙ c.in_ok-parcels.ensures.items)))
-    (delivers_received id is_value combining (laws.lawful c.args.combiner.now) (map (λ b. b.now) bundles)
-    (all_to_map (λ b. HoldsAt is_value (value_at id b)) (λ b. b.now) bundles c.in_ok-parcels.ensures.hold))
+    let delivers =
+    delivers_received id is_value combining (laws.lawful c.args.combiner.now) (map (λ b. b.now) bundles)
+    (all_to_map (λ b. HoldsAt is_value (value_at id b)) (λ b. b.now) bundles c.in_ok-parcels.ensures.hold) in
+    let parcels = c.as_slice.ensures.value ∙ c.in_ok-parcels.ensures.items in
+    IfOk-weaker c.received.result _ _
+    (λ inbox is. subst (Delivers combining id (map (λ b. b.now) bundles)) (sym (is ∙ ap (received_of combining) parcels)) delivers)
+    c.received.ensures

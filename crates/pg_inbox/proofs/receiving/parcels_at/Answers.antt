@@ -2,11 +2,12 @@ use Rattle.std.proofs.Common.{◌++◌, ap, map, subst, sym, ◌∙◌}
 use Rattle.std.specs.Option.{option_to_list}
 use Rattle.std.proofs.ByRecursion.{All-more}
 use Rattle.std.proofs.lemmas.Grind.{flat_map-append}
-use Rattle.std.proofs.lemmas.List.{append-nil, map-append}
+use Rattle.std.proofs.lemmas.List.{append-nil, map-append, take_all}
 use Rattle.pg_map.specs.Entries.{value_at}
 use Rattle.pg_inbox.specs.Holding.{HoldsAt}
 use Rattle.pg_inbox.specs.Inboxes.{contents_to}
 use Rattle.pg_inbox.proofs.Filling.{joined_more}
+use Rattle.std.specs.List.{AllByRecursion}
 use Rattle.pg_inbox.proofs.receiving.parcels_at.Goals as goal
 
 pub loop-bundle-preserved : goal.loop-bundle-preserved
@@ -25,3 +26,13 @@ loop-bundle-preserved g c =
       hold = All-more (λ b. HoldsAt g.M.Plain.is_value (value_at id b.now)) all i bundle c.loop-bundle-test.true c.loop-bundle.invariant.hold
           (subst (λ b. HoldsAt g.M.Plain.is_value (value_at id b.now)) c.bundle-item.is c.in_ok-add_parcel.ensures.holds);
     }
+
+pub returns-clause-items : goal.returns-clause-items
+returns-clause-items g c =
+    c.loop-bundle.invariant.items
+    ∙ ap (λ bs. contents_to c.args.id (map (λ b. b.now) bs)) (take_all c.loop-bundle.bundle-index c.args.bundles.now c.loop-bundle-test.false)
+
+pub returns-clause-hold : goal.returns-clause-hold
+returns-clause-hold g c =
+    subst (AllByRecursion (λ b. HoldsAt g.M.Plain.is_value (value_at c.args.id b.now)))
+    (take_all c.loop-bundle.bundle-index c.args.bundles.now c.loop-bundle-test.false) c.loop-bundle.invariant.hold

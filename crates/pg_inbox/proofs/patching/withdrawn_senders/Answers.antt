@@ -1,0 +1,22 @@
+use Rattle.std.proofs.Common.{◌||◌, ap, refl, subst, sym, take, ◌∙◌}
+use Rattle.std.proofs.lemmas.List.{take_all}
+use Rattle.pg_model.specs.Superstep.{has_id}
+use Rattle.pg_inbox.specs.Mending.{HasJust, senders_of, withdrawn_by}
+use Rattle.pg_inbox.proofs.Differing.{has_id-append}
+use Rattle.pg_inbox.proofs.Filling.{gathered_more}
+use Rattle.pg_inbox.proofs.patching.withdrawn_senders.Goals as goal
+
+pub loop-mend-preserved : goal.loop-mend-preserved
+loop-mend-preserved g c id =
+    let i = c.loop-mend.mend-index in
+    let mends = c.args.mends.now in
+    let more = withdrawn_by c.mend-item.result in
+    c.in_ok-add_if_withdrawn.ensures id
+    ∙ ap (λ b. b || has_id more id) (c.loop-mend.invariant id)
+    ∙ sym (has_id-append (senders_of (take i mends)) more id)
+    ∙ ap (λ l. has_id l id) (gathered_more withdrawn_by mends i c.loop-mend-test.true c.mend-item.is refl refl)
+
+pub returns : goal.returns
+returns g c =
+    subst (λ l. HasJust c.loop-mend.senders (senders_of l)) (take_all c.loop-mend.mend-index c.args.mends.now c.loop-mend-test.false)
+    c.loop-mend.invariant
