@@ -1,11 +1,14 @@
 // Which vertices are called in a run beside an old one, by a program that notes its calls.
+ghost use Rattle.std.specs.Prelude.{◌≡◌, true};
+ghost use Rattle.pg_global.specs.Master.{has_places};
+
 use crate::course::{SIZES, cold_run, warm_run};
 use crate::graphs::{graph_of, id};
 use crate::noting::Noting;
 use pg_course::Partitioner;
-use pg_global::AnyCombiner;
+use pg_global::{AnyCombiner, MessageCombiner};
 use pg_graph::{Graph, VertexId};
-use pg_program::Tally;
+use pg_program::{Computation, Tally};
 use std::alloc::Global;
 use std::fmt::Write;
 use std::process::Abort;
@@ -23,14 +26,16 @@ fn noted(alloc: Global, program: &Noting<Tally>, count: u64) -> Result<String, F
 }
 
 // How many calls a run from scratch makes in two supersteps.
-fn calls_alone(
+fn calls_alone<P: Computation, C: MessageCombiner<P::Message>>(
     alloc: Global,
     graph: &Graph,
     partitioner: Partitioner,
-    program: &Noting<Tally>,
-) -> Result<u64, Fail> {
-    let combiner = AnyCombiner::NoCombiner;
-    let made = cold_run(alloc, graph, partitioner, &[0, 0], program, &combiner)?;
+    program: &P,
+    combiner: &C,
+) -> Result<u64, Fail>
+    requires { has_places (P.program program.now).declared 0 ≡ true }
+{
+    let made = cold_run(alloc, graph, partitioner, &[0, 0], program, combiner)?;
     Ok(made.meter.count())
 }
 
@@ -38,22 +43,26 @@ fn calls_alone(
 fn called(alloc: Global, graph: &Graph, partitions: u32) -> Result<String, Fail> {
     let partitioner = Partitioner::new(partitions).ok_or("no such number of partitions")?;
     let program = Noting::of(alloc, Tally)?;
-    let calls = calls_alone(alloc, graph, partitioner, &program)?;
+    let combiner = AnyCombiner::NoCombiner;
+    let calls = calls_alone(alloc, graph, partitioner, &program, &combiner)?;
     noted(alloc, &program, calls)
 }
 
 // How many calls a run makes beside one on another graph, where edits named these ids.
-fn calls_beside(
+fn calls_beside<P: Computation, C: MessageCombiner<P::Message>>(
     alloc: Global,
     before: &Graph,
     after: &Graph,
     touched: &[VertexId],
     partitioner: Partitioner,
-    first: &Noting<Tally>,
-    program: &Noting<Tally>,
-) -> Result<u64, Fail> {
-    let combiner = AnyCombiner::NoCombiner;
-    let old = cold_run(alloc, before, partitioner, &[0, 0], first, &combiner)?;
+    first: &P,
+    program: &P,
+    combiner: &C,
+) -> Result<u64, Fail>
+    requires first { has_places (P.program first.now).declared 0 ≡ true }
+    requires second { has_places (P.program program.now).declared 0 ≡ true }
+{
+    let old = cold_run(alloc, before, partitioner, &[0, 0], first, combiner)?;
     let made = warm_run(
         alloc,
         after,
@@ -62,7 +71,7 @@ fn calls_beside(
         touched,
         &[0, 0],
         program,
-        &combiner,
+        combiner,
     )?;
     Ok(made.meter.count())
 }
@@ -77,7 +86,17 @@ fn called_beside(
 ) -> Result<String, Fail> {
     let partitioner = Partitioner::new(partitions).ok_or("no such number of partitions")?;
     let (first, program) = (Noting::of(alloc, Tally)?, Noting::of(alloc, Tally)?);
-    let calls = calls_beside(alloc, before, after, touched, partitioner, &first, &program)?;
+    let combiner = AnyCombiner::NoCombiner;
+    let calls = calls_beside(
+        alloc,
+        before,
+        after,
+        touched,
+        partitioner,
+        &first,
+        &program,
+        &combiner,
+    )?;
     noted(alloc, &program, calls)
 }
 

@@ -80,6 +80,30 @@ fn log<M: Plain>(
     Ok(())
 }
 
+// Adds a course one superstep further. What it sends is put into the logs.
+fn add_further<P: Computation, C: MessageCombiner<P::Message>>(
+    alloc: Global,
+    all: &mut Vec<Course<P::Value, P::Message>>,
+    course: Course<P::Value, P::Message>,
+    logs: &mut Logs<P::Message>,
+    visible: &Visible,
+    old_logs: &Logs<P::Message>,
+    beside: bool,
+    program: &P,
+    combiner: &C,
+    meter: &mut Meter,
+) -> Result<(), Fail>
+    requires declared { has_places (P.program program.now).declared 0 ≡ true }
+    requires shown { length visible.now.values ≡ 0 }
+{
+    let (partition, place) = (course.partition(), course.place());
+    let (course, sent) = stepped(
+        alloc, course, logs, visible, old_logs, beside, program, combiner, meter,
+    )?;
+    all.push(course)?;
+    log(alloc, logs, place, partition, sent)
+}
+
 // Each course one superstep further, with as many edges as are told. What it sends is put into the logs.
 fn further<P: Computation, C: MessageCombiner<P::Message>>(
     alloc: Global,
@@ -97,12 +121,9 @@ fn further<P: Computation, C: MessageCombiner<P::Message>>(
     let visible = showing(alloc, total_edges);
     let mut all = Vec::new(alloc);
     for course in courses {
-        let (partition, place) = (course.partition(), course.place());
-        let (course, sent) = stepped(
-            alloc, course, logs, &visible, old_logs, beside, program, combiner, meter,
+        add_further(
+            alloc, &mut all, course, logs, &visible, old_logs, beside, program, combiner, meter,
         )?;
-        log(alloc, logs, place, partition, sent)?;
-        all.push(course)?;
     }
     Ok(all)
 }
