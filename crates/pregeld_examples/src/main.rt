@@ -85,20 +85,41 @@ fn sessions(rt: &HostRuntime, folder: &str) -> io::Result<Vec<String>> {
     Ok(paths)
 }
 
+/// What a file of a folder has.
+fn bytes_in(rt: &HostRuntime, folder: &str, file: &str) -> io::Result<Vec<u8>> {
+    fs::read(rt, format!(in rt.alloc(); "{folder}/{file}")?)
+}
+
+/// The same as text.
+fn text_in(rt: &HostRuntime, folder: &str, file: &str) -> io::Result<String> {
+    fs::read_to_string(rt, format!(in rt.alloc(); "{folder}/{file}")?)
+}
+
 /// Whether the program, on the words and the input of a folder, ends well with the output that is
 /// stored there, and says nothing else, on each of these numbers of partitions.
 fn is_answered_as_stored(rt: &HostRuntime, name: &str, partitions: &[&str]) -> io::Result<bool> {
     let alloc = rt.alloc();
-    let args = fs::read_to_string(rt, format!(in alloc; "{name}/args")?)?;
-    let input = fs::read(rt, format!(in alloc; "{name}/stdin")?)?;
+    let args = text_in(rt, name, "args")?;
+    let input = bytes_in(rt, name, "stdin")?;
     let wanted = Wanted {
         status: 0,
-        output: fs::read(rt, format!(in alloc; "{name}/stdout")?)?,
+        output: bytes_in(rt, name, "stdout")?,
         errors: Vec::new(alloc),
     };
+    is_answered_on_each(alloc, args.as_str(), partitions, input.as_slice(), &wanted)
+}
+
+/// Whether the program, started with these words on each of these numbers of partitions, ends as is wanted.
+fn is_answered_on_each(
+    alloc: Global,
+    args: &str,
+    partitions: &[&str],
+    input: &[u8],
+    wanted: &Wanted,
+) -> io::Result<bool> {
     for partitions in partitions {
-        let words = words_of(alloc, args.as_str(), partitions)?;
-        if !is_answered(alloc, words.as_slice(), input.as_slice(), &wanted) {
+        let words = words_of(alloc, args, partitions)?;
+        if !is_answered(alloc, words.as_slice(), input, wanted) {
             return Ok(false);
         }
     }
@@ -107,13 +128,22 @@ fn is_answered_as_stored(rt: &HostRuntime, name: &str, partitions: &[&str]) -> i
 
 /// Whether the program, on each command line of a folder and on its input, ends as is stored there.
 fn are_answered_as_stored(rt: &HostRuntime, name: &str) -> io::Result<bool> {
-    let alloc = rt.alloc();
-    let lines = fs::read_to_string(rt, format!(in alloc; "{name}/words")?)?;
-    let input = fs::read(rt, format!(in alloc; "{name}/stdin")?)?;
+    let lines = text_in(rt, name, "words")?;
+    let input = bytes_in(rt, name, "stdin")?;
     let wanted = wanted_in(rt, name)?;
+    are_lines_answered(rt.alloc(), lines.as_str(), input.as_slice(), &wanted)
+}
+
+/// Whether the program, started with each of these command lines, ends as is wanted.
+fn are_lines_answered(
+    alloc: Global,
+    lines: &str,
+    input: &[u8],
+    wanted: &Wanted,
+) -> io::Result<bool> {
     for line in lines.lines() {
         let words = words_in(alloc, line)?;
-        if !is_answered(alloc, words.as_slice(), input.as_slice(), &wanted) {
+        if !is_answered(alloc, words.as_slice(), input, wanted) {
             return Ok(false);
         }
     }
@@ -122,14 +152,23 @@ fn are_answered_as_stored(rt: &HostRuntime, name: &str) -> io::Result<bool> {
 
 /// What is stored in a folder of command lines.
 fn wanted_in(rt: &HostRuntime, name: &str) -> io::Result<Wanted> {
-    let alloc = rt.alloc();
-    let status = fs::read_to_string(rt, format!(in alloc; "{name}/status")?)?;
-    let status = status.as_str().trim_end().parse();
+    let status = status_in(rt, name)?;
+    let output = bytes_in(rt, name, "stdout")?;
+    let errors = bytes_in(rt, name, "stderr")?;
     Ok(Wanted {
-        status: status.map_err(|_| io::Error::from(io::ErrorKind::InvalidData))?,
-        output: fs::read(rt, format!(in alloc; "{name}/stdout")?)?,
-        errors: fs::read(rt, format!(in alloc; "{name}/stderr")?)?,
+        status,
+        output,
+        errors,
     })
+}
+
+/// The exit status that is stored there.
+fn status_in(rt: &HostRuntime, name: &str) -> io::Result<u8> {
+    let status = text_in(rt, name, "status")?;
+    match status.as_str().trim_end().parse() {
+        Ok(status) => Ok(status),
+        Err(_) => Err(io::Error::from(io::ErrorKind::InvalidData)),
+    }
 }
 
 /// The words of a command line, with a space between two of them.
