@@ -1,12 +1,14 @@
 -- Parts of a list of edges, and the rows that have them.
-use Rattle.std.proofs.Common.{◌≡◌, ℕ, ◌+◌, ◌≤◌, List, [], ◌∷◌, ◌++◌, length, take, drop, Some, refl, sym, ap, ◌∙◌, subst, arith}
-use Rattle.std.proofs.lemmas.List.{take-append-le, drop-append-le, length-append, length-drop, map-append}
+use Rattle.std.proofs.Common.{◌≡◌, ℕ, ◌+◌, ◌<◌, ◌≤◌, List, [], ◌∷◌, ◌++◌, length, get_or, map, take, drop, Some}
+use Rattle.std.proofs.Common.{refl, sym, ap, ◌∙◌, subst, arith}
+use Rattle.std.proofs.lemmas.List.{take-append-le, drop-append-le, drop_all, length-append, length-drop, map-append}
 use Rattle.std.proofs.Math.Seq.{drop-append_seam, take-length}
 use Rattle.pg_edits.specs.ChangedRows.{changes_of}
 use Rattle.pg_edits.specs.EdgeList.{EdgeList, IsRising}
 use Rattle.pg_edits.specs.Edges.{IsPart, part_of}
 use Rattle.pg_edits.specs.Packing.{AreParts, row_of, rows_of}
 use Rattle.pg_edits.specs.declared.packing.Waiting.{Waiting}
+use Rattle.pg_edits.proofs.Moved.{first_of_rest, moved_one, moved_all}
 
 -- a part stays where edges come behind
 part_stays : (first degree : ℕ) (edges more : EdgeList) → first + degree ≤ length edges
@@ -76,3 +78,19 @@ module _ (waiting : List Waiting) (edges more : EdgeList) (w : Waiting) (parts :
       ∙ ap (λ rows. rows ++ ((row_of (edges ++ more) w).0, Some (row_of (edges ++ more) w).1) ∷ []) (changes_stay waiting edges more parts)
       ∙ ap (λ l. changes_of waiting edges ++ (w.id, Some (record { input = w.input; edges = l })) ∷ [])
       (ap (λ n. part_of n w.degree (edges ++ more)) first ∙ ap (λ n. part_of (length edges) n (edges ++ more)) degree ∙ part_behind edges more)
+
+-- a row is made of the first that waits, and at last none is left
+module _ (waiting : List Waiting) (i : ℕ) {w : Waiting} (within : i < length waiting) (is : w ≡ get_or waiting i w) where
+  pub first_part : (edges : EdgeList) → AreParts (drop i waiting) edges → IsPart w.first w.degree edges
+  first_part edges parts = (subst (λ l. AreParts l edges) (first_of_rest waiting i within is) parts).0
+
+  pub parts_left : (edges : EdgeList) → AreParts (drop i waiting) edges → AreParts (drop (i + 1) waiting) edges
+  parts_left edges parts = (subst (λ l. AreParts l edges) (first_of_rest waiting i within is) parts).1
+
+  pub made_one : {X : Type 0} (f : Waiting → X) (before : List X) {after whole : List X} → before ++ map f (drop i waiting) ≡ whole
+      → after ≡ before ++ f w ∷ [] → after ++ map f (drop (i + 1) waiting) ≡ whole
+  made_one f before = moved_one before (map f (drop (i + 1) waiting)) (ap (map f) (first_of_rest waiting i within is))
+
+pub made_all : {X : Type 0} (f : Waiting → X) (waiting : List Waiting) (i : ℕ) (made : List X) {whole : List X} → length waiting ≤ i
+    → made ++ map f (drop i waiting) ≡ whole → made ≡ whole
+made_all f waiting i made over = moved_all made (ap (map f) (drop_all i waiting over))
