@@ -1,13 +1,15 @@
 -- Edges that stand once: which of them were named, with one more or one more named.
 use Rattle.std.proofs.Common.{◌≡◌, ℕ, zero, suc, ◌<◌, ◌≤◌, ◌⊎◌, inl, inr, Bool, true, false, ◌&&◌, ◌||◌, cond, List, [], ◌∷◌, ◌++◌, Some, refl, ap}
-use Rattle.std.proofs.Common.{sym, ◌∙◌, subst, arith, slice_set, ◌+◌}
+use Rattle.std.proofs.Common.{sym, ◌∙◌, subst, arith, slice_set, ◌+◌, length, get_or, take}
 use Rattle.std.specs.BTreeMap.{is_at}
 use Rattle.std.specs.List.{AllByRecursion, slice_get}
 use Rattle.std.specs.Ordering.{nat_cmp}
 use Rattle.std.proofs.lemmas.Bool.{cases_Bool, true≢false}
+use Rattle.std.proofs.lemmas.List.{take_more}
+use Rattle.std.proofs.lemmas.Option.{slice_get-get_or}
 use Rattle.pg_import.proofs.Graphs.{cmp-refl, is_at-sym, same_from_is_at}
 use Rattle.pg_import.proofs.SeenFacts.{Some_same}
-use Rattle.pg_import.specs.NamedEdges.{AreBefore, AreDistinct, IsApart, is_edge, named_in}
+use Rattle.pg_import.specs.NamedEdges.{AreBefore, AreDistinct, IsApart, StandsAt, is_edge, named_in}
 use Rattle.pg_import.specs.declared.named_edges.NamedEdge.{NamedEdge}
 
 -- ---- tests of numbers
@@ -71,6 +73,22 @@ module _ (P : NamedEdge → Type 0) where
   all_set [] i e all more = tt
   all_set (x ∷ xs) zero e all more = (more, all.1)
   all_set (x ∷ xs) (suc i) e all more = (all.0, all_set xs i e all.1 more)
+
+-- ---- an edge at a place is the one that is looked for, or another one
+and-both : (b c : Bool) → (b && c) ≡ true → (b ≡ true) × (c ≡ true)
+and-both true c both = (refl, both)
+and-both false c both = absurd (true≢false (sym both))
+
+pub stands_at : (s t : ℕ) (es : List NamedEdge) (i : ℕ) {e : NamedEdge} → i < length es → e ≡ get_or es i e → is_edge s t e ≡ true → StandsAt s t es i
+stands_at s t es i {e} within is there =
+    let both = and-both (is_at (nat_cmp e.source) s) (is_at (nat_cmp e.target) t) there in
+    (e, slice_get-get_or es i e within ∙ ap (λ x. Some x) (sym is), same_from_is_at e.source s both.0, same_from_is_at e.target t both.1)
+
+pub IsApart-more : (s t : ℕ) (es : List NamedEdge) (i : ℕ) {e : NamedEdge} → i < length es → e ≡ get_or es i e → IsApart s t (take i es)
+    → is_edge s t e ≡ false → IsApart s t (take (i + 1) es)
+IsApart-more s t es i {e} within is all apart =
+    subst (IsApart s t) (sym (take_more es i e within ∙ ap (λ x. take i es ++ x ∷ []) (sym is)))
+    (all_push (λ x. is_edge s t x ≡ false) (take i es) e all apart)
 
 -- ---- an edge apart from all was not named
 pub named_in-apart : (s t : ℕ) (es : List NamedEdge) → IsApart s t es → named_in s t es ≡ false
