@@ -3,6 +3,7 @@ pub mod Dealing
 pub mod Drafting
 pub mod Edited
 pub mod Laws
+pub mod Moved
 pub mod RowLaw
 pub mod RowsMade
 pub mod Search
