@@ -1,3 +1,2 @@
 pub mod AtPlace
-pub mod Moved
 pub mod SideBySide

@@ -8,7 +8,7 @@ use Rattle.pg_edits.specs.EdgeList.{EdgeList, IsRising}
 use Rattle.pg_edits.specs.Edges.{IsPart, part_of}
 use Rattle.pg_edits.specs.Packing.{AreParts, row_of, rows_of}
 use Rattle.pg_edits.specs.declared.packing.Waiting.{Waiting}
-use Rattle.pg_edits.proofs.Moved.{first_of_rest, moved_one, moved_all}
+use Rattle.pg_map.proofs.Moved.{first_of_rest, moved_one, moved_all}
 
 -- a part stays where edges come behind
 part_stays : (first degree : ℕ) (edges more : EdgeList) → first + degree ≤ length edges

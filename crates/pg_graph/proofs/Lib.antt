@@ -3,7 +3,6 @@ pub mod Dealing
 pub mod Drafting
 pub mod Edited
 pub mod Laws
-pub mod Moved
 pub mod RowLaw
 pub mod RowsMade
 pub mod Search

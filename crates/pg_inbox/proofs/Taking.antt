@@ -1,22 +1,13 @@
--- Steps and ends of loops that take a list to pieces: what they took is moved, counted or combined.
+-- Steps and ends of loops that take a list to pieces: what they took is counted or combined.
 use Rattle.std.proofs.Common.{◌≡◌, ℕ, ◌+◌, IfSome, IsSome, true, false, List, Option, None, Some, [], ◌∷◌, ◌++◌}
-use Rattle.std.proofs.Common.{refl, ap, sym, ◌∙◌, arith, append_assoc, true≢false}
+use Rattle.std.proofs.Common.{refl, ap, sym, ◌∙◌, arith, true≢false}
 use Rattle.std.specs.List.{fold, sum_by}
-use Rattle.std.proofs.lemmas.List.{append-nil}
 use Rattle.std.proofs.lemmas.List.Sums.{fold_push, sum_by-cons}
 use Rattle.pg_model.specs.Job.{Combining}
 use Rattle.pg_model.specs.Superstep.{combined, is_empty}
 use Rattle.pg_inbox.proofs.Bundling.{some_not_empty}
 
 module _ {X : Type 0} where
-  pub moved_one : (before rest : List X) {x : X} {after left whole : List X} → left ≡ x ∷ rest → before ++ left ≡ whole → after ≡ before ++ x ∷ []
-      → after ++ rest ≡ whole
-  moved_one before rest {x} next so_far pushed =
-      ap (λ l. l ++ rest) pushed ∙ append_assoc before (x ∷ []) rest ∙ ap (λ l. before ++ l) (sym next) ∙ so_far
-
-  pub moved_all : (before : List X) {left whole : List X} → left ≡ [] → before ++ left ≡ whole → before ≡ whole
-  moved_all before none so_far = sym (append-nil before) ∙ ap (λ l. before ++ l) (sym none) ∙ so_far
-
   pub counted_one : (f : X → ℕ) (rest : List X) (before : ℕ) {x : X} {left : List X} {after whole : ℕ} → left ≡ x ∷ rest
       → before + sum_by f left ≡ whole → after ≡ before + f x → after + sum_by f rest ≡ whole
   counted_one f rest before {x} next so_far counted = omega (arith, so_far, counted, ap (sum_by f) next ∙ sum_by-cons f x rest)

@@ -3,6 +3,7 @@ pub mod Changing
 pub mod Cut
 pub mod InGroups
 pub mod InParts
+pub mod Moved
 pub mod Parts
 pub mod Replaced
 pub mod Rising

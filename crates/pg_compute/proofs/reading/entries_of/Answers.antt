@@ -1,5 +1,5 @@
 use Rattle.std.proofs.Common.{◌++◌, ap, ◌∙◌}
-use Rattle.pg_trace.proofs.Moved.{moved_all, moved_one}
+use Rattle.pg_map.proofs.Moved.{moved_all, moved_one}
 use Rattle.pg_compute.proofs.reading.entries_of.Goals as goal
 
 pub loop-entry-init : goal.loop-entry-init

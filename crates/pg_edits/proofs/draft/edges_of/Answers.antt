@@ -1,6 +1,6 @@
 use Rattle.std.proofs.Common.{◌≡◌, [], ◌∷◌, ◌++◌, w64, to_z, of_z, ap, sym, ◌∙◌, subst, rules}
 use Rattle.pg_edits.specs.EdgeList.{IsRising}
-use Rattle.pg_edits.proofs.Moved.{moved_one, moved_all}
+use Rattle.pg_map.proofs.Moved.{moved_one, moved_all}
 use Rattle.pg_edits.proofs.draft.edges_of.Goals as goal
 
 pub loop-target-preserved : goal.loop-target-preserved

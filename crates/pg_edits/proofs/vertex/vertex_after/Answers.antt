@@ -4,7 +4,7 @@ use Rattle.pg_edits.specs.declared.row.Row.{Row}
 use Rattle.pg_edits.specs.declared.edit.Edit.{Edit}
 use Rattle.pg_edits.specs.declared.edit.EditKind.{EditKind}
 use Rattle.pg_edits.specs.declared.edit.EditFault.{EditFault}
-use Rattle.pg_edits.proofs.Moved.{first_of_rest}
+use Rattle.pg_map.proofs.Moved.{first_of_rest}
 use Rattle.pg_edits.proofs.vertex.vertex_after.Goals as goal
 
 -- what is made of the edits that are left, by what is made of the first of them

@@ -1,7 +1,7 @@
 use Rattle.std.proofs.Common.{◌+◌, ◌∷◌, drop, ap, sym, ◌∙◌, arith}
 use Rattle.std.proofs.lemmas.List.{drop_all, drop_more}
 use Rattle.pg_graph.specs.RowEdit.{placed}
-use Rattle.pg_graph.proofs.Moved.{moved_all, moved_one}
+use Rattle.pg_map.proofs.Moved.{moved_all, moved_one}
 use Rattle.pg_graph.proofs.grouped.placed.Goals as goal
 
 pub loop-edit-preserved : goal.loop-edit-preserved

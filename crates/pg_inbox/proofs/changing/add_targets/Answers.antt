@@ -1,4 +1,4 @@
-use Rattle.pg_inbox.proofs.Taking.{moved_all, moved_one}
+use Rattle.pg_map.proofs.Moved.{moved_all, moved_one}
 use Rattle.pg_inbox.proofs.changing.add_targets.Goals as goal
 
 pub loop-id-preserved : goal.loop-id-preserved

@@ -3,7 +3,7 @@ use Rattle.std.specs.List.Sorted.{IsStrictlySortedBy}
 use Rattle.std.specs.Ordering.{nat_cmp}
 use Rattle.pg_inbox.proofs.Differing.{rises-more, told-more, AreTold, changed_all, told-none}
 use Rattle.std.proofs.lemmas.List.{nil_from_length}
-use Rattle.pg_inbox.proofs.Taking.{moved_all}
+use Rattle.pg_map.proofs.Moved.{moved_all}
 use Rattle.pg_inbox.proofs.changing.differing_among.Goals as goal
 
 pub loop-id-preserved : goal.loop-id-preserved

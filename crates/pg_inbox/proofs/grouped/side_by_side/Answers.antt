@@ -5,7 +5,7 @@ use Rattle.pg_map.specs.Entries.{HasRisingIds}
 use Rattle.pg_inbox.proofs.Grouping.{at_most-items, before_at_most, rises-items, with_items-push}
 use Rattle.std.proofs.lemmas.List.{nil_from_length}
 use Rattle.pg_inbox.specs.Grouping.{with_item, with_items}
-use Rattle.pg_inbox.proofs.Taking.{moved_all}
+use Rattle.pg_map.proofs.Moved.{moved_all}
 use Rattle.pg_inbox.proofs.grouped.side_by_side.Goals as goal
 
 pub put_last-requires-clause-rise : goal.put_last-requires-clause-rise

@@ -2,7 +2,7 @@ use Rattle.std.proofs.Common.{ℕ, [], ◌∷◌, ◌++◌, ap, append_assoc, sy
 use Rattle.std.proofs.lemmas.List.{nil_from_length}
 use Rattle.pg_inbox.specs.Bundles.{messages}
 use Rattle.pg_inbox.proofs.Filling.{mapped_taken}
-use Rattle.pg_inbox.proofs.Taking.{moved_all}
+use Rattle.pg_map.proofs.Moved.{moved_all}
 use Rattle.pg_inbox.proofs.receiving.messages_of.Goals as goal
 
 pub loop-message-init : goal.loop-message-init

@@ -1,4 +1,4 @@
-use Rattle.pg_trace.proofs.Moved.{moved_one}
+use Rattle.pg_map.proofs.Moved.{moved_one}
 use Rattle.pg_trace.proofs.beginnings.keys_of.Goals as goal
 
 pub loop-id-preserved : goal.loop-id-preserved

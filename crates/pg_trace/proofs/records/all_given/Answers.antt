@@ -1,5 +1,5 @@
 use Rattle.std.proofs.Common.{◌++◌, ◌∷◌, [], Some, ap, map, ◌∙◌}
-use Rattle.pg_trace.proofs.Moved.{moved_one}
+use Rattle.pg_map.proofs.Moved.{moved_one}
 use Rattle.pg_trace.proofs.records.all_given.Goals as goal
 
 pub loop-id-preserved : goal.loop-id-preserved

@@ -1,6 +1,6 @@
 use Rattle.std.proofs.Common.{◌++◌, ◌∷◌, [], ap, sym, ◌∙◌}
 use Rattle.std.proofs.lemmas.List.{nil_from_length}
-use Rattle.pg_trace.proofs.Moved.{moved_all, moved_one}
+use Rattle.pg_map.proofs.Moved.{moved_all, moved_one}
 use Rattle.pg_trace.proofs.records.changes_kept.Goals as goal
 
 pub loop-id-preserved : goal.loop-id-preserved

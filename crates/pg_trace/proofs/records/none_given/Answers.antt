@@ -1,5 +1,5 @@
 use Rattle.std.proofs.Common.{None, ap, map}
-use Rattle.pg_trace.proofs.Moved.{moved_one}
+use Rattle.pg_map.proofs.Moved.{moved_one}
 use Rattle.pg_trace.proofs.records.none_given.Goals as goal
 
 pub loop-id-preserved : goal.loop-id-preserved

@@ -1,6 +1,6 @@
 use Rattle.std.proofs.Common.{drop, ◌+◌, ◌∙◌}
 use Rattle.std.proofs.lemmas.List.{drop_all}
-use Rattle.pg_edits.proofs.Moved.{first_of_rest, moved_one, moved_all}
+use Rattle.pg_map.proofs.Moved.{first_of_rest, moved_one, moved_all}
 use Rattle.pg_edits.proofs.packing.RowPack.packed.Goals as goal
 
 pub loop-id-preserved : goal.loop-id-preserved

@@ -5,7 +5,7 @@ use Rattle.pg_graph.specs.Draft.{IsCounted, Makes}
 use Rattle.pg_graph.specs.Edit.{edge_limit, vertex_limit}
 use Rattle.pg_graph.specs.Rows.{Rows}
 use Rattle.pg_graph.specs.declared.draft.Changes.{Changes as Changing}
-use Rattle.pg_graph.proofs.Moved.{moved_all, moved_one}
+use Rattle.pg_map.proofs.Moved.{moved_all, moved_one}
 use Rattle.pg_graph.proofs.draft.Draft.into_changes.Goals as goal
 
 makes : (graph : Rows) (changes : Changes) (vertices : ℕ) (made : Changing) → IsCounted graph changes vertices made.edges
