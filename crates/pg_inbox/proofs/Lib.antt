@@ -2,7 +2,6 @@ pub mod AtPlaces
 pub mod Bundling
 pub mod Delivery
 pub mod Differing
-pub mod Filling
 pub mod Grouping
 pub mod Replacing
 pub mod SameDelivery

@@ -1,6 +1,7 @@
 pub mod Begun
 pub mod Changing
 pub mod Cut
+pub mod Filling
 pub mod InGroups
 pub mod InParts
 pub mod Moved

@@ -1,7 +1,7 @@
 use Rattle.std.proofs.Common.{take, sym, subst}
 use Rattle.std.proofs.lemmas.List.{take_all}
 use Rattle.std.specs.List.{AllByRecursion}
-use Rattle.pg_inbox.proofs.Filling.{all_pushed}
+use Rattle.pg_map.proofs.Filling.{all_pushed}
 use Rattle.pg_routing.proofs.Listing.{one_taken}
 use Rattle.pg_compute.proofs.found.tell_messages.Goals as goal
 

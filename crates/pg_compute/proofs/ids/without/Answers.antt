@@ -1,6 +1,6 @@
 use Rattle.std.proofs.Common.{◌≡◌, ℕ, Bool, not, cond, List, [], ◌∷◌, ◌++◌, ap, sym, ◌∙◌}
 use Rattle.std.proofs.lemmas.List.{append-nil, take_all}
-use Rattle.pg_inbox.proofs.Filling.{kept_more}
+use Rattle.pg_map.proofs.Filling.{kept_more}
 use Rattle.pg_model.specs.Superstep.{has_id}
 use Rattle.pg_compute.specs.Differing.{without}
 use Rattle.pg_compute.proofs.ids.without.Goals.{then-not-is_among+in_ok-push, else-not-is_among}

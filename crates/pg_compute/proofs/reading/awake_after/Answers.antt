@@ -2,7 +2,7 @@ use Rattle.std.proofs.Common.{◌≡◌, ℕ, Bool, not, cond, List, [], ◌∷�
 use Rattle.std.proofs.lemmas.List.{append-nil, map-append, take_all}
 use Rattle.std.proofs.lemmas.List.Elements.{filter-append}
 use Rattle.std.specs.List.{filter}
-use Rattle.pg_inbox.proofs.Filling.{joined_more}
+use Rattle.pg_map.proofs.Filling.{joined_more}
 use Rattle.pg_model.specs.declared.record.Record.{Record}
 use Rattle.pg_compute.specs.Lists.{awake_after}
 use Rattle.pg_trace.specs.Trace.{lent}

@@ -1,6 +1,6 @@
 use Rattle.std.proofs.Common.{[], ◌∷◌, ◌++◌, ◌≤◌, ◌<◌, length, ap, ap₂, refl, rules, subst, sym, ◌∙◌}
 use Rattle.std.proofs.lemmas.List.{take_all}
-use Rattle.pg_inbox.proofs.Filling.{joined_more}
+use Rattle.pg_map.proofs.Filling.{joined_more}
 use Rattle.pg_inbox.proofs.changing.are_same_letters.Goals as goal
 
 pub returns-then-len : goal.returns-then-len

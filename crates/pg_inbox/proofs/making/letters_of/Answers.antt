@@ -1,6 +1,6 @@
 use Rattle.std.proofs.Common.{◌∷◌, [], ◌++◌, ap, ◌∙◌, map, subst, sym}
 use Rattle.pg_inbox.specs.Holding.{as_item}
-use Rattle.pg_inbox.proofs.Filling.{all_pushed, mapped_more}
+use Rattle.pg_map.proofs.Filling.{all_pushed, mapped_more}
 use Rattle.std.proofs.lemmas.List.{take_all}
 use Rattle.std.specs.List.{AllByRecursion}
 use Rattle.pg_inbox.proofs.making.letters_of.Goals as goal

@@ -2,7 +2,7 @@ use Rattle.std.proofs.Common.{ℕ, List, ◌++◌, ◌∷◌, [], ap, append_ass
 use Rattle.std.specs.List.{AllByRecursion}
 use Rattle.pg_inbox.specs.Bundles.{contents_of}
 use Rattle.pg_inbox.specs.Holding.{IsLetters}
-use Rattle.pg_inbox.proofs.Filling.{mapped_taken}
+use Rattle.pg_map.proofs.Filling.{mapped_taken}
 use Rattle.std.proofs.lemmas.List.{nil_from_length}
 use Rattle.pg_map.proofs.Moved.{moved_all}
 use Rattle.pg_inbox.proofs.making.parcels_of.Goals as goal

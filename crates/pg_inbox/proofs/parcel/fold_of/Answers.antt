@@ -2,7 +2,7 @@ use Rattle.std.proofs.Common.{refl, subst, IfSome, ◌≡◌, take}
 use Rattle.std.specs.List.{fold}
 use Rattle.std.proofs.lemmas.List.{take_all}
 use Rattle.pg_inbox.specs.Bundles.{messages}
-use Rattle.pg_inbox.proofs.Filling.{mapped_more}
+use Rattle.pg_map.proofs.Filling.{mapped_more}
 use Rattle.pg_inbox.proofs.Taking.{combined_one}
 use Rattle.pg_inbox.proofs.parcel.fold_of.Goals as goal
 

@@ -1,7 +1,7 @@
 use Rattle.std.proofs.Common.{◌++◌, ◌∷◌, [], ap, ◌∙◌, map}
 use Rattle.pg_inbox.specs.Mending.{as_addition}
 use Rattle.pg_inbox.specs.declared.patching.Mend.TheVariants.{Added}
-use Rattle.pg_inbox.proofs.Filling.{mapped_after}
+use Rattle.pg_map.proofs.Filling.{mapped_after}
 use Rattle.std.proofs.lemmas.List.{take_all}
 use Rattle.pg_inbox.proofs.patching.add_additions.Goals as goal
 

@@ -1,6 +1,6 @@
 use Rattle.std.proofs.Common.{◌++◌, ◌∷◌, [], ap, ◌∙◌}
 use Rattle.pg_inbox.specs.Holding.{HoldsAt}
-use Rattle.pg_inbox.proofs.Filling.{all_pushed}
+use Rattle.pg_map.proofs.Filling.{all_pushed}
 use Rattle.pg_inbox.proofs.patching.add_change.Goals as goal
 
 pub returns : goal.returns

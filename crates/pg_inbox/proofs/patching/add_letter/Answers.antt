@@ -1,6 +1,6 @@
 use Rattle.std.proofs.Common.{[], ◌∷◌, ◌++◌, ap, subst, sym, ◌∙◌}
 use Rattle.std.specs.List.{AllByRecursion}
-use Rattle.pg_inbox.proofs.Filling.{all_pushed}
+use Rattle.pg_map.proofs.Filling.{all_pushed}
 use Rattle.pg_inbox.proofs.patching.add_letter.Goals as goal
 
 pub returns-in_err-message-clause-values : goal.returns-in_err-message-clause-values

@@ -2,7 +2,7 @@ use Rattle.std.proofs.Common.{◌++◌, ap, subst, sym, ◌∙◌}
 use Rattle.std.specs.List.{AllByRecursion}
 use Rattle.std.proofs.lemmas.List.{append-nil, take_all}
 use Rattle.pg_inbox.specs.Mending.{added_by, additions}
-use Rattle.pg_inbox.proofs.Filling.{gathered_after}
+use Rattle.pg_map.proofs.Filling.{gathered_after}
 use Rattle.pg_inbox.proofs.patching.add_letters.Goals as goal
 use Rattle.pg_inbox.proofs.patching.add_letters.Goals.{in-Added+in_ok-add_letter, in_default}
 

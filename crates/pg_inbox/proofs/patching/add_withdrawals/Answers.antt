@@ -1,5 +1,5 @@
 use Rattle.pg_inbox.specs.Mending.{as_withdrawal}
-use Rattle.pg_inbox.proofs.Filling.{mapped_after}
+use Rattle.pg_map.proofs.Filling.{mapped_after}
 use Rattle.std.proofs.Common.{◌++◌, ap, map, ◌∙◌}
 use Rattle.std.proofs.lemmas.List.{take_all}
 use Rattle.pg_inbox.proofs.patching.add_withdrawals.Goals as goal

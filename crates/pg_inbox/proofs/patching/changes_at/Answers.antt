@@ -1,5 +1,5 @@
 use Rattle.pg_inbox.specs.Mending.{mended_at, changes_of}
-use Rattle.pg_inbox.proofs.Filling.{mapped_more}
+use Rattle.pg_map.proofs.Filling.{mapped_more}
 use Rattle.std.proofs.Common.{ap, ◌∙◌, subst, sym}
 use Rattle.std.proofs.lemmas.List.{take_all}
 use Rattle.std.specs.List.{AllByRecursion}

@@ -1,7 +1,7 @@
 use Rattle.std.proofs.Common.{◌<◌, not, subst, ◌≤◌, ap, ◌∙◌}
 use Rattle.std.specs.BTreeSet.{contains}
 use Rattle.std.specs.Ordering.{nat_cmp}
-use Rattle.pg_inbox.proofs.Filling.{kept_more}
+use Rattle.pg_map.proofs.Filling.{kept_more}
 use Rattle.std.proofs.lemmas.List.{take_all}
 use Rattle.pg_inbox.specs.Mending.{others}
 use Rattle.pg_inbox.proofs.patching.staying_letters.Goals as goal

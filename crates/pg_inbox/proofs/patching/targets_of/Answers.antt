@@ -1,4 +1,4 @@
-use Rattle.pg_inbox.proofs.Filling.{mapped_more}
+use Rattle.pg_map.proofs.Filling.{mapped_more}
 use Rattle.std.proofs.Common.{ap, ◌∙◌}
 use Rattle.std.specs.Map.{keys_of}
 use Rattle.std.proofs.lemmas.List.{take_all}

@@ -3,7 +3,7 @@ use Rattle.std.proofs.lemmas.List.{take_all}
 use Rattle.pg_model.specs.Superstep.{has_id}
 use Rattle.pg_inbox.specs.Mending.{HasJust, senders_of, withdrawn_by}
 use Rattle.pg_inbox.proofs.Differing.{has_id-append}
-use Rattle.pg_inbox.proofs.Filling.{gathered_more}
+use Rattle.pg_map.proofs.Filling.{gathered_more}
 use Rattle.pg_inbox.proofs.patching.withdrawn_senders.Goals as goal
 
 pub loop-mend-preserved : goal.loop-mend-preserved

@@ -1,7 +1,7 @@
 use Rattle.std.proofs.Common.{◌++◌, ◌∷◌, [], ap, subst, sym, ◌∙◌}
 use Rattle.pg_map.specs.Entries.{HasRisingIds}
 use Rattle.pg_inbox.specs.Holding.{Holds}
-use Rattle.pg_inbox.proofs.Filling.{all_pushed}
+use Rattle.pg_map.proofs.Filling.{all_pushed}
 use Rattle.pg_map.proofs.Moved.{moved_all, moved_one}
 use Rattle.std.specs.List.{AllByRecursion}
 use Rattle.pg_inbox.proofs.receivers.add_parcels.Goals as goal

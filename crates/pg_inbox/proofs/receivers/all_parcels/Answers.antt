@@ -1,7 +1,7 @@
 use Rattle.std.proofs.Common.{subst, ap, ◌∙◌}
 use Rattle.std.proofs.ByRecursion.{All-more}
 use Rattle.pg_map.specs.Entries.{HasRisingIds}
-use Rattle.pg_inbox.proofs.Filling.{gathered_more}
+use Rattle.pg_map.proofs.Filling.{gathered_more}
 use Rattle.std.specs.List.{AllByRecursion, flat_map}
 use Rattle.std.proofs.lemmas.List.{take_all}
 use Rattle.pg_inbox.proofs.receivers.all_parcels.Goals as goal

@@ -2,7 +2,7 @@ use Rattle.std.proofs.Common.{ℕ, List, [], ◌∷◌, ◌++◌, map, ap, appen
 use Rattle.std.proofs.lemmas.List.{nil_from_length}
 use Rattle.pg_inbox.specs.Inboxes.{received_of}
 use Rattle.pg_inbox.specs.declared.parcel.Contents.{Contents}
-use Rattle.pg_inbox.proofs.Filling.{mapped_taken}
+use Rattle.pg_map.proofs.Filling.{mapped_taken}
 use Rattle.pg_map.proofs.Moved.{moved_all}
 use Rattle.pg_inbox.proofs.receivers.inboxes_of.Goals as goal
 

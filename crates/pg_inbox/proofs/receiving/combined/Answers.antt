@@ -1,7 +1,7 @@
 use Rattle.std.proofs.Common.{[], ◌∷◌, ◌++◌, ap, refl, subst, sym, ◌∙◌, IfSome, ◌≡◌, take}
 use Rattle.std.specs.List.{fold}
 use Rattle.std.proofs.lemmas.List.{take_all}
-use Rattle.pg_inbox.proofs.Filling.{joined_more}
+use Rattle.pg_map.proofs.Filling.{joined_more}
 use Rattle.pg_inbox.proofs.Taking.{combined_all, combined_none, combined_one}
 use Rattle.pg_inbox.proofs.receiving.combined.Goals.{then-not-is_empty+in_ok-so_far+else-loop-message-test+in_ok-push, else-not-is_empty}
 use Rattle.pg_inbox.proofs.receiving.combined.Goals as goal

@@ -1,6 +1,6 @@
 use Rattle.std.proofs.Common.{◌≤◌, ◌<◌, [], ◌∷◌, ◌++◌, ap, refl, subst, ◌∙◌}
 use Rattle.std.proofs.lemmas.List.{take_all}
-use Rattle.pg_inbox.proofs.Filling.{joined_after}
+use Rattle.pg_map.proofs.Filling.{joined_after}
 use Rattle.pg_inbox.proofs.receiving.copy_letters.Goals as goal
 
 pub letter-letter-requires-after_bounds : goal.letter-letter-requires-after_bounds

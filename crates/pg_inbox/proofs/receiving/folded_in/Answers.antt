@@ -2,7 +2,7 @@ use Rattle.std.proofs.Common.{◌∷◌, [], ◌++◌, ap, sym, ◌∙◌}
 use Rattle.std.specs.List.{flat_map}
 use Rattle.std.specs.Option.{option_copied, option_to_list}
 use Rattle.std.proofs.lemmas.List.{append-nil, take_all}
-use Rattle.pg_inbox.proofs.Filling.{gathered_more}
+use Rattle.pg_map.proofs.Filling.{gathered_more}
 use Rattle.pg_inbox.proofs.receiving.folded_in.Goals.{in-Some+in_ok-copy+in_ok-push, in_default}
 use Rattle.pg_inbox.proofs.receiving.folded_in.Goals as goal
 

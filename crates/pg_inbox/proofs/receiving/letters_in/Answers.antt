@@ -1,6 +1,6 @@
 use Rattle.std.proofs.Common.{ap, flat_map, ◌∙◌}
 use Rattle.std.proofs.lemmas.List.{take_all}
-use Rattle.pg_inbox.proofs.Filling.{gathered_more}
+use Rattle.pg_map.proofs.Filling.{gathered_more}
 use Rattle.pg_inbox.proofs.receiving.letters_in.Goals as goal
 
 pub loop-parcel-preserved : goal.loop-parcel-preserved

@@ -6,7 +6,7 @@ use Rattle.std.proofs.lemmas.List.{append-nil, map-append, take_all}
 use Rattle.pg_map.specs.Entries.{value_at}
 use Rattle.pg_inbox.specs.Holding.{HoldsAt}
 use Rattle.pg_inbox.specs.Inboxes.{contents_to}
-use Rattle.pg_inbox.proofs.Filling.{joined_more}
+use Rattle.pg_map.proofs.Filling.{joined_more}
 use Rattle.std.specs.List.{AllByRecursion}
 use Rattle.pg_inbox.proofs.receiving.parcels_at.Goals as goal
 
