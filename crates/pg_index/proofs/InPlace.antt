@@ -65,6 +65,14 @@ module _ {X : Type 0} where
   ran_at steps e f None = None
   ran_at steps e f (Some t) = option_map {U = Ran X} (λ last. record { steps = steps; last = last; earlier = e }) (f t)
 
+  -- what is made of the record of the last superstep, if there is one
+  pub ran_found : (id : ℕ) (records : List (List (ℕ × X))) (s : ℕ) (given : Option X) (earlier : Option (ℕ × X)) (steps : List ℕ) (t : ℕ) {kept : Option X}
+      → Some t ≡ last_of steps → kept ≡ cond (t == s) given (value_at id (get_or records t []))
+      → option_map {U = Ran X} (λ last. record { steps = steps; last = last; earlier = earlier }) kept ≡ ran_by id records s given earlier steps
+  ran_found id records s given earlier steps t last is =
+      ap (option_map {U = Ran X} (λ last. record { steps = steps; last = last; earlier = earlier })) is
+      ∙ ap (ran_at steps earlier (λ t. cond (t == s) given (value_at id (get_or records t [])))) last
+
   -- where all supersteps are below one, the last of them is remembered
   recalled : (s : ℕ) (ran : Ran X) → ((k : ℕ) → k < length ran.steps → get_or ran.steps k 0 < s)
       → remembered s true (Some ran) ≡ option_map {U = ℕ × X} (λ t. (t, ran.last)) (last_of ran.steps)

@@ -1,3 +1,4 @@
+pub mod Filling
 pub mod InPlace
 pub mod Last
 pub mod Noting

@@ -1,6 +1,6 @@
--- A step and the end of a loop that moves what it takes from one list to another.
-use Rattle.std.proofs.Common.{◌≡◌, ℕ, ◌+◌, ◌<◌, List, [], ◌∷◌, ◌++◌, length, get_or, drop, ap, sym, ◌∙◌, append_assoc}
-use Rattle.std.proofs.lemmas.List.{append-nil, drop_more}
+-- Steps and ends of loops that move what they take from one list to another, or copy it.
+use Rattle.std.proofs.Common.{◌≡◌, ℕ, ◌+◌, ◌<◌, List, [], ◌∷◌, ◌++◌, length, get_or, take, drop, ap, sym, ◌∙◌, append_assoc}
+use Rattle.std.proofs.lemmas.List.{append-nil, drop_more, take_more}
 
 module _ {X : Type 0} where
   pub first_of_rest : (xs : List X) (i : ℕ) {x : X} → i < length xs → x ≡ get_or xs i x → drop i xs ≡ x ∷ drop (i + 1) xs
@@ -13,3 +13,8 @@ module _ {X : Type 0} where
 
   pub moved_all : (before : List X) {left whole : List X} → left ≡ [] → before ++ left ≡ whole → before ≡ whole
   moved_all before none so_far = sym (append-nil before) ∙ ap (λ l. before ++ l) (sym none) ∙ so_far
+
+  pub taken_more : (xs : List X) (i : ℕ) {x : X} {before after : List X} → i < length xs → x ≡ get_or xs i x → before ≡ take i xs
+      → after ≡ before ++ x ∷ [] → after ≡ take (i + 1) xs
+  taken_more xs i {x} within is so_far pushed =
+      pushed ∙ ap (λ l. l ++ x ∷ []) so_far ∙ ap (λ y. take i xs ++ y ∷ []) is ∙ sym (take_more xs i x within)

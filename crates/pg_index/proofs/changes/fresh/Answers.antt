@@ -1,5 +1,6 @@
 use Rattle.std.proofs.Common.{◌≡◌, ◌++◌, [], ◌∷◌, IfOk, append_assoc, sym, ap, ◌∙◌, subst}
 use Rattle.std.proofs.lemmas.List.{append-nil, nil_from_length}
+use Rattle.std.proofs.lemmas.Result.{IfOk-from_err}
 use Rattle.pg_map.specs.Entries.{HasRisingIds}
 use Rattle.pg_index.proofs.Somes.{somes, somes_are, somes_rise}
 use Rattle.pg_index.proofs.changes.fresh.Goals as goal
@@ -31,3 +32,14 @@ returns g c =
     let done : left.items ≡ [] = nil_from_length left.items (sym left.ok.0 ∙ c.in-None.ensures.steps.0) in
     let all = sym (append-nil c.loop-id.there.items) ∙ ap (λ l. c.loop-id.there.items ++ somes l) (sym done) ∙ c.loop-id.invariant in
     subst (λ l. IfOk c.from_rising.result (λ records. records ≡ l)) (all ∙ somes_are c.args.changes.items c.requires) c.from_rising.ensures
+
+pub loop-id-init : goal.loop-id-init
+loop-id-init g c =
+    let start = c.into_iter-id-iterator in
+    ap (λ l. l ++ somes start.result.rest.items) c.in_ok-there.ensures.items ∙ ap somes start.ensures.into_iter_gives.0
+
+pub returns-in_err-there : goal.returns-in_err-there
+returns-in_err-there g c = IfOk-from_err c.from_residual.result _ c.from_residual.ensures.0
+
+pub returns-in_err-push : goal.returns-in_err-push
+returns-in_err-push g c = IfOk-from_err c.from_residual-in_err-push.result _ c.from_residual-in_err-push.ensures.0

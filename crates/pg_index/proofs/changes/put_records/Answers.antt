@@ -1,5 +1,8 @@
-use Rattle.std.proofs.Common.{◌≡◌, ◌++◌, [], ◌∷◌, ◌≤◌, length, sym, ap, ◌∙◌, arith}
-use Rattle.pg_index.proofs.InPlace.{put-next}
+use Rattle.std.proofs.Common.{◌≡◌, ◌++◌, [], ◌∷◌, ◌≤◌, ◌<◌, length, set, sym, ap, ◌∙◌, subst, arith}
+use Rattle.std.proofs.lemmas.List.{get_or_default}
+use Rattle.std.proofs.lemmas.Result.{IfOk-from_err}
+use Rattle.pg_map.specs.Entries.{HasRisingIds, with_changes}
+use Rattle.pg_index.proofs.InPlace.{put-next, put-there}
 use Rattle.pg_index.proofs.Noting.{rises_past}
 use Rattle.pg_index.proofs.changes.put_records.Goals as goal
 
@@ -13,3 +16,40 @@ pub returns-then-place-len-clause-rising : goal.returns-then-place-len-clause-ri
 returns-then-place-len-clause-rising g c =
     let past : length c.args.supersteps.items ≤ c.args.place = omega (arith, c.if-place-len.true, c.len.ensures) in
     rises_past c.args.supersteps.items c.args.place past
+
+pub returns-clause-put : goal.returns-clause-put
+returns-clause-put g c =
+    let rs = c.args.supersteps.items in
+    let s = c.args.place in
+    let changes = c.args.changes.items in
+    let within : s < length rs = omega (arith, c.if-place-len.false, c.len.ensures, c.requires.within) in
+    ap (set rs s) (c.in_ok-supersteps.ensures
+    ∙ ap (with_changes changes) (c.in_ok-records.ensures ∙ c.index.ensures ∙ get_or_default rs s c.index.result.now [] within))
+    ∙ sym (put-there rs s changes within)
+
+pub returns-clause-rising : goal.returns-clause-rising
+returns-clause-rising g c =
+    let rs = c.args.supersteps.items in
+    let s = c.args.place in
+    let within : s < length rs = omega (arith, c.if-place-len.false, c.len.ensures, c.requires.within) in
+    subst (λ l. HasRisingIds l) (c.in_ok-records.ensures ∙ c.index.ensures ∙ get_or_default rs s c.index.result.now [] within) c.tell_rising.ensures
+
+pub returns-in_err-fresh : goal.returns-in_err-fresh
+returns-in_err-fresh g c =
+    let none = c.from_residual.ensures.0 in
+    record { put = IfOk-from_err c.from_residual.result _ none; rising = IfOk-from_err c.from_residual.result _ none }
+
+pub returns-in_err-push : goal.returns-in_err-push
+returns-in_err-push g c =
+    let none = c.from_residual-in_err-push.ensures.0 in
+    record { put = IfOk-from_err c.from_residual-in_err-push.result _ none; rising = IfOk-from_err c.from_residual-in_err-push.result _ none }
+
+pub returns-in_err-records : goal.returns-in_err-records
+returns-in_err-records g c =
+    let none = c.from_residual-in_err-records.ensures.0 in
+    record { put = IfOk-from_err c.from_residual-in_err-records.result _ none; rising = IfOk-from_err c.from_residual-in_err-records.result _ none }
+
+pub returns-in_err-supersteps : goal.returns-in_err-supersteps
+returns-in_err-supersteps g c =
+    let none = c.from_residual-in_err-supersteps.ensures.0 in
+    record { put = IfOk-from_err c.from_residual-in_err-supersteps.result _ none; rising = IfOk-from_err c.from_residual-in_err-supersteps.result _ none }

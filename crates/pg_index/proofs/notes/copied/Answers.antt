@@ -1,5 +1,6 @@
 use Rattle.std.proofs.Common.{◌++◌, ◌∷◌, [], append_assoc, ap, sym, ◌∙◌}
 use Rattle.std.proofs.lemmas.List.{append-nil}
+use Rattle.std.proofs.lemmas.Result.{IfOk-from_err}
 use Rattle.pg_index.proofs.notes.copied.Goals as goal
 
 pub loop-id-preserved : goal.loop-id-preserved
@@ -15,3 +16,15 @@ pub returns-clause-copies : goal.returns-clause-copies
 returns-clause-copies g c =
     let all = c.loop-id.copies.items in
     sym (append-nil all) ∙ ap (λ l. all ++ l) (sym c.in-None.ensures.steps.0) ∙ c.loop-id.invariant
+
+pub returns-clause-rise : goal.returns-clause-rise
+returns-clause-rise g c = c.len.ensures.ordered
+
+pub returns-in_err-copies : goal.returns-in_err-copies
+returns-in_err-copies g c = record { copies = IfOk-from_err c.from_residual.result _ c.from_residual.ensures.0; rise = c.len.ensures.ordered }
+
+pub returns-in_err-shared_if_any : goal.returns-in_err-shared_if_any
+returns-in_err-shared_if_any g c = record { copies = IfOk-from_err c.from_residual-in_err-shared_if_any.result _ c.from_residual-in_err-shared_if_any.ensures.0; rise = c.len.ensures.ordered }
+
+pub returns-in_err-push : goal.returns-in_err-push
+returns-in_err-push g c = record { copies = IfOk-from_err c.from_residual-in_err-push.result _ c.from_residual-in_err-push.ensures.0; rise = c.len.ensures.ordered }

@@ -1,5 +1,6 @@
 use Rattle.std.proofs.Common.{◌++◌, ◌∷◌, [], ap, sym, ◌∙◌}
 use Rattle.std.proofs.lemmas.List.{nil_from_length}
+use Rattle.std.proofs.lemmas.Result.{IfOk-from_err}
 use Rattle.pg_map.proofs.Moved.{moved_all, moved_one}
 use Rattle.pg_trace.proofs.records.all_kept.Goals as goal
 
@@ -13,3 +14,17 @@ pub returns : goal.returns
 returns g c =
     let left = c.loop-id.id-iterator.rest in
     moved_all c.loop-id.all.items (nil_from_length left.items (sym left.ok.0 ∙ c.in-None.ensures.steps.0)) c.loop-id.invariant
+
+pub loop-id-init : goal.loop-id-init
+loop-id-init g c =
+    let start = c.into_iter-id-iterator in
+    ap (λ l. l ++ start.result.rest.items) c.in_ok-all.ensures.items ∙ start.ensures.into_iter_gives.0
+
+pub returns-in_err-all : goal.returns-in_err-all
+returns-in_err-all g c = IfOk-from_err c.from_residual.result _ c.from_residual.ensures.0
+
+pub returns-in_err-of : goal.returns-in_err-of
+returns-in_err-of g c = IfOk-from_err c.from_residual-in_err-of.result _ c.from_residual-in_err-of.ensures.0
+
+pub returns-in_err-push : goal.returns-in_err-push
+returns-in_err-push g c = IfOk-from_err c.from_residual-in_err-push.result _ c.from_residual-in_err-push.ensures.0

@@ -1,7 +1,9 @@
-use Rattle.std.proofs.Common.{◌≡◌, ◌<◌, ◌+◌, ◌-◌, None, length, take, sym, ap, ◌∙◌, subst, arith}
+use Rattle.std.proofs.Common.{◌≡◌, ◌<◌, ◌≤◌, ◌+◌, ◌-◌, None, length, take, sym, ap, ◌∙◌, subst, subst₂, arith}
 use Rattle.std.specs.List.Sorted.{IsStrictlySortedBy}
 use Rattle.std.specs.Map.{keys_of}
 use Rattle.std.specs.Ordering.{nat_cmp}
+use Rattle.std.proofs.lemmas.List.{take_all}
+use Rattle.std.proofs.lemmas.Result.{IfOk-from_err, IfOk-weaker}
 use Rattle.pg_index.specs.Ran.{IsIndex, IsNoted}
 use Rattle.pg_index.proofs.Last.{index_rises}
 use Rattle.pg_index.proofs.Noting.{index-less, keys_map}
@@ -29,3 +31,31 @@ loop-left-preserved g c =
           (c.as_slice.ensures.value ∙ c.in_ok-none.ensures.none)
           (subst (λ l. IsNoted l (left - 1) c.as_slice.result.now c.loop-left.first c.in_ok-first-2.first) c.split_at.ensures.front c.in_ok-first-2.ensures);
     }
+
+pub loop-left-init : goal.loop-left-init
+loop-left-init g c =
+    let ss = c.args.supersteps.now in
+    let all : length ss ≤ length ss = omega arith in
+    record {
+      low = c.requires.within;
+      high = all;
+      index = subst₂ (λ records ran. IsIndex records ran) (sym (take_all (length ss) ss all)) (sym c.in_ok-first.ensures) c.requires.index;
+    }
+
+pub returns : goal.returns
+returns g c =
+    let ss = c.args.supersteps.now in
+    let first = c.loop-left.first in
+    let end : c.loop-left.left ≡ c.args.len = omega (arith, c.loop-left-test.false, c.loop-left.invariant.low) in
+    IfOk-weaker c.settled.result _ _
+    (λ after is. subst (λ ran. IsIndex (take c.args.len ss) ran) (sym is) (subst (λ n. IsIndex (take n ss) first) end c.loop-left.invariant.index))
+    c.settled.ensures
+
+pub returns-in_err-first : goal.returns-in_err-first
+returns-in_err-first g c = IfOk-from_err c.from_residual.result _ c.from_residual.ensures.0
+
+pub returns-in_err-none : goal.returns-in_err-none
+returns-in_err-none g c = IfOk-from_err c.from_residual-in_err-none.result _ c.from_residual-in_err-none.ensures.0
+
+pub returns-in_err-first-2 : goal.returns-in_err-first-2
+returns-in_err-first-2 g c = IfOk-from_err c.from_residual-in_err-first-2.result _ c.from_residual-in_err-first-2.ensures.0

@@ -2,10 +2,11 @@ use Rattle.std.proofs.Common.{Some, length, sym, ap, ◌∙◌, subst}
 use Rattle.std.specs.List.Sorted.{IsStrictlySortedBy}
 use Rattle.std.specs.Map.{keys_of}
 use Rattle.std.specs.Ordering.{nat_cmp}
-use Rattle.pg_map.specs.Entries.{value_at}
+use Rattle.pg_map.specs.Entries.{HasRisingIds, value_at}
 use Rattle.pg_index.specs.Ran.{IsIndex, IsNoted, noted}
 use Rattle.pg_index.proofs.Last.{index_rises}
 use Rattle.pg_index.proofs.Noting.{index-push, keys_map}
+use Rattle.pg_trace.proofs.Changed.{one_pushed}
 use Rattle.pg_trace.proofs.trace.Trace.push_superstep.Goals as goal
 
 pub noted_beside-requires-clause-rise : goal.noted_beside-requires-clause-rise
@@ -28,3 +29,10 @@ invariant_of-self-2 g c =
 
 pub invariant_of-self : goal.invariant_of-self
 invariant_of-self g c = subst (λ l. IsIndex l c.self.inside.ran) (sym c.in_err-push.ensures.items) c.self.invariant
+
+pub from_rising-requires : goal.from_rising-requires
+from_rising-requires g c = subst HasRisingIds (sym c.in_ok-all_kept.ensures) c.requires
+
+pub returns-clause-ok : goal.returns-clause-ok
+returns-clause-ok g c =
+    one_pushed c.args.records.items c.self.view_is (c.in_ok-records.ensures ∙ c.in_ok-all_kept.ensures) c.in_ok-push.ensures.items
