@@ -1,5 +1,5 @@
-pub mod Filling
 pub mod InPlace
+pub mod Keeping
 pub mod Last
 pub mod Noting
 pub mod Over

@@ -1,7 +1,7 @@
 use Rattle.std.proofs.Common.{◌++◌, get_or, nat_lt, ap, ◌∙◌}
 use Rattle.std.specs.List.{filter}
 use Rattle.std.proofs.lemmas.List.{take_all}
-use Rattle.pg_index.proofs.Filling.{kept_more, left_out}
+use Rattle.pg_index.proofs.Keeping.{kept_more, left_out}
 use Rattle.pg_index.proofs.Supersteps.{lower, not_lower}
 use Rattle.pg_index.proofs.ran.add_above.Goals as goal
 use Rattle.pg_index.proofs.ran.add_above.Goals.{then-superstep-step+in_ok-push, else-superstep-step}
