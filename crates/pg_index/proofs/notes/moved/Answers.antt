@@ -22,4 +22,6 @@ pub returns-in_err-list : goal.returns-in_err-list
 returns-in_err-list g c = record { list = IfOk-from_err c.from_residual.result _ c.from_residual.ensures.0; rise = c.len.ensures.ordered }
 
 pub returns-in_err-push : goal.returns-in_err-push
-returns-in_err-push g c = record { list = IfOk-from_err c.from_residual-in_err-push.result _ c.from_residual-in_err-push.ensures.0; rise = c.len.ensures.ordered }
+returns-in_err-push g c =
+    let error = c.from_residual-in_err-push in
+    record { list = IfOk-from_err error.result _ error.ensures.0; rise = c.len.ensures.ordered }
