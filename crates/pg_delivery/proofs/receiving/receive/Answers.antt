@@ -22,3 +22,19 @@ returns g c =
       waiting = c.in_ok-astray.ensures.waiting ∙ ap (waiting_after missing combining) strays ∙ arranged.waits missing combining ids;
       dropped = c.in_ok-astray.ensures.dropped ∙ ap (dropped_count missing) strays ∙ arranged.dropped missing ids;
     }
+
+pub deliver-requires-clause-ids : goal.deliver-requires-clause-ids
+deliver-requires-clause-ids g c = λ _ _. c.requires.ids
+
+pub deliver-requires-clause-rising : goal.deliver-requires-clause-rising
+deliver-requires-clause-rising g c = λ _ _. c.requires.rising
+
+pub deliver-requires-clause-empty : goal.deliver-requires-clause-empty
+deliver-requires-clause-empty g c = λ _ _. c.requires.empty
+
+pub deliver-requires-clause-lists : goal.deliver-requires-clause-lists
+deliver-requires-clause-lists g c = λ _ _ _. c.requires.lists
+
+pub active_in_order-requires : goal.active_in_order-requires
+active_in_order-requires g c listed =
+    subst (λ xs. ListsActive xs c.deliver.new.receivers.items) (sym c.as_slice-2.ensures.value) (c.in_ok-deliver.ensures.lists listed)

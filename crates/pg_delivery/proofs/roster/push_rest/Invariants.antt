@@ -4,4 +4,5 @@ use Rattle.pg_delivery.proofs.roster.push_rest.Given as goal
 
 abbrev pub invariant-loop-id : goal.invariant-loop-id
 invariant-loop-id g l =
-    l.merged.items ≡ l.initial.merged.items ++ map (made (g.P.Computation.program l.program)) l.yielded
+    l.merged.items ++ map (made (g.P.Computation.program l.program)) l.id-iterator.rest.items
+    ≡ l.initial.merged.items ++ map (made (g.P.Computation.program l.program)) l.fn.waiting.items
