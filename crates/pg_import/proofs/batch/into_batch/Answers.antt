@@ -1,10 +1,38 @@
-use Rattle.std.proofs.Common.{Some, take, ap, sym, ◌∙◌, arith}
+use Rattle.std.proofs.Common.{◌++◌, Some, take, ap, sym, ◌∙◌, arith}
 use Rattle.std.proofs.lemmas.Option.{slice_get-get_or}
+use Rattle.std.proofs.lemmas.Result.{IfOk-from_err}
 use Rattle.pg_import.proofs.BatchLaw.{Makes-batch_of}
 use Rattle.pg_import.proofs.BatchSteps.{batch_of-end, batch_of-more, with_lines-more}
 use Rattle.pg_import.proofs.Graphs.{has_vertex-with_ends}
 use Rattle.pg_import.specs.Batch.{batch_of, with_ends, with_lines, with_vertex}
 use Rattle.pg_import.proofs.batch.into_batch.Goals as goal
+
+pub loop-place-init : goal.loop-place-init
+loop-place-init c = record {
+  shows = c.in_ok-named.ensures c.args.graph.now;
+  so_far = ap (λ l. l ++ batch_of c.args.lines.now c.args.graph.now) c.in_ok-batch.ensures;
+}
+
+pub source_at-source-requires : goal.source_at-source-requires
+source_at-source-requires c =
+    let line = c.index-lines-place.result in
+    let at = slice_get-get_or c.args.lines.now c.loop-place.place line c.loop-place-test.true ∙ ap (λ l. Some l) (sym c.index-lines-place.is) in
+    λ x there. c.in_ok-seen.ensures.sources c.loop-place.place line x at there
+
+pub returns-in_err-push_vertex : goal.returns-in_err-push_vertex
+returns-in_err-push_vertex c =
+    let made = c.from_residual-in_err-push_vertex in
+    record { value = IfOk-from_err made.result _ made.ensures.0; makes = IfOk-from_err made.result _ made.ensures.0 }
+
+pub returns-in_err-push_vertex-2 : goal.returns-in_err-push_vertex-2
+returns-in_err-push_vertex-2 c =
+    let made = c.from_residual-in_err-push_vertex-2 in
+    record { value = IfOk-from_err made.result _ made.ensures.0; makes = IfOk-from_err made.result _ made.ensures.0 }
+
+pub returns-in_err-push_edge : goal.returns-in_err-push_edge
+returns-in_err-push_edge c =
+    let made = c.from_residual-in_err-push_edge in
+    record { value = IfOk-from_err made.result _ made.ensures.0; makes = IfOk-from_err made.result _ made.ensures.0 }
 
 pub target_at-target-requires : goal.target_at-target-requires
 target_at-target-requires c =
