@@ -1,5 +1,6 @@
 use Rattle.std.proofs.Common.{[], ◌∷◌, ◌++◌, ap, map, sym, ◌∙◌}
 use Rattle.std.proofs.lemmas.List.{append-nil, append_assoc}
+use Rattle.std.proofs.lemmas.Result.{IfOk-from_err}
 use Rattle.pg_model.specs.Run.{beginning}
 use Rattle.pg_scratch.proofs.beginning.standings_of.Goals as goal
 
@@ -19,3 +20,12 @@ returns g c =
     let begins = beginning (g.P.Computation.program c.args.program.now) in
     let items = c.loop-id.standings.items in
     sym (append-nil items) ∙ sym (ap (λ l. items ++ map begins l) c.in-None.ensures.steps.0) ∙ c.loop-id.invariant
+
+pub returns-in_err-standings : goal.returns-in_err-standings
+returns-in_err-standings g c = IfOk-from_err c.from_residual.result _ c.from_residual.ensures.0
+
+pub returns-in_err-standing_of : goal.returns-in_err-standing_of
+returns-in_err-standing_of g c = IfOk-from_err c.from_residual-in_err-standing_of.result _ c.from_residual-in_err-standing_of.ensures.0
+
+pub returns-in_err-push : goal.returns-in_err-push
+returns-in_err-push g c = IfOk-from_err c.from_residual-in_err-push.result _ c.from_residual-in_err-push.ensures.0

@@ -1,5 +1,6 @@
 use Rattle.std.proofs.Common.{subst, sym, ◌∙◌, arith}
 use Rattle.std.proofs.lemmas.List.{nil_from_length}
+use Rattle.std.proofs.lemmas.Result.{IfOk-from_err}
 use Rattle.pg_delivery.specs.Worklist.{ListsActive}
 use Rattle.pg_model.proofs.LawsListed.{has_id-get_or}
 use Rattle.pg_scratch.proofs.Passing.{passed_first, passed_standings, passed_context, passed_lists, place_inside, still_shown, same_writes}
@@ -106,3 +107,21 @@ returns-then-is_empty-clause-lists g c =
 
 pub returns-then-is_empty-clause-edges : goal.returns-then-is_empty-clause-edges
 returns-then-is_empty-clause-edges g c = c.exact.ensures _ c.requires.edges
+
+pub returns-in_err-unhalted : goal.returns-in_err-unhalted
+returns-in_err-unhalted g c =
+    let none = c.from_residual.ensures.0 in
+    let at = c.from_residual.result in
+    record { standings = IfOk-from_err at _ none; context = IfOk-from_err at _ none; lists = IfOk-from_err at _ none; edges = IfOk-from_err at _ none }
+
+pub returns-in_err-vertex : goal.returns-in_err-vertex
+returns-in_err-vertex g c =
+    let none = c.from_residual-in_err-vertex.ensures.0 in
+    let at = c.from_residual-in_err-vertex.result in
+    record { standings = IfOk-from_err at _ none; context = IfOk-from_err at _ none; lists = IfOk-from_err at _ none; edges = IfOk-from_err at _ none }
+
+pub returns-in_err-execute_at : goal.returns-in_err-execute_at
+returns-in_err-execute_at g c =
+    let none = c.from_residual-in_err-execute_at.ensures.0 in
+    let at = c.from_residual-in_err-execute_at.result in
+    record { standings = IfOk-from_err at _ none; context = IfOk-from_err at _ none; lists = IfOk-from_err at _ none; edges = IfOk-from_err at _ none }

@@ -1,5 +1,6 @@
 use Rattle.std.proofs.Common.{◌≡◌, ℕ, ℤ, List, [], ap, sym, ◌∙◌}
 use Rattle.std.specs.List.{range_with_len}
+use Rattle.std.proofs.lemmas.Result.{IfOk-from_err}
 use Rattle.pg_model.specs.Superstep.{ids}
 use Rattle.pg_model.specs.declared.configuration.Configuration.{Configuration}
 use Rattle.pg_model.specs.declared.configuration.Standing.{Standing}
@@ -21,3 +22,55 @@ returns-clause-ids g c = c.in_ok-ids.ensures ∙ ap ids (c.as_slice.ensures.valu
 
 pub returns-clause-work : goal.returns-clause-work
 returns-clause-work g c = c.in_ok-work.ensures ∙ ap (range_with_len 0) c.vertices.ensures.value
+
+pub returns-in_err-work : goal.returns-in_err-work
+returns-in_err-work g c =
+    let none = c.from_residual.ensures.0 in
+    let at = c.from_residual.result in
+    record {
+      configuration = IfOk-from_err at _ none;
+      rising = c.vertices.ensures.rising;
+      ids = IfOk-from_err at _ none;
+      work = IfOk-from_err at _ none;
+      edges = IfOk-from_err at _ none;
+      meter = IfOk-from_err at _ none;
+    }
+
+pub returns-in_err-gathered : goal.returns-in_err-gathered
+returns-in_err-gathered g c =
+    let none = c.from_residual-in_err-gathered.ensures.0 in
+    let at = c.from_residual-in_err-gathered.result in
+    record {
+      configuration = IfOk-from_err at _ none;
+      rising = c.vertices.ensures.rising;
+      ids = IfOk-from_err at _ none;
+      work = IfOk-from_err at _ none;
+      edges = IfOk-from_err at _ none;
+      meter = IfOk-from_err at _ none;
+    }
+
+pub returns-in_err-standings : goal.returns-in_err-standings
+returns-in_err-standings g c =
+    let none = c.from_residual-in_err-standings.ensures.0 in
+    let at = c.from_residual-in_err-standings.result in
+    record {
+      configuration = IfOk-from_err at _ none;
+      rising = c.vertices.ensures.rising;
+      ids = IfOk-from_err at _ none;
+      work = IfOk-from_err at _ none;
+      edges = IfOk-from_err at _ none;
+      meter = IfOk-from_err at _ none;
+    }
+
+pub returns-in_err-ids : goal.returns-in_err-ids
+returns-in_err-ids g c =
+    let none = c.from_residual-in_err-ids.ensures.0 in
+    let at = c.from_residual-in_err-ids.result in
+    record {
+      configuration = IfOk-from_err at _ none;
+      rising = c.vertices.ensures.rising;
+      ids = IfOk-from_err at _ none;
+      work = IfOk-from_err at _ none;
+      edges = IfOk-from_err at _ none;
+      meter = IfOk-from_err at _ none;
+    }

@@ -1,9 +1,13 @@
-use Rattle.std.proofs.Common.{ℕ, ◌+◌, List, length, ap, sym, ◌∙◌, refl, subst}
+use Rattle.std.proofs.Common.{ℕ, ◌+◌, ◌≤◌, List, length, ap, sym, ◌∙◌, refl, subst}
+use Rattle.std.specs.List.Sorted.{IsStrictlySortedBy}
+use Rattle.std.specs.Ordering.{nat_cmp}
+use Rattle.std.proofs.lemmas.List.{length-map}
 use Rattle.pg_model.specs.InOrder.{AreWaiting}
 use Rattle.pg_model.specs.Superstep.{capped, edges_of, ids, visible_in, view_of, gathered_from, with_made}
 use Rattle.pg_model.specs.declared.view.Declared.{Declared}
 use Rattle.pg_model.specs.declared.configuration.Standing.{Standing}
 use Rattle.pg_global.specs.Master.{job_of}
+use Rattle.pg_delivery.specs.Worklist.{ListsActive}
 use Rattle.pg_scratch.proofs.Edges.{edges-made}
 use Rattle.pg_scratch.proofs.Stepping.{shown_in}
 use Rattle.pg_scratch.proofs.Whole.{played_ids, played_empty, aggregators-registered, as_many-registered, stepped}
@@ -86,3 +90,40 @@ returns g c =
       meter_is = refl;
     })
     c.in_ok-visible.visible.halt refl many c.requires.ready
+
+pub visible_in-requires-after_bounds : goal.visible_in-requires-after_bounds
+visible_in-requires-after_bounds g c κs lives =
+    let master = g.M.MasterCompute.master c.args.runner.now.master.now in
+    c.requires.ready.gathered ∙ ap length c.requires.prepared.registered ∙ length-map master.registrations (λ e. e.1)
+
+pub view_of-requires : goal.view_of-requires
+view_of-requires g c =
+    subst (λ n. n ≤ 16) (sym (c.in_ok-visible.ensures.places ∙ c.requires.ready.gathered)) c.requires.prepared.few
+
+pub with_waiting-requires-clause-in_place : goal.with_waiting-requires-clause-in_place
+with_waiting-requires-clause-in_place g c =
+    let ready = c.requires.ready in
+    let standings = sym c.into_vec-standings.ensures in
+    let work = c.args.progress.work.items in
+    λ _ _. record {
+      ids_are = ready.ids_are ∙ ap (λ (l : List (Standing g.row.P-Value.Denot g.row.P-Message.Denot)). ids l) standings;
+      ids_rise = subst (IsStrictlySortedBy nat_cmp) (sym ready.ids_are) ready.in_order.standings;
+      lists = subst (λ (l : List (Standing g.row.P-Value.Denot g.row.P-Message.Denot)). ListsActive l work) standings ready.lists;
+      in_order = ready.work_rises;
+    }
+
+pub play-requires-clause-in_place : goal.play-requires-clause-in_place
+play-requires-clause-in_place g c = λ _ _. c.in_ok-roster.ensures.in_place
+
+pub play-requires-clause-fits : goal.play-requires-clause-fits
+play-requires-clause-fits g c = λ _ _. c.requires.fits
+
+pub gather_all-requires : goal.gather_all-requires
+gather_all-requires g c = sym (ap length c.as_slice.ensures ∙ c.in_ok-visible.ensures.places ∙ c.requires.ready.gathered)
+
+pub receive-requires-clause-rising : goal.receive-requires-clause-rising
+receive-requires-clause-rising g c =
+    λ _ _. subst (IsStrictlySortedBy nat_cmp) (sym c.in_ok-roster-2.ensures.ids_stay) c.in_ok-roster.ensures.in_place.ids_rise
+
+pub receive-requires-clause-lists : goal.receive-requires-clause-lists
+receive-requires-clause-lists g c = λ _ _. c.in_ok-roster-2.ensures.lists

@@ -1,5 +1,5 @@
 use Rattle.std.proofs.Common.{◌≡◌, ℕ, ◌+◌, ◌<◌, min, List, [], ◌∷◌, ◌++◌, length, get_or, take, ap, subst, sym, ◌∙◌, arith}
-use Rattle.std.proofs.lemmas.List.{take_more}
+use Rattle.std.proofs.lemmas.List.{take_all, take_more}
 use Rattle.std.proofs.lemmas.List.Sums.{sum_by_push}
 use Rattle.pg_model.specs.Superstep.{capped, edges_of}
 use Rattle.pg_model.specs.declared.configuration.Standing.{Standing}
@@ -19,3 +19,8 @@ loop-standing-preserved g c =
     counted_more c.args.standings.now c.standing-item.result c.loop-standing.standing-index c.loop-standing.total
     (length c.as_slice.result.now) _ c.loop-standing-test.true c.standing-item.is c.loop-standing.invariant
     (ap length c.as_slice.ensures.value) c.saturating_add-total.ensures
+
+pub returns : goal.returns
+returns g c =
+    let all = take_all c.loop-standing.standing-index c.args.standings.now c.loop-standing-test.false in
+    c.loop-standing.invariant ∙ ap (λ (l : List (Standing g.row.V.Denot g.row.M.Denot)). capped (edges_of l)) all
