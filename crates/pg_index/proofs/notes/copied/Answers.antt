@@ -21,10 +21,19 @@ pub returns-clause-rise : goal.returns-clause-rise
 returns-clause-rise g c = c.len.ensures.ordered
 
 pub returns-in_err-copies : goal.returns-in_err-copies
-returns-in_err-copies g c = record { copies = IfOk-from_err c.from_residual.result _ c.from_residual.ensures.0; rise = c.len.ensures.ordered }
+returns-in_err-copies g c = record {
+  copies = IfOk-from_err c.from_residual.result _ c.from_residual.ensures.0;
+  rise = c.len.ensures.ordered;
+}
 
 pub returns-in_err-shared_if_any : goal.returns-in_err-shared_if_any
-returns-in_err-shared_if_any g c = record { copies = IfOk-from_err c.from_residual-in_err-shared_if_any.result _ c.from_residual-in_err-shared_if_any.ensures.0; rise = c.len.ensures.ordered }
+returns-in_err-shared_if_any g c = record {
+  copies = IfOk-from_err c.from_residual-in_err-shared_if_any.result _ c.from_residual-in_err-shared_if_any.ensures.0;
+  rise = c.len.ensures.ordered;
+}
 
 pub returns-in_err-push : goal.returns-in_err-push
-returns-in_err-push g c = record { copies = IfOk-from_err c.from_residual-in_err-push.result _ c.from_residual-in_err-push.ensures.0; rise = c.len.ensures.ordered }
+returns-in_err-push g c = record {
+  copies = IfOk-from_err c.from_residual-in_err-push.result _ c.from_residual-in_err-push.ensures.0;
+  rise = c.len.ensures.ordered;
+}

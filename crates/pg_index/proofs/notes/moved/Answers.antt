@@ -19,7 +19,13 @@ pub returns-clause-rise : goal.returns-clause-rise
 returns-clause-rise g c = c.len.ensures.ordered
 
 pub returns-in_err-list : goal.returns-in_err-list
-returns-in_err-list g c = record { list = IfOk-from_err c.from_residual.result _ c.from_residual.ensures.0; rise = c.len.ensures.ordered }
+returns-in_err-list g c = record {
+  list = IfOk-from_err c.from_residual.result _ c.from_residual.ensures.0;
+  rise = c.len.ensures.ordered;
+}
 
 pub returns-in_err-push : goal.returns-in_err-push
-returns-in_err-push g c = record { list = IfOk-from_err c.from_residual-in_err-push.result _ c.from_residual-in_err-push.ensures.0; rise = c.len.ensures.ordered }
+returns-in_err-push g c = record {
+  list = IfOk-from_err c.from_residual-in_err-push.result _ c.from_residual-in_err-push.ensures.0;
+  rise = c.len.ensures.ordered;
+}

@@ -13,11 +13,12 @@ loop-step-preserved c =
     let start = c.args.into.now.items in
     let i = c.loop-step.step-index in
     let within = c.loop-step-test.true in
+    let so_far = c.loop-step.invariant in
     elim c.if-superstep-step.branch [
       | then-superstep-step+in_ok-push w ↦ ap (λ v. v.items) w.into-is
-          ∙ kept_more (λ t. nat_lt s t) start steps i 0 within (lower s (get_or steps i 0) w.if-superstep-step.true) c.loop-step.invariant w.in_ok-push.ensures.items
+          ∙ kept_more (λ t. nat_lt s t) start steps i 0 within (lower s (get_or steps i 0) w.if-superstep-step.true) so_far w.in_ok-push.ensures.items
       | else-superstep-step w ↦ ap (λ v. v.items) w.into-is
-          ∙ left_out (λ t. nat_lt s t) start steps i 0 within (not_lower s (get_or steps i 0) w.if-superstep-step.false) c.loop-step.invariant
+          ∙ left_out (λ t. nat_lt s t) start steps i 0 within (not_lower s (get_or steps i 0) w.if-superstep-step.false) so_far
     ]
 
 pub returns : goal.returns

@@ -13,11 +13,12 @@ loop-step-preserved c =
     let start = c.args.into.now.items in
     let i = c.loop-step.step-index in
     let within = c.loop-step-test.true in
+    let so_far = c.loop-step.invariant in
     elim c.if-step-superstep.branch [
       | then-step-superstep+in_ok-push w ↦ ap (λ v. v.items) w.into-is
-          ∙ kept_more (λ t. nat_lt t s) start steps i 0 within (lower (get_or steps i 0) s w.if-step-superstep.true) c.loop-step.invariant w.in_ok-push.ensures.items
+          ∙ kept_more (λ t. nat_lt t s) start steps i 0 within (lower (get_or steps i 0) s w.if-step-superstep.true) so_far w.in_ok-push.ensures.items
       | else-step-superstep w ↦ ap (λ v. v.items) w.into-is
-          ∙ left_out (λ t. nat_lt t s) start steps i 0 within (not_lower (get_or steps i 0) s w.if-step-superstep.false) c.loop-step.invariant
+          ∙ left_out (λ t. nat_lt t s) start steps i 0 within (not_lower (get_or steps i 0) s w.if-step-superstep.false) so_far
     ]
 
 pub returns : goal.returns
