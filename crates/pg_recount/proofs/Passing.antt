@@ -1,5 +1,6 @@
 -- The messages of more bundles.
-use Rattle.std.proofs.Common.{◌≡◌, ℕ, ◌+◌, List, [], ◌∷◌, ◌++◌, map, refl, ap, ap₂, sym, ◌∙◌, sum_by, zero-add, Bool, cond, length, Option, Some}
+use Rattle.std.proofs.Common.{◌≡◌, ℕ, ◌+◌, ◌<◌, List, [], ◌∷◌, ◌++◌, get_or, map, refl, take, ap, ap₂, sym, ◌∙◌, sum_by, zero-add}
+use Rattle.std.proofs.Common.{Bool, true, false, cond, is_some, length, not, true≢false, Option, None, Some}
 use Rattle.std.proofs.lemmas.List.{map-append}
 use Rattle.std.proofs.lemmas.List.Sums.{sum_by_push}
 use Rattle.pg_graph.specs.Rows.{Rows}
@@ -9,12 +10,14 @@ use Rattle.pg_inbox.specs.Bundles.{Parcels, parcels_in}
 use Rattle.pg_inbox.specs.Inboxes.{letters_at}
 use Rattle.pg_inbox.specs.Logged.{Slots, slot_at}
 use Rattle.std.specs.List.{range_with_len, slice_get}
-use Rattle.std.specs.Option.{option_map}
+use Rattle.std.specs.Option.{option_copied, option_map}
 use Rattle.std.proofs.lemmas.List.FromFn.{sum_by-map-range_with_len_more}
 use Rattle.pg_inbox.specs.Counting.{messages_where}
 use Rattle.pg_inbox.specs.declared.logs.Logged.{Logged}
 use Rattle.pg_recount.specs.Traffic.{IsWithBundle, bundle_at, dropped_of, is_any, is_nobody, messages_among, traffic_of, turned, turned_at}
+use Rattle.pg_recount.proofs.Counting.{one_taken}
 use Rattle.pg_stats.specs.declared.stats.Traffic.{Traffic}
+use denote.Ref.{Bor}
 
 module _ {M : Type 0} (rows : Rows) where
   dropped_push : (missing : Missing) (bs : List (Parcels M)) (b : Parcels M)
@@ -51,6 +54,14 @@ module _ {M : Type 0} where
       → messages_among picks (ids ++ id ∷ []) parcels ≡ messages_among picks ids parcels + cond (picks id) (length (letters_at id parcels)) 0
   among_push picks ids id parcels = sum_by_push (λ k. cond (picks k) (length (letters_at k parcels)) 0) ids id
 
+  -- so a count of them goes on
+  pub among_more : (picks : ℕ → Bool) (ids : List ℕ) (i : ℕ) (parcels : Parcels M) {id : ℕ} {b : Bool} {before after : ℕ} → i < length ids
+      → id ≡ get_or ids i id → before ≡ messages_among picks (take i ids) parcels → after ≡ before + cond b (length (letters_at id parcels)) 0 → b ≡ picks id
+      → after ≡ messages_among picks (take (i + 1) ids) parcels
+  among_more picks ids i parcels {id} within is so_far more told =
+      more ∙ ap₂ (λ (n : ℕ) (b : Bool). n + cond b (length (letters_at id parcels)) 0) so_far told ∙ sym (among_push picks (take i ids) id parcels)
+      ∙ ap (λ l. messages_among picks l parcels) (one_taken ids i within is)
+
   -- what has turned at one receiver more
   pub turned_more : (count : Parcels M → Logged M → ℕ) (logs : Slots M) (s p : ℕ) (bundles : List (Logged M)) (q : ℕ) (logged : Logged M)
       → slice_get bundles q ≡ Some logged
@@ -66,3 +77,15 @@ module _ {M : Type 0} where
       → after ≡ turned count logs s p bundles (q + 1)
   turned_on count logs s p bundles q {logged} e b so_far h k =
       k ∙ (ap₂ ◌+◌ so_far (h ∙ ap (λ (o : Option (Parcels M)). count (parcels_in o) logged) b) ∙ sym (turned_more count logs s p bundles q logged e))
+
+-- whether a row is lent tells whether it is there
+module _ {X : Type 0} where
+  pub none_is : (o : Option (Bor X)) (b : Bool) {row : Option X} → option_copied o ≡ row → is_some o ≡ not b → b ≡ not (is_some row)
+  none_is None true row is = ap (λ r. not (is_some r)) row
+  none_is None false row is = absurd (true≢false (sym is))
+  none_is (Some x) true row is = absurd (true≢false is)
+  none_is (Some x) false row is = ap (λ r. not (is_some r)) row
+
+  pub some_is : (o : Option (Bor X)) (b : Bool) {row : Option X} → option_copied o ≡ row → b ≡ is_some o → b ≡ is_some row
+  some_is None b row is = is ∙ ap is_some row
+  some_is (Some x) b row is = is ∙ ap is_some row

@@ -17,7 +17,6 @@ use std::alloc::AllocError;
 
 /// What is sent and dropped with these bundles. Costs a look at each target, and where messages to nobody are dropped
 /// a look-up in the graph.
-#[tactic(auto, using(crate::proofs::Passing::traffic_push))]
 pub fn traffic<M: Plain>(
     bundles: &[Logged<M>],
     graph: &Graph,
@@ -170,7 +169,6 @@ fn bundle_of<M: Plain>(logged: Option<&Logged<M>>) -> Option<&Bundle<M>>
 }
 
 /// How many messages a bundle has to these ids.
-#[tactic(auto, using(crate::proofs::Passing::among_push))]
 fn messages_among<M: Plain>(bundle: Option<&Bundle<M>>, ids: &[VertexId]) -> Result<u64, Memory>
     ensures { IfOk result
         (λ count. count ≡ messages_among is_any ids.now (parcels_in (option_copied bundle.entry))) }
@@ -183,7 +181,6 @@ fn messages_among<M: Plain>(bundle: Option<&Bundle<M>>, ids: &[VertexId]) -> Res
 }
 
 /// How many it has to those of these ids that are no vertices of a graph.
-#[tactic(auto, using(crate::proofs::Passing::among_push))]
 fn astray_among<M: Plain>(
     bundle: Option<&Bundle<M>>,
     ids: &[VertexId],
@@ -200,7 +197,6 @@ fn astray_among<M: Plain>(
 }
 
 /// How many it has to the others of them.
-#[tactic(auto, using(crate::proofs::Passing::among_push))]
 fn arriving_among<M: Plain>(
     bundle: Option<&Bundle<M>>,
     ids: &[VertexId],

@@ -1,6 +1,7 @@
 use Rattle.std.proofs.Common.{◌≡◌, ◌==◌, ℕ, ◌<◌, true, List, [], Option, length, get_or, set, sym, ap, ap₂, ◌∙◌, subst, subst₂, arith}
 use Rattle.std.proofs.lemmas.Bool.Decides.{nat_tests}
 use Rattle.std.proofs.lemmas.List.{get_or_default, nil_from_length, set-get_or}
+use Rattle.std.proofs.lemmas.Result.{IfOk-from_err}
 use Rattle.pg_map.specs.Entries.{ChangesRise, value_at, with_changes}
 use Rattle.pg_index.specs.Ran.{IsNoted, noted}
 use Rattle.pg_index.proofs.Last.{index_rises}
@@ -66,3 +67,18 @@ returns-clause-ok g c =
     (c.in_ok-change.ensures.ok ∙ ap₂ with_changes (c.as_slice-2.ensures.value ∙ c.in_ok-changes.ensures)
     (c.in_ok-records.ensures ∙ c.index-supersteps-place.is ∙ get_or_default all n c.index-supersteps-place.result [] within
     ∙ ap (λ l. get_or l n []) slice))
+
+pub change-requires : goal.change-requires
+change-requires g c = subst (λ l. ChangesRise l) (sym (c.as_slice-2.ensures.value ∙ c.in_ok-changes.ensures)) c.requires.rise
+
+pub returns-in_err-changes-clause-ok : goal.returns-in_err-changes-clause-ok
+returns-in_err-changes-clause-ok g c = IfOk-from_err c.from_residual.result _ c.from_residual.ensures.0
+
+pub returns-in_err-ran-clause-ok : goal.returns-in_err-ran-clause-ok
+returns-in_err-ran-clause-ok g c = IfOk-from_err c.from_residual-in_err-ran.result _ c.from_residual-in_err-ran.ensures.0
+
+pub returns-in_err-records-clause-ok : goal.returns-in_err-records-clause-ok
+returns-in_err-records-clause-ok g c = IfOk-from_err c.from_residual-in_err-records.result _ c.from_residual-in_err-records.ensures.0
+
+pub returns-in_err-change-clause-ok : goal.returns-in_err-change-clause-ok
+returns-in_err-change-clause-ok g c = IfOk-from_err c.from_residual-in_err-change.result _ c.from_residual-in_err-change.ensures.0
