@@ -16,7 +16,7 @@ loop-step-preserved c =
     elim c.if-superstep-step.branch [
       | then-superstep-step+in_ok-push w ↦ ap (λ v. v.items) w.into-is
           ∙ kept_more (λ t. nat_lt s t) start steps i 0 within (lower s (get_or steps i 0) w.if-superstep-step.true)
-              c.loop-step.invariant w.in_ok-push.ensures.items
+          c.loop-step.invariant w.in_ok-push.ensures.items
       | else-superstep-step w ↦ ap (λ v. v.items) w.into-is
           ∙ left_out (λ t. nat_lt s t) start steps i 0 within (not_lower s (get_or steps i 0) w.if-superstep-step.false) c.loop-step.invariant
     ]

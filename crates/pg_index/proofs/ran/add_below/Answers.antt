@@ -16,7 +16,7 @@ loop-step-preserved c =
     elim c.if-step-superstep.branch [
       | then-step-superstep+in_ok-push w ↦ ap (λ v. v.items) w.into-is
           ∙ kept_more (λ t. nat_lt t s) start steps i 0 within (lower (get_or steps i 0) s w.if-step-superstep.true)
-              c.loop-step.invariant w.in_ok-push.ensures.items
+          c.loop-step.invariant w.in_ok-push.ensures.items
       | else-step-superstep w ↦ ap (λ v. v.items) w.into-is
           ∙ left_out (λ t. nat_lt t s) start steps i 0 within (not_lower (get_or steps i 0) s w.if-step-superstep.false) c.loop-step.invariant
     ]
