@@ -74,6 +74,10 @@ impl<M: Plain> Model for Parcel<M> {
 }
 
 impl<M: Plain> Share for Parcel<M> {
+    // Small, since the targets of a few vertices lie all over a bundle, and a copy of a parcel is mostly a count that lies
+    // elsewhere in memory.
+    const CHUNK: usize = 16;
+
     fn share(&self, alloc: Global) -> Result<Parcel<M>, Memory> {
         let held = match &self.held {
             Held::Alone(letter) => Held::Alone((letter.0, letter.1.copy(alloc)?)),

@@ -10,16 +10,10 @@ use std::alloc::Global;
 use std::marker::Model;
 use std::mem;
 
-/// A chunk is cut off a piece that has so many entries,
-const FULL: usize = 256;
-
-/// and has so many then.
-const CHUNK: usize = 128;
-
-/// A piece with fewer takes in the next chunk, so that removals leave no tiny ones behind.
-const SMALL: usize = 32;
-
 /// Chunks in groups, and a piece that becomes the next chunk. A contract sees all entries so far.
+///
+/// A piece with twice as many entries as `Share::CHUNK` has so many cut off; one with less than a quarter as many takes in
+/// the next chunk, so that removals leave no tiny ones behind.
 #[derive(Drop)]
 pub(crate) struct Gathering<V> {
     made: Grouping<V>,
@@ -49,8 +43,9 @@ impl<V: Share> Gathering<V> {
     pub(crate) fn push(&mut self, alloc: Global, id: VertexId, value: V) -> Result<(), Memory>
         ensures { OnOk result (self.new ≡ self.old ++ (id, value) ∷ []) }
     {
-        if self.piece.len() >= FULL {
-            cut_chunk(alloc, &mut self.made, &mut self.piece, CHUNK)?;
+        let chunk = V::CHUNK;
+        if self.piece.len() / 2 >= chunk {
+            cut_chunk(alloc, &mut self.made, &mut self.piece, chunk)?;
         }
         self.piece.push((id, value))?;
         Ok(())
@@ -69,7 +64,7 @@ impl<V: Share> Gathering<V> {
         ensures { OnOk result (self.new ≡ self.old) }
     {
         let entries = self.piece.len();
-        if entries < CHUNK {
+        if entries < V::CHUNK {
             return Ok(());
         }
         cut_chunk(alloc, &mut self.made, &mut self.piece, entries)
@@ -91,7 +86,7 @@ impl<V: Share> Gathering<V> {
         ensures { OnOk result (self.new ≡ self.old ++ listed chunk.now) }
     {
         let entries = self.piece.len();
-        if entries > 0 && entries < SMALL {
+        if entries > 0 && entries < V::CHUNK / 4 {
             return self.extend(alloc, chunk.items.as_slice());
         }
         cut_chunk(alloc, &mut self.made, &mut self.piece, entries)?;
@@ -129,7 +124,7 @@ impl<V: Share> Gathering<V> {
         if entries == 0 {
             return chunks > 0 && chunks < FEW;
         }
-        entries < SMALL || chunks < FEW
+        entries < V::CHUNK / 4 || chunks < FEW
     }
 
     /// All groups.

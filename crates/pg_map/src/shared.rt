@@ -17,6 +17,10 @@ use std::marker::Model;
 
 /// Values that are copied by sharing: a copy is equal to its source.
 pub trait Share: Drop {
+    /// How many entries a chunk of a map has when it is cut off; it never has more than twice as many. A change copies the
+    /// chunks that it falls into, and a walk reads all of them.
+    const CHUNK: usize = 128;
+
     /// The same value. What is large in it is shared; what is copied costs no more than one small value.
     fn share(&self, alloc: Global) -> Result<Self, Memory>
         ensures { IfOk result (λ copy. copy ≡ self.now) };
@@ -172,8 +176,8 @@ impl<V: Share> Map<V> {
     /// Makes all changes, by rising id, or none where memory is refused: each id gets its value, or
     /// loses the one that it has.
     ///
-    /// With n entries it costs O(n / 4096), a copy of the list of each group that a change falls into, of at
-    /// most 64 chunks, and a copy of each chunk that one falls into, of at most 256 entries.
+    /// With n entries and chunks of c it costs O(n / 32 c), a copy of the list of each group that a change falls into, of at
+    /// most 64 chunks, and a copy of each chunk that one falls into.
     pub fn change(&mut self, alloc: Global, changes: &[(VertexId, Option<V>)]) -> Result<(), Memory>
         requires { ChangesRise changes.now }
         ensures ok { OnOk result (self.new ≡ with_changes changes.now self.old) }
