@@ -4,7 +4,7 @@ use Rattle.std.specs.Prelude.{Option, None, Some, IfSome, ⊤, is_some, slice_in
 use Rattle.std.specs.BTreeMap.{is_at}
 use Rattle.std.specs.List.{filter}
 use Rattle.std.specs.List.Sorted.{IsNonDecreasingBy}
-use Rattle.std.specs.Option.{option_map}
+use Rattle.std.specs.Option.{option_and_then, option_map}
 use Rattle.std.specs.Ordering.{nat_cmp}
 use Rattle.pg_map.specs.Entries.{value_at}
 use Rattle.pg_index.specs.Records.{last_record}
@@ -33,6 +33,10 @@ last_of [] = None
 last_of (step ∷ steps) = Some (unwrap_or (last_of steps) step)
 
 module _ {X : Type 0} where
+  -- a superstep with its record, if there is one, is the last but one of these
+  abbrev pub IsLastButOne : Option (ℕ × X) → List ℕ → Type 0
+  IsLastButOne earlier steps = IfSome earlier (λ e. Some e.0 ≡ option_and_then (λ t. last_of (steps_below t steps)) (last_of steps))
+
   -- in which of these supersteps an id ran, where the first is superstep `from`
   abbrev pub ran_from : ℕ → ℕ → List (List (ℕ × X)) → List ℕ
   ran_from id from [] = []

@@ -3,7 +3,7 @@ ghost use Rattle.std.specs.Prelude.{◌≡◌, ◌++◌, ◌+◌, ◌<◌, ◌^�
 ghost use Rattle.std.specs.List.Sorted.{IsNonDecreasingBy};
 ghost use Rattle.std.specs.Option.{option_and_then, option_copied};
 ghost use Rattle.pg_map.specs.Entries.{value_at};
-ghost use Rattle.pg_index.specs.Ran.{IsRanIn, last_of, noted, ran_by, remembered, steps_above, steps_below, steps_in, with_ran};
+ghost use Rattle.pg_index.specs.Ran.{IsLastButOne, IsRanIn, last_of, noted, ran_by, remembered, steps_above, steps_below, steps_in, with_ran};
 ghost use Rattle.pg_index.specs.Records.{last_record};
 
 use crate::kept::Kept;
@@ -130,11 +130,13 @@ pub(crate) fn after<V: Drop, M: Drop>(
     given: Option<&Kept<V, M>>,
     before: Option<&Steps<V, M>>,
 ) -> Result<Option<Steps<V, M>>, Memory>
+    requires { IsNonDecreasingBy (λ t. t) (steps_in (option_copied before)) }
     ensures { IfOk result (λ after.
         after ≡ noted id supersteps.now superstep (Some (option_copied given.entry)) (option_copied before.entry)) }
 {
-    let steps = stepped(alloc, steps_in(before), superstep, given.is_some())?;
-    let earlier = remembered(alloc, superstep, given.is_some(), before)?;
+    let runs = given.is_some();
+    let steps = stepped(alloc, steps_in(before), superstep, runs)?;
+    let earlier = remembered(alloc, superstep, runs, before)?;
     ran_by(alloc, supersteps, id, superstep, given, earlier, steps)
 }
 
@@ -176,6 +178,7 @@ fn ran_by<V: Drop, M: Drop>(
     earlier: Earlier<V, M>,
     steps: Vec<usize>,
 ) -> Result<Option<Steps<V, M>>, Memory>
+    requires { IsLastButOne earlier steps.items }
     ensures { IfOk result (λ ran. ran ≡ ran_by id supersteps.now superstep (option_copied given.entry) earlier steps.items) }
 {
     let Some(last) = last_of(steps.as_slice()) else {

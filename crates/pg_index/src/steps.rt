@@ -3,7 +3,7 @@ ghost use Rattle.std.specs.Prelude.{◌≡◌, ◌++◌, ◌∷◌, [], ℕ, ◌
 ghost use Rattle.std.specs.Arc.{arc_value};
 ghost use Rattle.std.specs.List.Sorted.{IsNonDecreasingBy};
 ghost use Rattle.std.specs.Option.{option_map};
-ghost use Rattle.pg_index.specs.Ran.{last_if_below, last_of, steps_below};
+ghost use Rattle.pg_index.specs.Ran.{IsLastButOne, last_if_below, last_of, steps_below};
 
 use crate::kept::Kept;
 use pg_graph::Memory;
@@ -14,8 +14,7 @@ use std::mem::replace;
 use std::sync::Arc;
 
 /// The supersteps in which a vertex ran, rising, and the record of the last of them. Copies share both. The last one is
-/// noted beside their list, so that most look-ups don't read that. Of an earlier one the record may be remembered: of the
-/// last but one, where the last was added after it.
+/// noted beside their list, and the last but one with its record may be remembered, so that most look-ups don't read that.
 #[derive(Drop)]
 pub(crate) struct Steps<V, M> {
     supersteps: Arc<Vec<usize>>,
@@ -24,20 +23,21 @@ pub(crate) struct Steps<V, M> {
     earlier: Earlier<V, M>,
 }
 
-/// A superstep with its record, if one is remembered.
+/// The last superstep but one with its record, if it is remembered.
 pub(crate) type Earlier<V, M> = Option<(usize, Kept<V, M>)>;
 
 impl<V, M> Model for Steps<V, M> {
     ghost use Rattle.std.specs.Arc.{arc_value};
     ghost use Rattle.std.specs.Prelude.{◌≡◌, Some};
     ghost use Rattle.pg_model.specs.declared.record.Record.{Record};
-    ghost use Rattle.pg_index.specs.Ran.{Ran, last_of};
+    ghost use Rattle.pg_index.specs.Ran.{IsLastButOne, Ran, last_of};
 
     ghost Value = { Ran (Record V M) };
 
     ghost view = { λ s. record { steps = (arc_value s.supersteps).items; last = s.last; earlier = s.earlier } };
 
-    ghost invariant = { λ s. Some s.latest ≡ last_of (arc_value s.supersteps).items };
+    ghost invariant = { λ s. Some s.latest ≡ last_of (arc_value s.supersteps).items
+        × IsLastButOne s.earlier (arc_value s.supersteps).items };
 }
 
 impl<V: Drop, M: Drop> Share for Steps<V, M> {
@@ -70,7 +70,8 @@ impl<V: Drop, M: Drop> Steps<V, M> {
         last: Kept<V, M>,
         earlier: Earlier<V, M>,
     ) -> Result<Steps<V, M>, Memory>
-        requires { Some latest ≡ last_of supersteps.items }
+        requires latest { Some latest ≡ last_of supersteps.items }
+        requires earlier { IsLastButOne earlier supersteps.items }
         ensures { IfOk result (λ steps. steps ≡ record { steps = supersteps.items; last = last; earlier = earlier }) }
     {
         Ok(Steps {
@@ -119,13 +120,14 @@ impl<V: Drop, M: Drop> Steps<V, M> {
         }
     }
 
-    /// Adds a superstep, whose record is the last one now. The one before is remembered.
+    /// Adds a superstep above the others, whose record is the last one now. The one before is remembered.
     pub(crate) fn push(
         &mut self,
         alloc: Global,
         superstep: usize,
         last: Kept<V, M>,
     ) -> Result<(), Memory>
+        requires { (k : ℕ) → k < length self.old.steps → slice_index self.old.steps k < superstep }
         ensures { OnOk result (self.new ≡ record {
           steps = self.old.steps ++ superstep ∷ [];
           last = last;
@@ -147,13 +149,19 @@ impl<V: Drop, M: Drop> Steps<V, M> {
         self.latest < superstep
     }
 
-    /// The last of them that is below a superstep: the last of all, or found by halving.
+    /// The last of them that is below a superstep: the last of all, the last but one where that is remembered, or found by
+    /// halving.
     pub(crate) fn last_below(&self, superstep: usize) -> Option<usize>
         requires { IsNonDecreasingBy (λ t. t) self.now.steps }
         ensures { result ≡ last_of (steps_below superstep self.now.steps) }
     {
         if self.are_below(superstep) {
             return Some(self.latest);
+        }
+        if self.is_latest(superstep) {
+            if let Some((step, _)) = &self.earlier {
+                return Some(*step);
+            }
         }
         last_below(self.supersteps(), superstep)
     }

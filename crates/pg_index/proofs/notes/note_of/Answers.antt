@@ -15,6 +15,13 @@ note_again-requires g c =
     (sym c.in-Some.ensures.value))
     c.requires.steps
 
+pub after-requires : goal.after-requires
+after-requires g c =
+    subst (λ o. IsNonDecreasingBy (λ t. t) (steps_in o))
+    (over c.args.base.now c.args.notes.now.entries c.requires.rising c.get_mut.ensures.ordered c.args.id None (sym c.in_default.ensures.value)
+    ∙ sym c.get.ensures.value)
+    c.requires.steps
+
 pub returns-in-Some-clause-noted : goal.returns-in-Some-clause-noted
 returns-in-Some-clause-noted g c =
     let base = c.args.base.now in

@@ -11,8 +11,8 @@ use Rattle.pg_index.proofs.ran.ran_by.Goals.{then-last-superstep, else-last-supe
 apart : (t s : ℕ) → t ≢ s → (t == s) ≡ false
 apart t s other = grind (arith, nat_tests)
 
-pub of-requires : goal.of-requires
-of-requires g c = c.in-Some.ensures ∙ ap last_of c.as_slice.ensures.value
+pub of-requires-clause-latest : goal.of-requires-clause-latest
+of-requires-clause-latest g c = c.in-Some.ensures ∙ ap last_of c.as_slice.ensures.value
 
 pub returns-in-None : goal.returns-in-None
 returns-in-None g c =

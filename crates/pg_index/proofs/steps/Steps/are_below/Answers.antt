@@ -6,4 +6,4 @@ use Rattle.pg_index.proofs.steps.Steps.are_below.Goals as goal
 pub returns : goal.returns
 returns g c is_below =
     below_the_last c.args.superstep c.self.inside.latest c.args.self.now.steps c.requires
-    (c.self.invariant ∙ ap (λ s. last_of s.steps) c.self.view_is) (ltb-true c.self.inside.latest c.args.superstep is_below)
+    (c.self.invariant.0 ∙ ap (λ s. last_of s.steps) c.self.view_is) (ltb-true c.self.inside.latest c.args.superstep is_below)

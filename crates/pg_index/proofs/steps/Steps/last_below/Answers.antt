@@ -6,4 +6,4 @@ use Rattle.pg_index.proofs.steps.Steps.last_below.Goals as goal
 pub returns-then-are_below : goal.returns-then-are_below
 returns-then-are_below g c =
     last_of_below c.args.superstep c.self.inside.latest c.args.self.now.steps (c.if-are_below.ensures refl)
-    (c.self.invariant ∙ ap (λ s. last_of s.steps) c.self.view_is)
+    (c.self.invariant.0 ∙ ap (λ s. last_of s.steps) c.self.view_is)
