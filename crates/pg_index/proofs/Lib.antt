@@ -1,3 +1,4 @@
+pub mod Histories
 pub mod InPlace
 pub mod Keeping
 pub mod Last

@@ -1,3 +1,4 @@
+pub mod History
 pub mod Ran
 pub mod Records
 pub mod Rows

@@ -1,8 +1,9 @@
 //! The supersteps in which one vertex ran, and its last record.
-ghost use Rattle.std.specs.Prelude.{◌≡◌, ◌++◌, ◌∷◌, [], ℕ, ◌<◌, false, length, slice_index, Some, IfOk, IfSome, OnErr, OnOk, IsTrue};
+ghost use Rattle.std.specs.Prelude.{◌≡◌, ◌++◌, ◌∷◌, [], ℕ, ◌<◌, length, slice_index, Some, IfNone, IfOk, IfSome, OnErr, OnOk, IsTrue};
 ghost use Rattle.std.specs.Arc.{arc_value};
 ghost use Rattle.std.specs.List.Sorted.{IsNonDecreasingBy};
 ghost use Rattle.std.specs.Option.{option_map};
+ghost use Rattle.pg_index.specs.History.{IsPushed, IsSame};
 ghost use Rattle.pg_index.specs.Ran.{IsLastButOne, last_if_below, last_of, steps_below};
 
 use crate::kept::Kept;
@@ -13,11 +14,11 @@ use std::marker::Model;
 use std::mem::replace;
 use std::sync::Arc;
 
-/// The supersteps in which a vertex ran, rising, and the record of the last of them. Copies share both. The last one is
-/// noted beside their list, and the last but one with its record may be remembered, so that most look-ups don't read that.
+/// In which supersteps a vertex ran, rising, and the record of the last of them. The last one is noted beside their list,
+/// and the last but one with its record may be remembered, so that most look-ups don't read that.
 #[derive(Drop)]
-pub(crate) struct Steps<V, M> {
-    supersteps: Arc<Vec<usize>>,
+struct History<V, M> {
+    supersteps: Vec<usize>,
     latest: usize,
     last: Kept<V, M>,
     earlier: Earlier<V, M>,
@@ -26,38 +27,36 @@ pub(crate) struct Steps<V, M> {
 /// The last superstep but one with its record, if it is remembered.
 pub(crate) type Earlier<V, M> = Option<(usize, Kept<V, M>)>;
 
-impl<V, M> Model for Steps<V, M> {
-    ghost use Rattle.std.specs.Arc.{arc_value};
-    ghost use Rattle.std.specs.Prelude.{◌≡◌, Some};
-    ghost use Rattle.pg_model.specs.declared.record.Record.{Record};
-    ghost use Rattle.pg_index.specs.Ran.{IsLastButOne, Ran, last_of};
-
-    ghost Value = { Ran (Record V M) };
-
-    ghost view = { λ s. record { steps = (arc_value s.supersteps).items; last = s.last; earlier = s.earlier } };
-
-    ghost invariant = { λ s. Some s.latest ≡ last_of (arc_value s.supersteps).items
-        × IsLastButOne s.earlier (arc_value s.supersteps).items };
+/// In which supersteps a vertex ran, and its last record, in one piece of memory, which copies share.
+pub(crate) struct Steps<V, M> {
+    shared: Arc<History<V, M>>,
 }
 
-impl<V: Drop, M: Drop> Share for Steps<V, M> {
-    fn share(&self, alloc: Global) -> Result<Steps<V, M>, Memory> {
-        Ok(Steps {
-            supersteps: Arc::try_clone(&self.supersteps)?,
-            latest: self.latest,
-            last: self.last.share(alloc)?,
-            earlier: shared(alloc, &self.earlier)?,
-        })
+// By hand, so that it is let go by one call wherever that is, and not field by field.
+impl<V: Drop, M: Drop> Drop for Steps<V, M> {
+    fn drop(self) {
+        let Steps { shared: _ } = self;
     }
 }
 
-/// What is remembered, shared.
-fn shared<V: Drop, M: Drop>(alloc: Global, earlier: &Earlier<V, M>) -> Result<Earlier<V, M>, Memory>
-    ensures { IfOk result (λ copy. copy ≡ earlier.now) }
-{
-    match earlier {
-        Some((step, kept)) => Ok(Some((*step, kept.share(alloc)?))),
-        None => Ok(None),
+impl<V, M> Model for Steps<V, M> {
+    ghost use Rattle.pg_model.specs.declared.record.Record.{Record};
+    ghost use Rattle.std.specs.Arc.{arc_value};
+    ghost use Rattle.pg_index.specs.History.{IsSound, ran_of};
+    ghost use Rattle.pg_index.specs.Ran.{Ran};
+
+    ghost Value = { Ran (Record V M) };
+
+    ghost view = { λ s. ran_of (arc_value s.shared) };
+
+    ghost invariant = { λ s. IsSound (arc_value s.shared) };
+}
+
+impl<V: Drop, M: Drop> Share for Steps<V, M> {
+    fn share(&self, _alloc: Global) -> Result<Steps<V, M>, Memory> {
+        Ok(Steps {
+            shared: Arc::try_clone(&self.shared)?,
+        })
     }
 }
 
@@ -74,11 +73,14 @@ impl<V: Drop, M: Drop> Steps<V, M> {
         requires earlier { IsLastButOne earlier supersteps.items }
         ensures { IfOk result (λ steps. steps ≡ record { steps = supersteps.items; last = last; earlier = earlier }) }
     {
-        Ok(Steps {
-            supersteps: Arc::new(alloc, supersteps)?,
+        let history = History {
+            supersteps,
             latest,
             last,
             earlier,
+        };
+        Ok(Steps {
+            shared: Arc::new(alloc, history)?,
         })
     }
 
@@ -86,14 +88,14 @@ impl<V: Drop, M: Drop> Steps<V, M> {
     pub(crate) fn supersteps(&self) -> &[usize]
         ensures { result.now ≡ self.now.steps }
     {
-        self.supersteps.as_slice()
+        self.shared.supersteps.as_slice()
     }
 
     /// The record.
     pub(crate) fn last(&self) -> &Kept<V, M>
         ensures { result.now ≡ self.now.last }
     {
-        &self.last
+        &self.shared.last
     }
 
     /// The last superstep with its record, where it comes before this one.
@@ -104,8 +106,8 @@ impl<V: Drop, M: Drop> Steps<V, M> {
     ) -> Result<Earlier<V, M>, Memory>
         ensures { IfOk result (λ earlier. earlier ≡ last_if_below superstep self.now) }
     {
-        if self.latest < superstep {
-            return Ok(Some((self.latest, self.last.share(alloc)?)));
+        if self.shared.latest < superstep {
+            return Ok(Some((self.shared.latest, self.shared.last.share(alloc)?)));
         }
         Ok(None)
     }
@@ -114,7 +116,7 @@ impl<V: Drop, M: Drop> Steps<V, M> {
     pub(crate) fn earlier(&self, superstep: usize) -> Option<&Kept<V, M>>
         ensures { IfSome result (λ kept. self.now.earlier ≡ Some (superstep, kept.now)) }
     {
-        match &self.earlier {
+        match &self.shared.earlier {
             Some((step, kept)) => { if *step == superstep { Some(kept) } else { None } }
             None => None,
         }
@@ -134,10 +136,9 @@ impl<V: Drop, M: Drop> Steps<V, M> {
           earlier = option_map (λ t. (t, self.old.last)) (last_of self.old.steps);
         }) }
     {
-        add_step(alloc, &mut self.supersteps, superstep)?;
-        let before = replace(&mut self.last, last);
-        self.earlier = Some((self.latest, before));
-        self.latest = superstep;
+        if let Some(last) = add_in_place(&mut self.shared, superstep, last)? {
+            self.shared = longer(alloc, &self.shared, superstep, last)?;
+        }
         Ok(())
     }
 
@@ -146,7 +147,7 @@ impl<V: Drop, M: Drop> Steps<V, M> {
         requires { IsNonDecreasingBy (λ t. t) self.now.steps }
         ensures { IsTrue result → (k : ℕ) → k < length self.now.steps → slice_index self.now.steps k < superstep }
     {
-        self.latest < superstep
+        self.shared.latest < superstep
     }
 
     /// The last of them that is below a superstep: the last of all, the last but one where that is remembered, or found by
@@ -156,10 +157,10 @@ impl<V: Drop, M: Drop> Steps<V, M> {
         ensures { result ≡ last_of (steps_below superstep self.now.steps) }
     {
         if self.are_below(superstep) {
-            return Some(self.latest);
+            return Some(self.shared.latest);
         }
         if self.is_latest(superstep) {
-            if let Some((step, _)) = &self.earlier {
+            if let Some((step, _)) = &self.shared.earlier {
                 return Some(*step);
             }
         }
@@ -170,39 +171,52 @@ impl<V: Drop, M: Drop> Steps<V, M> {
     pub(crate) fn is_latest(&self, superstep: usize) -> bool
         ensures { IsTrue result → Some superstep ≡ last_of self.now.steps }
     {
-        superstep == self.latest
+        superstep == self.shared.latest
     }
 }
 
-/// Adds a superstep to a list, which no copy shares then. Where memory is refused the list stays as it was.
-fn add_step(alloc: Global, list: &mut Arc<Vec<usize>>, superstep: usize) -> Result<(), Memory>
-    ensures ok { OnOk result ((arc_value list.new).items ≡ (arc_value list.old).items ++ superstep ∷ []) }
-    ensures err { OnErr result ((arc_value list.new).items ≡ (arc_value list.old).items) }
+/// Adds a superstep with its record where no copy shares the history. Else nothing changes, and the record comes back.
+fn add_in_place<V: Drop, M: Drop>(
+    shared: &mut Arc<History<V, M>>,
+    superstep: usize,
+    last: Kept<V, M>,
+) -> Result<Option<Kept<V, M>>, Memory>
+    ensures added { IfOk result (λ left. IfNone left (IsPushed superstep last (arc_value shared.old) (arc_value shared.new))) }
+    ensures same { IfOk result (λ left. IfSome left (λ kept. (kept ≡ last) × (arc_value shared.new ≡ arc_value shared.old))) }
+    ensures err { OnErr result (IsSame (arc_value shared.old) (arc_value shared.new)) }
 {
-    if add_in_place(list, superstep)? {
-        return Ok(());
-    }
-    let mut longer = Vec::from_slice(alloc, list.as_slice())?;
-    longer.push(superstep)?;
-    *list = Arc::new(alloc, longer)?;
-    Ok(())
-}
-
-/// The same where no copy shares the list. Else nothing changes, and it says so.
-fn add_in_place(list: &mut Arc<Vec<usize>>, superstep: usize) -> Result<bool, Memory>
-    ensures added { IfOk result (λ added. IsTrue added
-        → (arc_value list.new).items ≡ (arc_value list.old).items ++ superstep ∷ []) }
-    ensures same { IfOk result (λ added. added ≡ false
-        → (arc_value list.new).items ≡ (arc_value list.old).items) }
-    ensures err { OnErr result ((arc_value list.new).items ≡ (arc_value list.old).items) }
-{
-    match Arc::get_mut(list) {
-        Some(steps) => {
-            steps.push(superstep)?;
-            Ok(true)
+    match Arc::get_mut(shared) {
+        Some(history) => {
+            history.supersteps.push(superstep)?;
+            let before = replace(&mut history.last, last);
+            history.earlier = Some((history.latest, before));
+            history.latest = superstep;
+            Ok(None)
         }
-        None => Ok(false),
+        None => Ok(Some(last)),
     }
+}
+
+/// A copy of a history with one superstep more and its record.
+fn longer<V: Drop, M: Drop>(
+    alloc: Global,
+    history: &History<V, M>,
+    superstep: usize,
+    last: Kept<V, M>,
+) -> Result<Arc<History<V, M>>, Memory>
+    ensures { IfOk result (λ longer. IsPushed superstep last history.now (arc_value longer)) }
+{
+    let mut supersteps = Vec::from_slice(alloc, history.supersteps.as_slice())?;
+    supersteps.push(superstep)?;
+    let earlier = Some((history.latest, history.last.share(alloc)?));
+    let latest = superstep;
+    let longer = History {
+        supersteps,
+        latest,
+        last,
+        earlier,
+    };
+    Ok(Arc::new(alloc, longer)?)
 }
 
 /// The last of rising supersteps that is below one, found by halving.

@@ -1,9 +1,11 @@
-use Rattle.std.proofs.Common.{refl, ap, ◌∙◌}
+use Rattle.std.proofs.Common.{refl, ap, Some, ◌∙◌}
+use Rattle.std.specs.Arc.{arc_value}
 use Rattle.pg_index.specs.Ran.{last_of}
 use Rattle.pg_index.proofs.InPlace.{last_of_below}
 use Rattle.pg_index.proofs.steps.Steps.last_below.Goals as goal
 
 pub returns-then-are_below : goal.returns-then-are_below
 returns-then-are_below g c =
-    last_of_below c.args.superstep c.self.inside.latest c.args.self.now.steps (c.if-are_below.ensures refl)
+    ap (λ h. Some h.latest) c.deref.ensures
+    ∙ last_of_below c.args.superstep (arc_value c.self.inside.shared).latest c.args.self.now.steps (c.if-are_below.ensures refl)
     (c.self.invariant.0 ∙ ap (λ s. last_of s.steps) c.self.view_is)

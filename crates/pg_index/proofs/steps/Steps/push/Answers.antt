@@ -1,16 +1,22 @@
-use Rattle.std.proofs.Common.{◌≡◌, ℕ, ◌<◌, [], ◌∷◌, ◌++◌, length, get_or, Some, ap, sym, ◌∙◌, subst}
+use Rattle.std.proofs.Common.{◌≡◌, ℕ, ◌<◌, length, get_or, IfNone, IfSome, sym, ap, ◌∙◌, subst}
 use Rattle.std.specs.Arc.{arc_value}
-use Rattle.pg_index.specs.Ran.{IsLastButOne, last_of}
-use Rattle.pg_index.proofs.InPlace.{last_but_one, last_of-push}
+use Rattle.pg_index.specs.History.{IsPushed, IsSound}
+use Rattle.pg_index.proofs.Histories.{sound-pushed}
 use Rattle.pg_index.proofs.steps.Steps.push.Goals as goal
 
-pub invariant_of-self-2 : goal.invariant_of-self-2
-invariant_of-self-2 g c =
+pub invariant_of-self-in-Some : goal.invariant_of-self-in-Some
+invariant_of-self-in-Some g c =
     let s = c.args.superstep in
-    let steps = (arc_value c.self.inside.supersteps).items in
+    let stays = subst (λ o. IfSome o (λ kept. (kept ≡ c.args.last) × (arc_value c.add_in_place.new.shared ≡ arc_value c.self.inside.shared)))
+    c.in-Some.is c.in_ok-last.ensures.same in
     let low = subst (λ r. (k : ℕ) → k < length r.steps → get_or r.steps k 0 < s) (sym c.self.view_is) c.requires in
-    let pushed : steps ++ s ∷ [] ≡ (arc_value c.add_step.new.list).items = sym c.in_ok-add_step.ensures.ok in (
-      sym (last_of-push steps s) ∙ ap last_of pushed,
-      subst (IsLastButOne (Some (c.self.inside.latest, c.self.inside.last))) pushed
-          (last_but_one s c.self.inside.latest steps low c.self.invariant.0),
-    )
+    sound-pushed s c.in-Some.last (arc_value c.self.inside.shared) (arc_value c.in_ok-self-inside.field-0) c.self.invariant low
+    (subst (λ before. IsPushed s c.in-Some.last before (arc_value c.in_ok-self-inside.field-0)) (c.deref.ensures ∙ stays.1) c.in_ok-self-inside.ensures)
+
+pub invariant_of-self-in_default : goal.invariant_of-self-in_default
+invariant_of-self-in_default g c =
+    let s = c.args.superstep in
+    let pushed = subst (λ o. IfNone o (IsPushed s c.args.last (arc_value c.self.inside.shared) (arc_value c.add_in_place.new.shared)))
+    c.in_default.is c.in_ok-last.ensures.added in
+    let low = subst (λ r. (k : ℕ) → k < length r.steps → get_or r.steps k 0 < s) (sym c.self.view_is) c.requires in
+    sound-pushed s c.args.last (arc_value c.self.inside.shared) (arc_value c.add_in_place.new.shared) c.self.invariant low pushed
