@@ -1,8 +1,8 @@
 #!/usr/bin/env bash
 # Times pregeld beside baseline.rs, a Pregel written by hand in plain Rust, on the same sessions.
 # usage: bench/compare.sh [small|full] [TURNS]        needs rustc and python3
-# For each shape: the import alone, the first refresh (the whole session less the import), that of a program by hand
-# that keeps what pregeld keeps, the ratios, and whether all wrote the same answers. Times are the least of TURNS turns (5),
+# For each shape: the import alone, the first refresh (the whole session less the import), those of programs by hand
+# that keep what pregeld keeps, the ratios, and whether all wrote the same answers. Times are the least of TURNS turns (5),
 # in seconds.
 # PREGELD names a built program in place of crates/pregeld_main/out/pregeld_main.
 set -eu
@@ -24,6 +24,7 @@ work, pregeld, turns = sys.argv[1], sys.argv[2], int(sys.argv[3])
 programs = {
     "by hand": [work + "/baseline"],
     "keeping": [work + "/baseline", "--keep"],
+    "keeping flat": [work + "/baseline", "--flat"],
     "pregeld": [pregeld, "--program", "sssp", "--limit", "10000"],
 }
 for shape in "random", "grid":
@@ -37,7 +38,7 @@ for shape in "random", "grid":
     )
     seconds = {name: taken for name, (taken, _) in times.items()}
     same = len({times[who, "whole"][1] for who in programs}) == 1
-    for part, whom in ("import", "by hand"), ("refresh", "by hand"), ("refresh", "keeping"):
+    for part, whom in ("import", "by hand"), ("refresh", "by hand"), ("refresh", "keeping"), ("refresh", "keeping flat"):
         hand, ours = (
             seconds[who, "import"] if part == "import" else seconds[who, "whole"] - seconds[who, "import"]
             for who in (whom, "pregeld")
