@@ -20,13 +20,10 @@ use Rattle.pg_inbox.specs.Bundles.{Parcels, bundle_of, contents_of}
 use Rattle.pg_inbox.specs.Grouping.{AreGroups, any_of, items_to}
 use Rattle.pg_inbox.specs.Holding.{as_item}
 use Rattle.pg_inbox.specs.Sends.{Sends, letters_to, without_senders}
-use Rattle.pg_inbox.proofs.Grouping.{same_id}
+use Rattle.pg_inbox.proofs.Grouping.{same_id, some_not_empty}
 
 pub at_id : (q id : ℕ) → is_at (nat_cmp q) id ≡ (id == q)
 at_id q id = grind (arith, nat_tests)
-
-pub some_not_empty : {X : Type 0} (x : X) (l : List X) → is_empty (x ∷ l) ≡ false
-some_not_empty x l = grind (arith, nat_tests)
 
 pub any_of_some : {X : Type 0} (l : List X) → is_empty l ≡ false → any_of l ≡ Some l
 any_of_some [] none = absurd (true≢false none)
@@ -157,26 +154,3 @@ module _ {X : Type 0} (P : ℕ × X → Type 0) where
     where
       none_some : (x : X) → ◌≡◌ {A = Option X} None (Some x) → ⊥
       none_some x h = cc
-
--- a group's items are of the items
-module _ {X : Type 0} (P : X → Type 0) where
-  abbrev pub IsGroup : ℕ × List X → Type 0
-  IsGroup g = (is_empty g.1 ≡ false) × AllByRecursion P g.1
-
-  of_items : (q : ℕ) (items : List (ℕ × X)) → AllByRecursion (λ i. P i.1) items → AllByRecursion P (items_to q items)
-  of_items q [] all = tt
-  of_items q (i ∷ items) all = by (i.0 == q) (of_items q items all.1)
-    where
-      by : (b : Bool) → AllByRecursion P (items_to q items)
-          → AllByRecursion P (map (λ i. i.1) (cond b (i ∷ filter (λ i. i.0 == q) items) (filter (λ i. i.0 == q) items)))
-      by true h = (all.0, h)
-      by false h = h
-
-  from_any : (q : ℕ) (l xs : List X) → AllByRecursion P l → any_of l ≡ Some xs → IsGroup (q, xs)
-  from_any q [] xs all h = absurd (let n : ◌≡◌ {A = Option (List X)} None (Some xs) = h in cc)
-  from_any q (x ∷ l) xs all h = let same : x ∷ l ≡ xs = cc in subst (λ ys. IsGroup (q, ys)) same (some_not_empty x l, all)
-
-  pub groups_are : (items : List (ℕ × X)) (groups : List (ℕ × List X)) → AllByRecursion (λ i. P i.1) items → AreGroups items groups
-      → AllByRecursion IsGroup groups
-  groups_are items groups all grouped =
-      all_from_lookups IsGroup groups grouped.rise (λ q xs h. from_any q (items_to q items) xs (of_items q items all) (sym (grouped.told q) ∙ h))

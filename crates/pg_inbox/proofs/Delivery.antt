@@ -1,6 +1,6 @@
 -- The bundles of lists of sends come to what the superstep delivers of all of them.
 use Rattle.std.proofs.Common.{◌≡◌, ℕ, ◌==◌, ◌≤◌, Bool, true, false, cond, List, [], ◌∷◌, ◌++◌, map, Option, None, Some, refl, sym, ap, ap₂}
-use Rattle.std.proofs.Common.{◌∙◌, subst, ◌||◌, All, IsPermutation, filter, flat_map, fold, is_some, append_assoc, length, arith}
+use Rattle.std.proofs.Common.{◌∙◌, subst, ◌||◌, All, IsPermutation, filter, flat_map, fold, is_some, append_assoc, length, arith, take, get_or, ◌+◌, ◌<◌}
 use Rattle.std.specs.List.{AllByRecursion, list_any}
 use Rattle.std.specs.Option.{option_to_list, option_map}
 use Rattle.std.proofs.lemmas.List.{append-nil, map-append}
@@ -10,6 +10,7 @@ use Rattle.std.proofs.lemmas.List.Sorted.{IsPermutation-map, length_permutation}
 use Rattle.std.specs.BTreeMap.{is_at}
 use Rattle.std.specs.Ordering.{nat_cmp}
 use Rattle.pg_map.specs.Entries.{HasRisingIds, value_at}
+use Rattle.pg_map.proofs.Filling.{gathered_after}
 use Rattle.pg_map.proofs.Parts.{rises_after}
 use Rattle.pg_map.proofs.Rising.{none_past}
 use Rattle.pg_model.proofs.LawsFolds.{fold-IsPermutation, fold_from}
@@ -45,6 +46,14 @@ module _ {X Y Z : Type 0} where
   pub flat_map-of_map : (f : Y → List Z) (g : X → Y) (xs : List X) → flat_map f (map g xs) ≡ flat_map (λ x. f (g x)) xs
   flat_map-of_map f g [] = refl
   flat_map-of_map f g (x ∷ xs) = ap (λ l. f (g x) ++ l) (flat_map-of_map f g xs)
+
+  -- a step of a loop that gathers what is made of a part of each element
+  pub gathered_parts : (g : X → Y) (f : Y → List Z) (start : List Z) (xs : List X) (i : ℕ) {x : X} {before after : List Z} → i < length xs
+      → x ≡ get_or xs i x → before ≡ start ++ flat_map f (map g (take i xs)) → after ≡ before ++ f (g x)
+      → after ≡ start ++ flat_map f (map g (take (i + 1) xs))
+  gathered_parts g f start xs i within is so_far pushed =
+      gathered_after (λ x. f (g x)) start xs i within is (so_far ∙ ap (λ l. start ++ l) (flat_map-of_map f g (take i xs))) pushed
+      ∙ ap (λ l. start ++ l) (sym (flat_map-of_map f g (take (i + 1) xs)))
 
 module _ {X Y : Type 0} where
   same_flat_map : (f g : X → List Y) → ((x : X) → f x ≡ g x) → (xs : List X) → flat_map f xs ≡ flat_map g xs

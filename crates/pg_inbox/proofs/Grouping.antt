@@ -1,19 +1,20 @@
--- Items that are put to their targets one after another, and what there is at each target then.
-use Rattle.std.proofs.Common.{◌≡◌, ℕ, ◌<◌, ◌≤◌, ◌==◌, Bool, true, false, cond, not, ◌&&◌, is_lt, List, [], ◌∷◌, ◌++◌, length}
-use Rattle.std.proofs.Common.{map, get_or, suc, Option, None, Some, refl, sym, ap, ◌∙◌, subst, arith, append_assoc}
-use Rattle.std.specs.List.{AllByRecursion, filter, fold}
+-- Items that stand by target, and what there is of each target then.
+use Rattle.std.proofs.Common.{◌≡◌, ℕ, ◌+◌, ◌≤◌, ◌==◌, Bool, true, false, cond, not, ◌&&◌, is_lt, suc, zero, List, [], ◌∷◌, length}
+use Rattle.std.proofs.Common.{map, take, drop, Option, None, Some, refl, sym, ap, ◌∙◌, subst, arith}
+use Rattle.std.specs.List.{AllByRecursion, filter}
 use Rattle.std.specs.List.Sorted.{IsNonDecreasingBy, IsStableByKey, IsStrictlySortedBy, ties}
-use Rattle.std.specs.Ordering.{nat_cmp, match_ordering}
-use Rattle.std.specs.declared.cmp.Ordering.{Ordering}
-use Rattle.std.specs.declared.cmp.Ordering.TheVariants.{Less, Equal, Greater}
-use Rattle.std.proofs.lemmas.List.{append-nil}
-use Rattle.std.specs.BTreeMap.{insert_entry}
+use Rattle.std.specs.BTreeMap.{is_at}
+use Rattle.std.specs.Map.{keys_of}
+use Rattle.std.specs.Ordering.{nat_cmp}
+use Rattle.std.specs.declared.cmp.Ordering.TheVariants.{Less}
 use Rattle.std.proofs.lemmas.Bool.Decides.{nat_tests}
-use Rattle.pg_map.specs.Entries.{HasRisingIds, value_at, with_change}
-use Rattle.pg_map.proofs.Changing.{rises-change, change_same, change_other}
-use Rattle.pg_map.proofs.Parts.{below_middle, change-right, find-right, is_equal, none_below, rises_push}
-use Rattle.pg_map.proofs.Rising.{at_same, insert_entry-last}
-use Rattle.pg_inbox.specs.Grouping.{AreGroups, any_of, group_at, items_to, with_item, with_items}
+use Rattle.std.proofs.lemmas.Map.Entries.{lookup_head, lookup_tail}
+use Rattle.pg_map.specs.Entries.{HasRisingIds, value_at}
+use Rattle.pg_map.proofs.Parts.{From, above_first, from_weaker, is_less, none_from}
+use Rattle.pg_map.proofs.Rising.{at_other, at_same}
+use Rattle.pg_model.specs.Superstep.{is_empty}
+use Rattle.pg_inbox.specs.Grouping.{AreGroups, IsFirstGroup, any_of, before_groups, groups_of, items_to, run_len}
+use Rattle.pg_inbox.proofs.Senders.{IsUp, up_from}
 
 pub same_id : (a b : ℕ) → (a == b) ≡ true → a ≡ b
 same_id a b h = grind (arith, nat_tests)
@@ -21,159 +22,151 @@ same_id a b h = grind (arith, nat_tests)
 pub other_id : (a b : ℕ) → (a == b) ≡ false → b ≡ a → ⊥
 other_id a b h e = grind (arith, nat_tests)
 
+itself : (a : ℕ) → (a == a) ≡ true
+itself a = grind (arith, nat_tests)
+
+higher : (a b : ℕ) → (b == a) ≡ false → a ≤ b → a + 1 ≤ b
+higher a b h e = grind (arith, nat_tests)
+
 tied : (a b : ℕ) → not (is_lt (nat_cmp a b)) && not (is_lt (nat_cmp b a)) ≡ (b == a)
 tied a b = grind (arith, nat_tests)
 
+pub some_not_empty : {X : Type 0} (x : X) (l : List X) → is_empty (x ∷ l) ≡ false
+some_not_empty x l = grind (arith, nat_tests)
+
 module _ {X : Type 0} where
-  group_of_any : (l : List X) → elim (any_of l) [ None ↦ [] | Some xs ↦ xs ] ≡ l
-  group_of_any [] = refl
-  group_of_any (x ∷ l) = refl
+  -- ---- the first target
 
-  any-push : (l : List X) (x : X) → Some (l ++ x ∷ []) ≡ any_of (l ++ x ∷ [])
-  any-push [] x = refl
-  any-push (y ∷ l) x = refl
-
-  -- ---- the last target
-
-  module _ (groups before : List (ℕ × List X)) (target : ℕ) (xs : List X) (x : X) (are : groups ≡ before ++ (target, xs) ∷ [])
-      (rise : HasRisingIds groups) where
-    below : AllByRecursion (λ g. g.0 < target) before
-    below = below_middle before (target, xs) [] (subst HasRisingIds are rise)
-
-    there : value_at target groups ≡ Some xs
-    there =
-        ap (value_at target) are
-        ∙ find-right target before ((target, xs) ∷ []) (none_below target target before (omega arith) below)
-        ∙ ap (λ b. cond b (Some xs) None) (at_same target)
-
-    pub put_to_last : before ++ (target, xs ++ x ∷ []) ∷ [] ≡ with_item groups (target, x)
-    put_to_last =
-        let change : Option (List X) = Some (xs ++ x ∷ []) in
-        sym (ap (λ o. with_change target (Some (elim o [ None ↦ [] | Some ys ↦ ys ] ++ x ∷ [])) groups) there
-        ∙ ap (with_change target change) are
-        ∙ change-right target change before ((target, xs) ∷ []) below
-        ∙ ap (λ r. before ++ match_ordering r ((target, xs ++ x ∷ []) ∷ (target, xs) ∷ []) ((target, xs ++ x ∷ []) ∷ [])
-        ((target, xs) ∷ insert_entry nat_cmp [] target (xs ++ x ∷ []))) (is_equal target))
-
-  pub put_after_last : (groups : List (ℕ × List X)) (target : ℕ) (x : X) → HasRisingIds groups → AllByRecursion (λ g. g.0 < target) groups
-      → groups ++ (target, x ∷ []) ∷ [] ≡ with_item groups (target, x)
-  put_after_last groups target x rise below =
-      sym (ap (λ o. with_change target (Some (elim o [ None ↦ [] | Some ys ↦ ys ] ++ x ∷ [])) groups) (none_below target target groups (omega arith) below)
-      ∙ insert_entry-last groups (target, x ∷ []) [] (rises_push groups target (x ∷ []) rise below))
-
-  -- ids that rise to a last one below a number are all below it
-  pub below_target : (groups before : List (ℕ × List X)) (last : ℕ × List X) (target : ℕ) → groups ≡ before ++ last ∷ []
-      → HasRisingIds groups → last.0 < target → AllByRecursion (λ g. g.0 < target) groups
-  below_target groups before last target are rise less =
-      subst (AllByRecursion (λ g. g.0 < target)) (sym are) (all before (below_middle before last [] (subst HasRisingIds are rise)))
+  first_run : (i : ℕ × X) (l : List (ℕ × X))
+      → groups_of (i ∷ l) ≡ (i.0, map (λ i. i.1) (i ∷ take (run_len i.0 l) l)) ∷ groups_of (drop (run_len i.0 l) l)
+  first_run i [] = refl
+  first_run i (j ∷ l) = ap (before_groups i) (first_run j l) ∙ by (j.0 == i.0) refl (first_run j l)
     where
-      all : (l : List (ℕ × List X)) → AllByRecursion (λ g. g.0 < last.0) l → AllByRecursion (λ g. g.0 < target) (l ++ last ∷ [])
-      all [] h = (less, tt)
-      all (g ∷ l) h = (let e = h.0 in omega arith, all l h.1)
+      by : (b : Bool) → (j.0 == i.0) ≡ b
+          → groups_of (j ∷ l) ≡ (j.0, map (λ i. i.1) (j ∷ take (run_len j.0 l) l)) ∷ groups_of (drop (run_len j.0 l) l)
+          → cond b ((i.0, i.1 ∷ map (λ i. i.1) (j ∷ take (run_len j.0 l) l)) ∷ groups_of (drop (run_len j.0 l) l))
+          ((i.0, i.1 ∷ []) ∷ (j.0, map (λ i. i.1) (j ∷ take (run_len j.0 l) l)) ∷ groups_of (drop (run_len j.0 l) l))
+          ≡ (i.0, map (λ i. i.1) (i ∷ take (cond b (suc (run_len i.0 l)) zero) (j ∷ l))) ∷ groups_of (drop (cond b (suc (run_len i.0 l)) zero) (j ∷ l))
+      by true e later = ap (λ k. (i.0, i.1 ∷ map (λ i. i.1) (j ∷ take (run_len k l) l)) ∷ groups_of (drop (run_len k l) l)) (same_id j.0 i.0 e)
+      by false e later = ap (λ gs. (i.0, i.1 ∷ []) ∷ gs) (sym later)
 
-  pub last_at_most : (groups before : List (ℕ × List X)) (last : ℕ × List X) (target : ℕ) → groups ≡ before ++ last ∷ []
-      → AllByRecursion (λ g. g.0 ≤ target) groups → last.0 ≤ target
-  last_at_most groups before last target are all = at before (subst (AllByRecursion (λ g. g.0 ≤ target)) are all)
+  pub run_within : (target : ℕ) (items : List (ℕ × X)) → run_len target items ≤ length items
+  run_within target [] = omega arith
+  run_within target (i ∷ items) = by (i.0 == target) (run_within target items)
     where
-      at : (l : List (ℕ × List X)) → AllByRecursion (λ g. g.0 ≤ target) (l ++ last ∷ []) → last.0 ≤ target
-      at [] h = h.0
-      at (g ∷ l) h = at l h.1
+      by : (b : Bool) → run_len target items ≤ length items → cond b (suc (run_len target items)) zero ≤ length (i ∷ items)
+      by true h = omega arith
+      by false h = omega arith
 
-  -- ---- all items
+  -- as many items as are to the first target are its group
+  pub first_group_is : (items : List (ℕ × X)) (first : ℕ × X) (rest here later : List (ℕ × X)) (n : ℕ) → items ≡ first ∷ rest
+      → n ≡ run_len first.0 items → here ≡ take n items → later ≡ drop n items → length later + n ≡ length items
+      → IsFirstGroup items first.0 here later
+  first_group_is items first rest here later n is counted front back whole =
+      let count : n ≡ suc (run_len first.0 rest) =
+      counted ∙ ap (run_len first.0) is ∙ ap (λ b. cond b (suc (run_len first.0 rest)) zero) (itself first.0) in
+      let group : here ≡ first ∷ take (run_len first.0 rest) rest = front ∙ ap (take n) is ∙ ap (λ n. take n (first ∷ rest)) count in
+      let others : later ≡ drop (run_len first.0 rest) rest = back ∙ ap (drop n) is ∙ ap (λ n. drop n (first ∷ rest)) count in
+      record {
+        some = ap is_empty group ∙ some_not_empty first (take (run_len first.0 rest) rest);
+        fewer = omega (arith, count, whole);
+        groups = ap groups_of is ∙ first_run first rest
+            ∙ (ap (λ l. (first.0, map (λ i. i.1) l) ∷ groups_of (drop (run_len first.0 rest) rest)) (sym group)
+            ∙ ap (λ l. (first.0, map (λ i. i.1) here) ∷ groups_of l) (sym others));
+      }
 
-  rises-fold : (items : List (ℕ × X)) (groups : List (ℕ × List X)) → HasRisingIds groups → HasRisingIds (fold with_item groups items)
-  rises-fold [] groups rise = rise
-  rises-fold (i ∷ items) groups rise =
-      rises-fold items (with_item groups i) (rises-change i.0 (Some (group_at i.0 groups ++ i.1 ∷ [])) groups rise)
+  -- ---- an item before groups
 
-  pub rises-items : (items : List (ℕ × X)) → HasRisingIds (with_items items)
+  abbrev opened : Option (List X) → List X
+  opened o = elim o [ None ↦ [] | Some xs ↦ xs ]
+
+  opened_any : (l : List X) → opened (any_of l) ≡ l
+  opened_any [] = refl
+  opened_any (x ∷ l) = refl
+
+  from_before : (m : ℕ) (i : ℕ × X) (gs : List (ℕ × List X)) → m ≤ i.0 → From m gs → From m (before_groups i gs)
+  from_before m i [] h all = (h, tt)
+  from_before m i (g ∷ gs) h all = by (g.0 == i.0)
+    where
+      by : (b : Bool) → From m (cond b ((i.0, i.1 ∷ g.1) ∷ gs) ((i.0, i.1 ∷ []) ∷ g ∷ gs))
+      by true = (h, all.1)
+      by false = (h, all)
+
+  from_groups : (m : ℕ) (items : List (ℕ × X)) → AllByRecursion (λ i. m ≤ i.0) items → From m (groups_of items)
+  from_groups m [] all = tt
+  from_groups m (i ∷ items) all = from_before m i (groups_of items) all.0 (from_groups m items all.1)
+
+  rises_first : (i : ℕ) (xs : List X) (gs : List (ℕ × List X)) → From (i + 1) gs → HasRisingIds gs → HasRisingIds ((i, xs) ∷ gs)
   unfolding IsStrictlySortedBy
-  rises-items items = rises-fold items [] tt
-
-  pub with_items-push : (items : List (ℕ × X)) (i : ℕ × X) → with_items (items ++ i ∷ []) ≡ with_item (with_items items) i
-  with_items-push items i = from items []
+  rises_first i xs gs above rise = (keys gs above, rise)
     where
-      from : (l : List (ℕ × X)) (groups : List (ℕ × List X)) → fold with_item groups (l ++ i ∷ []) ≡ with_item (fold with_item groups l) i
-      from [] groups = refl
-      from (j ∷ l) groups = from l (with_item groups j)
+      keys : (gs : List (ℕ × List X)) → From (i + 1) gs → AllByRecursion (λ k. nat_cmp i k ≡ Less) (keys_of gs)
+      keys [] h = tt
+      keys (g ∷ gs) h = (is_less i g.0 (let a = h.0 in omega arith), keys gs h.1)
 
-  at_most-change : (bound k : ℕ) (v : List X) (es : List (ℕ × List X)) → AllByRecursion (λ g. g.0 ≤ bound) es → k ≤ bound
-      → AllByRecursion (λ g. g.0 ≤ bound) (insert_entry nat_cmp es k v)
-  at_most-change bound k v [] all h = (h, tt)
-  at_most-change bound k v (e ∷ es) all h = by (nat_cmp k e.0) (at_most-change bound k v es all.1 h)
-    where
-      by : (r : Ordering) → AllByRecursion (λ g. g.0 ≤ bound) (insert_entry nat_cmp es k v)
-          → AllByRecursion (λ g. g.0 ≤ bound) (match_ordering r ((k, v) ∷ e ∷ es) ((e.0, v) ∷ es) (e ∷ insert_entry nat_cmp es k v))
-      by Less later = (h, all)
-      by Equal later = all
-      by Greater later = (all.0, later)
+  module _ (i : ℕ × X) where
+    above : (g : ℕ × List X) (gs : List (ℕ × List X)) → (g.0 == i.0) ≡ false → From i.0 (g ∷ gs) → HasRisingIds (g ∷ gs) → From (i.0 + 1) (g ∷ gs)
+    above g gs e from rise =
+        let h = higher i.0 g.0 e from.0 in (h, from_weaker (i.0 + 1) (g.0 + 1) gs (omega arith) (above_first g gs rise))
 
-  at_most-fold : (bound : ℕ) (items : List (ℕ × X)) (groups : List (ℕ × List X)) → AllByRecursion (λ i. i.0 ≤ bound) items
-      → AllByRecursion (λ g. g.0 ≤ bound) groups → AllByRecursion (λ g. g.0 ≤ bound) (fold with_item groups items)
-  at_most-fold bound [] groups all so_far = so_far
-  at_most-fold bound (i ∷ items) groups all so_far =
-      at_most-fold bound items (with_item groups i) all.1 (at_most-change bound i.0 (group_at i.0 groups ++ i.1 ∷ []) groups so_far all.0)
-
-  -- no target is above all of the items'
-  pub at_most-items : (bound : ℕ) (items : List (ℕ × X)) → AllByRecursion (λ i. i.0 ≤ bound) items
-      → AllByRecursion (λ g. g.0 ≤ bound) (with_items items)
-  at_most-items bound items all = at_most-fold bound items [] all tt
-
-  module _ (target : ℕ) where
-    abbrev Told : List (ℕ × X) → Type 0
-    Told items =
-        (groups : List (ℕ × List X)) (l : List X) → HasRisingIds groups → value_at target groups ≡ any_of l → value_at target
-        (fold with_item groups items) ≡ any_of (l ++ items_to target items)
-
-    told-fold : (items : List (ℕ × X)) → Told items
-    told-fold [] groups l rise so_far = so_far ∙ ap any_of (sym (append-nil l))
-    told-fold (i ∷ items) groups l rise so_far = by (i.0 == target) refl (told-fold items)
+    rises_before : (gs : List (ℕ × List X)) → From i.0 gs → HasRisingIds gs → HasRisingIds (before_groups i gs)
+    rises_before [] from rise = rises_first i.0 (i.1 ∷ []) [] tt rise
+    rises_before (g ∷ gs) from rise = by (g.0 == i.0) refl
       where
-        rise' : HasRisingIds (with_item groups i)
-        rise' = rises-change i.0 (Some (group_at i.0 groups ++ i.1 ∷ [])) groups rise
+        by : (b : Bool) → (g.0 == i.0) ≡ b → HasRisingIds (cond b ((i.0, i.1 ∷ g.1) ∷ gs) ((i.0, i.1 ∷ []) ∷ g ∷ gs))
+        by true e = subst (λ k. HasRisingIds ((k, i.1 ∷ g.1) ∷ gs)) (same_id g.0 i.0 e) rise
+        by false e = rises_first i.0 (i.1 ∷ []) (g ∷ gs) (above g gs e from rise) rise
 
-        by : (b : Bool) → (i.0 == target) ≡ b → Told items
-            → value_at target (fold with_item (with_item groups i) items) ≡ any_of
-            (l ++ map (λ i. i.1) (cond b (i ∷ filter (λ i. i.0 == target) items) (filter (λ i. i.0 == target) items)))
-        by true e told =
-            let same : i.0 ≡ target = same_id i.0 target e in
-            let group : group_at i.0 groups ≡ l = ap (λ q. group_at q groups) same
-            ∙ (ap (λ (o : Option (List X)). elim o [ None ↦ [] | Some xs ↦ xs ]) so_far ∙ group_of_any l) in
-            let now : value_at target (with_item groups i) ≡ any_of (l ++ i.1 ∷ []) =
-            ap (λ q. value_at q (with_item groups i)) (sym same) ∙ (change_same i.0 (Some (group_at i.0 groups ++ i.1 ∷ [])) groups rise
-            ∙ (ap (λ g. Some (g ++ i.1 ∷ [])) group ∙ any-push l i.1)) in
-            told (with_item groups i) (l ++ i.1 ∷ []) rise' now ∙ ap any_of (append_assoc l (i.1 ∷ []) (items_to target items))
-        by false e told =
-            told (with_item groups i) l rise' (change_other i.0 (Some (group_at i.0 groups ++ i.1 ∷ [])) groups target (other_id i.0 target e)
-            ∙ so_far)
+    same_before : (gs : List (ℕ × List X)) → From i.0 gs → HasRisingIds gs
+        → value_at i.0 (before_groups i gs) ≡ Some (i.1 ∷ opened (value_at i.0 gs))
+    same_before [] from rise = lookup_head (is_at (nat_cmp i.0)) (i.0, i.1 ∷ []) [] (at_same i.0)
+    same_before (g ∷ gs) from rise = by (g.0 == i.0) refl
+      where
+        by : (b : Bool) → (g.0 == i.0) ≡ b
+            → value_at i.0 (cond b ((i.0, i.1 ∷ g.1) ∷ gs) ((i.0, i.1 ∷ []) ∷ g ∷ gs)) ≡ Some (i.1 ∷ opened (value_at i.0 (g ∷ gs)))
+        by true e =
+            lookup_head (is_at (nat_cmp i.0)) (i.0, i.1 ∷ g.1) gs (at_same i.0)
+            ∙ ap (λ o. Some (i.1 ∷ opened o))
+            (sym (lookup_head (is_at (nat_cmp i.0)) g gs (ap (is_at (nat_cmp i.0)) (same_id g.0 i.0 e) ∙ at_same i.0)))
+        by false e =
+            lookup_head (is_at (nat_cmp i.0)) (i.0, i.1 ∷ []) (g ∷ gs) (at_same i.0)
+            ∙ ap (λ o. Some (i.1 ∷ opened o)) (sym (none_from i.0 (i.0 + 1) (g ∷ gs) (omega arith) (above g gs e from rise)))
 
-    -- a target has those of the items that go to it
-    pub told-items : (items : List (ℕ × X)) → value_at target (with_items items) ≡ any_of (items_to target items)
-    unfolding IsStrictlySortedBy
-    told-items items = told-fold items [] [] tt refl
+    other_before : (q : ℕ) → (q ≡ i.0 → ⊥) → (gs : List (ℕ × List X)) → value_at q (before_groups i gs) ≡ value_at q gs
+    other_before q apart [] = lookup_tail (is_at (nat_cmp q)) (i.0, i.1 ∷ []) [] (at_other q i.0 apart)
+    other_before q apart (g ∷ gs) = by (g.0 == i.0) refl
+      where
+        by : (b : Bool) → (g.0 == i.0) ≡ b → value_at q (cond b ((i.0, i.1 ∷ g.1) ∷ gs) ((i.0, i.1 ∷ []) ∷ g ∷ gs)) ≡ value_at q (g ∷ gs)
+        by true e =
+            lookup_tail (is_at (nat_cmp q)) (i.0, i.1 ∷ g.1) gs (at_other q i.0 apart)
+            ∙ sym (lookup_tail (is_at (nat_cmp q)) g gs (at_other q g.0 (λ s. apart (s ∙ same_id g.0 i.0 e))))
+        by false e = lookup_tail (is_at (nat_cmp q)) (i.0, i.1 ∷ []) (g ∷ gs) (at_other q i.0 apart)
 
   -- ---- items by rising target
 
-  -- the items before one have no higher target
-  pub before_at_most : (before : List (ℕ × X)) (i : ℕ × X) (later : List (ℕ × X)) → IsNonDecreasingBy (λ j. j.0) (before ++ i ∷ later)
-      → AllByRecursion (λ j. j.0 ≤ i.0) before
-  before_at_most [] i later rise = tt
-  before_at_most (b ∷ before) i later rise = (
-    last_is before (rise 0 (length (b ∷ before)) i (omega arith) (inside before)),
-    before_at_most before i later
-        (λ j k d h w. rise (suc j) (suc k) d (omega arith) (omega arith)),
-  )
+  rises_groups : (items : List (ℕ × X)) → IsUp (λ i. i.0) items → HasRisingIds (groups_of items)
+  unfolding IsStrictlySortedBy
+  rises_groups [] up = tt
+  rises_groups (i ∷ items) up = rises_before i (groups_of items) (from_groups i.0 items up.0) (rises_groups items up.1)
+
+  -- each target has those of the items that go to it
+  told_groups : (q : ℕ) (items : List (ℕ × X)) → IsUp (λ i. i.0) items → value_at q (groups_of items) ≡ any_of (items_to q items)
+  told_groups q [] up = refl
+  told_groups q (i ∷ items) up = by (i.0 == q) refl (told_groups q items up.1)
     where
-      inside : (l : List (ℕ × X)) → length (b ∷ l) < length (b ∷ l ++ i ∷ later)
-      inside [] = omega arith
-      inside (x ∷ l) = let h = inside l in omega arith
+      gs : List (ℕ × List X)
+      gs = groups_of items
 
-      found : (l : List (ℕ × X)) → get_or (l ++ i ∷ later) (length l) i ≡ i
-      found [] = refl
-      found (x ∷ l) = found l
+      by : (b : Bool) → (i.0 == q) ≡ b → value_at q gs ≡ any_of (items_to q items)
+          → value_at q (before_groups i gs) ≡ any_of (map (λ i. i.1) (cond b (i ∷ filter (λ i. i.0 == q) items) (filter (λ i. i.0 == q) items)))
+      by true e told =
+          let same = same_id i.0 q e in
+          subst (λ k. value_at k (before_groups i gs) ≡ Some (i.1 ∷ opened (value_at k gs))) same
+          (same_before i gs (from_groups i.0 items up.0) (rises_groups items up.1))
+          ∙ ap (λ l. Some (i.1 ∷ l)) (ap opened told ∙ opened_any (items_to q items))
+      by false e told = other_before i q (other_id i.0 q e) gs ∙ told
 
-      last_is : (l : List (ℕ × X)) → b.0 ≤ (get_or (l ++ i ∷ later) (length l) i).0 → b.0 ≤ i.0
-      last_is l h = subst (λ (x : ℕ × X). b.0 ≤ x.0) (found l) h
+  -- ---- a stable sort
 
   filter_same : (p q : ℕ × X → Bool) → ((x : ℕ × X) → p x ≡ q x) → (xs : List (ℕ × X)) → filter p xs ≡ filter q xs
   filter_same p q same [] = refl
@@ -192,10 +185,11 @@ module _ {X : Type 0} where
   stays [] (s ∷ sorted) stable q = stays_with s.1 [] (s ∷ sorted) stable q
   stays (i ∷ items) sorted stable q = stays_with i.1 (i ∷ items) sorted stable q
 
-  -- so what is put side by side after it is grouped
-  pub groups_of_sorted : (items sorted : List (ℕ × X)) (groups : List (ℕ × List X)) → IsStableByKey (λ i. i.0) nat_cmp items sorted
-      → groups ≡ with_items sorted → AreGroups items groups
-  groups_of_sorted items sorted groups stable are = record {
-    rise = subst HasRisingIds (sym are) (rises-items sorted);
-    told = λ target. ap (value_at target) are ∙ (told-items target sorted ∙ ap (λ l. any_of (map (λ i. i.1) l)) (stays items sorted stable target));
-  }
+  pub groups_of_sorted : (items sorted : List (ℕ × X)) → IsNonDecreasingBy (λ i. i.0) sorted → IsStableByKey (λ i. i.0) nat_cmp items sorted
+      → AreGroups items (groups_of sorted)
+  groups_of_sorted items sorted rise stable =
+      let up = up_from (λ i. i.0) sorted rise in
+      record {
+        rise = rises_groups sorted up;
+        told = λ target. told_groups target sorted up ∙ ap (λ l. any_of (map (λ i. i.1) l)) (stays items sorted stable target);
+      }

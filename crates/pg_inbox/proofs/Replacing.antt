@@ -29,7 +29,7 @@ use Rattle.pg_inbox.specs.declared.patching.Mend.{Mend}
 use Rattle.pg_inbox.proofs.Bundling.{at_id, is_bundle_of, rises-bundle_of, value_at-bundle_of}
 use Rattle.pg_inbox.proofs.Grouping.{other_id, same_id, stays}
 use Rattle.pg_inbox.proofs.Delivery.{letters_at-bundle_of, same_letters, up_letters}
-use Rattle.pg_inbox.proofs.Senders.{IsUp, from, in_order-from, in_order-up, same_by_number, up_from}
+use Rattle.pg_inbox.proofs.Senders.{IsUp, from, in_order-from, in_order-up, same_by_number, up_from, up_in_order}
 
 -- ---- a stable sort by sender
 
@@ -172,7 +172,7 @@ module _ {M : Type 0} (q : ℕ) where
 pub mended_none : {M : Type 0} (letters : List (ℕ × M)) → IsUp (λ l. l.0) letters → mended [] letters ≡ letters
 mended_none letters up =
     ap in_order (append-nil (filter (λ l. true) letters) ∙ all_pass (λ l. true) (λ l. refl) letters)
-    ∙ same_by_number (in_order letters) letters (in_order-up letters) up (λ q. in_order-from q letters)
+    ∙ up_in_order letters up
 
 -- ---- the whole bundle
 
@@ -219,10 +219,9 @@ module _ {X : Type 0} where
       let parts = or_parts (c.0 == q) (has_id (keys_of changes) q) h in
       unchanged_at changes (with_change c.0 c.1 entries) q parts.1 ∙ change_other c.0 c.1 entries q (other_id c.0 q parts.0)
 
-pub candidates : {M : Type 0} (combining : Option (Combining M)) (old new : Parcels M) (groups : List (ℕ × List (Mend M))) (ids : List ℕ)
-    → HasRisingIds groups → new ≡ with_changes (changes_of combining old groups) old → ids ≡ keys_of groups → AreCandidates old new ids
-candidates combining old new groups ids rise are keys = record {
+pub candidates : {M : Type 0} (old new : Parcels M) (changes : List (ℕ × Option (Contents M))) (ids : List ℕ)
+    → ChangesRise changes → new ≡ with_changes changes old → ids ≡ keys_of changes → AreCandidates old new ids
+candidates old new changes ids rise are keys = record {
   rise = subst (IsStrictlySortedBy nat_cmp) (sym keys) rise;
-  others = λ id h. ap (entries_in id) (sym (ap (value_at id) are
-      ∙ unchanged_at (changes_of combining old groups) old id (ap (λ l. has_id l id) (keys-made (mended_at combining old) groups ∙ sym keys) ∙ h)));
+  others = λ id h. ap (entries_in id) (sym (ap (value_at id) are ∙ unchanged_at changes old id (ap (λ l. has_id l id) (sym keys) ∙ h)));
 }

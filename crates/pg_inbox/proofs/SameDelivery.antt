@@ -1,5 +1,5 @@
 -- Bundles that are the same at a target deliver the same to it; and what bundles hold as they are made.
-use Rattle.std.proofs.Common.{◌≡◌, ℕ, List, [], ◌∷◌, ◌++◌, map, Option, None, Some, option_map, refl, sym, ap, ap₂, ◌∙◌, subst, subst₂, flat_map}
+use Rattle.std.proofs.Common.{◌≡◌, ℕ, List, [], ◌∷◌, ◌++◌, map, Option, None, Some, option_map, refl, sym, ap, ap₂, ◌∙◌, subst₂, flat_map}
 use Rattle.std.specs.BTreeMap.{insert_entry, is_at}
 use Rattle.std.specs.List.{AllByRecursion}
 use Rattle.std.specs.Map.{remove_entry, values_of}
@@ -14,29 +14,21 @@ use Rattle.pg_model.specs.Superstep.{combined}
 use Rattle.pg_inbox.specs.Alike.{AllSameAt, DeliverAlike}
 use Rattle.pg_inbox.specs.Bundles.{Entry, Parcels, bundle_of, contents_of, entries_in, entries_to, messages}
 use Rattle.pg_inbox.specs.Grouping.{any_of}
-use Rattle.pg_inbox.specs.Holding.{HoldAll, Holds, HoldsAt, IsLetters}
+use Rattle.pg_inbox.specs.Holding.{HoldAll, Holds, HoldsAt}
 use Rattle.pg_inbox.specs.Inboxes.{contents_to, letters_at, received_of}
 use Rattle.pg_inbox.specs.Ordered.{in_order}
 use Rattle.pg_inbox.specs.Sends.{Sends, letters_to}
 use Rattle.pg_inbox.specs.declared.parcel.Contents.{Contents}
 use Rattle.pg_inbox.proofs.Bundling.{value_at-bundle_of}
-use Rattle.pg_inbox.proofs.Delivery.{delivers_received, folded_at, folded_of_all, letters_at-bundle_of, letters_of_all}
+use Rattle.pg_inbox.proofs.Delivery.{all_to_map, delivers_received, folded_at, folded_of_all, letters_at-bundle_of, letters_of_all}
 use Rattle.pg_inbox.proofs.Differing.{letter_of, letters_back}
 
 -- ---- what is held
 
 module _ {M : Type 0} (is_value : M → Type 0) where
-  -- of the groups of a bundle's messages
-  pub hold-groups : (combining : Option (Combining M)) (groups : List (ℕ × List (ℕ × M))) (parcels : Parcels M)
-      → AllByRecursion (λ g. IsLetters is_value g.1) groups → parcels ≡ map (λ g. (g.0, contents_of combining g.1)) groups → HoldAll is_value parcels
-  hold-groups combining groups parcels letters are =
-      subst (HoldAll is_value) (sym are)
-      (All-from_recursion (Holds is_value) (values_of (map (λ g. (g.0, contents_of combining g.1)) groups)) (each groups letters))
-    where
-      each : (gs : List (ℕ × List (ℕ × M))) → AllByRecursion (λ g. IsLetters is_value g.1) gs
-          → AllByRecursion (Holds is_value) (values_of (map (λ g. (g.0, contents_of combining g.1)) gs))
-      each [] h = tt
-      each (g ∷ gs) h = (h.0, each gs h.1)
+  -- of each target
+  pub hold-all : (parcels : Parcels M) → AllByRecursion (λ e. Holds is_value e.1) parcels → HoldAll is_value parcels
+  hold-all parcels hold = All-from_recursion (Holds is_value) (values_of parcels) (all_to_map (Holds is_value) (λ e. e.1) parcels hold)
 
   -- after changes that hold
   pub hold-changes : (changes : List (ℕ × Option (Contents M))) (old : Parcels M) → AllByRecursion (λ c. HoldsAt is_value c.1) changes

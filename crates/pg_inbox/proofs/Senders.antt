@@ -1,14 +1,14 @@
 -- Sends by sender: the messages to one target are told by what each sender sent to it.
-use Rattle.std.proofs.Common.{◌≡◌, ℕ, suc, ◌<◌, ◌≤◌, ◌==◌, Bool, true, false, cond, List, [], ◌∷◌, length, get_or}
+use Rattle.std.proofs.Common.{◌≡◌, ℕ, ◌+◌, zero, suc, drop, ◌<◌, ◌≤◌, ◌==◌, Bool, true, false, cond, List, [], ◌∷◌, length, get_or}
 use Rattle.std.proofs.Common.{refl, sym, ap, ap₂, ◌∙◌, subst, arith, inl, inr, IsPermutation, filter}
 use Rattle.std.specs.List.{AllByRecursion}
 use Rattle.std.specs.List.Sorted.{IsNonDecreasingBy}
-use Rattle.std.proofs.lemmas.Bool.{cases_order}
+use Rattle.std.proofs.lemmas.Bool.{cases_order, eqb-true}
 use Rattle.std.proofs.lemmas.Bool.Decides.{nat_tests}
 use Rattle.std.proofs.lemmas.List.Sorted.{IsPermutation-cons, IsPermutation-middle, IsPermutation-refl, IsPermutation-trans}
 use Rattle.std.specs.Prelude.{nat_lt}
+use Rattle.pg_map.proofs.Moved.{first_of_rest}
 use Rattle.pg_inbox.specs.Ordered.{in_order, put}
-use Rattle.pg_inbox.proofs.Grouping.{same_id}
 
 apart : (a b : ℕ) → a < b → (b == a) ≡ false
 apart a b h = grind (arith, nat_tests)
@@ -107,7 +107,7 @@ module _ {X : Type 0} where
       ap₂ ◌∷◌ head (same_by_number xs ys h.1 k.1 (λ q. later at tail q (x.0 == q) refl))
     where
       later : x.0 ≡ y.0 → from x.0 xs ≡ from x.0 ys → (q : ℕ) (b : Bool) → (x.0 == q) ≡ b → from q xs ≡ from q ys
-      later at tail q true e = let here : x.0 ≡ q = same_id x.0 q e in subst (λ n. from n xs ≡ from n ys) here tail
+      later at tail q true e = let here : x.0 ≡ q = eqb-true x.0 q e in subst (λ n. from n xs ≡ from n ys) here tail
       later at tail q false e =
           ap (λ b. cond b (x ∷ from q xs) (from q xs)) (sym e) ∙ (same q ∙ ap (λ b. cond b (y ∷ from q ys) (from q ys)) (ap (λ n. n == q) (sym at) ∙ e))
 
@@ -169,6 +169,25 @@ module _ {X : Type 0} where
       by true e h = ap (λ l. cond (y.0 == q) (y ∷ l) l) h ∙ swap_first (y.0 == q) (x.0 == q) (λ k. unlike y.0 x.0 e q k) (from q ys)
       by false e h = refl
 
+  -- ---- a list that is in order already
+
+  -- before an element that isn't below it
+  pub up_step : (l : List (ℕ × X)) (q p : ℕ) {x y : ℕ × X} → q + 1 ≡ p → p < length l → x ≡ get_or l q x → y ≡ get_or l p y → x.0 ≤ y.0
+      → Up (drop p l) → Up (drop q l)
+  up_step l q p {x} {y} next within first second le up =
+      let rest = drop (p + 1) l in
+      let two : drop p l ≡ y ∷ rest = first_of_rest l p within second in
+      let all : drop q l ≡ x ∷ y ∷ rest = first_of_rest l q (omega (arith, next, within)) first ∙ ap (λ n. x ∷ drop n l) next ∙ ap (λ k. x ∷ k) two in
+      let above = subst Up two up in
+      subst Up (sym all) ((le, from_higher x.0 y.0 rest le above.0), above)
+
+  pub up_short : (l : List (ℕ × X)) (n : ℕ) → length l ≤ n + 1 → Up (drop n l)
+  up_short [] zero h = tt
+  up_short [] (suc n) h = tt
+  up_short (x ∷ []) zero h = (tt, tt)
+  up_short (x ∷ y ∷ l) zero h = absurd (omega arith)
+  up_short (x ∷ l) (suc n) h = up_short l n (omega arith)
+
   pub in_order-from : (q : ℕ) (xs : List (ℕ × X)) → from q (in_order xs) ≡ from q xs
   unfolding in_order
   in_order-from q [] = refl
@@ -178,3 +197,6 @@ module _ {X : Type 0} where
   pub permutation_by_number : (xs ys : List (ℕ × X)) → Up ys → ((q : ℕ) → from q ys ≡ from q xs) → IsPermutation xs ys
   permutation_by_number xs ys up same =
       subst (λ l. IsPermutation xs l) (same_by_number (in_order xs) ys (in_order-up xs) up (λ q. in_order-from q xs ∙ sym (same q))) (in_order-permutation xs)
+
+  pub up_in_order : (xs : List (ℕ × X)) → Up xs → in_order xs ≡ xs
+  up_in_order xs up = same_by_number (in_order xs) xs (in_order-up xs) up (λ q. in_order-from q xs)

@@ -5,7 +5,7 @@ use Rattle.std.specs.List.{fold, sum_by}
 use Rattle.std.proofs.lemmas.List.Sums.{fold_push, sum_by-cons}
 use Rattle.pg_model.specs.Job.{Combining}
 use Rattle.pg_model.specs.Superstep.{combined, is_empty}
-use Rattle.pg_inbox.proofs.Bundling.{some_not_empty}
+use Rattle.pg_inbox.proofs.Grouping.{some_not_empty}
 
 module _ {X : Type 0} where
   pub counted_one : (f : X → ℕ) (rest : List X) (before : ℕ) {x : X} {left : List X} {after whole : ℕ} → left ≡ x ∷ rest

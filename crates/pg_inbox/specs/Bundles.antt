@@ -31,6 +31,10 @@ module _ {M : Type 0} where
   abbrev pub contents_of : Option (Combining M) → List (ℕ × M) → Contents M
   contents_of combining letters = record { letters = letters; folded = folded combining (messages letters) }
 
+  -- those of each target, of messages by target
+  abbrev pub parcels_of : Option (Combining M) → List (ℕ × List (ℕ × M)) → Parcels M
+  parcels_of combining groups = map (λ g. (g.0, contents_of combining g.1)) groups
+
   -- what these sends are as a bundle
   abbrev pub bundle_of : Option (Combining M) → Sends M → Parcels M
   bundle_of combining sent =

@@ -30,6 +30,10 @@ module _ {M : Type 0} where
   received_of None contents = messages (in_order (flat_map (λ c. c.letters) contents))
   received_of (Some c) contents = combined (Some c) (flat_map (λ c. option_to_list c.folded) contents)
 
+  -- the inboxes made of that of each target
+  abbrev pub inboxes_of : Option (Combining M) → List (ℕ × List (Contents M)) → List (ℕ × List M)
+  inboxes_of combining groups = map (λ g. (g.0, received_of combining g.1)) groups
+
   -- the inbox at an id
   abbrev pub inbox_at : ℕ → List (ℕ × List M) → List M
   inbox_at id inboxes = elim (value_at id inboxes) [ None ↦ [] | Some inbox ↦ inbox ]

@@ -1,16 +1,17 @@
 //! Bundles made of sends.
-ghost use Rattle.std.specs.Prelude.{◌≡◌, map, IfOk};
+ghost use Rattle.std.specs.Prelude.{◌≡◌, false, map, IfOk};
 ghost use Rattle.std.specs.List.{AllByRecursion};
-ghost use Rattle.pg_inbox.specs.Bundles.{bundle_of, contents_of};
-ghost use Rattle.pg_inbox.specs.Holding.{IsLetters, as_item};
+ghost use Rattle.pg_model.specs.Superstep.{is_empty};
+ghost use Rattle.pg_inbox.specs.Bundles.{bundle_of, contents_of, parcels_of};
+ghost use Rattle.pg_inbox.specs.Grouping.{groups_of};
+ghost use Rattle.pg_inbox.specs.Holding.{Holds, as_item};
 
 use crate::Bundle;
-use crate::grouped::grouped;
+use crate::grouped::{by_target, first_group};
 use crate::parcel::Parcel;
 use pg_global::MessageCombiner;
 use pg_graph::{Memory, VertexId};
 use pg_map::Map;
-use pg_model::Sequence;
 use pg_program::Plain;
 use std::alloc::Global;
 
@@ -25,8 +26,8 @@ pub fn bundle<M: Plain, C: MessageCombiner<M>>(
     ensures { IfOk result (λ bundle. bundle ≡ bundle_of (C.combining combiner.now) sent.now) }
 {
     let letters = letters_of(alloc, sent)?;
-    let groups = grouped(alloc, letters)?;
-    let parcels = parcels_of(alloc, groups, combiner)?;
+    let letters = by_target(letters)?;
+    let parcels = parcels_of(alloc, letters.as_slice(), combiner)?;
     let parcels = Map::from_rising(alloc, parcels)?;
     Ok(Bundle { parcels })
 }
@@ -36,30 +37,63 @@ fn letters_of<M: Plain>(
     alloc: Global,
     sent: &[(VertexId, VertexId, M)],
 ) -> Result<Vec<(VertexId, (VertexId, M))>, Memory>
-    ensures items { IfOk result (λ letters. letters.items ≡ map as_item sent.now) }
-    ensures values { IfOk result (λ letters. AllByRecursion (λ l. M.is_value l.1.1) letters.items) }
+    ensures { IfOk result (λ letters. letters.items ≡ map as_item sent.now) }
 {
     let mut letters = Vec::with_capacity(alloc, sent.len())?;
     for (sender, target, message) in sent {
-        let message = message.copy(alloc)?;
-        message.fits();
-        letters.push((*target, (*sender, message)))?;
+        letters.push((*target, (*sender, message.copy(alloc)?)))?;
     }
     Ok(letters)
 }
 
-/// The parcel of each target.
+/// The parcel of each target, of letters by rising target.
 fn parcels_of<M: Plain, C: MessageCombiner<M>>(
     alloc: Global,
-    groups: Vec<(VertexId, Sequence<(VertexId, M)>)>,
+    letters: &[(VertexId, (VertexId, M))],
     combiner: &C,
 ) -> Result<Vec<(VertexId, Parcel<M>)>, Memory>
-    requires { AllByRecursion (λ g. IsLetters M.is_value g.1) groups.items }
-    ensures { IfOk result (λ parcels. parcels.items ≡ map (λ g. (g.0, contents_of (C.combining combiner.now) g.1)) groups.items) }
+    ensures contents { IfOk result (λ parcels. parcels.items ≡ parcels_of (C.combining combiner.now) (groups_of letters.now)) }
+    ensures hold { IfOk result (λ parcels. AllByRecursion (λ p. Holds M.is_value p.1) parcels.items) }
 {
-    let mut parcels = Vec::with_capacity(alloc, groups.len())?;
-    for (target, letters) in groups {
-        parcels.push((target, Parcel::of(alloc, letters, combiner)?))?;
+    let mut parcels = Vec::new(alloc);
+    let mut left = letters;
+    while let Some((target, here, later)) = first_group(left) {
+        let parcel = parcel_of(alloc, here, combiner)?;
+        parcels.push((target, parcel))?;
+        left = later;
     }
     Ok(parcels)
+}
+
+/// A parcel of copies of letters.
+fn parcel_of<M: Plain, C: MessageCombiner<M>>(
+    alloc: Global,
+    letters: &[(VertexId, (VertexId, M))],
+    combiner: &C,
+) -> Result<Parcel<M>, Memory>
+    requires { is_empty letters.now ≡ false }
+    ensures value { IfOk result
+        (λ parcel. parcel ≡ contents_of (C.combining combiner.now) (map (λ l. l.1) letters.now)) }
+    ensures holds { IfOk result (λ parcel. Holds M.is_value parcel) }
+{
+    let copied = copied_letters(alloc, letters)?;
+    let parcel = Parcel::of(alloc, copied, combiner)?;
+    Ok(parcel)
+}
+
+/// Copies of letters, in a list that is no longer than they are.
+fn copied_letters<M: Plain>(
+    alloc: Global,
+    letters: &[(VertexId, (VertexId, M))],
+) -> Result<Vec<(VertexId, M)>, Memory>
+    ensures letters { IfOk result (λ copied. copied.items ≡ map (λ l. l.1) letters.now) }
+    ensures values { IfOk result (λ copied. AllByRecursion (λ l. M.is_value l.1) copied.items) }
+{
+    let mut copied = Vec::with_capacity(alloc, letters.len())?;
+    for (_, (sender, message)) in letters {
+        let message = message.copy(alloc)?;
+        message.fits();
+        copied.push((*sender, message))?;
+    }
+    Ok(copied)
 }

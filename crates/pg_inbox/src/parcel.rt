@@ -95,13 +95,13 @@ impl<M: Plain> Parcel<M> {
     /// A parcel of these messages, with what they come to where the combiner combines.
     pub(crate) fn of<C: MessageCombiner<M>>(
         alloc: Global,
-        letters: Sequence<(VertexId, M)>,
+        letters: Vec<(VertexId, M)>,
         combiner: &C,
     ) -> Result<Parcel<M>, Memory>
-        requires { IsLetters M.is_value letters }
-        ensures { IfOk result (λ parcel. parcel ≡ contents_of (C.combining combiner.now) letters) }
+        requires { IsLetters M.is_value letters.items }
+        ensures { IfOk result (λ parcel. parcel ≡ contents_of (C.combining combiner.now) letters.items) }
     {
-        let held = packed(alloc, letters.into_vec(), combiner)?;
+        let held = packed(alloc, letters, combiner)?;
         Ok(Parcel { held })
     }
 

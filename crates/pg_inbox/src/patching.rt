@@ -4,7 +4,8 @@ ghost use Rattle.std.specs.BTreeSet.{contains};
 ghost use Rattle.std.specs.List.{AllByRecursion};
 ghost use Rattle.std.specs.Map.{keys_of};
 ghost use Rattle.std.specs.Ordering.{nat_cmp};
-ghost use Rattle.pg_map.specs.Entries.{HasRisingIds, with_changes};
+ghost use Rattle.pg_map.specs.Entries.{ChangesRise, with_changes};
+ghost use Rattle.pg_inbox.specs.Grouping.{groups_of};
 ghost use Rattle.pg_inbox.specs.Holding.{HoldsAt};
 ghost use Rattle.pg_inbox.specs.Inboxes.{letters_at};
 ghost use Rattle.pg_inbox.specs.Mending.{HasJust, HasMore, additions, as_addition, as_withdrawal, changes_of, mended, mended_at, mends_of, others};
@@ -12,7 +13,7 @@ ghost use Rattle.pg_inbox.specs.Mending.{senders_of, withdrawn_by};
 ghost use Rattle.pg_inbox.specs.Patched.{IsPatched, TellsChanges};
 
 use crate::changing::differing_among;
-use crate::grouped::grouped;
+use crate::grouped::{by_target, first_group};
 use crate::parcel::Parcel;
 use crate::{Bundle, Logged};
 use pg_global::MessageCombiner;
@@ -48,9 +49,10 @@ pub fn patch<M: Plain, C: MessageCombiner<M>>(
     ensures changed { IfOk result (λ logged. TellsChanges old.now logged) }
 {
     let mends = mends_by_target(alloc, withdrawn, added)?;
-    let groups = grouped(alloc, mends)?;
-    let bundle = mended_bundle(alloc, old, groups.as_slice(), combiner)?;
-    let ids = targets_of(alloc, groups.as_slice())?;
+    let mends = by_target(mends)?;
+    let changes = changes_at(alloc, old, mends.as_slice(), combiner)?;
+    let bundle = mended_bundle(alloc, old, changes.as_slice())?;
+    let ids = targets_of(alloc, changes.as_slice())?;
     let changed = differing_among(alloc, ids, old, &bundle)?;
     Ok(Logged {
         bundle,
@@ -97,99 +99,86 @@ fn add_additions<M: Plain>(
     Ok(())
 }
 
-/// The targets of groups.
-fn targets_of<X>(alloc: Global, groups: &[(VertexId, X)]) -> Result<Vec<VertexId>, Memory>
-    ensures { IfOk result (λ ids. ids.items ≡ keys_of groups.now) }
+/// The targets of changes.
+fn targets_of<X>(alloc: Global, changes: &[(VertexId, X)]) -> Result<Vec<VertexId>, Memory>
+    ensures { IfOk result (λ ids. ids.items ≡ keys_of changes.now) }
 {
-    let mut ids = Vec::with_capacity(alloc, groups.len())?;
-    for (target, _) in groups {
+    let mut ids = Vec::with_capacity(alloc, changes.len())?;
+    for (target, _) in changes {
         ids.push(*target)?;
     }
     Ok(ids)
 }
 
-/// The old bundle with what becomes of the messages to these targets; in its own memory where there are none.
-fn mended_bundle<M: Plain, C: MessageCombiner<M>>(
+/// The old bundle with these changes; in its own memory where there are none.
+fn mended_bundle<M: Plain>(
     alloc: Global,
     old: &Bundle<M>,
-    groups: &[(VertexId, Sequence<Mend<M>>)],
-    combiner: &C,
+    changes: &[(VertexId, Option<Parcel<M>>)],
 ) -> Result<Bundle<M>, Memory>
-    requires { HasRisingIds groups.now }
-    ensures { IfOk result (λ bundle. bundle ≡ with_changes (changes_of (C.combining combiner.now) old.now groups.now) old.now) }
+    requires rise { ChangesRise changes.now }
+    requires hold { AllByRecursion (λ c. HoldsAt M.is_value c.1) changes.now }
+    ensures { IfOk result (λ bundle. bundle ≡ with_changes changes.now old.now) }
 {
-    match groups.split_first() {
-        Some(_) => changed_bundle(alloc, old, groups, combiner),
+    match changes.split_first() {
+        Some(_) => changed_bundle(alloc, old, changes),
         None => old.share(),
     }
 }
 
-/// The old bundle with what becomes of the messages to these targets, in which it isn't shared.
-fn changed_bundle<M: Plain, C: MessageCombiner<M>>(
+/// The old bundle with these changes, in which it isn't shared.
+fn changed_bundle<M: Plain>(
     alloc: Global,
     old: &Bundle<M>,
-    groups: &[(VertexId, Sequence<Mend<M>>)],
-    combiner: &C,
+    changes: &[(VertexId, Option<Parcel<M>>)],
 ) -> Result<Bundle<M>, Memory>
-    requires { HasRisingIds groups.now }
-    ensures { IfOk result (λ bundle. bundle ≡ with_changes (changes_of (C.combining combiner.now) old.now groups.now) old.now) }
+    requires rise { ChangesRise changes.now }
+    requires hold { AllByRecursion (λ c. HoldsAt M.is_value c.1) changes.now }
+    ensures { IfOk result (λ bundle. bundle ≡ with_changes changes.now old.now) }
 {
-    let changes = changes_at(alloc, old, groups, combiner)?;
     let mut parcels = old.parcels.share()?;
-    parcels.change(alloc, changes.as_slice())?;
+    parcels.change(alloc, changes)?;
     Ok(Bundle { parcels })
 }
 
-/// The new contents of each target.
+/// The new contents of each target, of what is done by rising target.
 fn changes_at<M: Plain, C: MessageCombiner<M>>(
     alloc: Global,
     old: &Bundle<M>,
-    groups: &[(VertexId, Sequence<Mend<M>>)],
+    mends: &[(VertexId, Mend<M>)],
     combiner: &C,
 ) -> Result<Vec<(VertexId, Option<Parcel<M>>)>, Memory>
-    ensures items { IfOk result (λ changes. changes.items ≡ changes_of (C.combining combiner.now) old.now groups.now) }
+    ensures items { IfOk result
+        (λ changes. changes.items ≡ changes_of (C.combining combiner.now) old.now (groups_of mends.now)) }
     ensures hold { IfOk result (λ changes. AllByRecursion (λ c. HoldsAt M.is_value c.1) changes.items) }
 {
-    let mut changes = Vec::with_capacity(alloc, groups.len())?;
-    for group in groups {
-        add_change(alloc, &mut changes, old, group, combiner)?;
+    let mut changes = Vec::new(alloc);
+    let mut left = mends;
+    while let Some((target, here, later)) = first_group(left) {
+        let parcel = parcel_after(alloc, old, target, here, combiner)?;
+        changes.push((target, parcel))?;
+        left = later;
     }
     Ok(changes)
-}
-
-/// Adds the new contents of a target.
-fn add_change<M: Plain, C: MessageCombiner<M>>(
-    alloc: Global,
-    changes: &mut Vec<(VertexId, Option<Parcel<M>>)>,
-    old: &Bundle<M>,
-    group: &(VertexId, Sequence<Mend<M>>),
-    combiner: &C,
-) -> Result<(), Memory>
-    requires { AllByRecursion (λ c. HoldsAt M.is_value c.1) changes.old.items }
-    ensures items { OnOk result (changes.new.items
-        ≡ changes.old.items ++ changes_of (C.combining combiner.now) old.now (group.now ∷ [])) }
-    ensures hold { OnOk result (AllByRecursion (λ c. HoldsAt M.is_value c.1) changes.new.items) }
-{
-    let parcel = parcel_after(alloc, old, group, combiner)?;
-    changes.push((group.0, parcel))?;
-    Ok(())
 }
 
 /// What becomes of the messages to a target; nothing where none is left.
 fn parcel_after<M: Plain, C: MessageCombiner<M>>(
     alloc: Global,
     old: &Bundle<M>,
-    group: &(VertexId, Sequence<Mend<M>>),
+    target: VertexId,
+    mends: &[(VertexId, Mend<M>)],
     combiner: &C,
 ) -> Result<Option<Parcel<M>>, Memory>
-    ensures value { IfOk result (λ parcel. parcel ≡ mended_at (C.combining combiner.now) old.now group.now) }
+    ensures value { IfOk result
+        (λ parcel. parcel ≡ mended_at (C.combining combiner.now) old.now (target, map (λ m. m.1) mends.now)) }
     ensures holds { IfOk result (λ parcel. HoldsAt M.is_value parcel) }
 {
-    let letters = mended_letters(alloc, old, group.0, group.1.as_slice())?;
+    let letters = mended_letters(alloc, old, target, mends)?;
     if letters.is_empty() {
         return Ok(None);
     }
-    let parcel = Parcel::of(alloc, Sequence::from_vec(letters), combiner)?;
+    let parcel = Parcel::of(alloc, letters, combiner)?;
     Ok(Some(parcel))
 }
 
@@ -198,9 +187,10 @@ fn mended_letters<M: Plain>(
     alloc: Global,
     old: &Bundle<M>,
     target: VertexId,
-    mends: &[Mend<M>],
+    mends: &[(VertexId, Mend<M>)],
 ) -> Result<Vec<(VertexId, M)>, Memory>
-    ensures items { IfOk result (λ after. after.items ≡ mended mends.now (letters_at target old.now)) }
+    ensures items { IfOk result
+        (λ after. after.items ≡ mended (map (λ m. m.1) mends.now) (letters_at target old.now)) }
     ensures values { IfOk result (λ after. AllByRecursion (λ l. M.is_value l.1) after.items) }
 {
     let withdrawn = withdrawn_senders(alloc, mends)?;
@@ -213,12 +203,12 @@ fn mended_letters<M: Plain>(
 /// The senders whose messages are withdrawn.
 fn withdrawn_senders<M: Plain>(
     alloc: Global,
-    mends: &[Mend<M>],
+    mends: &[(VertexId, Mend<M>)],
 ) -> Result<BTreeSet<VertexId>, Memory>
-    ensures { IfOk result (λ senders. HasJust senders (senders_of mends.now)) }
+    ensures { IfOk result (λ senders. HasJust senders (senders_of (map (λ m. m.1) mends.now))) }
 {
     let mut senders = BTreeSet::new(alloc);
-    for mend in mends {
+    for (_, mend) in mends {
         add_if_withdrawn(&mut senders, mend)?;
     }
     Ok(senders)
@@ -299,13 +289,13 @@ fn is_among(senders: &BTreeSet<VertexId>, sender: VertexId) -> bool
 fn add_letters<M: Plain>(
     alloc: Global,
     after: &mut Vec<(VertexId, M)>,
-    mends: &[Mend<M>],
+    mends: &[(VertexId, Mend<M>)],
 ) -> Result<(), Memory>
     requires { AllByRecursion (λ l. M.is_value l.1) after.old.items }
-    ensures items { OnOk result (after.new.items ≡ after.old.items ++ additions mends.now) }
+    ensures items { OnOk result (after.new.items ≡ after.old.items ++ additions (map (λ m. m.1) mends.now)) }
     ensures values { AllByRecursion (λ l. M.is_value l.1) after.new.items }
 {
-    for mend in mends {
+    for (_, mend) in mends {
         if let Mend::Added(sender, message) = mend {
             add_letter(alloc, after, *sender, message)?;
         }

@@ -2,11 +2,12 @@
 ghost use Rattle.std.specs.Prelude.{◌≡◌, ◌++◌, map, IfOk, OnOk};
 ghost use Rattle.std.specs.List.{AllByRecursion, flat_map};
 ghost use Rattle.pg_map.specs.Entries.{HasRisingIds};
+ghost use Rattle.pg_inbox.specs.Grouping.{groups_of};
 ghost use Rattle.pg_inbox.specs.Holding.{Holds};
-ghost use Rattle.pg_inbox.specs.Inboxes.{AreInboxes, received_of};
+ghost use Rattle.pg_inbox.specs.Inboxes.{AreInboxes, inboxes_of};
 
 use crate::Bundle;
-use crate::grouped::grouped;
+use crate::grouped::{by_target, first_group};
 use crate::parcel::Parcel;
 use crate::receiving::received;
 use pg_global::MessageCombiner;
@@ -28,8 +29,8 @@ pub fn inboxes<M: Plain, C: MessageCombiner<M>>(
     ensures { IfOk result (λ inboxes. AreInboxes (C.combining combiner.now) (map (λ b. b.now) bundles.now) inboxes.items) }
 {
     let parcels = all_parcels(alloc, bundles)?;
-    let groups = grouped(alloc, parcels)?;
-    inboxes_of(alloc, groups, combiner)
+    let parcels = by_target(parcels)?;
+    inboxes_of(alloc, parcels.as_slice(), combiner)
 }
 
 /// What all bundles have for each of their targets, bundle by bundle.
@@ -67,18 +68,20 @@ fn add_parcels<M: Plain>(
     Ok(())
 }
 
-/// The inbox of each of these.
+/// The inbox of each target, of parcels by rising target.
 fn inboxes_of<M: Plain, C: MessageCombiner<M>>(
     alloc: Global,
-    groups: Vec<(VertexId, Sequence<Parcel<M>>)>,
+    parcels: &[(VertexId, Parcel<M>)],
     combiner: &C,
 ) -> Result<Vec<(VertexId, Sequence<M>)>, Memory>
-    ensures { IfOk result (λ inboxes. inboxes.items ≡ map (λ g. (g.0, received_of (C.combining combiner.now) g.1)) groups.items) }
+    ensures { IfOk result (λ inboxes. inboxes.items ≡ inboxes_of (C.combining combiner.now) (groups_of parcels.now)) }
 {
-    let mut inboxes = Vec::with_capacity(alloc, groups.len())?;
-    for (target, parcels) in groups {
-        let inbox = received(alloc, parcels.as_slice(), combiner)?;
+    let mut inboxes = Vec::with_capacity(alloc, parcels.len())?;
+    let mut left = parcels;
+    while let Some((target, here, later)) = first_group(left) {
+        let inbox = received(alloc, here, combiner)?;
         inboxes.push((target, Sequence::from_vec(inbox)))?;
+        left = later;
     }
     Ok(inboxes)
 }

@@ -1,5 +1,5 @@
 //! Inboxes: what a vertex receives of the bundles to its partition.
-ghost use Rattle.std.specs.Prelude.{◌≡◌, ◌++◌, map, Some, IsSome, IfSome, IfOk, OnOk};
+ghost use Rattle.std.specs.Prelude.{◌≡◌, ◌++◌, map, true, Some, IsSome, IfSome, IfOk, OnOk};
 ghost use Rattle.std.specs.List.{AllByRecursion, flat_map};
 ghost use Rattle.std.specs.Option.{option_to_list};
 ghost use Rattle.pg_map.specs.Entries.{value_at};
@@ -7,6 +7,7 @@ ghost use Rattle.pg_model.specs.Superstep.{combined};
 ghost use Rattle.pg_inbox.specs.Bundles.{messages};
 ghost use Rattle.pg_inbox.specs.Holding.{HoldsAt};
 ghost use Rattle.pg_inbox.specs.Inboxes.{Delivers, contents_to, received_of};
+ghost use Rattle.pg_inbox.specs.Ordered.{in_order};
 
 use crate::Bundle;
 use crate::parcel::Parcel;
@@ -38,8 +39,8 @@ fn parcels_at<M: Plain>(
     alloc: Global,
     bundles: &[&Bundle<M>],
     id: VertexId,
-) -> Result<Vec<Parcel<M>>, Memory>
-    ensures items { IfOk result (λ parcels. parcels.items ≡ contents_to id (map (λ b. b.now) bundles.now)) }
+) -> Result<Vec<(VertexId, Parcel<M>)>, Memory>
+    ensures items { IfOk result (λ parcels. map (λ p. p.1) parcels.items ≡ contents_to id (map (λ b. b.now) bundles.now)) }
     ensures hold { IfOk result (λ _. AllByRecursion (λ b. HoldsAt M.is_value (value_at id b.now)) bundles.now) }
 {
     let mut parcels = Vec::new(alloc);
@@ -52,17 +53,16 @@ fn parcels_at<M: Plain>(
 /// Adds what a bundle has for a vertex.
 fn add_parcel<M: Plain>(
     alloc: Global,
-    parcels: &mut Vec<Parcel<M>>,
+    parcels: &mut Vec<(VertexId, Parcel<M>)>,
     bundle: &Bundle<M>,
     id: VertexId,
 ) -> Result<(), Memory>
-    ensures items { OnOk result (parcels.new.items ≡ parcels.old.items ++ option_to_list (value_at id bundle.now)) }
+    ensures items { OnOk result
+        (map (λ p. p.1) parcels.new.items ≡ map (λ p. p.1) parcels.old.items ++ option_to_list (value_at id bundle.now)) }
     ensures holds { HoldsAt M.is_value (value_at id bundle.now) }
 {
-    if let Some(parcel) = bundle.parcels.get(id) {
-        // Tells the prover that there is a message in it.
-        parcel.len();
-        parcels.push(parcel.share(alloc)?)?;
+    if let Some(parcel) = bundle.parcel(id) {
+        parcels.push((id, parcel.share(alloc)?))?;
     }
     Ok(())
 }
@@ -70,14 +70,19 @@ fn add_parcel<M: Plain>(
 /// What a vertex receives of these.
 pub(crate) fn received<M: Plain, C: MessageCombiner<M>>(
     alloc: Global,
-    parcels: &[Parcel<M>],
+    parcels: &[(VertexId, Parcel<M>)],
     combiner: &C,
 ) -> Result<Vec<M>, Memory>
-    ensures { IfOk result (λ inbox. inbox.items ≡ received_of (C.combining combiner.now) parcels.now) }
+    ensures { IfOk result (λ inbox. inbox.items ≡ received_of (C.combining combiner.now) (map (λ p. p.1) parcels.now)) }
 {
     if combiner.combines() {
         let parts = folded_in(alloc, parcels)?;
         return combined(alloc, parts.as_slice(), combiner);
+    }
+    if let [(_, parcel)] = parcels {
+        if are_in_order(parcel) {
+            return messages_in(alloc, parcel);
+        }
     }
     let mut letters = letters_in(alloc, parcels)?;
     letters.sort_by_key(|letter| letter.0)?;
@@ -85,11 +90,11 @@ pub(crate) fn received<M: Plain, C: MessageCombiner<M>>(
 }
 
 /// What the messages of each bundle come to.
-fn folded_in<M: Plain>(alloc: Global, parcels: &[Parcel<M>]) -> Result<Vec<M>, Memory>
-    ensures { IfOk result (λ parts. parts.items ≡ flat_map (λ c. option_to_list c.folded) parcels.now) }
+fn folded_in<M: Plain>(alloc: Global, parcels: &[(VertexId, Parcel<M>)]) -> Result<Vec<M>, Memory>
+    ensures { IfOk result (λ parts. parts.items ≡ flat_map (λ c. option_to_list c.folded) (map (λ p. p.1) parcels.now)) }
 {
     let mut parts = Vec::with_capacity(alloc, parcels.len())?;
-    for parcel in parcels {
+    for (_, parcel) in parcels {
         if let Some(message) = parcel.folded() {
             parts.push(message.copy(alloc)?)?;
         }
@@ -117,12 +122,38 @@ fn combined<M: Plain, C: MessageCombiner<M>>(
     Ok(inbox)
 }
 
+/// Whether messages stand by rising sender.
+fn are_in_order<M: Plain>(parcel: &Parcel<M>) -> bool
+    ensures { result ≡ true → in_order parcel.now.letters ≡ parcel.now.letters }
+{
+    for place in 1..parcel.len() {
+        if parcel.letter(place).0 < parcel.letter(place - 1).0 {
+            return false;
+        }
+    }
+    true
+}
+
+/// Copies of messages without their senders.
+fn messages_in<M: Plain>(alloc: Global, parcel: &Parcel<M>) -> Result<Vec<M>, Memory>
+    ensures { IfOk result (λ inbox. inbox.items ≡ messages parcel.now.letters) }
+{
+    let mut inbox = Vec::with_capacity(alloc, parcel.len())?;
+    for place in 0..parcel.len() {
+        inbox.push(parcel.letter(place).1.copy(alloc)?)?;
+    }
+    Ok(inbox)
+}
+
 /// The messages of all bundles with their senders, bundle by bundle.
-fn letters_in<M: Plain>(alloc: Global, parcels: &[Parcel<M>]) -> Result<Vec<(VertexId, M)>, Memory>
-    ensures { IfOk result (λ letters. letters.items ≡ flat_map (λ c. c.letters) parcels.now) }
+fn letters_in<M: Plain>(
+    alloc: Global,
+    parcels: &[(VertexId, Parcel<M>)],
+) -> Result<Vec<(VertexId, M)>, Memory>
+    ensures { IfOk result (λ letters. letters.items ≡ flat_map (λ c. c.letters) (map (λ p. p.1) parcels.now)) }
 {
     let mut letters = Vec::new(alloc);
-    for parcel in parcels {
+    for (_, parcel) in parcels {
         copy_letters(alloc, &mut letters, parcel)?;
     }
     Ok(letters)

@@ -1,10 +1,6 @@
 use Rattle.std.proofs.Common.{◌≡◌, map, take}
-use Rattle.std.specs.List.{AllByRecursion}
 use Rattle.pg_inbox.specs.Holding.{as_item}
 use Rattle.pg_inbox.proofs.making.letters_of.Given as goal
 
 abbrev pub invariant-loop-sender : goal.invariant-loop-sender
-invariant-loop-sender g l = record {
-  items : l.letters.items ≡ map as_item (take l.sender-index l.sent);
-  values : AllByRecursion (λ i. g.M.Plain.is_value i.1.1) l.letters.items;
-}
+invariant-loop-sender g l = l.letters.items ≡ map as_item (take l.sender-index l.sent)

@@ -1,12 +1,17 @@
-use Rattle.std.proofs.Common.{◌≡◌, ◌++◌, map}
+use Rattle.std.proofs.Common.{◌≡◌, ◌++◌, length}
 use Rattle.std.specs.List.{AllByRecursion}
-use Rattle.pg_inbox.specs.Bundles.{contents_of}
-use Rattle.pg_inbox.specs.Holding.{IsLetters}
+use Rattle.pg_inbox.specs.Bundles.{parcels_of}
+use Rattle.pg_inbox.specs.Grouping.{groups_of}
+use Rattle.pg_inbox.specs.Holding.{Holds}
 use Rattle.pg_inbox.proofs.making.parcels_of.Given as goal
 
 abbrev pub invariant-loop-target : goal.invariant-loop-target
-invariant-loop-target g l = record {
-  so_far : l.parcels.items ≡ map (λ e. (e.0, contents_of (g.C.MessageCombiner.combining l.combiner) e.1)) l.yielded;
-  left : AllByRecursion (λ e. IsLetters g.M.Plain.is_value e.1) l.target-iterator.rest.items;
-  whole : l.yielded ++ l.target-iterator.rest.items ≡ l.fn.groups.items;
-}
+invariant-loop-target g l =
+    let parcels = parcels_of (g.C.MessageCombiner.combining l.combiner) in
+    record {
+      contents : l.parcels.items ++ parcels (groups_of l.left) ≡ parcels (groups_of l.letters);
+      hold : AllByRecursion (λ p. Holds g.M.Plain.is_value p.1) l.parcels.items;
+    }
+
+abbrev pub decreases-loop-target : goal.decreases-loop-target
+decreases-loop-target g l = length l.left

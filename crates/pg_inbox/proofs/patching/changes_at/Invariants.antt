@@ -1,11 +1,17 @@
-use Rattle.std.proofs.Common.{◌≡◌, take}
+use Rattle.std.proofs.Common.{◌≡◌, ◌++◌, length}
 use Rattle.std.specs.List.{AllByRecursion}
+use Rattle.pg_inbox.specs.Grouping.{groups_of}
 use Rattle.pg_inbox.specs.Holding.{HoldsAt}
 use Rattle.pg_inbox.specs.Mending.{changes_of}
 use Rattle.pg_inbox.proofs.patching.changes_at.Given as goal
 
-abbrev pub invariant-loop-group : goal.invariant-loop-group
-invariant-loop-group g l = record {
-  items : l.changes.items ≡ changes_of (g.C.MessageCombiner.combining l.combiner) l.old (take l.group-index l.groups);
-  hold : AllByRecursion (λ c. HoldsAt g.M.Plain.is_value c.1) l.changes.items;
-}
+abbrev pub invariant-loop-target : goal.invariant-loop-target
+invariant-loop-target g l =
+    let changes = changes_of (g.C.MessageCombiner.combining l.combiner) l.old in
+    record {
+      items : l.changes.items ++ changes (groups_of l.left) ≡ changes (groups_of l.mends);
+      hold : AllByRecursion (λ c. HoldsAt g.M.Plain.is_value c.1) l.changes.items;
+    }
+
+abbrev pub decreases-loop-target : goal.decreases-loop-target
+decreases-loop-target g l = length l.left

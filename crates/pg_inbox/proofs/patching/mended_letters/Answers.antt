@@ -1,4 +1,4 @@
-use Rattle.std.proofs.Common.{of_calls, rules, ap, ◌∙◌, ◌++◌, filter, not}
+use Rattle.std.proofs.Common.{of_calls, rules, ap, ◌∙◌, ◌++◌, filter, map, not}
 use Rattle.std.proofs.lemmas.Fn.{always_returns_same}
 use Rattle.std.proofs.lemmas.List.Sorted.{IsNonDecreasingBy-from_sort}
 use Rattle.pg_inbox.specs.Inboxes.{letters_at}
@@ -15,7 +15,7 @@ returns-clause-items g c =
     (c.in_ok-sort_by_key.ensures.sorted (λ x. x.0) (always_returns_same _ _ _ (λ a r f k. search (rules, of_calls)))))
     (c.in_ok-sort_by_key.ensures.stable (λ x. x.0) (always_returns_same _ _ _ (λ a r f k. search (rules, of_calls))))
     ∙ ap in_order (c.in_ok-add_letters.ensures.items
-    ∙ ap (λ l. l ++ additions c.args.mends.now) (c.in_ok-after.ensures.items
+    ∙ ap (λ l. l ++ additions (map (λ m. m.1) c.args.mends.now)) (c.in_ok-after.ensures.items
     ∙ ap (λ p. filter p (letters_at c.args.target c.args.old.now)) (λ i l. not (c.in_ok-withdrawn.ensures l.0 i))))
 
 pub returns-clause-values : goal.returns-clause-values

@@ -3,38 +3,37 @@ use Rattle.pg_model.specs.Superstep.{is_empty}
 use Rattle.pg_inbox.specs.Bundles.{contents_of}
 use Rattle.pg_inbox.specs.Grouping.{any_of}
 use Rattle.pg_inbox.specs.Inboxes.{letters_at}
-use Rattle.pg_inbox.specs.Mending.{mended}
 use Rattle.pg_inbox.proofs.Bundling.{any_of_none, any_of_some}
-use Rattle.pg_inbox.specs.Holding.{Holds, IsLetters}
+use Rattle.pg_inbox.specs.Holding.{Holds}
 use Rattle.pg_inbox.proofs.patching.parcel_after.Goals as goal
 
 pub returns-clause-value : goal.returns-clause-value
 returns-clause-value g c =
     let contents = contents_of (g.C.MessageCombiner.combining c.args.combiner.now) in
     let left = c.in_ok-letters.letters in
-    let at = letters_at c.args.group.now.0 c.args.old.now in
+    let at = letters_at c.args.target c.args.old.now in
     let some : is_empty left.items ≡ false = ap (λ n. n == 0) (sym left.ok.0) ∙ sym c.if-is_empty.ensures in
-    ap Some (c.in_ok-parcel.ensures ∙ ap contents c.from_vec.ensures)
+    ap Some (c.in_ok-parcel.ensures)
     ∙ ap (option_map contents)
-    (sym (any_of_some left.items some) ∙ ap any_of (c.in_ok-letters.ensures.items ∙ ap (λ mends. mended mends at) c.as_slice.ensures))
+    (sym (any_of_some left.items some) ∙ ap any_of (c.in_ok-letters.ensures.items))
 
 pub returns-then-is_empty-clause-value : goal.returns-then-is_empty-clause-value
 returns-then-is_empty-clause-value g c =
     let left = c.in_ok-letters.letters in
-    let at = letters_at c.args.group.now.0 c.args.old.now in
+    let at = letters_at c.args.target c.args.old.now in
     let none : is_empty left.items ≡ true = ap (λ n. n == 0) (sym left.ok.0) ∙ sym c.if-is_empty.ensures in
     ap (option_map (contents_of (g.C.MessageCombiner.combining c.args.combiner.now)))
-    (sym (any_of_none left.items none) ∙ ap any_of (c.in_ok-letters.ensures.items ∙ ap (λ mends. mended mends at) c.as_slice.ensures))
+    (sym (any_of_none left.items none) ∙ ap any_of (c.in_ok-letters.ensures.items))
 
 pub of-requires-after_bounds : goal.of-requires-after_bounds
 of-requires-after_bounds g c κs within =
     let left = c.in_ok-letters.letters in
     let some : is_empty left.items ≡ false = ap (λ n. n == 0) (sym left.ok.0) ∙ sym c.if-is_empty.ensures in
-    subst (IsLetters g.M.Plain.is_value) (sym c.from_vec.ensures) (some, c.in_ok-letters.ensures.values)
+    (some, c.in_ok-letters.ensures.values)
 
 pub returns-clause-holds : goal.returns-clause-holds
 returns-clause-holds g c =
     let left = c.in_ok-letters.letters in
     let contents = contents_of (g.C.MessageCombiner.combining c.args.combiner.now) in
     let some : is_empty left.items ≡ false = ap (λ n. n == 0) (sym left.ok.0) ∙ sym c.if-is_empty.ensures in
-    subst (Holds g.M.Plain.is_value) (sym (c.in_ok-parcel.ensures ∙ ap contents c.from_vec.ensures)) (some, c.in_ok-letters.ensures.values)
+    subst (Holds g.M.Plain.is_value) (sym (c.in_ok-parcel.ensures)) (some, c.in_ok-letters.ensures.values)

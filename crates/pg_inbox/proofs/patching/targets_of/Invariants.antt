@@ -3,4 +3,4 @@ use Rattle.std.specs.Map.{keys_of}
 use Rattle.pg_inbox.proofs.patching.targets_of.Given as goal
 
 abbrev pub invariant-loop-target : goal.invariant-loop-target
-invariant-loop-target g l = l.ids.items ≡ keys_of (take l.target-index l.groups)
+invariant-loop-target g l = l.ids.items ≡ keys_of (take l.target-index l.changes)

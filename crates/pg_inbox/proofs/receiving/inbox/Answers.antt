@@ -16,7 +16,7 @@ returns g c =
     let delivers =
     delivers_received id is_value combining (laws.lawful c.args.combiner.now) (map (λ b. b.now) bundles)
     (all_to_map (λ b. HoldsAt is_value (value_at id b)) (λ b. b.now) bundles c.in_ok-parcels.ensures.hold) in
-    let parcels = c.as_slice.ensures.value ∙ c.in_ok-parcels.ensures.items in
+    let parcels = ap (map (λ p. p.1)) c.as_slice.ensures.value ∙ c.in_ok-parcels.ensures.items in
     IfOk-weaker c.received.result _ _
     (λ inbox is. subst (Delivers combining id (map (λ b. b.now) bundles)) (sym (is ∙ ap (received_of combining) parcels)) delivers)
     c.received.ensures

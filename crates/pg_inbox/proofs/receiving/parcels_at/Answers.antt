@@ -13,7 +13,7 @@ use Rattle.pg_inbox.proofs.receiving.parcels_at.Goals as goal
 pub loop-bundle-preserved : goal.loop-bundle-preserved
 loop-bundle-preserved g c =
     let id = c.args.id in
-    let before = c.loop-bundle.parcels.items in
+    let before = map (λ p. p.1) c.loop-bundle.parcels.items in
     let bundle = c.bundle-item.result in
     let all = c.args.bundles.now in
     let i = c.loop-bundle.bundle-index in

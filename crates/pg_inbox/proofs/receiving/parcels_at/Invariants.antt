@@ -7,6 +7,6 @@ use Rattle.pg_inbox.proofs.receiving.parcels_at.Given as goal
 
 abbrev pub invariant-loop-bundle : goal.invariant-loop-bundle
 invariant-loop-bundle g l = record {
-  items : l.parcels.items ≡ contents_to l.id (map (λ b. b.now) (take l.bundle-index l.bundles));
+  items : map (λ p. p.1) l.parcels.items ≡ contents_to l.id (map (λ b. b.now) (take l.bundle-index l.bundles));
   hold : AllByRecursion (λ b. HoldsAt g.M.Plain.is_value (value_at l.id b.now)) (take l.bundle-index l.bundles);
 }

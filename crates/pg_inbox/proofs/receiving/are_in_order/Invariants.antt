@@ -1,0 +1,9 @@
+use Rattle.std.proofs.Common.{◌-◌, ◌≤◌, drop}
+use Rattle.pg_inbox.proofs.Senders.{IsUp}
+use Rattle.pg_inbox.proofs.receiving.are_in_order.Given as goal
+
+abbrev pub invariant-loop-place : goal.invariant-loop-place
+invariant-loop-place g l = record {
+  from : 1 ≤ l.place;
+  up : IsUp (λ x. x.0) (drop (l.place - 1) l.parcel.letters) → IsUp (λ x. x.0) l.parcel.letters;
+}
