@@ -1,27 +1,23 @@
 -- Vertices with what is delivered to each: which they are.
-use Rattle.std.proofs.Common.{◌≡◌, ℕ, ◌==◌, ◌||◌, Bool, true, false, cond, List, [], ◌∷◌, map, Option}
-use Rattle.std.proofs.Common.{None, Some, is_some, refl, sym, ap, ◌∙◌, true≢false, subst}
-use Rattle.std.specs.BTreeMap.{insert_entry, is_at}
+use Rattle.std.proofs.Common.{◌≡◌, ℕ, ◌+◌, ◌<◌, ◌==◌, ◌||◌, Bool, true, false, cond, List, [], ◌∷◌, map, Option}
+use Rattle.std.proofs.Common.{None, Some, is_some, option_map, unwrap_or, refl, sym, ap, ◌∙◌, true≢false, subst, arith}
 use Rattle.std.specs.List.Sorted.{IsStrictlySortedBy}
 use Rattle.std.specs.Map.{keys_of}
 use Rattle.std.specs.Option.{option_or}
 use Rattle.std.specs.Ordering.{nat_cmp}
-use Rattle.std.proofs.lemmas.Bool.{eqb-true, eq-eqb}
 use Rattle.std.proofs.lemmas.Option.{none-some, same_Some}
 use Rattle.pg_inbox.specs.Bundles.{Parcels}
 use Rattle.pg_inbox.specs.Inboxes.{AreInboxes, Delivers}
-use Rattle.pg_inbox.proofs.Bundling.{all_from_lookups}
-use Rattle.pg_map.specs.Entries.{HasRisingIds, value_at}
-use Rattle.pg_map.proofs.Parts.{rises_after}
-use Rattle.pg_map.proofs.Rising.{find-insert_other, find-insert_same, none_past, rises-insert}
+use Rattle.pg_inbox.proofs.Bundling.{all_from_lookups, rises-values, value_at-values}
+use Rattle.pg_map.specs.Entries.{ChangesRise, HasRisingIds, value_at}
+use Rattle.pg_map.proofs.Changing.{rises-changes, value_at-with_changes}
+use Rattle.pg_map.proofs.Parts.{From, above_first, from_first, from_weaker}
+use Rattle.pg_map.proofs.Turns.{passed, put, skipped}
 use Rattle.pg_model.specs.Job.{Combining}
 use Rattle.pg_model.specs.Superstep.{has_id}
 use Rattle.pg_model.proofs.LawsPresent.{at_key}
 use Rattle.pg_compute.specs.Candidates.{AreCallees}
-use Rattle.pg_compute.specs.Lists.{with_empty, with_entries}
-
-pub other_key : (id k : ℕ) → (k == id) ≡ false → id ≡ k → ⊥
-other_key id k e same = true≢false (sym (eq-eqb k id (sym same)) ∙ e)
+use Rattle.pg_compute.specs.Lists.{empty_inboxes, with_empty}
 
 pub nothing_rises : (X : Type 0) → HasRisingIds {V = X} []
 unfolding IsStrictlySortedBy
@@ -44,40 +40,60 @@ module _ {X : Type 0} where
       by None e = refl
       by (Some x) e = absurd (true≢false (ap is_some (sym e) ∙ (has_key id es ∙ h)))
 
-  rises-entries : (ws es : List (ℕ × X)) → HasRisingIds es → HasRisingIds (with_entries ws es)
-  rises-entries [] es rise = rise
-  rises-entries (w ∷ ws) es rise = rises-entries ws (insert_entry nat_cmp es w.0 w.1) (rises-insert es w.0 w.1 rise)
+-- ---- inboxes, and empty ones for ids that have none
 
-  -- entries by rising id stand before what was there
-  value_at-entries : (ws es : List (ℕ × X)) (id : ℕ) → HasRisingIds ws → value_at id (with_entries ws es) ≡ option_or (value_at id ws) (value_at id es)
-  value_at-entries [] es id rise = refl
-  value_at-entries (w ∷ ws) es id rise =
-      value_at-entries ws (insert_entry nat_cmp es w.0 w.1) id (rises_after w ws rise)
-      ∙ by (w.0 == id) refl
+module _ (M : Type 0) where
+  keys-empty : (ids : List ℕ) → keys_of (empty_inboxes {M = M} ids) ≡ ids
+  keys-empty [] = refl
+  keys-empty (k ∷ ids) = ap (λ l. k ∷ l) (keys-empty ids)
+
+  rises-empty : (ids : List ℕ) → IsStrictlySortedBy nat_cmp ids → HasRisingIds (empty_inboxes {M = M} ids)
+  rises-empty ids rise = subst (IsStrictlySortedBy nat_cmp) (sym (keys-empty ids)) rise
+
+  value_at-empty : (ids : List ℕ) (id : ℕ) → value_at id (empty_inboxes {M = M} ids) ≡ cond (has_id ids id) (Some []) None
+  value_at-empty [] id = refl
+  value_at-empty (k ∷ ids) id =
+      ap (λ (b : Bool). cond b (Some []) (value_at id (empty_inboxes {M = M} ids))) (at_key id k) ∙ by (k == id) _ (value_at-empty ids id)
     where
-      by : (b : Bool) → (w.0 == id) ≡ b
-          → option_or (value_at id ws) (value_at id (insert_entry nat_cmp es w.0 w.1)) ≡ option_or (value_at id (w ∷ ws)) (value_at id es)
-      by true e =
-          let found : is_at (nat_cmp id) w.0 ≡ true = at_key id w.0 ∙ e in
-          ap (λ o. option_or o (value_at id (insert_entry nat_cmp es w.0 w.1))) (none_past id w ws rise found)
-          ∙ (ap (λ (i : ℕ). value_at i (insert_entry nat_cmp es w.0 w.1)) (sym (eqb-true w.0 id e)) ∙ (find-insert_same es w.0 w.1
-          ∙ sym (ap (λ (b : Bool). option_or (cond b (Some w.1) (value_at id ws)) (value_at id es)) found)))
-      by false e =
-          ap (option_or (value_at id ws)) (find-insert_other es w.0 w.1 id (other_key id w.0 e))
-          ∙ sym (ap (λ (b : Bool). option_or (cond b (Some w.1) (value_at id ws)) (value_at id es)) (at_key id w.0 ∙ e))
+      by : (b : Bool) (o : Option (List M)) → o ≡ cond (has_id ids id) (Some []) None → cond b (Some []) o ≡ cond (b || has_id ids id) (Some []) None
+      by true o h = refl
+      by false o h = h
 
 module _ {M : Type 0} where
-  -- empty inboxes for these ids
-  value_at-empty : (ids : List ℕ) (es : List (ℕ × List M)) (id : ℕ)
-      → value_at id (with_entries (map (λ k. (k, [])) ids) es) ≡ cond (has_id ids id) (Some []) (value_at id es)
-  value_at-empty [] es id = refl
-  value_at-empty (k ∷ ids) es id = value_at-empty ids (insert_entry nat_cmp es k []) id ∙ by (k == id) refl (has_id ids id)
-    where
-      by : (b : Bool) → (k == id) ≡ b → (c : Bool) → cond c (Some []) (value_at id (insert_entry nat_cmp es k [])) ≡ cond (b || c) (Some []) (value_at id es)
-      by true e true = refl
-      by true e false = ap (λ (i : ℕ). value_at i (insert_entry nat_cmp es k [])) (sym (eqb-true k id e)) ∙ find-insert_same es k []
-      by false e true = refl
-      by false e false = find-insert_other es k [] id (other_key id k e)
+  module _ (id : ℕ) (inbox : List M) (later : List (ℕ × List M)) (rise : HasRisingIds ((id, inbox) ∷ later)) where
+    given : List (ℕ × List M) → List (ℕ × Option (List M))
+    given inboxes = map (λ w. (w.0, Some w.1)) inboxes
+
+    rising : ChangesRise (given ((id, inbox) ∷ later))
+    unfolding given
+    rising = rises-values Some ((id, inbox) ∷ later) rise
+
+    -- an id below the next inbox has an empty one
+    pub empty_below : (k : ℕ) (ids : List ℕ) → k < id → with_empty (k ∷ ids) ((id, inbox) ∷ later) ≡ (k, []) ∷ with_empty ids ((id, inbox) ∷ later)
+    unfolding given
+    empty_below k ids h = passed (id, Some inbox) (given later) rising (k, []) (empty_inboxes ids) h
+
+    -- ids above it are left
+    left_above : (ids : List ℕ) → From (id + 1) (empty_inboxes {M = M} ids) → with_empty ids ((id, inbox) ∷ later) ≡ (id, inbox) ∷ with_empty ids later
+    unfolding given
+    left_above ids above = put (id, Some inbox) (given later) rising (empty_inboxes ids) above inbox refl
+
+    pub none_left : (ids : List ℕ) → ids ≡ [] → with_empty ids ((id, inbox) ∷ later) ≡ (id, inbox) ∷ with_empty ids later
+    none_left ids none = left_above ids (subst (λ l. From (id + 1) (empty_inboxes {M = M} l)) (sym none) tt)
+
+    pub first_above : (k : ℕ) (ids : List ℕ) → IsStrictlySortedBy nat_cmp (k ∷ ids) → id < k
+        → with_empty (k ∷ ids) ((id, inbox) ∷ later) ≡ (id, inbox) ∷ with_empty (k ∷ ids) later
+    first_above k ids ids_rise h =
+        left_above (k ∷ ids)
+        (from_weaker (id + 1) k (empty_inboxes {M = M} (k ∷ ids)) (omega arith) (from_first (k, []) (empty_inboxes ids) (rises-empty M (k ∷ ids) ids_rise)))
+
+    -- its own id has it
+    pub first_at : (k : ℕ) (ids : List ℕ) → IsStrictlySortedBy nat_cmp (k ∷ ids) → k ≡ id
+        → with_empty (k ∷ ids) ((id, inbox) ∷ later) ≡ (id, inbox) ∷ with_empty ids later
+    unfolding given
+    first_at k ids ids_rise same =
+        skipped (id, Some inbox) (given later) rising (k, []) (empty_inboxes ids) same (rises-empty M (k ∷ ids) ids_rise)
+        ∙ left_above ids (subst (λ n. From (n + 1) (empty_inboxes {M = M} ids)) same (above_first (k, []) (empty_inboxes ids) (rises-empty M (k ∷ ids) ids_rise)))
 
   -- all that receive something
   pub are_receivers : (combining : Option (Combining M)) (bundles : List (Parcels M)) (inboxes : List (ℕ × List M)) → AreInboxes combining bundles inboxes
@@ -93,19 +109,24 @@ module _ {M : Type 0} where
       told id o e = subst (λ (o : Option (List M)). Delivers combining id bundles (elim o [ None ↦ [] | Some inbox ↦ inbox ])) e (are.told id)
 
   module _ (combining : Option (Combining M)) (bundles : List (Parcels M)) (ids : List ℕ) (inboxes : List (ℕ × List M))
-      (are : AreInboxes combining bundles inboxes) where
+      (ids_rise : IsStrictlySortedBy nat_cmp ids) (are : AreInboxes combining bundles inboxes) where
     all : List (ℕ × List M)
     all = with_empty ids inboxes
 
     at : (id : ℕ) → value_at id all ≡ option_or (value_at id inboxes) (cond (has_id ids id) (Some []) None)
     unfolding all
     at id =
-        value_at-entries inboxes (with_entries (map (λ k. (k, [])) ids) []) id are.rise
-        ∙ ap (option_or (value_at id inboxes)) (value_at-empty ids [] id)
+        value_at-with_changes (map (λ w. (w.0, Some w.1)) inboxes) (empty_inboxes ids) id (rises-values Some inboxes are.rise) (rises-empty M ids ids_rise)
+        ∙ (ap (λ o. unwrap_or o (value_at id (empty_inboxes ids))) (value_at-values Some id inboxes)
+        ∙ (ap (unwrap_or (option_map Some (value_at id inboxes))) (value_at-empty M ids id) ∙ by (value_at id inboxes)))
+      where
+        by : (o : Option (List M)) → unwrap_or (option_map Some o) (cond (has_id ids id) (Some []) None) ≡ option_or o (cond (has_id ids id) (Some []) None)
+        by None = refl
+        by (Some inbox) = refl
 
     rises : HasRisingIds all
     unfolding all
-    rises = rises-entries inboxes (with_entries (map (λ k. (k, [])) ids) []) (rises-entries (map (λ k. (k, [])) ids) [] (nothing_rises (List M)))
+    rises = rises-changes (map (λ w. (w.0, Some w.1)) inboxes) (empty_inboxes ids) (rises-empty M ids ids_rise)
 
     pub are_callees : AreCallees combining bundles ids true (with_empty ids inboxes)
     unfolding all

@@ -1,18 +1,17 @@
 -- Lists by rising id that are made of others.
-use Rattle.std.specs.Prelude.{ℕ, [], List, map, not}
-use Rattle.std.specs.BTreeMap.{insert_entry}
-use Rattle.std.specs.List.{filter, fold}
-use Rattle.std.specs.Ordering.{nat_cmp}
+use Rattle.std.specs.Prelude.{ℕ, [], List, map, not, Some}
+use Rattle.std.specs.List.{filter}
+use Rattle.pg_map.specs.Entries.{with_changes}
 use Rattle.pg_model.specs.declared.record.Record.{Record}
 
-module _ {X : Type 0} where
-  -- entries by rising id, with these put in place of what was there
-  abbrev pub with_entries : List (ℕ × X) → List (ℕ × X) → List (ℕ × X)
-  with_entries es entries = fold (λ before e. insert_entry nat_cmp before e.0 e.1) entries es
+module _ {M : Type 0} where
+  -- empty inboxes for these ids
+  abbrev pub empty_inboxes : List ℕ → List (ℕ × List M)
+  empty_inboxes ids = map (λ id. (id, [])) ids
 
--- inboxes by rising id, and empty ones for these ids that have none
-abbrev pub with_empty : {M : Type 0} → List ℕ → List (ℕ × List M) → List (ℕ × List M)
-with_empty ids inboxes = with_entries inboxes (with_entries (map (λ id. (id, [])) ids) [])
+  -- inboxes by rising id, and empty ones for those of these ids, which rise, that have none
+  abbrev pub with_empty : List ℕ → List (ℕ × List M) → List (ℕ × List M)
+  with_empty ids inboxes = with_changes (map (λ w. (w.0, Some w.1)) inboxes) (empty_inboxes ids)
 
 -- the ids of those that weren't halted by what they gave
 abbrev pub awake_after : {V M : Type 0} → List (ℕ × Record V M) → List ℕ

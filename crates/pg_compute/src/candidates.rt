@@ -1,5 +1,5 @@
 //! The vertices that a step looks at: which they are, and how it finds them.
-ghost use Rattle.std.specs.Prelude.{◌≡◌, ◌++◌, ◌<◌, ◌^◌, map, [], ◌∷◌, None, Some, true, false, not, IfOk, OnOk};
+ghost use Rattle.std.specs.Prelude.{◌≡◌, ◌<◌, ◌^◌, map, [], ◌∷◌, None, Some, true, false, not, IfOk, OnOk};
 ghost use Rattle.std.specs.List.Sorted.{IsStrictlySortedBy};
 ghost use Rattle.std.specs.Ordering.{nat_cmp};
 ghost use Rattle.std.specs.List.{AllByRecursion};
@@ -28,7 +28,8 @@ pub(crate) fn awake_ids<V: Drop, M: Drop>(
     trace: &Trace<V, M>,
     superstep: Superstep,
 ) -> Result<Vec<VertexId>, Memory>
-    ensures { IfOk result (λ ids. ids.items ≡ awake_ids superstep trace.now) }
+    ensures ids { IfOk result (λ ids. ids.items ≡ awake_ids superstep trace.now) }
+    ensures rising { IfOk result (λ ids. IsStrictlySortedBy nat_cmp ids.items) }
 {
     match superstep.number().checked_sub(1) {
         Some(before) => {
@@ -39,36 +40,16 @@ pub(crate) fn awake_ids<V: Drop, M: Drop>(
     }
 }
 
-/// Those that belong to a partition.
+/// Those that belong to a partition, in the list's memory.
 fn own<M: Plain>(
-    alloc: Global,
     share: &Share,
     callees: Vec<(VertexId, Sequence<M>)>,
-) -> Result<Vec<(VertexId, Sequence<M>)>, Memory>
-    ensures { IfOk result
-        (λ found. found.items ≡ own share.now.partitions share.now.partition callees.items) }
+) -> Vec<(VertexId, Sequence<M>)>
+    ensures { result.items ≡ own share.now.partitions share.now.partition callees.items }
 {
-    let mut found = Vec::with_capacity(alloc, callees.len())?;
-    for callee in callees {
-        add_own(&mut found, share, callee)?;
-    }
-    Ok(found)
-}
-
-/// Adds a vertex that belongs to a partition.
-fn add_own<M: Plain>(
-    found: &mut Vec<(VertexId, Sequence<M>)>,
-    share: &Share,
-    callee: (VertexId, Sequence<M>),
-) -> Result<(), Memory>
-    ensures { OnOk result (found.new.items
-        ≡ found.old.items ++ own share.now.partitions share.now.partition (callee ∷ [])) }
-{
-    if !share.has(callee.0) {
-        return Ok(());
-    }
-    found.push(callee)?;
-    Ok(())
+    let mut found = callees;
+    found.retain(|callee| share.has(callee.0));
+    found
 }
 
 /// These vertices, by rising id, with what is delivered to each; and where all are asked for, each that receives
@@ -80,7 +61,7 @@ fn callees<M: Plain, C: MessageCombiner<M>>(
     all: bool,
     combiner: &C,
 ) -> Result<Vec<(VertexId, Sequence<M>)>, Memory>
-    requires { all ≡ false → IsStrictlySortedBy nat_cmp ids.now }
+    requires { IsStrictlySortedBy nat_cmp ids.now }
     ensures { IfOk result (λ callees.
         AreCallees (C.combining combiner.now) (map (λ b. b.now) bundles.now) ids.now all callees.items) }
 {
@@ -90,14 +71,15 @@ fn callees<M: Plain, C: MessageCombiner<M>>(
     inboxes_at(alloc, bundles, ids, combiner)
 }
 
-/// These vertices and all that receive something. Where no vertex is given it costs what the inboxes do, and else a
-/// look-up among all of them for each besides.
+/// These vertices, by rising id, and all that receive something. Where no vertex is given it costs what the inboxes do,
+/// and else one pass over both besides.
 fn all_callees<M: Plain, C: MessageCombiner<M>>(
     alloc: Global,
     bundles: &[&Bundle<M>],
     ids: &[VertexId],
     combiner: &C,
 ) -> Result<Vec<(VertexId, Sequence<M>)>, Memory>
+    requires { IsStrictlySortedBy nat_cmp ids.now }
     ensures { IfOk result (λ callees.
         AreCallees (C.combining combiner.now) (map (λ b. b.now) bundles.now) ids.now true callees.items) }
 {
@@ -154,7 +136,7 @@ fn found_alone<P: Computation, C: MessageCombiner<P::Message>>(
     let ids = awake_ids(alloc, trace, superstep)?;
     let lent = lent_bundles(alloc, bundles)?;
     let callees = callees(alloc, lent.as_slice(), ids.as_slice(), true, combiner)?;
-    let callees = own(alloc, share, callees)?;
+    let callees = own(share, callees);
     candidates_alone(alloc, program, missing, superstep, trace, callees)
 }
 
@@ -226,7 +208,7 @@ fn found_beside<P: Computation, C: MessageCombiner<P::Message>>(
 {
     let lent = lent_bundles(alloc, bundles)?;
     let callees = callees(alloc, lent.as_slice(), ids, !seen, combiner)?;
-    let callees = own(alloc, share, callees)?;
+    let callees = own(share, callees);
     let old_lent = lent_bundles(alloc, old_bundles)?;
     candidates_beside(
         alloc,

@@ -20,4 +20,4 @@ returns g c =
     let combining = g.C.MessageCombiner.combining c.args.combiner.now in
     let bundles = map (λ b. b.now) c.args.bundles.now in
     IfOk-weaker c.with_empty.result _ _ (λ callees is. subst (AreCallees combining bundles c.args.ids.now true) (sym is)
-    (are_callees combining bundles c.args.ids.now c.in_ok-inboxes.inboxes.items c.in_ok-inboxes.ensures)) c.with_empty.ensures
+    (are_callees combining bundles c.args.ids.now c.in_ok-inboxes.inboxes.items c.requires c.in_ok-inboxes.ensures)) c.with_empty.ensures

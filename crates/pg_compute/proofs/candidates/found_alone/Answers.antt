@@ -7,10 +7,10 @@ use Rattle.pg_compute.proofs.candidates.found_alone.Goals as goal
 pub returns : goal.returns
 returns g c =
     let program = g.P.Computation.program c.args.program.now in
-    let own = c.in_ok-callees-2.ensures in
+    let own = c.own-callees.ensures in
     let callees = c.in_ok-callees.callees.items in
     let are = subst₂ (λ bundles ids. AreCallees (g.C.MessageCombiner.combining c.args.combiner.now) bundles ids true callees)
-    (ap (map (λ b. b.now)) c.as_slice.ensures.value ∙ c.in_ok-lent.ensures) (c.as_slice-2.ensures.value ∙ c.in_ok-ids.ensures) c.in_ok-callees.ensures in
+    (ap (map (λ b. b.now)) c.as_slice.ensures.value ∙ c.in_ok-lent.ensures) (c.as_slice-2.ensures.value ∙ c.in_ok-ids.ensures.ids) c.in_ok-callees.ensures in
     let found = c.candidates_alone.ensures in
     IfOk-four c.candidates_alone.result _ _ _ _ _ (λ candidates ids new old _. record {
       callees = callees;

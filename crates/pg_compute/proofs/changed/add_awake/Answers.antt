@@ -10,4 +10,4 @@ returns g c =
     let awake = c.in_ok-awake.awake.items in
     IfOk-weaker c.add_all.result _ _ (λ done is id other.
     let parts = in_neither before awake c.add_all.new.ids.items (is ∙ ap (λ l. before ++ l) c.as_slice.ensures.value) id other in
-    (parts.0, λ seen. sym (ap (λ l. has_id l id) c.in_ok-awake.ensures) ∙ parts.1)) c.add_all.ensures
+    (parts.0, λ seen. sym (ap (λ l. has_id l id) c.in_ok-awake.ensures.ids) ∙ parts.1)) c.add_all.ensures
