@@ -23,7 +23,7 @@ use Rattle.pg_inbox.specs.Bundles.{Parcels, bundle_of, contents_of, messages}
 use Rattle.pg_inbox.specs.Grouping.{AreGroups, any_of, items_to}
 use Rattle.pg_inbox.specs.Holding.{Holds, HoldsAt}
 use Rattle.pg_inbox.specs.Ordered.{in_order}
-use Rattle.pg_inbox.specs.Inboxes.{AreInboxes, Delivers, contents_to, letters_at, received_of}
+use Rattle.pg_inbox.specs.Inboxes.{AreInboxes, Delivers, contents_to, each_inbox, inboxes_of, letters_at, received_of}
 use Rattle.pg_inbox.specs.Sends.{AreAllOf, RiseBySender, Sends, letters_to, sent_by, without_senders}
 use Rattle.pg_inbox.specs.declared.parcel.Contents.{Contents}
 use Rattle.pg_inbox.proofs.Bundling.{at_id, rises-values, value_at-bundle_of, value_at-values}
@@ -38,7 +38,7 @@ module _ {X Y : Type 0} where
   all_to_map P f [] h = tt
   all_to_map P f (x ∷ xs) h = (h.0, all_to_map P f xs h.1)
 
-  all_of_map : (P : Y → Type 0) (f : X → Y) (xs : List X) → AllByRecursion P (map f xs) → AllByRecursion (λ x. P (f x)) xs
+  pub all_of_map : (P : Y → Type 0) (f : X → Y) (xs : List X) → AllByRecursion P (map f xs) → AllByRecursion (λ x. P (f x)) xs
   all_of_map P f [] h = tt
   all_of_map P f (x ∷ xs) h = (h.0, all_of_map P f xs h.1)
 
@@ -344,6 +344,25 @@ module _ {X : Type 0} (id : ℕ) where
       by None h = h
       by (Some x) h = refl
 
+pub only_one : {X : Type 0} (xs : List X) (x : X) → length xs ≡ 1 → x ≡ get_or xs 0 x → xs ≡ x ∷ []
+only_one [] x one is = absurd (omega arith)
+only_one (y ∷ []) x one is = ap (λ z. z ∷ []) (sym is)
+only_one (y ∷ z ∷ xs) x one is = absurd (omega arith)
+
+-- rising entries are groups of one each
+abbrev singles : {X : Type 0} → List (ℕ × X) → List (ℕ × List X)
+singles es = map (λ e. (e.0, e.1 ∷ [])) es
+
+single_groups : {X : Type 0} (es : List (ℕ × X)) → HasRisingIds es → AreGroups es (singles es)
+single_groups {X} es rise = record {
+  rise = rises-values (λ x. x ∷ []) es rise;
+  told = λ q. value_at-values (λ x. x ∷ []) q es ∙ (by (value_at q es) ∙ ap any_of (sym (item_once q es rise)));
+}
+  where
+    by : (o : Option X) → option_map (λ x. x ∷ []) o ≡ any_of (option_to_list o)
+    by None = refl
+    by (Some x) = refl
+
 abbrev opened : {M : Type 0} → Option (List M) → List M
 opened o = elim o [ None ↦ [] | Some inbox ↦ inbox ]
 
@@ -397,3 +416,17 @@ module _ {M : Type 0} (is_value : M → Type 0) where
         whole : (l : List (Contents M)) → opened (option_map (received_of combining) (any_of l)) ≡ received_of combining l
         whole [] = sym (received_nothing 0 combining)
         whole (c ∷ l) = refl
+
+    -- those of one bundle, each of one parcel
+    pub inboxes_of_one : is_some combining ≡ false → (b : Parcels M) → bundles ≡ b ∷ [] → HasRisingIds b → AllByRecursion (λ e. Holds is_value e.1) b
+        → AreInboxes combining bundles (each_inbox b)
+    inboxes_of_one none b one rise hold =
+        let all : flat_map (λ b. b) bundles ≡ b = ap (flat_map (λ b. b)) one ∙ append-nil b in
+        subst (AreInboxes combining bundles) (each b)
+        (are_inboxes (singles b) (subst (λ l. AreGroups l (singles b)) (sym all) (single_groups b rise))
+        (subst (AllByRecursion HasRisingIds) (sym one) (rise, tt)) (subst (AllByRecursion (λ e. Holds is_value e.1)) (sym all) hold))
+      where
+        each : (es : Parcels M) → inboxes_of combining (singles es) ≡ each_inbox es
+        each [] = refl
+        each (e ∷ es) =
+            ap₂ ◌∷◌ (ap (λ l. (e.0, l)) (received_in_order 0 combining none (e.1 ∷ []) ∙ ap (λ l. messages (in_order l)) (append-nil e.1.letters))) (each es)

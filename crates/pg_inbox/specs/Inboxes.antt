@@ -34,6 +34,10 @@ module _ {M : Type 0} where
   abbrev pub inboxes_of : Option (Combining M) → List (ℕ × List (Contents M)) → List (ℕ × List M)
   inboxes_of combining groups = map (λ g. (g.0, received_of combining g.1)) groups
 
+  -- those of one bundle, where messages aren't combined
+  abbrev pub each_inbox : Parcels M → List (ℕ × List M)
+  each_inbox parcels = map (λ p. (p.0, messages (in_order p.1.letters))) parcels
+
   -- the inbox at an id
   abbrev pub inbox_at : ℕ → List (ℕ × List M) → List M
   inbox_at id inboxes = elim (value_at id inboxes) [ None ↦ [] | Some inbox ↦ inbox ]

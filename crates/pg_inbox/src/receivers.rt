@@ -3,13 +3,13 @@ ghost use Rattle.std.specs.Prelude.{◌≡◌, ◌++◌, map, IfOk, OnOk};
 ghost use Rattle.std.specs.List.{AllByRecursion, flat_map};
 ghost use Rattle.pg_map.specs.Entries.{HasRisingIds};
 ghost use Rattle.pg_inbox.specs.Grouping.{groups_of};
-ghost use Rattle.pg_inbox.specs.Holding.{Holds};
-ghost use Rattle.pg_inbox.specs.Inboxes.{AreInboxes, inboxes_of};
+ghost use Rattle.pg_inbox.specs.Holding.{HoldAll, Holds};
+ghost use Rattle.pg_inbox.specs.Inboxes.{AreInboxes, each_inbox, inboxes_of};
 
 use crate::Bundle;
 use crate::grouped::{by_target, first_group};
 use crate::parcel::Parcel;
-use crate::receiving::received;
+use crate::receiving::{messages_by_sender, received};
 use pg_global::MessageCombiner;
 use pg_graph::{Memory, VertexId};
 use pg_map::Share;
@@ -20,7 +20,7 @@ use std::alloc::Global;
 /// What each vertex receives to which a bundle has a message, by rising id.
 ///
 /// Costs O(t log n) for t targets in n bundles, since those of a bundle rise already and the stable sort merges such
-/// runs, and of each vertex what its inbox costs beside the searches.
+/// runs, and of each vertex what its inbox costs beside the searches. One bundle is gone through where it is.
 pub fn inboxes<M: Plain, C: MessageCombiner<M>>(
     alloc: Global,
     bundles: &[&Bundle<M>],
@@ -28,9 +28,33 @@ pub fn inboxes<M: Plain, C: MessageCombiner<M>>(
 ) -> Result<Vec<(VertexId, Sequence<M>)>, Memory>
     ensures { IfOk result (λ inboxes. AreInboxes (C.combining combiner.now) (map (λ b. b.now) bundles.now) inboxes.items) }
 {
+    if let [bundle] = bundles {
+        if !combiner.combines() {
+            let inboxes = inboxes_in(alloc, bundle)?;
+            return Ok(inboxes);
+        }
+    }
     let parcels = all_parcels(alloc, bundles)?;
     let parcels = by_target(parcels)?;
     inboxes_of(alloc, parcels.as_slice(), combiner)
+}
+
+/// The inbox of each target of one bundle, where messages aren't combined.
+fn inboxes_in<M: Plain>(
+    alloc: Global,
+    bundle: &Bundle<M>,
+) -> Result<Vec<(VertexId, Sequence<M>)>, Memory>
+    ensures inboxes { IfOk result (λ inboxes. inboxes.items ≡ each_inbox bundle.now) }
+    ensures rise { IfOk result (λ _. HasRisingIds bundle.now) }
+    ensures hold { IfOk result (λ _. HoldAll M.is_value bundle.now) }
+{
+    bundle.holds();
+    let mut inboxes = Vec::new(alloc);
+    for (target, parcel) in bundle.parcels.iter() {
+        let inbox = messages_by_sender(alloc, parcel)?;
+        inboxes.push((*target, Sequence::from_vec(inbox)))?;
+    }
+    Ok(inboxes)
 }
 
 /// What all bundles have for each of their targets, bundle by bundle.

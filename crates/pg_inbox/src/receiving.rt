@@ -80,11 +80,32 @@ pub(crate) fn received<M: Plain, C: MessageCombiner<M>>(
         return combined(alloc, parts.as_slice(), combiner);
     }
     if let [(_, parcel)] = parcels {
-        if are_in_order(parcel) {
-            return messages_in(alloc, parcel);
-        }
+        return messages_by_sender(alloc, parcel);
     }
-    let mut letters = letters_in(alloc, parcels)?;
+    let letters = letters_in(alloc, parcels)?;
+    sorted_messages(alloc, letters)
+}
+
+/// The messages to one target of one bundle, by sender and then in the order sent.
+pub(crate) fn messages_by_sender<M: Plain>(
+    alloc: Global,
+    parcel: &Parcel<M>,
+) -> Result<Vec<M>, Memory>
+    ensures { IfOk result (λ inbox. inbox.items ≡ messages (in_order parcel.now.letters)) }
+{
+    if are_in_order(parcel) {
+        return messages_in(alloc, parcel);
+    }
+    let mut letters = Vec::with_capacity(alloc, parcel.len())?;
+    copy_letters(alloc, &mut letters, parcel)?;
+    sorted_messages(alloc, letters)
+}
+
+/// Messages by sender, those of one sender in their order.
+fn sorted_messages<M: Plain>(alloc: Global, letters: Vec<(VertexId, M)>) -> Result<Vec<M>, Memory>
+    ensures { IfOk result (λ inbox. inbox.items ≡ messages (in_order letters.items)) }
+{
+    let mut letters = letters;
     letters.sort_by_key(|letter| letter.0)?;
     messages_of(alloc, letters)
 }

@@ -1,11 +1,12 @@
 -- Items put with the partitions of their targets.
-use Rattle.std.proofs.Common.{◌≡◌, ℕ, ◌%◌, ◌==◌, ◌<◌, Bool, true, false, cond, List, [], ◌∷◌, ◌++◌, length, map}
+use Rattle.std.proofs.Common.{◌≡◌, ℕ, ◌+◌, append_assoc, flat_map, get_or, take, ◌%◌, ◌==◌, ◌<◌, Bool, true, false, cond, List, [], ◌∷◌, ◌++◌, length, map}
 use Rattle.std.proofs.Common.{slice_index_or, slice_set, refl, sym, ap, ◌∙◌, subst, filter, true≢false}
 use Rattle.std.proofs.lemmas.Bool.{eqb-true, eq-eqb}
 use Rattle.std.proofs.lemmas.List.{append-nil, get_or-set_other, get_or-set_same, map-append}
 use Rattle.std.proofs.lemmas.List.Elements.{filter-append}
 use Rattle.pg_model.specs.Share.{belongs}
-use Rattle.pg_routing.specs.Sending.{items_to}
+use Rattle.pg_routing.specs.Sending.{AreParts, HaveMore, items_to}
+use Rattle.pg_routing.proofs.Listing.{flat_map-push, one_taken}
 
 module _ {X : Type 0} (n q : ℕ) where
   items_to-push : (before : List (ℕ × X)) (t : ℕ) (x : X) → items_to n q (before ++ (t, x) ∷ []) ≡ items_to n q before ++ cond (t % n == q) (x ∷ []) []
@@ -32,3 +33,24 @@ module _ {X : Type 0} (n q : ℕ) where
       by false e =
           get_or-set_other parts place q part [] (λ there. true≢false (sym (eq-eqb (t % n) q (sym at ∙ sym there)) ∙ e))
           ∙ (same ∙ sym (append-nil (items_to n q before)))
+
+module _ {X : Type 0} (n : ℕ) where
+  pub have_none : (parts : List (List X)) → HaveMore n [] parts parts
+  have_none parts items are q below = are q below ∙ ap (items_to n q) (sym (append-nil items))
+
+  -- items of a list of which one more is put
+  pub have_pushed : {Y : Type 0} (f : Y → ℕ × X) (ys : List Y) (i : ℕ) {y : Y} (start before after : List (List X)) → i < length ys
+      → y ≡ get_or ys i y → HaveMore n (map f (take i ys)) start before → HaveMore n (f y ∷ []) before after
+      → HaveMore n (map f (take (i + 1) ys)) start after
+  have_pushed f ys i {y} start before after within is so_far put items are =
+      subst (λ l. AreParts n l after)
+      (append_assoc items (map f (take i ys)) (f y ∷ [])
+      ∙ ap (λ l. items ++ l) (sym (map-append f (take i ys) (y ∷ [])) ∙ ap (map f) (one_taken ys i within is)))
+      (put (items ++ map f (take i ys)) (so_far items are))
+
+  -- and of one of which more are put for each element
+  pub have_gathered : {Y : Type 0} (f : Y → List (ℕ × X)) (ys : List Y) (i : ℕ) {y : Y} (before after : List (List X)) → i < length ys
+      → y ≡ get_or ys i y → AreParts n (flat_map f (take i ys)) before → HaveMore n (f y) before after → AreParts n (flat_map f (take (i + 1) ys)) after
+  have_gathered f ys i {y} before after within is so_far more =
+      subst (λ l. AreParts n l after) (sym (flat_map-push f (take i ys) y) ∙ ap (flat_map f) (one_taken ys i within is))
+      (more (flat_map f (take i ys)) so_far)

@@ -1,5 +1,5 @@
 -- What a step sends, and what of the old run it withdraws, by the changes of records.
-use Rattle.std.specs.Prelude.{◌≡◌, ℕ, List, [], map, Option, None, Some}
+use Rattle.std.specs.Prelude.{◌≡◌, ℕ, ◌<◌, List, [], ◌++◌, map, slice_index_or, Option, None, Some}
 use Rattle.std.specs.List.{filter}
 use Rattle.pg_inbox.specs.Bundles.{bundle_of}
 use Rattle.pg_inbox.specs.Patched.{IsPatched, TellsChanges}
@@ -13,6 +13,15 @@ use Rattle.pg_trace.specs.Trace.{Trace, record_at}
 -- items to one of n partitions, of items with their targets
 abbrev pub items_to : {X : Type 0} → ℕ → ℕ → List (ℕ × X) → List X
 items_to n q items = map (λ i. i.1) (filter (λ i. belongs n q i.0) items)
+
+module _ {X : Type 0} where
+  -- lists of what goes to each of n partitions
+  abbrev pub AreParts : ℕ → List (ℕ × X) → List (List X) → Type 0
+  AreParts n items parts = (q : ℕ) → q < n → slice_index_or parts q [] ≡ items_to n q items
+
+  -- and of more items after what was there
+  abbrev pub HaveMore : ℕ → List (ℕ × X) → List (List X) → List (List X) → Type 0
+  HaveMore n more before after = (items : List (ℕ × X)) → AreParts n items before → AreParts n (items ++ more) after
 
 module _ {V M : Type 0} where
   -- what a vertex sends by a record, if it has one, with the targets

@@ -1,8 +1,8 @@
-//! What a step sends.
-ghost use Rattle.std.specs.Prelude.{◌≡◌, ℕ, ◌<◌, [], ◌++◌, length, map, slice_index_or, IfOk, OnOk};
+//! What a step sends, by the partition that receives it.
+ghost use Rattle.std.specs.Prelude.{◌≡◌, [], ◌∷◌, length, map, IfOk, OnOk};
 ghost use Rattle.std.specs.List.{flat_map};
 ghost use Rattle.std.specs.Option.{option_copied};
-ghost use Rattle.pg_routing.specs.Sending.{items_to, pairs_by, pairs_of, sends_by, sends_of};
+ghost use Rattle.pg_routing.specs.Sending.{AreParts, HaveMore, pairs_by, pairs_of, sends_by, sends_of};
 
 use crate::Partitioner;
 use pg_graph::{Memory, Superstep, VertexId};
@@ -11,124 +11,155 @@ use pg_program::Plain;
 use pg_trace::Trace;
 use std::alloc::Global;
 
-/// What is sent by these changes of records, as (sender, target, message), each with its target.
+/// What is sent by these changes of records, as (sender, target, message), by the partition of the target.
 pub(crate) fn sends_of<V: Plain, M: Plain>(
     alloc: Global,
+    partitions: Partitioner,
     changes: &[(VertexId, Option<Record<V, M>>)],
-) -> Result<Vec<(VertexId, (VertexId, VertexId, M))>, Memory>
-    ensures { IfOk result (λ sends. sends.items ≡ flat_map sends_of changes.now) }
+) -> Result<Vec<Sequence<(VertexId, VertexId, M)>>, Memory>
+    ensures len { IfOk result (λ parts. length parts.items ≡ partitions) }
+    ensures parts { IfOk result (λ parts. AreParts partitions (flat_map sends_of changes.now) parts.items) }
 {
-    let mut sends = Vec::new(alloc);
+    let mut parts = nothing_each(alloc, partitions, sent_by(changes))?;
     for change in changes {
-        add_sends(alloc, &mut sends, change.0, change.1.as_ref())?;
+        add_sends(alloc, partitions, &mut parts, change.0, change.1.as_ref())?;
     }
-    Ok(sends)
+    Ok(parts)
+}
+
+/// How many messages are sent by these changes of records.
+fn sent_by<V: Plain, M: Plain>(changes: &[(VertexId, Option<Record<V, M>>)]) -> usize {
+    let mut sent: usize = 0;
+    for (_, change) in changes {
+        if let Some(record) = change {
+            sent = sent.saturating_add(record.sent.len());
+        }
+    }
+    sent
 }
 
 fn add_sends<V: Plain, M: Plain>(
     alloc: Global,
-    sends: &mut Vec<(VertexId, (VertexId, VertexId, M))>,
+    partitions: Partitioner,
+    parts: &mut Vec<Sequence<(VertexId, VertexId, M)>>,
     sender: VertexId,
     by: Option<&Record<V, M>>,
 ) -> Result<(), Memory>
-    ensures { OnOk result (sends.new.items ≡ sends.old.items ++ sends_by sender (option_copied by.entry)) }
+    requires { length parts.old.items ≡ partitions }
+    ensures len { OnOk result (length parts.new.items ≡ partitions) }
+    ensures more { OnOk result (HaveMore partitions (sends_by sender (option_copied by.entry)) parts.old.items parts.new.items) }
 {
     match by {
-        Some(given) => {
-            push_sends(alloc, sends, sender, given.sent.as_slice())?;
-            Ok(())
-        }
+        Some(given) => push_sends(alloc, partitions, parts, sender, given.sent.as_slice()),
         None => Ok(()),
     }
 }
 
 fn push_sends<M: Plain>(
     alloc: Global,
-    sends: &mut Vec<(VertexId, (VertexId, VertexId, M))>,
+    partitions: Partitioner,
+    parts: &mut Vec<Sequence<(VertexId, VertexId, M)>>,
     sender: VertexId,
     sent: &[(VertexId, M)],
 ) -> Result<(), Memory>
-    ensures { OnOk result (sends.new.items ≡ sends.old.items ++ map (λ m. (m.0, (sender, m.0, m.1))) sent.now) }
+    requires { length parts.old.items ≡ partitions }
+    ensures len { OnOk result (length parts.new.items ≡ partitions) }
+    ensures more { OnOk result
+        (HaveMore partitions (map (λ m. (m.0, (sender, m.0, m.1))) sent.now) parts.old.items parts.new.items) }
 {
     for (target, message) in sent {
         let message = message.copy(alloc)?;
-        sends.push((*target, (sender, *target, message)))?;
+        put(partitions, parts, *target, (sender, *target, message))?;
     }
     Ok(())
 }
 
-/// What the old run has sent by the vertices of these changes, as (sender, target), each with its target.
+/// What the old run has sent by the vertices of these changes, as (sender, target), by the partition of the target.
 pub(crate) fn withdrawn_of<V: Plain, M: Plain>(
     alloc: Global,
+    partitions: Partitioner,
     old: &Trace<V, M>,
     superstep: Superstep,
     changes: &[(VertexId, Option<Record<V, M>>)],
-) -> Result<Vec<(VertexId, (VertexId, VertexId))>, Memory>
-    ensures { IfOk result (λ pairs. pairs.items ≡ flat_map (pairs_of old.now superstep) changes.now) }
+) -> Result<Vec<Sequence<(VertexId, VertexId)>>, Memory>
+    ensures len { IfOk result (λ parts. length parts.items ≡ partitions) }
+    ensures parts { IfOk result (λ parts. AreParts partitions (flat_map (pairs_of old.now superstep) changes.now) parts.items) }
 {
-    let mut pairs = Vec::new(alloc);
+    let mut parts = nothing_each(alloc, partitions, 0)?;
     for change in changes {
-        add_pairs(&mut pairs, change.0, old.record_at(change.0, superstep))?;
+        add_pairs(
+            partitions,
+            &mut parts,
+            change.0,
+            old.record_at(change.0, superstep),
+        )?;
     }
-    Ok(pairs)
+    Ok(parts)
 }
 
 fn add_pairs<V: Plain, M: Plain>(
-    pairs: &mut Vec<(VertexId, (VertexId, VertexId))>,
+    partitions: Partitioner,
+    parts: &mut Vec<Sequence<(VertexId, VertexId)>>,
     sender: VertexId,
     by: Option<&Record<V, M>>,
 ) -> Result<(), Memory>
-    ensures { OnOk result (pairs.new.items ≡ pairs.old.items ++ pairs_by sender (option_copied by.entry)) }
+    requires { length parts.old.items ≡ partitions }
+    ensures len { OnOk result (length parts.new.items ≡ partitions) }
+    ensures more { OnOk result (HaveMore partitions (pairs_by sender (option_copied by.entry)) parts.old.items parts.new.items) }
 {
     match by {
-        Some(given) => {
-            push_pairs(pairs, sender, given.sent.as_slice())?;
-            Ok(())
-        }
+        Some(given) => push_pairs(partitions, parts, sender, given.sent.as_slice()),
         None => Ok(()),
     }
 }
 
 fn push_pairs<M: Plain>(
-    pairs: &mut Vec<(VertexId, (VertexId, VertexId))>,
+    partitions: Partitioner,
+    parts: &mut Vec<Sequence<(VertexId, VertexId)>>,
     sender: VertexId,
     sent: &[(VertexId, M)],
 ) -> Result<(), Memory>
-    ensures { OnOk result (pairs.new.items ≡ pairs.old.items ++ map (λ m. (m.0, (sender, m.0))) sent.now) }
+    requires { length parts.old.items ≡ partitions }
+    ensures len { OnOk result (length parts.new.items ≡ partitions) }
+    ensures more { OnOk result
+        (HaveMore partitions (map (λ m. (m.0, (sender, m.0))) sent.now) parts.old.items parts.new.items) }
 {
     for (target, _) in sent {
-        pairs.push((*target, (sender, *target)))?;
+        put(partitions, parts, *target, (sender, *target))?;
     }
     Ok(())
 }
 
-/// Items with their targets, by the partition of the target.
-pub(crate) fn by_partition<X: Drop>(
-    alloc: Global,
+/// Puts an item with the partition of its target.
+fn put<X: Drop>(
     partitions: Partitioner,
-    items: Vec<(VertexId, X)>,
-) -> Result<Vec<Sequence<X>>, Memory>
-    ensures len { IfOk result (λ parts. length parts.items ≡ partitions) }
-    ensures parts { IfOk result (λ parts. (q : ℕ) → q < partitions
-        → slice_index_or parts.items q [] ≡ items_to partitions q items.items) }
+    parts: &mut Vec<Sequence<X>>,
+    target: VertexId,
+    item: X,
+) -> Result<(), Memory>
+    requires { length parts.old.items ≡ partitions }
+    ensures len { OnOk result (length parts.new.items ≡ partitions) }
+    ensures more { OnOk result (HaveMore partitions ((target, item) ∷ []) parts.old.items parts.new.items) }
 {
-    let mut parts = nothing_each(alloc, partitions)?;
-    for (target, item) in items {
-        let place = partitions.partition(target).number() as usize;
-        parts[place].push(item)?;
-    }
-    Ok(parts)
+    let place = partitions.partition(target).number() as usize;
+    parts[place].push(item)?;
+    Ok(())
 }
 
-/// Nothing for each partition.
-fn nothing_each<X: Drop>(alloc: Global, partitions: Partitioner) -> Result<Vec<Sequence<X>>, Memory>
+/// Nothing for each partition, with room for an even share of so many.
+fn nothing_each<X: Drop>(
+    alloc: Global,
+    partitions: Partitioner,
+    items: usize,
+) -> Result<Vec<Sequence<X>>, Memory>
     ensures len { IfOk result (λ none. length none.items ≡ partitions) }
-    ensures none { IfOk result (λ none. (q : ℕ) → slice_index_or none.items q [] ≡ []) }
+    ensures none { IfOk result (λ none. AreParts partitions [] none.items) }
 {
+    let share = items / partitions.partitions() as usize;
     let mut none = Vec::new(alloc);
     for place in 0..partitions.partitions() {
         let _ = place;
-        none.push(Sequence::new(alloc))?;
+        none.push(Sequence::from_vec(Vec::with_capacity(alloc, share)?))?;
     }
     Ok(none)
 }

@@ -6,7 +6,7 @@ ghost use Rattle.pg_inbox.specs.Logged.{slot_at};
 ghost use Rattle.pg_routing.specs.Sending.{IsFresh, IsMended, items_to, pairs_of, sends_of};
 
 use crate::Partitioner;
-use crate::sending::{by_partition, sends_of, withdrawn_of};
+use crate::sending::{sends_of, withdrawn_of};
 use pg_global::MessageCombiner;
 use pg_graph::{Memory, PartitionId, Superstep, VertexId};
 use pg_inbox::{Logged, Logs, bundle, patch};
@@ -72,8 +72,7 @@ pub fn fresh_bundles<V: Plain, M: Plain, C: MessageCombiner<M>>(
     ensures sends { IfOk result (λ sent. (q : ℕ) → q < partitions
         → IsFresh (C.combining combiner.now) (items_to partitions q (flat_map sends_of changes.now)) (slice_get sent q)) }
 {
-    let sends = sends_of(alloc, changes)?;
-    let parts = by_partition(alloc, partitions, sends)?;
+    let parts = sends_of(alloc, partitions, changes)?;
     let bundles = each_fresh(alloc, parts.as_slice(), combiner)?;
     Ok(Sent::of(bundles))
 }
@@ -126,10 +125,8 @@ pub fn mended_bundles<V: Plain, M: Plain, C: MessageCombiner<M>>(
         → IsMended (C.combining combiner.now) (items_to partitions q (flat_map (pairs_of old.now superstep) changes.now))
         (items_to partitions q (flat_map sends_of changes.now)) (slot_at logs.now superstep from q) (slice_get sent q)) }
 {
-    let withdrawn = withdrawn_of(alloc, old, superstep, changes)?;
-    let withdrawn = by_partition(alloc, partitions, withdrawn)?;
-    let added = sends_of(alloc, changes)?;
-    let added = by_partition(alloc, partitions, added)?;
+    let withdrawn = withdrawn_of(alloc, partitions, old, superstep, changes)?;
+    let added = sends_of(alloc, partitions, changes)?;
     let bundles = each_mended(
         alloc,
         partitions,

@@ -1,11 +1,13 @@
-use Rattle.std.proofs.Common.{◌∙◌, ap, map, subst, sym}
+use Rattle.std.proofs.Common.{◌≡◌, ◌∙◌, ap, arith, length, map, subst, sym}
 use Rattle.std.specs.List.{AllByRecursion}
 use Rattle.std.proofs.lemmas.Result.{IfOk-weaker}
+use Rattle.std.specs.Map.{values_of}
+use Rattle.std.proofs.lemmas.List.Elements.{recursion_from_All}
 use Rattle.pg_map.specs.Entries.{HasRisingIds}
 use Rattle.pg_inbox.specs.Grouping.{AreGroups, groups_of}
 use Rattle.pg_inbox.specs.Holding.{Holds}
 use Rattle.pg_inbox.specs.Inboxes.{AreInboxes, inboxes_of}
-use Rattle.pg_inbox.proofs.Delivery.{all_to_map, are_inboxes, flat_map-of_map}
+use Rattle.pg_inbox.proofs.Delivery.{all_of_map, all_to_map, are_inboxes, flat_map-of_map, inboxes_of_one, only_one}
 use Rattle.pg_inbox.proofs.receivers.inboxes.Goals as goal
 
 pub returns : goal.returns
@@ -23,3 +25,17 @@ returns g c =
     (subst (AllByRecursion (λ e. Holds is_value e.1)) all c.in_ok-parcels.ensures.hold) in
     let made = ap (λ l. inboxes_of combining (groups_of l)) c.as_slice.ensures.value in
     IfOk-weaker c.inboxes_of.result _ _ (λ inboxes is. subst (AreInboxes combining bundles) (sym (is ∙ made)) are) c.inboxes_of.ensures
+
+pub returns-then-not-combines : goal.returns-then-not-combines
+returns-then-not-combines g c =
+    let is_value = g.M.Plain.is_value in
+    let combining = g.C.MessageCombiner.combining c.args.combiner.now in
+    let laws = g.met.C.MessageCombiner g.world.𝓛 g.world.𝓜 g.world.𝓡 ((λ s x. x), (λ x. x), (λ x. x), λ x. x) in
+    let bundles = c.args.bundles.now in
+    let bundle = c.bundle-item.result in
+    let one : length bundles ≡ 1 = omega (arith, c.in-len1.len_at_least, c.in-len1.len_below) in
+    subst (AreInboxes combining (map (λ b. b.now) bundles)) (sym c.in_ok-inboxes.ensures.inboxes)
+    (inboxes_of_one is_value combining (laws.lawful c.args.combiner.now) (map (λ b. b.now) bundles)
+    (sym c.combines.ensures ∙ c.if-not-combines.true) bundle.now (ap (map (λ b. b.now)) (only_one bundles bundle one c.bundle-item.is))
+    c.in_ok-inboxes.ensures.rise
+    (all_of_map (Holds is_value) (λ e. e.1) bundle.now (recursion_from_All (Holds is_value) (values_of bundle.now) c.in_ok-inboxes.ensures.hold)))

@@ -1,22 +1,14 @@
-use Rattle.std.proofs.Common.{of_calls, rules, map, sym, ap, ◌∙◌}
-use Rattle.std.proofs.lemmas.Fn.{always_returns_same}
-use Rattle.std.proofs.lemmas.List.Sorted.{IsNonDecreasingBy-from_sort}
+use Rattle.std.proofs.Common.{map, sym, ap, ◌∙◌}
 use Rattle.std.proofs.lemmas.Result.{IfOk-weaker}
 use Rattle.pg_inbox.specs.Bundles.{messages}
 use Rattle.pg_inbox.specs.Ordered.{in_order}
 use Rattle.pg_inbox.proofs.Delivery.{received_in_order}
-use Rattle.pg_inbox.proofs.Replacing.{sorted_in_order}
 use Rattle.pg_inbox.proofs.receiving.received.Goals as goal
 
 pub returns : goal.returns
 returns g c =
     let combining = g.C.MessageCombiner.combining c.args.combiner.now in
-    let sorted = c.sort_by_key.new.self.items in
     let all =
-    ap messages (sorted_in_order c.in_ok-letters.letters.items sorted
-    (IsNonDecreasingBy-from_sort (λ x. x.0) sorted
-    (c.in_ok-sort_by_key.ensures.sorted (λ x. x.0) (always_returns_same _ _ _ (λ a r f k. search (rules, of_calls)))))
-    (c.in_ok-sort_by_key.ensures.stable (λ x. x.0) (always_returns_same _ _ _ (λ a r f k. search (rules, of_calls))))
-    ∙ ap in_order c.in_ok-letters.ensures)
+    ap (λ l. messages (in_order l)) c.in_ok-letters.ensures
     ∙ sym (received_in_order 0 combining (sym c.combines.ensures ∙ c.if-combines.false) (map (λ p. p.1) c.args.parcels.now)) in
-    IfOk-weaker c.messages_of.result _ _ (λ inbox is. is ∙ all) c.messages_of.ensures
+    IfOk-weaker c.sorted_messages.result _ _ (λ inbox is. is ∙ all) c.sorted_messages.ensures

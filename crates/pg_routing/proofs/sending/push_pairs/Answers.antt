@@ -1,17 +1,17 @@
-use Rattle.std.proofs.Common.{◌++◌, ◌∷◌, [], ap, append_assoc, map, sym, ◌∙◌, take}
-use Rattle.std.proofs.lemmas.List.{map-append}
-use Rattle.pg_routing.proofs.Listing.{one_taken}
+use Rattle.std.proofs.Common.{map, subst}
+use Rattle.std.proofs.lemmas.List.{take_all}
+use Rattle.pg_routing.specs.Sending.{HaveMore}
+use Rattle.pg_routing.proofs.Splitting.{have_pushed}
 use Rattle.pg_routing.proofs.sending.push_pairs.Goals as goal
 
 pub loop-target-preserved : goal.loop-target-preserved
-loop-target-preserved g c =
-    let sender = c.args.sender in
-    let start = c.args.pairs.now.items in
-    let sent = c.args.sent.now in
-    let i = c.loop-target.target-index in
-    let one = c.loop-target-item.result in
-    let pairs = map (λ m. (m.0, (sender, m.0))) in
-    c.in_ok-push.ensures.items ∙ ap (λ l. l ++ pairs (one ∷ [])) c.loop-target.invariant
-    ∙ append_assoc start (pairs (take i sent)) (pairs (one ∷ []))
-    ∙ ap (λ l. start ++ l) (sym (map-append (λ m. (m.0, (sender, m.0))) (take i sent) (one ∷ []))
-    ∙ ap pairs (one_taken sent i c.loop-target-test.true c.loop-target-item.is))
+loop-target-preserved g c = record {
+  len = c.in_ok-put.ensures.len;
+  more = have_pushed c.args.partitions (λ m. (m.0, (c.args.sender, m.0))) c.args.sent.now c.loop-target.target-index _ _ _ c.loop-target-test.true
+      c.loop-target-item.is c.loop-target.invariant.more c.in_ok-put.ensures.more;
+}
+
+pub returns-clause-more : goal.returns-clause-more
+returns-clause-more g c =
+    subst (λ l. HaveMore c.args.partitions (map (λ m. (m.0, (c.args.sender, m.0))) l) c.args.parts.now.items c.loop-target.parts.items)
+    (take_all c.loop-target.target-index c.args.sent.now c.loop-target-test.false) c.loop-target.invariant.more

@@ -1,7 +1,10 @@
-use Rattle.std.proofs.Common.{◌≡◌, take}
+use Rattle.std.proofs.Common.{◌≡◌, length, take}
 use Rattle.std.specs.List.{flat_map}
-use Rattle.pg_routing.specs.Sending.{sends_of}
+use Rattle.pg_routing.specs.Sending.{AreParts, sends_of}
 use Rattle.pg_routing.proofs.sending.sends_of.Given as goal
 
 abbrev pub invariant-loop-change : goal.invariant-loop-change
-invariant-loop-change g l = l.sends.items ≡ flat_map sends_of (take l.change-index l.changes)
+invariant-loop-change g l = record {
+  len : length l.parts.items ≡ l.partitions;
+  parts : AreParts l.partitions (flat_map sends_of (take l.change-index l.changes)) l.parts.items;
+}

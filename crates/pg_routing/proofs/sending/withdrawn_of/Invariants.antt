@@ -1,7 +1,10 @@
-use Rattle.std.proofs.Common.{◌≡◌, take}
+use Rattle.std.proofs.Common.{◌≡◌, length, take}
 use Rattle.std.specs.List.{flat_map}
-use Rattle.pg_routing.specs.Sending.{pairs_of}
+use Rattle.pg_routing.specs.Sending.{AreParts, pairs_of}
 use Rattle.pg_routing.proofs.sending.withdrawn_of.Given as goal
 
 abbrev pub invariant-loop-change : goal.invariant-loop-change
-invariant-loop-change g l = l.pairs.items ≡ flat_map (pairs_of l.old l.superstep) (take l.change-index l.changes)
+invariant-loop-change g l = record {
+  len : length l.parts.items ≡ l.partitions;
+  parts : AreParts l.partitions (flat_map (pairs_of l.old l.superstep) (take l.change-index l.changes)) l.parts.items;
+}

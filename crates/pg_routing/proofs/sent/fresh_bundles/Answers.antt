@@ -1,6 +1,6 @@
 use Rattle.std.proofs.Common.{◌<◌, [], ap, sym, ◌∙◌, subst₂, length, slice_index_or, arith}
 use Rattle.std.specs.List.{slice_get}
-use Rattle.pg_routing.specs.Sending.{IsFresh, items_to}
+use Rattle.pg_routing.specs.Sending.{IsFresh}
 use Rattle.pg_routing.proofs.sent.fresh_bundles.Goals as goal
 
 pub returns-clause-to_each : goal.returns-clause-to_each
@@ -10,10 +10,9 @@ returns-clause-to_each g c =
 pub returns-clause-sends : goal.returns-clause-sends
 returns-clause-sends g c q below =
     let lent = c.as_slice.result.now in
-    let n = c.args.partitions in
     let same = c.as_slice.ensures.value in
     let long = ap length same in
     let within : q < length lent = omega (arith, below, c.in_ok-parts.ensures.len, long) in
     subst₂ (λ sends bundles. IsFresh (g.C.MessageCombiner.combining c.args.combiner.now) sends (slice_get bundles q))
-    (ap (λ l. slice_index_or l q []) same ∙ (c.in_ok-parts.ensures.parts q below ∙ ap (items_to n q) c.in_ok-sends.ensures)) (sym c.of.ensures)
+    (ap (λ l. slice_index_or l q []) same ∙ c.in_ok-parts.ensures.parts q below) (sym c.of.ensures)
     (c.in_ok-bundles.ensures.bundles q within)

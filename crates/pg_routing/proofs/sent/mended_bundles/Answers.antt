@@ -15,6 +15,6 @@ returns-clause-sends g c q below =
     subst (λ bundles. IsMended combining (items_to n q (flat_map (pairs_of c.args.old.now c.args.superstep) c.args.changes.now))
     (items_to n q (flat_map sends_of c.args.changes.now)) before (slice_get bundles q)) (sym c.of.ensures)
     (subst₂ (λ withdrawn added. IsMended combining withdrawn added before (slice_get c.in_ok-bundles.bundles.items q))
-    (ap (λ l. slice_index_or l q []) c.as_slice.ensures.value ∙ (c.in_ok-withdrawn-2.ensures.parts q below ∙ ap (items_to n q) c.in_ok-withdrawn.ensures))
-    (ap (λ l. slice_index_or l q []) c.as_slice-2.ensures.value ∙ (c.in_ok-added-2.ensures.parts q below ∙ ap (items_to n q) c.in_ok-added.ensures))
+    (ap (λ l. slice_index_or l q []) c.as_slice.ensures.value ∙ c.in_ok-withdrawn.ensures.parts q below)
+    (ap (λ l. slice_index_or l q []) c.as_slice-2.ensures.value ∙ c.in_ok-added.ensures.parts q below)
     (c.in_ok-bundles.ensures.bundles q below))
