@@ -76,9 +76,29 @@ fn parcel_of<M: Plain, C: MessageCombiner<M>>(
         (λ parcel. parcel ≡ contents_of (C.combining combiner.now) (map (λ l. l.1) letters.now)) }
     ensures holds { IfOk result (λ parcel. Holds M.is_value parcel) }
 {
+    if let [(_, only)] = letters {
+        let only = copied_letter(alloc, only)?;
+        return Ok(Parcel::of_one(only, combiner));
+    }
+    if let [(_, first), (_, second)] = letters {
+        let first = copied_letter(alloc, first)?;
+        let second = copied_letter(alloc, second)?;
+        let parcel = Parcel::of_two(alloc, first, second, combiner)?;
+        return Ok(parcel);
+    }
     let copied = copied_letters(alloc, letters)?;
     let parcel = Parcel::of(alloc, copied, combiner)?;
     Ok(parcel)
+}
+
+/// A copy of a letter.
+fn copied_letter<M: Plain>(alloc: Global, letter: &(VertexId, M)) -> Result<(VertexId, M), Memory>
+    ensures letter { IfOk result (λ copied. copied ≡ letter.now) }
+    ensures value { IfOk result (λ copied. M.is_value copied.1) }
+{
+    let message = letter.1.copy(alloc)?;
+    message.fits();
+    Ok((letter.0, message))
 }
 
 /// Copies of letters, in a list that is no longer than they are.
@@ -90,10 +110,8 @@ fn copied_letters<M: Plain>(
     ensures values { IfOk result (λ copied. AllByRecursion (λ l. M.is_value l.1) copied.items) }
 {
     let mut copied = Vec::with_capacity(alloc, letters.len())?;
-    for (_, (sender, message)) in letters {
-        let message = message.copy(alloc)?;
-        message.fits();
-        copied.push((*sender, message))?;
+    for (_, letter) in letters {
+        copied.push(copied_letter(alloc, letter)?)?;
     }
     Ok(copied)
 }

@@ -105,6 +105,30 @@ impl<M: Plain> Parcel<M> {
         Ok(Parcel { held })
     }
 
+    /// A parcel of one message.
+    pub(crate) fn of_one<C: MessageCombiner<M>>(letter: (VertexId, M), combiner: &C) -> Parcel<M>
+        requires { M.is_value letter.1 }
+        ensures { result ≡ contents_of (C.combining combiner.now) (letter ∷ []) }
+    {
+        let held = packed_one(letter, combiner);
+        Parcel { held }
+    }
+
+    /// A parcel of two messages.
+    pub(crate) fn of_two<C: MessageCombiner<M>>(
+        alloc: Global,
+        first: (VertexId, M),
+        second: (VertexId, M),
+        combiner: &C,
+    ) -> Result<Parcel<M>, Memory>
+        requires first { M.is_value first.1 }
+        requires second { M.is_value second.1 }
+        ensures { IfOk result (λ parcel. parcel ≡ contents_of (C.combining combiner.now) (first ∷ second ∷ [])) }
+    {
+        let held = packed_two(alloc, first, second, combiner)?;
+        Ok(Parcel { held })
+    }
+
     /// How many messages there are.
     pub(crate) fn len(&self) -> usize
         ensures value { result ≡ length self.now.letters }

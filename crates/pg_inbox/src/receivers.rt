@@ -49,7 +49,7 @@ fn inboxes_in<M: Plain>(
     ensures hold { IfOk result (λ _. HoldAll M.is_value bundle.now) }
 {
     bundle.holds();
-    let mut inboxes = Vec::new(alloc);
+    let mut inboxes = Vec::with_capacity(alloc, bundle.parcels.len())?;
     for (target, parcel) in bundle.parcels.iter() {
         let inbox = messages_by_sender(alloc, parcel)?;
         inboxes.push((*target, Sequence::from_vec(inbox)))?;
