@@ -1,3 +1,4 @@
+pub mod InChunks
 pub mod InPlace
 pub mod Keeping
 pub mod Last

@@ -1,3 +1,4 @@
+pub mod Chunks
 pub mod Ran
 pub mod Records
 pub mod Rows
