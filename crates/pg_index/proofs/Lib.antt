@@ -1,4 +1,5 @@
 pub mod Histories
+pub mod InChunks
 pub mod InPlace
 pub mod Keeping
 pub mod Last

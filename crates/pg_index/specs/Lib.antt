@@ -1,3 +1,4 @@
+pub mod Chunks
 pub mod History
 pub mod Ran
 pub mod Records

@@ -2,9 +2,11 @@
 ghost use Rattle.std.specs.Prelude.{◌≡◌, [], IfOk};
 ghost use Rattle.std.specs.Option.{option_copied};
 ghost use Rattle.pg_map.specs.Entries.{ChangesRise, HasRisingIds, value_at, with_changes};
+ghost use Rattle.pg_index.specs.Chunks.{AreSound, all_of};
 ghost use Rattle.pg_index.specs.Ran.{IsIndex, IsNoted, StepsRise};
 
 use crate::changes::{changed, tell_rising};
+use crate::chunk::get;
 use crate::finder::LastFinder;
 use crate::kept::Kept;
 use crate::notes::{Notes, copied, moved, note_over};
@@ -12,7 +14,6 @@ use crate::steps::Steps;
 use pg_graph::{Memory, VertexId};
 use pg_map::{Finder, Map};
 use std::alloc::Global;
-use std::collections::BTreeMap;
 use std::marker::Model;
 
 /// In which supersteps each vertex ran, and its last record: a map that copies share, and notes over it, which are made
@@ -34,15 +35,16 @@ impl<V: Drop, M: Drop> Drop for Index<V, M> {
 
 impl<V, M> Model for Index<V, M> {
     ghost use Rattle.std.specs.Prelude.{ℕ, List};
-    ghost use Rattle.pg_map.specs.Entries.{ChangesRise, HasRisingIds, with_changes};
+    ghost use Rattle.pg_map.specs.Entries.{HasRisingIds, with_changes};
     ghost use Rattle.pg_model.specs.declared.record.Record.{Record};
+    ghost use Rattle.pg_index.specs.Chunks.{AreSound, all_of};
     ghost use Rattle.pg_index.specs.Ran.{Ran};
 
     ghost Value = { List (ℕ × Ran (Record V M)) };
 
-    ghost view = { λ i. with_changes i.notes.entries i.base };
+    ghost view = { λ i. with_changes (all_of i.notes.items) i.base };
 
-    ghost invariant = { λ i. HasRisingIds i.base × ChangesRise i.notes.entries };
+    ghost invariant = { λ i. HasRisingIds i.base × AreSound i.notes.items };
 }
 
 /// Looks up ids in an index: among the notes, and then in the map, where an id near the one before costs a search near
@@ -55,15 +57,16 @@ pub(crate) struct IndexFinder<'a, V, M> {
 
 impl<'a, V, M> Model for IndexFinder<'a, V, M> {
     ghost use Rattle.std.specs.Prelude.{ℕ, List};
-    ghost use Rattle.pg_map.specs.Entries.{ChangesRise, HasRisingIds, with_changes};
+    ghost use Rattle.pg_map.specs.Entries.{HasRisingIds, with_changes};
     ghost use Rattle.pg_model.specs.declared.record.Record.{Record};
+    ghost use Rattle.pg_index.specs.Chunks.{AreSound, all_of};
     ghost use Rattle.pg_index.specs.Ran.{Ran};
 
     ghost Value = { List (ℕ × Ran (Record V M)) };
 
-    ghost view = { λ f. with_changes f.notes.now.entries f.base };
+    ghost view = { λ f. with_changes (all_of f.notes.now.items) f.base };
 
-    ghost invariant = { λ f. HasRisingIds f.base × ChangesRise f.notes.now.entries };
+    ghost invariant = { λ f. HasRisingIds f.base × AreSound f.notes.now.items };
 }
 
 impl<'a, V: Drop, M: Drop> IndexFinder<'a, V, M> {
@@ -73,7 +76,7 @@ impl<'a, V: Drop, M: Drop> IndexFinder<'a, V, M> {
         ensures same { self.new ≡ self.old }
     {
         let notes = self.notes;
-        match notes.get(&id) {
+        match get(notes.as_slice(), id) {
             Some(steps) => steps.as_ref(),
             None => self.base.get(id),
         }
@@ -92,15 +95,15 @@ impl<V: Drop, M: Drop> Index<V, M> {
     fn of(alloc: Global, ran: Map<Steps<V, M>>) -> Index<V, M>
         ensures { result ≡ ran }
     {
-        Index::over(ran, BTreeMap::new(alloc))
+        Index::over(ran, Vec::new(alloc))
     }
 
     /// An index of notes over a map.
     fn over(base: Map<Steps<V, M>>, notes: Notes<V, M>) -> Index<V, M>
-        ensures { result ≡ with_changes notes.entries base }
+        requires { AreSound notes.items }
+        ensures { result ≡ with_changes (all_of notes.items) base }
     {
         tell_rising(&base);
-        let _count = notes.len();
         Index { base, notes }
     }
 
@@ -128,7 +131,7 @@ impl<V: Drop, M: Drop> Index<V, M> {
         ensures { IfOk result (λ index. index ≡ self.now) }
     {
         let base = self.base.share()?;
-        let changes = copied(alloc, &self.notes)?;
+        let changes = copied(alloc, self.notes.as_slice())?;
         let ran = changed(alloc, base, changes)?;
         Ok(Index::of(alloc, ran))
     }

@@ -2,6 +2,7 @@
 #![tactic(auto)]
 
 mod changes;
+mod chunk;
 mod finder;
 mod index;
 mod kept;

@@ -1,28 +1,31 @@
 //! Notes over a map that copies share: what is said of some vertices in place of their entries there.
-ghost use Rattle.std.specs.Prelude.{◌≡◌, List, ℕ, false, Some, IfOk, OnOk, IsTrue};
+ghost use Rattle.std.specs.Prelude.{◌≡◌, ◌++◌, List, ℕ, false, Some, IfOk, OnOk, IsTrue};
 ghost use Rattle.std.specs.List.Sorted.{IsNonDecreasingBy};
 ghost use Rattle.std.specs.Option.{option_copied};
 ghost use Rattle.pg_map.specs.Entries.{ChangesRise, HasRisingIds, value_at, with_changes};
 ghost use Rattle.pg_model.specs.declared.record.Record.{Record};
+ghost use Rattle.pg_index.specs.Chunks.{AreSound, all_of};
 ghost use Rattle.pg_index.specs.Ran.{IsNoted, IsNotedOf, StepsRise, noted, steps_in};
 
 use crate::changes::tell_rising;
+use crate::chunk::{Chunk, found, put};
 use crate::kept::Kept;
 use crate::ran::after;
 use crate::steps::Steps;
 use pg_graph::{Memory, VertexId};
 use pg_map::{Finder, Map, Share};
 use std::alloc::Global;
-use std::collections::BTreeMap;
 
-/// What is said of each vertex of which there is a note: in which supersteps it ran and its last record, or nothing.
-pub(crate) type Notes<V, M> = BTreeMap<VertexId, Option<Steps<V, M>>>;
+/// What is said of each vertex of which there is a note, by rising id: in which supersteps it ran and its last record, or
+/// nothing.
+pub(crate) type Notes<V, M> = Vec<Chunk<Option<Steps<V, M>>>>;
 
 /// Notes of these vertices, by rising id, which record a superstep gave them, if any. Where memory is refused some of
 /// the notes may have been made.
 ///
 /// For k vertices it costs k look-ups among the notes, and k in the map at most. One that has no note yet, that ran in
-/// this superstep or a later one, or that is given none, also costs a copy of the numbers of its supersteps.
+/// this superstep or a later one, or that is given none, also costs a copy of the numbers of its supersteps; and one that
+/// has no note yet moves the notes that follow in its chunk.
 pub(crate) fn note_over<V: Drop, M: Drop>(
     alloc: Global,
     notes: &mut Notes<V, M>,
@@ -32,9 +35,11 @@ pub(crate) fn note_over<V: Drop, M: Drop>(
     given: &[(VertexId, Option<Kept<V, M>>)],
 ) -> Result<(), Memory>
     requires rise { ChangesRise given.now }
-    requires steps { StepsRise (with_changes notes.old.entries base.now) }
-    ensures { OnOk result (IsNoted supersteps.now superstep given.now
-        (with_changes notes.old.entries base.now) (with_changes notes.new.entries base.now)) }
+    requires sound { AreSound notes.old.items }
+    requires steps { StepsRise (with_changes (all_of notes.old.items) base.now) }
+    ensures sound { OnOk result (AreSound notes.new.items) }
+    ensures noted { OnOk result (IsNoted supersteps.now superstep given.now
+        (with_changes (all_of notes.old.items) base.now) (with_changes (all_of notes.new.items) base.now)) }
 {
     tell_rising(base);
     let mut finder = base.finder();
@@ -63,17 +68,20 @@ fn note_of<V: Drop, M: Drop>(
     given: Option<&Kept<V, M>>,
 ) -> Result<(), Memory>
     requires rising { HasRisingIds base.old }
-    requires steps { IsNonDecreasingBy (λ t. t) (steps_in (value_at id (with_changes notes.old.entries base.old))) }
+    requires sound { AreSound notes.old.items }
+    requires steps { IsNonDecreasingBy (λ t. t) (steps_in (value_at id (with_changes (all_of notes.old.items) base.old))) }
+    ensures sound { OnOk result (AreSound notes.new.items) }
     ensures noted { OnOk result (IsNotedOf id supersteps.now superstep (option_copied given.entry)
-        (with_changes notes.old.entries base.old) (with_changes notes.new.entries base.old)) }
+        (with_changes (all_of notes.old.items) base.old) (with_changes (all_of notes.new.items) base.old)) }
     ensures same { base.new ≡ base.old }
 {
-    if let Some(steps) = notes.get_mut(&id) {
+    if let Some((chunk, place)) = found(notes.as_slice(), id) {
+        let steps = &mut notes[chunk].entries[place].1;
         note_again(alloc, steps, supersteps, id, superstep, given)?;
         return Ok(());
     }
     let steps = after(alloc, supersteps, id, superstep, given, base.get(id))?;
-    notes.insert(id, steps)?;
+    put(alloc, notes, id, steps)?;
     Ok(())
 }
 
@@ -127,16 +135,29 @@ fn add_last<V: Drop, M: Drop>(
 /// Copies of notes, by rising id.
 pub(crate) fn copied<V: Drop, M: Drop>(
     alloc: Global,
-    notes: &Notes<V, M>,
+    notes: &[Chunk<Option<Steps<V, M>>>],
 ) -> Result<Vec<(VertexId, Option<Steps<V, M>>)>, Memory>
-    ensures copies { IfOk result (λ copies. copies.items ≡ notes.now.entries) }
-    ensures rise { ChangesRise notes.now.entries }
+    ensures { IfOk result (λ copies. copies.items ≡ all_of notes.now) }
 {
-    let mut copies = Vec::with_capacity(alloc, notes.len())?;
+    let mut copies = Vec::new(alloc);
+    for chunk in notes {
+        copy_of(alloc, &mut copies, chunk.entries.as_slice())?;
+    }
+    Ok(copies)
+}
+
+/// Adds copies of notes.
+fn copy_of<V: Drop, M: Drop>(
+    alloc: Global,
+    copies: &mut Vec<(VertexId, Option<Steps<V, M>>)>,
+    notes: &[(VertexId, Option<Steps<V, M>>)],
+) -> Result<(), Memory>
+    ensures { OnOk result (copies.new.items ≡ copies.old.items ++ notes.now) }
+{
     for (id, steps) in notes {
         copies.push((*id, shared_if_any(alloc, steps)?))?;
     }
-    Ok(copies)
+    Ok(())
 }
 
 /// The same steps, if there are any.
@@ -157,12 +178,12 @@ pub(crate) fn moved<V: Drop, M: Drop>(
     alloc: Global,
     notes: Notes<V, M>,
 ) -> Result<Vec<(VertexId, Option<Steps<V, M>>)>, Memory>
-    ensures list { IfOk result (λ list. list.items ≡ notes.entries) }
-    ensures rise { ChangesRise notes.entries }
+    ensures { IfOk result (λ list. list.items ≡ all_of notes.items) }
 {
-    let mut list = Vec::with_capacity(alloc, notes.len())?;
-    for (id, steps) in notes {
-        list.push((id, steps))?;
+    let mut list = Vec::new(alloc);
+    for chunk in notes {
+        let mut entries = chunk.entries;
+        list.append(&mut entries)?;
     }
     Ok(list)
 }

@@ -1,5 +1,6 @@
-use Rattle.std.proofs.Common.{◌≡◌, ◌++◌}
+use Rattle.std.proofs.Common.{◌≡◌, take}
+use Rattle.pg_index.specs.Chunks.{all_of}
 use Rattle.pg_index.proofs.notes.copied.Given as goal
 
-abbrev pub invariant-loop-id : goal.invariant-loop-id
-invariant-loop-id g l = l.copies.items ++ l.id-iterator ≡ l.notes.entries
+abbrev pub invariant-loop-chunk : goal.invariant-loop-chunk
+invariant-loop-chunk g l = l.copies.items ≡ all_of (take l.chunk-index l.notes)

@@ -1,27 +1,20 @@
-use Rattle.std.proofs.Common.{◌++◌, ◌∷◌, [], append_assoc, ap, sym, ◌∙◌}
+use Rattle.std.proofs.Common.{◌≡◌, ◌++◌, append_assoc, refl, ap, sym, ◌∙◌}
 use Rattle.std.proofs.lemmas.List.{append-nil}
-use Rattle.std.proofs.lemmas.Result.{IfOk-from_err}
+use Rattle.pg_index.specs.Chunks.{all_of, listed}
+use Rattle.pg_index.proofs.Somes.{nil_from_test}
 use Rattle.pg_index.proofs.notes.moved.Goals as goal
 
-pub loop-id-preserved : goal.loop-id-preserved
-loop-id-preserved g c =
-    let before = c.loop-id.list.items in
-    let left = c.next.new.self in
-    ap (λ l. l ++ left) c.in_ok-push.ensures.items ∙ append_assoc before ((c.in-Some.id, c.in-Some.steps) ∷ []) left
-    ∙ ap (λ l. before ++ l) (sym c.in-Some.ensures.steps) ∙ c.loop-id.invariant
+pub loop-chunk-preserved : goal.loop-chunk-preserved
+loop-chunk-preserved g c =
+    let before = c.loop-chunk.list.items in
+    let left = c.next.new.self.rest.items in
+    let added : c.append.new.self.items ≡ before ++ listed c.in-Some.chunk = c.in_ok-append.ensures.items in
+    ap (λ l. l ++ all_of left) added ∙ append_assoc before (listed c.in-Some.chunk) (all_of left)
+    ∙ ap (λ l. before ++ all_of l) (sym c.in-Some.ensures.steps.0) ∙ c.loop-chunk.invariant
 
-pub returns-clause-list : goal.returns-clause-list
-returns-clause-list g c =
-    let all = c.loop-id.list.items in
-    sym (append-nil all) ∙ ap (λ l. all ++ l) (sym c.in-None.ensures.steps.0) ∙ c.loop-id.invariant
-
-pub returns-clause-rise : goal.returns-clause-rise
-returns-clause-rise g c = c.len.ensures.ordered
-
-pub returns-in_err-list : goal.returns-in_err-list
-returns-in_err-list g c = record { list = IfOk-from_err c.from_residual.result _ c.from_residual.ensures.0; rise = c.len.ensures.ordered }
-
-pub returns-in_err-push : goal.returns-in_err-push
-returns-in_err-push g c =
-    let error = c.from_residual-in_err-push in
-    record { list = IfOk-from_err error.result _ error.ensures.0; rise = c.len.ensures.ordered }
+pub returns : goal.returns
+returns g c =
+    let all = c.loop-chunk.list.items in
+    let rest = c.loop-chunk.chunk-iterator.rest in
+    let none = nil_from_test rest.items 0 (sym c.in-None.ensures.steps.0 ∙ rest.ok.0) refl in
+    sym (append-nil all) ∙ ap (λ l. all ++ all_of l) (sym none) ∙ c.loop-chunk.invariant

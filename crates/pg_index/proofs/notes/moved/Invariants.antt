@@ -1,5 +1,6 @@
 use Rattle.std.proofs.Common.{◌≡◌, ◌++◌}
+use Rattle.pg_index.specs.Chunks.{all_of}
 use Rattle.pg_index.proofs.notes.moved.Given as goal
 
-abbrev pub invariant-loop-id : goal.invariant-loop-id
-invariant-loop-id g l = l.list.items ++ l.id-iterator ≡ l.fn.notes.entries
+abbrev pub invariant-loop-chunk : goal.invariant-loop-chunk
+invariant-loop-chunk g l = l.list.items ++ all_of l.chunk-iterator.rest.items ≡ all_of l.fn.notes.items

@@ -1,50 +1,70 @@
-use Rattle.std.proofs.Common.{Some, None, cond, refl, ap, sym, ◌∙◌, subst}
-use Rattle.std.specs.BTreeMap.{is_at}
+use Rattle.std.proofs.Common.{◌≡◌, Some, None, refl, ap, sym, ◌∙◌, subst}
 use Rattle.std.specs.List.Sorted.{IsNonDecreasingBy}
-use Rattle.std.specs.Option.{IsSome, option_copied}
-use Rattle.std.specs.Ordering.{nat_cmp}
+use Rattle.std.specs.Option.{option_copied}
+use Rattle.std.specs.Vec.{with_item}
 use Rattle.pg_map.specs.Entries.{value_at}
+use Rattle.pg_index.specs.Chunks.{IsAt, all_of}
+use Rattle.pg_index.specs.declared.chunk.Chunk.{Chunk}
 use Rattle.pg_index.specs.Ran.{noted, steps_in}
+use Rattle.pg_index.proofs.InChunks.{changed_there, value_found}
 use Rattle.pg_index.proofs.Over.{noted_over, over}
 use Rattle.pg_index.proofs.notes.note_of.Goals as goal
 
 pub note_again-requires : goal.note_again-requires
 note_again-requires g c =
+    let id = c.args.id in
+    let notes = c.args.notes.now.items in
+    let at = subst (λ l. IsAt id l c.in-Some.chunk c.in-Some.place) c.as_slice.ensures.value c.in-Some.ensures.some in
+    let e = c.index_mut-in-Some.result.now in
+    let found : value_at id (all_of notes) ≡ Some e.1 =
+    value_found id notes c.requires.sound c.in-Some.chunk c.in-Some.place at c.index_mut.result.now c.index_mut.ensures.value e
+    ∙ ap (λ x. Some x.1) (sym c.index_mut-in-Some.ensures.value) in
     subst (λ o. IsNonDecreasingBy (λ t. t) (steps_in o))
-    (over c.args.base.now c.args.notes.now.entries c.requires.rising c.get_mut.ensures.ordered c.args.id (Some c.in-Some.steps.now)
-    (sym c.in-Some.ensures.value))
-    c.requires.steps
+    (over c.args.base.now (all_of notes) c.requires.rising c.requires.sound.rise id (Some e.1) found) c.requires.steps
 
-pub after-requires : goal.after-requires
-after-requires g c =
-    subst (λ o. IsNonDecreasingBy (λ t. t) (steps_in o))
-    (over c.args.base.now c.args.notes.now.entries c.requires.rising c.get_mut.ensures.ordered c.args.id None (sym c.in_default.ensures.value)
-    ∙ sym c.get.ensures.value)
-    c.requires.steps
+pub returns-in-Some-clause-sound : goal.returns-in-Some-clause-sound
+returns-in-Some-clause-sound g c =
+    let id = c.args.id in
+    let notes = c.args.notes.now.items in
+    let at = subst (λ l. IsAt id l c.in-Some.chunk c.in-Some.place) c.as_slice.ensures.value c.in-Some.ensures.some in
+    let chunk = c.index_mut.result.now in
+    let e = c.index_mut-in-Some.result.now in
+    let now : Chunk _ = record { first = chunk.first; entries = with_item chunk.entries c.in-Some.place (e.0, c.note_again.new.steps) } in
+    (changed_there id notes c.requires.sound c.in-Some.chunk c.in-Some.place at chunk c.index_mut.ensures.value now e c.note_again.new.steps
+    c.index_mut-in-Some.ensures.value refl refl).1
 
 pub returns-in-Some-clause-noted : goal.returns-in-Some-clause-noted
 returns-in-Some-clause-noted g c =
-    let base = c.args.base.now in
-    let notes = c.args.notes.now.entries in
     let id = c.args.id in
-    let found = c.in-Some.ensures.value in
-    let after = c.get_mut.follows.holds c.note_again.new.steps in
-    noted_over base notes c.requires.rising c.get_mut.ensures.ordered (c.get_mut.follows.lender c.note_again.new.steps).entries
-    id c.args.supersteps.now c.args.superstep (option_copied c.args.given) c.in-Some.steps.now c.note_again.new.steps
-    after.4 (λ q. (after.3 (subst IsSome found refl)).0 q)
-    (over base notes c.requires.rising c.get_mut.ensures.ordered id (Some c.in-Some.steps.now) (sym found))
-    c.in_ok-note_again.ensures
+    let base = c.args.base.now in
+    let notes = c.args.notes.now.items in
+    let at = subst (λ l. IsAt id l c.in-Some.chunk c.in-Some.place) c.as_slice.ensures.value c.in-Some.ensures.some in
+    let chunk = c.index_mut.result.now in
+    let e = c.index_mut-in-Some.result.now in
+    let now : Chunk _ = record { first = chunk.first; entries = with_item chunk.entries c.in-Some.place (e.0, c.note_again.new.steps) } in
+    let found : value_at id (all_of notes) ≡ Some e.1 =
+    value_found id notes c.requires.sound c.in-Some.chunk c.in-Some.place at chunk c.index_mut.ensures.value e
+    ∙ ap (λ x. Some x.1) (sym c.index_mut-in-Some.ensures.value) in
+    noted_over base (all_of notes) c.requires.rising c.requires.sound.rise _ id c.args.supersteps.now c.args.superstep (option_copied c.args.given) e.1
+    c.note_again.new.steps
+    (changed_there id notes c.requires.sound c.in-Some.chunk c.in-Some.place at chunk c.index_mut.ensures.value now e c.note_again.new.steps
+    c.index_mut-in-Some.ensures.value refl refl).0
+    (over base (all_of notes) c.requires.rising c.requires.sound.rise id (Some e.1) found) c.in_ok-note_again.ensures
+
+pub after-requires : goal.after-requires
+after-requires g c =
+    let notes = c.args.notes.now.items in
+    let none = ap (λ l. value_at c.args.id (all_of l)) (sym c.as_slice.ensures.value) ∙ c.in_default.ensures.none in
+    subst (λ o. IsNonDecreasingBy (λ t. t) (steps_in o))
+    (over c.args.base.now (all_of notes) c.requires.rising c.requires.sound.rise c.args.id None none ∙ sym c.get.ensures.value) c.requires.steps
 
 pub returns-clause-noted : goal.returns-clause-noted
 returns-clause-noted g c =
-    let base = c.args.base.now in
-    let notes = c.args.notes.now.entries in
     let id = c.args.id in
-    let rise = c.get_mut.ensures.ordered in
-    noted_over base notes c.requires.rising rise c.insert.new.self.entries
-    id c.args.supersteps.now c.args.superstep (option_copied c.args.given) (value_at id base) c.in_ok-steps.steps
-    c.insert.ensures.ordered
-    (λ q. c.in_ok-insert.ensures.updates.0 q
-    ∙ ap (λ m. cond (is_at (nat_cmp id) q) (Some c.in_ok-steps.steps) (value_at q m.entries)) c.get_mut.follows.holds-at-none)
-    (over base notes c.requires.rising rise id None (sym c.in_default.ensures.value))
+    let base = c.args.base.now in
+    let notes = c.args.notes.now.items in
+    let none = ap (λ l. value_at id (all_of l)) (sym c.as_slice.ensures.value) ∙ c.in_default.ensures.none in
+    noted_over base (all_of notes) c.requires.rising c.requires.sound.rise (all_of c.put.new.chunks.items)
+    id c.args.supersteps.now c.args.superstep (option_copied c.args.given) (value_at id base) c.in_ok-steps.steps c.in_ok-put.ensures.all
+    (over base (all_of notes) c.requires.rising c.requires.sound.rise id None none)
     (c.in_ok-steps.ensures ∙ ap (noted id c.args.supersteps.now c.args.superstep (Some (option_copied c.args.given))) c.get.ensures.value)

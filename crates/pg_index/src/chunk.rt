@@ -1,0 +1,151 @@
+//! Values by rising id, in chunks that are changed in place.
+ghost use Rattle.std.specs.Prelude.{◌≡◌, ◌≤◌, ◌<◌, true, false, nat_le, length, None, IfErr, IfNone, IfOk, IfSome, OnOk};
+ghost use Rattle.std.specs.BTreeMap.{insert_entry};
+ghost use Rattle.std.specs.List.{HoldsAt};
+ghost use Rattle.std.specs.List.Sorted.{IsPartitionPoint};
+ghost use Rattle.std.specs.Option.{option_copied};
+ghost use Rattle.std.specs.Ordering.{nat_cmp};
+ghost use Rattle.std.specs.declared.cmp.Ordering.TheVariants.{Less, Equal, Greater};
+ghost use Rattle.pg_map.specs.Chunks.{StartsAt};
+ghost use Rattle.pg_map.specs.Entries.{HasRisingIds, value_at};
+ghost use Rattle.pg_index.specs.Chunks.{AreSound, IsAt, all_of, listed};
+
+use pg_graph::{Memory, VertexId};
+use std::alloc::Global;
+
+/// Values that lie side by side, by rising id: at least one. A chunk knows its first id, so a search among chunks reads
+/// one vector alone.
+#[derive(Drop)]
+pub(crate) struct Chunk<X> {
+    pub(crate) first: VertexId,
+    pub(crate) entries: Vec<(VertexId, X)>,
+}
+
+/// So many values are too many for a chunk: it is cut in two, so that one more moves few of them.
+const TOO_MANY: usize = 128;
+
+/// The value at an id. Costs two binary searches.
+pub(crate) fn get<X>(chunks: &[Chunk<X>], id: VertexId) -> Option<&X>
+    requires { AreSound chunks.now }
+    ensures { option_copied result ≡ value_at id (all_of chunks.now) }
+{
+    let (chunk, place) = found(chunks, id)?;
+    Some(&chunks[chunk].entries[place].1)
+}
+
+/// In which chunk the value at an id stands, and at which place there. Costs two binary searches.
+pub(crate) fn found<X>(chunks: &[Chunk<X>], id: VertexId) -> Option<(usize, usize)>
+    requires { AreSound chunks.now }
+    ensures some { IfSome result (λ at. IsAt id chunks.now at.0 at.1) }
+    ensures none { IfNone result (value_at id (all_of chunks.now) ≡ None) }
+{
+    let begun = begun(chunks, id);
+    if begun == 0 {
+        return None;
+    }
+    match place_of(chunks[begun - 1].entries.as_slice(), id) {
+        Ok(place) => Some((begun - 1, place)),
+        Err(_) => None,
+    }
+}
+
+/// How many chunks begin at an id or below it.
+fn begun<X>(chunks: &[Chunk<X>], id: VertexId) -> usize
+    requires { AreSound chunks.now }
+    ensures bound { result ≤ length chunks.now }
+    ensures parts { IsPartitionPoint (λ c. nat_le c.first id ≡ true) (λ c. nat_le c.first id ≡ false) chunks.now result }
+{
+    chunks.partition_point(|chunk| is_at_most(chunk.first, id))
+}
+
+/// Whether an id is below another, or is it.
+fn is_at_most(id: VertexId, other: VertexId) -> bool
+    ensures { result ≡ nat_le id other }
+{
+    id <= other
+}
+
+/// The place of an id among entries, or else where it would be put.
+fn place_of<X>(entries: &[(VertexId, X)], id: VertexId) -> Result<usize, usize>
+    requires { HasRisingIds entries.now }
+    ensures within { IfOk result (λ place. place < length entries.now) }
+    ensures found { IfOk result (HoldsAt (λ e. nat_cmp e.0 id ≡ Equal) entries.now) }
+    ensures bound { IfErr result (λ place. place ≤ length entries.now) }
+    ensures missing { IfErr result (IsPartitionPoint (λ e. nat_cmp e.0 id ≡ Less) (λ e. nat_cmp e.0 id ≡ Greater) entries.now) }
+{
+    entries.binary_search_by_key(&id, |entry| entry.0)
+}
+
+/// Puts a value at an id. Costs two binary searches, and moves what follows in the id's chunk and, where that is cut in
+/// two, the chunks that follow. Where memory is refused some of the values may be lost.
+pub(crate) fn put<X: Drop>(
+    alloc: Global,
+    chunks: &mut Vec<Chunk<X>>,
+    id: VertexId,
+    value: X,
+) -> Result<(), Memory>
+    requires { AreSound chunks.old.items }
+    ensures all { OnOk result (all_of chunks.new.items ≡ insert_entry nat_cmp (all_of chunks.old.items) id value) }
+    ensures sound { OnOk result (AreSound chunks.new.items) }
+{
+    if chunks.is_empty() {
+        let mut entries = Vec::new(alloc);
+        entries.push((id, value))?;
+        chunks.push(Chunk { first: id, entries })?;
+        return Ok(());
+    }
+    let place = begun(chunks.as_slice(), id).saturating_sub(1);
+    put_in(&mut chunks[place], id, value)?;
+    cut(chunks, place)?;
+    Ok(())
+}
+
+/// Puts a value at an id into a chunk.
+fn put_in<X: Drop>(chunk: &mut Chunk<X>, id: VertexId, value: X) -> Result<(), Memory>
+    requires { HasRisingIds (listed chunk.old) }
+    ensures entries { OnOk result (listed chunk.new ≡ insert_entry nat_cmp (listed chunk.old) id value) }
+    ensures start { OnOk result (StartsAt chunk.new.first (listed chunk.new)) }
+{
+    put_among(&mut chunk.entries, id, value)?;
+    chunk.first = chunk.entries[0].0;
+    Ok(())
+}
+
+/// Puts a value at an id into entries.
+fn put_among<X: Drop>(
+    entries: &mut Vec<(VertexId, X)>,
+    id: VertexId,
+    value: X,
+) -> Result<(), Memory>
+    requires { HasRisingIds entries.old.items }
+    ensures entries { OnOk result (entries.new.items ≡ insert_entry nat_cmp entries.old.items id value) }
+    ensures some { OnOk result (0 < length entries.new.items) }
+{
+    match place_of(entries.as_slice(), id) {
+        Ok(place) => {
+            entries[place] = (id, value);
+            Ok(())
+        }
+        Err(place) => {
+            entries.insert(place, (id, value))?;
+            Ok(())
+        }
+    }
+}
+
+/// Makes two of a chunk that has too many entries.
+fn cut<X: Drop>(chunks: &mut Vec<Chunk<X>>, place: usize) -> Result<(), Memory>
+    requires sound { AreSound chunks.old.items }
+    requires within { place < length chunks.old.items }
+    ensures all { OnOk result (all_of chunks.new.items ≡ all_of chunks.old.items) }
+    ensures sound { OnOk result (AreSound chunks.new.items) }
+{
+    let count = chunks[place].entries.len();
+    if count < TOO_MANY {
+        return Ok(());
+    }
+    let entries = chunks[place].entries.split_off(count / 2)?;
+    let first = entries[0].0;
+    chunks.insert(place + 1, Chunk { first, entries })?;
+    Ok(())
+}
