@@ -25,6 +25,10 @@ module _ {M : Type 0} where
   abbrev pub contents_to : ℕ → List (Parcels M) → List (Contents M)
   contents_to id bundles = flat_map (λ b. option_to_list (value_at id b)) bundles
 
+  -- what the messages to a target come to in each bundle, where they are combined
+  abbrev pub folded_of : {T : Type 0} → List (T × Contents M) → List M
+  folded_of parcels = flat_map (λ c. option_to_list c.folded) (map (λ p. p.1) parcels)
+
   -- an inbox made of that: the messages by sender, or the one that they come to
   abbrev pub received_of : Option (Combining M) → List (Contents M) → List M
   received_of None contents = messages (in_order (flat_map (λ c. c.letters) contents))

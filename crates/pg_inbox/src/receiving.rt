@@ -1,12 +1,12 @@
 //! Inboxes: what a vertex receives of the bundles to its partition.
-ghost use Rattle.std.specs.Prelude.{◌≡◌, ◌++◌, map, true, Some, IsSome, IfSome, IfOk, OnOk};
-ghost use Rattle.std.specs.List.{AllByRecursion, flat_map};
+ghost use Rattle.std.specs.Prelude.{◌≡◌, ◌++◌, ◌||◌, map, true, Some, is_some, IsSome, IfSome, IfOk, OnOk};
+ghost use Rattle.std.specs.List.{AllByRecursion, flat_map, fold};
 ghost use Rattle.std.specs.Option.{option_to_list};
 ghost use Rattle.pg_map.specs.Entries.{value_at};
 ghost use Rattle.pg_model.specs.Superstep.{combined};
 ghost use Rattle.pg_inbox.specs.Bundles.{messages};
 ghost use Rattle.pg_inbox.specs.Holding.{HoldsAt};
-ghost use Rattle.pg_inbox.specs.Inboxes.{Delivers, contents_to, received_of};
+ghost use Rattle.pg_inbox.specs.Inboxes.{Delivers, contents_to, folded_of, received_of};
 ghost use Rattle.pg_inbox.specs.Ordered.{in_order};
 
 use crate::Bundle;
@@ -76,8 +76,7 @@ pub(crate) fn received<M: Plain, C: MessageCombiner<M>>(
     ensures { IfOk result (λ inbox. inbox.items ≡ received_of (C.combining combiner.now) (map (λ p. p.1) parcels.now)) }
 {
     if combiner.combines() {
-        let parts = folded_in(alloc, parcels)?;
-        return combined(alloc, parts.as_slice(), combiner);
+        return combined(alloc, parcels, combiner);
     }
     if let [(_, parcel)] = parcels {
         return messages_by_sender(alloc, parcel);
@@ -110,37 +109,48 @@ fn sorted_messages<M: Plain>(alloc: Global, letters: Vec<(VertexId, M)>) -> Resu
     messages_of(alloc, letters)
 }
 
-/// What the messages of each bundle come to.
-fn folded_in<M: Plain>(alloc: Global, parcels: &[(VertexId, Parcel<M>)]) -> Result<Vec<M>, Memory>
-    ensures { IfOk result (λ parts. parts.items ≡ flat_map (λ c. option_to_list c.folded) (map (λ p. p.1) parcels.now)) }
-{
-    let mut parts = Vec::with_capacity(alloc, parcels.len())?;
-    for (_, parcel) in parcels {
-        if let Some(message) = parcel.folded() {
-            parts.push(message.copy(alloc)?)?;
-        }
-    }
-    Ok(parts)
-}
-
-/// One message for all, if there are any.
+/// One message for what those of each bundle come to, if there are any.
 fn combined<M: Plain, C: MessageCombiner<M>>(
     alloc: Global,
-    messages: &[M],
+    parcels: &[(VertexId, Parcel<M>)],
     combiner: &C,
 ) -> Result<Vec<M>, Memory>
     requires { IsSome (C.combining combiner.now) }
-    ensures { IfOk result (λ inbox. inbox.items ≡ combined (C.combining combiner.now) messages.now) }
+    ensures { IfOk result (λ inbox. inbox.items ≡ combined (C.combining combiner.now) (folded_of parcels.now)) }
 {
-    let mut inbox = Vec::new(alloc);
-    if !messages.is_empty() {
-        let mut so_far = combiner.initial_message(alloc)?;
-        for message in messages {
-            combiner.combine(alloc, &mut so_far, message)?;
-        }
-        inbox.push(so_far)?;
+    let mut so_far = combiner.initial_message(alloc)?;
+    let mut is_any = false;
+    for (_, parcel) in parcels {
+        is_any = combine_folded(alloc, &mut so_far, is_any, parcel, combiner)?;
     }
+    if !is_any {
+        return Ok(Vec::new(alloc));
+    }
+    let mut inbox = Vec::with_capacity(alloc, 1)?;
+    inbox.push(so_far)?;
     Ok(inbox)
+}
+
+/// Combines what the messages of a bundle come to with what there is so far. Whether there is any message then.
+fn combine_folded<M: Plain, C: MessageCombiner<M>>(
+    alloc: Global,
+    so_far: &mut M,
+    is_any: bool,
+    parcel: &Parcel<M>,
+    combiner: &C,
+) -> Result<bool, Memory>
+    requires { IsSome (C.combining combiner.now) }
+    ensures any { IfOk result (λ after. after ≡ (is_any || is_some parcel.now.folded)) }
+    ensures more { OnOk result (IfSome (C.combining combiner.now)
+        (λ c. so_far.new ≡ fold c.combine so_far.old (option_to_list parcel.now.folded))) }
+{
+    match parcel.folded() {
+        Some(message) => {
+            combiner.combine(alloc, so_far, message)?;
+            Ok(true)
+        }
+        None => Ok(is_any),
+    }
 }
 
 /// Whether messages stand by rising sender.

@@ -1,35 +1,39 @@
-use Rattle.std.proofs.Common.{[], ◌∷◌, ◌++◌, ap, refl, subst, sym, ◌∙◌, IfSome, ◌≡◌, take}
+use Rattle.std.proofs.Common.{◌≡◌, [], ◌∷◌, ◌++◌, IfSome, not, ap, refl, subst, sym, ◌∙◌, take}
 use Rattle.std.specs.List.{fold}
+use Rattle.std.specs.Option.{option_to_list}
 use Rattle.std.proofs.lemmas.List.{take_all}
-use Rattle.pg_map.proofs.Filling.{joined_more}
-use Rattle.pg_inbox.proofs.Taking.{combined_all, combined_none, combined_one}
-use Rattle.pg_inbox.proofs.receiving.combined.Goals.{then-not-is_empty+in_ok-so_far+else-loop-message-test+in_ok-push, else-not-is_empty}
+use Rattle.pg_model.specs.Superstep.{is_empty}
+use Rattle.pg_inbox.specs.Inboxes.{folded_of}
+use Rattle.pg_inbox.proofs.Delivery.{gathered_parts}
+use Rattle.pg_inbox.proofs.Taking.{any_more, combined_all, combined_more, combined_none, none_or_any}
 use Rattle.pg_inbox.proofs.receiving.combined.Goals as goal
 
-pub initial_message-requires : goal.initial_message-requires
-initial_message-requires g c = c.requires
+pub loop-parcel-preserved : goal.loop-parcel-preserved
+loop-parcel-preserved g c =
+    let now = c.loop-parcel in
+    let parcels = c.args.parcels.now in
+    let taken = folded_of (take now.parcel-index parcels) in
+    let folded = c.loop-parcel-item.result.1.folded in
+    let next = gathered_parts (λ p. p.1) (λ p. option_to_list p.folded) [] parcels now.parcel-index c.loop-parcel-test.true c.loop-parcel-item.is refl refl in
+    record {
+      so_far = combined_more (g.C.MessageCombiner.combining c.args.combiner.now) taken (option_to_list folded) now.so_far _ next
+          now.invariant.so_far c.in_ok-is_any.ensures.more;
+      any = any_more taken folded _ _ now.invariant.any c.in_ok-is_any.ensures.any ∙ ap (λ l. not (is_empty l)) next;
+    }
 
-pub combine-requires : goal.combine-requires
-combine-requires g c = c.requires
-
-pub loop-message-preserved : goal.loop-message-preserved
-loop-message-preserved g c =
-    let now = c.loop-message in
-    let messages = c.args.messages.now in
-    combined_one (g.C.MessageCombiner.combining c.args.combiner.now) (take now.message-index messages) c.message-item.result now.so_far c.combine.new.into
-    (joined_more (λ ms. ms) (λ xs ys. refl) messages now.message-index c.loop-message-test.true c.message-item.is refl refl)
-    now.invariant c.in_ok-combine.ensures
+pub returns-then-not-is_any : goal.returns-then-not-is_any
+returns-then-not-is_any g c =
+    let combining = g.C.MessageCombiner.combining c.args.combiner.now in
+    let all = ap folded_of (take_all c.loop-parcel.parcel-index c.args.parcels.now c.loop-parcel-test.false) in
+    c.new.ensures.items ∙ combined_none combining (folded_of c.args.parcels.now) c.requires
+    (ap is_empty (sym all) ∙ none_or_any _ _ c.loop-parcel.invariant.any c.if-not-is_any.true)
 
 pub returns : goal.returns
 returns g c =
     let combining = g.C.MessageCombiner.combining c.args.combiner.now in
-    let messages = c.args.messages.now in
-    elim c.if-not-is_empty.branch [
-      | then-not-is_empty+in_ok-so_far+else-loop-message-test+in_ok-push w ↦ let so_far = w.loop-message.so_far in
-          ap (λ v. v.items) w.inbox-is ∙ w.in_ok-push.ensures.items ∙ ap (λ l. l ++ so_far ∷ []) c.new-inbox.ensures.items
-          ∙ combined_all combining messages so_far c.requires (sym c.is_empty.ensures ∙ w.if-not-is_empty.true)
-          (subst (λ l. IfSome combining (λ k. so_far ≡ fold k.combine k.initial l)) (take_all w.loop-message.message-index messages w.loop-message-test.false)
-          w.loop-message.invariant)
-      | else-not-is_empty w ↦ ap (λ v. v.items) w.inbox-is ∙ c.new-inbox.ensures.items
-          ∙ combined_none combining messages c.requires (sym c.is_empty.ensures ∙ w.if-not-is_empty.false)
-    ]
+    let so_far = c.loop-parcel.so_far in
+    let all = ap folded_of (take_all c.loop-parcel.parcel-index c.args.parcels.now c.loop-parcel-test.false) in
+    c.in_ok-push.ensures.items ∙ ap (λ l. l ++ so_far ∷ []) c.in_ok-inbox.ensures.items
+    ∙ combined_all combining (folded_of c.args.parcels.now) so_far c.requires
+    (ap is_empty (sym all) ∙ none_or_any _ _ c.loop-parcel.invariant.any c.if-not-is_any.false)
+    (subst (λ l. IfSome combining (λ k. so_far ≡ fold k.combine k.initial l)) all c.loop-parcel.invariant.so_far)

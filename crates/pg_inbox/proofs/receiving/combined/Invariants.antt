@@ -1,7 +1,11 @@
-use Rattle.std.proofs.Common.{◌≡◌, IfSome, take}
+use Rattle.std.proofs.Common.{◌≡◌, IfSome, not, take}
 use Rattle.std.specs.List.{fold}
+use Rattle.pg_model.specs.Superstep.{is_empty}
+use Rattle.pg_inbox.specs.Inboxes.{folded_of}
 use Rattle.pg_inbox.proofs.receiving.combined.Given as goal
 
-abbrev pub invariant-loop-message : goal.invariant-loop-message
-invariant-loop-message g l =
-    IfSome (g.C.MessageCombiner.combining l.combiner) (λ c. l.so_far ≡ fold c.combine c.initial (take l.message-index l.messages))
+abbrev pub invariant-loop-parcel : goal.invariant-loop-parcel
+invariant-loop-parcel g l = record {
+  so_far : IfSome (g.C.MessageCombiner.combining l.combiner) (λ c. l.so_far ≡ fold c.combine c.initial (folded_of (take l.parcel-index l.parcels)));
+  any : l.is_any ≡ not (is_empty (folded_of (take l.parcel-index l.parcels)));
+}
