@@ -31,6 +31,10 @@ module _ {V M : Type 0} where
   abbrev pub found_at : Program V M → Missing → ℕ → Trace V M → ℕ × List M → Option (Standing V M)
   found_at program missing s trace callee = vertex_of program missing callee.0 (state_at callee.0 s trace) callee.1
 
+  -- a vertex that is found so where there is no other run
+  abbrev pub alone : Program V M → Missing → ℕ → Trace V M → ℕ × List M → Candidate V M
+  alone program missing s trace callee = record { id = callee.0; old = None; new = found_at program missing s trace callee }
+
   -- a vertex as it is found in another run, where that is there
   abbrev pub IsFoundBeside : Program V M → Missing → Option (Combining M) → ℕ → Option (Trace V M × List (Parcels M)) → ℕ → Option (Standing V M) → Type 0
   IsFoundBeside program missing combining s None id found = found ≡ None

@@ -62,6 +62,10 @@ module _ {V M : Type 0} where
   abbrev pub change_unless : Program V M → View → Bool → Candidate V M → List (ℕ × Option (Record V M))
   change_unless program view left c = cond left [] ((c.id, option_map program.step (reads view c.new)) ∷ [])
 
+  -- the same where there is no other run: the record is left unless it is executed
+  abbrev pub change_alone : Program V M → View → Candidate V M → List (ℕ × Option (Record V M))
+  change_alone program view c = change_unless program view (not (is_running c.new)) c
+
   module _ (value_eq : V → V → Bool) (message_eq : M → M → Bool) where
     -- the same id, value, edges and messages
     abbrev pub is_same_vertex : Standing V M → Standing V M → Bool

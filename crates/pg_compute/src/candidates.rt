@@ -1,15 +1,16 @@
 //! The vertices that a step looks at: which they are, and how it finds them.
-ghost use Rattle.std.specs.Prelude.{◌≡◌, ◌<◌, ◌^◌, map, [], ◌∷◌, None, Some, true, false, not, IfOk, OnOk};
+ghost use Rattle.std.specs.Prelude.{◌≡◌, ◌+◌, ◌<◌, ◌^◌, map, is_some, None, Some, true, false, not, IfOk};
 ghost use Rattle.std.specs.List.Sorted.{IsStrictlySortedBy};
 ghost use Rattle.std.specs.Ordering.{nat_cmp};
-ghost use Rattle.std.specs.List.{AllByRecursion};
+ghost use Rattle.std.specs.List.{AllByRecursion, count_by, flat_map};
 ghost use Rattle.std.specs.Map.{keys_of};
-ghost use Rattle.pg_compute.specs.Candidates.{AreCallees, AreFound, IsPlayed, awake_ids, found_at};
+ghost use Rattle.pg_compute.specs.Candidates.{AreCallees, AreFound, IsPlayed, alone, awake_ids, found_at};
 ghost use Rattle.pg_routing.specs.Starting.{own};
-ghost use Rattle.pg_compute.specs.Found.{IsFound, IsTold};
+ghost use Rattle.pg_compute.specs.Found.{IsFound, IsTold, change_alone, reads};
+ghost use Rattle.pg_model.specs.Superstep.{capped};
 ghost use Rattle.pg_program.specs.Context.{ShowsDeclared};
 
-use crate::execution::{Played, Stage, ended, play};
+use crate::execution::{Played, Stage, ended, play, play_found};
 use crate::found::{Candidate, tell_same, vertex_at};
 use crate::reading::{awake_after, inboxes_at, lent_bundles, with_empty};
 use pg_global::MessageCombiner;
@@ -110,34 +111,56 @@ pub fn play_alone<P: Computation, C: MessageCombiner<P::Message>>(
         (C.combining combiner.now) stage.view share.partitions share.partition superstep trace.now
         bundles.now None (awake_ids superstep trace.now) true false stage.meter played) }
 {
-    let candidates = found_alone(
-        alloc, program, combiner, missing, &share, superstep, trace, bundles,
-    )?;
-    let playing = play(alloc, program, candidates, false, stage)?;
-    Ok(ended(playing))
-}
-
-/// The vertices that aren't halted and all that receive something, as they stand in the run.
-fn found_alone<P: Computation, C: MessageCombiner<P::Message>>(
-    alloc: Global,
-    program: &P,
-    combiner: &C,
-    missing: Missing,
-    share: &Share,
-    superstep: Superstep,
-    trace: &Trace<P::Value, P::Message>,
-    bundles: &[Bundle<P::Message>],
-) -> Result<Vec<Candidate<P::Value, P::Message>>, Memory>
-    ensures { IfOk result (λ candidates.
-        AreFound P.Value.PartialEq.eq P.Message.PartialEq.eq (P.program program.now) missing (C.combining combiner.now)
-        share.now.partitions share.now.partition superstep trace.now bundles.now None (awake_ids superstep trace.now) true
-        candidates.items) }
-{
     let ids = awake_ids(alloc, trace, superstep)?;
     let lent = lent_bundles(alloc, bundles)?;
     let callees = callees(alloc, lent.as_slice(), ids.as_slice(), true, combiner)?;
-    let callees = own(share, callees);
-    candidates_alone(alloc, program, missing, superstep, trace, callees)
+    let callees = own(&share, callees);
+    play_callees(alloc, program, missing, superstep, trace, callees, stage)
+}
+
+/// Looks at these vertices, with what is delivered to each, as they stand in the run, and executes those that are active.
+/// No more than one of them is held at a time.
+fn play_callees<P: Computation>(
+    alloc: Global,
+    program: &P,
+    missing: Missing,
+    superstep: Superstep,
+    trace: &Trace<P::Value, P::Message>,
+    callees: Vec<(VertexId, Sequence<P::Message>)>,
+    stage: Stage,
+) -> Result<Played<P::Value, P::Message>, Memory>
+    requires shown { ShowsDeclared (P.program program.now).declared stage.view }
+    requires fits { stage.meter < 2 ^ 64 }
+    ensures looked_at { IfOk result (λ played. played.looked_at.items ≡ keys_of callees.items) }
+    ensures changes { IfOk result (λ played. played.changes.items
+        ≡ flat_map (change_alone (P.program program.now) stage.view)
+        (map (alone (P.program program.now) missing superstep trace.now) callees.items)) }
+    ensures meter { IfOk result (λ played. played.meter ≡ capped (stage.meter + count_by (λ c. is_some (reads stage.view c.new))
+        (map (alone (P.program program.now) missing superstep trace.now) callees.items))) }
+{
+    let mut states = trace.states();
+    let mut looked_at = Vec::with_capacity(alloc, callees.len())?;
+    let mut changes = Vec::new(alloc);
+    let mut stage = stage;
+    for (id, delivered) in callees {
+        looked_at.push(id)?;
+        let vertex = vertex_at(
+            alloc,
+            program,
+            missing,
+            &mut states,
+            superstep,
+            id,
+            delivered,
+        )?;
+        stage = play_found(alloc, program, id, vertex, &mut changes, stage)?;
+    }
+    let Stage { meter, .. } = stage;
+    Ok(Played {
+        looked_at,
+        changes,
+        meter,
+    })
 }
 
 /// Looks at these vertices, in the new run and in the old one, and executes those that are active and don't read
@@ -299,37 +322,4 @@ fn found<P: Computation, C: MessageCombiner<P::Message>>(
         id,
         Sequence::from_vec(delivered),
     )
-}
-
-/// These vertices, with what is delivered to each, as they stand in the run.
-fn candidates_alone<P: Computation>(
-    alloc: Global,
-    program: &P,
-    missing: Missing,
-    superstep: Superstep,
-    trace: &Trace<P::Value, P::Message>,
-    callees: Vec<(VertexId, Sequence<P::Message>)>,
-) -> Result<Vec<Candidate<P::Value, P::Message>>, Memory>
-    ensures ids { IfOk result
-        (λ candidates. map (λ c. c.id) candidates.items ≡ keys_of callees.items) }
-    ensures new { IfOk result (λ candidates. map (λ c. c.new) candidates.items
-        ≡ map (found_at (P.program program.now) missing superstep trace.now) callees.items) }
-    ensures old { IfOk result (λ candidates. AllByRecursion (λ c. c.old ≡ None) candidates.items) }
-{
-    let mut states = trace.states();
-    let mut candidates = Vec::with_capacity(alloc, callees.len())?;
-    for (id, delivered) in callees {
-        let new = vertex_at(
-            alloc,
-            program,
-            missing,
-            &mut states,
-            superstep,
-            id,
-            delivered,
-        )?;
-        let old = None;
-        candidates.push(Candidate { id, old, new })?;
-    }
-    Ok(candidates)
 }

@@ -1,13 +1,12 @@
 //! The executions of a step.
-ghost use Rattle.std.specs.Prelude.{◌≡◌, ◌+◌, ◌^◌, ◌<◌, ◌≤◌, true, length, cond, is_some, map, IfOk, OnOk, [], ◌∷◌, ◌++◌};
+ghost use Rattle.std.specs.Prelude.{◌≡◌, ◌+◌, ◌^◌, ◌<◌, ◌≤◌, true, length, cond, is_some, map, IfOk, OnOk, None, [], ◌∷◌, ◌++◌};
 ghost use Rattle.std.specs.List.{count_by, flat_map};
-ghost use Rattle.std.specs.Option.{option_map};
 ghost use Rattle.pg_global.specs.Master.{has_places};
 ghost use Rattle.pg_model.specs.Superstep.{capped, inputs_of, view_of};
-ghost use Rattle.pg_compute.specs.Found.{are_at_rest, change_of, change_unless, is_run, reads};
+ghost use Rattle.pg_compute.specs.Found.{are_at_rest, change_alone, change_of, change_unless, is_run, reads};
 ghost use Rattle.pg_program.specs.Context.{ShowsDeclared};
 
-use crate::found::{Candidate, are_at_rest, are_same_reading, is_active};
+use crate::found::{Candidate, are_same_reading, is_active, is_stopping};
 use pg_global::{Visible, view_of};
 use pg_graph::{Memory, Superstep, VertexId};
 use pg_model::{Record, Standing, View};
@@ -156,15 +155,15 @@ fn play_other<P: Computation>(
     ensures meter { IfOk result (λ p. p.stage.meter
         ≡ capped (played.stage.meter + cond (is_some (reads played.stage.view candidate.new)) 1 0)) }
 {
-    let rests = are_at_rest(&candidate.old, &candidate.new);
-    let Candidate { id, old: _, new } = candidate;
+    let Candidate { id, old, new } = candidate;
     let Playing {
         looked_at,
         mut changes,
         stage,
     } = played;
-    let (given, stage) = given_by(alloc, program, new, stage)?;
-    push_unless(&mut changes, rests, id, given)?;
+    let stops = is_stopping(&old, &new);
+    push_if_stopping(&mut changes, stops, id)?;
+    let stage = play_found(alloc, program, id, new, &mut changes, stage)?;
     Ok(Playing {
         looked_at,
         changes,
@@ -172,46 +171,47 @@ fn play_other<P: Computation>(
     })
 }
 
-/// Adds what becomes of a record, unless nothing becomes of it.
-fn push_unless<V: Plain, M: Plain>(
+/// Adds that there is no record any more, where a vertex stops running.
+fn push_if_stopping<V: Plain, M: Plain>(
     changes: &mut Vec<(VertexId, Option<Record<V, M>>)>,
-    rests: bool,
+    stops: bool,
     id: VertexId,
-    given: Option<Record<V, M>>,
 ) -> Result<(), Memory>
-    ensures { OnOk result (changes.new.items ≡ changes.old.items ++ cond rests [] ((id, given) ∷ [])) }
+    ensures { OnOk result (changes.new.items ≡ changes.old.items ++ cond stops ((id, None) ∷ []) []) }
 {
-    if rests {
-        return Ok(());
+    if stops {
+        changes.push((id, None))?;
     }
-    changes.push((id, given))?;
     Ok(())
 }
 
-/// What the execution of a vertex gives, if it is there and active.
-fn given_by<P: Computation>(
+/// Executes a vertex, if it is there and active, and adds its record.
+pub(crate) fn play_found<P: Computation>(
     alloc: Global,
     program: &P,
+    id: VertexId,
     vertex: Option<Standing<P::Value, P::Message>>,
+    changes: &mut Vec<(VertexId, Option<Record<P::Value, P::Message>>)>,
     stage: Stage,
-) -> Result<(Option<Record<P::Value, P::Message>>, Stage), Memory>
+) -> Result<Stage, Memory>
     requires shown { ShowsDeclared (P.program program.now).declared stage.view }
     requires fits { stage.meter < 2 ^ 64 }
-    ensures given { IfOk result
-        (λ r. r.0 ≡ option_map (P.program program.now).step (reads stage.view vertex)) }
-    ensures view { IfOk result (λ r. r.1.view ≡ stage.view) }
+    ensures changes { IfOk result (λ _. changes.new.items
+        ≡ changes.old.items ++ change_alone (P.program program.now) stage.view (record { id = id; old = None; new = vertex })) }
+    ensures view { IfOk result (λ after. after.view ≡ stage.view) }
     ensures meter { IfOk result
-        (λ r. r.1.meter ≡ capped (stage.meter + cond (is_some (reads stage.view vertex)) 1 0)) }
+        (λ after. after.meter ≡ capped (stage.meter + cond (is_some (reads stage.view vertex)) 1 0)) }
 {
     match vertex {
         Some(vertex) => {
             if !is_active(&vertex) {
-                return Ok((None, stage));
+                return Ok(stage);
             }
             let (given, stage) = execute(alloc, program, vertex, stage)?;
-            Ok((Some(given), stage))
+            changes.push((id, Some(given)))?;
+            Ok(stage)
         }
-        None => Ok((None, stage)),
+        None => Ok(stage),
     }
 }
 

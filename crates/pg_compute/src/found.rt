@@ -1,9 +1,9 @@
 //! The vertices that a step looks at.
-ghost use Rattle.std.specs.Prelude.{◌≡◌, [], IfOk, true};
+ghost use Rattle.std.specs.Prelude.{◌≡◌, ◌&&◌, [], not, IfOk, true};
 ghost use Rattle.std.specs.Cmp.Lexicographic.{pointwise};
 ghost use Rattle.std.specs.List.{AllByRecursion};
 ghost use Rattle.pg_model.specs.Superstep.{is_active};
-ghost use Rattle.pg_compute.specs.Found.{AreSameVertices, IsSameVertex, are_at_rest, are_same_reading, is_running, is_same_vertex, vertex_of};
+ghost use Rattle.pg_compute.specs.Found.{AreSameVertices, IsSameVertex, are_same_reading, is_running, is_same_vertex, vertex_of};
 ghost use Rattle.pg_trace.specs.Trace.{state_at};
 
 use pg_graph::{Edges, Memory, Missing, Superstep, VertexId};
@@ -104,11 +104,11 @@ pub(crate) fn are_same_reading<V: Plain, M: Plain>(
     }
 }
 
-/// Whether a vertex is executed in neither of two runs.
-pub(crate) fn are_at_rest<V, M>(old: &Option<Standing<V, M>>, new: &Option<Standing<V, M>>) -> bool
-    ensures { result ≡ are_at_rest old.now new.now }
+/// Whether a vertex is executed in the old run, and isn't in the new one.
+pub(crate) fn is_stopping<V, M>(old: &Option<Standing<V, M>>, new: &Option<Standing<V, M>>) -> bool
+    ensures { result ≡ (is_running old.now && not (is_running new.now)) }
 {
-    !is_running(old) && !is_running(new)
+    is_running(old) && !is_running(new)
 }
 
 /// Whether a vertex is there and executed.

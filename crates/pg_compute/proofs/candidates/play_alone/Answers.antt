@@ -1,18 +1,45 @@
-use Rattle.std.proofs.Common.{◌∙◌}
+use Rattle.std.proofs.Common.{◌≡◌, ℕ, List, [], ◌∷◌, None, false, true, map, ap, refl, sym, ◌∙◌, subst₂}
+use Rattle.std.specs.List.{AllByRecursion}
+use Rattle.std.specs.Map.{keys_of}
+use Rattle.std.proofs.lemmas.List.Folds.{flat_map-map}
+use Rattle.std.proofs.lemmas.Simd.{map-map}
+use Rattle.pg_graph.specs.declared.missing.Missing.{Missing}
+use Rattle.pg_model.specs.Job.{Program}
+use Rattle.pg_compute.specs.Candidates.{AreCallees, alone, found_at}
+use Rattle.pg_compute.specs.Found.{change_alone, change_of}
+use Rattle.pg_compute.proofs.ReadVertices.{IfOk-four, untold}
+use Rattle.pg_trace.specs.Trace.{Trace}
 use Rattle.pg_compute.proofs.candidates.play_alone.Goals as goal
+
+none_beside : {V M : Type 0} (program : Program V M) (missing : Missing) (s : ℕ) (trace : Trace V M) (ws : List (ℕ × List M))
+    → AllByRecursion (λ c. c.old ≡ None) (map (alone program missing s trace) ws)
+none_beside program missing s trace [] = tt
+none_beside program missing s trace (w ∷ ws) = (refl, none_beside program missing s trace ws)
 
 pub returns : goal.returns
 returns g c =
-    let found = c.in_ok-candidates.ensures in
-    record {
-      callees = found.callees;
-      are = found.are;
-      candidates = c.in_ok-candidates.candidates.items;
-      ids_are = found.ids_are;
-      new_are = found.new_are;
-      beside_are = found.beside_are;
-      told = found.told;
-      looked_at_are = c.ended.ensures.looked_at ∙ c.in_ok-playing.ensures.looked_at;
-      changes_are = c.ended.ensures.changes ∙ c.in_ok-playing.ensures.changes;
-      counted = c.ended.ensures.meter ∙ c.in_ok-playing.ensures.meter;
-    }
+    let program = g.P.Computation.program c.args.program.now in
+    let value_eq = g.P.Value.PartialEq.eq in
+    let message_eq = g.P.Message.PartialEq.eq in
+    let view = c.args.stage.view in
+    let found = alone program c.args.missing c.args.superstep c.args.trace.now in
+    let callees = c.in_ok-callees.callees.items in
+    let mine = c.own-callees.result.items in
+    let none = none_beside program c.args.missing c.args.superstep c.args.trace.now mine in
+    let played = c.play_callees.ensures in
+    let bundles = ap (map (λ b. b.now)) c.as_slice.ensures.value ∙ c.in_ok-lent.ensures in
+    let ids = c.as_slice-2.ensures.value ∙ c.in_ok-ids.ensures.ids in
+    IfOk-four c.play_callees.result _ _ _ _ _ (λ p looked_at changes meter _. record {
+      callees = callees;
+      are = subst₂ (λ b i. AreCallees (g.C.MessageCombiner.combining c.args.combiner.now) b i true callees) bundles ids c.in_ok-callees.ensures;
+      candidates = map found mine;
+      ids_are = map-map (λ x. x.id) found mine ∙ ap keys_of c.own-callees.ensures;
+      new_are = map-map (λ x. x.new) found mine
+          ∙ ap (map (found_at program c.args.missing c.args.superstep c.args.trace.now)) c.own-callees.ensures;
+      beside_are = none;
+      told = untold value_eq message_eq (map found mine) none;
+      looked_at_are = looked_at ∙ sym (map-map (λ x. x.id) found mine);
+      changes_are = changes ∙ flat_map-map (change_alone program view) found mine
+          ∙ sym (flat_map-map (change_of value_eq message_eq program view false) found mine);
+      counted = meter;
+    }) played.looked_at played.changes played.meter played.meter

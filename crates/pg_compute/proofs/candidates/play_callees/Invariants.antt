@@ -1,0 +1,20 @@
+use Rattle.std.proofs.Common.{◌≡◌, ◌+◌, ◌++◌, is_some, map}
+use Rattle.std.specs.List.{count_by, flat_map}
+use Rattle.std.specs.Map.{keys_of}
+use Rattle.pg_model.specs.Superstep.{capped}
+use Rattle.pg_compute.specs.Candidates.{alone}
+use Rattle.pg_compute.specs.Found.{change_alone, reads}
+use Rattle.pg_compute.proofs.candidates.play_callees.Given as goal
+
+abbrev pub invariant-loop-id : goal.invariant-loop-id
+invariant-loop-id g l =
+    let program = g.P.Computation.program l.program in
+    let found = map (alone program l.missing l.superstep l.trace) l.yielded in
+    record {
+      looked_at : l.looked_at.items ≡ keys_of l.yielded;
+      changes : l.changes.items ≡ flat_map (change_alone program l.fn.stage.view) found;
+      view : l.stage.view ≡ l.fn.stage.view;
+      meter : l.stage.meter ≡ capped (l.fn.stage.meter + count_by (λ c. is_some (reads l.fn.stage.view c.new)) found);
+      states : l.states ≡ l.trace;
+      whole : l.yielded ++ l.id-iterator.rest.items ≡ l.fn.callees.items;
+    }
