@@ -92,8 +92,9 @@ module _ {M : Type 0} where
         → with_empty (k ∷ ids) ((id, inbox) ∷ later) ≡ (id, inbox) ∷ with_empty ids later
     unfolding given
     first_at k ids ids_rise same =
-        skipped (id, Some inbox) (given later) rising (k, []) (empty_inboxes ids) same (rises-empty M (k ∷ ids) ids_rise)
-        ∙ left_above ids (subst (λ n. From (n + 1) (empty_inboxes {M = M} ids)) same (above_first (k, []) (empty_inboxes ids) (rises-empty M (k ∷ ids) ids_rise)))
+        let rise = rises-empty M (k ∷ ids) ids_rise in
+        skipped (id, Some inbox) (given later) rising (k, []) (empty_inboxes ids) same rise
+        ∙ left_above ids (subst (λ n. From (n + 1) (empty_inboxes {M = M} ids)) same (above_first (k, []) (empty_inboxes ids) rise))
 
   -- all that receive something
   pub are_receivers : (combining : Option (Combining M)) (bundles : List (Parcels M)) (inboxes : List (ℕ × List M)) → AreInboxes combining bundles inboxes

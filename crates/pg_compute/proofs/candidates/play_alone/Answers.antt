@@ -27,10 +27,11 @@ returns g c =
     let mine = c.own-callees.result.items in
     let none = none_beside program c.args.missing c.args.superstep c.args.trace.now mine in
     let played = c.play_callees.ensures in
+    let bundles = ap (map (λ b. b.now)) c.as_slice.ensures.value ∙ c.in_ok-lent.ensures in
+    let ids = c.as_slice-2.ensures.value ∙ c.in_ok-ids.ensures.ids in
     IfOk-four c.play_callees.result _ _ _ _ _ (λ p looked_at changes meter _. record {
       callees = callees;
-      are = subst₂ (λ bundles ids. AreCallees (g.C.MessageCombiner.combining c.args.combiner.now) bundles ids true callees)
-          (ap (map (λ b. b.now)) c.as_slice.ensures.value ∙ c.in_ok-lent.ensures) (c.as_slice-2.ensures.value ∙ c.in_ok-ids.ensures.ids) c.in_ok-callees.ensures;
+      are = subst₂ (λ b i. AreCallees (g.C.MessageCombiner.combining c.args.combiner.now) b i true callees) bundles ids c.in_ok-callees.ensures;
       candidates = map found mine;
       ids_are = map-map (λ x. x.id) found mine ∙ ap keys_of c.own-callees.ensures;
       new_are = map-map (λ x. x.new) found mine
