@@ -8,3 +8,4 @@ pub mod ReadVertices
 pub mod Recording
 pub mod Sames
 pub mod States
+pub mod Turning

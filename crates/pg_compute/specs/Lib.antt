@@ -2,3 +2,4 @@ pub mod Candidates
 pub mod Differing
 pub mod Found
 pub mod Lists
+pub mod Turning

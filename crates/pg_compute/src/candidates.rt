@@ -1,23 +1,26 @@
 //! The vertices that a step looks at: which they are, and how it finds them.
-ghost use Rattle.std.specs.Prelude.{◌≡◌, ◌+◌, ◌<◌, ◌^◌, map, is_some, None, Some, true, false, not, IfOk};
+ghost use Rattle.std.specs.Prelude.{◌≡◌, ◌+◌, ◌<◌, ◌^◌, map, length, is_some, None, Some, true, false, not, IfOk, IfSome};
 ghost use Rattle.std.specs.List.Sorted.{IsStrictlySortedBy};
 ghost use Rattle.std.specs.Ordering.{nat_cmp};
 ghost use Rattle.std.specs.List.{AllByRecursion, count_by, flat_map};
 ghost use Rattle.std.specs.Map.{keys_of};
+ghost use Rattle.std.specs.Option.{option_copied};
 ghost use Rattle.pg_compute.specs.Candidates.{AreCallees, AreFound, IsPlayed, alone, awake_ids, found_at};
 ghost use Rattle.pg_routing.specs.Starting.{own};
+ghost use Rattle.pg_compute.specs.Turning.{AreTurned, IsTurned, given_at};
 ghost use Rattle.pg_compute.specs.Found.{IsFound, IsTold, change_alone, reads};
 ghost use Rattle.pg_model.specs.Superstep.{capped};
 ghost use Rattle.pg_program.specs.Context.{ShowsDeclared};
 
 use crate::execution::{Played, Stage, ended, play, play_found};
-use crate::found::{Candidate, tell_same, vertex_at};
+use crate::found::{Candidate, tell_same, vertex_at, vertex_by};
 use crate::reading::{awake_after, inboxes_at, lent_bundles, with_empty};
 use pg_global::MessageCombiner;
 use pg_graph::{Memory, Missing, Superstep, VertexId};
 use pg_inbox::{Bundle, inbox, inboxes};
-use pg_model::{Sequence, Standing};
+use pg_model::{Record, Sequence, Standing};
 use pg_program::{Computation, Plain};
+use pg_recount::Turned;
 use pg_routing::Share;
 use pg_trace::{States, Trace};
 use std::alloc::Global;
@@ -106,10 +109,12 @@ pub fn play_alone<P: Computation, C: MessageCombiner<P::Message>>(
 ) -> Result<Played<P::Value, P::Message>, Memory>
     requires shown { ShowsDeclared (P.program program.now).declared stage.view }
     requires fits { stage.meter < 2 ^ 64 }
-    ensures { IfOk result (λ played.
+    ensures played { IfOk result (λ played.
         IsPlayed P.Value.PartialEq.eq P.Message.PartialEq.eq (P.program program.now) missing
         (C.combining combiner.now) stage.view share.partitions share.partition superstep trace.now
         bundles.now None (awake_ids superstep trace.now) true false stage.meter played) }
+    ensures turned { IfOk result (λ played.
+        IfSome played.turned (IsTurned superstep trace.now played.looked_at.items played.changes.items)) }
 {
     let ids = awake_ids(alloc, trace, superstep)?;
     let lent = lent_bundles(alloc, bundles)?;
@@ -137,30 +142,56 @@ fn play_callees<P: Computation>(
         (map (alone (P.program program.now) missing superstep trace.now) callees.items)) }
     ensures meter { IfOk result (λ played. played.meter ≡ capped (stage.meter + count_by (λ c. is_some (reads stage.view c.new))
         (map (alone (P.program program.now) missing superstep trace.now) callees.items))) }
+    ensures turned { IfOk result (λ played. IfSome played.turned
+        (AreTurned (P.program program.now) stage.view missing superstep trace.now callees.items)) }
 {
     let mut states = trace.states();
     let mut looked_at = Vec::with_capacity(alloc, callees.len())?;
     let mut changes = Vec::new(alloc);
+    let mut turned = Turned::nobody();
     let mut stage = stage;
     for (id, delivered) in callees {
         looked_at.push(id)?;
-        let vertex = vertex_at(
-            alloc,
-            program,
-            missing,
-            &mut states,
-            superstep,
-            id,
-            delivered,
-        )?;
+        let state = states.state_at(id, superstep);
+        let vertex = vertex_by(alloc, program, missing, id, &state, delivered)?;
+        let before = changes.len();
         stage = play_found(alloc, program, id, vertex, &mut changes, stage)?;
+        turned = turned.with(&state, given_at(changes.as_slice(), before))?;
     }
     let Stage { meter, .. } = stage;
     Ok(Played {
         looked_at,
         changes,
         meter,
+        turned: turned_next(trace, superstep, turned),
     })
+}
+
+/// Censuses before and after a superstep, where it comes next in a trace.
+fn turned_next<V: Drop, M: Drop>(
+    trace: &Trace<V, M>,
+    superstep: Superstep,
+    turned: Turned,
+) -> Option<Turned>
+    ensures { IfSome result (λ t. (t ≡ turned) × (length trace.now.records ≡ superstep)) }
+{
+    if trace.supersteps() == superstep.number() as usize {
+        return Some(turned);
+    }
+    None
+}
+
+/// The record that the change at a place gives, if there is one.
+fn given_at<V, M>(
+    changes: &[(VertexId, Option<Record<V, M>>)],
+    place: usize,
+) -> Option<&Record<V, M>>
+    ensures { option_copied result ≡ given_at changes.now place }
+{
+    match changes.get(place) {
+        Some((_, given)) => given.as_ref(),
+        None => None,
+    }
 }
 
 /// Looks at these vertices, in the new run and in the old one, and executes those that are active and don't read

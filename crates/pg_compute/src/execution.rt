@@ -11,6 +11,7 @@ use pg_global::{Visible, view_of};
 use pg_graph::{Memory, Superstep, VertexId};
 use pg_model::{Record, Standing, View};
 use pg_program::{Computation, Cx, EdgeRoom, Meter, Plain, Vertex};
+use pg_recount::Turned;
 use std::alloc::Global;
 
 /// What the executions of a superstep share: what they see, room for changed edges, and the meter.
@@ -49,12 +50,13 @@ impl Stage {
 }
 
 /// What a step makes of the vertices that it looks at: which they are, what becomes of their records where it isn't what
-/// stands there, and the meter afterwards.
+/// stands there, the meter afterwards, and their censuses before and after it where it knows them without a look-up.
 #[derive(Drop)]
 pub struct Played<V, M> {
     pub looked_at: Vec<VertexId>,
     pub changes: Vec<(VertexId, Option<Record<V, M>>)>,
     pub meter: Meter,
+    pub turned: Option<Turned>,
 }
 
 /// The same while vertices are executed, with what the executions share.
@@ -70,6 +72,7 @@ pub(crate) fn ended<V, M>(playing: Playing<V, M>) -> Played<V, M>
     ensures looked_at { result.looked_at.items ≡ playing.looked_at.items }
     ensures changes { result.changes.items ≡ playing.changes.items }
     ensures meter { result.meter ≡ playing.stage.meter }
+    ensures turned { result.turned ≡ None }
 {
     let Playing {
         looked_at,
@@ -81,6 +84,7 @@ pub(crate) fn ended<V, M>(playing: Playing<V, M>) -> Played<V, M>
         looked_at,
         changes,
         meter,
+        turned: None,
     }
 }
 

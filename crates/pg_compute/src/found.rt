@@ -20,8 +20,7 @@ pub struct Candidate<V, M> {
     pub new: Option<Standing<V, M>>,
 }
 
-/// The vertex with an id as a superstep begins, with what is delivered to it. Without a state it is
-/// there where messages make it.
+/// The vertex with an id as a superstep begins, with what is delivered to it.
 pub(crate) fn vertex_at<P: Computation>(
     alloc: Global,
     program: &P,
@@ -35,9 +34,25 @@ pub(crate) fn vertex_at<P: Computation>(
         (λ x. x ≡ vertex_of (P.program program.now) missing id (state_at id superstep states.old) delivered) }
     ensures same { states.new ≡ states.old }
 {
-    match states.state_at(id, superstep) {
+    let state = states.state_at(id, superstep);
+    vertex_by(alloc, program, missing, id, &state, delivered)
+}
+
+/// The vertex with an id by its state, if it has one, with what is delivered to it. Without a state it is there where
+/// messages make it.
+pub(crate) fn vertex_by<P: Computation>(
+    alloc: Global,
+    program: &P,
+    missing: Missing,
+    id: VertexId,
+    state: &Option<StateRef<'_, P::Value>>,
+    delivered: Sequence<P::Message>,
+) -> Result<Option<Standing<P::Value, P::Message>>, Memory>
+    ensures { IfOk result (λ x. x ≡ vertex_of (P.program program.now) missing id state.now delivered) }
+{
+    match state {
         Some(state) => {
-            let state = copied(alloc, &state)?;
+            let state = copied(alloc, state)?;
             Ok(Some(Standing {
                 state,
                 inbox: delivered,

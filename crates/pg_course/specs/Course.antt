@@ -15,8 +15,11 @@ use Rattle.pg_model.specs.Run.{run_length}
 use Rattle.pg_model.specs.Share.{belongs, records_in}
 use Rattle.pg_model.specs.Superstep.{capped, has_id}
 use Rattle.pg_compute.specs.Differing.{are_resting}
+use Rattle.pg_recount.specs.Census.{states_among}
+use Rattle.pg_recount.specs.declared.vertices.Turned.{Turned}
 use Rattle.pg_routing.specs.Routes.{bundle_sent}
 use Rattle.pg_routing.specs.Starting.{PartRows}
+use Rattle.pg_stats.specs.Stats.{census_of}
 use Rattle.pg_trace.specs.OfRun.{HoldsRun}
 use Rattle.pg_trace.specs.Trace.{Trace, records_of}
 
@@ -34,6 +37,11 @@ pub record Holding (V M : Type 0) : Type 0 where
   pub resting : List ℕ
   pub changed : List ℕ
   pub beside_old : Bool
+
+-- these are the censuses of these ids before and after the superstep that a trace made last
+abbrev pub HasTurned : {V M : Type 0} → ℕ → List ℕ → Trace V M → Turned → Type 0
+HasTurned place ids trace turned =
+    (s : ℕ) → place ≡ s + 1 → (turned.gone ≡ census_of (states_among s ids trace)) × (turned.come ≡ census_of (states_among (s + 1) ids trace))
 
 -- the ids at which its run and the old one may have other states
 abbrev pub differing : {V M : Type 0} → Holding V M → List ℕ

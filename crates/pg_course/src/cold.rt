@@ -1,7 +1,8 @@
 //! A step beside nothing, or past the end of an old run: each active vertex is executed.
-ghost use Rattle.std.specs.Prelude.{◌+◌, ◌^◌, ◌<◌, ◌≡◌, None, true, false, IfOk};
+ghost use Rattle.std.specs.Prelude.{◌+◌, ◌^◌, ◌<◌, ◌≡◌, None, true, false, IfOk, IfSome};
 ghost use Rattle.pg_map.specs.Entries.{ChangesRise};
 ghost use Rattle.pg_compute.specs.Candidates.{IsPlayed, awake_ids};
+ghost use Rattle.pg_compute.specs.Turning.{IsTurned};
 ghost use Rattle.pg_course.specs.Alone.{IsConcludedAlone, differing_past, past};
 ghost use Rattle.pg_program.specs.Context.{ShowsDeclared};
 
@@ -13,6 +14,7 @@ use pg_graph::{Memory, Superstep, VertexId};
 use pg_inbox::Bundle;
 use pg_model::Record;
 use pg_program::{Computation, Plain};
+use pg_recount::Turned;
 use pg_routing::{Share, fresh_bundles};
 use pg_trace::Trace;
 use std::alloc::Global;
@@ -33,6 +35,8 @@ pub(crate) fn played<P: Computation, C: MessageCombiner<P::Message>>(
         (C.combining combiner.now) stage.view course.now.partitions course.now.partition course.now.place course.now.trace
         bundles.now None (awake_ids course.now.place course.now.trace) true false stage.meter played) }
     ensures some { IfOk result (λ _. 0 < course.now.partitions) }
+    ensures turned { IfOk result (λ played. IfSome played.turned
+        (IsTurned course.now.place course.now.trace played.looked_at.items played.changes.items)) }
 {
     // Tells the prover that there is a partition.
     course.partitions.partitions();
@@ -62,6 +66,7 @@ pub(crate) fn concluded_alone<V: Plain, M: Plain, C: MessageCombiner<M>>(
 ) -> Result<Stepped<V, M>, Memory>
     requires rise { ChangesRise played.changes.items }
     requires counts { course.place + 1 < 2 ^ 32 }
+    requires turned { IfSome played.turned (IsTurned course.place course.trace played.looked_at.items played.changes.items) }
     ensures concluded { IfOk result (λ stepped.
         IsConcludedAlone course played.looked_at.items played.changes.items (C.combining combiner.now) stepped.course stepped.sent) }
     ensures counted { IfOk result (λ stepped. stepped.meter ≡ played.meter) }
@@ -70,9 +75,10 @@ pub(crate) fn concluded_alone<V: Plain, M: Plain, C: MessageCombiner<M>>(
         looked_at,
         changes,
         meter,
+        turned,
     } = played;
     let sent = fresh_bundles(alloc, course.partitions(), changes.as_slice(), combiner)?;
-    let course = past(alloc, course, looked_at, changes)?;
+    let course = past(alloc, course, looked_at, changes, turned)?;
     Ok(Stepped {
         course,
         sent,
@@ -80,15 +86,18 @@ pub(crate) fn concluded_alone<V: Plain, M: Plain, C: MessageCombiner<M>>(
     })
 }
 
-/// The course one superstep further, with these changes of records.
+/// The course one superstep further, with these changes of records, and with the censuses of the vertices that were looked at
+/// where they are known.
 fn past<V: Plain, M: Plain>(
     alloc: Global,
     course: Course<V, M>,
     looked_at: Vec<VertexId>,
     changes: Vec<(VertexId, Option<Record<V, M>>)>,
+    turned: Option<Turned>,
 ) -> Result<Course<V, M>, Memory>
     requires rise { ChangesRise changes.items }
     requires counts { course.place + 1 < 2 ^ 32 }
+    requires turned { IfSome turned (IsTurned course.place course.trace looked_at.items changes.items) }
     ensures { IfOk result (λ after. after ≡ past course looked_at.items changes.items) }
 {
     let Course {
@@ -114,6 +123,7 @@ fn past<V: Plain, M: Plain>(
         differing: Differing { restless, resting },
         changed: looked_at,
         beside_old: false,
+        turned,
     })
 }
 

@@ -13,7 +13,7 @@ ghost use Rattle.pg_model.specs.Superstep.{has_id, view_of as shown_view};
 ghost use Rattle.pg_model.specs.declared.view.Visible.{Visible as Seen};
 ghost use Rattle.pg_routing.specs.Routes.{HasMessages, bundles_before};
 ghost use Rattle.pg_course.specs.Lent.{IsBesideOld, IsLent, IsLentBeside};
-ghost use Rattle.pg_course.specs.Course.{AreTouched, HasBegun, HasStepped, Holds, IsFurther, IsWhole, differing, kept_length};
+ghost use Rattle.pg_course.specs.Course.{AreTouched, HasBegun, HasStepped, HasTurned, Holds, IsFurther, IsWhole, differing, kept_length};
 ghost use Rattle.pg_program.specs.Context.{ShowsDeclared};
 ghost use Rattle.pg_routing.specs.Starting.{first_states};
 ghost use Rattle.pg_trace.specs.Trace.{StatesRise, reaching, with_replaced};
@@ -26,6 +26,7 @@ use pg_graph::{Memory, Missing, PartitionId, Superstep, VertexId};
 use pg_inbox::{Bundle, Logs};
 use pg_model::{Record, VertexState, View};
 use pg_program::{Computation, Meter, Plain};
+use pg_recount::Turned;
 use pg_routing::{Partitioner, Rows, Sent, Share, bundles_before, first_changes};
 use pg_trace::Trace;
 use std::alloc::Global;
@@ -45,11 +46,12 @@ pub struct Course<V, M> {
     pub(crate) differing: Differing,
     pub(crate) changed: Vec<VertexId>,
     pub(crate) beside_old: bool,
+    pub(crate) turned: Option<Turned>,
 }
 
 impl<V, M> Model for Course<V, M> {
-    ghost use Rattle.std.specs.Prelude.{◌≤◌, length};
-    ghost use Rattle.pg_course.specs.Course.{Holding};
+    ghost use Rattle.std.specs.Prelude.{◌≤◌, length, IfSome};
+    ghost use Rattle.pg_course.specs.Course.{HasTurned, Holding};
 
     ghost Value = { Holding V M };
 
@@ -66,7 +68,8 @@ impl<V, M> Model for Course<V, M> {
       beside_old = p.beside_old;
     } };
 
-    ghost invariant = { λ p. p.place ≤ length p.trace.records };
+    ghost invariant = { λ p. (p.place ≤ length p.trace.records)
+        × IfSome p.turned (HasTurned p.place p.changed.items p.trace) };
 }
 
 /// A step was given up, and its course with it, since memory was refused.
@@ -149,6 +152,14 @@ impl<V: Plain, M: Plain> Course<V, M> {
         self.beside_old
     }
 
+    /// The censuses of the vertices that its last step may have changed, before and after that; none where they would have
+    /// to be looked up.
+    pub fn turned(&self) -> Option<Turned>
+        ensures { IfSome result (HasTurned self.now.place self.now.changed self.now.trace) }
+    {
+        self.turned
+    }
+
     /// Its trace: the states with which it began, and its records so far.
     pub fn trace(&self) -> &Trace<V, M>
         ensures { result.now ≡ self.now.trace }
@@ -193,6 +204,7 @@ impl<V: Plain, M: Plain> Course<V, M> {
             differing: Differing::of(alloc, Vec::new(alloc)),
             changed: Vec::new(alloc),
             beside_old: false,
+            turned: None,
         })
     }
 
@@ -239,6 +251,7 @@ impl<V: Plain, M: Plain> Course<V, M> {
             differing: Differing::of(alloc, differing),
             changed: Vec::new(alloc),
             beside_old: false,
+            turned: None,
         })
     }
 

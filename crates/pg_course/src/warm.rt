@@ -103,6 +103,7 @@ pub(crate) fn concluded<V: Plain, M: Plain, C: MessageCombiner<M>>(
         looked_at,
         changes,
         meter,
+        turned: _,
     } = played;
     let sent = mended(alloc, &course, &old, changes.as_slice(), old_logs, combiner)?;
     let course = further(alloc, course, old, looked_at, changes)?;
@@ -172,5 +173,6 @@ fn further<V: Plain, M: Plain>(
         differing,
         changed: looked_at,
         beside_old: true,
+        turned: None,
     })
 }

@@ -170,6 +170,23 @@ fn census_after<V: Plain, M: Plain>(
     recounted(before, turned.gone, turned.come)
 }
 
+/// The census after the superstep that a course made last, by that before it. Costs a look-up for each vertex that the step
+/// may have changed, where it doesn't know their censuses.
+fn census_next<V: Plain, M: Plain>(
+    before: Census,
+    course: &Course<V, M>,
+    superstep: Superstep,
+) -> Result<Census, Memory>
+    ensures { IfOk result (λ after. IsRecensus course.now.trace superstep course.now.trace (superstep + 1) course.now.changed before after) }
+{
+    if let Some(turned) = course.turned() {
+        if superstep.number().checked_add(1) == Some(course.place().number()) {
+            return recounted(before, turned.gone, turned.come);
+        }
+    }
+    census_after(before, course.trace(), superstep, course.changed())
+}
+
 /// The census after a superstep, by that before it and by those of the old run before and after it, where all other
 /// vertices were moved as in the old run, or not at all. Costs two look-ups for each of these.
 fn census_beside<V: Plain, M: Plain>(
@@ -213,12 +230,10 @@ fn stats_after<V: Plain, M: Plain>(
 ) -> Result<PartitionStats, Memory>
     ensures { IfOk result (λ after. IsReckoned registry.now graph.now course.now superstep bundles.now before.now after) }
 {
-    let trace = course.trace();
-    let changed = course.changed();
     Ok(PartitionStats {
-        census: census_after(before.census, trace, superstep, changed)?,
+        census: census_next(before.census, course, superstep)?,
         traffic: traffic(bundles, graph, course.missing())?,
-        gathered: gathered_in(alloc, registry, trace, superstep)?,
+        gathered: gathered_in(alloc, registry, course.trace(), superstep)?,
     })
 }
 
@@ -310,9 +325,9 @@ fn copied(alloc: Global, values: &Sequence<i64>) -> Result<Sequence<i64>, Memory
 /// The stats after a superstep that a partition has made: by those before it, and by those of the old run too where it
 /// made it beside that.
 ///
-/// Costs look-ups for each vertex that the superstep may have changed and for each target that the bundles name as
-/// changed; and a walk over the superstep's records where something else is contributed than in the old run, and over
-/// the messages where the superstep wasn't made beside it.
+/// Beside the old run it costs look-ups for each vertex that the superstep may have changed and for each target that the
+/// bundles name as changed, and a walk over the superstep's records where something else is contributed than in the old run;
+/// else a walk over the records and the messages.
 fn next_stats<V: Plain, M: Plain>(
     alloc: Global,
     registry: &Registry,

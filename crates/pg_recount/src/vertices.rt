@@ -1,11 +1,11 @@
 //! How many vertices there are, from how many there were.
-ghost use Rattle.std.specs.Prelude.{◌≡◌, [], ◌∷◌, ◌+◌, not, length, cond, IfOk};
-ghost use Rattle.std.specs.Option.{option_to_list};
-ghost use Rattle.pg_recount.specs.Census.{IsRecounted, IsSum, of_none, of_one, states_among};
+ghost use Rattle.std.specs.Prelude.{◌≡◌, ℕ, [], ◌∷◌, ◌+◌, not, length, cond, IfOk};
+ghost use Rattle.std.specs.Option.{option_copied, option_to_list};
+ghost use Rattle.pg_recount.specs.Census.{IsRecounted, IsSum, IsTurnedMore, of_none, of_one, states_among};
 ghost use Rattle.pg_stats.specs.Stats.{census_of};
 
 use pg_graph::{Memory, Superstep, VertexId};
-use pg_model::VertexState;
+use pg_model::{Record, VertexState};
 use pg_program::Plain;
 use pg_stats::Census;
 use pg_trace::{StateRef, States, Trace};
@@ -47,6 +47,38 @@ pub struct Turned {
     pub come: Census,
 }
 
+impl Turned {
+    /// Of no vertices.
+    pub fn nobody() -> Turned
+        ensures gone { result.gone ≡ of_none }
+        ensures come { result.come ≡ of_none }
+    {
+        Turned {
+            gone: nobody(),
+            come: nobody(),
+        }
+    }
+
+    /// With one vertex more, which has this state as the superstep begins, if any, and as the next one begins that which
+    /// this record leaves, or else the same. Costs O(1).
+    pub fn with<V: Plain, M>(
+        self,
+        before: &Option<StateRef<'_, V>>,
+        given: Option<&Record<V, M>>,
+    ) -> Result<Turned, Memory>
+        ensures { (id : ℕ) → IfOk result (IsTurnedMore self before.now (option_copied given.entry) id) }
+    {
+        let come = match given {
+            Some(left) => with_vertex(self.come, left.edges.as_slice().len(), left.halted)?,
+            None => with_state(self.come, before)?,
+        };
+        Ok(Turned {
+            gone: with_state(self.gone, before)?,
+            come,
+        })
+    }
+}
+
 /// The censuses of those of these vertices that have a state as a superstep begins, and as the next one begins. Costs one
 /// look-up for each.
 pub fn turned_among<V: Plain, M: Plain>(
@@ -62,8 +94,8 @@ pub fn turned_among<V: Plain, M: Plain>(
     let mut come = nobody();
     for id in ids {
         let turn = states.turn_at(*id, superstep);
-        gone = with_state(gone, turn.before)?;
-        come = with_state(come, turn.after)?;
+        gone = with_state(gone, &turn.before)?;
+        come = with_state(come, &turn.after)?;
     }
     Ok(Turned { gone, come })
 }
@@ -110,8 +142,11 @@ fn with_vertex(census: Census, degree: usize, halted: bool) -> Result<Census, Me
 }
 
 /// With the vertex that has this state more, if there is one.
-fn with_state<V: Plain>(census: Census, state: Option<StateRef<'_, V>>) -> Result<Census, Memory>
-    ensures { IfOk result (λ after. IsSum census (census_of (option_to_list state.entry)) after) }
+fn with_state<V: Plain>(
+    census: Census,
+    state: &Option<StateRef<'_, V>>,
+) -> Result<Census, Memory>
+    ensures { IfOk result (λ after. IsSum census (census_of (option_to_list state.now)) after) }
 {
     match state {
         Some(state) => with_vertex(census, state.edges().as_slice().len(), state.halted()),

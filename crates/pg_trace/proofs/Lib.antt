@@ -1,3 +1,4 @@
 pub mod Beginning
 pub mod Changed
+pub mod NextStates
 pub mod RunStates

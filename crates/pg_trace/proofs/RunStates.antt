@@ -47,12 +47,12 @@ or_assoc : {X : Type 0} (a b c : Option X) → option_or (option_or a b) c ≡ o
 or_assoc None b c = refl
 or_assoc (Some x) b c = refl
 
-or_map : {X Y : Type 0} (f : X → Y) (a b : Option X) (c : Option Y)
+pub or_map : {X Y : Type 0} (f : X → Y) (a b : Option X) (c : Option Y)
     → option_or (option_map f (option_or a b)) c ≡ option_or (option_map f a) (option_or (option_map f b) c)
 or_map f None b c = refl
 or_map f (Some x) b c = refl
 
-last-push : {X : Type 0} (id : ℕ) (rs : List (List (ℕ × X))) (r : List (ℕ × X)) → last_record id (rs ++ r ∷ []) ≡ option_or (value_at id r) (last_record id rs)
+pub last-push : {X : Type 0} (id : ℕ) (rs : List (List (ℕ × X))) (r : List (ℕ × X)) → last_record id (rs ++ r ∷ []) ≡ option_or (value_at id r) (last_record id rs)
 last-push id [] r = or_none (value_at id r)
 last-push id (q ∷ rs) r = ap (λ o. option_or o (value_at id q)) (last-push id rs r) ∙ or_assoc (value_at id r) (last_record id rs) (value_at id q)
 

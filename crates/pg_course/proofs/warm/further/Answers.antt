@@ -13,11 +13,11 @@ pub invariant_of-result : goal.invariant_of-result
 invariant_of-result g c =
     let place = c.course.inside.place in
     let trace = reaching place c.course.inside.trace in
-    let reached = length-reaching place c.course.inside.trace c.course.invariant in
+    let reached = length-reaching place c.course.inside.trace c.course.invariant.0 in
     let long = ap (λ t. length t.records) c.in_ok-trace.ensures ∙ length-set trace.records place (with_changes c.args.changes.items (records_of place trace)) in
     let next = c.new-place.ensures ∙ ap (λ k. k + 1) c.number.ensures in
     let fact : c.new-place.result ≤ length c.in_ok-trace.trace.records = omega (arith, next, long, reached) in
-    fact
+    (fact, tt)
 
 pub returns-clause-further : goal.returns-clause-further
 returns-clause-further g c =
