@@ -1,3 +1,4 @@
+pub mod Begun
 pub mod Histories
 pub mod InChunks
 pub mod InPlace

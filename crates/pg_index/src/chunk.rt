@@ -1,5 +1,5 @@
 //! Values by rising id, in chunks that are changed in place.
-ghost use Rattle.std.specs.Prelude.{◌≡◌, ◌≤◌, ◌<◌, true, false, nat_le, length, None, IfErr, IfNone, IfOk, IfSome, OnOk};
+ghost use Rattle.std.specs.Prelude.{◌≡◌, ◌≤◌, ◌<◌, true, false, nat_le, length, None, IfErr, IfNone, IfOk, IfSome, IsTrue, OnOk};
 ghost use Rattle.std.specs.BTreeMap.{insert_entry};
 ghost use Rattle.std.specs.List.{HoldsAt};
 ghost use Rattle.std.specs.List.Sorted.{IsPartitionPoint};
@@ -24,22 +24,28 @@ pub(crate) struct Chunk<X> {
 /// So many values are too many for a chunk: it is cut in two, so that one more moves few of them.
 const TOO_MANY: usize = 128;
 
-/// The value at an id. Costs two binary searches.
-pub(crate) fn get<X>(chunks: &[Chunk<X>], id: VertexId) -> Option<&X>
+/// The value at an id. It costs what `found` does.
+pub(crate) fn get<'a, X>(chunks: &'a [Chunk<X>], near: &mut usize, id: VertexId) -> Option<&'a X>
     requires { AreSound chunks.now }
     ensures { option_copied result ≡ value_at id (all_of chunks.now) }
 {
-    let (chunk, place) = found(chunks, id)?;
+    let (chunk, place) = found(chunks, near, id)?;
     Some(&chunks[chunk].entries[place].1)
 }
 
-/// In which chunk the value at an id stands, and at which place there. Costs two binary searches.
-pub(crate) fn found<X>(chunks: &[Chunk<X>], id: VertexId) -> Option<(usize, usize)>
+/// In which chunk the value at an id stands, and at which place there. `near` becomes how many chunks begin at the id or
+/// below it. Where it was that before, from a look-up near this one, it costs a binary search in one chunk alone; else two.
+pub(crate) fn found<X>(
+    chunks: &[Chunk<X>],
+    near: &mut usize,
+    id: VertexId,
+) -> Option<(usize, usize)>
     requires { AreSound chunks.now }
     ensures some { IfSome result (λ at. IsAt id chunks.now at.0 at.1) }
     ensures none { IfNone result (value_at id (all_of chunks.now) ≡ None) }
 {
-    let begun = begun(chunks, id);
+    let begun = begun(chunks, *near, id);
+    *near = begun;
     if begun == 0 {
         return None;
     }
@@ -49,13 +55,29 @@ pub(crate) fn found<X>(chunks: &[Chunk<X>], id: VertexId) -> Option<(usize, usiz
     }
 }
 
-/// How many chunks begin at an id or below it.
-fn begun<X>(chunks: &[Chunk<X>], id: VertexId) -> usize
+/// How many chunks begin at an id or below it, which may be as many as before.
+fn begun<X>(chunks: &[Chunk<X>], before: usize, id: VertexId) -> usize
     requires { AreSound chunks.now }
     ensures bound { result ≤ length chunks.now }
     ensures parts { IsPartitionPoint (λ c. nat_le c.first id ≡ true) (λ c. nat_le c.first id ≡ false) chunks.now result }
 {
+    if have_begun(chunks, before, id) {
+        return before;
+    }
     chunks.partition_point(|chunk| is_at_most(chunk.first, id))
+}
+
+/// Whether just so many chunks begin at an id or below it. It may say no where they do.
+fn have_begun<X>(chunks: &[Chunk<X>], count: usize, id: VertexId) -> bool
+    requires { AreSound chunks.now }
+    ensures bound { IsTrue result → count ≤ length chunks.now }
+    ensures parts { IsTrue result
+        → IsPartitionPoint (λ c. nat_le c.first id ≡ true) (λ c. nat_le c.first id ≡ false) chunks.now count }
+{
+    if count == 0 || count >= chunks.len() {
+        return false;
+    }
+    is_at_most(chunks[count - 1].first, id) && !is_at_most(chunks[count].first, id)
 }
 
 /// Whether an id is below another, or is it.
@@ -76,11 +98,12 @@ fn place_of<X>(entries: &[(VertexId, X)], id: VertexId) -> Result<usize, usize>
     entries.binary_search_by_key(&id, |entry| entry.0)
 }
 
-/// Puts a value at an id. Costs two binary searches, and moves what follows in the id's chunk and, where that is cut in
+/// Puts a value at an id. It costs what `found` does, and moves what follows in the id's chunk and, where that is cut in
 /// two, the chunks that follow. Where memory is refused some of the values may be lost.
 pub(crate) fn put<X: Drop>(
     alloc: Global,
     chunks: &mut Vec<Chunk<X>>,
+    near: usize,
     id: VertexId,
     value: X,
 ) -> Result<(), Memory>
@@ -94,7 +117,7 @@ pub(crate) fn put<X: Drop>(
         chunks.push(Chunk { first: id, entries })?;
         return Ok(());
     }
-    let place = begun(chunks.as_slice(), id).saturating_sub(1);
+    let place = begun(chunks.as_slice(), near, id).saturating_sub(1);
     put_in(&mut chunks[place], id, value)?;
     cut(chunks, place)?;
     Ok(())

@@ -47,12 +47,13 @@ impl<V, M> Model for Index<V, M> {
     ghost invariant = { λ i. HasRisingIds i.base × AreSound i.notes.items };
 }
 
-/// Looks up ids in an index: among the notes, and then in the map, where an id near the one before costs a search near
+/// Looks up ids in an index: among the notes, and then in the map. In both an id near the one before costs a search near
 /// that. A contract sees the index.
 #[derive(Drop)]
 pub(crate) struct IndexFinder<'a, V, M> {
     base: Finder<'a, Steps<V, M>>,
     notes: &'a Notes<V, M>,
+    notes_begun: usize,
 }
 
 impl<'a, V, M> Model for IndexFinder<'a, V, M> {
@@ -76,7 +77,7 @@ impl<'a, V: Drop, M: Drop> IndexFinder<'a, V, M> {
         ensures same { self.new ≡ self.old }
     {
         let notes = self.notes;
-        match get(notes.as_slice(), id) {
+        match get(notes.as_slice(), &mut self.notes_begun, id) {
             Some(steps) => steps.as_ref(),
             None => self.base.get(id),
         }
@@ -122,6 +123,7 @@ impl<V: Drop, M: Drop> Index<V, M> {
         IndexFinder {
             base: self.base.finder(),
             notes: &self.notes,
+            notes_begun: 0,
         }
     }
 

@@ -43,10 +43,12 @@ pub(crate) fn note_over<V: Drop, M: Drop>(
 {
     tell_rising(base);
     let mut finder = base.finder();
+    let mut near = 0;
     for (id, given) in given {
         note_of(
             alloc,
             notes,
+            &mut near,
             &mut finder,
             supersteps,
             *id,
@@ -61,6 +63,7 @@ pub(crate) fn note_over<V: Drop, M: Drop>(
 fn note_of<V: Drop, M: Drop>(
     alloc: Global,
     notes: &mut Notes<V, M>,
+    near: &mut usize,
     base: &mut Finder<'_, Steps<V, M>>,
     supersteps: &[Map<Kept<V, M>>],
     id: VertexId,
@@ -75,13 +78,13 @@ fn note_of<V: Drop, M: Drop>(
         (with_changes (all_of notes.old.items) base.old) (with_changes (all_of notes.new.items) base.old)) }
     ensures same { base.new ≡ base.old }
 {
-    if let Some((chunk, place)) = found(notes.as_slice(), id) {
+    if let Some((chunk, place)) = found(notes.as_slice(), near, id) {
         let steps = &mut notes[chunk].entries[place].1;
         note_again(alloc, steps, supersteps, id, superstep, given)?;
         return Ok(());
     }
     let steps = after(alloc, supersteps, id, superstep, given, base.get(id))?;
-    put(alloc, notes, id, steps)?;
+    put(alloc, notes, *near, id, steps)?;
     Ok(())
 }
 
