@@ -49,6 +49,12 @@ none_at {X = X} (e ∷ es) q h = ap (λ b. cond b (Some e.1) (value_at q es)) (a
     by true k later = absurd (true≢false k)
     by false k later = later k
 
+pub rises-more : {M : Type 0} (old new : Option (Contents M)) (found found' rest : List ℕ) (id : ℕ)
+    → IsStrictlySortedBy nat_cmp (found ++ id ∷ rest) → IsAdded id old new found found' → IsStrictlySortedBy nat_cmp (found' ++ rest)
+rises-more old new found found' rest id rise (inl same) = subst (λ l. IsStrictlySortedBy nat_cmp (l ++ rest)) (sym same.1) (rises-without found id rest rise)
+rises-more old new found found' rest id rise (inr differ) =
+    subst (IsStrictlySortedBy nat_cmp) (sym (ap (λ l. l ++ rest) differ.1 ∙ append_assoc found (id ∷ []) rest)) rise
+
 module _ {M : Type 0} (old new : Parcels M) where
   -- where the bundles differ at each id found, and at no other that was looked at
   abbrev pub AreTold : List ℕ → List ℕ → Type 0
@@ -58,7 +64,8 @@ module _ {M : Type 0} (old new : Parcels M) where
   pub told-none : (found : List ℕ) → found ≡ [] → AreTold found []
   told-none found none q = (λ h. let k : false ≡ true = sym (ap (λ l. has_id l q) none) ∙ h in absurd cc, λ h seen. absurd (true≢false (sym seen)))
 
-  pub told-more : (found found' seen : List ℕ) (id : ℕ) → AreTold found seen → IsAdded old new id found found' → AreTold found' (seen ++ id ∷ [])
+  pub told-more : (found found' seen : List ℕ) (id : ℕ) → AreTold found seen
+      → IsAdded id (value_at id old) (value_at id new) found found' → AreTold found' (seen ++ id ∷ [])
   told-more found found' seen id so_far (inl same) q = (
     λ h. (so_far q).0 (sym (ap (λ l. has_id l q) same.1) ∙ h),
     λ other h. by (sym (ap (λ l. has_id l q) same.1) ∙ other) (or_cases (has_id seen q) (id == q) (sym (has_id-push seen id q) ∙ h)),
@@ -83,12 +90,6 @@ module _ {M : Type 0} (old new : Parcels M) where
       back true e other seen = absurd (true≢false other)
       back false e other (inl k) = (so_far q).1 e k
       back false e other (inr k) = absurd (true≢false (sym k ∙ other))
-
-  pub rises-more : (found found' rest : List ℕ) (id : ℕ) → IsStrictlySortedBy nat_cmp (found ++ id ∷ rest) → IsAdded old new id found found'
-      → IsStrictlySortedBy nat_cmp (found' ++ rest)
-  rises-more found found' rest id rise (inl same) = subst (λ l. IsStrictlySortedBy nat_cmp (l ++ rest)) (sym same.1) (rises-without found id rest rise)
-  rises-more found found' rest id rise (inr differ) =
-      subst (IsStrictlySortedBy nat_cmp) (sym (ap (λ l. l ++ rest) differ.1 ∙ append_assoc found (id ∷ []) rest)) rise
 
   pub changed_all : (ids found : List ℕ) → AreCandidates old new ids → IsStrictlySortedBy nat_cmp (found ++ []) → AreTold found ids
       → AreChanged old new found

@@ -1,6 +1,6 @@
 -- What a bundle becomes where messages are withdrawn and others are added, target by target.
 use Rattle.std.proofs.Common.{◌≡◌, ℕ, ◌==◌, ◌||◌, ◌&&◌, not, Bool, true, false, cond, List, [], ◌∷◌, ◌++◌, map}
-use Rattle.std.proofs.Common.{Option, Some, refl, sym, ap, ap₂, ◌∙◌, subst, filter, flat_map}
+use Rattle.std.proofs.Common.{Option, Some, refl, sym, ap, ap₂, ◌∙◌, append_assoc, subst, subst₂, filter, flat_map}
 use Rattle.std.specs.List.{AllByRecursion}
 use Rattle.std.proofs.lemmas.List.Elements.{All-from_recursion, recursion_from_All}
 use Rattle.std.proofs.lemmas.List.Sorted.{All-permutation}
@@ -8,7 +8,7 @@ use Rattle.std.specs.List.Sorted.{IsPermutation, IsNonDecreasingBy, IsStableByKe
 use Rattle.std.specs.Map.{keys_of}
 use Rattle.std.specs.Option.{option_map, unwrap_or}
 use Rattle.std.specs.Ordering.{nat_cmp}
-use Rattle.std.proofs.lemmas.List.{append-nil}
+use Rattle.std.proofs.lemmas.List.{append-nil, map-append}
 use Rattle.std.proofs.lemmas.Bool.{or_parts}
 use Rattle.std.proofs.Math.Bool.{and-true, and-false}
 use Rattle.pg_map.specs.Entries.{ChangesRise, HasRisingIds, value_at, with_change, with_changes}
@@ -17,7 +17,7 @@ use Rattle.pg_model.proofs.LawsLists.{all_pass}
 use Rattle.pg_model.specs.Job.{Combining}
 use Rattle.pg_model.specs.Superstep.{has_id}
 use Rattle.pg_inbox.specs.Bundles.{Parcels, bundle_of, contents_of, entries_in}
-use Rattle.pg_inbox.specs.Changed.{AreCandidates}
+use Rattle.pg_inbox.specs.Changed.{AreChanged, IsAdded}
 use Rattle.pg_inbox.specs.Grouping.{AreGroups, any_of, items_to}
 use Rattle.pg_inbox.specs.Inboxes.{letters_at}
 use Rattle.pg_inbox.specs.Mending.{additions, as_addition, as_withdrawal, changes_of, mended, mended_at, mends_of, senders_of}
@@ -26,7 +26,8 @@ use Rattle.pg_inbox.specs.Patched.{AreReplaced, IsPatched, is_withdrawn, staying
 use Rattle.pg_inbox.specs.Sends.{Sends, letters_to}
 use Rattle.pg_inbox.specs.declared.parcel.Contents.{Contents}
 use Rattle.pg_inbox.specs.declared.patching.Mend.{Mend}
-use Rattle.pg_inbox.proofs.Bundling.{at_id, is_bundle_of, rises-bundle_of, value_at-bundle_of}
+use Rattle.pg_inbox.proofs.Bundling.{all_from_lookups, at_id, is_bundle_of, rises-bundle_of, value_at-bundle_of}
+use Rattle.pg_inbox.proofs.Differing.{AreTold, changed_all, rises-more, told-more}
 use Rattle.pg_inbox.proofs.Grouping.{other_id, same_id, stays}
 use Rattle.pg_inbox.proofs.Delivery.{letters_at-bundle_of, same_letters, up_letters}
 use Rattle.pg_inbox.proofs.Senders.{IsUp, from, in_order-from, in_order-up, same_by_number, up_from, up_in_order}
@@ -209,19 +210,54 @@ module _ {M : Type 0} (combining : Option (Combining M)) (withdrawn : List (ℕ 
             ap (λ l. contents (mended (m ∷ mends) l)) (ap (letters_at q) is ∙ letters_at-bundle_of q combining before)
             ∙ ap contents (ap (λ ms. mended ms (letters_to q before)) (sym e) ∙ mended_here q withdrawn added before after replaced)
 
--- ---- at no other target do they differ
+-- ---- where they differ
 
 module _ {X : Type 0} where
-  pub unchanged_at : (changes : List (ℕ × Option X)) (entries : List (ℕ × X)) (q : ℕ) → has_id (keys_of changes) q ≡ false
+  unchanged_at : (changes : List (ℕ × Option X)) (entries : List (ℕ × X)) (q : ℕ) → has_id (keys_of changes) q ≡ false
       → value_at q (with_changes changes entries) ≡ value_at q entries
   unchanged_at [] entries q h = refl
   unchanged_at (c ∷ changes) entries q h =
       let parts = or_parts (c.0 == q) (has_id (keys_of changes) q) h in
       unchanged_at changes (with_change c.0 c.1 entries) q parts.1 ∙ change_other c.0 c.1 entries q (other_id c.0 q parts.0)
 
-pub candidates : {M : Type 0} (old new : Parcels M) (changes : List (ℕ × Option (Contents M))) (ids : List ℕ)
-    → ChangesRise changes → new ≡ with_changes changes old → ids ≡ keys_of changes → AreCandidates old new ids
-candidates old new changes ids rise are keys = record {
-  rise = subst (IsStrictlySortedBy nat_cmp) (sym keys) rise;
-  others = λ id h. ap (entries_in id) (sym (ap (value_at id) are ∙ unchanged_at changes old id (ap (λ l. has_id l id) (sym keys) ∙ h)));
-}
+  all-parts : (P : X → Type 0) (xs : List X) (y : X) → AllByRecursion P (xs ++ y ∷ []) → AllByRecursion P xs × P y
+  all-parts P [] y h = (tt, h.0)
+  all-parts P (x ∷ xs) y h = let later = all-parts P xs y h.1 in ((h.0, later.0), later.1)
+
+module _ {M : Type 0} (old : Parcels M) where
+  -- just the targets at which whatever has these changes differs from the old bundle
+  pub record AreFound (changes : List (ℕ × Option (Contents M))) (found : List ℕ) : Type 0 where
+    pub rise : (rest : List ℕ) → IsStrictlySortedBy nat_cmp (keys_of changes ++ rest) → IsStrictlySortedBy nat_cmp (found ++ rest)
+    pub told : (new : Parcels M) → AllByRecursion (λ c. value_at c.0 new ≡ c.1) changes → AreTold old new found (keys_of changes)
+
+  pub found-more : {id' id : ℕ} {before after' after : Option (Contents M)} (changes changes' : List (ℕ × Option (Contents M))) (found found' : List ℕ)
+      → AreFound changes found → changes' ≡ changes ++ (id, after) ∷ [] → before ≡ value_at id old → after' ≡ after
+      → IsAdded id' before after' found found' → id' ≡ id → AreFound changes' found'
+  found-more {id'} {id} {before} {after'} {after} changes changes' found found' so_far pushed at is added same = record {
+    rise = λ rest h. rises-more (value_at id old) after found found' rest id
+        (so_far.rise (id ∷ rest)
+        (subst (IsStrictlySortedBy nat_cmp) (ap (λ l. l ++ rest) keys ∙ append_assoc (keys_of changes) (id ∷ []) rest) h)) here;
+    told = λ new h.
+        let parts = all-parts (λ c. value_at c.0 new ≡ c.1) changes (id, after) (subst (AllByRecursion (λ c. value_at c.0 new ≡ c.1)) pushed h) in
+        subst (AreTold old new found') (sym keys)
+        (told-more old new found found' (keys_of changes) id (so_far.told new parts.0)
+        (subst (λ a. IsAdded id (value_at id old) a found found') (sym parts.1) here));
+  }
+    where
+      keys : keys_of changes' ≡ keys_of changes ++ id ∷ []
+      keys = ap keys_of pushed ∙ map-append (λ c. c.0) changes ((id, after) ∷ [])
+
+      here : IsAdded id (value_at id old) after found found'
+      here = subst (λ i. IsAdded i (value_at id old) after found found') same (subst₂ (λ b a. IsAdded id' b a found found') at is added)
+
+  pub found_all : (changes : List (ℕ × Option (Contents M))) (found : List ℕ) → HasRisingIds old → AreFound changes found → ChangesRise changes
+      → AreChanged old (with_changes changes old) found
+  found_all changes found rising are rise =
+      let new = with_changes changes old in
+      changed_all old new (keys_of changes) found (record {
+        rise = rise;
+        others = λ id h. ap (entries_in id) (sym (unchanged_at changes old id h));
+      })
+      (are.rise [] (subst (IsStrictlySortedBy nat_cmp) (sym (append-nil (keys_of changes))) rise))
+      (are.told new (all_from_lookups (λ c. value_at c.0 new ≡ c.1) changes rise
+      (λ q x h. value_at-with_changes changes old q rise rising ∙ ap (λ o. unwrap_or o (value_at q old)) h)))

@@ -1,9 +1,10 @@
 -- Where two bundles differ.
-use Rattle.std.specs.Prelude.{◌≡◌, ℕ, ◌++◌, ◌⊎◌, true, false, List, [], ◌∷◌}
+use Rattle.std.specs.Prelude.{◌≡◌, ℕ, ◌++◌, ◌⊎◌, true, false, List, [], ◌∷◌, Option}
 use Rattle.std.specs.List.Sorted.{IsStrictlySortedBy}
 use Rattle.std.specs.Ordering.{nat_cmp}
 use Rattle.pg_model.specs.Superstep.{has_id}
-use Rattle.pg_inbox.specs.Bundles.{Parcels, entries_to}
+use Rattle.pg_inbox.specs.Bundles.{Parcels, entries_in, entries_to}
+use Rattle.pg_inbox.specs.declared.parcel.Contents.{Contents}
 
 module _ {M : Type 0} (old new : Parcels M) where
   -- others see the same of the messages to a target; or they don't
@@ -24,6 +25,7 @@ module _ {M : Type 0} (old new : Parcels M) where
     pub rise : IsStrictlySortedBy nat_cmp ids
     pub others : (id : ℕ) → has_id ids id ≡ false → AreSameAt id
 
-  -- an id is added where the bundles differ at it
-  abbrev pub IsAdded : ℕ → List ℕ → List ℕ → Type 0
-  IsAdded id before after = (AreSameAt id × (after ≡ before)) ⊎ (DifferAt id × (after ≡ before ++ id ∷ []))
+-- an id is added where others see something else of the messages to it
+abbrev pub IsAdded : {M : Type 0} → ℕ → Option (Contents M) → Option (Contents M) → List ℕ → List ℕ → Type 0
+IsAdded id old new before after =
+    ((entries_in id old ≡ entries_in id new) × (after ≡ before)) ⊎ ((entries_in id old ≡ entries_in id new → ⊥) × (after ≡ before ++ id ∷ []))

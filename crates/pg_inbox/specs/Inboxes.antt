@@ -11,9 +11,13 @@ use Rattle.pg_inbox.specs.Sends.{AreAllOf, Sends, without_senders}
 use Rattle.pg_inbox.specs.declared.parcel.Contents.{Contents}
 
 module _ {M : Type 0} where
-  -- the messages to a target in one bundle
+  -- the messages to a target, if there are any
+  abbrev pub letters_in : Option (Contents M) → List (ℕ × M)
+  letters_in contents = elim contents [ None ↦ [] | Some contents ↦ contents.letters ]
+
+  -- those in one bundle
   abbrev pub letters_at : ℕ → Parcels M → List (ℕ × M)
-  letters_at id parcels = elim (value_at id parcels) [ None ↦ [] | Some contents ↦ contents.letters ]
+  letters_at id parcels = letters_in (value_at id parcels)
 
   -- of whatever sends these are the bundles: what the superstep delivers of all of them
   abbrev pub Delivers : Option (Combining M) → ℕ → List (Parcels M) → List M → Type 0

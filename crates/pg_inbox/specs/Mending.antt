@@ -4,11 +4,12 @@ use Rattle.std.specs.BTreeSet.{BTreeSet, contains}
 use Rattle.std.specs.List.{filter, flat_map}
 use Rattle.std.specs.Option.{option_map}
 use Rattle.std.specs.Ordering.{nat_cmp}
+use Rattle.pg_map.specs.Entries.{value_at}
 use Rattle.pg_model.specs.Job.{Combining}
 use Rattle.pg_model.specs.Superstep.{has_id}
 use Rattle.pg_inbox.specs.Bundles.{Parcels, contents_of}
 use Rattle.pg_inbox.specs.Grouping.{any_of}
-use Rattle.pg_inbox.specs.Inboxes.{letters_at}
+use Rattle.pg_inbox.specs.Inboxes.{letters_in}
 use Rattle.pg_inbox.specs.Ordered.{in_order}
 use Rattle.pg_inbox.specs.Sends.{Sends}
 use Rattle.pg_inbox.specs.declared.parcel.Contents.{Contents}
@@ -49,8 +50,11 @@ module _ {M : Type 0} where
   mended mends letters = in_order (filter (λ l. not (has_id (senders_of mends) l.0)) letters ++ additions mends)
 
   -- and what the bundle has of them
+  abbrev pub mended_in : Option (Combining M) → Option (Contents M) → List (Mend M) → Option (Contents M)
+  mended_in combining old mends = option_map (contents_of combining) (any_of (mended mends (letters_in old)))
+
   abbrev pub mended_at : Option (Combining M) → Parcels M → ℕ × List (Mend M) → Option (Contents M)
-  mended_at combining old group = option_map (contents_of combining) (any_of (mended group.1 (letters_at group.0 old)))
+  mended_at combining old group = mended_in combining (value_at group.0 old) group.1
 
   abbrev pub changes_of : Option (Combining M) → Parcels M → List (ℕ × List (Mend M)) → List (ℕ × Option (Contents M))
   changes_of combining old groups = map (λ g. (g.0, mended_at combining old g)) groups

@@ -49,7 +49,7 @@ fn differing<M: Plain>(
 }
 
 /// Those of these ids at which two bundles differ.
-pub(crate) fn differing_among<M: Plain>(
+fn differing_among<M: Plain>(
     alloc: Global,
     ids: Vec<VertexId>,
     old: &Bundle<M>,
@@ -60,7 +60,7 @@ pub(crate) fn differing_among<M: Plain>(
 {
     let mut changed = Vec::new(alloc);
     for id in ids {
-        add_if_changed(&mut changed, old, new, id)?;
+        add_if_changed(&mut changed, id, old.parcel(id), new.parcel(id))?;
     }
     Ok(changed)
 }
@@ -91,16 +91,18 @@ fn add_targets<M: Plain>(ids: &mut Vec<VertexId>, bundle: &Bundle<M>) -> Result<
     Ok(())
 }
 
-/// Adds a target at which the bundles differ.
-fn add_if_changed<M: Plain>(
+/// Adds a target at which others see something else.
+pub(crate) fn add_if_changed<M: Plain>(
     ids: &mut Vec<VertexId>,
-    old: &Bundle<M>,
-    new: &Bundle<M>,
     id: VertexId,
+    old: Option<&Parcel<M>>,
+    new: Option<&Parcel<M>>,
 ) -> Result<(), Memory>
-    ensures { OnOk result (IsAdded old.now new.now id ids.old.items ids.new.items) }
+    requires old { HoldsAt M.is_value (option_copied old) }
+    requires new { HoldsAt M.is_value (option_copied new) }
+    ensures { OnOk result (IsAdded id (option_copied old.entry) (option_copied new.entry) ids.old.items ids.new.items) }
 {
-    if !is_same(old.parcel(id), new.parcel(id)) {
+    if !is_same(old, new) {
         ids.push(id)?;
     }
     Ok(())

@@ -2,17 +2,18 @@
 ghost use Rattle.std.specs.Prelude.{◌≡◌, [], ◌∷◌, ◌++◌, map, IfOk, OnOk};
 ghost use Rattle.std.specs.BTreeSet.{contains};
 ghost use Rattle.std.specs.List.{AllByRecursion};
-ghost use Rattle.std.specs.Map.{keys_of};
+ghost use Rattle.std.specs.Option.{option_copied};
 ghost use Rattle.std.specs.Ordering.{nat_cmp};
 ghost use Rattle.pg_map.specs.Entries.{ChangesRise, with_changes};
+ghost use Rattle.pg_inbox.specs.Changed.{AreChanged};
 ghost use Rattle.pg_inbox.specs.Grouping.{groups_of};
 ghost use Rattle.pg_inbox.specs.Holding.{HoldsAt};
-ghost use Rattle.pg_inbox.specs.Inboxes.{letters_at};
-ghost use Rattle.pg_inbox.specs.Mending.{HasJust, HasMore, additions, as_addition, as_withdrawal, changes_of, mended, mended_at, mends_of, others};
+ghost use Rattle.pg_inbox.specs.Inboxes.{letters_in};
+ghost use Rattle.pg_inbox.specs.Mending.{HasJust, HasMore, additions, as_addition, as_withdrawal, changes_of, mended, mended_in, mends_of, others};
 ghost use Rattle.pg_inbox.specs.Mending.{senders_of, withdrawn_by};
 ghost use Rattle.pg_inbox.specs.Patched.{IsPatched, TellsChanges};
 
-use crate::changing::differing_among;
+use crate::changing::add_if_changed;
 use crate::grouped::{by_target, first_group};
 use crate::parcel::Parcel;
 use crate::{Bundle, Logged};
@@ -30,6 +31,13 @@ pub(crate) enum Mend<M> {
     Withdrawn(VertexId),
     /// This sender sends it one more.
     Added(VertexId, M),
+}
+
+/// What targets have afterwards, and those of them at which others see something else.
+#[derive(Drop)]
+struct After<M: Plain> {
+    changes: Vec<(VertexId, Option<Parcel<M>>)>,
+    changed: Vec<VertexId>,
 }
 
 /// The bundle with what some senders sent to some targets, as (sender, target), withdrawn, and other messages, as
@@ -50,13 +58,11 @@ pub fn patch<M: Plain, C: MessageCombiner<M>>(
 {
     let mends = mends_by_target(alloc, withdrawn, added)?;
     let mends = by_target(mends)?;
-    let changes = changes_at(alloc, old, mends.as_slice(), combiner)?;
-    let bundle = mended_bundle(alloc, old, changes.as_slice())?;
-    let ids = targets_of(alloc, changes.as_slice())?;
-    let changed = differing_among(alloc, ids, old, &bundle)?;
+    let after = changes_at(alloc, old, mends.as_slice(), combiner)?;
+    let bundle = mended_bundle(alloc, old, after.changes.as_slice())?;
     Ok(Logged {
         bundle,
-        changed: Some(Sequence::from_vec(changed)),
+        changed: Some(Sequence::from_vec(after.changed)),
     })
 }
 
@@ -99,17 +105,6 @@ fn add_additions<M: Plain>(
     Ok(())
 }
 
-/// The targets of changes.
-fn targets_of<X>(alloc: Global, changes: &[(VertexId, X)]) -> Result<Vec<VertexId>, Memory>
-    ensures { IfOk result (λ ids. ids.items ≡ keys_of changes.now) }
-{
-    let mut ids = Vec::with_capacity(alloc, changes.len())?;
-    for (target, _) in changes {
-        ids.push(*target)?;
-    }
-    Ok(ids)
-}
-
 /// The old bundle with these changes; in its own memory where there are none.
 fn mended_bundle<M: Plain>(
     alloc: Global,
@@ -141,40 +136,46 @@ fn changed_bundle<M: Plain>(
     Ok(Bundle { parcels })
 }
 
-/// The new contents of each target, of what is done by rising target.
+/// The new contents of each target, of what is done by rising target. Costs one look-up each.
 fn changes_at<M: Plain, C: MessageCombiner<M>>(
     alloc: Global,
     old: &Bundle<M>,
     mends: &[(VertexId, Mend<M>)],
     combiner: &C,
-) -> Result<Vec<(VertexId, Option<Parcel<M>>)>, Memory>
+) -> Result<After<M>, Memory>
     ensures items { IfOk result
-        (λ changes. changes.items ≡ changes_of (C.combining combiner.now) old.now (groups_of mends.now)) }
-    ensures hold { IfOk result (λ changes. AllByRecursion (λ c. HoldsAt M.is_value c.1) changes.items) }
+        (λ after. after.changes.items ≡ changes_of (C.combining combiner.now) old.now (groups_of mends.now)) }
+    ensures hold { IfOk result (λ after. AllByRecursion (λ c. HoldsAt M.is_value c.1) after.changes.items) }
+    ensures changed { IfOk result (λ after. ChangesRise after.changes.items
+        → AreChanged old.now (with_changes after.changes.items old.now) after.changed.items) }
 {
+    // Tells the prover that the old targets rise.
+    old.parcels.len();
     let mut changes = Vec::new(alloc);
+    let mut changed = Vec::new(alloc);
     let mut left = mends;
     while let Some((target, here, later)) = first_group(left) {
-        let parcel = parcel_after(alloc, old, target, here, combiner)?;
+        let before = old.parcel(target);
+        let parcel = parcel_after(alloc, before, here, combiner)?;
+        add_if_changed(&mut changed, target, before, parcel.as_ref())?;
         changes.push((target, parcel))?;
         left = later;
     }
-    Ok(changes)
+    Ok(After { changes, changed })
 }
 
 /// What becomes of the messages to a target; nothing where none is left.
 fn parcel_after<M: Plain, C: MessageCombiner<M>>(
     alloc: Global,
-    old: &Bundle<M>,
-    target: VertexId,
+    old: Option<&Parcel<M>>,
     mends: &[(VertexId, Mend<M>)],
     combiner: &C,
 ) -> Result<Option<Parcel<M>>, Memory>
     ensures value { IfOk result
-        (λ parcel. parcel ≡ mended_at (C.combining combiner.now) old.now (target, map (λ m. m.1) mends.now)) }
+        (λ parcel. parcel ≡ mended_in (C.combining combiner.now) (option_copied old.entry) (map (λ m. m.1) mends.now)) }
     ensures holds { IfOk result (λ parcel. HoldsAt M.is_value parcel) }
 {
-    let letters = mended_letters(alloc, old, target, mends)?;
+    let letters = mended_letters(alloc, old, mends)?;
     if letters.is_empty() {
         return Ok(None);
     }
@@ -185,16 +186,15 @@ fn parcel_after<M: Plain, C: MessageCombiner<M>>(
 /// The messages that stay and those that are added, by rising sender.
 fn mended_letters<M: Plain>(
     alloc: Global,
-    old: &Bundle<M>,
-    target: VertexId,
+    old: Option<&Parcel<M>>,
     mends: &[(VertexId, Mend<M>)],
 ) -> Result<Vec<(VertexId, M)>, Memory>
     ensures items { IfOk result
-        (λ after. after.items ≡ mended (map (λ m. m.1) mends.now) (letters_at target old.now)) }
+        (λ after. after.items ≡ mended (map (λ m. m.1) mends.now) (letters_in (option_copied old.entry))) }
     ensures values { IfOk result (λ after. AllByRecursion (λ l. M.is_value l.1) after.items) }
 {
     let withdrawn = withdrawn_senders(alloc, mends)?;
-    let mut after = staying_at(alloc, old, target, &withdrawn)?;
+    let mut after = staying_in(alloc, old, &withdrawn)?;
     add_letters(alloc, &mut after, mends)?;
     after.sort_by_key(|letter| letter.0)?;
     Ok(after)
@@ -230,17 +230,16 @@ fn add_if_withdrawn<M: Plain>(
     }
 }
 
-/// The messages of all other senders to a target.
-fn staying_at<M: Plain>(
+/// The messages of all other senders to a target, if there are any.
+fn staying_in<M: Plain>(
     alloc: Global,
-    old: &Bundle<M>,
-    target: VertexId,
+    old: Option<&Parcel<M>>,
     withdrawn: &BTreeSet<VertexId>,
 ) -> Result<Vec<(VertexId, M)>, Memory>
-    ensures items { IfOk result (λ after. after.items ≡ others withdrawn.now (letters_at target old.now)) }
+    ensures items { IfOk result (λ after. after.items ≡ others withdrawn.now (letters_in (option_copied old.entry))) }
     ensures values { IfOk result (λ after. AllByRecursion (λ l. M.is_value l.1) after.items) }
 {
-    match old.parcel(target) {
+    match old {
         Some(parcel) => staying_letters(alloc, parcel, withdrawn),
         None => Ok(Vec::new(alloc)),
     }

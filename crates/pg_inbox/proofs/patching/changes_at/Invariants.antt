@@ -3,6 +3,7 @@ use Rattle.std.specs.List.{AllByRecursion}
 use Rattle.pg_inbox.specs.Grouping.{groups_of}
 use Rattle.pg_inbox.specs.Holding.{HoldsAt}
 use Rattle.pg_inbox.specs.Mending.{changes_of}
+use Rattle.pg_inbox.proofs.Replacing.{AreFound}
 use Rattle.pg_inbox.proofs.patching.changes_at.Given as goal
 
 abbrev pub invariant-loop-target : goal.invariant-loop-target
@@ -10,6 +11,7 @@ invariant-loop-target g l =
     let changes = changes_of (g.C.MessageCombiner.combining l.combiner) l.old in
     record {
       items : l.changes.items ++ changes (groups_of l.left) ≡ changes (groups_of l.mends);
+      found : AreFound l.old l.changes.items l.changed.items;
       hold : AllByRecursion (λ c. HoldsAt g.M.Plain.is_value c.1) l.changes.items;
     }
 

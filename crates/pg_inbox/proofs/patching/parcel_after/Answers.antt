@@ -2,7 +2,6 @@ use Rattle.std.proofs.Common.{◌==◌, ◌≡◌, false, true, Some, ap, sym, �
 use Rattle.pg_model.specs.Superstep.{is_empty}
 use Rattle.pg_inbox.specs.Bundles.{contents_of}
 use Rattle.pg_inbox.specs.Grouping.{any_of}
-use Rattle.pg_inbox.specs.Inboxes.{letters_at}
 use Rattle.pg_inbox.proofs.Bundling.{any_of_none, any_of_some}
 use Rattle.pg_inbox.specs.Holding.{Holds}
 use Rattle.pg_inbox.proofs.patching.parcel_after.Goals as goal
@@ -11,7 +10,6 @@ pub returns-clause-value : goal.returns-clause-value
 returns-clause-value g c =
     let contents = contents_of (g.C.MessageCombiner.combining c.args.combiner.now) in
     let left = c.in_ok-letters.letters in
-    let at = letters_at c.args.target c.args.old.now in
     let some : is_empty left.items ≡ false = ap (λ n. n == 0) (sym left.ok.0) ∙ sym c.if-is_empty.ensures in
     ap Some (c.in_ok-parcel.ensures)
     ∙ ap (option_map contents)
@@ -20,7 +18,6 @@ returns-clause-value g c =
 pub returns-then-is_empty-clause-value : goal.returns-then-is_empty-clause-value
 returns-then-is_empty-clause-value g c =
     let left = c.in_ok-letters.letters in
-    let at = letters_at c.args.target c.args.old.now in
     let none : is_empty left.items ≡ true = ap (λ n. n == 0) (sym left.ok.0) ∙ sym c.if-is_empty.ensures in
     ap (option_map (contents_of (g.C.MessageCombiner.combining c.args.combiner.now)))
     (sym (any_of_none left.items none) ∙ ap any_of (c.in_ok-letters.ensures.items))
