@@ -142,10 +142,7 @@ fn with_vertex(census: Census, degree: usize, halted: bool) -> Result<Census, Me
 }
 
 /// With the vertex that has this state more, if there is one.
-fn with_state<V: Plain>(
-    census: Census,
-    state: &Option<StateRef<'_, V>>,
-) -> Result<Census, Memory>
+fn with_state<V: Plain>(census: Census, state: &Option<StateRef<'_, V>>) -> Result<Census, Memory>
     ensures { IfOk result (λ after. IsSum census (census_of (option_to_list state.now)) after) }
 {
     match state {

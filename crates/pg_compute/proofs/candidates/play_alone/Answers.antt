@@ -36,21 +36,22 @@ returns g c =
     let s = c.args.superstep in
     let trace = c.args.trace.now in
     let rise = subst HasRisingIds (sym c.own-callees.ensures) (own_rise c.args.share.partitions c.args.share.partition callees c.in_ok-callees.ensures.rise) in
-    record { turned = IfOk-four c.play_callees.result _ _ _ _ _ (λ p looked_at changes turned _. subst₂ (λ i l. IfSome p.turned (IsTurned s trace i l))
-    (sym looked_at) (sym changes) (if_some p.turned (turned_are program view c.args.missing s trace mine rise) turned)) played.looked_at played.changes played.turned
-    played.turned;
-    played = IfOk-four c.play_callees.result _ _ _ _ _ (λ p looked_at changes meter _. record {
-      callees = callees;
-      are = subst₂ (λ b i. AreCallees (g.C.MessageCombiner.combining c.args.combiner.now) b i true callees) bundles ids c.in_ok-callees.ensures;
-      candidates = map found mine;
-      ids_are = map-map (λ x. x.id) found mine ∙ ap keys_of c.own-callees.ensures;
-      new_are = map-map (λ x. x.new) found mine
-          ∙ ap (map (found_at program c.args.missing c.args.superstep c.args.trace.now)) c.own-callees.ensures;
-      beside_are = none;
-      told = untold value_eq message_eq (map found mine) none;
-      looked_at_are = looked_at ∙ sym (map-map (λ x. x.id) found mine);
-      changes_are = changes ∙ flat_map-map (change_alone program view) found mine
-          ∙ sym (flat_map-map (change_of value_eq message_eq program view false) found mine);
-      counted = meter;
-    }) played.looked_at played.changes played.meter played.meter;
+    record {
+      turned = IfOk-four c.play_callees.result _ _ _ _ _ (λ p looked_at changes turned _. subst₂ (λ i l. IfSome p.turned (IsTurned s trace i l))
+          (sym looked_at) (sym changes) (if_some p.turned (turned_are program view c.args.missing s trace mine rise) turned)) played.looked_at played.changes played.turned
+          played.turned;
+      played = IfOk-four c.play_callees.result _ _ _ _ _ (λ p looked_at changes meter _. record {
+        callees = callees;
+        are = subst₂ (λ b i. AreCallees (g.C.MessageCombiner.combining c.args.combiner.now) b i true callees) bundles ids c.in_ok-callees.ensures;
+        candidates = map found mine;
+        ids_are = map-map (λ x. x.id) found mine ∙ ap keys_of c.own-callees.ensures;
+        new_are = map-map (λ x. x.new) found mine
+            ∙ ap (map (found_at program c.args.missing c.args.superstep c.args.trace.now)) c.own-callees.ensures;
+        beside_are = none;
+        told = untold value_eq message_eq (map found mine) none;
+        looked_at_are = looked_at ∙ sym (map-map (λ x. x.id) found mine);
+        changes_are = changes ∙ flat_map-map (change_alone program view) found mine
+            ∙ sym (flat_map-map (change_of value_eq message_eq program view false) found mine);
+        counted = meter;
+      }) played.looked_at played.changes played.meter played.meter;
     }

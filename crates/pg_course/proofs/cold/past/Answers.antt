@@ -18,12 +18,14 @@ invariant_of-result g c =
     let reached = length-reaching place c.course.inside.trace c.course.invariant.0 in
     let long = ap (λ t. length t.records) c.in_ok-trace.ensures ∙ length-set trace.records place (with_changes c.args.changes.items (records_of place trace)) in
     let next = c.new.ensures ∙ ap (λ k. k + 1) c.number.ensures in
-    let fact : c.new.result ≤ length c.in_ok-trace.trace.records = omega (arith, next, long, reached) in
-    (fact, if_some c.args.turned (λ t turned. λ s later.
-    let same : place ≡ s = omega (arith, later, next) in
-    subst₂ (λ (k : ℕ) trace. (t.gone ≡ census_of (states_among k c.args.looked_at.items trace)) × (t.come ≡ census_of (states_among (k + 1) c.args.looked_at.items trace)))
-    same (sym c.in_ok-trace.ensures) (turned.gone, turned.come))
-    (subst (λ h. IfSome c.args.turned (IsTurned h.place h.trace c.args.looked_at.items c.args.changes.items)) (sym c.course.view_is) c.requires.turned))
+    let fact : c.new.result ≤ length c.in_ok-trace.trace.records = omega (arith, next, long, reached) in (
+      fact,
+      if_some c.args.turned (λ t turned. λ s later.
+          let same : place ≡ s = omega (arith, later, next) in
+          subst₂ (λ (k : ℕ) trace. (t.gone ≡ census_of (states_among k c.args.looked_at.items trace)) × (t.come ≡ census_of (states_among (k + 1) c.args.looked_at.items trace)))
+          same (sym c.in_ok-trace.ensures) (turned.gone, turned.come))
+          (subst (λ h. IfSome c.args.turned (IsTurned h.place h.trace c.args.looked_at.items c.args.changes.items)) (sym c.course.view_is) c.requires.turned),
+    )
 
 pub returns : goal.returns
 returns g c =
