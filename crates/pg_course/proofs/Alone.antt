@@ -33,7 +33,6 @@ use Rattle.pg_routing.specs.Sending.{IsFresh, items_to, sends_of}
 use Rattle.pg_compute.specs.declared.execution.Played.{Played}
 use Rattle.pg_compute.specs.declared.found.Candidate.{Candidate}
 use Rattle.pg_compute.proofs.Changing.{entries, entries-among, entries-rise, told_at}
-use Rattle.pg_inbox.proofs.Replacing.{unchanged_at}
 use Rattle.std.specs.Map.{keys_of}
 use Rattle.std.proofs.lemmas.Option.{none-some}
 use Rattle.pg_compute.proofs.ReadVertices.{IsRead, active_among, all_found, all_own, all_read, gives_record, no_inputs_if_inactive, own_belong, reads_inputs}
@@ -42,7 +41,7 @@ use Rattle.pg_compute.proofs.Callees.{nothing_rises}
 use Rattle.pg_routing.proofs.Sends.{sends_of_changes}
 use Rattle.pg_index.proofs.Somes.{somes_are}
 use Rattle.pg_routing.proofs.Beginning.{own_rise}
-use Rattle.pg_course.proofs.Stepping.{reaching_next, stepped_holds}
+use Rattle.pg_course.proofs.Stepping.{reaching_next, stepped_holds, unchanged_at}
 use Rattle.pg_compute.proofs.Looking.{in_neither, outside}
 use Rattle.pg_compute.proofs.Sames.{at_rest_then}
 use Rattle.pg_model.specs.ByIds.{state_at}

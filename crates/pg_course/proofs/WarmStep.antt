@@ -47,7 +47,6 @@ use Rattle.pg_course.proofs.BesideOld.{IsWarmStep, WasRead, all_are_read, all_mi
 use Rattle.pg_course.proofs.BesideOld.{candidates_rise, is_restless, kept, kept_holds, old_reads_nothing, reads_nothing}
 use Rattle.pg_compute.proofs.Changing.{entries, entries-among, entries-rise, told_at}
 use Rattle.pg_compute.proofs.Looking.{both, failing, in_either, in_neither, passing}
-use Rattle.pg_inbox.proofs.Replacing.{unchanged_at}
 use Rattle.pg_compute.proofs.Coverage.{records_held}
 use Rattle.pg_routing.proofs.Delivery.{sent_rise}
 use Rattle.pg_compute.proofs.Finding.{state_in_run}
@@ -56,7 +55,7 @@ use Rattle.pg_compute.proofs.ReadVertices.{IsRead, gives_record, reads_inputs}
 use Rattle.pg_compute.proofs.Recording.{IsCounted, IsRight, counted_are, no_other_record, records_are, records_rise}
 use Rattle.pg_compute.proofs.Sames.{at_rest_then, reads_same, runs_if_changed}
 use Rattle.pg_routing.proofs.Sends.{by_records, sends_by_records}
-use Rattle.pg_course.proofs.Stepping.{stepped_holds}
+use Rattle.pg_course.proofs.Stepping.{stepped_holds, unchanged_at}
 use Rattle.pg_trace.specs.OfRun.{HoldsRun}
 use Rattle.pg_trace.proofs.RunStates.{state_of_run}
 
