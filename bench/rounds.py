@@ -1,15 +1,18 @@
 #!/usr/bin/env python3
-"""Times each refresh of a session by itself, in processor time of the program, from the command to its answer.
+"""Times each refresh of a session by itself, from the command to its answer, and what it takes of the processor in all.
 
 rounds.py SHAPE VERTICES EDGES ROUNDS [options of pregeld]
 
 The session is that of workload.py with these words. Prints the first refresh, what a refresh after one changed
-edge took on average and where at most 1,000 calls were needed, and the three dearest. PREGELD names a built program in place
-of crates/pregeld_main/out/pregeld_main. Needs Linux's /proc."""
+edge took on average and where at most 1,000 calls were needed, and the three dearest: by the clock until the answer was
+there, and in processor time until the program waited for the next command, since it lets go of what it has no more use
+for after it has answered. PREGELD names a built program in place of crates/pregeld_main/out/pregeld_main. Needs Linux's
+/proc, and for the clock a machine on which nothing else runs."""
 import os
 import statistics
 import subprocess
 import sys
+import time
 
 BENCH = os.path.dirname(os.path.abspath(__file__))
 PREGELD = os.environ.get("PREGELD") or f"{BENCH}/../crates/pregeld_main/out/pregeld_main"
@@ -25,37 +28,63 @@ def commands(lines):
         yield line, [next(rest) for _ in range(length)]
 
 
+class Program:
+    """The program on a session, with the time that it has taken."""
+
+    def __init__(self, words):
+        pipe = subprocess.PIPE
+        self.process = subprocess.Popen(words, stdin=pipe, stdout=pipe, text=True)
+
+    def waits(self):
+        with open(f"/proc/{self.process.pid}/stat") as it:
+            return it.read().rpartition(")")[2].split()[0] == "S"
+
+    def used(self):
+        """Its processor time once it waits for a command."""
+        while not self.waits():
+            time.sleep(0.0002)
+        with open(f"/proc/{self.process.pid}/schedstat") as it:
+            return int(it.read().split()[0]) / 1e9
+
+    def answer(self, lines):
+        """Its answer to a command of these lines, the seconds until that was there, and what it took of the processor."""
+        before, start = self.used(), time.perf_counter()
+        self.process.stdin.write("\n".join([*lines, ""]))
+        self.process.stdin.flush()
+        if lines[0].startswith("reweigh"):
+            return None
+        answer = self.process.stdout.readline()
+        answered = time.perf_counter() - start
+        return answer, answered, self.used() - before
+
+
+def told(seconds):
+    few = f"median {statistics.median(seconds) * 1e3:.1f} ms, most {max(seconds) * 1e3:.1f} ms"
+    return f"{few}, {sum(it > GOAL for it in seconds)} over {GOAL * 1e3:.0f} ms"
+
+
 def main():
     shape, vertices, edges, rounds, *options = sys.argv[1:]
     words = [sys.executable, f"{BENCH}/workload.py", shape, vertices, edges, rounds]
     lines = subprocess.run(words, stdout=subprocess.PIPE, check=True, text=True).stdout.splitlines()
-    words = [PREGELD, *(options or ["--program", "sssp"]), "--limit", "10000"]
-    pipe = subprocess.PIPE
-    with subprocess.Popen(words, stdin=pipe, stdout=pipe, text=True) as program:
-
-        def used():
-            with open(f"/proc/{program.pid}/schedstat") as it:
-                return int(it.read().split()[0]) / 1e9
-
-        took = []
-        for command, block in commands(lines):
-            start = used()
-            program.stdin.write("\n".join([command, *block, ""]))
-            program.stdin.flush()
-            if command.startswith("reweigh"):
-                continue
-            told = program.stdout.readline().split()
-            if command == "refresh":
-                took.append((used() - start, int(told[8])))
-        program.stdin.close()
-    (first, calls), *later = took
-    few = [seconds for seconds, needed in later if needed <= FEW]
-    mean = statistics.mean(seconds for seconds, _ in later)
-    print(f"{shape}: first refresh {first:.2f} s, {calls} calls; after one edge {mean * 1e3:.1f} ms on average")
-    print(f"  {len(few)} of {len(later)} need at most {FEW} calls: median {statistics.median(few) * 1e3:.1f} ms, "
-          f"most {max(few) * 1e3:.1f} ms, {sum(seconds > GOAL for seconds in few)} over {GOAL * 1e3:.0f} ms")
-    for seconds, needed in sorted(later, reverse=True)[:3]:
-        print(f"  {seconds * 1e3:.1f} ms for {needed} calls")
+    program = Program([PREGELD, *(options or ["--program", "sssp"]), "--limit", "10000"])
+    took = []
+    for command, block in commands(lines):
+        answered = program.answer([command, *block])
+        if command == "refresh":
+            answer, clock, used = answered
+            took.append((clock, used, int(answer.split()[8])))
+    program.process.stdin.close()
+    (clock, used, calls), *later = took
+    few = [it for it in later if it[2] <= FEW]
+    clocks, useds, _ = (statistics.mean(it) for it in zip(*later))
+    print(f"{shape}: first refresh {clock:.2f} s ({used:.2f} s of the processor), {calls} calls; "
+          f"after one edge {clocks * 1e3:.1f} ms ({useds * 1e3:.1f} ms) on average")
+    print(f"  {len(few)} of {len(later)} need at most {FEW} calls: {told([it[0] for it in few])};")
+    print(f"  of the processor: {told([it[1] for it in few])}")
+    for what, dearest in ("calls", later), (f"calls, of those with at most {FEW}", few):
+        for clock, used, calls in sorted(dearest, reverse=True)[:3]:
+            print(f"  {clock * 1e3:.1f} ms ({used * 1e3:.1f} ms) for {calls} {what}")
 
 
 main()

@@ -1,11 +1,11 @@
 -- What a step from scratch counts as it goes is what its trace has of the vertices before and after it.
-use Rattle.std.proofs.Common.{◌≡◌, ℕ, zero, suc, ◌+◌, ◌<◌, ◌==◌, Bool, true, false, cond, not, List, [], ◌∷◌, ◌++◌, map, length, set, take}
-use Rattle.std.proofs.Common.{Option, None, Some, is_some, option_map, refl, sym, ap, ap₂, ◌∙◌, subst, arith, flat_map, le_refl}
+use Rattle.std.proofs.Common.{◌≡◌, ℕ, ◌+◌, Bool, true, false, cond, not, List, [], ◌∷◌, ◌++◌, map, length}
+use Rattle.std.proofs.Common.{Option, None, Some, is_some, option_map, refl, sym, ap, ap₂, ◌∙◌, subst, flat_map}
 use Rattle.std.specs.List.{AllByRecursion}
 use Rattle.std.specs.Prelude.{IfSome}
 use Rattle.std.specs.List.Sorted.{IsStrictlySortedBy}
 use Rattle.std.specs.Map.{keys_of}
-use Rattle.std.specs.Option.{option_or, option_to_list, unwrap_or}
+use Rattle.std.specs.Option.{option_to_list, unwrap_or}
 use Rattle.std.specs.Ordering.{nat_cmp}
 use Rattle.std.proofs.lemmas.List.Folds.{flat_map-map}
 use Rattle.std.proofs.lemmas.Option.{same_Some}
@@ -21,7 +21,7 @@ use Rattle.pg_model.specs.declared.configuration.Standing.{Standing}
 use Rattle.pg_model.specs.declared.configuration.VertexState.{VertexState}
 use Rattle.pg_model.specs.declared.record.Record.{Record}
 use Rattle.pg_model.specs.declared.view.View.{View}
-use Rattle.pg_recount.specs.Census.{IsSum, state_after, states_among}
+use Rattle.pg_recount.specs.Census.{IsSum, state_after}
 use Rattle.pg_recount.specs.declared.vertices.Turned.{Turned}
 use Rattle.pg_recount.proofs.Counting.{census-append, same_sum}
 use Rattle.pg_routing.proofs.Listing.{flat_map-push}
@@ -34,7 +34,7 @@ use Rattle.pg_compute.specs.Found.{change_alone, is_running, reads}
 use Rattle.pg_compute.specs.Turning.{AreTurned, IsTurned, given_at, left_alone}
 use Rattle.pg_compute.specs.declared.found.Candidate.{Candidate}
 use Rattle.pg_compute.proofs.Callees.{has_key, nothing_rises}
-use Rattle.pg_compute.proofs.Changing.{IsEntry, entries, entries-rise, entries-some}
+use Rattle.pg_compute.proofs.Changing.{entries-rise, entries-some}
 
 -- the census of what is made of one more
 pub counted_push : {V W : Type 0} (f : W → List (VertexState V)) (before : List W) (w : W) (after : Census)

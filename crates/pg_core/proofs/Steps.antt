@@ -1,17 +1,15 @@
 -- What taking a part, and taking in its step, leave of a run over partitions.
-use Rattle.std.proofs.Common.{◌≡◌, ℕ, zero, suc, ◌+◌, ◌<◌, ◌≤◌, ◌≢◌, Bool, true, false, ◌&&◌, List, [], ◌∷◌, ◌++◌, length, take}
+use Rattle.std.proofs.Common.{◌≡◌, ℕ, zero, suc, ◌+◌, ◌<◌, ◌≢◌, Bool, true, false, ◌&&◌, List, [], ◌∷◌, ◌++◌, length, take}
 use Rattle.std.proofs.Common.{get_or, set, Option, None, Some, is_some, refl, ap, sym, ◌∙◌, subst, subst₂, arith, inl, inr}
-use Rattle.std.specs.Prelude.{◌==◌, nat_lt, nat_le}
-use Rattle.std.specs.List.{list_all, slice_get}
-use Rattle.std.specs.Option.{option_map}
-use Rattle.std.proofs.lemmas.Bool.{and_parts, and_cases, and_left, and_right, cases_eq, cases_lt, cond-false, cond-true}
+use Rattle.std.specs.Prelude.{◌==◌, nat_lt}
+use Rattle.std.specs.List.{slice_get}
+use Rattle.std.proofs.lemmas.Bool.{and_cases, and_left, and_right, cases_eq, cases_lt, cond-false, cond-true}
 use Rattle.std.proofs.lemmas.Bool.{eq-eqb, le-ltb, leb-true, lt-ltb, ltb-false, ltb-true, ne_eqb, true≢false}
 use Rattle.std.proofs.lemmas.List.FromFn.{length-map-range_with_len}
 use Rattle.std.proofs.lemmas.List.{get_or-set_other, get_or-set_same, length-set, take_all}
-use Rattle.std.proofs.lemmas.List.Sums.{AllPass-from_list_all}
 use Rattle.std.proofs.lemmas.Option.{same_Some}
 use Rattle.pg_machine.specs.Limits.{Limits}
-use Rattle.pg_machine.specs.Machine.{Reaches, State, after, first_state, is_allowed, is_from, may_step, place_at}
+use Rattle.pg_machine.specs.Machine.{State, after, first_state, is_allowed, is_from, place_at}
 use Rattle.pg_core.specs.Progress.{HasMadeStep, HasPut, HoldsAt, IsLawful, IsNext, IsPartAt, IsRight, IsStepLent, IsStepOf}
 use Rattle.pg_core.specs.Progress.{LogsHold, Progress, TakesIn, is_past, part_at, with_step, without_part}
 use Rattle.pg_core.specs.Traces.{KeepsCommon, Common, logs_in, visible_in}
@@ -19,8 +17,8 @@ use Rattle.pg_machine.specs.declared.event.Event.{Event}
 use Rattle.pg_machine.specs.declared.event.Event.TheVariants.{Step}
 use Rattle.pg_core.specs.declared.tally.Tally.{Tally}
 use Rattle.pg_core.proofs.Parts.{slice_get-made}
-use Rattle.pg_machine.proofs.LawsMachine.{Reaches-push, length-first, length-places_all, some_within}
-use Rattle.pg_machine.proofs.LawsSteps.{StepsFrom, StepsFrom-from_allowed, length-places_lawful, place_after_other, place_after_own}
+use Rattle.pg_machine.proofs.LawsMachine.{Reaches-push, some_within}
+use Rattle.pg_machine.proofs.LawsSteps.{StepsFrom-from_allowed, length-places_lawful, place_after_other, place_after_own}
 use Rattle.pg_global.specs.Registry.{Registered}
 use Rattle.pg_graph.specs.Rows.{Rows}
 use Rattle.pg_inbox.specs.Bundles.{Parcels}

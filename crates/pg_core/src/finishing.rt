@@ -8,24 +8,27 @@ ghost use Rattle.pg_model.specs.Run.{configuration, values_of};
 
 use crate::running::partitioner_of;
 use crate::traces::{Common, ended_of};
-use crate::{Core, Tally, Traces};
+use crate::{Core, Spent, Tally, Traces};
 use pg_global::{MasterCompute, MessageCombiner};
 use pg_graph::{Graph, Memory, Superstep, VertexId};
 use pg_model::{Ending, Run, Sequence};
-use pg_part::{Left, Part};
+use pg_part::{Left, Part, Spent as SpentByPart};
 use pg_program::{Computation, Plain};
 use pg_values::{Values, values_beside};
 use std::alloc::Global;
 
+/// The answer of a run, what it leaves, and what it has no more use for.
+pub type Finished<V, M> = (Run<V>, Traces<V, M>, Spent<V, M>);
+
 impl<'a, P: Computation, C: MessageCombiner<P::Message>, M: MasterCompute> Core<'a, P, C, M> {
-    /// The answer of a run that has ended, and all that the run leaves for one beside it.
+    /// The answer of a run that has ended, all that the run leaves for one beside it, and what nobody needs any more.
     ///
     /// Costs a copy of the vertices' values, a look-up for each vertex that may have ended otherwise than in the kept run,
     /// and what is cut where that was longer. Beside nothing it costs a sort of the vertices' ids and a look-up for each.
     pub fn finish(
         self,
         alloc: Global,
-    ) -> Result<(Run<P::Value>, Traces<P::Value, P::Message>), Memory>
+    ) -> Result<Finished<P::Value, P::Message>, Memory>
         requires { self.state.ended ≡ true }
         ensures { let job = job_by P.program C.combining M.master self.entry in
             IfOk result (λ done. (kept : Option Rows) → IsRight job kept self.entry
@@ -58,8 +61,9 @@ impl<'a, P: Computation, C: MessageCombiner<P::Message>, M: MasterCompute> Core<
     }
 }
 
-/// The answer of a run of so many supersteps on a graph, and what it leaves: what its parts leave, which stand at its
-/// end, and what all partitions have in common. What was counted, and why the run ended, is in the answer.
+/// The answer of a run of so many supersteps on a graph, what it leaves, and what it has no more use for: it leaves what
+/// its parts do, which stand at its end, and what all partitions have in common. What was counted, and why the run ended,
+/// is in the answer.
 pub(crate) fn finished<V: Plain, M: Plain>(
     alloc: Global,
     graph: &Graph,
@@ -68,12 +72,13 @@ pub(crate) fn finished<V: Plain, M: Plain>(
     tally: Tally,
     ending: Option<Ending>,
     supersteps: Superstep,
-) -> Result<(Run<V>, Traces<V, M>), Memory>
+    kept: Option<Common<V, M>>,
+) -> Result<Finished<V, M>, Memory>
     requires here { (p : ℕ) → p < length parts.items → IsSome (slice_index_or parts.items p None) }
     ensures { IfOk result (λ done. AreGiven graph.now parts.items common tally ending supersteps done.0 done.1) }
 {
     let listed = common.values.listed(alloc)?;
-    let lefts = lefts_of(alloc, parts, supersteps)?;
+    let (lefts, spent) = lefts_of(alloc, parts, supersteps)?;
     let graph = graph.copy(alloc)?;
     let run = answer_of(listed, tally, ending, supersteps);
     let traces = Traces {
@@ -81,7 +86,7 @@ pub(crate) fn finished<V: Plain, M: Plain>(
         graph,
         common,
     };
-    Ok((run, traces))
+    Ok((run, traces, Spent::of(spent, kept)))
 }
 
 /// The answer of a run of so many supersteps, with the values with which its vertices ended, what was counted, and why
@@ -104,20 +109,22 @@ fn answer_of<V>(
     }
 }
 
-/// What all parts leave of a run of so many supersteps, at the end of which they stand.
+/// What all parts leave of a run of so many supersteps, at the end of which they stand, and what they have no more use for.
 fn lefts_of<V: Plain, M: Plain>(
     alloc: Global,
     parts: Vec<Option<Part<V, M>>>,
     supersteps: Superstep,
-) -> Result<Vec<Left<V, M>>, Memory>
+) -> Result<(Vec<Left<V, M>>, Vec<SpentByPart<V, M>>), Memory>
     requires here { (p : ℕ) → p < length parts.items → IsSome (slice_index_or parts.items p None) }
-    ensures each { IfOk result (λ lefts. length lefts.items ≡ length parts.items) }
-    ensures left { IfOk result (λ lefts. HaveLeft supersteps parts.items (length parts.items) lefts.items) }
+    ensures each { IfOk result (λ r. length r.0.items ≡ length parts.items) }
+    ensures left { IfOk result (λ r. HaveLeft supersteps parts.items (length parts.items) r.0.items) }
 {
     let mut lefts = Vec::with_capacity(alloc, parts.len())?;
+    let mut spent = Vec::with_capacity(alloc, parts.len())?;
     for part in parts {
-        let left = part.unwrap().leave(alloc, supersteps)?;
+        let (left, own) = part.unwrap().leave(alloc, supersteps)?;
         lefts.push(left)?;
+        spent.push(own)?;
     }
-    Ok(lefts)
+    Ok((lefts, spent))
 }

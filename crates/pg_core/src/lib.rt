@@ -12,6 +12,7 @@ mod together;
 mod traces;
 
 pub use pg_machine::{Closed, Event, Limits, State};
+pub use finishing::Finished;
 pub use running::Core;
 pub use tally::Tally;
-pub use traces::Traces;
+pub use traces::{Spent, Traces};

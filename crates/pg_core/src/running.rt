@@ -15,13 +15,13 @@ ghost use Rattle.pg_graph.specs.Rows.{Rows};
 ghost use Rattle.pg_model.specs.Run.{configuration, values_of, visible_at};
 
 use crate::beginning::{Start, begun_parts, begun_parts_beside};
-use crate::finishing::finished;
+use crate::finishing::{Finished, finished};
 use crate::traces::Common;
 use crate::{Event, Limits, State, Tally, Traces};
 use pg_global::{MasterCompute, MessageCombiner, Registry, Visible};
 use pg_graph::{Graph, Memory, PartitionId, Superstep, VertexId, WorkerId};
 use pg_inbox::{Logged, Logs};
-use pg_model::{Ending, Run};
+use pg_model::Ending;
 use pg_part::{Part, Partitioner, Sent};
 use pg_program::{Computation, Plain};
 use pg_values::Values;
@@ -369,12 +369,13 @@ impl<'a, P: Computation, C: MessageCombiner<P::Message>, M: MasterCompute> Core<
         self.run
     }
 
-    /// The answer of a run that has ended, and all that it leaves, where these are the values with which the vertices ended.
+    /// The answer of a run that has ended, all that it leaves, and what it has no more use for, where these are the values
+    /// with which the vertices ended.
     pub(crate) fn finish_with(
         self,
         alloc: Global,
         values: Values<P::Value>,
-    ) -> Result<(Run<P::Value>, Traces<P::Value, P::Message>), Memory>
+    ) -> Result<Finished<P::Value, P::Message>, Memory>
         requires { self.state.ended ≡ true }
         ensures { let job = job_by P.program C.combining M.master self.entry in
             IfOk result (λ done. (kept : Option Rows) → IsRight job kept self.entry
@@ -398,14 +399,16 @@ impl<'a, P: Computation, C: MessageCombiner<P::Message>, M: MasterCompute> Core<
             tally,
             registry: _,
             ending,
-            kept: _,
+            kept,
         } = self;
         let common = Common {
             logs,
             shown,
             values,
         };
-        finished(alloc, graph, parts, common, tally, ending, supersteps)
+        finished(
+            alloc, graph, parts, common, tally, ending, supersteps, kept,
+        )
     }
 }
 

@@ -6,7 +6,7 @@ ghost use Rattle.pg_core.specs.Traces.{ended_by, logs_in, visible_in};
 use pg_global::Visible;
 use pg_graph::{Graph, Superstep};
 use pg_inbox::Logs;
-use pg_part::Left;
+use pg_part::{Left, Spent as SpentByPart};
 use pg_program::Plain;
 use pg_values::{Ended, Values};
 use std::marker::Model;
@@ -112,5 +112,36 @@ impl<V, M: Plain> Traces<V, M> {
             common,
         } = self;
         (lefts, graph, common)
+    }
+}
+
+/// What a run has no more use for once it has ended: of the run beside which it was made, what each partition recorded,
+/// what the partitions sent, and the values with which it ended, as far as the two differ. It is good for nothing but to
+/// be let go of when nobody waits, which costs as much as it was to make what differs. A contract sees nothing of it.
+pub struct Spent<V, M: Plain> {
+    parts: Vec<SpentByPart<V, M>>,
+    kept: Option<Common<V, M>>,
+}
+
+// By hand, so that it is let go by one call wherever that is, and not field by field.
+impl<V: Drop, M: Plain> Drop for Spent<V, M> {
+    fn drop(self) {
+        let Spent { parts: _, kept: _ } = self;
+    }
+}
+
+impl<V, M: Plain> Model for Spent<V, M> {
+    ghost Value = { Unit {0} };
+
+    ghost view = { λ _. tt };
+}
+
+impl<V, M: Plain> Spent<V, M> {
+    /// What the partitions have no more use for, and what the run keeps of the one beside which it was made.
+    pub(crate) fn of(
+        parts: Vec<SpentByPart<V, M>>,
+        kept: Option<Common<V, M>>,
+    ) -> Spent<V, M> {
+        Spent { parts, kept }
     }
 }

@@ -167,12 +167,13 @@ impl<V: Plain, M: Plain> Course<V, M> {
         &self.trace
     }
 
-    /// The same to keep.
-    pub fn into_trace(self) -> Trace<V, M>
-        ensures { result ≡ self.trace }
+    /// The same to keep, and the trace of the old run, where the partition is warm.
+    pub fn into_traces(self) -> (Trace<V, M>, Option<Trace<V, M>>)
+        ensures own { result.0 ≡ self.trace }
+        ensures kept { result.1 ≡ self.kept }
     {
-        let Course { trace, .. } = self;
-        trace
+        let Course { trace, kept, .. } = self;
+        (trace, kept)
     }
 
     /// A partition as a run begins with these states of its vertices, which are to be those of the rows.

@@ -1,5 +1,5 @@
 -- Masters, and the job that a program, a combiner and a master make.
-use Rattle.std.specs.Prelude.{ℕ, ℤ, Bool, false, List, map, length, ◌==◌, ◌/◌, ◌^◌, ◌&&◌, Option}
+use Rattle.std.specs.Prelude.{ℕ, ℤ, Bool, List, map, length, ◌==◌, ◌/◌, ◌^◌, ◌&&◌, Option}
 use Rattle.pg_graph.specs.declared.missing.Missing.{Missing}
 use Rattle.pg_model.specs.Job.{Program, Combining, Decision, Deciding, Job}
 use Rattle.pg_model.specs.Programs.{decides_nothing}

@@ -1,5 +1,5 @@
 -- A history stays sound.
-use Rattle.std.proofs.Common.{◌≡◌, ℕ, ◌<◌, length, get_or, Some, ap, sym, ◌∙◌, subst}
+use Rattle.std.proofs.Common.{ℕ, ◌<◌, length, get_or, Some, ap, sym, ◌∙◌, subst}
 use Rattle.pg_model.specs.declared.record.Record.{Record}
 use Rattle.pg_index.specs.History.{IsPushed, IsSound}
 use Rattle.pg_index.specs.Ran.{IsLastButOne, last_of}

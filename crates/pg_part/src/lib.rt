@@ -6,6 +6,6 @@ mod part;
 mod reckoning;
 
 pub use graphs::moved;
-pub use part::{Left, Part};
+pub use part::{Left, Part, Spent};
 pub use pg_course::{Lost, Partitioner, Rows, Sent};
 pub use pg_graph::Memory;

@@ -77,6 +77,25 @@ impl<V, M> Model for Left<V, M> {
     ghost invariant = { λ l. 0 < length l.stats.items };
 }
 
+/// What a partition has no more use for once it has left a run: the trace of the old run, where it was warm, as far as its
+/// own is another. It is good for nothing but to be let go of when nobody waits. A contract sees nothing of it.
+pub struct Spent<V, M> {
+    kept: Option<Trace<V, M>>,
+}
+
+// By hand, so that it is let go by one call wherever that is, and not field by field.
+impl<V: Drop, M: Drop> Drop for Spent<V, M> {
+    fn drop(self) {
+        let Spent { kept: _ } = self;
+    }
+}
+
+impl<V, M> Model for Spent<V, M> {
+    ghost Value = { Unit {0} };
+
+    ghost view = { λ _. tt };
+}
+
 impl<V: Plain, M: Plain> Part<V, M> {
     /// The number of the partition.
     pub fn partition(&self) -> PartitionId
@@ -239,20 +258,24 @@ impl<V: Plain, M: Plain> Part<V, M> {
         Ok((Part { course, reckoning }, sent))
     }
 
-    /// What it leaves of a run of so many supersteps, at the end of which it stands. Costs what is cut where the old run
-    /// was longer, and O(1) a vertex that ran where there was none; beside an old run it copies the chunks of the trace's
-    /// index with the vertices whose records are others.
-    pub fn leave(self, alloc: Global, supersteps: Superstep) -> Result<Left<V, M>, Memory>
-        ensures { IfOk result (λ left. (job : Job V M) (kept : Option GraphRows) (rows : GraphRows) (n p : ℕ)
+    /// What it leaves of a run of so many supersteps, at the end of which it stands, and what it has no more use for. Costs
+    /// what is cut where the old run was longer, and O(1) a vertex that ran where there was none; beside an old run it
+    /// copies the chunks of the trace's index with the vertices whose records are others.
+    pub fn leave(
+        self,
+        alloc: Global,
+        supersteps: Superstep,
+    ) -> Result<(Left<V, M>, Spent<V, M>), Memory>
+        ensures { IfOk result (λ r. (job : Job V M) (kept : Option GraphRows) (rows : GraphRows) (n p : ℕ)
             → supersteps ≡ run_length job rows → HoldsShare job kept rows n p supersteps self
-            → IsLeft job rows n p left) }
+            → IsLeft job rows n p r.0) }
     {
         let Part { course, reckoning } = self;
         let stats = reckoning.into_stats();
-        let mut trace = course.into_trace();
+        let (mut trace, kept) = course.into_traces();
         trace.cut(alloc, supersteps)?;
         let trace = trace.settled(alloc)?;
-        Ok(Left { trace, stats })
+        Ok((Left { trace, stats }, Spent { kept }))
     }
 }
 

@@ -217,7 +217,7 @@ fn left_of<V: Plain, M: Plain>(
 ) -> Result<Ran<V, M>, Memory> {
     Ok(Ran {
         logs: logs_of(alloc, sent)?,
-        left: part.leave(alloc, Superstep::new(1))?,
+        left: part.leave(alloc, Superstep::new(1))?.0,
         nanos,
         calls,
     })

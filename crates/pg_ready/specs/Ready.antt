@@ -1,5 +1,5 @@
 -- The ready programs with their masters.
-use Rattle.std.specs.Prelude.{ℕ, ℤ, true, false, [], ◌∷◌, codes}
+use Rattle.std.specs.Prelude.{ℤ, true, false, [], ◌∷◌, codes}
 use Rattle.pg_model.specs.Job.{Program}
 use Rattle.pg_model.specs.Programs.{sssp, cc, max_value, indegree, pagerank, pagerank_deciding, peel}
 use Rattle.pg_global.specs.Master.{Master, leaves_all}

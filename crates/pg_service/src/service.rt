@@ -21,7 +21,7 @@ use crate::kept::{KeptRun, note};
 use crate::registering::{names, test};
 use crate::report_json::value_of_report;
 use crate::{Answers, Check, RefreshFault, Report, same};
-use pg_core::{Core, Limits, Traces};
+use pg_core::{Core, Limits, Spent, Traces};
 use pg_global::{MasterCompute, MessageCombiner};
 use pg_graph::{Batch, EditFault, EditKind, Edition, Graph, Memory};
 use pg_model::Run;
@@ -33,8 +33,11 @@ use std::marker::Model;
 /// The number that names a run: all have the same, since none is saved.
 const RUN: u64 = 0;
 
-/// A service: a program with its combiner and its master, a graph with its edition, what was published last, and what
-/// the last run left, beside which the next one runs.
+/// The answer of a run, what it leaves, how often it called compute, and what it has no more use for.
+type RunBeside<V, M> = (Run<V>, Traces<V, M>, u64, Spent<V, M>);
+
+/// A service: a program with its combiner and its master, a graph with its edition, what was published last, what the
+/// last run left, beside which the next one runs, and what it had no more use for.
 pub struct Service<P: Computation, C: MessageCombiner<P::Message>, M: MasterCompute> {
     program: P,
     combiner: C,
@@ -44,6 +47,7 @@ pub struct Service<P: Computation, C: MessageCombiner<P::Message>, M: MasterComp
     edition: Edition,
     published: Option<Answers<P::Value>>,
     kept: Option<KeptRun<P::Value, P::Message>>,
+    spent: Option<Spent<P::Value, P::Message>>,
 }
 
 // By hand, so that a service is let go by one call wherever that is, and not field by field.
@@ -59,6 +63,7 @@ impl<P: Computation + Drop, C: MessageCombiner<P::Message> + Drop, M: MasterComp
             edition: _,
             published: _,
             kept: _,
+            spent: _,
         } = self;
     }
 }
@@ -121,6 +126,7 @@ impl<P: Computation, C: MessageCombiner<P::Message>, M: MasterCompute> Service<P
             edition: Edition::new(0),
             published: None,
             kept: None,
+            spent: None,
         })
     }
 
@@ -194,7 +200,8 @@ impl<P: Computation, C: MessageCombiner<P::Message>, M: MasterCompute> Service<P
     /// ids and a look-up of each for each partition; a count for each superstep and pair of partitions; a walk over the
     /// records of each superstep in which something else is contributed, and over what is active past the kept run's
     /// end; and for the answer two copies of the vertices' values, with a look-up for each vertex that may have ended
-    /// otherwise.
+    /// otherwise. What the kept run sent otherwise is still there afterwards: `release` lets go of it, or the next refresh
+    /// as it begins.
     pub fn refresh(&mut self, alloc: Global) -> Result<Report, RefreshFault>
         ensures report { let job = job_meant P.program C.combining M.master self.old.job in
             IfOk result (MayReport job P.Value.PartialEq.eq P.Message.PartialEq.eq
@@ -210,14 +217,28 @@ impl<P: Computation, C: MessageCombiner<P::Message>, M: MasterCompute> Service<P
         ensures leads { let job = job_meant P.program C.combining M.master self.old.job in
             RefreshLeadsOn self.old.job job result self.old self.new }
     {
+        drop(self.spent.take());
         let kept = self.kept.take();
         let registry = names(alloc, &self.master)?;
-        let (run, traces, calls) = self.run_beside(alloc, kept)?;
+        let (run, traces, calls, spent) = self.run_beside(alloc, kept)?;
         let edition = self.edition;
         let report = Report::unlost(alloc, edition, self.limits.partitions(), &run, calls)?;
         self.published = Some(Answers::new(edition, run, registry));
         self.kept = Some(KeptRun::new(alloc, traces));
+        self.spent = Some(spent);
         Ok(report)
+    }
+
+    /// Lets go of what the last refresh had no more use for. Whoever waits for a refresh has its answer before that.
+    ///
+    /// # Cost
+    ///
+    /// A count for each piece of memory that was made anew for what partitions send to each other, at most what that
+    /// took in the refresh; none where there was no refresh since the last call.
+    pub fn release(&mut self)
+        ensures { self.new ≡ self.old }
+    {
+        self.spent = None;
     }
 
     /// Runs the program from scratch on the graph as it stands, and compares what was published with the answer. Where
@@ -260,13 +281,13 @@ impl<P: Computation, C: MessageCombiner<P::Message>, M: MasterCompute> Service<P
         value.to_string(alloc)
     }
 
-    /// The run on the graph as it stands, beside one that was kept, with what it leaves and the number of calls of
-    /// compute.
+    /// The run on the graph as it stands, beside one that was kept, with what it leaves, the number of calls of compute,
+    /// and what it has no more use for.
     fn run_beside(
         &self,
         alloc: Global,
         kept: Option<KeptRun<P::Value, P::Message>>,
-    ) -> Result<(Run<P::Value>, Traces<P::Value, P::Message>, u64), Memory>
+    ) -> Result<RunBeside<P::Value, P::Message>, Memory>
         requires { IfSome kept (IsKept (job_meant P.program C.combining M.master self.now.job)
             self.now.job.limits.partitions self.now.graph) }
         ensures answer { IfOk result
@@ -283,8 +304,8 @@ impl<P: Computation, C: MessageCombiner<P::Message>, M: MasterCompute> Service<P
         let mut core = self.opened(alloc, kept)?;
         let mut meter = Meter::new();
         core.run_out(alloc, &mut meter)?;
-        let (run, traces) = core.finish(alloc)?;
-        Ok((run, traces, meter.count()))
+        let (run, traces, spent) = core.finish(alloc)?;
+        Ok((run, traces, meter.count(), spent))
     }
 
     /// The run, opened beside one that was kept.

@@ -211,7 +211,7 @@ fn begun_beside<P: Computation>(
     let mut courses = Vec::new(alloc);
     for course in old {
         let rows = partitioner.rows(graph, course.partition());
-        let trace = course.into_trace();
+        let (trace, _) = course.into_traces();
         courses.push(Course::begin_beside(alloc, rows, Missing::Drop, trace, touched, program)?)?;
     }
     Ok(courses)

@@ -92,7 +92,7 @@ fn run_in<P: Computation, C: MessageCombiner<P::Message>, M: MasterCompute>(
     if gone_on.is_err() || !core.state().ended() {
         return Err(AllocError);
     }
-    let (run, _) = core.finish(alloc)?;
+    let (run, _, _) = core.finish(alloc)?;
     Ok((run, meter.count()))
 }
 

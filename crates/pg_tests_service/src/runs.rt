@@ -118,7 +118,7 @@ fn whole(alloc: Global, graph: &Graph, partitions: u32) -> Result<(Vec<(u64, i64
     let mut core = opened(alloc, graph, partitions)?;
     let mut meter = Meter::new();
     core.run_out(alloc, &mut meter)?;
-    let (run, _) = core.finish(alloc)?;
+    let (run, _, _) = core.finish(alloc)?;
     let mut values = Vec::new(alloc);
     for (id, value) in run.values.as_slice() {
         values.push((id.number(), value.0))?;
@@ -153,7 +153,7 @@ fn again<'a, P: Computation, C: MessageCombiner<P::Message>, M: MasterCompute>(
     let mut first = Core::open(alloc, graph, program, combiner, master, limits, 7)?;
     let mut before = Meter::new();
     first.run_out(alloc, &mut before)?;
-    let (_, left) = first.finish(alloc)?;
+    let (_, left, _) = first.finish(alloc)?;
     let mut second = Core::open_beside(
         alloc,
         graph,
@@ -167,7 +167,7 @@ fn again<'a, P: Computation, C: MessageCombiner<P::Message>, M: MasterCompute>(
     )?;
     let mut meter = Meter::new();
     second.run_out(alloc, &mut meter)?;
-    let (run, _) = second.finish(alloc)?;
+    let (run, _, _) = second.finish(alloc)?;
     Ok((run, meter.count()))
 }
 

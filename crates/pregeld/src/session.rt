@@ -126,7 +126,10 @@ fn answer_line<R: BufRead, W: Write>(
         Ok(Command::Act(action)) => {
             let (reply, reached) = carry_out(alloc, number, action, reader, service, notes)?;
             match say(writer, reply) {
-                Ok(()) => Ok(reached),
+                Ok(()) => {
+                    service.release();
+                    Ok(reached)
+                }
                 Err(fault) => Err(fault),
             }
         }

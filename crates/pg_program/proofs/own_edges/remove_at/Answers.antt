@@ -1,4 +1,3 @@
-use Rattle.std.proofs.Common.{◌∙◌}
 use Rattle.pg_edits.proofs.AtPlace.{rises_removed}
 use Rattle.pg_program.proofs.own_edges.remove_at.Goals as goal
 

@@ -1,4 +1,4 @@
-use Rattle.std.proofs.Common.{◌≡◌, ◌++◌, ◌<◌, length, Some, IfSome, ap, sym, subst, ◌∙◌, rules}
+use Rattle.std.proofs.Common.{◌++◌, ◌<◌, length, IfSome, ap, sym, subst, ◌∙◌, rules}
 use Rattle.std.proofs.lemmas.Result.{on_ok_weaker}
 use Rattle.pg_graph.specs.Edit.{batch_limit}
 use Rattle.pg_graph.proofs.Batches.{Err_not_Ok, too_long}

@@ -1,5 +1,6 @@
-use Rattle.std.proofs.Common.{◌≡◌, Ok, Err, ap, sym, ◌∙◌}
+use Rattle.std.proofs.Common.{◌≡◌, Ok, Err, ap, sym, subst, ◌∙◌}
 use Rattle.pg_command.specs.Command.{command_of}
+use Rattle.pregeld.specs.Keeping.{AnswersLine}
 use Rattle.pregeld.specs.Notes.{Held}
 use Rattle.pregeld.specs.Reading.{lines_left}
 use Rattle.pregeld.specs.Session.{Place}
@@ -54,9 +55,13 @@ returns-in-Ok-say-clause-ok g c state keeps lines there =
     let command = Ok (Act c.in-Ok-Act.action) in
     let asks : command_of c.args.line.now ≡ command = sym c.command_of.ensures ∙ (c.in-Ok-Act.is ∙ ap Ok c.in-Ok-Act.field-0-is) in
     let pair = c.in_ok-reply-in-Ok-Act in
-    line_answered c.args.line.now command here c.args.service.now (record { service = c.carry_out.new.service; notes = c.carry_out.new.notes })
-    pair.reply pair.reached (lines_left (g.R.Read.remaining c.carry_out.new.reader))
-    (g.W.Write.contents c.args.writer.now) (g.W.Write.contents c.say.new.writer) asks (pair.ensures.ok state keeps lines there) c.in-Ok-say.ensures.ok
+    let left = lines_left (g.R.Read.remaining c.carry_out.new.reader) in
+    let written = g.W.Write.contents c.args.writer.now in
+    let told = g.W.Write.contents c.say.new.writer in
+    subst (λ service. AnswersLine c.args.line.now here c.args.service.now (record { service = service; notes = c.carry_out.new.notes }) pair.reached left written told)
+    (sym c.release.ensures)
+    (line_answered c.args.line.now command here c.args.service.now (record { service = c.carry_out.new.service; notes = c.carry_out.new.notes })
+    pair.reply pair.reached left written told asks (pair.ensures.ok state keeps lines there) c.in-Ok-say.ensures.ok)
 
 pub returns-in-Err-say-clause-err : goal.returns-in-Err-say-clause-err
 returns-in-Err-say-clause-err g c state keeps lines there =

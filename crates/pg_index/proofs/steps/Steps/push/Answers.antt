@@ -1,6 +1,6 @@
-use Rattle.std.proofs.Common.{◌≡◌, ℕ, ◌<◌, length, get_or, IfNone, IfSome, sym, ap, ◌∙◌, subst}
+use Rattle.std.proofs.Common.{◌≡◌, ℕ, ◌<◌, length, get_or, IfNone, IfSome, sym, ◌∙◌, subst}
 use Rattle.std.specs.Arc.{arc_value}
-use Rattle.pg_index.specs.History.{IsPushed, IsSound}
+use Rattle.pg_index.specs.History.{IsPushed}
 use Rattle.pg_index.proofs.Histories.{sound-pushed}
 use Rattle.pg_index.proofs.steps.Steps.push.Goals as goal
 

@@ -1,4 +1,4 @@
-use Rattle.std.proofs.Common.{◌≡◌, true, false, sym, ◌∙◌}
+use Rattle.std.proofs.Common.{◌≡◌, true, false, ◌∙◌}
 use Rattle.pg_program.proofs.Cleared.{rises-cleared}
 use Rattle.pg_program.proofs.own_edges.OwnEdges.take.Goals as goal
 

@@ -1,8 +1,5 @@
-use Rattle.std.proofs.Common.{◌≡◌, ap, subst, sym, ◌∙◌, option_map}
-use Rattle.pg_core.specs.Closing.{IsFinished}
+use Rattle.std.proofs.Common.{ap, subst, sym, ◌∙◌, option_map}
 use Rattle.pg_graph.specs.Rows.{HasRisingIds}
-use Rattle.pg_model.specs.Run.{answer}
-use Rattle.pg_model.specs.declared.run.Run.{Run}
 use Rattle.pg_service.specs.Answers.{HaveRisingIds}
 use Rattle.pg_service.specs.Job.{job_meant}
 use Rattle.pg_service.proofs.AnswersRise.{answer_rises}
