@@ -11,6 +11,7 @@ use Rattle.pg_inbox.specs.Bundles.{Parcels, bundle_of}
 use Rattle.pg_inbox.specs.Logged.{Slots}
 use Rattle.pg_inbox.specs.declared.logs.Logged.{Logged}
 use Rattle.pg_map.specs.Entries.{ChangesRise, value_at, with_changes}
+use Rattle.pg_map.proofs.Changing.{unchanged_at}
 use Rattle.pg_model.specs.Job.{Combining, Inputs, Job, Program}
 use Rattle.pg_model.specs.Needed.{inputs_at, is_changed, is_needed, kept_inputs_at, needed_in}
 use Rattle.pg_model.specs.Run.{present_at, run_length, view_at}
@@ -41,7 +42,7 @@ use Rattle.pg_compute.proofs.Callees.{nothing_rises}
 use Rattle.pg_routing.proofs.Sends.{sends_of_changes}
 use Rattle.pg_index.proofs.Somes.{somes_are}
 use Rattle.pg_routing.proofs.Beginning.{own_rise}
-use Rattle.pg_course.proofs.Stepping.{reaching_next, stepped_holds, unchanged_at}
+use Rattle.pg_course.proofs.Stepping.{reaching_next, stepped_holds}
 use Rattle.pg_compute.proofs.Looking.{in_neither, outside}
 use Rattle.pg_compute.proofs.Sames.{at_rest_then}
 use Rattle.pg_model.specs.ByIds.{state_at}

@@ -1,27 +1,15 @@
 -- A trace that holds a run up to a superstep holds it one further with that superstep's records.
 use Rattle.std.proofs.Common.{◌≡◌, ℕ, ◌+◌, ◌<◌, ◌≤◌, ◌==◌, Bool, true, false, cond, List, [], ◌∷◌, ◌++◌}
 use Rattle.std.proofs.Common.{length, slice_set, Option, refl, sym, ap, ap₂, ◌∙◌, arith, le_refl, suc}
-use Rattle.std.specs.Map.{keys_of}
-use Rattle.std.proofs.lemmas.Bool.{eq-eqb, or_parts}
+use Rattle.std.proofs.lemmas.Bool.{eq-eqb}
 use Rattle.std.proofs.lemmas.List.{get_or-set_same, get_or_push, length-append, length-set, take-append-le, take-set-le, take_more}
 use Rattle.pg_graph.specs.Rows.{Rows}
-use Rattle.pg_inbox.proofs.Grouping.{other_id}
-use Rattle.pg_map.specs.Entries.{value_at, with_change, with_changes}
-use Rattle.pg_map.proofs.Changing.{change_other}
+use Rattle.pg_map.specs.Entries.{with_changes}
 use Rattle.pg_model.specs.Job.{Job}
 use Rattle.pg_model.specs.Share.{records_below, records_in}
-use Rattle.pg_model.specs.Superstep.{has_id}
 use Rattle.pg_model.specs.declared.record.Record.{Record}
 use Rattle.pg_trace.specs.Trace.{reaching, Trace, records_of, with_replaced, with_superstep}
 use Rattle.pg_trace.specs.OfRun.{HoldsRun}
-
--- an id that no change names has what it had
-pub unchanged_at : {X : Type 0} (changes : List (ℕ × Option X)) (entries : List (ℕ × X)) (q : ℕ) → has_id (keys_of changes) q ≡ false
-    → value_at q (with_changes changes entries) ≡ value_at q entries
-unchanged_at [] entries q h = refl
-unchanged_at (c ∷ changes) entries q h =
-    let parts = or_parts (c.0 == q) (has_id (keys_of changes) q) h in
-    unchanged_at changes (with_change c.0 c.1 entries) q parts.1 ∙ change_other c.0 c.1 entries q (other_id c.0 q parts.0)
 
 module _ {V M : Type 0} (s : ℕ) where
   nothing : List (List (ℕ × Record V M))

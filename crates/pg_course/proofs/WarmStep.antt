@@ -14,7 +14,7 @@ use Rattle.pg_inbox.specs.Patched.{TellsChanges, staying}
 use Rattle.pg_inbox.specs.Sends.{AreAllOf, Sends, sent_by}
 use Rattle.pg_inbox.specs.declared.logs.Logged.{Logged}
 use Rattle.pg_map.specs.Entries.{ChangesRise, value_at, with_changes}
-use Rattle.pg_map.proofs.Changing.{value_at-with_changes}
+use Rattle.pg_map.proofs.Changing.{unchanged_at, value_at-with_changes}
 use Rattle.pg_model.specs.Affected.{IsUnaffected}
 use Rattle.pg_model.specs.ByIds.{state_at}
 use Rattle.pg_model.specs.Job.{Combining, Job, Program}
@@ -55,7 +55,7 @@ use Rattle.pg_compute.proofs.ReadVertices.{IsRead, gives_record, reads_inputs}
 use Rattle.pg_compute.proofs.Recording.{IsCounted, IsRight, counted_are, no_other_record, records_are, records_rise}
 use Rattle.pg_compute.proofs.Sames.{at_rest_then, reads_same, runs_if_changed}
 use Rattle.pg_routing.proofs.Sends.{by_records, sends_by_records}
-use Rattle.pg_course.proofs.Stepping.{stepped_holds, unchanged_at}
+use Rattle.pg_course.proofs.Stepping.{stepped_holds}
 use Rattle.pg_trace.specs.OfRun.{HoldsRun}
 use Rattle.pg_trace.proofs.RunStates.{state_of_run}
 

@@ -19,7 +19,7 @@ use Rattle.pg_inbox.proofs.Senders.{IsUp, up_from}
 pub same_id : (a b : ℕ) → (a == b) ≡ true → a ≡ b
 same_id a b h = grind (arith, nat_tests)
 
-pub other_id : (a b : ℕ) → (a == b) ≡ false → b ≡ a → ⊥
+other_id : (a b : ℕ) → (a == b) ≡ false → b ≡ a → ⊥
 other_id a b h e = grind (arith, nat_tests)
 
 itself : (a : ℕ) → (a == a) ≡ true

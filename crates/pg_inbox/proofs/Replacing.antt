@@ -9,10 +9,9 @@ use Rattle.std.specs.Map.{keys_of}
 use Rattle.std.specs.Option.{option_map, unwrap_or}
 use Rattle.std.specs.Ordering.{nat_cmp}
 use Rattle.std.proofs.lemmas.List.{append-nil, map-append}
-use Rattle.std.proofs.lemmas.Bool.{or_parts}
 use Rattle.std.proofs.Math.Bool.{and-true, and-false}
-use Rattle.pg_map.specs.Entries.{ChangesRise, HasRisingIds, value_at, with_change, with_changes}
-use Rattle.pg_map.proofs.Changing.{change_other, rises-changes, value_at-with_changes}
+use Rattle.pg_map.specs.Entries.{ChangesRise, HasRisingIds, value_at, with_changes}
+use Rattle.pg_map.proofs.Changing.{rises-changes, unchanged_at, value_at-with_changes}
 use Rattle.pg_model.proofs.LawsLists.{all_pass}
 use Rattle.pg_model.specs.Job.{Combining}
 use Rattle.pg_model.specs.Superstep.{has_id}
@@ -28,7 +27,7 @@ use Rattle.pg_inbox.specs.declared.parcel.Contents.{Contents}
 use Rattle.pg_inbox.specs.declared.patching.Mend.{Mend}
 use Rattle.pg_inbox.proofs.Bundling.{all_from_lookups, at_id, is_bundle_of, rises-bundle_of, value_at-bundle_of}
 use Rattle.pg_inbox.proofs.Differing.{AreTold, changed_all, rises-more, told-more}
-use Rattle.pg_inbox.proofs.Grouping.{other_id, same_id, stays}
+use Rattle.pg_inbox.proofs.Grouping.{same_id, stays}
 use Rattle.pg_inbox.proofs.Delivery.{letters_at-bundle_of, same_letters, up_letters}
 use Rattle.pg_inbox.proofs.Senders.{IsUp, from, in_order-from, in_order-up, same_by_number, up_from, up_in_order}
 
@@ -213,13 +212,6 @@ module _ {M : Type 0} (combining : Option (Combining M)) (withdrawn : List (ℕ 
 -- ---- where they differ
 
 module _ {X : Type 0} where
-  unchanged_at : (changes : List (ℕ × Option X)) (entries : List (ℕ × X)) (q : ℕ) → has_id (keys_of changes) q ≡ false
-      → value_at q (with_changes changes entries) ≡ value_at q entries
-  unchanged_at [] entries q h = refl
-  unchanged_at (c ∷ changes) entries q h =
-      let parts = or_parts (c.0 == q) (has_id (keys_of changes) q) h in
-      unchanged_at changes (with_change c.0 c.1 entries) q parts.1 ∙ change_other c.0 c.1 entries q (other_id c.0 q parts.0)
-
   all-parts : (P : X → Type 0) (xs : List X) (y : X) → AllByRecursion P (xs ++ y ∷ []) → AllByRecursion P xs × P y
   all-parts P [] y h = (tt, h.0)
   all-parts P (x ∷ xs) y h = let later = all-parts P xs y h.1 in ((h.0, later.0), later.1)

@@ -1,29 +1,29 @@
--- How many parts begin at an id or below it, told by two of them.
+-- How many parts begin at an id or below it, or how many entries are below one, told by two of them.
 use Rattle.std.proofs.Common.{◌≡◌, ℕ, ◌+◌, ◌<◌, ◌≤◌, List, length, get_or, Bool, true, false, not, IsTrue, leb, refl, sym, ap, ◌∙◌, arith}
 use Rattle.std.specs.List.Sorted.{IsNonDecreasingBy, IsPartitionPoint}
 use Rattle.std.proofs.lemmas.Bool.Decides.{nat_tests}
 use Rattle.std.proofs.lemmas.List.{get_or_default}
-use Rattle.pg_map.specs.declared.part.Part.{Part}
 
 pub no_by : (b : Bool) → IsTrue (not b) → b ≡ false
 no_by true h = sym h
 no_by false h = refl
 
-module _ {T : Type 0} (cs : List (Part T)) (rise : IsNonDecreasingBy (λ p. p.first) cs) (id n m : ℕ) (last : m + 1 ≡ n)
-    (within : n < length cs) (c d : Part T) (c_is : c ≡ get_or cs m c) (d_is : d ≡ get_or cs n d) where
-  below : c.first ≤ id → (k : ℕ) (x : Part T) → k < n → leb (get_or cs k x).first id ≡ true
+module _ {X : Type 0} (number : X → ℕ) (xs : List X) (rise : IsNonDecreasingBy number xs) (id n m : ℕ) (last : m + 1 ≡ n)
+    (within : n < length xs) (c d : X) (c_is : c ≡ get_or xs m c) (d_is : d ≡ get_or xs n d) where
+  below : number c ≤ id → (k : ℕ) (x : X) → k < n → leb (number (get_or xs k x)) id ≡ true
   below low k x h =
       let bound = rise k m x (omega arith) (omega arith) in
-      let same : (get_or cs m x).first ≡ c.first = ap (λ y. y.first) (get_or_default cs m x c (omega arith) ∙ sym c_is) in
-      let fits : (get_or cs k x).first ≤ id = omega arith in
+      let same : number (get_or xs m x) ≡ number c = ap number (get_or_default xs m x c (omega arith) ∙ sym c_is) in
+      let fits : number (get_or xs k x) ≤ id = omega arith in
       grind (arith, nat_tests)
 
-  above : id < d.first → (k : ℕ) (x : Part T) → n ≤ k → k < length cs → leb (get_or cs k x).first id ≡ false
+  above : id < number d → (k : ℕ) (x : X) → n ≤ k → k < length xs → leb (number (get_or xs k x)) id ≡ false
   above high k x h g =
       let bound = rise n k x h g in
-      let same : (get_or cs n x).first ≡ d.first = ap (λ y. y.first) (get_or_default cs n x d within ∙ sym d_is) in
-      let past : id < (get_or cs k x).first = omega arith in
+      let same : number (get_or xs n x) ≡ number d = ap number (get_or_default xs n x d within ∙ sym d_is) in
+      let past : id < number (get_or xs k x) = omega arith in
       grind (arith, nat_tests)
 
-  pub begun_by_two : leb c.first id ≡ true → leb d.first id ≡ false → IsPartitionPoint (λ y. leb y.first id ≡ true) (λ y. leb y.first id ≡ false) cs n
+  pub begun_by_two : leb (number c) id ≡ true → leb (number d) id ≡ false
+      → IsPartitionPoint (λ y. leb (number y) id ≡ true) (λ y. leb (number y) id ≡ false) xs n
   begun_by_two low high = (λ k x z h. below (grind (arith, nat_tests)) k x h, λ k x h g. above (grind (arith, nat_tests)) k x h g)

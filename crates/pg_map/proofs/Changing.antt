@@ -1,9 +1,10 @@
 -- What changes make of entries, by look-ups.
-use Rattle.std.proofs.Common.{◌≡◌, ℕ, true, List, [], ◌∷◌, Option, None, Some, refl, sym, ap, ◌∙◌, ⊎_elim, unwrap_or}
+use Rattle.std.proofs.Common.{◌≡◌, ◌==◌, ℕ, true, false, List, [], ◌∷◌, Option, None, Some, refl, sym, ap, ◌∙◌, ⊎_elim, unwrap_or}
 use Rattle.std.specs.Ordering.{nat_cmp}
 use Rattle.std.specs.BTreeMap.{insert_entry, is_at}
+use Rattle.std.specs.List.{list_any}
 use Rattle.std.specs.Map.{keys_of, remove_entry}
-use Rattle.std.proofs.lemmas.Bool.{cases_eq}
+use Rattle.std.proofs.lemmas.Bool.{cases_eq, eqb-false, or_parts}
 use Rattle.std.proofs.lemmas.Map.Entries.{lookup_head, lookup_tail}
 use Rattle.std.proofs.lemmas.Map.Keys.{sorted_tail}
 use Rattle.pg_map.specs.Entries.{ChangesRise, HasRisingIds, value_at, with_change, with_changes}
@@ -52,6 +53,15 @@ module _ {V : Type 0} where
       ap (λ o. unwrap_or (find q changes) o) (change_other id change.1 entries q n)
       ∙ sym (ap (λ o. unwrap_or o (value_at q entries)) (lookup_tail (is_at (nat_cmp q)) change changes (at_other q id n))))
       (cases_eq q id)
+
+  -- an id that no change names has what it had
+  pub unchanged_at : (changes : List (ℕ × Option V)) (entries : List (ℕ × V)) (q : ℕ) → list_any (λ id. id == q) (keys_of changes) ≡ false
+      → value_at q (with_changes changes entries) ≡ value_at q entries
+  unchanged_at [] entries q h = refl
+  unchanged_at (change ∷ changes) entries q h =
+      let parts = or_parts (change.0 == q) (list_any (λ id. id == q) (keys_of changes)) h in
+      unchanged_at changes (with_change change.0 change.1 entries) q parts.1
+      ∙ change_other change.0 change.1 entries q (λ e. eqb-false change.0 q parts.0 (sym e))
 
   -- one more change
   pub with_changes-insert : (changes : List (ℕ × Option V)) (entries : List (ℕ × V)) (id : ℕ) (change : Option V) → ChangesRise changes → HasRisingIds entries

@@ -1,5 +1,5 @@
 -- A binary search among entries by rising key finds what a look-up finds.
-use Rattle.std.proofs.Common.{◌≡◌, ℕ, ◌<◌, ◌≤◌, List, length, get_or, Some, None, inl, inr, sym, ap, ◌∙◌, arith}
+use Rattle.std.proofs.Common.{◌≡◌, ℕ, ◌<◌, ◌≤◌, List, length, get_or, ltb, nat_eq, true, false, Some, None, inl, inr, sym, ap, ◌∙◌, arith}
 use Rattle.std.specs.Ordering.{nat_cmp, ordering_index}
 use Rattle.std.specs.declared.cmp.Ordering.TheVariants.{Less, Equal, Greater}
 use Rattle.std.specs.Cmp.{nat_cmp_total, eq_by_cmp_equiv}
@@ -21,6 +21,12 @@ Greater-from_Less a b e = grind (arith, nat_tests)
 
 Less-from_Greater : (a b : ℕ) → nat_cmp a b ≡ Greater → nat_cmp b a ≡ Less
 Less-from_Greater a b e = grind (arith, nat_tests)
+
+Less-from_test : (a b : ℕ) → ltb a b ≡ true → nat_cmp a b ≡ Less
+Less-from_test a b h = grind (arith, nat_tests)
+
+Greater-from_tests : (a b : ℕ) → ltb a b ≡ false → nat_eq a b ≡ false → nat_cmp a b ≡ Greater
+Greater-from_tests a b h n = grind (arith, nat_tests)
 
 index_rises : (a b k : ℕ) → a ≤ b → ordering_index (nat_cmp a k) ≤ ordering_index (nat_cmp b k)
 index_rises a b k h = grind (arith, nat_tests)
@@ -46,6 +52,23 @@ module _ {X : Type 0} where
       lookup_at_gap nat_cmp_total k es i rising
       (λ j e below at. Greater_at es k j e at (parts.0 j e (omega arith) below))
       (λ e at. Less_at es k i e at (parts.1 i e (omega arith) (slice_get_within es i e at)))
+
+  -- by tests alone: where so many entries are below a key, the next has it, or none has
+  pub lookup_next : (es : List (ℕ × X)) (k i : ℕ) (e : ℕ × X) → IsStrictlySortedBy nat_cmp (keys_of es) → slice_get es i ≡ Some e → e.0 ≡ k
+      → lookup (is_at (nat_cmp k)) es ≡ Some e.1
+  lookup_next es k i e rising at same =
+      lookup_from_place (eq_by_cmp_equiv nat_cmp_total) es i k e.1 (IsDistinct-from_sorted nat_cmp (keys_of es) rising)
+      (at ∙ ap (λ (n : ℕ). Some (n, e.1)) same)
+
+  pub lookup_past : (es : List (ℕ × X)) (k i : ℕ) → IsStrictlySortedBy nat_cmp (keys_of es)
+      → IsPartitionPoint (λ y. ltb y.0 k ≡ true) (λ y. ltb y.0 k ≡ false) es i
+      → ((e : ℕ × X) → slice_get es i ≡ Some e → nat_eq e.0 k ≡ false) → lookup (is_at (nat_cmp k)) es ≡ None
+  lookup_past es k i rising parts other =
+      lookup_at_gap nat_cmp_total k es i rising
+      (λ j e below at. Greater_at es k j e at (Less-from_test (get_or es j e).0 k (parts.0 j e (omega arith) below)))
+      (λ e at. Less_at es k i e at
+      (Greater-from_tests (get_or es i e).0 k (parts.1 i e (omega arith) (slice_get_within es i e at))
+      (ap (λ (x : ℕ × X). nat_eq x.0 k) (get_or_from_slice_get es i e e at) ∙ other e at)))
 
   key_at : (es : List (ℕ × X)) (i : ℕ) (d : ℕ × X) → i < length es → get_or (keys_of es) i d.0 ≡ (get_or es i d).0
   key_at es i d h = get_or-map (λ (e : ℕ × X). e.0) es i d d.0 h

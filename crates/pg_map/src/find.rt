@@ -1,21 +1,26 @@
 //! Look-ups that come near one another.
-ghost use Rattle.std.specs.Prelude.{◌≡◌, ◌≤◌, true, false, nat_le, length, IsTrue};
+ghost use Rattle.std.specs.Prelude.{◌≡◌, ◌≤◌, true, false, nat_le, nat_lt, length, IsTrue};
 ghost use Rattle.std.specs.List.Sorted.{IsNonDecreasingBy, IsPartitionPoint};
 ghost use Rattle.std.specs.Option.{option_copied};
 ghost use Rattle.pg_map.specs.Chunks.{AreChunks, AreGroups, all_of, entries_of};
 ghost use Rattle.pg_map.specs.Entries.{HasRisingIds, value_at};
 
 use crate::VertexId;
-use crate::part::{Chunk, Group, Part, is_at_most};
+use crate::part::{Chunk, Group, Part, is_at_most, is_below};
 use std::marker::Model;
 
-/// Looks up ids in a map. Where an id lies near the one before, it costs a search in one chunk alone.
+/// How many entries are passed one by one before a search among all of a chunk.
+const STEPS: usize = 16;
+
+/// Looks up ids in a map. Where an id lies a few entries after the one before, it costs a step for each, and
+/// elsewhere in the same chunk a search in that one alone.
 /// A contract sees the entries of the map.
 #[derive(Drop)]
 pub struct Finder<'a, V> {
     groups: &'a [Group<V>],
     groups_begun: usize,
     chunks_begun: usize,
+    entries_below: usize,
 }
 
 impl<'a, V> Model for Finder<'a, V> {
@@ -42,6 +47,7 @@ impl<'a, V> Finder<'a, V> {
             groups,
             groups_begun: 0,
             chunks_begun: 0,
+            entries_below: 0,
         }
     }
 
@@ -57,7 +63,7 @@ impl<'a, V> Finder<'a, V> {
         }
         let chunks = groups[self.groups_begun - 1].items.as_slice();
         self.chunks_begun = begun(chunks, self.chunks_begun, id);
-        value_in(chunks, self.chunks_begun, id)
+        value_in(chunks, self.chunks_begun, &mut self.entries_below, id)
     }
 }
 
@@ -85,8 +91,14 @@ fn have_begun<T>(parts: &[Part<T>], count: usize, id: VertexId) -> bool
     is_at_most(parts[count - 1].first, id) && !is_at_most(parts[count].first, id)
 }
 
-/// The value at an id, where so many chunks begin at it or below it.
-fn value_in<V>(chunks: &[Chunk<V>], begun: usize, id: VertexId) -> Option<&V>
+/// The value at an id, where so many chunks begin at it or below it. `below` is a guess at how many entries of the
+/// last of these are below it, and says then how many are.
+fn value_in<'a, V>(
+    chunks: &'a [Chunk<V>],
+    begun: usize,
+    below: &mut usize,
+    id: VertexId,
+) -> Option<&'a V>
     requires chunks { AreChunks chunks.now }
     requires rise { HasRisingIds (entries_of chunks.now) }
     requires bound { begun ≤ length chunks.now }
@@ -97,8 +109,57 @@ fn value_in<V>(chunks: &[Chunk<V>], begun: usize, id: VertexId) -> Option<&V>
         return None;
     }
     let entries = chunks[begun - 1].items.as_slice();
-    match entries.binary_search_by_key(&id, |entry| entry.0) {
-        Ok(place) => Some(&entries[place].1),
-        Err(_) => None,
+    value_near(entries, below, id)
+}
+
+/// The value at an id among these entries, with such a guess.
+fn value_near<'a, V>(entries: &'a [(VertexId, V)], below: &mut usize, id: VertexId) -> Option<&'a V>
+    requires { HasRisingIds entries.now }
+    ensures { option_copied result ≡ value_at id entries.now }
+{
+    let place = count_below(entries, *below, id);
+    *below = place;
+    if place >= entries.len() {
+        return None;
     }
+    let entry = &entries[place];
+    if entry.0 == id { Some(&entry.1) } else { None }
+}
+
+/// How many of these entries are below an id, which may be as many as before or a few more.
+fn count_below<V>(entries: &[(VertexId, V)], before: usize, id: VertexId) -> usize
+    requires { HasRisingIds entries.now }
+    ensures { IsPartitionPoint (λ e. nat_lt e.0 id ≡ true) (λ e. nat_lt e.0 id ≡ false) entries.now result }
+{
+    // A first look-up has no place to go on from.
+    if before > 0 {
+        let near = passed(entries, before, id);
+        if are_below(entries, near, id) {
+            return near;
+        }
+    }
+    entries.partition_point(|entry| is_below(entry.0, id))
+}
+
+/// How far a few steps from a place on go, over entries below an id.
+fn passed<V>(entries: &[(VertexId, V)], place: usize, id: VertexId) -> usize {
+    let mut near = place;
+    for _ in 0..STEPS {
+        if near >= entries.len() || !is_below(entries[near].0, id) {
+            return near;
+        }
+        near += 1;
+    }
+    near
+}
+
+/// Whether just so many of these entries are below an id. It may say no where they are.
+fn are_below<V>(entries: &[(VertexId, V)], count: usize, id: VertexId) -> bool
+    requires { HasRisingIds entries.now }
+    ensures { IsTrue result → IsPartitionPoint (λ e. nat_lt e.0 id ≡ true) (λ e. nat_lt e.0 id ≡ false) entries.now count }
+{
+    if count == 0 || count >= entries.len() {
+        return false;
+    }
+    is_below(entries[count - 1].0, id) && !is_below(entries[count].0, id)
 }

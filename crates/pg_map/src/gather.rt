@@ -86,7 +86,7 @@ impl<V: Share> Gathering<V> {
         ensures { OnOk result (self.new ≡ self.old ++ listed chunk.now) }
     {
         let entries = self.piece.len();
-        if entries > 0 && entries < V::CHUNK / 4 {
+        if entries > 0 && self.is_small() {
             return self.extend(alloc, chunk.items.as_slice());
         }
         cut_chunk(alloc, &mut self.made, &mut self.piece, entries)?;
@@ -124,7 +124,12 @@ impl<V: Share> Gathering<V> {
         if entries == 0 {
             return chunks > 0 && chunks < FEW;
         }
-        entries < V::CHUNK / 4 || chunks < FEW
+        self.is_small() || chunks < FEW
+    }
+
+    /// Whether the piece is too small for a chunk of its own.
+    fn is_small(&self) -> bool {
+        self.piece.len() < V::CHUNK / 4
     }
 
     /// All groups.

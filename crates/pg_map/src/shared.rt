@@ -176,7 +176,7 @@ impl<V: Share> Map<V> {
     /// Makes all changes, by rising id, or none where memory is refused: each id gets its value, or
     /// loses the one that it has.
     ///
-    /// With n entries and chunks of c it costs O(n / 32 c), a copy of the list of each group that a change falls into, of at
+    /// With n entries and chunks of c it costs O(n / (32 c)), a copy of the list of each group that a change falls into, of at
     /// most 64 chunks, and a copy of each chunk that one falls into.
     pub fn change(&mut self, alloc: Global, changes: &[(VertexId, Option<V>)]) -> Result<(), Memory>
         requires { ChangesRise changes.now }
