@@ -1,4 +1,3 @@
-pub mod Begun
 pub mod Histories
 pub mod InChunks
 pub mod InPlace
