@@ -1,3 +1,4 @@
+pub mod Ahead
 pub mod AtPlaces
 pub mod Bundling
 pub mod Delivery

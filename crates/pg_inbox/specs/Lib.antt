@@ -12,4 +12,5 @@ pub mod Ordered
 pub mod Patched
 pub mod Places
 pub mod Rows
+pub mod Runs
 pub mod Sends

@@ -13,6 +13,7 @@ mod patching;
 mod places;
 mod receivers;
 mod receiving;
+mod runs;
 
 pub use alike::tell_alike;
 pub use bundles::Bundle;

@@ -1,14 +1,16 @@
 //! Bundles made of sends.
-ghost use Rattle.std.specs.Prelude.{◌≡◌, false, map, IfOk};
+ghost use Rattle.std.specs.Prelude.{◌≡◌, ◌≤◌, false, length, map, take, drop, IfOk, OnOk};
 ghost use Rattle.std.specs.List.{AllByRecursion};
 ghost use Rattle.pg_model.specs.Superstep.{is_empty};
 ghost use Rattle.pg_inbox.specs.Bundles.{bundle_of, contents_of, parcels_of};
 ghost use Rattle.pg_inbox.specs.Grouping.{groups_of};
 ghost use Rattle.pg_inbox.specs.Holding.{Holds, as_item};
+ghost use Rattle.pg_inbox.specs.Runs.{AreFirst};
 
 use crate::Bundle;
 use crate::grouped::{by_target, first_group};
 use crate::parcel::Parcel;
+use crate::runs::{Ahead, FULL};
 use pg_global::MessageCombiner;
 use pg_graph::{Memory, VertexId};
 use pg_map::Map;
@@ -56,13 +58,63 @@ fn parcels_of<M: Plain, C: MessageCombiner<M>>(
     ensures hold { IfOk result (λ parcels. AllByRecursion (λ p. Holds M.is_value p.1) parcels.items) }
 {
     let mut parcels = Vec::new(alloc);
+    let mut ahead = Ahead::new(alloc)?;
     let mut left = letters;
     while let Some((target, here, later)) = first_group(left) {
-        let parcel = parcel_of(alloc, here, combiner)?;
+        let parcel = next_parcel(alloc, &mut ahead, left, here, combiner)?;
         parcels.push((target, parcel))?;
         left = later;
     }
     Ok(parcels)
+}
+
+/// The parcel of the first of the letters that are left. Several that aren't combined lie beside those that come next,
+/// unless they are very many.
+fn next_parcel<M: Plain, C: MessageCombiner<M>>(
+    alloc: Global,
+    ahead: &mut Ahead<M>,
+    left: &[(VertexId, (VertexId, M))],
+    here: &[(VertexId, (VertexId, M))],
+    combiner: &C,
+) -> Result<Parcel<M>, Memory>
+    requires some { is_empty here.now ≡ false }
+    requires here { here.now ≡ take (length here.now) left.now }
+    requires ahead { AreFirst ahead.old left.now }
+    ensures value { IfOk result
+        (λ parcel. parcel ≡ contents_of (C.combining combiner.now) (map (λ l. l.1) here.now)) }
+    ensures holds { IfOk result (λ parcel. Holds M.is_value parcel) }
+    ensures ahead { OnOk result (AreFirst ahead.new (drop (length here.now) left.now)) }
+{
+    let count = here.len();
+    if count == 1 || count > FULL || combiner.combines() {
+        ahead.skip(count);
+        return parcel_of(alloc, here, combiner);
+    }
+    copy_ahead(alloc, ahead, left, count)?;
+    let run = ahead.take(count)?;
+    Ok(Parcel::of_run(run))
+}
+
+/// Copies the letters that are left, as many as a list takes, unless so many are copied already.
+fn copy_ahead<M: Plain>(
+    alloc: Global,
+    ahead: &mut Ahead<M>,
+    left: &[(VertexId, (VertexId, M))],
+    count: usize,
+) -> Result<(), Memory>
+    requires few { count ≤ FULL }
+    requires within { count ≤ length left.now }
+    requires first { AreFirst ahead.old left.now }
+    ensures first { OnOk result (AreFirst ahead.new left.now) }
+    ensures enough { OnOk result (count ≤ length ahead.new) }
+{
+    if ahead.len() >= count {
+        return Ok(());
+    }
+    let (next, _) = left.split_at(left.len().min(FULL));
+    let letters = copied_letters(alloc, next)?;
+    *ahead = Ahead::of(alloc, letters)?;
+    Ok(())
 }
 
 /// A parcel of copies of letters.
@@ -79,12 +131,6 @@ fn parcel_of<M: Plain, C: MessageCombiner<M>>(
     if let [(_, only)] = letters {
         let only = copied_letter(alloc, only)?;
         return Ok(Parcel::of_one(only, combiner));
-    }
-    if let [(_, first), (_, second)] = letters {
-        let first = copied_letter(alloc, first)?;
-        let second = copied_letter(alloc, second)?;
-        let parcel = Parcel::of_two(alloc, first, second, combiner)?;
-        return Ok(parcel);
     }
     let copied = copied_letters(alloc, letters)?;
     let parcel = Parcel::of(alloc, copied, combiner)?;

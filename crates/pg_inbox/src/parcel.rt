@@ -1,10 +1,11 @@
 //! The messages to one target.
-ghost use Rattle.std.specs.Prelude.{◌≡◌, [], ◌∷◌, ◌<◌, length, get_or, IfOk, IfSome, IsSome};
+ghost use Rattle.std.specs.Prelude.{◌≡◌, [], ◌∷◌, ◌<◌, length, get_or, None, IfOk, IfSome, IsSome};
 ghost use Rattle.std.specs.List.{AllByRecursion, fold};
 ghost use Rattle.std.specs.Option.{option_copied};
 ghost use Rattle.pg_inbox.specs.Bundles.{messages, folded, contents_of};
 ghost use Rattle.pg_inbox.specs.Held.{contents_in};
 
+use crate::runs::Run;
 use pg_global::MessageCombiner;
 use pg_graph::{Memory, VertexId};
 use pg_map::Share;
@@ -21,29 +22,6 @@ pub struct Contents<M> {
     pub folded: Option<M>,
 }
 
-/// Two messages, and where they are combined what they come to. They need no list beside this.
-#[derive(Drop)]
-pub(crate) struct Pair<M> {
-    pub(crate) first: (VertexId, M),
-    pub(crate) second: (VertexId, M),
-    pub(crate) folded: Option<M>,
-}
-
-impl<M> Pair<M> {
-    ghost use Rattle.pg_inbox.specs.Held.{contents_of_pair};
-
-    /// The first, or else the second.
-    fn letter(&self, place: usize) -> &(VertexId, M)
-        ensures { result.now ≡ get_or (contents_of_pair self.now).letters place result.now }
-    {
-        if place == 0 {
-            &self.first
-        } else {
-            &self.second
-        }
-    }
-}
-
 /// Contents as they lie in memory. Most targets have few messages: a single one takes no memory of its own.
 #[derive(Drop)]
 pub(crate) enum Held<M> {
@@ -51,7 +29,8 @@ pub(crate) enum Held<M> {
     Alone((VertexId, M)),
     /// A message that is what it comes to, since the initial message is neutral.
     Combined((VertexId, M)),
-    Two(Arc<Pair<M>>),
+    /// Messages that aren't combined, beside those of other targets.
+    Side(Run<M>),
     Many(Arc<Contents<M>>),
 }
 
@@ -74,15 +53,14 @@ impl<M: Plain> Model for Parcel<M> {
 }
 
 impl<M: Plain> Share for Parcel<M> {
-    // Small, since the targets of a few vertices lie all over a bundle, and a copy of a parcel is mostly a count that lies
-    // elsewhere in memory.
+    // Small, since the targets of a few vertices lie all over a bundle, and a copy of a parcel is mostly a count.
     const CHUNK: usize = 16;
 
     fn share(&self, alloc: Global) -> Result<Parcel<M>, Memory> {
         let held = match &self.held {
             Held::Alone(letter) => Held::Alone((letter.0, letter.1.copy(alloc)?)),
             Held::Combined(letter) => Held::Combined((letter.0, letter.1.copy(alloc)?)),
-            Held::Two(pair) => Held::Two(Arc::try_clone(pair)?),
+            Held::Side(run) => Held::Side(run.share()?),
             Held::Many(contents) => Held::Many(Arc::try_clone(contents)?),
         };
         Ok(Parcel { held })
@@ -114,19 +92,14 @@ impl<M: Plain> Parcel<M> {
         Parcel { held }
     }
 
-    /// A parcel of two messages.
-    pub(crate) fn of_two<C: MessageCombiner<M>>(
-        alloc: Global,
-        first: (VertexId, M),
-        second: (VertexId, M),
-        combiner: &C,
-    ) -> Result<Parcel<M>, Memory>
-        requires first { M.is_value first.1 }
-        requires second { M.is_value second.1 }
-        ensures { IfOk result (λ parcel. parcel ≡ contents_of (C.combining combiner.now) (first ∷ second ∷ [])) }
+    /// A parcel of messages that aren't combined, in the list that they lie in.
+    pub(crate) fn of_run(run: Run<M>) -> Parcel<M>
+        requires { IsLetters M.is_value run }
+        ensures { result ≡ record { letters = run; folded = None } }
     {
-        let held = packed_two(alloc, first, second, combiner)?;
-        Ok(Parcel { held })
+        Parcel {
+            held: Held::Side(run),
+        }
     }
 
     /// How many messages there are.
@@ -137,7 +110,7 @@ impl<M: Plain> Parcel<M> {
         match &self.held {
             Held::Alone(_) => 1,
             Held::Combined(_) => 1,
-            Held::Two(_) => 2,
+            Held::Side(run) => run.len(),
             Held::Many(contents) => contents.letters.len(),
         }
     }
@@ -150,7 +123,7 @@ impl<M: Plain> Parcel<M> {
         match &self.held {
             Held::Alone(letter) => letter,
             Held::Combined(letter) => letter,
-            Held::Two(pair) => pair.letter(place),
+            Held::Side(run) => run.letter(place),
             Held::Many(contents) => &contents.letters.as_slice()[place],
         }
     }
@@ -162,7 +135,7 @@ impl<M: Plain> Parcel<M> {
         match &self.held {
             Held::Alone(_) => None,
             Held::Combined(letter) => Some(&letter.1),
-            Held::Two(pair) => pair.folded.as_ref(),
+            Held::Side(_) => None,
             Held::Many(contents) => contents.folded.as_ref(),
         }
     }
@@ -177,16 +150,13 @@ fn packed<M: Plain, C: MessageCombiner<M>>(
     requires { AllByRecursion (λ l. M.is_value l.1) letters.items }
     ensures { IfOk result (λ held. contents_in held ≡ contents_of (C.combining combiner.now) letters.items) }
 {
-    let mut letters = letters;
-    if letters.len() > 2 {
+    if letters.len() > 1 {
         return packed_many(alloc, letters, combiner);
     }
-    let Some(last) = letters.pop() else {
-        return packed_many(alloc, letters, combiner);
-    };
+    let mut letters = letters;
     match letters.pop() {
-        Some(first) => packed_two(alloc, first, last, combiner),
-        None => Ok(packed_one(last, combiner)),
+        Some(only) => Ok(packed_one(only, combiner)),
+        None => packed_many(alloc, letters, combiner),
     }
 }
 
@@ -200,42 +170,6 @@ fn packed_one<M: Plain, C: MessageCombiner<M>>(letter: (VertexId, M), combiner: 
     } else {
         Held::Alone(letter)
     }
-}
-
-/// Two messages.
-fn packed_two<M: Plain, C: MessageCombiner<M>>(
-    alloc: Global,
-    first: (VertexId, M),
-    second: (VertexId, M),
-    combiner: &C,
-) -> Result<Held<M>, Memory>
-    ensures { IfOk result (λ held. contents_in held ≡ contents_of (C.combining combiner.now) (first ∷ second ∷ [])) }
-{
-    let folded = fold_of_two(alloc, &first.1, &second.1, combiner)?;
-    let pair = Pair {
-        first,
-        second,
-        folded,
-    };
-    Ok(Held::Two(Arc::new(alloc, pair)?))
-}
-
-/// What two messages come to, where the combiner combines.
-fn fold_of_two<M: Plain, C: MessageCombiner<M>>(
-    alloc: Global,
-    first: &M,
-    second: &M,
-    combiner: &C,
-) -> Result<Option<M>, Memory>
-    ensures { IfOk result (λ m. m ≡ folded (C.combining combiner.now) (first.now ∷ second.now ∷ [])) }
-{
-    if !combiner.combines() {
-        return Ok(None);
-    }
-    let mut so_far = combiner.initial_message(alloc)?;
-    combiner.combine(alloc, &mut so_far, first)?;
-    combiner.combine(alloc, &mut so_far, second)?;
-    Ok(Some(so_far))
 }
 
 /// Any number of messages, in a list that is no longer than they are.

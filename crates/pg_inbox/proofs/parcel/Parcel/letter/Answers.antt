@@ -1,5 +1,5 @@
 use Rattle.std.proofs.Common.{◌≡◌, ℕ, ◌<◌, zero, suc, List, [], ◌∷◌, length, get_or, ap, arith, refl, subst, sym, ◌∙◌}
-use Rattle.pg_inbox.specs.Held.{contents_in, contents_of_pair}
+use Rattle.pg_inbox.specs.Held.{contents_in}
 use Rattle.pg_inbox.proofs.parcel.Parcel.letter.Goals as goal
 
 only : {X : Type 0} (x : X) (place : ℕ) {l : List X} → l ≡ x ∷ [] → place < length l → x ≡ get_or l place x
@@ -18,19 +18,13 @@ pub returns-in-Combined : goal.returns-in-Combined
 returns-in-Combined g c =
     only c.in-Combined.letter c.args.place (ap (λ p. p.letters) (sym c.self.view_is ∙ ap contents_in c.in-Combined.is)) c.requires
 
-pub returns-in-Two : goal.returns-in-Two
-returns-in-Two g c =
-    let letter = c.letter.result.now in
-    c.letter.ensures
-    ∙ ap (λ p. get_or p.letters c.args.place letter) (ap contents_of_pair c.deref.ensures ∙ sym (sym c.self.view_is ∙ ap contents_in c.in-Two.is))
-
 pub bounds-as_slice-place : goal.bounds-as_slice-place
 bounds-as_slice-place g c =
-    let is = c.deref-in-Many.ensures ∙ sym (sym c.self.view_is ∙ ap contents_in c.in-Many.is) in
+    let is = c.deref.ensures ∙ sym (sym c.self.view_is ∙ ap contents_in c.in-Many.is) in
     subst (λ l. c.args.place < length l) (sym (c.as_slice.ensures ∙ ap (λ p. p.letters) is)) c.requires
 
 pub returns-in-Many : goal.returns-in-Many
 returns-in-Many g c =
     let letter = c.index-as_slice-place.result in
-    let is = c.deref-in-Many.ensures ∙ sym (sym c.self.view_is ∙ ap contents_in c.in-Many.is) in
+    let is = c.deref.ensures ∙ sym (sym c.self.view_is ∙ ap contents_in c.in-Many.is) in
     c.index-as_slice-place.is ∙ ap (λ l. get_or l c.args.place letter) (c.as_slice.ensures ∙ ap (λ p. p.letters) is)
