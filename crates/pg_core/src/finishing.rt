@@ -25,10 +25,7 @@ impl<'a, P: Computation, C: MessageCombiner<P::Message>, M: MasterCompute> Core<
     ///
     /// Costs a copy of the vertices' values, a look-up for each vertex that may have ended otherwise than in the kept run,
     /// and what is cut where that was longer. Beside nothing it costs a sort of the vertices' ids and a look-up for each.
-    pub fn finish(
-        self,
-        alloc: Global,
-    ) -> Result<Finished<P::Value, P::Message>, Memory>
+    pub fn finish(self, alloc: Global) -> Result<Finished<P::Value, P::Message>, Memory>
         requires { self.state.ended ≡ true }
         ensures { let job = job_by P.program C.combining M.master self.entry in
             IfOk result (λ done. (kept : Option Rows) → IsRight job kept self.entry

@@ -11,8 +11,8 @@ mod tally;
 mod together;
 mod traces;
 
-pub use pg_machine::{Closed, Event, Limits, State};
 pub use finishing::Finished;
+pub use pg_machine::{Closed, Event, Limits, State};
 pub use running::Core;
 pub use tally::Tally;
 pub use traces::{Spent, Traces};

@@ -406,9 +406,7 @@ impl<'a, P: Computation, C: MessageCombiner<P::Message>, M: MasterCompute> Core<
             shown,
             values,
         };
-        finished(
-            alloc, graph, parts, common, tally, ending, supersteps, kept,
-        )
+        finished(alloc, graph, parts, common, tally, ending, supersteps, kept)
     }
 }
 

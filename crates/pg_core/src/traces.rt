@@ -138,10 +138,7 @@ impl<V, M: Plain> Model for Spent<V, M> {
 
 impl<V, M: Plain> Spent<V, M> {
     /// What the partitions have no more use for, and what the run keeps of the one beside which it was made.
-    pub(crate) fn of(
-        parts: Vec<SpentByPart<V, M>>,
-        kept: Option<Common<V, M>>,
-    ) -> Spent<V, M> {
+    pub(crate) fn of(parts: Vec<SpentByPart<V, M>>, kept: Option<Common<V, M>>) -> Spent<V, M> {
         Spent { parts, kept }
     }
 }

@@ -1,4 +1,4 @@
-use Rattle.std.proofs.Common.{◌≡◌, false, List, [], ◌∷◌, length, map, take, drop, Option, None, Some, Result, Ok, Err, OnOk, is_some, ap, refl, subst, sym, ◌∙◌, true≢false}
+use Rattle.std.proofs.Common.{◌≡◌, false, List, length, map, drop, Option, None, Some, Result, Ok, Err, OnOk, is_some, ap, refl, subst, sym, ◌∙◌, true≢false}
 use Rattle.pg_model.specs.Job.{Combining}
 use Rattle.pg_inbox.specs.Bundles.{folded, messages}
 use Rattle.pg_inbox.specs.Runs.{AreFirst}
