@@ -3,7 +3,7 @@ use Rattle.std.specs.List.{AllByRecursion}
 use Rattle.pg_inbox.specs.Bundles.{parcels_of}
 use Rattle.pg_inbox.specs.Grouping.{groups_of}
 use Rattle.pg_inbox.specs.Holding.{Holds}
-use Rattle.pg_inbox.specs.Runs.{AreFirst}
+use Rattle.pg_inbox.specs.Runs.{AreFirst, shared_of}
 use Rattle.pg_inbox.proofs.making.parcels_of.Given as goal
 
 abbrev pub invariant-loop-target : goal.invariant-loop-target
@@ -12,7 +12,7 @@ invariant-loop-target g l =
     record {
       contents : l.parcels.items ++ parcels (groups_of l.left) ≡ parcels (groups_of l.letters);
       hold : AllByRecursion (λ p. Holds g.M.Plain.is_value p.1) l.parcels.items;
-      ahead : AreFirst l.ahead l.left;
+      ahead : AreFirst l.ahead (shared_of (groups_of l.left));
     }
 
 abbrev pub decreases-loop-target : goal.decreases-loop-target
