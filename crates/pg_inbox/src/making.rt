@@ -60,10 +60,10 @@ fn parcels_of<M: Plain, C: MessageCombiner<M>>(
     let mut parcels = Vec::new(alloc);
     let mut ahead = Ahead::new(alloc)?;
     let mut left = letters;
-    while let Some((target, here, later)) = first_group(left) {
-        let parcel = next_parcel(alloc, &mut ahead, here, later, combiner)?;
-        parcels.push((target, parcel))?;
-        left = later;
+    while let Some(group) = first_group(left) {
+        let parcel = next_parcel(alloc, &mut ahead, group.1, group.2, combiner)?;
+        parcels.push((group.0, parcel))?;
+        left = group.2;
     }
     Ok(parcels)
 }

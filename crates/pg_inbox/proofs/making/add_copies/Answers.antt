@@ -1,5 +1,5 @@
-use Rattle.std.proofs.Common.{◌∷◌, [], ◌++◌, ap, ◌∙◌, map, sym}
-use Rattle.std.proofs.lemmas.List.{append-nil, take_all}
+use Rattle.std.proofs.Common.{◌∷◌, [], ◌++◌, ap, ◌∙◌, map}
+use Rattle.std.proofs.lemmas.List.{take_all}
 use Rattle.pg_map.proofs.Filling.{all_pushed, mapped_after}
 use Rattle.pg_inbox.proofs.making.add_copies.Goals as goal
 
