@@ -1,22 +1,32 @@
--- Letters that are copied ahead: those that a run takes of them, and those that are left.
-use Rattle.std.proofs.Common.{◌≡◌, ℕ, ◌≤◌, zero, suc, List, [], ◌∷◌, length, map, take, drop, refl, ap₂, arith}
+-- The first of some letters, which are copied ahead: those that a run takes of them, and those that are left.
+use Rattle.std.proofs.Common.{◌≡◌, ℕ, ◌≤◌, zero, suc, List, [], ◌∷◌, ◌++◌, length, take, drop, refl, ap₂, arith, subst, sym, ◌∙◌}
+use Rattle.std.proofs.lemmas.List.{take_at}
+use Rattle.std.proofs.Math.Seq.{drop-append_seam}
 use Rattle.pg_inbox.specs.Runs.{AreFirst}
 
-module _ {T M : Type 0} where
-  pub first_copied : (n : ℕ) (left : List (T × (ℕ × M))) → AreFirst (map (λ i. i.1) (take n left)) left
-  first_copied zero left = tt
-  first_copied (suc n) [] = tt
-  first_copied (suc n) (i ∷ left) = (refl, first_copied n left)
+module _ {X : Type 0} where
+  pub first_append : (xs more : List X) → AreFirst xs (xs ++ more)
+  first_append [] more = tt
+  first_append (x ∷ xs) more = (refl, first_append xs more)
 
-  pub first_left : (n : ℕ) (letters : List (ℕ × M)) (left : List (T × (ℕ × M))) → AreFirst letters left → AreFirst (drop n letters) (drop n left)
-  first_left zero letters left are = are
-  first_left (suc n) [] left are = tt
-  first_left (suc n) (l ∷ letters) [] are = absurd are
-  first_left (suc n) (l ∷ letters) (i ∷ left) are = first_left n letters left are.1
+  first_left : (n : ℕ) (xs all : List X) → AreFirst xs all → AreFirst (drop n xs) (drop n all)
+  first_left zero xs all are = are
+  first_left (suc n) [] all are = tt
+  first_left (suc n) (x ∷ xs) [] are = absurd are
+  first_left (suc n) (x ∷ xs) (y ∷ all) are = first_left n xs all are.1
 
-  pub first_taken : (n : ℕ) (letters : List (ℕ × M)) (left : List (T × (ℕ × M))) → AreFirst letters left → n ≤ length letters
-      → take n letters ≡ map (λ i. i.1) (take n left)
-  first_taken zero letters left are enough = refl
-  first_taken (suc n) [] left are enough = absurd (omega arith)
-  first_taken (suc n) (l ∷ letters) [] are enough = absurd are
-  first_taken (suc n) (l ∷ letters) (i ∷ left) are enough = ap₂ (λ x xs. x ∷ xs) are.0 (first_taken n letters left are.1 (omega arith))
+  first_taken : (n : ℕ) (xs all : List X) → AreFirst xs all → n ≤ length xs → take n xs ≡ take n all
+  first_taken zero xs all are enough = refl
+  first_taken (suc n) [] all are enough = absurd (omega arith)
+  first_taken (suc n) (x ∷ xs) [] are enough = absurd are
+  first_taken (suc n) (x ∷ xs) (y ∷ all) are enough = ap₂ (λ y ys. y ∷ ys) are.0 (first_taken n xs all are.1 (omega arith))
+
+  module _ (xs here later : List X) (n : ℕ) (count : length here ≡ n) (are : AreFirst xs (here ++ later)) where
+    pub here_taken : n ≤ length xs → take n xs ≡ here
+    here_taken enough = first_taken n xs (here ++ later) are enough ∙ take_at here later n count
+
+    pub later_left : {left : List X} → left ≡ drop n xs → AreFirst left later
+    later_left is =
+        subst (λ l. AreFirst l later) (sym is)
+        (subst (AreFirst (drop n xs)) (subst (λ k. drop k (here ++ later) ≡ later) count (drop-append_seam here later))
+        (first_left n xs (here ++ later) are))

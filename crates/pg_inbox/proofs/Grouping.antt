@@ -1,5 +1,5 @@
 -- Items that stand by target, and what there is of each target then.
-use Rattle.std.proofs.Common.{◌≡◌, ℕ, ◌+◌, ◌≤◌, ◌==◌, Bool, true, false, cond, not, ◌&&◌, is_lt, suc, zero, List, [], ◌∷◌, length, length-take-le}
+use Rattle.std.proofs.Common.{◌≡◌, ℕ, ◌+◌, ◌≤◌, ◌==◌, Bool, true, false, cond, not, ◌&&◌, is_lt, suc, zero, List, [], ◌∷◌, length}
 use Rattle.std.proofs.Common.{map, take, drop, Option, None, Some, refl, sym, ap, ◌∙◌, subst, arith}
 use Rattle.std.specs.List.{AllByRecursion, filter}
 use Rattle.std.specs.List.Sorted.{IsNonDecreasingBy, IsStableByKey, IsStrictlySortedBy, ties}
@@ -65,7 +65,6 @@ module _ {X : Type 0} where
   first_group_is items first rest here later n is counted front back whole =
       let count : n ≡ suc (run_len first.0 rest) =
       counted ∙ ap (run_len first.0) is ∙ ap (λ b. cond b (suc (run_len first.0 rest)) zero) (itself first.0) in
-      let many : n ≡ length here = sym (ap length front ∙ length-take-le n items (omega arith)) in
       let group : here ≡ first ∷ take (run_len first.0 rest) rest = front ∙ ap (take n) is ∙ ap (λ n. take n (first ∷ rest)) count in
       let others : later ≡ drop (run_len first.0 rest) rest = back ∙ ap (drop n) is ∙ ap (λ n. drop n (first ∷ rest)) count in
       record {
@@ -74,8 +73,6 @@ module _ {X : Type 0} where
         groups = ap groups_of is ∙ first_run first rest
             ∙ (ap (λ l. (first.0, map (λ i. i.1) l) ∷ groups_of (drop (run_len first.0 rest) rest)) (sym group)
             ∙ ap (λ l. (first.0, map (λ i. i.1) here) ∷ groups_of l) (sym others));
-        front = front ∙ ap (λ k. take k items) many;
-        back = back ∙ ap (λ k. drop k items) many;
       }
 
   -- ---- an item before groups

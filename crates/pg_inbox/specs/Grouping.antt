@@ -1,5 +1,5 @@
 -- Items by target.
-use Rattle.std.specs.Prelude.{◌≡◌, ℕ, ◌==◌, ◌<◌, zero, suc, false, cond, List, [], ◌∷◌, length, map, take, drop, Option, None, Some}
+use Rattle.std.specs.Prelude.{◌≡◌, ℕ, ◌==◌, ◌<◌, zero, suc, false, cond, List, [], ◌∷◌, length, map, Option, None, Some}
 use Rattle.std.specs.List.{filter}
 use Rattle.pg_map.specs.Entries.{HasRisingIds, value_at}
 use Rattle.pg_model.specs.Superstep.{is_empty}
@@ -38,5 +38,3 @@ module _ {X : Type 0} where
     pub some : is_empty here ≡ false
     pub fewer : length later < length items
     pub groups : groups_of items ≡ (target, map (λ i. i.1) here) ∷ groups_of later
-    pub front : here ≡ take (length here) items
-    pub back : later ≡ drop (length here) items

@@ -1,16 +1,16 @@
 //! Bundles made of sends.
-ghost use Rattle.std.specs.Prelude.{◌≡◌, ◌≤◌, false, length, map, take, drop, IfOk, OnOk};
+ghost use Rattle.std.specs.Prelude.{◌≡◌, ◌++◌, ◌+◌, ◌≤◌, false, length, map, IfOk, OnOk};
 ghost use Rattle.std.specs.List.{AllByRecursion};
 ghost use Rattle.pg_model.specs.Superstep.{is_empty};
 ghost use Rattle.pg_inbox.specs.Bundles.{bundle_of, contents_of, parcels_of};
 ghost use Rattle.pg_inbox.specs.Grouping.{groups_of};
 ghost use Rattle.pg_inbox.specs.Holding.{Holds, as_item};
-ghost use Rattle.pg_inbox.specs.Runs.{AreFirst};
+ghost use Rattle.pg_inbox.specs.Runs.{AreFirst, is_shared, shared_in, shared_of};
 
 use crate::Bundle;
 use crate::grouped::{by_target, first_group};
 use crate::parcel::Parcel;
-use crate::runs::{Ahead, FULL};
+use crate::runs::{Ahead, FULL, LARGE};
 use pg_global::MessageCombiner;
 use pg_graph::{Memory, VertexId};
 use pg_map::Map;
@@ -60,60 +60,108 @@ fn parcels_of<M: Plain, C: MessageCombiner<M>>(
     let mut parcels = Vec::new(alloc);
     let mut ahead = Ahead::new(alloc)?;
     let mut left = letters;
-    while let Some((target, here, later)) = first_group(left) {
-        let parcel = next_parcel(alloc, &mut ahead, left, here, combiner)?;
-        parcels.push((target, parcel))?;
-        left = later;
+    while let Some(group) = first_group(left) {
+        let parcel = next_parcel(alloc, &mut ahead, group.1, group.2, combiner)?;
+        parcels.push((group.0, parcel))?;
+        left = group.2;
     }
     Ok(parcels)
 }
 
-/// The parcel of the first of the letters that are left. Several that aren't combined lie beside those that come next,
-/// unless they are very many.
+/// The parcel of these letters. Several that aren't combined have a run in the list of those of the next targets.
 fn next_parcel<M: Plain, C: MessageCombiner<M>>(
     alloc: Global,
     ahead: &mut Ahead<M>,
-    left: &[(VertexId, (VertexId, M))],
     here: &[(VertexId, (VertexId, M))],
+    later: &[(VertexId, (VertexId, M))],
     combiner: &C,
 ) -> Result<Parcel<M>, Memory>
     requires some { is_empty here.now ≡ false }
-    requires here { here.now ≡ take (length here.now) left.now }
-    requires ahead { AreFirst ahead.old left.now }
+    requires ahead { AreFirst ahead.old (shared_in (map (λ l. l.1) here.now) ++ shared_of (groups_of later.now)) }
     ensures value { IfOk result
         (λ parcel. parcel ≡ contents_of (C.combining combiner.now) (map (λ l. l.1) here.now)) }
     ensures holds { IfOk result (λ parcel. Holds M.is_value parcel) }
-    ensures ahead { OnOk result (AreFirst ahead.new (drop (length here.now) left.now)) }
+    ensures ahead { OnOk result (AreFirst ahead.new (shared_of (groups_of later.now))) }
 {
-    let count = here.len();
-    if count == 1 || count > FULL || combiner.combines() {
-        ahead.skip(count);
+    if !is_shared(here.len()) {
         return parcel_of(alloc, here, combiner);
     }
-    copy_ahead(alloc, ahead, left, count)?;
-    let run = ahead.take(count)?;
+    if combiner.combines() {
+        ahead.skip(here.len());
+        return parcel_of(alloc, here, combiner);
+    }
+    copy_ahead(alloc, ahead, here, later)?;
+    let run = ahead.take(here.len())?;
     Ok(Parcel::of_run(run))
 }
 
-/// Copies the letters that are left, as many as a list takes, unless so many are copied already.
+/// Whether so many messages to a target have a run in a list.
+fn is_shared(count: usize) -> bool
+    ensures { result ≡ is_shared count }
+{
+    count > 1 && count <= LARGE
+}
+
+/// Copies these letters and those of the next targets, as many as a list takes, unless these are copied already.
 fn copy_ahead<M: Plain>(
     alloc: Global,
     ahead: &mut Ahead<M>,
-    left: &[(VertexId, (VertexId, M))],
-    count: usize,
+    here: &[(VertexId, (VertexId, M))],
+    later: &[(VertexId, (VertexId, M))],
 ) -> Result<(), Memory>
-    requires few { count ≤ FULL }
-    requires within { count ≤ length left.now }
-    requires first { AreFirst ahead.old left.now }
-    ensures first { OnOk result (AreFirst ahead.new left.now) }
-    ensures enough { OnOk result (count ≤ length ahead.new) }
+    requires few { length here.now ≤ LARGE }
+    requires first { AreFirst ahead.old (map (λ l. l.1) here.now ++ shared_of (groups_of later.now)) }
+    ensures first { OnOk result (AreFirst ahead.new (map (λ l. l.1) here.now ++ shared_of (groups_of later.now))) }
+    ensures enough { OnOk result (length here.now ≤ length ahead.new) }
 {
-    if ahead.len() >= count {
+    if ahead.len() >= here.len() {
         return Ok(());
     }
-    let (next, _) = left.split_at(left.len().min(FULL));
-    let letters = copied_letters(alloc, next)?;
+    let mut letters = letters_ahead(alloc, here, later)?;
+    letters.shrink_to_fit();
     *ahead = Ahead::of(alloc, letters)?;
+    Ok(())
+}
+
+/// Copies of these letters and of those of the next targets that have runs, until a list is full.
+fn letters_ahead<M: Plain>(
+    alloc: Global,
+    here: &[(VertexId, (VertexId, M))],
+    later: &[(VertexId, (VertexId, M))],
+) -> Result<Vec<(VertexId, M)>, Memory>
+    requires few { length here.now ≤ LARGE }
+    ensures first { IfOk result (λ copied. AreFirst copied.items (map (λ l. l.1) here.now ++ shared_of (groups_of later.now))) }
+    ensures enough { IfOk result (λ copied. length here.now ≤ length copied.items) }
+    ensures few { IfOk result (λ copied. length copied.items ≤ FULL + LARGE) }
+    ensures values { IfOk result (λ copied. AllByRecursion (λ l. M.is_value l.1) copied.items) }
+{
+    let mut copied = copied_letters(alloc, here)?;
+    copied.reserve(later.len().min(FULL))?;
+    let mut left = later;
+    while let Some((_, next, rest)) = first_group(left) {
+        if copied.len() >= FULL {
+            return Ok(copied);
+        }
+        add_if_shared(alloc, &mut copied, next)?;
+        left = rest;
+    }
+    Ok(copied)
+}
+
+/// Adds copies of the letters to one target, if they have a run in a list.
+fn add_if_shared<M: Plain>(
+    alloc: Global,
+    copied: &mut Vec<(VertexId, M)>,
+    letters: &[(VertexId, (VertexId, M))],
+) -> Result<(), Memory>
+    requires { AllByRecursion (λ l. M.is_value l.1) copied.old.items }
+    ensures letters { OnOk result (copied.new.items ≡ copied.old.items ++ shared_in (map (λ l. l.1) letters.now)) }
+    ensures few { OnOk result (length copied.new.items ≤ length copied.old.items + LARGE) }
+    ensures values { AllByRecursion (λ l. M.is_value l.1) copied.new.items }
+{
+    if is_shared(letters.len()) {
+        return add_copies(alloc, copied, letters);
+    }
     Ok(())
 }
 
@@ -156,8 +204,22 @@ fn copied_letters<M: Plain>(
     ensures values { IfOk result (λ copied. AllByRecursion (λ l. M.is_value l.1) copied.items) }
 {
     let mut copied = Vec::with_capacity(alloc, letters.len())?;
+    add_copies(alloc, &mut copied, letters)?;
+    Ok(copied)
+}
+
+/// Adds copies of letters.
+fn add_copies<M: Plain>(
+    alloc: Global,
+    copied: &mut Vec<(VertexId, M)>,
+    letters: &[(VertexId, (VertexId, M))],
+) -> Result<(), Memory>
+    requires { AllByRecursion (λ l. M.is_value l.1) copied.old.items }
+    ensures letters { OnOk result (copied.new.items ≡ copied.old.items ++ map (λ l. l.1) letters.now) }
+    ensures values { AllByRecursion (λ l. M.is_value l.1) copied.new.items }
+{
     for (_, letter) in letters {
         copied.push(copied_letter(alloc, letter)?)?;
     }
-    Ok(copied)
+    Ok(())
 }

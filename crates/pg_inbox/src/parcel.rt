@@ -29,8 +29,8 @@ pub(crate) enum Held<M> {
     Alone((VertexId, M)),
     /// A message that is what it comes to, since the initial message is neutral.
     Combined((VertexId, M)),
-    /// Messages that aren't combined, beside those of other targets.
-    Side(Run<M>),
+    /// Messages that aren't combined, together with those of other targets.
+    Together(Run<M>),
     Many(Arc<Contents<M>>),
 }
 
@@ -60,7 +60,7 @@ impl<M: Plain> Share for Parcel<M> {
         let held = match &self.held {
             Held::Alone(letter) => Held::Alone((letter.0, letter.1.copy(alloc)?)),
             Held::Combined(letter) => Held::Combined((letter.0, letter.1.copy(alloc)?)),
-            Held::Side(run) => Held::Side(run.share()?),
+            Held::Together(run) => Held::Together(run.share()?),
             Held::Many(contents) => Held::Many(Arc::try_clone(contents)?),
         };
         Ok(Parcel { held })
@@ -98,7 +98,7 @@ impl<M: Plain> Parcel<M> {
         ensures { result ≡ record { letters = run; folded = None } }
     {
         Parcel {
-            held: Held::Side(run),
+            held: Held::Together(run),
         }
     }
 
@@ -110,7 +110,7 @@ impl<M: Plain> Parcel<M> {
         match &self.held {
             Held::Alone(_) => 1,
             Held::Combined(_) => 1,
-            Held::Side(run) => run.len(),
+            Held::Together(run) => run.len(),
             Held::Many(contents) => contents.letters.len(),
         }
     }
@@ -123,7 +123,7 @@ impl<M: Plain> Parcel<M> {
         match &self.held {
             Held::Alone(letter) => letter,
             Held::Combined(letter) => letter,
-            Held::Side(run) => run.letter(place),
+            Held::Together(run) => run.letter(place),
             Held::Many(contents) => &contents.letters.as_slice()[place],
         }
     }
@@ -135,7 +135,7 @@ impl<M: Plain> Parcel<M> {
         match &self.held {
             Held::Alone(_) => None,
             Held::Combined(letter) => Some(&letter.1),
-            Held::Side(_) => None,
+            Held::Together(_) => None,
             Held::Many(contents) => contents.folded.as_ref(),
         }
     }

@@ -9,9 +9,12 @@ use std::alloc::Global;
 use std::marker::Model;
 use std::sync::Arc;
 
-/// So many messages are in a list at most. It stays until none of its runs is left, so that a target with more messages
-/// has none of it.
+/// A list takes runs until it has so many messages. It stays until none of its runs is left, so that one run never keeps
+/// much alive beside itself.
 pub(crate) const FULL: usize = 1024;
+
+/// A target with more messages has a list of its own.
+pub(crate) const LARGE: usize = 64;
 
 /// Messages that stand side by side in a list, which they share with those of other targets. A contract sees just these.
 #[derive(Drop)]
@@ -61,7 +64,7 @@ impl<M> Run<M> {
     }
 }
 
-/// Copies of the messages that come next, in one list. A contract sees those that are in no run yet.
+/// Copies of the messages whose runs come next, in one list. A contract sees those that are in no run yet.
 #[derive(Drop)]
 pub(crate) struct Ahead<M: Plain> {
     list: Arc<Vec<(VertexId, M)>>,
@@ -71,13 +74,13 @@ pub(crate) struct Ahead<M: Plain> {
 impl<M: Plain> Model for Ahead<M> {
     ghost use Rattle.std.specs.Prelude.{ℕ, List, drop};
     ghost use Rattle.std.specs.Arc.{arc_value};
-    ghost use Rattle.pg_inbox.specs.Runs.{IsShelf};
+    ghost use Rattle.pg_inbox.specs.Runs.{IsAhead};
 
     ghost Value = { List (ℕ × M) };
 
     ghost view = { λ a. drop a.first (arc_value a.list).items };
 
-    ghost invariant = { λ a. IsShelf M.is_value a.first (arc_value a.list).items };
+    ghost invariant = { λ a. IsAhead M.is_value a.first (arc_value a.list).items };
 }
 
 impl<M: Plain> Ahead<M> {
@@ -90,7 +93,7 @@ impl<M: Plain> Ahead<M> {
 
     /// These messages.
     pub(crate) fn of(alloc: Global, letters: Vec<(VertexId, M)>) -> Result<Ahead<M>, Memory>
-        requires few { length letters.items < 2 ^ 32 }
+        requires fits { length letters.items < 2 ^ 32 }
         requires values { AllByRecursion (λ l. M.is_value l.1) letters.items }
         ensures { IfOk result (λ ahead. ahead ≡ letters.items) }
     {

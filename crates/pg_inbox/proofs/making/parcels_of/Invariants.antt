@@ -3,17 +3,17 @@ use Rattle.std.specs.List.{AllByRecursion}
 use Rattle.pg_inbox.specs.Bundles.{parcels_of}
 use Rattle.pg_inbox.specs.Grouping.{groups_of}
 use Rattle.pg_inbox.specs.Holding.{Holds}
-use Rattle.pg_inbox.specs.Runs.{AreFirst}
+use Rattle.pg_inbox.specs.Runs.{AreFirst, shared_of}
 use Rattle.pg_inbox.proofs.making.parcels_of.Given as goal
 
-abbrev pub invariant-loop-target : goal.invariant-loop-target
-invariant-loop-target g l =
+abbrev pub invariant-loop-group : goal.invariant-loop-group
+invariant-loop-group g l =
     let parcels = parcels_of (g.C.MessageCombiner.combining l.combiner) in
     record {
       contents : l.parcels.items ++ parcels (groups_of l.left) ≡ parcels (groups_of l.letters);
       hold : AllByRecursion (λ p. Holds g.M.Plain.is_value p.1) l.parcels.items;
-      ahead : AreFirst l.ahead l.left;
+      ahead : AreFirst l.ahead (shared_of (groups_of l.left));
     }
 
-abbrev pub decreases-loop-target : goal.decreases-loop-target
-decreases-loop-target g l = length l.left
+abbrev pub decreases-loop-group : goal.decreases-loop-group
+decreases-loop-group g l = length l.left
