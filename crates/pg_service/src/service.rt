@@ -229,12 +229,13 @@ impl<P: Computation, C: MessageCombiner<P::Message>, M: MasterCompute> Service<P
         Ok(report)
     }
 
-    /// Lets go of what the last refresh had no more use for. Whoever waits for a refresh has its answer before that.
+    /// Lets go of what the last refresh had no more use for: what the run before it recorded and sent otherwise. Whoever
+    /// waits for a refresh has its answer before that.
     ///
     /// # Cost
     ///
-    /// A count for each piece of memory that was made anew for what partitions send to each other, at most what that
-    /// took in the refresh; none where there was no refresh since the last call.
+    /// A count for each piece of memory that the last refresh made anew in place of what was kept, at most what that took;
+    /// none where there was no refresh since the last call.
     pub fn release(&mut self)
         ensures { self.new ≡ self.old }
     {
