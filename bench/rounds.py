@@ -36,8 +36,9 @@ class Program:
         self.process = subprocess.Popen(words, stdin=pipe, stdout=pipe, text=True)
 
     def waits(self):
+        """Whether it waits for a command, or has ended."""
         with open(f"/proc/{self.process.pid}/stat") as it:
-            return it.read().rpartition(")")[2].split()[0] == "S"
+            return it.read().rpartition(")")[2].split()[0] in "SZ"
 
     def used(self):
         """Its processor time once it waits for a command."""
@@ -70,16 +71,16 @@ def main():
     program = Program([PREGELD, *(options or ["--program", "sssp"]), "--limit", "10000"])
     took = []
     for command, block in commands(lines):
-        answered = program.answer([command, *block])
+        told_and_timed = program.answer([command, *block])
         if command == "refresh":
-            answer, clock, used = answered
+            answer, clock, used = told_and_timed
             took.append((clock, used, int(answer.split()[8])))
     program.process.stdin.close()
     (clock, used, calls), *later = took
     few = [it for it in later if it[2] <= FEW]
-    clocks, useds, _ = (statistics.mean(it) for it in zip(*later))
+    mean_clock, mean_used, _ = (statistics.mean(it) for it in zip(*later))
     print(f"{shape}: first refresh {clock:.2f} s ({used:.2f} s of the processor), {calls} calls; "
-          f"after one edge {clocks * 1e3:.1f} ms ({useds * 1e3:.1f} ms) on average")
+          f"after one edge {mean_clock * 1e3:.1f} ms ({mean_used * 1e3:.1f} ms) on average")
     print(f"  {len(few)} of {len(later)} need at most {FEW} calls: {told([it[0] for it in few])};")
     print(f"  of the processor: {told([it[1] for it in few])}")
     for what, dearest in ("calls", later), (f"calls, of those with at most {FEW}", few):
