@@ -1,5 +1,5 @@
 //! The vertices that a step looks at.
-ghost use Rattle.std.specs.Prelude.{◌≡◌, ◌&&◌, [], not, IfOk, true};
+ghost use Rattle.std.specs.Prelude.{◌≡◌, ◌&&◌, not, IfOk, true};
 ghost use Rattle.std.specs.Cmp.Lexicographic.{pointwise};
 ghost use Rattle.std.specs.List.{AllByRecursion};
 ghost use Rattle.pg_model.specs.Superstep.{is_active};

@@ -1,9 +1,6 @@
 //! Messages come to their vertices.
-ghost use Rattle.std.specs.Prelude.{◌≡◌, [], ◌∷◌, ◌++◌, ◌+◌, ◌<◌, ◌≤◌, true, false, cond, length, slice_get, slice_set, Some, IsSome, IfSome, IfOk};
-ghost use Rattle.std.specs.Prelude.{MatchOption, OnOk};
-ghost use Rattle.std.specs.Ordering.{nat_cmp};
-ghost use Rattle.std.specs.List.Sorted.{IsStrictlySortedBy};
-ghost use Rattle.pg_model.specs.Superstep.{is_empty};
+ghost use Rattle.std.specs.Prelude.{◌≡◌, [], ◌<◌, ◌≤◌, length, Some, IsSome, IfSome, IfOk};
+ghost use Rattle.std.specs.Prelude.{OnOk};
 ghost use Rattle.pg_model.specs.declared.configuration.Standing.{Standing};
 ghost use Rattle.pg_delivery.specs.Inbox.{with_message, combined_so_far};
 

@@ -1,6 +1,5 @@
 //! Rows whose edges lie side by side in memory.
 ghost use Rattle.std.specs.Prelude.{◌≡◌, [], ◌∷◌, ◌++◌, IfOk, OnOk};
-ghost use Rattle.pg_edits.specs.EdgeList.{EdgeList};
 ghost use Rattle.pg_edits.specs.Packing.{AreParts, rows_of};
 
 use crate::{Edges, Memory, Row, VertexId};

@@ -1,5 +1,5 @@
 //! A batch that can't meet a limit: its edits are made of one vertex after another.
-ghost use Rattle.std.specs.Prelude.{◌≡◌, ◌+◌, ◌≤◌, ℕ, true, false, length, nat_le, Ok, Err, IfOk, IfErr, MatchResult};
+ghost use Rattle.std.specs.Prelude.{◌≡◌, ◌+◌, ◌≤◌, true, false, length, nat_le, Ok, Err, IfOk, IfErr, MatchResult};
 ghost use Rattle.pg_map.specs.Entries.{with_changes};
 ghost use Rattle.std.specs.List.Sorted.{IsPartitionPoint};
 ghost use Rattle.std.specs.Option.{option_copied};

@@ -1,9 +1,8 @@
 //! The batch of edits that brings the edges of a list into a graph.
-ghost use Rattle.std.specs.Prelude.{◌≡◌, ◌∷◌, ◌++◌, [], ℕ, true, false, not, IfOk, OnOk};
+ghost use Rattle.std.specs.Prelude.{◌≡◌, ◌∷◌, ◌++◌, [], true, false, not, IfOk, OnOk};
 ghost use Rattle.pg_graph.specs.Rows.{Rows};
 ghost use Rattle.pg_import.specs.Batch.{Makes, batch_of, edge_edit, has_edge, has_vertex, vertex_edits, with_line_edge, with_lines, with_vertex};
 ghost use Rattle.pg_import.specs.Named.{Shows};
-ghost use Rattle.pg_import.specs.NamedEdges.{named_in};
 
 use crate::named_edges::NamedEdges;
 use crate::order::Order;

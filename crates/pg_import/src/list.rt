@@ -1,5 +1,5 @@
 //! The list form: a line for each edge, with blanks and tabs between its fields.
-ghost use Rattle.std.specs.Prelude.{◌≡◌, ◌⊎◌, ◌∷◌, ◌++◌, List, pos, Ok, Err, Some, Result, map, OnOk, IfErr, IfSome};
+ghost use Rattle.std.specs.Prelude.{◌≡◌, ◌⊎◌, ◌∷◌, List, pos, Ok, Err, Some, Result, OnOk, IfErr, IfSome};
 ghost use Rattle.std.specs.Option.{option_copied, option_to_list};
 ghost use Rattle.pg_import.specs.Import.{Gives, at_line, edge_of, followed_by, list_of, no_memory, reading_of};
 ghost use Rattle.pg_import.specs.Text.{words_of};

@@ -1,5 +1,5 @@
 //! Ids and weights, read from words.
-ghost use Rattle.std.specs.Prelude.{◌≡◌, ℕ, None, Some, nat_lt, if◌then◌else◌, IfSome, IsTrue};
+ghost use Rattle.std.specs.Prelude.{◌≡◌, None, Some, nat_lt, if◌then◌else◌, IfSome, IsTrue};
 ghost use Rattle.std.specs.List.{list_all};
 ghost use Rattle.std.specs.Char.{is_ascii_digit};
 ghost use Rattle.pg_import.specs.Number.{id_of, is_numeral, number_up_to, read_on, weight_of};

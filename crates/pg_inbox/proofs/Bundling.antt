@@ -16,11 +16,12 @@ use Rattle.pg_map.proofs.Rising.{at_other, at_same, none_past, same_entries}
 use Rattle.pg_model.specs.Job.{Combining}
 use Rattle.pg_model.specs.Superstep.{has_id, is_empty, targets}
 use Rattle.pg_model.proofs.LawsMade.{has_id-targets, targets-rise}
-use Rattle.pg_inbox.specs.Bundles.{Parcels, bundle_of, contents_of}
-use Rattle.pg_inbox.specs.Grouping.{AreGroups, any_of, items_to}
+use Rattle.pg_parcel.specs.Contents.{contents_of}
+use Rattle.pg_parcel.specs.Grouping.{AreGroups, any_of, items_to}
+use Rattle.pg_parcel.proofs.Grouping.{same_id, some_not_empty}
+use Rattle.pg_inbox.specs.Bundles.{Parcels, bundle_of}
 use Rattle.pg_inbox.specs.Holding.{as_item}
 use Rattle.pg_inbox.specs.Sends.{Sends, letters_to, without_senders}
-use Rattle.pg_inbox.proofs.Grouping.{same_id, some_not_empty}
 
 pub at_id : (q id : ℕ) → is_at (nat_cmp q) id ≡ (id == q)
 at_id q id = grind (arith, nat_tests)

@@ -19,15 +19,17 @@ use Rattle.pg_model.specs.Folds.{IsCommutativeMonoid}
 use Rattle.pg_model.specs.Job.{Combining}
 use Rattle.pg_model.specs.Superstep.{combined, messages_to}
 use Rattle.pg_global.specs.Combiner.{IsLawful}
-use Rattle.pg_inbox.specs.Bundles.{Parcels, bundle_of, contents_of, messages}
-use Rattle.pg_inbox.specs.Grouping.{AreGroups, any_of, items_to}
-use Rattle.pg_inbox.specs.Holding.{Holds, HoldsAt}
+use Rattle.pg_parcel.specs.Contents.{contents_of, messages, Holds}
+use Rattle.pg_parcel.specs.Grouping.{AreGroups, any_of, items_to}
+use Rattle.pg_parcel.specs.declared.parcel.Contents.{Contents}
+use Rattle.pg_parcel.proofs.Rising.{IsUp, up-filter, up_from}
+use Rattle.pg_inbox.specs.Bundles.{Parcels, bundle_of}
+use Rattle.pg_inbox.specs.Holding.{HoldsAt}
 use Rattle.pg_inbox.specs.Ordered.{in_order}
 use Rattle.pg_inbox.specs.Inboxes.{AreInboxes, Delivers, contents_to, each_inbox, inboxes_of, letters_at, received_of}
 use Rattle.pg_inbox.specs.Sends.{AreAllOf, RiseBySender, Sends, letters_to, sent_by, without_senders}
-use Rattle.pg_inbox.specs.declared.parcel.Contents.{Contents}
 use Rattle.pg_inbox.proofs.Bundling.{at_id, rises-values, value_at-bundle_of, value_at-values}
-use Rattle.pg_inbox.proofs.Senders.{IsUp, from, in_order-from, in_order-up, permutation_by_number, same_by_number, up-filter, up_from}
+use Rattle.pg_inbox.proofs.Senders.{from, in_order-from, in_order-up, permutation_by_number, same_by_number}
 
 module _ {X Y : Type 0} where
   flat_map-append : (f : X → List Y) (xs ys : List X) → flat_map f (xs ++ ys) ≡ flat_map f xs ++ flat_map f ys

@@ -14,11 +14,11 @@ use Rattle.std.proofs.Math.Bool.{or-false, or_assoc}
 use Rattle.std.proofs.lemmas.Bool.{or_cases}
 use Rattle.pg_map.specs.Entries.{value_at}
 use Rattle.pg_model.specs.Superstep.{has_id, is_empty}
+use Rattle.pg_parcel.specs.declared.parcel.Contents.{Contents}
+use Rattle.pg_parcel.proofs.Grouping.{same_id}
 use Rattle.pg_inbox.specs.Bundles.{Entry, Parcels, each_entry, entries_in, entries_of}
 use Rattle.pg_inbox.specs.Changed.{AreCandidates, AreChanged, AreSameAt, DifferAt, IsAdded}
-use Rattle.pg_inbox.specs.declared.parcel.Contents.{Contents}
 use Rattle.pg_inbox.proofs.Bundling.{at_id}
-use Rattle.pg_inbox.proofs.Grouping.{same_id}
 
 itself : (a : ℕ) → (a == a) ≡ true
 itself a = grind (arith, nat_tests)

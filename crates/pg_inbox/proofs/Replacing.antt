@@ -15,21 +15,23 @@ use Rattle.pg_map.proofs.Changing.{rises-changes, unchanged_at, value_at-with_ch
 use Rattle.pg_model.proofs.LawsLists.{all_pass}
 use Rattle.pg_model.specs.Job.{Combining}
 use Rattle.pg_model.specs.Superstep.{has_id}
-use Rattle.pg_inbox.specs.Bundles.{Parcels, bundle_of, contents_of, entries_in}
+use Rattle.pg_parcel.specs.Contents.{contents_of}
+use Rattle.pg_parcel.specs.Grouping.{AreGroups, any_of, items_to}
+use Rattle.pg_parcel.specs.declared.parcel.Contents.{Contents}
+use Rattle.pg_parcel.proofs.Grouping.{same_id, stays}
+use Rattle.pg_parcel.proofs.Rising.{IsUp, up_from}
+use Rattle.pg_inbox.specs.Bundles.{Parcels, bundle_of, entries_in}
 use Rattle.pg_inbox.specs.Changed.{AreChanged, IsAdded}
-use Rattle.pg_inbox.specs.Grouping.{AreGroups, any_of, items_to}
 use Rattle.pg_inbox.specs.Inboxes.{letters_at}
 use Rattle.pg_inbox.specs.Mending.{additions, as_addition, as_withdrawal, changes_of, mended, mended_at, mends_of, senders_of}
 use Rattle.pg_inbox.specs.Ordered.{in_order}
 use Rattle.pg_inbox.specs.Patched.{AreReplaced, IsPatched, is_withdrawn, staying}
 use Rattle.pg_inbox.specs.Sends.{Sends, letters_to}
-use Rattle.pg_inbox.specs.declared.parcel.Contents.{Contents}
 use Rattle.pg_inbox.specs.declared.patching.Mend.{Mend}
 use Rattle.pg_inbox.proofs.Bundling.{all_from_lookups, at_id, is_bundle_of, rises-bundle_of, value_at-bundle_of}
 use Rattle.pg_inbox.proofs.Differing.{AreTold, changed_all, rises-more, told-more}
-use Rattle.pg_inbox.proofs.Grouping.{same_id, stays}
 use Rattle.pg_inbox.proofs.Delivery.{letters_at-bundle_of, same_letters, up_letters}
-use Rattle.pg_inbox.proofs.Senders.{IsUp, from, in_order-from, in_order-up, same_by_number, up_from, up_in_order}
+use Rattle.pg_inbox.proofs.Senders.{from, in_order-from, in_order-up, same_by_number, up_in_order}
 
 -- ---- a stable sort by sender
 

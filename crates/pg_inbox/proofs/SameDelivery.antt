@@ -11,14 +11,15 @@ use Rattle.pg_global.specs.Combiner.{IsLawful}
 use Rattle.pg_map.specs.Entries.{value_at, with_changes}
 use Rattle.pg_model.specs.Job.{Combining}
 use Rattle.pg_model.specs.Superstep.{combined}
+use Rattle.pg_parcel.specs.Contents.{contents_of, messages, Holds}
+use Rattle.pg_parcel.specs.Grouping.{any_of}
+use Rattle.pg_parcel.specs.declared.parcel.Contents.{Contents}
 use Rattle.pg_inbox.specs.Alike.{AllSameAt, DeliverAlike}
-use Rattle.pg_inbox.specs.Bundles.{Entry, Parcels, bundle_of, contents_of, entries_in, entries_to, messages}
-use Rattle.pg_inbox.specs.Grouping.{any_of}
-use Rattle.pg_inbox.specs.Holding.{HoldAll, Holds, HoldsAt}
+use Rattle.pg_inbox.specs.Bundles.{Entry, Parcels, bundle_of, entries_in, entries_to}
+use Rattle.pg_inbox.specs.Holding.{HoldAll, HoldsAt}
 use Rattle.pg_inbox.specs.Inboxes.{contents_to, letters_at, received_of}
 use Rattle.pg_inbox.specs.Ordered.{in_order}
 use Rattle.pg_inbox.specs.Sends.{Sends, letters_to}
-use Rattle.pg_inbox.specs.declared.parcel.Contents.{Contents}
 use Rattle.pg_inbox.proofs.Bundling.{value_at-bundle_of}
 use Rattle.pg_inbox.proofs.Delivery.{all_to_map, delivers_received, folded_at, folded_of_all, letters_at-bundle_of, letters_of_all}
 use Rattle.pg_inbox.proofs.Differing.{letter_of, letters_back}

@@ -4,11 +4,11 @@ use Rattle.std.proofs.Common.{refl, ap, sym, ◌∙◌, arith, true≢false, Boo
 use Rattle.std.specs.List.{fold, sum_by}
 use Rattle.std.specs.Option.{option_to_list}
 use Rattle.std.proofs.lemmas.List.{append-nil}
-use Rattle.std.proofs.lemmas.List.Sums.{fold-append, fold_push, sum_by-cons}
+use Rattle.std.proofs.lemmas.List.Sums.{fold-append, sum_by-cons}
 use Rattle.std.proofs.Math.Bool.{or-false}
 use Rattle.pg_model.specs.Job.{Combining}
 use Rattle.pg_model.specs.Superstep.{combined, is_empty}
-use Rattle.pg_inbox.proofs.Grouping.{some_not_empty}
+use Rattle.pg_parcel.proofs.Grouping.{some_not_empty}
 
 module _ {X : Type 0} where
   pub counted_one : (f : X → ℕ) (rest : List X) (before : ℕ) {x : X} {left : List X} {after whole : ℕ} → left ≡ x ∷ rest
@@ -25,14 +25,6 @@ none_or_any any true is h = ap not (sym is ∙ h)
 none_or_any any false is h = ap not (sym is ∙ h)
 
 module _ {M : Type 0} where
-  -- one more message is combined with what those before it come to
-  pub combined_one : (combining : Option (Combining M)) (taken : List M) (m so_far after : M) {now : List M} → taken ++ m ∷ [] ≡ now
-      → IfSome combining (λ c. so_far ≡ fold c.combine c.initial taken) → IfSome combining (λ c. after ≡ c.combine so_far m)
-      → IfSome combining (λ c. after ≡ fold c.combine c.initial now)
-  combined_one None taken m so_far after is before here = tt
-  combined_one (Some c) taken m so_far after is before here =
-      here ∙ ap (λ s. c.combine s m) before ∙ sym (fold_push c.combine c.initial taken m) ∙ ap (fold c.combine c.initial) is
-
   pub combined_all : (combining : Option (Combining M)) (messages : List M) (so_far : M) → IsSome combining → is_empty messages ≡ false
       → IfSome combining (λ c. so_far ≡ fold c.combine c.initial messages) → so_far ∷ [] ≡ combined combining messages
   combined_all None messages so_far combines some is = absurd (true≢false (sym combines))

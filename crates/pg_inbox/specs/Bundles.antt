@@ -1,12 +1,11 @@
 -- What one partition sends to another in a superstep.
 use Rattle.std.specs.Prelude.{ℕ, List, [], ◌∷◌, map, length, Option, None, Some}
-use Rattle.std.specs.List.{flat_map, fold}
-use Rattle.std.specs.Option.{option_map}
+use Rattle.std.specs.List.{flat_map}
 use Rattle.pg_map.specs.Entries.{value_at}
 use Rattle.pg_model.specs.Job.{Combining}
 use Rattle.pg_model.specs.Superstep.{targets}
+use Rattle.pg_parcel.specs.declared.parcel.Contents.{Contents}
 use Rattle.pg_inbox.specs.Sends.{Sends, letters_to, without_senders}
-use Rattle.pg_inbox.specs.declared.parcel.Contents.{Contents}
 
 -- the messages to each target, by rising target
 abbrev pub Parcels : Type 0 → Type 0
@@ -20,21 +19,6 @@ pub record Entry (M : Type 0) : Type 0 where
   pub count : ℕ
 
 module _ {M : Type 0} where
-  abbrev pub messages : List (ℕ × M) → List M
-  messages letters = map (λ l. l.1) letters
-
-  -- the fold of messages from the initial message, where they are combined
-  abbrev pub folded : Option (Combining M) → List M → Option M
-  folded combining ms = option_map (λ c. fold c.combine c.initial ms) combining
-
-  -- these messages, and what they come to
-  abbrev pub contents_of : Option (Combining M) → List (ℕ × M) → Contents M
-  contents_of combining letters = record { letters = letters; folded = folded combining (messages letters) }
-
-  -- those of each target, of messages by target
-  abbrev pub parcels_of : Option (Combining M) → List (ℕ × List (ℕ × M)) → Parcels M
-  parcels_of combining groups = map (λ g. (g.0, contents_of combining g.1)) groups
-
   -- what these sends are as a bundle
   abbrev pub bundle_of : Option (Combining M) → Sends M → Parcels M
   bundle_of combining sent =

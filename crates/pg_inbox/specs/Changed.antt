@@ -3,8 +3,8 @@ use Rattle.std.specs.Prelude.{◌≡◌, ℕ, ◌++◌, ◌⊎◌, true, false, 
 use Rattle.std.specs.List.Sorted.{IsStrictlySortedBy}
 use Rattle.std.specs.Ordering.{nat_cmp}
 use Rattle.pg_model.specs.Superstep.{has_id}
+use Rattle.pg_parcel.specs.declared.parcel.Contents.{Contents}
 use Rattle.pg_inbox.specs.Bundles.{Parcels, entries_in, entries_to}
-use Rattle.pg_inbox.specs.declared.parcel.Contents.{Contents}
 
 module _ {M : Type 0} (old new : Parcels M) where
   -- others see the same of the messages to a target; or they don't

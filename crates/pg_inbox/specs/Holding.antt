@@ -1,17 +1,9 @@
 -- What a parcel holds.
-use Rattle.std.specs.Prelude.{◌≡◌, ℕ, false, List, Option, None, Some}
-use Rattle.std.specs.List.{All, AllByRecursion}
+use Rattle.std.specs.Prelude.{ℕ, Option, None, Some}
+use Rattle.std.specs.List.{All}
 use Rattle.std.specs.Map.{values_of}
-use Rattle.pg_model.specs.Superstep.{is_empty}
+use Rattle.pg_parcel.specs.declared.parcel.Contents.{Contents}
 use Rattle.pg_inbox.specs.Bundles.{Parcels}
-use Rattle.pg_inbox.specs.declared.parcel.Contents.{Contents}
-
--- there is a message, and each is a value of its type
-abbrev pub IsLetters : {M : Type 0} → (M → Type 0) → List (ℕ × M) → Type 0
-IsLetters is_value letters = (is_empty letters ≡ false) × AllByRecursion (λ l. is_value l.1) letters
-
-abbrev pub Holds : {M : Type 0} → (M → Type 0) → Contents M → Type 0
-Holds is_value contents = IsLetters is_value contents.letters
 
 abbrev pub HoldsAt : {M : Type 0} → (M → Type 0) → Option (Contents M) → Type 0
 HoldsAt is_value None = Unit {0}

@@ -5,10 +5,11 @@ use Rattle.std.specs.Option.{option_to_list}
 use Rattle.pg_map.specs.Entries.{HasRisingIds, value_at}
 use Rattle.pg_model.specs.Job.{Combining}
 use Rattle.pg_model.specs.Superstep.{combined, delivered}
-use Rattle.pg_inbox.specs.Bundles.{Parcels, bundle_of, messages}
+use Rattle.pg_parcel.specs.Contents.{messages}
+use Rattle.pg_parcel.specs.declared.parcel.Contents.{Contents}
+use Rattle.pg_inbox.specs.Bundles.{Parcels, bundle_of}
 use Rattle.pg_inbox.specs.Ordered.{in_order}
 use Rattle.pg_inbox.specs.Sends.{AreAllOf, Sends, without_senders}
-use Rattle.pg_inbox.specs.declared.parcel.Contents.{Contents}
 
 module _ {M : Type 0} where
   -- the messages to a target, if there are any

@@ -2,8 +2,6 @@ pub mod Alike
 pub mod Bundles
 pub mod Changed
 pub mod Counting
-pub mod Grouping
-pub mod Held
 pub mod Holding
 pub mod Inboxes
 pub mod Logged
@@ -12,5 +10,4 @@ pub mod Ordered
 pub mod Patched
 pub mod Places
 pub mod Rows
-pub mod Runs
 pub mod Sends

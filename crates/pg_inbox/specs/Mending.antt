@@ -7,12 +7,13 @@ use Rattle.std.specs.Ordering.{nat_cmp}
 use Rattle.pg_map.specs.Entries.{value_at}
 use Rattle.pg_model.specs.Job.{Combining}
 use Rattle.pg_model.specs.Superstep.{has_id}
-use Rattle.pg_inbox.specs.Bundles.{Parcels, contents_of}
-use Rattle.pg_inbox.specs.Grouping.{any_of}
+use Rattle.pg_parcel.specs.Contents.{contents_of}
+use Rattle.pg_parcel.specs.Grouping.{any_of}
+use Rattle.pg_parcel.specs.declared.parcel.Contents.{Contents}
+use Rattle.pg_inbox.specs.Bundles.{Parcels}
 use Rattle.pg_inbox.specs.Inboxes.{letters_in}
 use Rattle.pg_inbox.specs.Ordered.{in_order}
 use Rattle.pg_inbox.specs.Sends.{Sends}
-use Rattle.pg_inbox.specs.declared.parcel.Contents.{Contents}
 use Rattle.pg_inbox.specs.declared.patching.Mend.{Mend}
 use Rattle.pg_inbox.specs.declared.patching.Mend.TheVariants.{Withdrawn, Added}
 

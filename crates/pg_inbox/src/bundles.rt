@@ -4,9 +4,9 @@ ghost use Rattle.std.specs.Option.{option_copied};
 ghost use Rattle.pg_map.specs.Entries.{value_at};
 ghost use Rattle.pg_inbox.specs.Holding.{HoldAll, HoldsAt};
 
-use crate::parcel::Parcel;
 use pg_graph::{Memory, VertexId};
 use pg_map::Map;
+use pg_parcel::Parcel;
 use pg_program::Plain;
 use std::marker::Model;
 

@@ -2,14 +2,14 @@
 ghost use Rattle.std.specs.Prelude.{◌≡◌, ◌++◌, ℕ, ◌↔◌, IsTrue, IfOk, OnOk};
 ghost use Rattle.std.specs.Map.{keys_of};
 ghost use Rattle.std.specs.Option.{option_copied};
-ghost use Rattle.pg_map.specs.Entries.{value_at};
+ghost use Rattle.pg_parcel.specs.Contents.{Holds};
 ghost use Rattle.pg_inbox.specs.Bundles.{entries_in, entries_of, parcels_in};
 ghost use Rattle.pg_inbox.specs.Changed.{AreCandidates, AreChanged, IsAdded};
-ghost use Rattle.pg_inbox.specs.Holding.{Holds, HoldsAt};
+ghost use Rattle.pg_inbox.specs.Holding.{HoldsAt};
 
 use crate::Bundle;
-use crate::parcel::Parcel;
 use pg_graph::{Memory, VertexId};
+use pg_parcel::Parcel;
 use pg_program::Plain;
 use std::alloc::Global;
 

@@ -1,12 +1,12 @@
 //! How many messages a bundle has.
-ghost use Rattle.std.specs.Prelude.{◌≡◌, ◌+◌, cond, length, not, is_some, true, IfOk, IfSome};
+ghost use Rattle.std.specs.Prelude.{◌≡◌, ◌+◌, cond, length, not, is_some, true, IfOk};
 ghost use Rattle.pg_graph.specs.Rows.{row_at};
 ghost use Rattle.pg_inbox.specs.Counting.{messages_where};
 ghost use Rattle.pg_inbox.specs.Inboxes.{letters_at};
 
 use crate::Bundle;
-use crate::parcel::Parcel;
 use pg_graph::{Graph, Memory, VertexId};
+use pg_parcel::Parcel;
 use pg_program::Plain;
 use std::alloc::AllocError;
 

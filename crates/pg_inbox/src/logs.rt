@@ -1,5 +1,5 @@
 //! The logs of a run: what each partition sent to each other, superstep by superstep.
-ghost use Rattle.std.specs.Prelude.{◌≡◌, ℕ, ◌==◌, ◌&&◌, [], cond, length, None, Some, OnOk, OnErr};
+ghost use Rattle.std.specs.Prelude.{◌≡◌, ℕ, ◌==◌, ◌&&◌, cond, length, None, Some, OnOk, OnErr};
 ghost use Rattle.std.specs.Option.{option_copied};
 ghost use Rattle.pg_inbox.specs.Logged.{is_pair, slot_at, slot_of};
 ghost use Rattle.pg_inbox.specs.Places.{inside, value_in};

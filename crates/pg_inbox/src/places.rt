@@ -1,5 +1,5 @@
 //! Numbered places, of which some have a value.
-ghost use Rattle.std.specs.Prelude.{◌≡◌, [], ℕ, ◌==◌, ◌<◌, cond, length, None, Some, IfSome, OnOk};
+ghost use Rattle.std.specs.Prelude.{◌≡◌, [], ℕ, ◌==◌, ◌<◌, cond, length, None, Some, OnOk};
 ghost use Rattle.std.specs.Option.{option_copied};
 ghost use Rattle.pg_inbox.specs.Places.{value_in};
 

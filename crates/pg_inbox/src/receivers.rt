@@ -2,18 +2,18 @@
 ghost use Rattle.std.specs.Prelude.{◌≡◌, ◌++◌, map, IfOk, OnOk};
 ghost use Rattle.std.specs.List.{AllByRecursion, flat_map};
 ghost use Rattle.pg_map.specs.Entries.{HasRisingIds};
-ghost use Rattle.pg_inbox.specs.Grouping.{groups_of};
-ghost use Rattle.pg_inbox.specs.Holding.{HoldAll, Holds};
+ghost use Rattle.pg_parcel.specs.Grouping.{groups_of};
+ghost use Rattle.pg_parcel.specs.Contents.{Holds};
+ghost use Rattle.pg_inbox.specs.Holding.{HoldAll};
 ghost use Rattle.pg_inbox.specs.Inboxes.{AreInboxes, each_inbox, inboxes_of};
 
 use crate::Bundle;
-use crate::grouped::{by_target, first_group};
-use crate::parcel::Parcel;
 use crate::receiving::{messages_by_sender, received};
 use pg_global::MessageCombiner;
 use pg_graph::{Memory, VertexId};
 use pg_map::Share;
 use pg_model::Sequence;
+use pg_parcel::{Parcel, by_target, first_group};
 use pg_program::Plain;
 use std::alloc::Global;
 

@@ -4,16 +4,16 @@ ghost use Rattle.std.specs.List.{AllByRecursion, flat_map, fold};
 ghost use Rattle.std.specs.Option.{option_to_list};
 ghost use Rattle.pg_map.specs.Entries.{value_at};
 ghost use Rattle.pg_model.specs.Superstep.{combined};
-ghost use Rattle.pg_inbox.specs.Bundles.{messages};
+ghost use Rattle.pg_parcel.specs.Contents.{messages};
 ghost use Rattle.pg_inbox.specs.Holding.{HoldsAt};
 ghost use Rattle.pg_inbox.specs.Inboxes.{Delivers, contents_to, folded_of, received_of};
 ghost use Rattle.pg_inbox.specs.Ordered.{in_order};
 
 use crate::Bundle;
-use crate::parcel::Parcel;
 use pg_global::MessageCombiner;
 use pg_graph::{Memory, VertexId};
 use pg_map::Share;
+use pg_parcel::Parcel;
 use pg_program::Plain;
 use std::alloc::Global;
 

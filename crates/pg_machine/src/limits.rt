@@ -1,5 +1,5 @@
 //! The numbers of a run over partitions.
-ghost use Rattle.std.specs.Prelude.{◌≡◌, ◌<◌, ◌≤◌, ◌↔◌, IsSome, IfSome};
+ghost use Rattle.std.specs.Prelude.{◌≡◌, ◌<◌, ◌↔◌, IsSome, IfSome};
 ghost use Rattle.pg_machine.specs.Limits.{AreLimits};
 ghost use Rattle.pg_graph.specs.declared.missing.Missing.TheVariants.{Drop as DropThem};
 

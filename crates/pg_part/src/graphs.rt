@@ -1,9 +1,7 @@
 //! Which vertices two graphs don't share.
 ghost use Rattle.std.specs.Prelude.{◌≡◌, ◌++◌, ◌∷◌, [], IfOk, OnOk};
-ghost use Rattle.std.specs.List.{filter};
 ghost use Rattle.pg_course.specs.Course.{AreTouched};
-ghost use Rattle.pg_graph.specs.Rows.{Rows};
-ghost use Rattle.pg_part.specs.Moved.{moved_among, moves};
+ghost use Rattle.pg_part.specs.Moved.{moved_among};
 ghost use Rattle.pg_recount.specs.Traffic.{AreMoved};
 
 use pg_course::rising;

@@ -1,5 +1,4 @@
 //! A sample program, whose values have a list.
-ghost use Rattle.std.specs.Prelude.{◌≡◌};
 
 use crate::{Computation, Cx, Vertex};
 use pg_graph::{Memory, VertexId};

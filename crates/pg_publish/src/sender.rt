@@ -3,7 +3,6 @@ ghost use Rattle.std.specs.Prelude.{◌≡◌, ◌+◌, ◌<◌, ◌++◌, ◌�
 ghost use Rattle.std.specs.Prelude.{MatchOption, MatchResult, IfOk};
 ghost use Rattle.left_right.specs.Sides.{view as known_of};
 ghost use Rattle.pg_publish.specs.Sender.{Shows, told_of};
-ghost use Rattle.pg_publish.specs.Views.{naming};
 
 use crate::history::{Front, Head, open};
 use crate::receiver::Receiver;

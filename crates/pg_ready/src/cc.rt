@@ -1,5 +1,4 @@
 //! Components: the least id that reaches a vertex.
-ghost use Rattle.std.specs.Prelude.{◌≡◌};
 
 use crate::folds::least;
 use pg_graph::{Memory, VertexId};

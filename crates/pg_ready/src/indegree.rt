@@ -1,5 +1,4 @@
 //! The number of edges to a vertex.
-ghost use Rattle.std.specs.Prelude.{◌≡◌};
 
 use pg_graph::{Memory, VertexId};
 use pg_program::{Computation, Cx, Declared, Place, Vertex};

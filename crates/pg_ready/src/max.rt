@@ -1,5 +1,4 @@
 //! The greatest input that reaches a vertex (Pregel, section 2).
-ghost use Rattle.std.specs.Prelude.{◌≡◌};
 
 use crate::folds::greatest;
 use pg_graph::{Memory, VertexId};

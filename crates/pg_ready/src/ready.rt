@@ -1,5 +1,4 @@
 //! The ready programs, one of which is chosen, and their master.
-ghost use Rattle.std.specs.Prelude.{◌≡◌};
 
 use crate::{Cc, Indegree, MaxValue, Pagerank, Peel, Sssp};
 use pg_global::{AnyAggregator, MasterCompute, MasterState, RegisterFault, Registry};

@@ -10,6 +10,7 @@ use Rattle.std.proofs.lemmas.List.Sums.{sum_by-cons}
 use Rattle.pg_graph.specs.Rows.{Rows}
 use Rattle.pg_graph.specs.declared.missing.Missing.{Missing}
 use Rattle.pg_graph.specs.declared.missing.Missing.TheVariants.{Drop, Create}
+use Rattle.pg_parcel.specs.declared.parcel.Contents.{Contents}
 use Rattle.pg_inbox.specs.Bundles.{Entry, Parcels, entries_in, entries_of, entries_to, each_entry}
 use Rattle.pg_inbox.specs.Changed.{AreChanged}
 use Rattle.pg_inbox.specs.Counting.{messages_where}
@@ -17,7 +18,6 @@ use Rattle.pg_inbox.specs.Inboxes.{letters_at}
 use Rattle.pg_inbox.specs.Logged.{Slots, slot_at}
 use Rattle.pg_inbox.specs.Patched.{TellsChanges}
 use Rattle.pg_inbox.specs.declared.logs.Logged.{Logged}
-use Rattle.pg_inbox.specs.declared.parcel.Contents.{Contents}
 use Rattle.pg_map.specs.Entries.{HasRisingIds, value_at}
 use Rattle.pg_model.proofs.LawsPresent.{at_key}
 use Rattle.pg_model.specs.Superstep.{has_id}

@@ -1,11 +1,11 @@
 //! What a superstep's contributions come to, and whether two runs have the same.
-ghost use Rattle.std.specs.Prelude.{◌≡◌, ◌==◌, ◌++◌, ◌∷◌, [], ℕ, cond, map, true, IfOk, OnOk};
+ghost use Rattle.std.specs.Prelude.{◌≡◌, ◌==◌, ◌++◌, ◌∷◌, [], cond, map, true, IfOk, OnOk};
 ghost use Rattle.std.specs.List.{fold, list_all};
 ghost use Rattle.std.specs.Option.{option_copied};
 ghost use Rattle.pg_global.specs.AnyAggregator.{initial_of, operation_of};
 ghost use Rattle.pg_global.specs.Registry.{aggregating_of};
 ghost use Rattle.pg_model.specs.Superstep.{at_place};
-ghost use Rattle.pg_recount.specs.Contributed.{are_same, contributed_by, contributes_alike, contributions_of};
+ghost use Rattle.pg_recount.specs.Contributed.{contributed_by, contributes_alike, contributions_of};
 ghost use Rattle.pg_stats.specs.Stats.{gathered_afresh};
 ghost use Rattle.pg_trace.specs.Trace.{records_of};
 

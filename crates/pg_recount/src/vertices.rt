@@ -1,5 +1,5 @@
 //! How many vertices there are, from how many there were.
-ghost use Rattle.std.specs.Prelude.{◌≡◌, ℕ, [], ◌∷◌, ◌+◌, not, length, cond, IfOk};
+ghost use Rattle.std.specs.Prelude.{◌≡◌, ℕ, [], ◌∷◌, ◌+◌, cond, IfOk};
 ghost use Rattle.std.specs.Option.{option_copied, option_to_list};
 ghost use Rattle.pg_recount.specs.Census.{IsRecounted, IsSum, IsTurnedMore, of_none, of_one, states_among};
 ghost use Rattle.pg_stats.specs.Stats.{census_of};

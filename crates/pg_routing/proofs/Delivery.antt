@@ -10,12 +10,12 @@ use Rattle.std.proofs.lemmas.Bool.Decides.{nat_tests}
 use Rattle.std.proofs.lemmas.List.{append-nil}
 use Rattle.std.proofs.lemmas.List.Elements.{filter-append}
 use Rattle.pg_graph.specs.Rows.{HasRisingIds, Rows}
+use Rattle.pg_parcel.proofs.Rising.{IsUp, up-filter}
 use Rattle.pg_inbox.specs.Bundles.{bundle_of}
 use Rattle.pg_inbox.specs.Inboxes.{Delivers}
 use Rattle.pg_inbox.specs.Logged.{Slots, slot_at}
 use Rattle.pg_inbox.specs.Sends.{AreAllOf, RiseBySender, Sends, sent_by, without_senders}
 use Rattle.pg_inbox.proofs.Delivery.{flat_map-of_map}
-use Rattle.pg_inbox.proofs.Senders.{IsUp, up-filter}
 use Rattle.pg_model.specs.ByIds.{delivered_at}
 use Rattle.pg_model.specs.Job.{Job, Program}
 use Rattle.pg_model.specs.Order.{Sending, sending_cmp, sendings, sendings_from}

@@ -1,5 +1,5 @@
 //! The bundles that a partition receives.
-ghost use Rattle.std.specs.Prelude.{◌≡◌, [], IfOk};
+ghost use Rattle.std.specs.Prelude.{◌≡◌, IfOk};
 ghost use Rattle.pg_routing.specs.Routes.{bundles_at, bundles_before};
 
 use crate::Partitioner;

@@ -1,13 +1,12 @@
 //! The executions of a superstep.
-ghost use Rattle.std.specs.Prelude.{◌≡◌, ℕ, [], ◌∷◌, ◌++◌, ◌+◌, ◌<◌, ◌^◌, true, false, cond, not, List, length, map, slice_get, slice_set, Some};
+ghost use Rattle.std.specs.Prelude.{◌≡◌, ◌++◌, ◌+◌, ◌<◌, ◌^◌, true, length, map, slice_get, slice_set, Some};
 ghost use Rattle.std.specs.Prelude.{OnOk, IfOk, IfSome, ◌≤◌};
 ghost use Rattle.std.specs.Ordering.{nat_cmp};
 ghost use Rattle.std.specs.List.Sorted.{IsStrictlySortedBy};
-ghost use Rattle.pg_model.specs.Job.{Program};
 ghost use Rattle.pg_model.specs.Superstep.{is_active as active_test, outcome, capped, edges_of};
 ghost use Rattle.pg_model.specs.declared.configuration.Standing.{Standing};
 ghost use Rattle.pg_program.specs.Computation.{Executes};
-ghost use Rattle.pg_program.specs.Context.{Context, ShowsDeclared};
+ghost use Rattle.pg_program.specs.Context.{ShowsDeclared};
 ghost use Rattle.pg_scratch.specs.Pass.{ran, context_after, ran_context, with_unhalted};
 ghost use Rattle.pg_scratch.specs.Totals.{Counts, Exchanges};
 ghost use Rattle.pg_delivery.specs.Worklist.{ListsActive};

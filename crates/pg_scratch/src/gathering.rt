@@ -1,6 +1,5 @@
 //! What the vertices of a superstep see, and what they contribute.
-ghost use Rattle.std.specs.Prelude.{◌≡◌, ◌==◌, [], ◌∷◌, ◌++◌, ◌≤◌, length, map, cond, IfOk, OnOk};
-ghost use Rattle.pg_model.specs.Job.{Totals};
+ghost use Rattle.std.specs.Prelude.{◌≡◌, ◌==◌, [], ◌∷◌, ◌++◌, length, map, cond, IfOk, OnOk};
 ghost use Rattle.pg_model.specs.Superstep.{visible_in, at_place, gathered_at, gathered_from};
 ghost use Rattle.pg_global.specs.Registry.{aggregating_of};
 

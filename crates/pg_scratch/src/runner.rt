@@ -1,6 +1,6 @@
 //! A run from scratch.
-ghost use Rattle.std.specs.Prelude.{◌≡◌, [], ℕ, ◌+◌, ◌<◌, ◌≤◌, ◌^◌, ◌==◌, true, false, cond, not, map, length, Option, Some, None, IsSome, IfOk};
-ghost use Rattle.std.specs.Prelude.{IfErr, OnOk, OnErr, IsErrOf};
+ghost use Rattle.std.specs.Prelude.{◌≡◌, [], ◌+◌, ◌<◌, ◌≤◌, ◌^◌, ◌==◌, true, false, cond, not, map, length, Option, Some, None, IsSome, IfOk};
+ghost use Rattle.std.specs.Prelude.{OnOk, OnErr, IsErrOf};
 ghost use Rattle.std.specs.List.{range_with_len};
 ghost use Rattle.pg_graph.specs.Rows.{HasRisingIds, edge_count};
 ghost use Rattle.pg_model.specs.Run.{answer, executions, beginning};

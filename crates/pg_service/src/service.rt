@@ -10,7 +10,7 @@ ghost use Rattle.pg_global.specs.Registry.{first_refusal};
 ghost use Rattle.pg_graph.specs.Rows.{HasRisingIds};
 ghost use Rattle.pg_model.specs.Run.{answer};
 ghost use Rattle.pg_service.specs.Answers.{HaveRisingIds};
-ghost use Rattle.pg_service.specs.Job.{CanRun, job_meant, registered_by};
+ghost use Rattle.pg_service.specs.Job.{job_meant, registered_by};
 ghost use Rattle.pg_service.specs.Kept.{IsKept};
 ghost use Rattle.pg_service.specs.Led.{EditLeadsOn, RefreshLeadsOn};
 ghost use Rattle.pg_service.specs.Printed.{json_text};

@@ -1,7 +1,7 @@
 //! The trace of a partition's run.
-ghost use Rattle.std.specs.Prelude.{◌≡◌, ℕ, [], length, map, take, slice_index_or, ◌<◌, ◌≤◌, IfOk, OnOk, OnErr};
+ghost use Rattle.std.specs.Prelude.{◌≡◌, length, map, ◌<◌, ◌≤◌, IfOk, OnOk, OnErr};
 ghost use Rattle.std.specs.Option.{option_copied};
-ghost use Rattle.pg_map.specs.Entries.{ChangesRise, HasRisingIds, value_at};
+ghost use Rattle.pg_map.specs.Entries.{ChangesRise, HasRisingIds};
 ghost use Rattle.pg_trace.specs.Beginning.{ChangesById, with_first};
 ghost use Rattle.pg_trace.specs.OfRun.{IsOfRun};
 ghost use Rattle.pg_trace.specs.Trace.{StatesRise, begun, lent, record_at, records_of, state_at, reaching, with_superstep, first_supersteps, with_replaced};

@@ -1,9 +1,9 @@
 use Rattle.std.proofs.Common.{◌≡◌, ℕ, Bool, true, false, not, is_some, List, [], ◌∷◌, Option, None, Some, ap, refl, subst, sym, ◌∙◌, true≢false}
 use Rattle.std.specs.Option.{option_copied, option_map}
 use Rattle.pg_model.specs.Superstep.{is_empty}
+use Rattle.pg_parcel.specs.declared.parcel.Contents.{Contents}
 use Rattle.pg_inbox.specs.Bundles.{entries_in, entries_of}
 use Rattle.pg_inbox.specs.Holding.{HoldsAt}
-use Rattle.pg_inbox.specs.declared.parcel.Contents.{Contents}
 use Rattle.pg_inbox.proofs.changing.is_same.Goals as goal
 
 module _ {M : Type 0} (target : ℕ) where

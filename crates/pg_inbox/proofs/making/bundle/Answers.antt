@@ -1,6 +1,6 @@
 use Rattle.std.proofs.Common.{ap, ◌∙◌, subst, sym}
-use Rattle.pg_inbox.specs.Bundles.{parcels_of}
-use Rattle.pg_inbox.specs.Grouping.{groups_of}
+use Rattle.pg_parcel.specs.Contents.{parcels_of}
+use Rattle.pg_parcel.specs.Grouping.{groups_of}
 use Rattle.pg_inbox.specs.Holding.{HoldAll}
 use Rattle.pg_inbox.proofs.Bundling.{bundle_from_groups}
 use Rattle.pg_inbox.proofs.SameDelivery.{hold-all}

@@ -3,7 +3,7 @@ use Rattle.std.specs.List.{AllByRecursion}
 use Rattle.std.specs.Option.{option_copied}
 use Rattle.pg_map.specs.Entries.{HasRisingIds, value_at}
 use Rattle.pg_model.proofs.LawsLists.{all-append}
-use Rattle.pg_inbox.specs.Grouping.{groups_of}
+use Rattle.pg_parcel.specs.Grouping.{groups_of}
 use Rattle.pg_inbox.specs.Holding.{HoldsAt}
 use Rattle.pg_inbox.specs.Mending.{changes_of, mended_in}
 use Rattle.pg_inbox.proofs.Replacing.{found-more, found_all}

@@ -1,8 +1,8 @@
 use Rattle.std.proofs.Common.{ap, ◌∙◌, subst, subst₂, sym}
 use Rattle.std.specs.List.{AllByRecursion}
 use Rattle.pg_map.specs.Entries.{ChangesRise, with_changes}
+use Rattle.pg_parcel.specs.Grouping.{AreGroups, groups_of}
 use Rattle.pg_inbox.specs.Changed.{AreChanged}
-use Rattle.pg_inbox.specs.Grouping.{AreGroups, groups_of}
 use Rattle.pg_inbox.specs.Holding.{HoldsAt}
 use Rattle.pg_inbox.specs.Mending.{changes_of}
 use Rattle.pg_inbox.proofs.Replacing.{changes_rise, patched}

@@ -1,9 +1,9 @@
 use Rattle.std.proofs.Common.{◌++◌, ◌∷◌, [], ap, subst, sym, ◌∙◌}
 use Rattle.pg_map.specs.Entries.{HasRisingIds}
-use Rattle.pg_inbox.specs.Holding.{Holds}
 use Rattle.pg_map.proofs.Filling.{all_pushed}
 use Rattle.pg_map.proofs.Moved.{moved_all, moved_one}
 use Rattle.std.specs.List.{AllByRecursion}
+use Rattle.pg_parcel.specs.Contents.{Holds}
 use Rattle.pg_inbox.proofs.receivers.add_parcels.Goals as goal
 
 pub loop-target-init : goal.loop-target-init

@@ -1,6 +1,6 @@
 use Rattle.std.proofs.Common.{◌≡◌, ◌++◌}
 use Rattle.std.specs.List.{AllByRecursion}
-use Rattle.pg_inbox.specs.Holding.{Holds}
+use Rattle.pg_parcel.specs.Contents.{Holds}
 use Rattle.pg_inbox.proofs.receivers.add_parcels.Given as goal
 
 abbrev pub invariant-loop-target : goal.invariant-loop-target

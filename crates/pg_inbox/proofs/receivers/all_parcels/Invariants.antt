@@ -1,7 +1,7 @@
 use Rattle.std.proofs.Common.{◌≡◌, take}
 use Rattle.std.specs.List.{AllByRecursion, flat_map}
 use Rattle.pg_map.specs.Entries.{HasRisingIds}
-use Rattle.pg_inbox.specs.Holding.{Holds}
+use Rattle.pg_parcel.specs.Contents.{Holds}
 use Rattle.pg_inbox.proofs.receivers.all_parcels.Given as goal
 
 abbrev pub invariant-loop-bundle : goal.invariant-loop-bundle

@@ -4,8 +4,8 @@ use Rattle.std.proofs.lemmas.Result.{IfOk-weaker}
 use Rattle.std.specs.Map.{values_of}
 use Rattle.std.proofs.lemmas.List.Elements.{recursion_from_All}
 use Rattle.pg_map.specs.Entries.{HasRisingIds}
-use Rattle.pg_inbox.specs.Grouping.{AreGroups, groups_of}
-use Rattle.pg_inbox.specs.Holding.{Holds}
+use Rattle.pg_parcel.specs.Grouping.{AreGroups, groups_of}
+use Rattle.pg_parcel.specs.Contents.{Holds}
 use Rattle.pg_inbox.specs.Inboxes.{AreInboxes, inboxes_of}
 use Rattle.pg_inbox.proofs.Delivery.{all_of_map, all_to_map, are_inboxes, flat_map-of_map, inboxes_of_one, only_one}
 use Rattle.pg_inbox.proofs.receivers.inboxes.Goals as goal

@@ -1,5 +1,5 @@
 use Rattle.std.proofs.Common.{◌≡◌, ◌++◌, length}
-use Rattle.pg_inbox.specs.Grouping.{groups_of}
+use Rattle.pg_parcel.specs.Grouping.{groups_of}
 use Rattle.pg_inbox.specs.Inboxes.{inboxes_of}
 use Rattle.pg_inbox.proofs.receivers.inboxes_of.Given as goal
 

@@ -1,7 +1,7 @@
 use Rattle.std.proofs.Common.{◌≤◌, ◌<◌, [], ◌∷◌, ◌++◌, ap, subst, ◌∙◌}
 use Rattle.std.proofs.lemmas.List.{take_all}
 use Rattle.pg_map.proofs.Filling.{mapped_more}
-use Rattle.pg_inbox.specs.Bundles.{messages}
+use Rattle.pg_parcel.specs.Contents.{messages}
 use Rattle.pg_inbox.proofs.receiving.messages_in.Goals as goal
 
 pub letter-requires-after_bounds : goal.letter-requires-after_bounds

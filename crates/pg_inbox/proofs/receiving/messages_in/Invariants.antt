@@ -1,5 +1,5 @@
 use Rattle.std.proofs.Common.{◌≡◌, take}
-use Rattle.pg_inbox.specs.Bundles.{messages}
+use Rattle.pg_parcel.specs.Contents.{messages}
 use Rattle.pg_inbox.proofs.receiving.messages_in.Given as goal
 
 abbrev pub invariant-loop-place : goal.invariant-loop-place

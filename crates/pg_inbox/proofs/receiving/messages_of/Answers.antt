@@ -1,8 +1,8 @@
 use Rattle.std.proofs.Common.{ℕ, [], ◌∷◌, ◌++◌, ap, append_assoc, sym, ◌∙◌}
 use Rattle.std.proofs.lemmas.List.{nil_from_length}
-use Rattle.pg_inbox.specs.Bundles.{messages}
 use Rattle.pg_map.proofs.Filling.{mapped_taken}
 use Rattle.pg_map.proofs.Moved.{moved_all}
+use Rattle.pg_parcel.specs.Contents.{messages}
 use Rattle.pg_inbox.proofs.receiving.messages_of.Goals as goal
 
 pub loop-message-init : goal.loop-message-init

@@ -1,5 +1,5 @@
 use Rattle.std.proofs.Common.{◌≡◌, ◌++◌}
-use Rattle.pg_inbox.specs.Bundles.{messages}
+use Rattle.pg_parcel.specs.Contents.{messages}
 use Rattle.pg_inbox.proofs.receiving.messages_of.Given as goal
 
 abbrev pub invariant-loop-message : goal.invariant-loop-message

@@ -1,6 +1,6 @@
 use Rattle.std.proofs.Common.{map, sym, ap, ◌∙◌}
 use Rattle.std.proofs.lemmas.Result.{IfOk-weaker}
-use Rattle.pg_inbox.specs.Bundles.{messages}
+use Rattle.pg_parcel.specs.Contents.{messages}
 use Rattle.pg_inbox.specs.Ordered.{in_order}
 use Rattle.pg_inbox.proofs.Delivery.{received_in_order}
 use Rattle.pg_inbox.proofs.receiving.received.Goals as goal

@@ -2,7 +2,7 @@ use Rattle.std.proofs.Common.{of_calls, rules, ap, ◌∙◌}
 use Rattle.std.proofs.lemmas.Fn.{always_returns_same}
 use Rattle.std.proofs.lemmas.List.Sorted.{IsNonDecreasingBy-from_sort}
 use Rattle.std.proofs.lemmas.Result.{IfOk-weaker}
-use Rattle.pg_inbox.specs.Bundles.{messages}
+use Rattle.pg_parcel.specs.Contents.{messages}
 use Rattle.pg_inbox.proofs.Replacing.{sorted_in_order}
 use Rattle.pg_inbox.proofs.receiving.sorted_messages.Goals as goal
 

@@ -1,0 +1,4 @@
+pub mod Ahead
+pub mod Grouping
+pub mod Folding
+pub mod Rising
