@@ -2,6 +2,7 @@
 use Rattle.std.specs.Prelude.{ℕ, Option, None, Some}
 use Rattle.std.specs.List.{All}
 use Rattle.std.specs.Map.{values_of}
+use Rattle.pg_parcel.specs.Contents.{Holds}
 use Rattle.pg_parcel.specs.declared.parcel.Contents.{Contents}
 use Rattle.pg_inbox.specs.Bundles.{Parcels}
 

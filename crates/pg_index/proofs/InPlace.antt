@@ -1,24 +1,22 @@
 -- Notes that are made in place, one after another, and records that are put in the superstep that comes next.
-use Rattle.std.proofs.Common.{◌≡◌, ℕ, Bool, suc, ◌+◌, ◌-◌, ◌<◌, ◌≤◌, ◌==◌, ◌≢◌, ◌⊎◌, inl, inr, true, false}
-use Rattle.std.proofs.Common.{cond, List, [], ◌∷◌, ◌++◌, length, get_or, set, take, drop, Option, None, Some, is_some}
-use Rattle.std.proofs.Common.{true≢false, unwrap_or, option_map, refl, sym, ap, ◌∙◌, subst, ⊎_elim, append_assoc, arith, ltb, eq-eqb}
+use Rattle.std.proofs.Common.{◌≡◌, ℕ, suc, ◌+◌, ◌-◌, ◌<◌, ◌≤◌, ◌==◌, ◌≢◌, ◌⊎◌, inl, inr, true, false}
+use Rattle.std.proofs.Common.{cond, List, [], ◌∷◌, ◌++◌, length, get_or, set, take, drop, Option, None, Some}
+use Rattle.std.proofs.Common.{unwrap_or, option_map, refl, sym, ap, ◌∙◌, subst, ⊎_elim, append_assoc, arith, ltb, eq-eqb}
 use Rattle.std.specs.BTreeMap.{insert_entry, is_at}
 use Rattle.std.specs.List.{AllByRecursion, filter}
 use Rattle.std.specs.List.Sorted.{IsNonDecreasingBy}
 use Rattle.std.specs.Map.{keys_of}
 use Rattle.std.specs.Ordering.{nat_cmp}
 use Rattle.std.specs.declared.cmp.Ordering.TheVariants.{Less}
-use Rattle.std.specs.Option.{option_and_then}
-use Rattle.std.proofs.lemmas.Bool.{cases_eq, ltb-true}
+use Rattle.std.proofs.lemmas.Bool.{cases_eq}
 use Rattle.std.proofs.lemmas.Bool.Decides.{eqb_tells, nat_tests}
 use Rattle.std.proofs.lemmas.List.{append-nil, get_or_default, take_more, take-append-drop}
-use Rattle.std.proofs.lemmas.List.Elements.{filter-append}
 use Rattle.std.proofs.lemmas.Map.Entries.{lookup_tail}
 use Rattle.std.proofs.lemmas.Map.Keys.{sorted_head, sorted_tail}
 use Rattle.pg_map.specs.Entries.{ChangesRise, HasRisingIds, value_at, with_changes}
 use Rattle.pg_map.proofs.Changing.{value_at-with_changes}
 use Rattle.pg_map.proofs.Rising.{at_other, at_same, find-insert_other, find-insert_same, insert_entry-take}
-use Rattle.pg_index.specs.Ran.{IsIndex, IsLastButOne, IsNoted, IsNotedOf, Ran, last_of, noted, ran_by, remembered, steps_in, with_ran}
+use Rattle.pg_index.specs.Ran.{IsIndex, IsNoted, IsNotedOf, Ran, last_of, noted, ran_by, with_ran}
 use Rattle.pg_index.specs.Records.{put_at}
 use Rattle.pg_index.proofs.Noting.{index-next, index-set}
 use Rattle.pg_index.proofs.Somes.{nothing_rises}
@@ -55,86 +53,37 @@ pub last_of_below : (s t : ℕ) (steps : List ℕ) → ((k : ℕ) → k < length
     → Some t ≡ last_of (filter (λ t. ltb t s) steps)
 last_of_below s t steps low last = last ∙ sym (ap last_of (all_below s steps low).0)
 
-last_low : (s t : ℕ) (steps : List ℕ) → ((k : ℕ) → k < length steps → get_or steps k 0 < s) → last_of steps ≡ Some t → t < s
-last_low s t [] low last = absurd (true≢false (sym (ap is_some last)))
-last_low s t (u ∷ steps) low last =
-    let at : t ≡ get_or (u ∷ steps) (length steps) 0 = ap (λ o. unwrap_or o 0) (sym last ∙ sym (last_of_all (u ∷ steps) (length steps) refl)) in
-    let below = low (length steps) (omega arith) in
-    omega (arith, at, below)
-
 ran_last : (s : ℕ) (steps : List ℕ) → ((k : ℕ) → k < length steps → get_or steps k 0 < s) → with_ran s true steps ≡ steps ++ s ∷ []
 ran_last s steps low =
     let below = all_below s steps low in
     ap (λ l. l ++ s ∷ [] ++ filter (λ t. ltb s t) steps) below.0 ∙ ap (λ l. steps ++ s ∷ [] ++ l) below.1 ∙ append-nil (steps ++ s ∷ [])
 
--- it leaves the last of the others as the last but one
-pub last_but_one : (s t : ℕ) (steps : List ℕ) → ((k : ℕ) → k < length steps → get_or steps k 0 < s) → Some t ≡ last_of steps
-    → Some t ≡ option_and_then (λ u. last_of (filter (λ t. ltb t u) (steps ++ s ∷ []))) (last_of (steps ++ s ∷ []))
-last_but_one s t steps low last =
-    last_of_below s t steps low last
-    ∙ sym (ap (option_and_then (λ u. last_of (filter (λ t. ltb t u) (steps ++ s ∷ [])))) (last_of-push steps s)
-    ∙ ap last_of (filter-append (λ t. ltb t s) steps (s ∷ [])
-    ∙ ap (λ b. filter (λ t. ltb t s) steps ++ cond b (s ∷ []) []) (not_lower s s (omega arith)) ∙ append-nil (filter (λ t. ltb t s) steps)))
-
 module _ {X : Type 0} where
-  -- what is remembered is of the last superstep but one
-  pub remembered_is : (s : ℕ) (runs : Bool) (before : Option (Ran X)) → IsNonDecreasingBy (λ t. t) (steps_in before)
-      → IsLastButOne (remembered s runs before) (with_ran s runs (steps_in before))
-  remembered_is s false before rises = tt
-  remembered_is s true None rises = tt
-  remembered_is s true (Some ran) rises = by (last_of ran.steps) refl
-    where
-      one : (t : ℕ) → last_of ran.steps ≡ Some t → (b : Bool) → ltb t s ≡ b → IsLastButOne (cond b (Some (t, ran.last)) None) (with_ran s true ran.steps)
-      one t last false h = tt
-      one t last true h =
-          let low = below_the_last s t ran.steps rises (sym last) (ltb-true t s h) in
-          subst (IsLastButOne (Some (t, ran.last))) (sym (ran_last s ran.steps low)) (last_but_one s t ran.steps low (sym last))
-
-      by : (o : Option ℕ) → last_of ran.steps ≡ o
-          → IsLastButOne (elim o [ None ↦ None | Some t ↦ cond (ltb t s) (Some (t, ran.last)) None ]) (with_ran s true ran.steps)
-      by None last = tt
-      by (Some t) last = one t last (ltb t s) refl
-
-  abbrev ran_at : List ℕ → Option (ℕ × X) → (ℕ → Option X) → Option ℕ → Option (Ran X)
-  ran_at steps e f None = None
-  ran_at steps e f (Some t) = option_map {U = Ran X} (λ last. record { steps = steps; last = last; earlier = e }) (f t)
+  abbrev ran_at : List ℕ → (ℕ → Option X) → Option ℕ → Option (Ran X)
+  ran_at steps f None = None
+  ran_at steps f (Some t) = option_map {U = Ran X} (λ last. record { steps = steps; last = last }) (f t)
 
   -- what is made of the record of the last superstep, if there is one
-  pub ran_found : (id : ℕ) (records : List (List (ℕ × X))) (s : ℕ) (given : Option X) (earlier : Option (ℕ × X)) (steps : List ℕ) (t : ℕ) {kept : Option X}
+  pub ran_found : (id : ℕ) (records : List (List (ℕ × X))) (s : ℕ) (given : Option X) (steps : List ℕ) (t : ℕ) {kept : Option X}
       → Some t ≡ last_of steps → kept ≡ cond (t == s) given (value_at id (get_or records t []))
-      → option_map {U = Ran X} (λ last. record { steps = steps; last = last; earlier = earlier }) kept ≡ ran_by id records s given earlier steps
-  ran_found id records s given earlier steps t last is =
-      ap (option_map {U = Ran X} (λ last. record { steps = steps; last = last; earlier = earlier })) is
-      ∙ ap (ran_at steps earlier (λ t. cond (t == s) given (value_at id (get_or records t [])))) last
-
-  -- where all supersteps are below one, the last of them is remembered
-  recalled : (s : ℕ) (ran : Ran X) → ((k : ℕ) → k < length ran.steps → get_or ran.steps k 0 < s)
-      → remembered s true (Some ran) ≡ option_map {U = ℕ × X} (λ t. (t, ran.last)) (last_of ran.steps)
-  recalled s ran low = by (last_of ran.steps) refl
-    where
-      by : (o : Option ℕ) → last_of ran.steps ≡ o
-          → elim o [ None ↦ None | Some t ↦ cond (ltb t s) (Some (t, ran.last)) None ] ≡ option_map {U = ℕ × X} (λ t. (t, ran.last)) o
-      by None last = refl
-      by (Some t) last = ap (λ b. cond b (Some (t, ran.last)) None) (lower t s (last_low s t ran.steps low last))
+      → option_map {U = Ran X} (λ last. record { steps = steps; last = last }) kept ≡ ran_by id records s given steps
+  ran_found id records s given steps t last is =
+      ap (option_map {U = Ran X} (λ last. record { steps = steps; last = last })) is
+      ∙ ap (ran_at steps (λ t. cond (t == s) given (value_at id (get_or records t [])))) last
 
   noted_last : (id : ℕ) (records : List (List (ℕ × X))) (s : ℕ) (x : X) (ran : Ran X) → ((k : ℕ) → k < length ran.steps → get_or ran.steps k 0 < s)
-      → noted id records s (Some (Some x)) (Some ran)
-      ≡ Some (record { steps = ran.steps ++ s ∷ []; last = x; earlier = option_map {U = ℕ × X} (λ t. (t, ran.last)) (last_of ran.steps) })
+      → noted id records s (Some (Some x)) (Some ran) ≡ Some (record { steps = ran.steps ++ s ∷ []; last = x })
   noted_last id records s x ran low =
       let all = ran.steps ++ s ∷ [] in
-      let e = option_map {U = ℕ × X} (λ t. (t, ran.last)) (last_of ran.steps) in
-      ap (λ e. ran_by id records s (Some x) e (with_ran s true ran.steps)) (recalled s ran low)
-      ∙ ap (ran_by id records s (Some x) e) (ran_last s ran.steps low)
-      ∙ ap (ran_at all e (λ t. cond (t == s) (Some x) (value_at id (get_or records t [])))) (last_of-push ran.steps s)
-      ∙ ap (λ b. option_map {U = Ran X} (λ last. record { steps = all; last = last; earlier = e }) (cond b (Some x) (value_at id (get_or records s []))))
+      ap (ran_by id records s (Some x)) (ran_last s ran.steps low)
+      ∙ ap (ran_at all (λ t. cond (t == s) (Some x) (value_at id (get_or records t [])))) (last_of-push ran.steps s)
+      ∙ ap (λ b. option_map {U = Ran X} (λ last. record { steps = all; last = last }) (cond b (Some x) (value_at id (get_or records s []))))
       (eq-eqb s s refl)
 
   pub noted_pushed : (id : ℕ) (records : List (List (ℕ × X))) (s : ℕ) (x y : X) (ran ran' : Ran X) → ((k : ℕ) → k < length ran.steps → get_or ran.steps k 0 < s)
-      → ran' ≡ record { steps = ran.steps ++ s ∷ []; last = y; earlier = option_map {U = ℕ × X} (λ t. (t, ran.last)) (last_of ran.steps) } → y ≡ x
-      → Some ran' ≡ noted id records s (Some (Some x)) (Some ran)
+      → ran' ≡ record { steps = ran.steps ++ s ∷ []; last = y } → y ≡ x → Some ran' ≡ noted id records s (Some (Some x)) (Some ran)
   noted_pushed id records s x y ran ran' low pushed same =
-      let last_one : Option (ℕ × X) = option_map (λ t. (t, ran.last)) (last_of ran.steps) in
-      let with_last : X → Ran X = λ k. record { steps = ran.steps ++ s ∷ []; last = k; earlier = last_one } in
+      let with_last : X → Ran X = λ k. record { steps = ran.steps ++ s ∷ []; last = k } in
       ap Some (pushed ∙ ap with_last same) ∙ sym (noted_last id records s x ran low)
 
 -- ---- one note after another

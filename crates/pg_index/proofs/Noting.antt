@@ -1,18 +1,17 @@
 -- What the notes of a superstep make of an index.
 use Rattle.std.proofs.Common.{◌≡◌, ℕ, zero, suc, ◌+◌, ◌<◌, ◌≤◌, ◌==◌, ◌≢◌, ◌⊎◌, inl, inr, true≢false, Bool, true, false, cond, List, [], ◌∷◌, ◌++◌, length, map}
-use Rattle.std.proofs.Common.{get_or, set, take, Option, None, Some, IfSome, is_some, unwrap_or, option_map, refl, sym, ap, ◌∙◌, subst, arith, ltb}
+use Rattle.std.proofs.Common.{get_or, set, take, Option, None, Some, is_some, unwrap_or, option_map, refl, sym, ap, ◌∙◌, subst, arith}
 use Rattle.std.specs.BTreeMap.{is_at}
 use Rattle.std.specs.List.Sorted.{IsStrictlySortedBy}
 use Rattle.std.specs.Option.{option_and_then}
 use Rattle.std.proofs.Math.ListN.{get_or-eq_default}
 use Rattle.std.specs.Map.{keys_of}
 use Rattle.std.specs.Ordering.{nat_cmp}
-use Rattle.std.proofs.lemmas.Bool.{ltb-true}
 use Rattle.std.proofs.lemmas.Bool.Decides.{eqb_tells, nat_tests}
-use Rattle.std.proofs.lemmas.List.{get_or-set_other, get_or-set_same, get_or-take, get_or_default, length-take, take_more}
+use Rattle.std.proofs.lemmas.List.{get_or-set_other, get_or-set_same, get_or_default, length-take, take_more}
 use Rattle.pg_map.specs.Entries.{ChangesRise, HasRisingIds, value_at, with_changes}
 use Rattle.pg_map.proofs.Changing.{value_at-with_changes}
-use Rattle.pg_index.specs.Ran.{IsIndex, IsNoted, IsRanIn, Ran, Remembers, bare, last_of, noted, ran_by, ran_from, ran_in, remembered, steps_in, with_ran}
+use Rattle.pg_index.specs.Ran.{IsIndex, IsNoted, Ran, last_of, noted, ran_by, ran_from, ran_in, steps_in, with_ran}
 use Rattle.pg_index.specs.Records.{last_record}
 use Rattle.pg_index.proofs.Supersteps.{Agrees, last_record_is, ran-less, ran-push, ran-set, steps_noted}
 
@@ -40,7 +39,7 @@ module _ {X : Type 0} where
   steps_of_ran id rs = by (last_record id rs) (ran_from id 0 rs) (last_record_is id rs).1
     where
       by : (o : Option X) (steps : List ℕ) → is_some o ≡ is_some (last_of steps)
-          → steps_in (option_map {U = Ran X} (λ last. record { steps = steps; last = last; earlier = None }) o) ≡ steps
+          → steps_in (option_map {U = Ran X} (λ last. record { steps = steps; last = last }) o) ≡ steps
       by None [] e = refl
       by None (t ∷ steps) e = absurd (true≢false (sym e))
       by (Some x) steps e = refl
@@ -48,18 +47,18 @@ module _ {X : Type 0} where
   -- an id of which an index has what there is to say
   by_steps : (id : ℕ) (rs : List (List (ℕ × X))) (steps : List ℕ) (f : ℕ → Option X) → ran_from id 0 rs ≡ steps
       → ((t : ℕ) → f t ≡ value_at id (get_or rs t []))
-      → elim (last_of steps) [ None ↦ None | Some t ↦ option_map {U = Ran X} (λ last. record { steps = steps; last = last; earlier = None }) (f t) ]
+      → elim (last_of steps) [ None ↦ None | Some t ↦ option_map {U = Ran X} (λ last. record { steps = steps; last = last }) (f t) ]
       ≡ ran_in id rs
   by_steps id rs steps f ran at =
       put (last_of steps)
-      ∙ ap (λ o. option_map {U = Ran X} (λ last. record { steps = steps; last = last; earlier = None }) o)
+      ∙ ap (λ o. option_map {U = Ran X} (λ last. record { steps = steps; last = last }) o)
       (sym ((last_record_is id rs).0 ∙ ap (λ l. option_and_then (λ t. value_at id (get_or rs t [])) (last_of l)) ran))
-      ∙ ap (λ l. option_map {U = Ran X} (λ last. record { steps = l; last = last; earlier = None }) (last_record id rs)) (sym ran)
+      ∙ ap (λ l. option_map {U = Ran X} (λ last. record { steps = l; last = last }) (last_record id rs)) (sym ran)
     where
-      put : (o : Option ℕ) → elim o [ None ↦ None | Some t ↦ option_map {U = Ran X} (λ last. record { steps = steps; last = last; earlier = None }) (f t) ]
-          ≡ option_map {U = Ran X} (λ last. record { steps = steps; last = last; earlier = None }) (option_and_then (λ t. value_at id (get_or rs t [])) o)
+      put : (o : Option ℕ) → elim o [ None ↦ None | Some t ↦ option_map {U = Ran X} (λ last. record { steps = steps; last = last }) (f t) ]
+          ≡ option_map {U = Ran X} (λ last. record { steps = steps; last = last }) (option_and_then (λ t. value_at id (get_or rs t [])) o)
       put None = refl
-      put (Some t) = ap (option_map {U = Ran X} (λ last. record { steps = steps; last = last; earlier = None })) (at t)
+      put (Some t) = ap (option_map {U = Ran X} (λ last. record { steps = steps; last = last })) (at t)
 
   -- what an id has of which nothing is said
   in_same : (id : ℕ) (rs rs' : List (List (ℕ × X))) → ran_from id 0 rs' ≡ ran_from id 0 rs
@@ -73,111 +72,25 @@ module _ {X : Type 0} where
   given_at id rs records s None t = value_at id (get_or rs t [])
   given_at id rs records s (Some given) t = cond (t == s) given (value_at id (get_or records t []))
 
-  -- but for what is remembered
-  pub steps_bare : (o : Option (Ran X)) → steps_in (bare o) ≡ steps_in o
-  steps_bare None = refl
-  steps_bare (Some r) = refl
-
   abbrev pub newest : Option (Ran X) → Option X
   newest o = option_map (λ r. r.last) o
-
-  pub newest_bare : (o : Option (Ran X)) → newest (bare o) ≡ newest o
-  newest_bare None = refl
-  newest_bare (Some r) = refl
 
   pub newest_is : (id : ℕ) (rs : List (List (ℕ × X))) → newest (ran_in id rs) ≡ last_record id rs
   newest_is id rs = by (last_record id rs)
     where
-      by : (o : Option X) → newest (option_map {U = Ran X} (λ last. record { steps = ran_from id 0 rs; last = last; earlier = None }) o) ≡ o
+      by : (o : Option X) → newest (option_map {U = Ran X} (λ last. record { steps = ran_from id 0 rs; last = last }) o) ≡ o
       by None = refl
       by (Some x) = refl
-
-  abbrev made_of : List ℕ → (ℕ → Option X) → Option (ℕ × X) → Option ℕ → Option (Ran X)
-  made_of steps f e o = elim o [ None ↦ None | Some t ↦ option_map {U = Ran X} (λ last. record { steps = steps; last = last; earlier = e }) (f t) ]
-
-  bare_of : (steps : List ℕ) (f : ℕ → Option X) (e : Option (ℕ × X)) (o : Option ℕ) → bare (made_of steps f e o) ≡ made_of steps f None o
-  bare_of steps f e None = refl
-  bare_of steps f e (Some t) = by (f t)
-    where
-      by : (v : Option X) → bare (option_map {U = Ran X} (λ last. record { steps = steps; last = last; earlier = e }) v)
-          ≡ option_map {U = Ran X} (λ last. record { steps = steps; last = last; earlier = None }) v
-      by None = refl
-      by (Some x) = refl
-
-  -- an earlier superstep with its record
-  abbrev IsThere : ℕ → List (List (ℕ × X)) → Option (ℕ × X) → Type 0
-  IsThere id rs e = IfSome e (λ e. value_at id (get_or rs e.0 []) ≡ Some e.1)
-
-  remembers_of : (id : ℕ) (rs : List (List (ℕ × X))) (steps : List ℕ) (f : ℕ → Option X) (e : Option (ℕ × X)) (o : Option ℕ) → IsThere id rs e
-      → Remembers id rs (made_of steps f e o)
-  remembers_of id rs steps f e None there = tt
-  remembers_of id rs steps f e (Some t) there = by (f t)
-    where
-      by : (v : Option X) → Remembers id rs (option_map {U = Ran X} (λ last. record { steps = steps; last = last; earlier = e }) v)
-      by None = tt
-      by (Some x) = there
-
-  there_still : (id : ℕ) (rs rs' : List (List (ℕ × X))) → ((t : ℕ) → value_at id (get_or rs' t []) ≡ value_at id (get_or rs t []))
-      → (e : Option (ℕ × X)) → IsThere id rs e → IsThere id rs' e
-  there_still id rs rs' at None there = tt
-  there_still id rs rs' at (Some e) there = at e.0 ∙ there
-
-  remembers_still : (id : ℕ) (rs rs' : List (List (ℕ × X))) → ((t : ℕ) → value_at id (get_or rs' t []) ≡ value_at id (get_or rs t []))
-      → (o : Option (Ran X)) → Remembers id rs o → Remembers id rs' o
-  remembers_still id rs rs' at None there = tt
-  remembers_still id rs rs' at (Some r) there = there_still id rs rs' at r.earlier there
-
-  -- the last record is that of the last superstep
-  last_there : (id : ℕ) (rs : List (List (ℕ × X))) (r : Ran X) (t : ℕ) → bare (Some r) ≡ ran_in id rs
-      → last_of r.steps ≡ Some t → value_at id (get_or rs t []) ≡ Some r.last
-  last_there id rs r t is last =
-      let at : List ℕ → Option X = λ steps. option_and_then (λ k. value_at id (get_or rs k [])) (last_of steps) in
-      let steps : r.steps ≡ ran_from id 0 rs = ap steps_in is ∙ steps_of_ran id rs in
-      let newest_one : Some r.last ≡ last_record id rs = ap newest is ∙ newest_is id rs in
-      sym (newest_one ∙ (last_record_is id rs).0 ∙ sym (ap at steps) ∙ ap (option_and_then (λ k. value_at id (get_or rs k []))) last)
-
-  -- what is remembered is there, once superstep s is noted, above which and in which alone records change
-  recalled : (id : ℕ) (rs rs' records : List (List (ℕ × X))) (s : ℕ) (given : Option X) (before : Option (Ran X)) → bare before ≡ ran_in id rs
-      → ((t : ℕ) → value_at id (get_or rs' t []) ≡ given_at id rs records s (Some given) t)
-      → ((t : ℕ) → t < s → value_at id (get_or records t []) ≡ value_at id (get_or rs t [])) → IsThere id rs' (remembered s (is_some given) before)
-  recalled id rs rs' records s None before was at low = tt
-  recalled id rs rs' records s (Some g) None was at low = tt
-  recalled id rs rs' records s (Some g) (Some r) was at low = by (last_of r.steps) refl
-    where
-      below : (t : ℕ) → ltb t s ≡ true → (t == s) ≡ false
-      below t h = grind (arith, nat_tests)
-
-      one : (t : ℕ) → last_of r.steps ≡ Some t → (b : Bool) → ltb t s ≡ b → IsThere id rs' (cond b (Some (t, r.last)) None)
-      one t last false h = tt
-      one t last true h =
-          at t ∙ ap (λ b. cond b (Some g) (value_at id (get_or records t []))) (below t h)
-          ∙ low t (ltb-true t s h) ∙ last_there id rs r t was last
-
-      by : (o : Option ℕ) → last_of r.steps ≡ o → IsThere id rs' (elim o [ None ↦ None | Some t ↦ cond (ltb t s) (Some (t, r.last)) None ])
-      by None last = tt
-      by (Some t) last = one t last (ltb t s) refl
 
   -- an index of some supersteps, once a superstep is noted, is one of the supersteps that are then
   indexed : (id : ℕ) (rs rs' records : List (List (ℕ × X))) (s : ℕ) (o : Option (Option X)) (before after : Option (Ran X))
-      → IsRanIn id rs before → after ≡ noted id records s o before
+      → before ≡ ran_in id rs → after ≡ noted id records s o before
       → ran_from id 0 rs' ≡ steps_noted s (option_map is_some o) (ran_from id 0 rs)
-      → ((t : ℕ) → value_at id (get_or rs' t []) ≡ given_at id rs records s o t)
-      → ((t : ℕ) → t < s → value_at id (get_or records t []) ≡ value_at id (get_or rs t [])) → IsRanIn id rs' after
-  indexed id rs rs' records s None before after was is ran at low = record {
-    is = ap bare is ∙ was.is ∙ in_same id rs rs' ran at;
-    remembers = subst (Remembers id rs') (sym is) (remembers_still id rs rs' at before was.remembers);
-  }
-  indexed id rs rs' records s (Some given) before after was is ran at low =
-      let steps : steps_in before ≡ ran_from id 0 rs = sym (steps_bare before) ∙ ap steps_in was.is ∙ steps_of_ran id rs in
-      let record_at : ℕ → Option X = λ t. cond (t == s) given (value_at id (get_or records t [])) in
-      let all = with_ran s (is_some given) (steps_in before) in
-      let e = remembered s (is_some given) before in record {
-        is = ap bare is ∙ bare_of all record_at e (last_of all)
-            ∙ ap (λ b. ran_by id records s given None (with_ran s (is_some given) b)) steps
-            ∙ by_steps id rs' (with_ran s (is_some given) (ran_from id 0 rs)) record_at ran (λ t. sym (at t));
-        remembers = subst (Remembers id rs') (sym is)
-            (remembers_of id rs' all record_at e (last_of all) (recalled id rs rs' records s given before was.is at low));
-      }
+      → ((t : ℕ) → value_at id (get_or rs' t []) ≡ given_at id rs records s o t) → after ≡ ran_in id rs'
+  indexed id rs rs' records s None before after was is ran at = is ∙ was ∙ in_same id rs rs' ran at
+  indexed id rs rs' records s (Some given) before after was is ran at =
+      is ∙ ap (λ b. ran_by id records s given (with_ran s (is_some given) b)) (ap steps_in was ∙ steps_of_ran id rs)
+      ∙ by_steps id rs' (with_ran s (is_some given) (ran_from id 0 rs)) (λ t. cond (t == s) given (value_at id (get_or records t []))) ran (λ t. sym (at t))
 
 first_is : (n : ℕ) → 0 + n ≡ n
 first_is n = omega arith
@@ -262,13 +175,6 @@ module _ {X : Type 0} (id : ℕ) where
           ∙ ap (λ v. cond (t == length (take n rs)) v here) is ∙ ap (λ m. cond (t == m) None here) long ∙ none_there t n here none)
       by (Some x) is = sym (none_there t n here none)
 
-  less_below : (rs : List (List (ℕ × X))) (n t : ℕ) → n < length rs → t < n
-      → value_at id (get_or (take n rs) t []) ≡ value_at id (get_or (take (n + 1) rs) t [])
-  less_below rs n t within below =
-      let short = length-take n rs in
-      let long = length-take (n + 1) rs in
-      ap (value_at id) (get_or-take n rs t [] (omega (arith, short, within, below)) ∙ sym (get_or-take (n + 1) rs t [] (omega (arith, long, within, below))))
-
   changed_there : (rs : List (List (ℕ × X))) (n : ℕ) (xs : List (ℕ × X)) (o : Option (Option X)) → n < length rs
       → value_at id xs ≡ unwrap_or o (value_at id (get_or rs n [])) → (t : ℕ) → value_at id (get_or (set rs n xs) t []) ≡ given_at id rs rs n o t
   changed_there rs n xs o within new t =
@@ -308,7 +214,7 @@ module _ {X : Type 0} where
       (subst (λ c. Agrees (option_map is_some c) false (is_some (value_at id xs))) (sym o) (come (value_at id xs)))
       ∙ ap (λ n. steps_noted n (option_map is_some (value_at id given)) (ran_from id 0 rs)) (first_is (length rs)) in
       indexed id rs (rs ++ xs ∷ []) rs (length rs) (value_at id given) (value_at id ran) (value_at id ran') (index id) (notes id) steps
-      (pushed id rs xs (value_at id given) o) (λ t below. refl)
+      (pushed id rs xs (value_at id given) o)
 
   -- what is pushed need be no more than what is given: an id that is given none has none there
   pub index-next : (rs : List (List (ℕ × X))) (xs : List (ℕ × X)) (given : List (ℕ × Option X)) (ran ran' : List (ℕ × Ran X)) → IsIndex rs ran
@@ -319,7 +225,7 @@ module _ {X : Type 0} where
       let steps = ran-push id 0 rs xs (option_map is_some (value_at id given)) agree
       ∙ ap (λ n. steps_noted n (option_map is_some (value_at id given)) (ran_from id 0 rs)) (first_is (length rs)) in
       indexed id rs (rs ++ xs ∷ []) rs (length rs) (value_at id given) (value_at id ran) (value_at id ran') (index id) (notes id) steps
-      (added id rs xs (value_at id given) (are id)) (λ t below. refl)
+      (added id rs xs (value_at id given) (are id))
 
   pub index-less : (rs : List (List (ℕ × X))) (n : ℕ) (r : List (ℕ × X)) (given : List (ℕ × Option X)) (ran ran' : List (ℕ × Ran X)) → n < length rs
       → r ≡ get_or rs n r
@@ -331,7 +237,7 @@ module _ {X : Type 0} where
       (subst (λ c. Agrees (option_map is_some c) (is_some (value_at id (get_or rs n []))) false) (sym o) (gone (value_at id (get_or rs n []))))
       ∙ ap (λ k. steps_noted k (option_map is_some (value_at id given)) (ran_from id 0 (take (n + 1) rs))) (first_is n) in
       indexed id (take (n + 1) rs) (take n rs) (take n rs) n (value_at id given) (value_at id ran) (value_at id ran') (index id) (notes id) steps
-      (lessened id rs n (value_at id given) within o) (λ t below. less_below id rs n t within below)
+      (lessened id rs n (value_at id given) within o)
 
   pub index-set : (rs : List (List (ℕ × X))) (n : ℕ) (r xs : List (ℕ × X)) (given : List (ℕ × Option X))
       (ran ran' : List (ℕ × Ran X)) → n < length rs → r ≡ get_or rs n r
@@ -348,7 +254,7 @@ module _ {X : Type 0} where
       let steps = ran-set id 0 n rs xs (option_map is_some (value_at id given)) within agree
       ∙ ap (λ k. steps_noted k (option_map is_some (value_at id given)) (ran_from id 0 rs)) (first_is n) in
       indexed id rs (set rs n xs) rs n (value_at id given) (value_at id ran) (value_at id ran') (index id) (notes id) steps
-      (changed_there id rs n xs (value_at id given) within new) (λ t below. refl)
+      (changed_there id rs n xs (value_at id given) within new)
 
 -- past the last superstep no id has a record
 pub rises_past : {X : Type 0} (rs : List (List (ℕ × X))) (n : ℕ) → length rs ≤ n → HasRisingIds (get_or rs n [])

@@ -1,20 +1,18 @@
 -- What an index has of each id: in which supersteps it ran, and its last record.
-use Rattle.std.specs.Prelude.{◌≡◌, ℕ, ◌+◌, ◌==◌, nat_lt, Bool, true, false, cond, List, [], ◌∷◌, ◌++◌}
-use Rattle.std.specs.Prelude.{Option, None, Some, IfSome, ⊤, is_some, slice_index_or, unwrap_or}
+use Rattle.std.specs.Prelude.{◌≡◌, ℕ, ◌+◌, ◌==◌, nat_lt, Bool, cond, List, [], ◌∷◌, ◌++◌}
+use Rattle.std.specs.Prelude.{Option, None, Some, is_some, slice_index_or, unwrap_or}
 use Rattle.std.specs.BTreeMap.{is_at}
 use Rattle.std.specs.List.{filter}
 use Rattle.std.specs.List.Sorted.{IsNonDecreasingBy}
-use Rattle.std.specs.Option.{option_and_then, option_map}
+use Rattle.std.specs.Option.{option_map}
 use Rattle.std.specs.Ordering.{nat_cmp}
 use Rattle.pg_map.specs.Entries.{value_at}
 use Rattle.pg_index.specs.Records.{last_record}
 
--- the supersteps in which an id ran, rising, and the record of the last of them; and of an earlier one the superstep with
--- its record, where that is remembered
+-- the supersteps in which an id ran, rising, and the record of the last of them
 pub record Ran (X : Type 0) : Type 0 where
   pub steps : List ℕ
   pub last : X
-  pub earlier : Option (ℕ × X)
 
 -- the supersteps below s, and those above it
 abbrev pub steps_below : ℕ → List ℕ → List ℕ
@@ -33,37 +31,19 @@ last_of [] = None
 last_of (step ∷ steps) = Some (unwrap_or (last_of steps) step)
 
 module _ {X : Type 0} where
-  -- a superstep with its record, if there is one, is the last but one of these
-  abbrev pub IsLastButOne : Option (ℕ × X) → List ℕ → Type 0
-  IsLastButOne earlier steps = IfSome earlier (λ e. Some e.0 ≡ option_and_then (λ t. last_of (steps_below t steps)) (last_of steps))
-
   -- in which of these supersteps an id ran, where the first is superstep `from`
   abbrev pub ran_from : ℕ → ℕ → List (List (ℕ × X)) → List ℕ
   ran_from id from [] = []
   ran_from id from (records ∷ later) =
       cond (is_some (value_at id records)) (from ∷ ran_from id (from + 1) later) (ran_from id (from + 1) later)
 
-  -- what these supersteps have of an id, if it ran in any; nothing is remembered
+  -- what these supersteps have of an id, if it ran in any
   abbrev pub ran_in : ℕ → List (List (ℕ × X)) → Option (Ran X)
-  ran_in id records = option_map (λ last. record { steps = ran_from id 0 records; last = last; earlier = None }) (last_record id records)
-
-  -- all but what is remembered
-  abbrev pub bare : Option (Ran X) → Option (Ran X)
-  bare ran = option_map (λ r. record { steps = r.steps; last = r.last; earlier = None }) ran
-
-  -- what is remembered of an earlier superstep is its record
-  abbrev pub Remembers : ℕ → List (List (ℕ × X)) → Option (Ran X) → Type 0
-  Remembers id records None = ⊤
-  Remembers id records (Some ran) = IfSome ran.earlier (λ e. value_at id (slice_index_or records e.0 []) ≡ Some e.1)
-
-  -- that is what these supersteps have of an id
-  pub record IsRanIn (id : ℕ) (records : List (List (ℕ × X))) (ran : Option (Ran X)) : Type 0 where
-    pub is : bare ran ≡ ran_in id records
-    pub remembers : Remembers id records ran
+  ran_in id records = option_map (λ last. record { steps = ran_from id 0 records; last = last }) (last_record id records)
 
   -- an index has that of each id
   abbrev pub IsIndex : List (List (ℕ × X)) → List (ℕ × Ran X) → Type 0
-  IsIndex records index = (id : ℕ) → IsRanIn id records (value_at id index)
+  IsIndex records index = (id : ℕ) → value_at id index ≡ ran_in id records
 
   -- in which supersteps an index says that an id ran
   abbrev pub steps_in : Option (Ran X) → List ℕ
@@ -74,30 +54,19 @@ module _ {X : Type 0} where
   abbrev pub StepsRise : List (ℕ × Ran X) → Type 0
   StepsRise index = (id : ℕ) → IsNonDecreasingBy (λ t. t) (steps_in (value_at id index))
 
-  -- the last superstep with its record, where it comes before s
-  abbrev pub last_if_below : ℕ → Ran X → Option (ℕ × X)
-  last_if_below s ran = elim (last_of ran.steps) [ None ↦ None | Some t ↦ cond (nat_lt t s) (Some (t, ran.last)) None ]
-
-  -- what is remembered once superstep s gave an id a record: the last one, where that came before s
-  abbrev pub remembered : ℕ → Bool → Option (Ran X) → Option (ℕ × X)
-  remembered s false before = None
-  remembered s true None = None
-  remembered s true (Some ran) = last_if_below s ran
-
-  -- what an id has that ran in these supersteps, where superstep s gave it this, the others are among the records, and this is remembered
-  abbrev pub ran_by : ℕ → List (List (ℕ × X)) → ℕ → Option X → Option (ℕ × X) → List ℕ → Option (Ran X)
-  ran_by id records s given earlier steps =
+  -- what an id has that ran in these supersteps, where superstep s gave it this and the others are among the records
+  abbrev pub ran_by : ℕ → List (List (ℕ × X)) → ℕ → Option X → List ℕ → Option (Ran X)
+  ran_by id records s given steps =
       elim (last_of steps) [
         | None ↦ None
-        | Some t ↦ option_map (λ last. record { steps = steps; last = last; earlier = earlier })
+        | Some t ↦ option_map (λ last. record { steps = steps; last = last })
             (cond (t == s) given (value_at id (slice_index_or records t [])))
       ]
 
   -- what an id has once it is noted what superstep s gave it, and where nothing is said of it
   abbrev pub noted : ℕ → List (List (ℕ × X)) → ℕ → Option (Option X) → Option (Ran X) → Option (Ran X)
   noted id records s None before = before
-  noted id records s (Some given) before =
-      ran_by id records s given (remembered s (is_some given) before) (with_ran s (is_some given) (steps_in before))
+  noted id records s (Some given) before = ran_by id records s given (with_ran s (is_some given) (steps_in before))
 
   -- an index after notes of superstep s: to which ids it gave a record, and to which none
   abbrev pub IsNoted : List (List (ℕ × X)) → ℕ → List (ℕ × Option X) → List (ℕ × Ran X) → List (ℕ × Ran X) → Type 0

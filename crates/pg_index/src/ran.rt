@@ -3,12 +3,12 @@ ghost use Rattle.std.specs.Prelude.{◌≡◌, ◌++◌, ◌+◌, ◌<◌, ◌^�
 ghost use Rattle.std.specs.List.Sorted.{IsNonDecreasingBy};
 ghost use Rattle.std.specs.Option.{option_and_then, option_copied};
 ghost use Rattle.pg_map.specs.Entries.{value_at};
-ghost use Rattle.pg_index.specs.Ran.{IsLastButOne, IsRanIn, last_of, noted, ran_by, remembered};
+ghost use Rattle.pg_index.specs.Ran.{last_of, noted, ran_by, ran_in};
 ghost use Rattle.pg_index.specs.Ran.{steps_above, steps_below, steps_in, with_ran};
 ghost use Rattle.pg_index.specs.Records.{last_record};
 
 use crate::kept::Kept;
-use crate::steps::{Earlier, Steps};
+use crate::steps::Steps;
 use pg_graph::{Memory, VertexId};
 use pg_map::{Map, Share};
 use pg_model::Record;
@@ -22,7 +22,7 @@ pub(crate) fn last_before<'t, V: Drop, M: Drop>(
     id: VertexId,
     superstep: usize,
 ) -> Option<&'t Record<V, M>>
-    requires { IsRanIn id supersteps.now (option_copied ran) }
+    requires { option_copied ran ≡ ran_in id supersteps.now }
     ensures { option_copied result ≡ last_record id (take superstep supersteps.now) }
 {
     let step = step_before(ran, superstep);
@@ -47,7 +47,7 @@ pub(crate) fn last_around<'t, V: Drop, M: Drop>(
     id: VertexId,
     superstep: usize,
 ) -> LastRecords<'t, V, M>
-    requires index { IsRanIn id supersteps.now (option_copied ran) }
+    requires index { option_copied ran ≡ ran_in id supersteps.now }
     requires counts { superstep + 1 < 2 ^ 64 }
     ensures before { option_copied result.before ≡ last_record id (take superstep supersteps.now) }
     ensures after { option_copied result.after ≡ last_record id (take (superstep + 1) supersteps.now) }
@@ -84,16 +84,13 @@ fn record_of<'t, V: Drop, M: Drop>(
     id: VertexId,
     step: Option<usize>,
 ) -> Option<&'t Record<V, M>>
-    requires { IsRanIn id supersteps.now (option_copied ran) }
+    requires { option_copied ran ≡ ran_in id supersteps.now }
     ensures { option_copied result ≡ option_and_then (λ t. value_at id (slice_index_or supersteps.now t [])) step }
 {
     let step = step?;
     if let Some(ran) = ran {
         if ran.is_latest(step) {
             return Some(ran.last().record());
-        }
-        if let Some(kept) = ran.earlier(step) {
-            return Some(kept.record());
         }
     }
     let kept = kept_in(supersteps, id, step)?;
@@ -131,32 +128,12 @@ pub(crate) fn after<V: Drop, M: Drop>(
     given: Option<&Kept<V, M>>,
     before: Option<&Steps<V, M>>,
 ) -> Result<Option<Steps<V, M>>, Memory>
-    requires { IsNonDecreasingBy (λ t. t) (steps_in (option_copied before)) }
     ensures { IfOk result (λ after.
         after ≡ noted id supersteps.now superstep (Some (option_copied given.entry)) (option_copied before.entry)) }
 {
     let runs = given.is_some();
     let steps = stepped(alloc, steps_in(before), superstep, runs)?;
-    let earlier = remembered(alloc, superstep, runs, before)?;
-    ran_by(alloc, supersteps, id, superstep, given, earlier, steps)
-}
-
-/// What is remembered once a superstep gave a vertex a record or none.
-fn remembered<V: Drop, M: Drop>(
-    alloc: Global,
-    superstep: usize,
-    runs: bool,
-    before: Option<&Steps<V, M>>,
-) -> Result<Earlier<V, M>, Memory>
-    ensures { IfOk result (λ earlier. earlier ≡ remembered superstep runs (option_copied before.entry)) }
-{
-    if !runs {
-        return Ok(None);
-    }
-    match before {
-        Some(ran) => ran.last_if_below(alloc, superstep),
-        None => Ok(None),
-    }
+    ran_by(alloc, supersteps, id, superstep, given, steps)
 }
 
 /// The supersteps that an index has of a vertex.
@@ -169,18 +146,16 @@ fn steps_in<'t, V: Drop, M: Drop>(ran: Option<&'t Steps<V, M>>) -> &'t [usize]
     }
 }
 
-/// What a vertex has that ran in these supersteps, with what is remembered.
+/// What a vertex has that ran in these supersteps.
 fn ran_by<V: Drop, M: Drop>(
     alloc: Global,
     supersteps: &[Map<Kept<V, M>>],
     id: VertexId,
     superstep: usize,
     given: Option<&Kept<V, M>>,
-    earlier: Earlier<V, M>,
     steps: Vec<usize>,
 ) -> Result<Option<Steps<V, M>>, Memory>
-    requires { IsLastButOne earlier steps.items }
-    ensures { IfOk result (λ ran. ran ≡ ran_by id supersteps.now superstep (option_copied given.entry) earlier steps.items) }
+    ensures { IfOk result (λ ran. ran ≡ ran_by id supersteps.now superstep (option_copied given.entry) steps.items) }
 {
     let Some(last) = last_of(steps.as_slice()) else {
         return Ok(None);
@@ -191,7 +166,7 @@ fn ran_by<V: Drop, M: Drop>(
         kept_in(supersteps, id, last)
     };
     match kept {
-        Some(kept) => Ok(Some(Steps::of(alloc, steps, last, kept.share(alloc)?, earlier)?)),
+        Some(kept) => Ok(Some(Steps::of(alloc, steps, last, kept.share(alloc)?)?)),
         None => Ok(None),
     }
 }

@@ -2,30 +2,24 @@
 ghost use Rattle.std.specs.Prelude.{◌≡◌, ◌++◌, ◌∷◌, [], ℕ, ◌<◌, length, slice_index, Some, IfNone, IfOk, IfSome, OnErr, OnOk, IsTrue};
 ghost use Rattle.std.specs.Arc.{arc_value};
 ghost use Rattle.std.specs.List.Sorted.{IsNonDecreasingBy};
-ghost use Rattle.std.specs.Option.{option_map};
 ghost use Rattle.pg_index.specs.History.{IsPushed, IsSame};
-ghost use Rattle.pg_index.specs.Ran.{IsLastButOne, last_if_below, last_of, steps_below};
+ghost use Rattle.pg_index.specs.Ran.{last_of, steps_below};
 
 use crate::kept::Kept;
 use pg_graph::Memory;
 use pg_map::Share;
 use std::alloc::Global;
 use std::marker::Model;
-use std::mem::replace;
 use std::sync::Arc;
 
 /// In which supersteps a vertex ran, rising, and the record of the last of them. The last one is noted beside their list,
-/// and the last but one with its record may be remembered, so that most look-ups don't read that.
+/// so that most look-ups don't read that.
 #[derive(Drop)]
 struct History<V, M> {
     supersteps: Vec<usize>,
     latest: usize,
     last: Kept<V, M>,
-    earlier: Earlier<V, M>,
 }
-
-/// The last superstep but one with its record, if it is remembered.
-pub(crate) type Earlier<V, M> = Option<(usize, Kept<V, M>)>;
 
 /// In which supersteps a vertex ran, and its last record, in one piece of memory, which copies share.
 pub(crate) struct Steps<V, M> {
@@ -61,23 +55,20 @@ impl<V: Drop, M: Drop> Share for Steps<V, M> {
 }
 
 impl<V: Drop, M: Drop> Steps<V, M> {
-    /// These supersteps, of which this is the last, with a record and what is remembered.
+    /// These supersteps, of which this is the last, with a record.
     pub(crate) fn of(
         alloc: Global,
         supersteps: Vec<usize>,
         latest: usize,
         last: Kept<V, M>,
-        earlier: Earlier<V, M>,
     ) -> Result<Steps<V, M>, Memory>
-        requires latest { Some latest ≡ last_of supersteps.items }
-        requires earlier { IsLastButOne earlier supersteps.items }
-        ensures { IfOk result (λ steps. steps ≡ record { steps = supersteps.items; last = last; earlier = earlier }) }
+        requires { Some latest ≡ last_of supersteps.items }
+        ensures { IfOk result (λ steps. steps ≡ record { steps = supersteps.items; last = last }) }
     {
         let history = History {
             supersteps,
             latest,
             last,
-            earlier,
         };
         Ok(Steps {
             shared: Arc::new(alloc, history)?,
@@ -98,31 +89,7 @@ impl<V: Drop, M: Drop> Steps<V, M> {
         &self.shared.last
     }
 
-    /// The last superstep with its record, where it comes before this one.
-    pub(crate) fn last_if_below(
-        &self,
-        alloc: Global,
-        superstep: usize,
-    ) -> Result<Earlier<V, M>, Memory>
-        ensures { IfOk result (λ earlier. earlier ≡ last_if_below superstep self.now) }
-    {
-        if self.shared.latest < superstep {
-            return Ok(Some((self.shared.latest, self.shared.last.share(alloc)?)));
-        }
-        Ok(None)
-    }
-
-    /// The record of a superstep, where it is remembered.
-    pub(crate) fn earlier(&self, superstep: usize) -> Option<&Kept<V, M>>
-        ensures { IfSome result (λ kept. self.now.earlier ≡ Some (superstep, kept.now)) }
-    {
-        match &self.shared.earlier {
-            Some((step, kept)) => { if *step == superstep { Some(kept) } else { None } }
-            None => None,
-        }
-    }
-
-    /// Adds a superstep above the others, whose record is the last one now. The one before is remembered.
+    /// Adds a superstep above the others, whose record is the last one now.
     pub(crate) fn push(
         &mut self,
         alloc: Global,
@@ -130,11 +97,7 @@ impl<V: Drop, M: Drop> Steps<V, M> {
         last: Kept<V, M>,
     ) -> Result<(), Memory>
         requires { (k : ℕ) → k < length self.old.steps → slice_index self.old.steps k < superstep }
-        ensures { OnOk result (self.new ≡ record {
-          steps = self.old.steps ++ superstep ∷ [];
-          last = last;
-          earlier = option_map (λ t. (t, self.old.last)) (last_of self.old.steps);
-        }) }
+        ensures { OnOk result (self.new ≡ record { steps = self.old.steps ++ superstep ∷ []; last = last }) }
     {
         if let Some(last) = add_in_place(&mut self.shared, superstep, last)? {
             self.shared = longer(alloc, &self.shared, superstep, last)?;
@@ -150,19 +113,13 @@ impl<V: Drop, M: Drop> Steps<V, M> {
         self.shared.latest < superstep
     }
 
-    /// The last of them that is below a superstep: the last of all, the last but one where that is remembered, or found by
-    /// halving.
+    /// The last of them that is below a superstep: the last of all, or found by halving.
     pub(crate) fn last_below(&self, superstep: usize) -> Option<usize>
         requires { IsNonDecreasingBy (λ t. t) self.now.steps }
         ensures { result ≡ last_of (steps_below superstep self.now.steps) }
     {
         if self.are_below(superstep) {
             return Some(self.shared.latest);
-        }
-        if self.is_latest(superstep) {
-            if let Some((step, _)) = &self.shared.earlier {
-                return Some(*step);
-            }
         }
         last_below(self.supersteps(), superstep)
     }
@@ -188,8 +145,7 @@ fn add_in_place<V: Drop, M: Drop>(
     match Arc::get_mut(shared) {
         Some(history) => {
             history.supersteps.push(superstep)?;
-            let before = replace(&mut history.last, last);
-            history.earlier = Some((history.latest, before));
+            history.last = last;
             history.latest = superstep;
             Ok(None)
         }
@@ -208,13 +164,10 @@ fn longer<V: Drop, M: Drop>(
 {
     let mut supersteps = Vec::from_slice(alloc, history.supersteps.as_slice())?;
     supersteps.push(superstep)?;
-    let earlier = Some((history.latest, history.last.share(alloc)?));
-    let latest = superstep;
     let longer = History {
         supersteps,
-        latest,
+        latest: superstep,
         last,
-        earlier,
     };
     Ok(Arc::new(alloc, longer)?)
 }

@@ -51,13 +51,6 @@ returns-in-Some-clause-noted g c =
     c.index_mut-in-Some.ensures.value refl refl).0
     (over base (all_of notes) c.requires.rising c.requires.sound.rise id (Some e.1) found) c.in_ok-note_again.ensures
 
-pub after-requires : goal.after-requires
-after-requires g c =
-    let notes = c.args.notes.now.items in
-    let none = ap (λ l. value_at c.args.id (all_of l)) (sym c.as_slice.ensures.value) ∙ c.in_default.ensures.none in
-    subst (λ o. IsNonDecreasingBy (λ t. t) (steps_in o))
-    (over c.args.base.now (all_of notes) c.requires.rising c.requires.sound.rise c.args.id None none ∙ sym c.get.ensures.value) c.requires.steps
-
 pub returns-clause-noted : goal.returns-clause-noted
 returns-clause-noted g c =
     let id = c.args.id in

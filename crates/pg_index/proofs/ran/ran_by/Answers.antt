@@ -11,8 +11,8 @@ use Rattle.pg_index.proofs.ran.ran_by.Goals.{then-last-superstep, else-last-supe
 apart : (t s : ℕ) → t ≢ s → (t == s) ≡ false
 apart t s other = grind (arith, nat_tests)
 
-pub of-requires-clause-latest : goal.of-requires-clause-latest
-of-requires-clause-latest g c = c.in-Some.ensures ∙ ap last_of c.as_slice.ensures.value
+pub of-requires : goal.of-requires
+of-requires g c = c.in-Some.ensures ∙ ap last_of c.as_slice.ensures.value
 
 pub returns-in-None : goal.returns-in-None
 returns-in-None g c =
@@ -28,7 +28,7 @@ returns-in-None g c =
       | else-last-superstep w ↦ ap option_copied w.kept-is ∙ w.kept_in-kept.ensures
           ∙ sym (ap (λ (b : Bool). cond b given (value_at id (get_or rs t []))) (apart t s w.if-last-superstep.false))
     ] in
-    ran_found id rs s given c.args.earlier c.args.steps.items t (c.in-Some.ensures ∙ ap last_of c.as_slice.ensures.value)
+    ran_found id rs s given c.args.steps.items t (c.in-Some.ensures ∙ ap last_of c.as_slice.ensures.value)
     (sym (ap option_copied c.in-None.is) ∙ told)
 
 pub returns-in_ok-of-in-Some-kept : goal.returns-in_ok-of-in-Some-kept
@@ -46,7 +46,7 @@ returns-in_ok-of-in-Some-kept g c =
           ∙ sym (ap (λ (b : Bool). cond b given (value_at id (get_or rs t []))) (apart t s w.if-last-superstep.false))
     ] in
     ap Some c.in_ok-of-in-Some-kept.ensures
-    ∙ ran_found id rs s given c.args.earlier c.args.steps.items t (c.in-Some.ensures ∙ ap last_of c.as_slice.ensures.value)
+    ∙ ran_found id rs s given c.args.steps.items t (c.in-Some.ensures ∙ ap last_of c.as_slice.ensures.value)
     (ap Some c.in_ok-share-in-Some-kept.ensures ∙ sym (ap option_copied c.in-Some-kept.is) ∙ told)
 
 pub returns-in_err-share-in-Some-kept : goal.returns-in_err-share-in-Some-kept

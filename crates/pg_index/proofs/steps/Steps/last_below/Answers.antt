@@ -8,4 +8,4 @@ pub returns-then-are_below : goal.returns-then-are_below
 returns-then-are_below g c =
     ap (λ h. Some h.latest) c.deref.ensures
     ∙ last_of_below c.args.superstep (arc_value c.self.inside.shared).latest c.args.self.now.steps (c.if-are_below.ensures refl)
-    (c.self.invariant.0 ∙ ap (λ s. last_of s.steps) c.self.view_is)
+    (c.self.invariant ∙ ap (λ s. last_of s.steps) c.self.view_is)

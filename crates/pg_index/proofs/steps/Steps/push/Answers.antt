@@ -1,4 +1,4 @@
-use Rattle.std.proofs.Common.{◌≡◌, ℕ, ◌<◌, length, get_or, IfNone, IfSome, sym, ◌∙◌, subst}
+use Rattle.std.proofs.Common.{◌≡◌, IfNone, IfSome, ◌∙◌, subst}
 use Rattle.std.specs.Arc.{arc_value}
 use Rattle.pg_index.specs.History.{IsPushed}
 use Rattle.pg_index.proofs.Histories.{sound-pushed}
@@ -9,8 +9,7 @@ invariant_of-self-in-Some g c =
     let s = c.args.superstep in
     let stays = subst (λ o. IfSome o (λ kept. (kept ≡ c.args.last) × (arc_value c.add_in_place.new.shared ≡ arc_value c.self.inside.shared)))
     c.in-Some.is c.in_ok-last.ensures.same in
-    let low = subst (λ r. (k : ℕ) → k < length r.steps → get_or r.steps k 0 < s) (sym c.self.view_is) c.requires in
-    sound-pushed s c.in-Some.last (arc_value c.self.inside.shared) (arc_value c.in_ok-self-inside.field-0) c.self.invariant low
+    sound-pushed s c.in-Some.last (arc_value c.self.inside.shared) (arc_value c.in_ok-self-inside.field-0)
     (subst (λ before. IsPushed s c.in-Some.last before (arc_value c.in_ok-self-inside.field-0)) (c.deref.ensures ∙ stays.1) c.in_ok-self-inside.ensures)
 
 pub invariant_of-self-in_default : goal.invariant_of-self-in_default
@@ -18,5 +17,4 @@ invariant_of-self-in_default g c =
     let s = c.args.superstep in
     let pushed = subst (λ o. IfNone o (IsPushed s c.args.last (arc_value c.self.inside.shared) (arc_value c.add_in_place.new.shared)))
     c.in_default.is c.in_ok-last.ensures.added in
-    let low = subst (λ r. (k : ℕ) → k < length r.steps → get_or r.steps k 0 < s) (sym c.self.view_is) c.requires in
-    sound-pushed s c.args.last (arc_value c.self.inside.shared) (arc_value c.add_in_place.new.shared) c.self.invariant low pushed
+    sound-pushed s c.args.last (arc_value c.self.inside.shared) (arc_value c.add_in_place.new.shared) pushed
