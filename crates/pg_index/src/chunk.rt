@@ -35,6 +35,7 @@ pub(crate) fn get<'a, X>(chunks: &'a [Chunk<X>], near: &mut usize, id: VertexId)
 
 /// In which chunk the value at an id stands, and at which place there. `near` becomes how many chunks begin at the id or
 /// below it. Where it was that before, from a look-up near this one, it costs a binary search in one chunk alone; else two.
+/// Where the chunk has each id from its first one up to this, that in it is one step.
 pub(crate) fn found<X>(
     chunks: &[Chunk<X>],
     near: &mut usize,
@@ -49,7 +50,12 @@ pub(crate) fn found<X>(
     if begun == 0 {
         return None;
     }
-    match place_of(chunks[begun - 1].entries.as_slice(), id) {
+    let chunk = &chunks[begun - 1];
+    let entries = chunk.entries.as_slice();
+    if let Some(place) = place_in_step(entries, chunk.first, id) {
+        return Some((begun - 1, place));
+    }
+    match place_of(entries, id) {
         Ok(place) => Some((begun - 1, place)),
         Err(_) => None,
     }
@@ -85,6 +91,20 @@ fn is_at_most(id: VertexId, other: VertexId) -> bool
     ensures { result ≡ nat_le id other }
 {
     id <= other
+}
+
+/// The place of an id among entries, if they have each id from the first one up to it. It may say none where there are
+/// gaps.
+fn place_in_step<X>(entries: &[(VertexId, X)], first: VertexId, id: VertexId) -> Option<usize>
+    ensures within { IfSome result (λ place. place < length entries.now) }
+    ensures found { IfSome result (HoldsAt (λ e. nat_cmp e.0 id ≡ Equal) entries.now) }
+{
+    let place = id.number().checked_sub(first.number())? as usize;
+    let entry = entries.get(place)?;
+    if entry.0 != id {
+        return None;
+    }
+    Some(place)
 }
 
 /// The place of an id among entries, or else where it would be put.

@@ -15,7 +15,7 @@ place_of-requires g c =
     let some : 0 < length c.args.chunks.now = omega (arith, c.if-begun-eq0.false, c.begun-begun.ensures.bound) in
     let at = here c.args.id c.args.chunks.now c.requires n c.begun-begun.ensures.parts (n - 1) c.index-chunks-begun.result refl c.begun-begun.ensures.bound
     some c.index-chunks-begun.is in
-    subst HasRisingIds (sym (c.as_slice.ensures.value ∙ sym (ap listed c.index-chunks-begun.is))) at.rises
+    subst HasRisingIds (sym c.as_slice-entries.ensures.value) at.rises
 
 pub returns-in-Err-clause-none : goal.returns-in-Err-clause-none
 returns-in-Err-clause-none g c =
@@ -24,6 +24,6 @@ returns-in-Err-clause-none g c =
     let chunk = c.index-chunks-begun.result in
     let some : 0 < length c.args.chunks.now = omega (arith, c.if-begun-eq0.false, c.begun-begun.ensures.bound) in
     let at = here id c.args.chunks.now c.requires n c.begun-begun.ensures.parts (n - 1) chunk refl c.begun-begun.ensures.bound some c.index-chunks-begun.is in
-    let seen : c.as_slice.result.now ≡ listed chunk = c.as_slice.ensures.value ∙ sym (ap listed c.index-chunks-begun.is) in
+    let seen : c.as_slice-entries.result.now ≡ listed chunk = c.as_slice-entries.ensures.value in
     found_there id c.args.chunks.now (n - 1) chunk at ∙ ap (value_at id) (sym seen)
-    ∙ lookup_missing c.as_slice.result.now id c.in-Err.field-0 (subst HasRisingIds (sym seen) at.rises) c.in-Err.ensures.missing
+    ∙ lookup_missing c.as_slice-entries.result.now id c.in-Err.field-0 (subst HasRisingIds (sym seen) at.rises) c.in-Err.ensures.missing
