@@ -79,7 +79,6 @@ module _ {X : Type 0} where
   -- ---- a list in order
 
   put-permutation : (x : ℕ × X) (ys : List (ℕ × X)) → IsPermutation (x ∷ ys) (put x ys)
-  unfolding put
   put-permutation x [] = IsPermutation-refl (x ∷ [])
   put-permutation x (y ∷ ys) = by (nat_lt y.0 x.0) (put-permutation x ys)
     where
@@ -88,12 +87,10 @@ module _ {X : Type 0} where
       by false h = IsPermutation-refl (x ∷ y ∷ ys)
 
   in_order-permutation : (xs : List (ℕ × X)) → IsPermutation xs (in_order xs)
-  unfolding in_order
   in_order-permutation [] = IsPermutation-refl []
   in_order-permutation (x ∷ xs) = IsPermutation-trans _ _ _ (IsPermutation-cons x xs (in_order xs) (in_order-permutation xs)) (put-permutation x (in_order xs))
 
   all-put : (P : ℕ × X → Type 0) (x : ℕ × X) (ys : List (ℕ × X)) → P x → AllByRecursion P ys → AllByRecursion P (put x ys)
-  unfolding put
   all-put P x [] p h = (p, tt)
   all-put P x (y ∷ ys) p h = by (nat_lt y.0 x.0) (all-put P x ys p h.1)
     where
@@ -106,7 +103,6 @@ module _ {X : Type 0} where
   from_higher a b (x ∷ xs) l h = (let k = h.0 in omega arith, from_higher a b xs l h.1)
 
   put-up : (x : ℕ × X) (ys : List (ℕ × X)) → Up ys → Up (put x ys)
-  unfolding put
   put-up x [] h = (tt, tt)
   put-up x (y ∷ ys) h = by (nat_lt y.0 x.0) refl (put-up x ys h.1)
     where
@@ -115,12 +111,10 @@ module _ {X : Type 0} where
       by false e k = let l = no_less y.0 x.0 e in ((l, from_higher x.0 y.0 ys l h.0), h)
 
   pub in_order-up : (xs : List (ℕ × X)) → Up (in_order xs)
-  unfolding in_order
   in_order-up [] = tt
   in_order-up (x ∷ xs) = put-up x (in_order xs) (in_order-up xs)
 
   put-from : (q : ℕ) (x : ℕ × X) (ys : List (ℕ × X)) → from q (put x ys) ≡ from q (x ∷ ys)
-  unfolding put
   put-from q x [] = refl
   put-from q x (y ∷ ys) = by (nat_lt y.0 x.0) refl (put-from q x ys)
     where
@@ -154,7 +148,6 @@ module _ {X : Type 0} where
   up_short (x ∷ l) (suc n) h = up_short l n (omega arith)
 
   pub in_order-from : (q : ℕ) (xs : List (ℕ × X)) → from q (in_order xs) ≡ from q xs
-  unfolding in_order
   in_order-from q [] = refl
   in_order-from q (x ∷ xs) = put-from q x (in_order xs) ∙ ap (λ l. cond (x.0 == q) (x ∷ l) l) (in_order-from q xs)
 

@@ -1,11 +1,10 @@
-use Rattle.std.proofs.Common.{◌≡◌, [], ◌∷◌, ◌++◌, ap, append_assoc, map, rules, subst, sym, ◌∙◌}
+use Rattle.std.proofs.Common.{◌≡◌, [], ◌∷◌, ◌++◌, ap, append_assoc, map, rules, subst, sym}
 use Rattle.std.specs.List.{AllByRecursion}
 use Rattle.std.specs.Option.{option_copied}
 use Rattle.pg_map.specs.Entries.{HasRisingIds, value_at}
 use Rattle.pg_model.proofs.LawsLists.{all-append}
-use Rattle.pg_parcel.specs.Grouping.{groups_of}
 use Rattle.pg_inbox.specs.Holding.{HoldsAt}
-use Rattle.pg_inbox.specs.Mending.{changes_of, mended_in}
+use Rattle.pg_inbox.specs.Mending.{mended_in}
 use Rattle.pg_inbox.proofs.Replacing.{found-more, found_all}
 use Rattle.pg_inbox.proofs.patching.changes_at.Goals as goal
 
@@ -17,17 +16,9 @@ loop-target-preserved g c =
     let target = c.in-Some.target in
     let parcel = c.in_ok-parcel.parcel in
     let mends = map (λ m. m.1) c.in-Some.here.now in
-    let later = c.in-Some.later.now in
     let pushed : c.push.new.self.items ≡ now.changes.items ++ (target, parcel) ∷ [] = search rules in
-    let at : option_copied c.parcel-before.result ≡ value_at target old = search rules in
-    let value : parcel ≡ mended_in combining (option_copied c.parcel-before.result) mends = search rules in
-    let left : c.push.new.self.items ++ changes_of combining old (groups_of later) ≡ now.changes.items ++ changes_of combining old (groups_of now.left.now) =
-    ap (λ l. l ++ changes_of combining old (groups_of later)) pushed
-    ∙ append_assoc now.changes.items ((target, parcel) ∷ []) (changes_of combining old (groups_of later))
-    ∙ ap (λ p. now.changes.items ++ (target, p) ∷ changes_of combining old (groups_of later)) (value ∙ ap (λ o. mended_in combining o mends) at)
-    ∙ ap (λ l. now.changes.items ++ changes_of combining old l) (sym c.in-Some.ensures.groups) in
-    record {
-      items = search (rules, left);
+    let at : option_copied c.parcel-before.result ≡ value_at target old = search rules in record {
+      items = search (rules, ap (λ o. mended_in combining o mends) at, append_assoc);
       found = found-more old now.changes.items c.push.new.self.items now.changed.items c.add_if_changed.new.ids.items now.invariant.found
           pushed at c.as_ref.ensures.value c.in_ok-add_if_changed.ensures (search rules);
       hold = subst (AllByRecursion (λ x. HoldsAt g.M.Plain.is_value x.1)) (sym pushed)
