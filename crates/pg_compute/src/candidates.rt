@@ -147,7 +147,7 @@ fn play_callees<P: Computation>(
 {
     let mut states = trace.states();
     let mut looked_at = Vec::with_capacity(alloc, callees.len())?;
-    let mut changes = Vec::new(alloc);
+    let mut changes = Vec::with_capacity(alloc, callees.len())?;
     let mut turned = Turned::nobody();
     let mut stage = stage;
     for (id, delivered) in callees {

@@ -113,7 +113,7 @@ pub(crate) fn awake_after<V: Drop, M: Drop>(
 ) -> Result<Vec<VertexId>, Memory>
     ensures { IfOk result (λ ids. ids.items ≡ awake_after (lent records.now)) }
 {
-    let mut awake = Vec::new(alloc);
+    let mut awake = Vec::with_capacity(alloc, records.len())?;
     for (id, given) in records {
         if !given.halted {
             awake.push(*id)?;

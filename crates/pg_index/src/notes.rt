@@ -142,11 +142,20 @@ pub(crate) fn copied<V: Drop, M: Drop>(
 ) -> Result<Vec<(VertexId, Option<Steps<V, M>>)>, Memory>
     ensures { IfOk result (λ copies. copies.items ≡ all_of notes.now) }
 {
-    let mut copies = Vec::new(alloc);
+    let mut copies = Vec::with_capacity(alloc, count(notes))?;
     for chunk in notes {
         copy_of(alloc, &mut copies, chunk.entries.as_slice())?;
     }
     Ok(copies)
+}
+
+/// How many notes there are.
+fn count<V, M>(notes: &[Chunk<Option<Steps<V, M>>>]) -> usize {
+    let mut count: usize = 0;
+    for chunk in notes {
+        count = count.saturating_add(chunk.entries.len());
+    }
+    count
 }
 
 /// Adds copies of notes.
@@ -183,7 +192,7 @@ pub(crate) fn moved<V: Drop, M: Drop>(
 ) -> Result<Vec<(VertexId, Option<Steps<V, M>>)>, Memory>
     ensures { IfOk result (λ list. list.items ≡ all_of notes.items) }
 {
-    let mut list = Vec::new(alloc);
+    let mut list = Vec::with_capacity(alloc, count(notes.as_slice()))?;
     for chunk in notes {
         let mut entries = chunk.entries;
         list.append(&mut entries)?;

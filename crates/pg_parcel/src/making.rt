@@ -41,7 +41,7 @@ fn combined_parcels<M: Plain, C: MessageCombiner<M>>(
     ensures contents { IfOk result (λ parcels. parcels.items ≡ parcels_of (C.combining combiner.now) (groups_of letters.now)) }
     ensures hold { IfOk result (λ parcels. AllByRecursion (λ p. Holds M.is_value p.1) parcels.items) }
 {
-    let mut parcels = Vec::new(alloc);
+    let mut parcels = Vec::with_capacity(alloc, letters.len())?;
     let mut left = letters;
     while let Some((target, here, later)) = first_group(left) {
         let parcel = parcel_of(alloc, here, combiner)?;
@@ -61,7 +61,7 @@ fn listed_parcels<M: Plain, C: MessageCombiner<M>>(
     ensures contents { IfOk result (λ parcels. parcels.items ≡ parcels_of (C.combining combiner.now) (groups_of letters.now)) }
     ensures hold { IfOk result (λ parcels. AllByRecursion (λ p. Holds M.is_value p.1) parcels.items) }
 {
-    let mut parcels = Vec::new(alloc);
+    let mut parcels = Vec::with_capacity(alloc, letters.len())?;
     let mut ahead = Ahead::new(alloc)?;
     let mut left = letters;
     while let Some(group) = first_group(left) {
