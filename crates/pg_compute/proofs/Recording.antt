@@ -8,7 +8,7 @@ use Rattle.std.specs.Option.{unwrap_or}
 use Rattle.std.specs.Ordering.{nat_cmp}
 use Rattle.std.specs.declared.cmp.Ordering.TheVariants.{Less}
 use Rattle.std.proofs.lemmas.Bool.{eqb-true}
-use Rattle.pg_inbox.proofs.Delivery.{all_to_map}
+use Rattle.std.proofs.ByRecursion.{All-map}
 use Rattle.pg_graph.specs.Rows.{HasRisingIds, Rows}
 use Rattle.pg_map.specs.Entries.{value_at, with_changes, HasRisingIds as Rises}
 use Rattle.pg_map.proofs.Changing.{rises-changes, value_at-with_changes}
@@ -146,5 +146,5 @@ module _ {V M : Type 0} (value_eq : V → V → Bool) (message_eq : M → M → 
           same_count runs (λ c. needed c.id) cs (all_weaker (IsCounted runs) (λ c. runs c ≡ needed c.id) (λ c counted. counted.same) cs h)
           ∙ (sym (count_by-map needed (λ c. c.id) cs)
           ∙ ap (count_by needed) (sym (all_picked (belongs n p) (map (λ c. c.id) cs)
-          (all_to_map (λ k. belongs n p k ≡ true) (λ c. c.id) cs
+          (All-map (λ k. belongs n p k ≡ true) (λ c. c.id) cs
           (all_weaker (IsCounted runs) (λ c. belongs n p c.id ≡ true) (λ c counted. counted.mine) cs h)))))

@@ -1,6 +1,6 @@
 -- A bundle has at each target what goes to it of the sends.
 use Rattle.std.proofs.Common.{◌≡◌, ℕ, ◌==◌, ◌||◌, not, Bool, true, false, cond, List, [], ◌∷◌, map}
-use Rattle.std.proofs.Common.{Option, None, Some, refl, sym, ap, ◌∙◌, subst, arith, true≢false, ⊎_elim}
+use Rattle.std.proofs.Common.{Option, None, Some, refl, sym, ap, ◌∙◌, subst, arith, ⊎_elim, eqb-true}
 use Rattle.std.specs.List.{AllByRecursion, filter}
 use Rattle.std.specs.List.Sorted.{IsStrictlySortedBy}
 use Rattle.std.specs.BTreeMap.{is_at}
@@ -18,21 +18,13 @@ use Rattle.pg_model.specs.Superstep.{has_id, is_empty, targets}
 use Rattle.pg_model.proofs.LawsMade.{has_id-targets, targets-rise}
 use Rattle.pg_parcel.specs.Contents.{contents_of}
 use Rattle.pg_parcel.specs.Grouping.{AreGroups, any_of, items_to}
-use Rattle.pg_parcel.proofs.Grouping.{same_id, some_not_empty}
+use Rattle.pg_parcel.proofs.Grouping.{some_not_empty}
 use Rattle.pg_inbox.specs.Bundles.{Parcels, bundle_of}
-use Rattle.pg_inbox.specs.Holding.{as_item}
+use Rattle.pg_inbox.specs.Sends.{as_item}
 use Rattle.pg_inbox.specs.Sends.{Sends, letters_to, without_senders}
 
 pub at_id : (q id : ℕ) → is_at (nat_cmp q) id ≡ (id == q)
 at_id q id = grind (arith, nat_tests)
-
-pub any_of_some : {X : Type 0} (l : List X) → is_empty l ≡ false → any_of l ≡ Some l
-any_of_some [] none = absurd (true≢false none)
-any_of_some (x ∷ l) some = refl
-
-pub any_of_none : {X : Type 0} (l : List X) → is_empty l ≡ true → any_of l ≡ None
-any_of_none [] none = refl
-any_of_none (x ∷ l) none = absurd (true≢false (sym none ∙ some_not_empty x l))
 
 -- ---- look-ups
 
@@ -62,7 +54,7 @@ module _ {Y : Type 0} (f : ℕ → Y) where
     where
       by : (b : Bool) → (i == q) ≡ b → value_at q (map (λ i. (i, f i)) is) ≡ cond (has_id is q) (Some (f q)) None
           → cond b (Some (f i)) (value_at q (map (λ i. (i, f i)) is)) ≡ cond (b || has_id is q) (Some (f q)) None
-      by true e h = ap (λ n. Some (f n)) (same_id i q e)
+      by true e h = ap (λ n. Some (f n)) (eqb-true i q e)
       by false e h = h
 
   keys-ids : (is : List ℕ) → keys_of (map (λ i. (i, f i)) is) ≡ is
@@ -117,7 +109,7 @@ module _ {M : Type 0} where
     is_bundle_of parcels sent rise told =
         same_entries parcels (bundle_of combining sent) rise (rises-bundle_of sent) (λ q. told q ∙ sym (value_at-bundle_of q sent))
 
-  pub items-letters : (q : ℕ) (sent : Sends M) → items_to q (map as_item sent) ≡ letters_to q sent
+  items-letters : (q : ℕ) (sent : Sends M) → items_to q (map as_item sent) ≡ letters_to q sent
   items-letters q [] = refl
   items-letters q (s ∷ sent) = by (s.1 == q) (items-letters q sent)
     where

@@ -1,6 +1,6 @@
 -- The bundles of lists of sends come to what the superstep delivers of all of them.
 use Rattle.std.proofs.Common.{◌≡◌, ℕ, ◌==◌, ◌≤◌, Bool, true, false, cond, List, [], ◌∷◌, ◌++◌, map, Option, None, Some, refl, sym, ap, ap₂}
-use Rattle.std.proofs.Common.{◌∙◌, subst, ◌||◌, All, IsPermutation, filter, flat_map, fold, is_some, append_assoc, length, arith, take, get_or, ◌+◌, ◌<◌}
+use Rattle.std.proofs.Common.{◌∙◌, subst, ◌||◌, All, IsPermutation, filter, flat_map, fold, is_some, length, arith, take, get_or, ◌+◌, ◌<◌}
 use Rattle.std.specs.List.{AllByRecursion, list_any}
 use Rattle.std.specs.Option.{option_to_list, option_map}
 use Rattle.std.proofs.lemmas.List.{append-nil, map-append}
@@ -9,12 +9,14 @@ use Rattle.std.proofs.lemmas.List.Sums.{fold-append}
 use Rattle.std.proofs.lemmas.List.Sorted.{IsPermutation-map, length_permutation}
 use Rattle.std.specs.BTreeMap.{is_at}
 use Rattle.std.specs.Ordering.{nat_cmp}
+use Rattle.std.proofs.ByRecursion.{All-map}
+use Rattle.std.proofs.lemmas.Grind.{flat_map-append}
 use Rattle.pg_map.specs.Entries.{HasRisingIds, value_at}
 use Rattle.pg_map.proofs.Filling.{gathered_after}
 use Rattle.pg_map.proofs.Parts.{rises_after}
 use Rattle.pg_map.proofs.Rising.{none_past}
 use Rattle.pg_model.proofs.LawsFolds.{fold-IsPermutation, fold_from}
-use Rattle.pg_model.proofs.LawsLists.{all-append}
+use Rattle.pg_model.proofs.LawsLists.{all-append, all_from_map}
 use Rattle.pg_model.specs.Folds.{IsCommutativeMonoid}
 use Rattle.pg_model.specs.Job.{Combining}
 use Rattle.pg_model.specs.Superstep.{combined, messages_to}
@@ -22,7 +24,7 @@ use Rattle.pg_global.specs.Combiner.{IsLawful}
 use Rattle.pg_parcel.specs.Contents.{contents_of, messages, Holds}
 use Rattle.pg_parcel.specs.Grouping.{AreGroups, any_of, items_to}
 use Rattle.pg_parcel.specs.declared.parcel.Contents.{Contents}
-use Rattle.pg_parcel.proofs.Rising.{IsUp, up-filter, up_from}
+use Rattle.pg_parcel.proofs.ByNumber.{IsUp, up-filter, up_from}
 use Rattle.pg_inbox.specs.Bundles.{Parcels, bundle_of}
 use Rattle.pg_inbox.specs.Holding.{HoldsAt}
 use Rattle.pg_inbox.specs.Ordered.{in_order}
@@ -30,19 +32,6 @@ use Rattle.pg_inbox.specs.Inboxes.{AreInboxes, Delivers, contents_to, each_inbox
 use Rattle.pg_inbox.specs.Sends.{AreAllOf, RiseBySender, Sends, letters_to, sent_by, without_senders}
 use Rattle.pg_inbox.proofs.Bundling.{at_id, rises-values, value_at-bundle_of, value_at-values}
 use Rattle.pg_inbox.proofs.Senders.{from, in_order-from, in_order-up, permutation_by_number, same_by_number}
-
-module _ {X Y : Type 0} where
-  flat_map-append : (f : X → List Y) (xs ys : List X) → flat_map f (xs ++ ys) ≡ flat_map f xs ++ flat_map f ys
-  flat_map-append f [] ys = refl
-  flat_map-append f (x ∷ xs) ys = ap (λ l. f x ++ l) (flat_map-append f xs ys) ∙ sym (append_assoc (f x) (flat_map f xs) (flat_map f ys))
-
-  pub all_to_map : (P : Y → Type 0) (f : X → Y) (xs : List X) → AllByRecursion (λ x. P (f x)) xs → AllByRecursion P (map f xs)
-  all_to_map P f [] h = tt
-  all_to_map P f (x ∷ xs) h = (h.0, all_to_map P f xs h.1)
-
-  pub all_of_map : (P : Y → Type 0) (f : X → Y) (xs : List X) → AllByRecursion P (map f xs) → AllByRecursion (λ x. P (f x)) xs
-  all_of_map P f [] h = tt
-  all_of_map P f (x ∷ xs) h = (h.0, all_of_map P f xs h.1)
 
 module _ {X Y Z : Type 0} where
   pub flat_map-of_map : (f : Y → List Z) (g : X → Y) (xs : List X) → flat_map f (map g xs) ≡ flat_map (λ x. f (g x)) xs
@@ -112,7 +101,7 @@ module _ {M : Type 0} (id : ℕ) where
 
   pairs_up : (l : Sends M) → IsUp (λ (s : ℕ × ℕ × M). s.0) l → IsUp (λ (x : ℕ × M). x.0) (map (λ s. (s.0, s.2)) l)
   pairs_up [] h = tt
-  pairs_up (s ∷ l) h = (all_to_map (λ x. s.0 ≤ x.0) (λ s. (s.0, s.2)) l h.0, pairs_up l h.1)
+  pairs_up (s ∷ l) h = (All-map (λ x. s.0 ≤ x.0) (λ s. (s.0, s.2)) l h.0, pairs_up l h.1)
 
   pub up_letters : (all : Sends M) → RiseBySender all → IsUp (λ (x : ℕ × M). x.0) (letters_to id all)
   up_letters all rise = pairs_up (filter (λ s. s.1 == id) all) (up-filter (λ s. s.0) (λ s. s.1 == id) all (up_from (λ s. s.0) all rise))
@@ -161,7 +150,7 @@ module _ {M : Type 0} {is_value : M → Type 0} (c : Combining M) (law : IsCommu
   IsValues l = AllByRecursion (λ x. is_value x.1) l
 
   all_values : (l : List (ℕ × M)) → IsValues l → All is_value (messages l)
-  all_values l h = All-from_recursion is_value (messages l) (all_to_map is_value (λ x. x.1) l h)
+  all_values l h = All-from_recursion is_value (messages l) (All-map is_value (λ x. x.1) l h)
 
   one_fold : List (ℕ × M) → List M
   one_fold [] = []
@@ -244,7 +233,7 @@ module _ {M : Type 0} {is_value : M → Type 0} (c : Combining M) (law : IsCommu
         let parts : List (List (ℕ × M)) = map (letters_to id) lists in
         let joined : flat_map (λ (l : List (ℕ × M)). l) parts ≡ flat_map (letters_to id) lists = flat_map-of_map (λ l. l) (letters_to id) lists in
         let values : AllByRecursion IsValues parts =
-        all_parts lists (all_of_map (λ b. HoldsAt is_value (value_at id b)) (bundle_of (Some c)) lists
+        all_parts lists (all_from_map (bundle_of (Some c)) (λ b. HoldsAt is_value (value_at id b)) lists
         (subst (AllByRecursion (λ b. HoldsAt is_value (value_at id b))) are hold)) in
         let moved : IsPermutation (messages (flat_map (letters_to id) lists)) (messages (letters_to id all)) =
         IsPermutation-map (λ x. x.1) (flat_map (letters_to id) lists) (letters_to id all)
@@ -299,11 +288,6 @@ module _ {M : Type 0} (id : ℕ) where
       → received_of combining contents ≡ messages (in_order (flat_map (λ c. c.letters) contents))
   received_in_order None h contents = refl
   received_in_order (Some c) h contents = absurd cc
-
-  pub received_combined : (combining : Option (Combining M)) → is_some combining ≡ true → (contents : List (Contents M))
-      → received_of combining contents ≡ combined combining (flat_map (λ c. option_to_list c.folded) contents)
-  received_combined None h contents = absurd cc
-  received_combined (Some c) h contents = refl
 
   received_nothing : (combining : Option (Combining M)) → received_of combining [] ≡ []
   received_nothing None = refl

@@ -1,6 +1,6 @@
 -- The targets at which two bundles differ, found one after another, and what tells entries apart.
 use Rattle.std.proofs.Common.{◌≡◌, ℕ, ◌==◌, ◌||◌, ◌⊎◌, Bool, true, false, cond, List, [], ◌∷◌, ◌++◌, map, length, Option}
-use Rattle.std.proofs.Common.{None, Some, refl, sym, ap, ◌∙◌, subst, arith, inl, inr, append_assoc, true≢false}
+use Rattle.std.proofs.Common.{None, Some, refl, sym, ap, ◌∙◌, subst, inl, inr, append_assoc, true≢false, eqb-true}
 use Rattle.std.specs.Prelude.{◌↔◌}
 use Rattle.std.specs.List.{AllByRecursion}
 use Rattle.std.specs.List.Sorted.{IsStrictlySortedBy}
@@ -9,21 +9,16 @@ use Rattle.std.specs.Option.{unwrap_or}
 use Rattle.std.specs.Ordering.{nat_cmp}
 use Rattle.std.specs.declared.cmp.Ordering.TheVariants.{Less}
 use Rattle.std.proofs.lemmas.List.{append-nil}
-use Rattle.std.proofs.lemmas.Bool.Decides.{nat_tests}
 use Rattle.std.proofs.Math.Bool.{or-false, or_assoc}
 use Rattle.std.proofs.lemmas.Bool.{or_cases}
 use Rattle.pg_map.specs.Entries.{value_at}
 use Rattle.pg_model.specs.Superstep.{has_id, is_empty}
 use Rattle.pg_parcel.specs.declared.parcel.Contents.{Contents}
-use Rattle.pg_parcel.proofs.Grouping.{same_id}
 use Rattle.pg_inbox.specs.Bundles.{Entry, Parcels, each_entry, entries_in, entries_of}
 use Rattle.pg_inbox.specs.Changed.{AreCandidates, AreChanged, AreSameAt, DifferAt, IsAdded}
 use Rattle.pg_inbox.proofs.Bundling.{at_id}
 
-itself : (a : ℕ) → (a == a) ≡ true
-itself a = grind (arith, nat_tests)
-
-pub has_id-push : (ids : List ℕ) (id q : ℕ) → has_id (ids ++ id ∷ []) q ≡ (has_id ids q || (id == q))
+has_id-push : (ids : List ℕ) (id q : ℕ) → has_id (ids ++ id ∷ []) q ≡ (has_id ids q || (id == q))
 has_id-push [] id q = or-false (id == q)
 has_id-push (i ∷ ids) id q = ap (λ b. (i == q) || b) (has_id-push ids id q) ∙ sym (or_assoc (i == q) (has_id ids q) (id == q))
 
@@ -35,12 +30,12 @@ all-without : (P : ℕ → Type 0) (xs : List ℕ) (y : ℕ) (ys : List ℕ) →
 all-without P [] y ys h = h.1
 all-without P (x ∷ xs) y ys h = (h.0, all-without P xs y ys h.1)
 
-pub rises-without : (xs : List ℕ) (y : ℕ) (ys : List ℕ) → IsStrictlySortedBy nat_cmp (xs ++ y ∷ ys) → IsStrictlySortedBy nat_cmp (xs ++ ys)
+rises-without : (xs : List ℕ) (y : ℕ) (ys : List ℕ) → IsStrictlySortedBy nat_cmp (xs ++ y ∷ ys) → IsStrictlySortedBy nat_cmp (xs ++ ys)
 unfolding IsStrictlySortedBy
 rises-without [] y ys h = h.1
 rises-without (x ∷ xs) y ys h = (all-without (λ z. nat_cmp x z ≡ Less) xs y ys h.0, rises-without xs y ys h.1)
 
-pub none_at : {X : Type 0} (es : List (ℕ × X)) (q : ℕ) → has_id (keys_of es) q ≡ false → value_at q es ≡ None
+none_at : {X : Type 0} (es : List (ℕ × X)) (q : ℕ) → has_id (keys_of es) q ≡ false → value_at q es ≡ None
 none_at [] q h = refl
 none_at {X = X} (e ∷ es) q h = ap (λ b. cond b (Some e.1) (value_at q es)) (at_id q e.0) ∙ by (e.0 == q) h (none_at es q)
   where
@@ -73,7 +68,7 @@ module _ {M : Type 0} (old new : Parcels M) where
     where
       by : has_id found q ≡ false → (has_id seen q ≡ true) ⊎ ((id == q) ≡ true) → AreSameAt old new q
       by other (inl k) = (so_far q).1 other k
-      by other (inr k) = subst (AreSameAt old new) (same_id id q k) same.0
+      by other (inr k) = subst (AreSameAt old new) (eqb-true id q k) same.0
   told-more found found' seen id so_far (inr differ) q = (
     λ h. by (or_cases (has_id found q) (id == q) (sym more ∙ h)),
     λ other h. back (has_id found q) refl (sym more ∙ other) (or_cases (has_id seen q) (id == q) (sym (has_id-push seen id q) ∙ h)),
@@ -84,7 +79,7 @@ module _ {M : Type 0} (old new : Parcels M) where
 
       by : (has_id found q ≡ true) ⊎ ((id == q) ≡ true) → DifferAt old new q
       by (inl k) = (so_far q).0 k
-      by (inr k) = subst (DifferAt old new) (same_id id q k) differ.0
+      by (inr k) = subst (DifferAt old new) (eqb-true id q k) differ.0
 
       back : (b : Bool) → has_id found q ≡ b → (b || (id == q)) ≡ false → (has_id seen q ≡ true) ⊎ ((id == q) ≡ true) → AreSameAt old new q
       back true e other seen = absurd (true≢false other)
@@ -128,33 +123,9 @@ module _ {M : Type 0} (target : ℕ) where
         λ h. sym (letters_back a.letters) ∙ (ap (map letter_of) (sym at_a ∙ (h ∙ at_b)) ∙ letters_back b.letters),
       )
 
-  first_message : M → List (Entry M) → M
-  first_message m [] = m
-  first_message m (e ∷ es) = e.message
-
-  first_count : List (Entry M) → ℕ
-  first_count [] = 0
-  first_count (e ∷ es) = e.count
-
   first_from : List (Entry M) → Option ℕ
   first_from [] = None
   first_from (e ∷ es) = e.from
-
-  one_entry : (m m' : M) (n n' : ℕ)
-      → ◌≡◌ {A = List (Entry M)} (record { target = target; from = None; message = m; count = n } ∷ [])
-      (record { target = target; from = None; message = m'; count = n' } ∷ [])
-      → (m ≡ m') × (n ≡ n')
-  unfolding first_message first_count
-  one_entry m m' n n' h = (ap (first_message m) h, ap first_count h)
-
-  pub same_by_fold : (a b : Contents M) (x y : M) → a.folded ≡ Some x → b.folded ≡ Some y
-      → ((x ≡ y) × (length a.letters ≡ length b.letters)) ↔ (entries_of target a ≡ entries_of target b)
-  same_by_fold a b x y p q =
-      let at_a = ap (λ f. seen_in f a.letters) p in
-      let at_b = ap (λ f. seen_in f b.letters) q in (
-        (λ h. at_a ∙ ((λ i. record { target = target; from = None; message = h.0 i; count = h.1 i } ∷ []) ∙ sym at_b)),
-        λ h. one_entry x y (length a.letters) (length b.letters) (sym at_a ∙ (h ∙ at_b)),
-      )
 
   not_folded : (m : M) (n : ℕ) (l : List (ℕ × M)) → is_empty l ≡ false
       → record { target = target; from = None; message = m; count = n } ∷ [] ≡ each_entry target l → ⊥
@@ -166,15 +137,6 @@ module _ {M : Type 0} (target : ℕ) where
       → entries_of target a ≡ entries_of target b → ⊥
   fold_apart a b x p q some h =
       not_folded x (length a.letters) b.letters some (sym (ap (λ f. seen_in f a.letters) p) ∙ (h ∙ ap (λ f. seen_in f b.letters) q))
-
-  -- where there is a message there is an entry
-  pub some_entry : (a : Contents M) → is_empty a.letters ≡ false → entries_of target a ≡ [] → ⊥
-  some_entry a some h = by a.folded a.letters some h
-    where
-      by : (f : Option M) (l : List (ℕ × M)) → is_empty l ≡ false → seen_in f l ≡ [] → ⊥
-      by None [] some h = absurd cc
-      by None (x ∷ l) some h = absurd cc
-      by (Some m) l some h = absurd cc
 
 -- ---- the ids of both, in order and each once
 

@@ -1,6 +1,6 @@
 -- What a bundle becomes where messages are withdrawn and others are added, target by target.
 use Rattle.std.proofs.Common.{◌≡◌, ℕ, ◌==◌, ◌||◌, ◌&&◌, not, Bool, true, false, cond, List, [], ◌∷◌, ◌++◌, map}
-use Rattle.std.proofs.Common.{Option, Some, refl, sym, ap, ap₂, ◌∙◌, append_assoc, subst, subst₂, filter, flat_map}
+use Rattle.std.proofs.Common.{Option, Some, refl, sym, ap, ap₂, ◌∙◌, append_assoc, subst, subst₂, filter, flat_map, eqb-true}
 use Rattle.std.specs.List.{AllByRecursion}
 use Rattle.std.proofs.lemmas.List.Elements.{All-from_recursion, recursion_from_All}
 use Rattle.std.proofs.lemmas.List.Sorted.{All-permutation}
@@ -18,8 +18,8 @@ use Rattle.pg_model.specs.Superstep.{has_id}
 use Rattle.pg_parcel.specs.Contents.{contents_of}
 use Rattle.pg_parcel.specs.Grouping.{AreGroups, any_of, items_to}
 use Rattle.pg_parcel.specs.declared.parcel.Contents.{Contents}
-use Rattle.pg_parcel.proofs.Grouping.{same_id, stays}
-use Rattle.pg_parcel.proofs.Rising.{IsUp, up_from}
+use Rattle.pg_parcel.proofs.Grouping.{stays}
+use Rattle.pg_parcel.proofs.ByNumber.{IsUp, up_from}
 use Rattle.pg_inbox.specs.Bundles.{Parcels, bundle_of, entries_in}
 use Rattle.pg_inbox.specs.Changed.{AreChanged, IsAdded}
 use Rattle.pg_inbox.specs.Inboxes.{letters_at}
@@ -49,7 +49,7 @@ values_sorted P items sorted moved all = recursion_from_All P sorted (All-permut
 -- ---- look-ups of entries that are made of ids and values
 
 module _ {X Y : Type 0} (f : ℕ × X → Y) where
-  pub value_at-made : (q : ℕ) (es : List (ℕ × X)) → value_at q (map (λ e. (e.0, f e)) es) ≡ option_map (λ x. f (q, x)) (value_at q es)
+  value_at-made : (q : ℕ) (es : List (ℕ × X)) → value_at q (map (λ e. (e.0, f e)) es) ≡ option_map (λ x. f (q, x)) (value_at q es)
   value_at-made q [] = refl
   value_at-made q (e ∷ es) =
       ap (λ b. cond b (Some (f e)) (value_at q (map (λ e. (e.0, f e)) es))) (at_id q e.0)
@@ -58,10 +58,10 @@ module _ {X Y : Type 0} (f : ℕ × X → Y) where
     where
       by : (b : Bool) → (e.0 == q) ≡ b → value_at q (map (λ e. (e.0, f e)) es) ≡ option_map (λ x. f (q, x)) (value_at q es)
           → cond b (Some (f e)) (value_at q (map (λ e. (e.0, f e)) es)) ≡ option_map (λ x. f (q, x)) (cond b (Some e.1) (value_at q es))
-      by true e' h = ap (λ k. Some (f (k, e.1))) (same_id e.0 q e')
+      by true e' h = ap (λ k. Some (f (k, e.1))) (eqb-true e.0 q e')
       by false e' h = h
 
-  pub keys-made : (es : List (ℕ × X)) → keys_of (map (λ e. (e.0, f e)) es) ≡ keys_of es
+  keys-made : (es : List (ℕ × X)) → keys_of (map (λ e. (e.0, f e)) es) ≡ keys_of es
   keys-made [] = refl
   keys-made (e ∷ es) = ap (λ l. e.0 ∷ l) (keys-made es)
 
@@ -79,7 +79,7 @@ module _ {M : Type 0} (q : ℕ) where
       by false h = h
 
   -- just the senders whose messages to the target are withdrawn
-  pub withdrawn_here : (withdrawn : List (ℕ × ℕ)) (added : Sends M) (sender : ℕ)
+  withdrawn_here : (withdrawn : List (ℕ × ℕ)) (added : Sends M) (sender : ℕ)
       → has_id (senders_of (items_to q (mends_of withdrawn added))) sender ≡ is_withdrawn withdrawn sender q
   withdrawn_here [] added sender = ap (λ l. has_id l sender) (none_withdrawn added)
   withdrawn_here (w ∷ withdrawn) added sender = by (w.1 == q) (withdrawn_here withdrawn added sender)
@@ -104,7 +104,7 @@ module _ {M : Type 0} (q : ℕ) where
       by false h = h
 
   -- just the messages to the target that are added
-  pub added_here : (withdrawn : List (ℕ × ℕ)) (added : Sends M) → additions (items_to q (mends_of withdrawn added)) ≡ letters_to q added
+  added_here : (withdrawn : List (ℕ × ℕ)) (added : Sends M) → additions (items_to q (mends_of withdrawn added)) ≡ letters_to q added
   added_here [] added = added_alone added
   added_here (w ∷ withdrawn) added = by (w.1 == q) (added_here withdrawn added)
     where
@@ -153,13 +153,13 @@ module _ {M : Type 0} (q : ℕ) where
       by : (b : Bool) → (s.1 == q) ≡ b → letters_to q stay ≡ kept (letters_to q before)
           → pairs (mine (cond (not (gone s.1)) (s ∷ stay) stay)) ≡ kept (pairs (cond b (s ∷ mine before) (mine before)))
       by true e h =
-          ap (λ t. pairs (mine (cond (not (gone t)) (s ∷ stay) stay))) (same_id s.1 q e)
+          ap (λ t. pairs (mine (cond (not (gone t)) (s ∷ stay) stay))) (eqb-true s.1 q e)
           ∙ here (not (gone q)) e h
       by false e h = past false (not (gone s.1)) e refl h
 
   module _ (withdrawn : List (ℕ × ℕ)) (added before after : Sends M) (replaced : AreReplaced withdrawn added before after) where
     -- what becomes of the messages to the target is what goes to it after
-    pub mended_here : mended (items_to q (mends_of withdrawn added)) (letters_to q before) ≡ letters_to q after
+    mended_here : mended (items_to q (mends_of withdrawn added)) (letters_to q before) ≡ letters_to q after
     mended_here =
         let mends : List (Mend M) = items_to q (mends_of withdrawn added) in
         let all : List (ℕ × M) = filter (λ l. not (has_id (senders_of mends) l.0)) (letters_to q before) ++ additions mends in
@@ -171,7 +171,7 @@ module _ {M : Type 0} (q : ℕ) where
         (λ s. in_order-from s all ∙ (ap (from s) parts ∙ sym (same_letters q (staying withdrawn before ∷ added ∷ []) after replaced s)))
 
 -- messages in order stay so
-pub mended_none : {M : Type 0} (letters : List (ℕ × M)) → IsUp (λ l. l.0) letters → mended [] letters ≡ letters
+mended_none : {M : Type 0} (letters : List (ℕ × M)) → IsUp (λ l. l.0) letters → mended [] letters ≡ letters
 mended_none letters up =
     ap in_order (append-nil (filter (λ l. true) letters) ∙ all_pass (λ l. true) (λ l. refl) letters)
     ∙ up_in_order letters up

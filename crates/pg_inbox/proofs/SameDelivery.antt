@@ -7,6 +7,7 @@ use Rattle.std.specs.Option.{IfSome, option_to_list}
 use Rattle.std.specs.Ordering.{nat_cmp}
 use Rattle.std.proofs.lemmas.List.Elements.{All-from_recursion}
 use Rattle.std.proofs.lemmas.Map.Views.{All-map-remove_entry, All-values-insert_entry, IfSome-lookup_from_All}
+use Rattle.std.proofs.ByRecursion.{All-map}
 use Rattle.pg_global.specs.Combiner.{IsLawful}
 use Rattle.pg_map.specs.Entries.{value_at, with_changes}
 use Rattle.pg_model.specs.Job.{Combining}
@@ -21,7 +22,7 @@ use Rattle.pg_inbox.specs.Inboxes.{contents_to, letters_at, received_of}
 use Rattle.pg_inbox.specs.Ordered.{in_order}
 use Rattle.pg_inbox.specs.Sends.{Sends, letters_to}
 use Rattle.pg_inbox.proofs.Bundling.{value_at-bundle_of}
-use Rattle.pg_inbox.proofs.Delivery.{all_to_map, delivers_received, folded_at, folded_of_all, letters_at-bundle_of, letters_of_all}
+use Rattle.pg_inbox.proofs.Delivery.{delivers_received, folded_at, folded_of_all, letters_at-bundle_of, letters_of_all}
 use Rattle.pg_inbox.proofs.Differing.{letter_of, letters_back}
 
 -- ---- what is held
@@ -29,7 +30,7 @@ use Rattle.pg_inbox.proofs.Differing.{letter_of, letters_back}
 module _ {M : Type 0} (is_value : M → Type 0) where
   -- of each target
   pub hold-all : (parcels : Parcels M) → AllByRecursion (λ e. Holds is_value e.1) parcels → HoldAll is_value parcels
-  hold-all parcels hold = All-from_recursion (Holds is_value) (values_of parcels) (all_to_map (Holds is_value) (λ e. e.1) parcels hold)
+  hold-all parcels hold = All-from_recursion (Holds is_value) (values_of parcels) (All-map (Holds is_value) (λ e. e.1) parcels hold)
 
   -- after changes that hold
   pub hold-changes : (changes : List (ℕ × Option (Contents M))) (old : Parcels M) → AllByRecursion (λ c. HoldsAt is_value c.1) changes
@@ -47,7 +48,7 @@ module _ {M : Type 0} (is_value : M → Type 0) where
       by None h = tt
       by (Some c) h = h
 
-  pub all_hold : (id : ℕ) (bundles : List (Parcels M)) → AllByRecursion (HoldAll is_value) bundles
+  all_hold : (id : ℕ) (bundles : List (Parcels M)) → AllByRecursion (HoldAll is_value) bundles
       → AllByRecursion (λ b. HoldsAt is_value (value_at id b)) bundles
   all_hold id [] h = tt
   all_hold id (b ∷ bundles) h = (holds_at id b h.0, all_hold id bundles h.1)

@@ -1,20 +1,17 @@
--- Sends by sender: the messages to one target are told by what each sender sent to it.
+-- Lists by a number are told by what they have of each number; and what `in_order` makes of a list.
 use Rattle.std.proofs.Common.{◌≡◌, ℕ, ◌+◌, zero, suc, drop, ◌<◌, ◌≤◌, ◌==◌, Bool, true, false, cond, List, [], ◌∷◌, length, get_or}
-use Rattle.std.proofs.Common.{refl, sym, ap, ap₂, ◌∙◌, subst, arith, inl, inr, IsPermutation, filter}
+use Rattle.std.proofs.Common.{refl, sym, ap, ap₂, ◌∙◌, subst, arith, inl, inr, IsPermutation, filter, eq-eqb}
 use Rattle.std.specs.List.{AllByRecursion}
 use Rattle.std.proofs.lemmas.Bool.{cases_order, eqb-true}
 use Rattle.std.proofs.lemmas.Bool.Decides.{nat_tests}
 use Rattle.std.proofs.lemmas.List.Sorted.{IsPermutation-cons, IsPermutation-middle, IsPermutation-refl, IsPermutation-trans}
 use Rattle.std.specs.Prelude.{nat_lt}
 use Rattle.pg_map.proofs.Moved.{first_of_rest}
-use Rattle.pg_parcel.proofs.Rising.{IsUp}
+use Rattle.pg_parcel.proofs.ByNumber.{IsUp}
 use Rattle.pg_inbox.specs.Ordered.{in_order, put}
 
 apart : (a b : ℕ) → a < b → (b == a) ≡ false
 apart a b h = grind (arith, nat_tests)
-
-itself : (a : ℕ) → (a == a) ≡ true
-itself a = grind (arith, nat_tests)
 
 at_least : (a b : ℕ) → nat_lt a b ≡ true → a ≤ b
 at_least a b h = grind (arith, nat_tests)
@@ -41,7 +38,7 @@ module _ {X : Type 0} where
   higher q m (x ∷ xs) l h = (let k = h.0 in omega arith, higher q m xs l h.1)
 
   first_of : (x : ℕ × X) (xs : List (ℕ × X)) → from x.0 (x ∷ xs) ≡ x ∷ from x.0 xs
-  first_of x xs = ap (λ b. cond b (x ∷ from x.0 xs) (from x.0 xs)) (itself x.0)
+  first_of x xs = ap (λ b. cond b (x ∷ from x.0 xs) (from x.0 xs)) (eq-eqb x.0 x.0 refl)
 
   cons_not_nil : (x : ℕ × X) (xs : List (ℕ × X)) → x ∷ xs ≡ [] → ⊥
   cons_not_nil x xs h = cc

@@ -37,7 +37,7 @@ module _ {M : Type 0} where
   combined_none (Some c) [] combines none = refl
   combined_none (Some c) (m ∷ ms) combines none = absurd (true≢false (sym none ∙ some_not_empty m ms))
 
-  -- some more messages are
+  -- some more messages are combined with what those before them come to
   pub combined_more : (combining : Option (Combining M)) (taken more : List M) (so_far after : M) {now : List M} → taken ++ more ≡ now
       → IfSome combining (λ c. so_far ≡ fold c.combine c.initial taken) → IfSome combining (λ c. after ≡ fold c.combine so_far more)
       → IfSome combining (λ c. after ≡ fold c.combine c.initial now)

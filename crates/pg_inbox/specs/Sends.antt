@@ -12,6 +12,10 @@ module _ {M : Type 0} where
   abbrev pub letters_to : ℕ → Sends M → List (ℕ × M)
   letters_to target sent = map (λ s. (s.0, s.2)) (filter (λ s. s.1 == target) sent)
 
+  -- a send as an item of its target
+  abbrev pub as_item : ℕ × ℕ × M → ℕ × (ℕ × M)
+  as_item s = (s.1, (s.0, s.2))
+
   -- what one sender sent
   abbrev pub sent_by : ℕ → Sends M → Sends M
   sent_by sender sent = filter (λ s. s.0 == sender) sent

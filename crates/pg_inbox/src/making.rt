@@ -1,7 +1,7 @@
 //! Bundles made of sends.
 ghost use Rattle.std.specs.Prelude.{◌≡◌, map, IfOk};
 ghost use Rattle.pg_inbox.specs.Bundles.{bundle_of};
-ghost use Rattle.pg_inbox.specs.Holding.{as_item};
+ghost use Rattle.pg_inbox.specs.Sends.{as_item};
 
 use crate::Bundle;
 use pg_global::MessageCombiner;

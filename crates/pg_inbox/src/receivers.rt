@@ -2,8 +2,8 @@
 ghost use Rattle.std.specs.Prelude.{◌≡◌, ◌++◌, map, IfOk, OnOk};
 ghost use Rattle.std.specs.List.{AllByRecursion, flat_map};
 ghost use Rattle.pg_map.specs.Entries.{HasRisingIds};
-ghost use Rattle.pg_parcel.specs.Grouping.{groups_of};
 ghost use Rattle.pg_parcel.specs.Contents.{Holds};
+ghost use Rattle.pg_parcel.specs.Grouping.{groups_of};
 ghost use Rattle.pg_inbox.specs.Holding.{HoldAll};
 ghost use Rattle.pg_inbox.specs.Inboxes.{AreInboxes, each_inbox, inboxes_of};
 

@@ -1,5 +1,5 @@
 //! Inboxes: what a vertex receives of the bundles to its partition.
-ghost use Rattle.std.specs.Prelude.{◌≡◌, ◌++◌, ◌||◌, map, true, Some, is_some, IsSome, IfSome, IfOk, OnOk};
+ghost use Rattle.std.specs.Prelude.{◌≡◌, ◌++◌, ◌||◌, map, true, is_some, IsSome, IfSome, IfOk, OnOk};
 ghost use Rattle.std.specs.List.{AllByRecursion, flat_map, fold};
 ghost use Rattle.std.specs.Option.{option_to_list};
 ghost use Rattle.pg_map.specs.Entries.{value_at};

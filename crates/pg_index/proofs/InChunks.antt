@@ -200,7 +200,7 @@ module _ {X : Type 0} where
 
   -- the chunk in which a value stands
   module _ (id : ℕ) (cs : List (Chunk X)) (sound : AreSound cs) (m p : ℕ) (at : IsAt id cs m p) (c : Chunk X) (is : c ≡ get_or cs m c) where
-    pub around_found : Around id cs m c
+    around_found : Around id cs m c
     around_found = let within = at.chunk in here id cs sound (m + 1) at.begun m c (omega arith) (omega (arith, within)) (omega (arith, within)) is
 
     pub value_found : (e : ℕ × X) → find id (all_of cs) ≡ Some (get_or (listed c) p e).1

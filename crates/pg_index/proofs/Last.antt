@@ -1,17 +1,12 @@
 -- The last record of an id before a superstep, by what an index has of the id.
-use Rattle.std.proofs.Common.{◌≡◌, ℕ, List, [], take, get_or, ltb, Option, sym, ap, ◌∙◌, subst}
-use Rattle.std.specs.List.{filter}
+use Rattle.std.proofs.Common.{◌≡◌, ℕ, List, [], take, get_or, Option, sym, ap, ◌∙◌, subst}
 use Rattle.std.specs.List.Sorted.{IsNonDecreasingBy}
 use Rattle.std.specs.Option.{option_and_then}
 use Rattle.pg_map.specs.Entries.{value_at}
-use Rattle.pg_index.specs.Ran.{IsIndex, Ran, StepsRise, last_of, ran_from, ran_in, steps_in}
+use Rattle.pg_index.specs.Ran.{IsIndex, Ran, StepsRise, last_of, ran_from, ran_in, steps_below, steps_in}
 use Rattle.pg_index.specs.Records.{last_record}
 use Rattle.pg_index.proofs.Supersteps.{last_before, last_record_is, ran_rises}
 use Rattle.pg_index.proofs.Noting.{newest, newest_is, steps_of_ran}
-
--- the last of rising supersteps that is below s
-abbrev pub last_below : ℕ → List ℕ → Option ℕ
-last_below s steps = last_of (filter (λ t. ltb t s) steps)
 
 module _ {X : Type 0} (id : ℕ) (rs : List (List (ℕ × X))) (ran : Option (Ran X)) (is : ran ≡ ran_in id rs) where
   -- what a look at the index says
@@ -21,10 +16,10 @@ module _ {X : Type 0} (id : ℕ) (rs : List (List (ℕ × X))) (ran : Option (Ra
   pub steps_rise : IsNonDecreasingBy (λ t. t) (steps_in ran)
   steps_rise = subst (IsNonDecreasingBy (λ t. t)) (sym steps_are) (ran_rises id 0 rs)
 
-  pub before_is : (s : ℕ) (step : Option ℕ) → step ≡ last_below s (steps_in ran)
+  pub before_is : (s : ℕ) (step : Option ℕ) → step ≡ last_of (steps_below s (steps_in ran))
       → option_and_then (λ t. value_at id (get_or rs t [])) step ≡ last_record id (take s rs)
   before_is s step last =
-      ap (option_and_then (λ t. value_at id (get_or rs t []))) (last ∙ ap (last_below s) steps_are)
+      ap (option_and_then (λ t. value_at id (get_or rs t []))) (last ∙ ap (λ l. last_of (steps_below s l)) steps_are)
       ∙ sym (last_before id rs s)
 
   pub newest_at : (step : Option ℕ) → step ≡ last_of (steps_in ran) → newest ran ≡ option_and_then (λ t. value_at id (get_or rs t [])) step

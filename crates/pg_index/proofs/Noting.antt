@@ -15,7 +15,7 @@ use Rattle.pg_index.specs.Ran.{IsIndex, IsNoted, Ran, last_of, noted, ran_by, ra
 use Rattle.pg_index.specs.Records.{last_record}
 use Rattle.pg_index.proofs.Supersteps.{Agrees, last_record_is, ran-less, ran-push, ran-set, steps_noted}
 
-pub same_id : (a b : ℕ) → is_at (nat_cmp a) b ≡ true → b ≡ a
+same_id : (a b : ℕ) → is_at (nat_cmp a) b ≡ true → b ≡ a
 same_id a b h = grind (arith, nat_tests)
 
 module _ {Y Z : Type 0} where

@@ -35,7 +35,7 @@ pub(crate) fn get<'a, X>(chunks: &'a [Chunk<X>], near: &mut usize, id: VertexId)
 
 /// In which chunk the value at an id stands, and at which place there. `near` becomes how many chunks begin at the id or
 /// below it. Where it was that before, from a look-up near this one, it costs a binary search in one chunk alone; else two.
-/// Where the chunk has each id from its first one up to this, that in it is one step.
+/// The one in the chunk is spared where the chunk has each id from its first up to this.
 pub(crate) fn found<X>(
     chunks: &[Chunk<X>],
     near: &mut usize,
@@ -52,7 +52,7 @@ pub(crate) fn found<X>(
     }
     let chunk = &chunks[begun - 1];
     let entries = chunk.entries.as_slice();
-    if let Some(place) = place_in_step(entries, chunk.first, id) {
+    if let Some(place) = place_by_distance(entries, chunk.first, id) {
         return Some((begun - 1, place));
     }
     match place_of(entries, id) {
@@ -93,9 +93,8 @@ fn is_at_most(id: VertexId, other: VertexId) -> bool
     id <= other
 }
 
-/// The place of an id among entries, if they have each id from the first one up to it. It may say none where there are
-/// gaps.
-fn place_in_step<X>(entries: &[(VertexId, X)], first: VertexId, id: VertexId) -> Option<usize>
+/// The place of an id by its distance from the first id, if it stands there. It may say none where there are gaps.
+fn place_by_distance<X>(entries: &[(VertexId, X)], first: VertexId, id: VertexId) -> Option<usize>
     ensures within { IfSome result (λ place. place < length entries.now) }
     ensures found { IfSome result (HoldsAt (λ e. nat_cmp e.0 id ≡ Equal) entries.now) }
 {
@@ -118,7 +117,7 @@ fn place_of<X>(entries: &[(VertexId, X)], id: VertexId) -> Result<usize, usize>
     entries.binary_search_by_key(&id, |entry| entry.0)
 }
 
-/// Puts a value at an id. It costs what `found` does, and moves what follows in the id's chunk and, where that is cut in
+/// Puts a value at an id. It costs the binary searches of `found`, and moves what follows in the id's chunk and, where that is cut in
 /// two, the chunks that follow. Where memory is refused some of the values may be lost.
 pub(crate) fn put<X: Drop>(
     alloc: Global,

@@ -1,4 +1,4 @@
-//! The index of records: in which supersteps each vertex ran, and its last records.
+//! The index of records: in which supersteps each vertex ran, and its last record.
 #![tactic(auto)]
 
 mod changes;

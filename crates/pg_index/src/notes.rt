@@ -149,7 +149,7 @@ pub(crate) fn copied<V: Drop, M: Drop>(
     Ok(copies)
 }
 
-/// How many notes there are.
+/// How many notes there are: for how many to make room, so no contract tells it.
 fn count<V, M>(notes: &[Chunk<Option<Steps<V, M>>>]) -> usize {
     let mut count: usize = 0;
     for chunk in notes {

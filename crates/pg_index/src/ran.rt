@@ -3,8 +3,7 @@ ghost use Rattle.std.specs.Prelude.{◌≡◌, ◌++◌, ◌+◌, ◌<◌, ◌^�
 ghost use Rattle.std.specs.List.Sorted.{IsNonDecreasingBy};
 ghost use Rattle.std.specs.Option.{option_and_then, option_copied};
 ghost use Rattle.pg_map.specs.Entries.{value_at};
-ghost use Rattle.pg_index.specs.Ran.{last_of, noted, ran_by, ran_in};
-ghost use Rattle.pg_index.specs.Ran.{steps_above, steps_below, steps_in, with_ran};
+ghost use Rattle.pg_index.specs.Ran.{last_of, noted, ran_by, ran_in, steps_above, steps_below, steps_in, with_ran};
 ghost use Rattle.pg_index.specs.Records.{last_record};
 
 use crate::kept::Kept;

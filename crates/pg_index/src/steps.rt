@@ -13,7 +13,7 @@ use std::marker::Model;
 use std::sync::Arc;
 
 /// In which supersteps a vertex ran, rising, and the record of the last of them. The last one is noted beside their list,
-/// so that most look-ups don't read that.
+/// so that most look-ups don't read the list.
 #[derive(Drop)]
 struct History<V, M> {
     supersteps: Vec<usize>,
@@ -162,7 +162,8 @@ fn longer<V: Drop, M: Drop>(
 ) -> Result<Arc<History<V, M>>, Memory>
     ensures { IfOk result (λ longer. IsPushed superstep last history.now (arc_value longer)) }
 {
-    let mut supersteps = Vec::from_slice(alloc, history.supersteps.as_slice())?;
+    let mut supersteps = Vec::with_capacity(alloc, history.supersteps.len().saturating_add(1))?;
+    supersteps.extend_from_slice(history.supersteps.as_slice())?;
     supersteps.push(superstep)?;
     let longer = History {
         supersteps,

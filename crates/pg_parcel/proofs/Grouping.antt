@@ -1,6 +1,6 @@
 -- Items that stand by target, and what there is of each target then.
 use Rattle.std.proofs.Common.{◌≡◌, ℕ, ◌+◌, ◌≤◌, ◌==◌, Bool, true, false, cond, not, ◌&&◌, is_lt, suc, zero, List, [], ◌∷◌, length}
-use Rattle.std.proofs.Common.{map, take, drop, Option, None, Some, refl, sym, ap, ◌∙◌, subst, arith}
+use Rattle.std.proofs.Common.{map, take, drop, Option, None, Some, refl, sym, ap, ap₂, ◌++◌, ◌∙◌, subst, arith, eq-eqb, eqb-true, true≢false}
 use Rattle.std.specs.List.{AllByRecursion, filter}
 use Rattle.std.specs.List.Sorted.{IsNonDecreasingBy, IsStableByKey, IsStrictlySortedBy, ties}
 use Rattle.std.specs.BTreeMap.{is_at}
@@ -8,22 +8,18 @@ use Rattle.std.specs.Map.{keys_of}
 use Rattle.std.specs.Ordering.{nat_cmp}
 use Rattle.std.specs.declared.cmp.Ordering.TheVariants.{Less}
 use Rattle.std.proofs.lemmas.Bool.Decides.{nat_tests}
+use Rattle.std.proofs.lemmas.List.{take-append-drop}
+use Rattle.std.proofs.lemmas.List.Elements.{filter_agree}
 use Rattle.std.proofs.lemmas.Map.Entries.{lookup_head, lookup_tail}
 use Rattle.pg_map.specs.Entries.{HasRisingIds, value_at}
 use Rattle.pg_map.proofs.Parts.{From, above_first, from_weaker, is_less, none_from}
 use Rattle.pg_map.proofs.Rising.{at_other, at_same}
 use Rattle.pg_model.specs.Superstep.{is_empty}
 use Rattle.pg_parcel.specs.Grouping.{AreGroups, IsFirstGroup, any_of, before_groups, groups_of, items_to, run_len}
-use Rattle.pg_parcel.proofs.Rising.{IsUp, up_from}
-
-pub same_id : (a b : ℕ) → (a == b) ≡ true → a ≡ b
-same_id a b h = grind (arith, nat_tests)
+use Rattle.pg_parcel.proofs.ByNumber.{IsUp, up_from}
 
 other_id : (a b : ℕ) → (a == b) ≡ false → b ≡ a → ⊥
 other_id a b h e = grind (arith, nat_tests)
-
-itself : (a : ℕ) → (a == a) ≡ true
-itself a = grind (arith, nat_tests)
 
 higher : (a b : ℕ) → (b == a) ≡ false → a ≤ b → a + 1 ≤ b
 higher a b h e = grind (arith, nat_tests)
@@ -33,6 +29,14 @@ tied a b = grind (arith, nat_tests)
 
 pub some_not_empty : {X : Type 0} (x : X) (l : List X) → is_empty (x ∷ l) ≡ false
 some_not_empty x l = grind (arith, nat_tests)
+
+pub any_of_some : {X : Type 0} (l : List X) → is_empty l ≡ false → any_of l ≡ Some l
+any_of_some [] none = absurd (true≢false none)
+any_of_some (x ∷ l) some = refl
+
+pub any_of_none : {X : Type 0} (l : List X) → is_empty l ≡ true → any_of l ≡ None
+any_of_none [] none = refl
+any_of_none (x ∷ l) none = absurd (true≢false (sym none ∙ some_not_empty x l))
 
 module _ {X : Type 0} where
   -- ---- the first target
@@ -47,7 +51,7 @@ module _ {X : Type 0} where
           → cond b ((i.0, i.1 ∷ map (λ i. i.1) (j ∷ take (run_len j.0 l) l)) ∷ groups_of (drop (run_len j.0 l) l))
           ((i.0, i.1 ∷ []) ∷ (j.0, map (λ i. i.1) (j ∷ take (run_len j.0 l) l)) ∷ groups_of (drop (run_len j.0 l) l))
           ≡ (i.0, map (λ i. i.1) (i ∷ take (cond b (suc (run_len i.0 l)) zero) (j ∷ l))) ∷ groups_of (drop (cond b (suc (run_len i.0 l)) zero) (j ∷ l))
-      by true e later = ap (λ k. (i.0, i.1 ∷ map (λ i. i.1) (j ∷ take (run_len k l) l)) ∷ groups_of (drop (run_len k l) l)) (same_id j.0 i.0 e)
+      by true e later = ap (λ k. (i.0, i.1 ∷ map (λ i. i.1) (j ∷ take (run_len k l) l)) ∷ groups_of (drop (run_len k l) l)) (eqb-true j.0 i.0 e)
       by false e later = ap (λ gs. (i.0, i.1 ∷ []) ∷ gs) (sym later)
 
   pub run_within : (target : ℕ) (items : List (ℕ × X)) → run_len target items ≤ length items
@@ -62,14 +66,15 @@ module _ {X : Type 0} where
   pub first_group_is : (items : List (ℕ × X)) (first : ℕ × X) (rest here later : List (ℕ × X)) (n : ℕ) → items ≡ first ∷ rest
       → n ≡ run_len first.0 items → here ≡ take n items → later ≡ drop n items → length later + n ≡ length items
       → IsFirstGroup items first.0 here later
-  first_group_is items first rest here later n is counted front back whole =
+  first_group_is items first rest here later n is counted front back lengths =
       let count : n ≡ suc (run_len first.0 rest) =
-      counted ∙ ap (run_len first.0) is ∙ ap (λ b. cond b (suc (run_len first.0 rest)) zero) (itself first.0) in
+      counted ∙ ap (run_len first.0) is ∙ ap (λ b. cond b (suc (run_len first.0 rest)) zero) (eq-eqb first.0 first.0 refl) in
       let group : here ≡ first ∷ take (run_len first.0 rest) rest = front ∙ ap (take n) is ∙ ap (λ n. take n (first ∷ rest)) count in
       let others : later ≡ drop (run_len first.0 rest) rest = back ∙ ap (drop n) is ∙ ap (λ n. drop n (first ∷ rest)) count in
       record {
+        whole = sym (take-append-drop n items) ∙ ap₂ ◌++◌ (sym front) (sym back);
         some = ap is_empty group ∙ some_not_empty first (take (run_len first.0 rest) rest);
-        fewer = omega (arith, count, whole);
+        fewer = omega (arith, count, lengths);
         groups = ap groups_of is ∙ first_run first rest
             ∙ (ap (λ l. (first.0, map (λ i. i.1) l) ∷ groups_of (drop (run_len first.0 rest) rest)) (sym group)
             ∙ ap (λ l. (first.0, map (λ i. i.1) here) ∷ groups_of l) (sym others));
@@ -114,7 +119,7 @@ module _ {X : Type 0} where
     rises_before (g ∷ gs) from rise = by (g.0 == i.0) refl
       where
         by : (b : Bool) → (g.0 == i.0) ≡ b → HasRisingIds (cond b ((i.0, i.1 ∷ g.1) ∷ gs) ((i.0, i.1 ∷ []) ∷ g ∷ gs))
-        by true e = subst (λ k. HasRisingIds ((k, i.1 ∷ g.1) ∷ gs)) (same_id g.0 i.0 e) rise
+        by true e = subst (λ k. HasRisingIds ((k, i.1 ∷ g.1) ∷ gs)) (eqb-true g.0 i.0 e) rise
         by false e = rises_first i.0 (i.1 ∷ []) (g ∷ gs) (above g gs e from rise) rise
 
     same_before : (gs : List (ℕ × List X)) → From i.0 gs → HasRisingIds gs
@@ -127,7 +132,7 @@ module _ {X : Type 0} where
         by true e =
             lookup_head (is_at (nat_cmp i.0)) (i.0, i.1 ∷ g.1) gs (at_same i.0)
             ∙ ap (λ o. Some (i.1 ∷ opened o))
-            (sym (lookup_head (is_at (nat_cmp i.0)) g gs (ap (is_at (nat_cmp i.0)) (same_id g.0 i.0 e) ∙ at_same i.0)))
+            (sym (lookup_head (is_at (nat_cmp i.0)) g gs (ap (is_at (nat_cmp i.0)) (eqb-true g.0 i.0 e) ∙ at_same i.0)))
         by false e =
             lookup_head (is_at (nat_cmp i.0)) (i.0, i.1 ∷ []) (g ∷ gs) (at_same i.0)
             ∙ ap (λ o. Some (i.1 ∷ opened o)) (sym (none_from i.0 (i.0 + 1) (g ∷ gs) (omega arith) (above g gs e from rise)))
@@ -139,7 +144,7 @@ module _ {X : Type 0} where
         by : (b : Bool) → (g.0 == i.0) ≡ b → value_at q (cond b ((i.0, i.1 ∷ g.1) ∷ gs) ((i.0, i.1 ∷ []) ∷ g ∷ gs)) ≡ value_at q (g ∷ gs)
         by true e =
             lookup_tail (is_at (nat_cmp q)) (i.0, i.1 ∷ g.1) gs (at_other q i.0 apart)
-            ∙ sym (lookup_tail (is_at (nat_cmp q)) g gs (at_other q g.0 (λ s. apart (s ∙ same_id g.0 i.0 e))))
+            ∙ sym (lookup_tail (is_at (nat_cmp q)) g gs (at_other q g.0 (λ s. apart (s ∙ eqb-true g.0 i.0 e))))
         by false e = lookup_tail (is_at (nat_cmp q)) (i.0, i.1 ∷ []) (g ∷ gs) (at_other q i.0 apart)
 
   -- ---- items by rising target
@@ -160,7 +165,7 @@ module _ {X : Type 0} where
       by : (b : Bool) → (i.0 == q) ≡ b → value_at q gs ≡ any_of (items_to q items)
           → value_at q (before_groups i gs) ≡ any_of (map (λ i. i.1) (cond b (i ∷ filter (λ i. i.0 == q) items) (filter (λ i. i.0 == q) items)))
       by true e told =
-          let same = same_id i.0 q e in
+          let same = eqb-true i.0 q e in
           subst (λ k. value_at k (before_groups i gs) ≡ Some (i.1 ∷ opened (value_at k gs))) same
           (same_before i gs (from_groups i.0 items up.0) (rises_groups items up.1))
           ∙ ap (λ l. Some (i.1 ∷ l)) (ap opened told ∙ opened_any (items_to q items))
@@ -168,14 +173,10 @@ module _ {X : Type 0} where
 
   -- ---- a stable sort
 
-  filter_same : (p q : ℕ × X → Bool) → ((x : ℕ × X) → p x ≡ q x) → (xs : List (ℕ × X)) → filter p xs ≡ filter q xs
-  filter_same p q same [] = refl
-  filter_same p q same (x ∷ xs) = ap (λ b. cond b (x ∷ filter p xs) (filter p xs)) (same x) ∙ ap (λ l. cond (q x) (x ∷ l) l) (filter_same p q same xs)
-
   stays_with : X → (items sorted : List (ℕ × X)) → IsStableByKey (λ i. i.0) nat_cmp items sorted → (q : ℕ)
       → filter (λ i. i.0 == q) sorted ≡ filter (λ i. i.0 == q) items
   stays_with d items sorted stable q =
-      let as_ties = λ (l : List (ℕ × X)). filter_same (λ i. i.0 == q) (ties (λ x y. is_lt (nat_cmp x.0 y.0)) (q, d)) (λ i. sym (tied q i.0)) l in
+      let as_ties = λ (l : List (ℕ × X)). filter_agree (λ i. i.0 == q) (ties (λ x y. is_lt (nat_cmp x.0 y.0)) (q, d)) (λ i. sym (tied q i.0)) l in
       as_ties sorted ∙ stable (q, d) ∙ sym (as_ties items)
 
   -- a stable sort by a number leaves the items of each number in their order

@@ -1,4 +1,3 @@
 pub mod Ahead
+pub mod ByNumber
 pub mod Grouping
-pub mod Folding
-pub mod Rising

@@ -1,5 +1,5 @@
 -- Items by target.
-use Rattle.std.specs.Prelude.{◌≡◌, ℕ, ◌==◌, ◌<◌, zero, suc, false, cond, List, [], ◌∷◌, length, map, Option, None, Some}
+use Rattle.std.specs.Prelude.{◌≡◌, ℕ, ◌==◌, ◌<◌, zero, suc, false, cond, List, [], ◌∷◌, ◌++◌, length, map, Option, None, Some}
 use Rattle.std.specs.List.{filter}
 use Rattle.pg_map.specs.Entries.{HasRisingIds, value_at}
 use Rattle.pg_model.specs.Superstep.{is_empty}
@@ -35,6 +35,7 @@ module _ {X : Type 0} where
 
   -- the items to the first target, and the others
   pub record IsFirstGroup (items : List (ℕ × X)) (target : ℕ) (here later : List (ℕ × X)) : Type 0 where
+    pub whole : items ≡ here ++ later
     pub some : is_empty here ≡ false
     pub fewer : length later < length items
     pub groups : groups_of items ≡ (target, map (λ i. i.1) here) ∷ groups_of later

@@ -1,17 +1,11 @@
 -- Runs of messages in a list, and the messages that are copied into one ahead.
-use Rattle.std.specs.Prelude.{◌≡◌, ℕ, nat_lt, ◌^◌, ◌<◌, ◌≤◌, ◌&&◌, not, Bool, cond, List, [], ◌∷◌, length, take, drop}
+use Rattle.std.specs.Prelude.{ℕ, nat_lt, ◌^◌, ◌<◌, ◌≤◌, ◌&&◌, not, Bool, cond, List, [], length, take, drop}
 use Rattle.std.specs.List.{AllByRecursion, flat_map}
 use Rattle.pg_parcel.specs.declared.runs.TheConstants.{LARGE}
 
 -- so many messages to one target have a run in a list
 abbrev pub is_shared : ℕ → Bool
 is_shared count = nat_lt 1 count && not (nat_lt LARGE count)
-
--- messages are the first of these
-abbrev pub AreFirst : {X : Type 0} → List X → List X → Type 0
-AreFirst [] all = Unit {0}
-AreFirst (x ∷ xs) [] = ⊥
-AreFirst (x ∷ xs) (y ∷ all) = (x ≡ y) × AreFirst xs all
 
 module _ {M : Type 0} where
   -- so many messages of a list, from this place on

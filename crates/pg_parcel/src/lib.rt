@@ -1,4 +1,4 @@
-//! Parcels: the messages to one target with their senders, as they lie in memory, and what is made of messages by target.
+//! Parcels: the messages to one target with their senders, as they lie in memory, and how they are made.
 #![tactic(auto)]
 
 mod grouped;

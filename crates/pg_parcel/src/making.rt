@@ -1,10 +1,11 @@
 //! Parcels made of messages by target.
+ghost use mathlib.Core.List.{IsPrefix};
 ghost use Rattle.std.specs.Prelude.{◌≡◌, ◌++◌, ◌+◌, ◌≤◌, false, is_some, length, map, IfOk, OnOk};
 ghost use Rattle.std.specs.List.{AllByRecursion};
 ghost use Rattle.pg_model.specs.Superstep.{is_empty};
 ghost use Rattle.pg_parcel.specs.Contents.{Holds, contents_of, parcels_of};
 ghost use Rattle.pg_parcel.specs.Grouping.{groups_of};
-ghost use Rattle.pg_parcel.specs.Runs.{AreFirst, is_shared, shared_in, shared_of};
+ghost use Rattle.pg_parcel.specs.Runs.{is_shared, shared_in, shared_of};
 
 use crate::grouped::first_group;
 use crate::parcel::Parcel;
@@ -16,8 +17,9 @@ use std::alloc::Global;
 
 /// The parcel of each target, of letters that stand by target, each a message with its sender.
 ///
-/// Costs a copy of each message, and one look at it where the combiner combines. Where none does, the messages of
-/// neighbouring targets are copied into one list, of up to about a thousand.
+/// Costs a copy of each message, and one look at it where the combiner combines. Where it doesn't, the messages of
+/// neighbouring targets that have 2 to 64 each lie in one list, of up to about a thousand. The list of parcels has room
+/// for as many as there are letters.
 pub fn parcels_of<M: Plain, C: MessageCombiner<M>>(
     alloc: Global,
     letters: &[(VertexId, (VertexId, M))],
@@ -82,11 +84,11 @@ fn next_parcel<M: Plain, C: MessageCombiner<M>>(
 ) -> Result<Parcel<M>, Memory>
     requires none { is_some (C.combining combiner.now) ≡ false }
     requires some { is_empty here.now ≡ false }
-    requires ahead { AreFirst ahead.old (shared_in (map (λ l. l.1) here.now) ++ shared_of (groups_of later.now)) }
+    requires ahead { IsPrefix ahead.old (shared_in (map (λ l. l.1) here.now) ++ shared_of (groups_of later.now)) }
     ensures value { IfOk result
         (λ parcel. parcel ≡ contents_of (C.combining combiner.now) (map (λ l. l.1) here.now)) }
     ensures holds { IfOk result (λ parcel. Holds M.is_value parcel) }
-    ensures ahead { OnOk result (AreFirst ahead.new (shared_of (groups_of later.now))) }
+    ensures ahead { OnOk result (IsPrefix ahead.new (shared_of (groups_of later.now))) }
 {
     if !is_shared(here.len()) {
         return parcel_of(alloc, here, combiner);
@@ -111,8 +113,8 @@ fn copy_ahead<M: Plain>(
     later: &[(VertexId, (VertexId, M))],
 ) -> Result<(), Memory>
     requires few { length here.now ≤ LARGE }
-    requires first { AreFirst ahead.old (map (λ l. l.1) here.now ++ shared_of (groups_of later.now)) }
-    ensures first { OnOk result (AreFirst ahead.new (map (λ l. l.1) here.now ++ shared_of (groups_of later.now))) }
+    requires first { IsPrefix ahead.old (map (λ l. l.1) here.now ++ shared_of (groups_of later.now)) }
+    ensures first { OnOk result (IsPrefix ahead.new (map (λ l. l.1) here.now ++ shared_of (groups_of later.now))) }
     ensures enough { OnOk result (length here.now ≤ length ahead.new) }
 {
     if ahead.len() >= here.len() {
@@ -131,7 +133,7 @@ fn letters_ahead<M: Plain>(
     later: &[(VertexId, (VertexId, M))],
 ) -> Result<Vec<(VertexId, M)>, Memory>
     requires few { length here.now ≤ LARGE }
-    ensures first { IfOk result (λ copied. AreFirst copied.items (map (λ l. l.1) here.now ++ shared_of (groups_of later.now))) }
+    ensures first { IfOk result (λ copied. IsPrefix copied.items (map (λ l. l.1) here.now ++ shared_of (groups_of later.now))) }
     ensures enough { IfOk result (λ copied. length here.now ≤ length copied.items) }
     ensures few { IfOk result (λ copied. length copied.items ≤ FULL + LARGE) }
     ensures values { IfOk result (λ copied. AllByRecursion (λ l. M.is_value l.1) copied.items) }

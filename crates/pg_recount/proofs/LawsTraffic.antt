@@ -14,7 +14,7 @@ use Rattle.pg_parcel.specs.declared.parcel.Contents.{Contents}
 use Rattle.pg_inbox.specs.Bundles.{Entry, Parcels, entries_in, entries_of, entries_to, each_entry}
 use Rattle.pg_inbox.specs.Changed.{AreChanged}
 use Rattle.pg_inbox.specs.Counting.{messages_where}
-use Rattle.pg_inbox.specs.Inboxes.{letters_at}
+use Rattle.pg_inbox.specs.Inboxes.{letters_at, letters_in}
 use Rattle.pg_inbox.specs.Logged.{Slots, slot_at}
 use Rattle.pg_inbox.specs.Patched.{TellsChanges}
 use Rattle.pg_inbox.specs.declared.logs.Logged.{Logged}
@@ -45,9 +45,6 @@ module _ {M : Type 0} where
   -- the weight of the messages to one target
   abbrev pub weight : (ℕ → Bool) → ℕ × Contents M → ℕ
   weight picks p = cond (picks p.0) (length p.1.letters) 0
-
-  abbrev letters_in : Option (Contents M) → List (ℕ × M)
-  letters_in o = elim o [ None ↦ [] | Some contents ↦ contents.letters ]
 
   -- found by its key, as it is looked up
   found_is : (picks : ℕ → Bool) (id : ℕ) (parcels : Parcels M)

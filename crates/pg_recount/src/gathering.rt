@@ -1,5 +1,5 @@
 //! What a superstep's contributions come to, and whether two runs have the same.
-ghost use Rattle.std.specs.Prelude.{◌≡◌, ◌==◌, ◌++◌, ◌∷◌, [], cond, map, true, IfOk, OnOk};
+ghost use Rattle.std.specs.Prelude.{◌≡◌, ◌==◌, ◌++◌, ◌∷◌, [], cond, map, IfOk, OnOk};
 ghost use Rattle.std.specs.List.{fold, list_all};
 ghost use Rattle.std.specs.Option.{option_copied};
 ghost use Rattle.pg_global.specs.AnyAggregator.{initial_of, operation_of};

@@ -1,6 +1,6 @@
 //! How many messages were sent and dropped in a superstep, from how many there were in an old run.
 ghost use Rattle.pg_inbox.specs.Inboxes.{letters_at};
-ghost use Rattle.std.specs.Prelude.{◌≤◌, cond, ◌≡◌, ◌+◌, is_some, length, map, IfOk};
+ghost use Rattle.std.specs.Prelude.{◌≤◌, cond, ◌≡◌, ◌+◌, length, map, IfOk};
 ghost use Rattle.std.specs.Option.{option_copied, option_map};
 ghost use Rattle.pg_inbox.specs.Bundles.{parcels_in};
 ghost use Rattle.pg_recount.specs.Traffic.{IsRetold, IsWithBundle, dropped_come, dropped_gone, is_any, is_nobody, is_vertex};

@@ -1,5 +1,5 @@
 //! The program: what one vertex does in one superstep.
-ghost use Rattle.std.specs.Prelude.{◌≡◌, ◌==◌, ◌++◌, [], cond, map, true, OnOk};
+ghost use Rattle.std.specs.Prelude.{◌≡◌, ◌++◌, [], cond, map, true, OnOk};
 ghost use Rattle.std.specs.Int.{int_min};
 ghost use Rattle.pg_model.specs.Job.{has_place};
 ghost use Rattle.pg_model.specs.Programs.{contributed, greatest_of};

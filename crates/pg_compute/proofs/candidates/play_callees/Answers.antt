@@ -67,7 +67,7 @@ loop-id-preserved g c =
 pub loop-id-init : goal.loop-id-init
 loop-id-init g c = record {
   looked_at = c.in_ok-looked_at.ensures.items;
-  changes = c.new-changes.ensures.items;
+  changes = c.in_ok-changes.ensures.items;
   gone = c.nobody-turned.ensures.gone;
   come = c.nobody-turned.ensures.come;
   view = refl;

@@ -1,7 +1,7 @@
 use Rattle.std.proofs.Common.{◌∷◌, [], ◌++◌, ap, ◌∙◌, map}
 use Rattle.std.proofs.lemmas.List.{take_all}
 use Rattle.pg_map.proofs.Filling.{mapped_more}
-use Rattle.pg_inbox.specs.Holding.{as_item}
+use Rattle.pg_inbox.specs.Sends.{as_item}
 use Rattle.pg_inbox.proofs.making.letters_of.Goals as goal
 
 pub loop-sender-preserved : goal.loop-sender-preserved

@@ -1,5 +1,5 @@
 use Rattle.std.proofs.Common.{◌≡◌, map, take}
-use Rattle.pg_inbox.specs.Holding.{as_item}
+use Rattle.pg_inbox.specs.Sends.{as_item}
 use Rattle.pg_inbox.proofs.making.letters_of.Given as goal
 
 abbrev pub invariant-loop-sender : goal.invariant-loop-sender

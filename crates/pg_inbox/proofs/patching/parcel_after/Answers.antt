@@ -2,7 +2,7 @@ use Rattle.std.proofs.Common.{◌==◌, ◌≡◌, false, true, Some, ap, sym, �
 use Rattle.pg_model.specs.Superstep.{is_empty}
 use Rattle.pg_parcel.specs.Contents.{contents_of, Holds}
 use Rattle.pg_parcel.specs.Grouping.{any_of}
-use Rattle.pg_inbox.proofs.Bundling.{any_of_none, any_of_some}
+use Rattle.pg_parcel.proofs.Grouping.{any_of_none, any_of_some}
 use Rattle.pg_inbox.proofs.patching.parcel_after.Goals as goal
 
 pub returns-clause-value : goal.returns-clause-value

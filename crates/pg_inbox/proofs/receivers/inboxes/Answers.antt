@@ -3,11 +3,13 @@ use Rattle.std.specs.List.{AllByRecursion}
 use Rattle.std.proofs.lemmas.Result.{IfOk-weaker}
 use Rattle.std.specs.Map.{values_of}
 use Rattle.std.proofs.lemmas.List.Elements.{recursion_from_All}
+use Rattle.std.proofs.ByRecursion.{All-map}
 use Rattle.pg_map.specs.Entries.{HasRisingIds}
+use Rattle.pg_model.proofs.LawsLists.{all_from_map}
 use Rattle.pg_parcel.specs.Grouping.{AreGroups, groups_of}
 use Rattle.pg_parcel.specs.Contents.{Holds}
 use Rattle.pg_inbox.specs.Inboxes.{AreInboxes, inboxes_of}
-use Rattle.pg_inbox.proofs.Delivery.{all_of_map, all_to_map, are_inboxes, flat_map-of_map, inboxes_of_one, only_one}
+use Rattle.pg_inbox.proofs.Delivery.{are_inboxes, flat_map-of_map, inboxes_of_one, only_one}
 use Rattle.pg_inbox.proofs.receivers.inboxes.Goals as goal
 
 pub returns : goal.returns
@@ -21,7 +23,7 @@ returns g c =
     let are =
     are_inboxes is_value combining (laws.lawful c.args.combiner.now) bundles groups
     (subst (λ l. AreGroups l groups) all c.in_ok-parcels-2.ensures)
-    (all_to_map HasRisingIds (λ b. b.now) c.args.bundles.now c.in_ok-parcels.ensures.rise)
+    (All-map HasRisingIds (λ b. b.now) c.args.bundles.now c.in_ok-parcels.ensures.rise)
     (subst (AllByRecursion (λ e. Holds is_value e.1)) all c.in_ok-parcels.ensures.hold) in
     let made = ap (λ l. inboxes_of combining (groups_of l)) c.as_slice.ensures.value in
     IfOk-weaker c.inboxes_of.result _ _ (λ inboxes is. subst (AreInboxes combining bundles) (sym (is ∙ made)) are) c.inboxes_of.ensures
@@ -38,4 +40,4 @@ returns-then-not-combines g c =
     (inboxes_of_one is_value combining (laws.lawful c.args.combiner.now) (map (λ b. b.now) bundles)
     (sym c.combines.ensures ∙ c.if-not-combines.true) bundle.now (ap (map (λ b. b.now)) (only_one bundles bundle one c.bundle-item.is))
     c.in_ok-inboxes.ensures.rise
-    (all_of_map (Holds is_value) (λ e. e.1) bundle.now (recursion_from_All (Holds is_value) (values_of bundle.now) c.in_ok-inboxes.ensures.hold)))
+    (all_from_map (λ e. e.1) (Holds is_value) bundle.now (recursion_from_All (Holds is_value) (values_of bundle.now) c.in_ok-inboxes.ensures.hold)))

@@ -1,8 +1,9 @@
+use mathlib.Core.List.{IsPrefix}
 use Rattle.std.proofs.Common.{◌≡◌, ◌++◌, length}
 use Rattle.std.specs.List.{AllByRecursion}
-use Rattle.pg_parcel.specs.Contents.{parcels_of, Holds}
+use Rattle.pg_parcel.specs.Contents.{Holds, parcels_of}
 use Rattle.pg_parcel.specs.Grouping.{groups_of}
-use Rattle.pg_parcel.specs.Runs.{AreFirst, shared_of}
+use Rattle.pg_parcel.specs.Runs.{shared_of}
 use Rattle.pg_parcel.proofs.making.listed_parcels.Given as goal
 
 abbrev pub invariant-loop-group : goal.invariant-loop-group
@@ -11,7 +12,7 @@ invariant-loop-group g l =
     record {
       contents : l.parcels.items ++ parcels (groups_of l.left) ≡ parcels (groups_of l.letters);
       hold : AllByRecursion (λ p. Holds g.M.Plain.is_value p.1) l.parcels.items;
-      ahead : AreFirst l.ahead (shared_of (groups_of l.left));
+      ahead : IsPrefix l.ahead (shared_of (groups_of l.left));
     }
 
 abbrev pub decreases-loop-group : goal.decreases-loop-group

@@ -1,19 +1,16 @@
-use Rattle.std.proofs.Common.{◌≡◌, ℕ, true, false, cond, List, [], length, map, Option, None, Some, is_some}
-use Rattle.std.proofs.Common.{ap, refl, ◌∙◌, true≢false}
+use Rattle.std.proofs.Common.{◌≡◌, false, List, length, map, Option, None, Some, is_some}
+use Rattle.std.proofs.Common.{refl, ◌∙◌, true≢false}
 use Rattle.std.proofs.lemmas.List.{length-map}
 use Rattle.pg_model.specs.Job.{Combining}
 use Rattle.pg_parcel.specs.Contents.{folded, messages}
 use Rattle.pg_parcel.specs.Grouping.{groups_of}
-use Rattle.pg_parcel.specs.Runs.{is_shared, shared_in, shared_of}
+use Rattle.pg_parcel.specs.Runs.{shared_of}
 use Rattle.pg_parcel.proofs.Ahead.{here_taken, later_left}
 use Rattle.pg_parcel.proofs.making.next_parcel.Goals as goal
 
 folded_none : {M : Type 0} (combining : Option (Combining M)) (messages : List M) → is_some combining ≡ false → None ≡ folded combining messages
 folded_none None messages none = refl
 folded_none (Some c) messages none = absurd (true≢false none)
-
-shared_here : {M : Type 0} (letters : List (ℕ × M)) (n : ℕ) → length letters ≡ n → is_shared n ≡ true → shared_in letters ≡ letters
-shared_here letters n count shared = ap (λ k. cond (is_shared k) letters []) count ∙ ap (λ b. cond b letters []) shared
 
 pub returns-clause-value : goal.returns-clause-value
 returns-clause-value g c =
@@ -32,4 +29,5 @@ returns-clause-ahead g c =
     let n = length c.args.here.now in
     let here = map (λ l. l.1) c.args.here.now in
     let later = shared_of (groups_of c.args.later.now) in
-    later_left c.copy_ahead.new.ahead here later n (length-map c.args.here.now (λ l. l.1)) c.in_ok-copy_ahead.ensures.first c.in_ok-run.ensures.left
+    later_left c.copy_ahead.new.ahead here later n (length-map c.args.here.now (λ l. l.1)) c.in_ok-copy_ahead.ensures.first c.in_ok-copy_ahead.ensures.enough
+    c.in_ok-run.ensures.left

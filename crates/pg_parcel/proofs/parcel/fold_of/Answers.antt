@@ -1,10 +1,19 @@
-use Rattle.std.proofs.Common.{refl, subst, IfSome, ◌≡◌, take}
+use Rattle.std.proofs.Common.{◌≡◌, IfSome, List, Option, None, Some, [], ◌∷◌, ◌++◌, take, refl, ap, sym, ◌∙◌, subst}
 use Rattle.std.specs.List.{fold}
 use Rattle.std.proofs.lemmas.List.{take_all}
+use Rattle.std.proofs.lemmas.List.Sums.{fold_push}
+use Rattle.pg_model.specs.Job.{Combining}
 use Rattle.pg_parcel.specs.Contents.{messages}
 use Rattle.pg_map.proofs.Filling.{mapped_more}
-use Rattle.pg_parcel.proofs.Folding.{combined_one}
 use Rattle.pg_parcel.proofs.parcel.fold_of.Goals as goal
+
+-- one more message is combined with what those before it come to
+combined_one : {M : Type 0} (combining : Option (Combining M)) (taken : List M) (m so_far after : M) {now : List M} → taken ++ m ∷ [] ≡ now
+    → IfSome combining (λ c. so_far ≡ fold c.combine c.initial taken) → IfSome combining (λ c. after ≡ c.combine so_far m)
+    → IfSome combining (λ c. after ≡ fold c.combine c.initial now)
+combined_one None taken m so_far after is before here = tt
+combined_one (Some c) taken m so_far after is before here =
+    here ∙ ap (λ s. c.combine s m) before ∙ sym (fold_push c.combine c.initial taken m) ∙ ap (fold c.combine c.initial) is
 
 pub initial_message-requires : goal.initial_message-requires
 initial_message-requires g c = c.requires
