@@ -3,8 +3,9 @@
 
 rounds.py SHAPE VERTICES EDGES ROUNDS [options of pregeld]
 
-The session is that of workload.py with these words. Prints the first refresh, what a refresh after one changed
-edge took on average and where at most 1,000 calls were needed, and the three dearest: by the clock until the answer was
+The session is that of workload.py with these words, with a check at its end, which makes a run from scratch. Prints the
+first refresh, the check and their ratio, what a refresh after one changed edge took on average and where at most 1,000
+calls were needed, and the three dearest: by the clock until the answer was
 there, and in processor time until the program waited for the next command, since it lets go of what it has no more use
 for after it has answered. PREGELD names a built program in place of crates/pregeld_main/out/pregeld_main. Needs Linux's
 /proc, and for the clock a machine on which nothing else runs."""
@@ -75,12 +76,14 @@ def main():
         if command == "refresh":
             answer, clock, used = told_and_timed
             took.append((clock, used, int(answer.split()[8])))
+    answer, check, _ = program.answer(["check"])
     program.process.stdin.close()
     (clock, used, calls), *later = took
     few = [it for it in later if it[2] <= FEW]
     mean_clock, mean_used, _ = (statistics.mean(it) for it in zip(*later))
     print(f"{shape}: first refresh {clock:.2f} s ({used:.2f} s of the processor), {calls} calls; "
           f"after one edge {mean_clock * 1e3:.1f} ms ({mean_used * 1e3:.1f} ms) on average")
+    print(f"  a check then {check:.2f} s ({' '.join(answer.split())}): the first refresh took {clock / check:.1f} times as long")
     print(f"  {len(few)} of {len(later)} need at most {FEW} calls: {told([it[0] for it in few])};")
     print(f"  of the processor: {told([it[1] for it in few])}")
     for what, dearest in ("calls", later), (f"calls, of those with at most {FEW}", few):
