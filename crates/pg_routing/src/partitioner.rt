@@ -57,6 +57,10 @@ impl Partitioner {
         ensures value { result ≡ id % self }
         ensures within { result < self }
     {
+        // It is asked for each message and each vertex that is called, and a division is dear.
+        if self.partitions == 1 {
+            return PartitionId::new(0);
+        }
         PartitionId::new((id.number() % u64::from(self.partitions)) as u32)
     }
 
