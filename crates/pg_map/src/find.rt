@@ -126,11 +126,16 @@ fn value_near<'a, V>(entries: &'a [(VertexId, V)], below: &mut usize, id: Vertex
     if entry.0 == id { Some(&entry.1) } else { None }
 }
 
-/// How many of these entries are below an id, which may be as many as before or a few more.
+/// How many of these entries are below an id: as many as it is far from the first, where no id is missing between
+/// them, or else as many as before or a few more, or as a search finds.
 fn count_below<V>(entries: &[(VertexId, V)], before: usize, id: VertexId) -> usize
     requires { HasRisingIds entries.now }
     ensures { IsPartitionPoint (λ e. nat_lt e.0 id ≡ true) (λ e. nat_lt e.0 id ≡ false) entries.now result }
 {
+    let distance = distance_from_first(entries, id);
+    if are_below(entries, distance, id) {
+        return distance;
+    }
     // A first look-up has no place to go on from.
     if before > 0 {
         let near = passed(entries, before, id);
@@ -139,6 +144,14 @@ fn count_below<V>(entries: &[(VertexId, V)], before: usize, id: VertexId) -> usi
         }
     }
     entries.partition_point(|entry| is_below(entry.0, id))
+}
+
+/// How far an id is from that of the first entry.
+fn distance_from_first<V>(entries: &[(VertexId, V)], id: VertexId) -> usize {
+    match entries.first() {
+        Some(first) => id.number().saturating_sub(first.0.number()) as usize,
+        None => 0,
+    }
 }
 
 /// How far a few steps from a place on go, over entries below an id.
