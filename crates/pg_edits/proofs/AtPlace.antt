@@ -1,6 +1,6 @@
 -- What an edit at a place makes of entries by rising number.
-use Rattle.std.proofs.Common.{◌≡◌, ℕ, ℤ, pos, subst, zero, suc, ◌+◌, ◌<◌, ◌≤◌, List, [], ◌∷◌, length, get_or, set, Some, None, is_some, true, false, cond}
-use Rattle.std.proofs.Common.{Bool, Ordering, Result, Ok, Err, IfOk, IfErr, refl, sym, ap, ◌∙◌, add-zero, arith}
+use Rattle.std.proofs.Common.{◌≡◌, ℕ, ℤ, pos, subst, zero, suc, ◌<◌, ◌≤◌, List, [], ◌∷◌, length, get_or, set, Some, None, is_some, true, false, cond}
+use Rattle.std.proofs.Common.{Bool, Ordering, Result, Ok, Err, IfOk, IfErr, refl, sym, ap, ◌∙◌, arith}
 use Rattle.std.specs.declared.cmp.Ordering.TheVariants.{Less, Equal, Greater}
 use Rattle.std.specs.Ordering.{nat_cmp, match_ordering, is_eq}
 use Rattle.std.specs.BTreeMap.{insert_entry, is_at}
@@ -13,10 +13,6 @@ use Rattle.std.proofs.lemmas.Map.Keys.{sorted_head, sorted_tail}
 use Rattle.std.proofs.lemmas.Map.Lookups.{exact_unsigned}
 use Rattle.pg_edits.specs.EdgeList.{EdgeList, IsRising}
 use Rattle.pg_edits.specs.Places.{IsPlaceOf, IsGapFor}
-use Rattle.std.specs.Prelude.{if◌then◌else◌}
-use Rattle.std.proofs.lemmas.List.{length-set}
-use Rattle.std.proofs.lemmas.List.Edits.{length-insert}
-use Rattle.pg_edits.specs.EdgeList.{weight_at}
 use Rattle.pg_map.proofs.Rising.{rises-insert, rises-remove}
 use Rattle.pg_map.proofs.Search.{lookup_found, lookup_missing, searchable}
 
@@ -126,18 +122,3 @@ module _ (edges : EdgeList) (target place : ℕ) (rising : IsRising edges) where
 
   pub rises_removed : (made : EdgeList) → IsPlaceOf target edges place → made ≡ remove edges place → IsRising made
   rises_removed made here is = subst IsRising (sym (is ∙ here.removed)) (rises-remove target edges rising)
-
--- ---- how many there are then
-
-pub degree_written : {edges was : EdgeList} {target place : ℕ} (weight : ℤ) → IsPlaceOf target edges place → edges ≡ was
-    → length (set edges place (target, weight)) + (if is_some (weight_at target was) then 1 else 0) ≡ length was + 1
-degree_written {edges} {was} {target} {place} weight here same =
-    subst (λ l. length (set edges place (target, weight)) + (if is_some (weight_at target l) then 1 else 0) ≡ length l + 1) same
-    (ap (λ b. length (set edges place (target, weight)) + (if b then 1 else 0)) here.there ∙ ap (λ n. n + 1) (length-set edges place (target, weight)))
-
-pub degree_inserted : {edges was made : EdgeList} {target place : ℕ} (weight : ℤ) → IsGapFor target edges place → edges ≡ was
-    → made ≡ insert edges place (target, weight) → length made + (if is_some (weight_at target was) then 1 else 0) ≡ length was + 1
-degree_inserted {edges} {was} {made} {target} {place} weight here same is =
-    subst (λ l. length made + (if is_some (weight_at target l) then 1 else 0) ≡ length l + 1) same
-    (ap (λ o. length made + (if is_some o then 1 else 0)) here.absent ∙ add-zero (length made)
-    ∙ ap length is ∙ length-insert edges place (target, weight) here.in_range)

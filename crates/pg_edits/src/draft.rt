@@ -1,5 +1,5 @@
 //! A row that is being edited.
-ghost use Rattle.std.specs.Prelude.{◌≡◌, ◌+◌, [], length, is_some, IfOk, IfSome, if◌then◌else◌};
+ghost use Rattle.std.specs.Prelude.{◌≡◌, ◌+◌, [], length, is_some, IfOk, IfSome, OnOk, if◌then◌else◌};
 ghost use Rattle.pg_edits.specs.EdgeList.{IsRising, weight_at, with_edge, without_edge};
 
 mod listed;
@@ -23,75 +23,57 @@ pub(crate) enum DraftEdges {
 impl DraftEdges {
     ghost use Rattle.pg_edits.specs.DraftRow.{edges_in};
 
-    /// The edges with the one to `target`, in the place of the one that was there.
-    fn with_edge(self, alloc: Global, target: VertexId, weight: i64) -> Result<DraftEdges, Memory>
-        ensures value { IfOk result (λ edges. edges_in edges ≡ with_edge target weight (edges_in self)) }
+    /// Puts the edge to `target` in the place of the one that was there, and says whether there was one.
+    fn put(&mut self, alloc: Global, target: VertexId, weight: i64) -> Result<bool, Memory>
+        ensures value { OnOk result (edges_in self.new ≡ with_edge target weight (edges_in self.old)) }
+        ensures was_there { IfOk result (λ there. there ≡ is_some (weight_at target (edges_in self.old))) }
         ensures degree { IfOk result
-            (λ edges. length (edges_in edges) + (if is_some (weight_at target (edges_in self)) then 1 else 0)
-            ≡ length (edges_in self) + 1) }
-    {
-        match self.opened(alloc)? {
-            DraftEdges::Listed(mut listed) => {
-                listed.put(target, weight)?;
-                Ok(DraftEdges::Listed(listed))
-            }
-            edges => {
-                let mut map = edges.into_map(alloc)?;
-                map.insert(target, weight)?;
-                Ok(DraftEdges::Mapped(map))
-            }
-        }
-    }
-
-    /// The edges without the one to `target`.
-    fn without_edge(self, alloc: Global, target: VertexId) -> Result<DraftEdges, Memory>
-        ensures value { IfOk result (λ edges. edges_in edges ≡ without_edge target (edges_in self)) }
-        ensures degree { IfOk result
-            (λ edges. length (edges_in edges) + (if is_some (weight_at target (edges_in self)) then 1 else 0)
-            ≡ length (edges_in self)) }
-    {
-        match self.opened(alloc)? {
-            DraftEdges::Listed(mut listed) => {
-                listed.remove(target);
-                Ok(DraftEdges::Listed(listed))
-            }
-            edges => {
-                let mut map = edges.into_map(alloc)?;
-                map.remove(&target);
-                Ok(DraftEdges::Mapped(map))
-            }
-        }
-    }
-
-    /// The same edges, on a list that takes one more edit or on a map. A list is made in O(d) for d
-    /// edges, and a map in O(d log d).
-    fn opened(self, alloc: Global) -> Result<DraftEdges, Memory>
-        ensures { IfOk result (λ edges. edges_in edges ≡ edges_in self) }
+            (λ there. length (edges_in self.new) + (if there then 1 else 0) ≡ length (edges_in self.old) + 1) }
     {
         match self {
             DraftEdges::Kept(edges) => {
-                let listed = ListedEdges::of(alloc, edges.as_slice())?;
-                Ok(DraftEdges::Listed(listed))
+                let mut listed = ListedEdges::of(alloc, edges.as_slice())?;
+                let there = listed.put(target, weight)?;
+                *self = DraftEdges::Listed(listed);
+                Ok(there)
             }
             DraftEdges::Listed(listed) => {
-                if listed.is_worn() {
-                    let map = map_of(alloc, listed.as_slice())?;
-                    return Ok(DraftEdges::Mapped(map));
+                if !listed.is_worn() {
+                    return listed.put(target, weight);
                 }
-                Ok(DraftEdges::Listed(listed))
+                let mut map = map_of(alloc, listed.as_slice())?;
+                let there = map.insert(target, weight)?.is_some();
+                *self = DraftEdges::Mapped(map);
+                Ok(there)
             }
-            DraftEdges::Mapped(map) => Ok(DraftEdges::Mapped(map)),
+            DraftEdges::Mapped(map) => Ok(map.insert(target, weight)?.is_some()),
         }
     }
 
-    /// The edges as a map, in O(d log d) for d edges that aren't on one.
-    fn into_map(self, alloc: Global) -> Result<BTreeMap<VertexId, i64>, Memory>
-        ensures { IfOk result (λ map. map.entries ≡ edges_in self) }
+    /// Removes the edge to `target`, and says whether there was one.
+    fn remove(&mut self, alloc: Global, target: VertexId) -> Result<bool, Memory>
+        ensures value { OnOk result (edges_in self.new ≡ without_edge target (edges_in self.old)) }
+        ensures was_there { IfOk result (λ there. there ≡ is_some (weight_at target (edges_in self.old))) }
+        ensures degree { IfOk result
+            (λ there. length (edges_in self.new) + (if there then 1 else 0) ≡ length (edges_in self.old)) }
     {
         match self {
-            DraftEdges::Kept(edges) => map_of(alloc, edges.as_slice()),
-            DraftEdges::Listed(listed) => map_of(alloc, listed.as_slice()),
-            DraftEdges::Mapped(map) => Ok(map),
+            DraftEdges::Kept(edges) => {
+                let mut listed = ListedEdges::of(alloc, edges.as_slice())?;
+                let there = listed.remove(target);
+                *self = DraftEdges::Listed(listed);
+                Ok(there)
+            }
+            DraftEdges::Listed(listed) => {
+                if !listed.is_worn() {
+                    return Ok(listed.remove(target));
+                }
+                let mut map = map_of(alloc, listed.as_slice())?;
+                let there = map.remove(&target).is_some();
+                *self = DraftEdges::Mapped(map);
+                Ok(there)
+            }
+            DraftEdges::Mapped(map) => Ok(map.remove(&target).is_some()),
         }
     }
 }
@@ -178,47 +160,31 @@ impl DraftRow {
         Some(edges)
     }
 
-    /// Whether there is an edge to `target`.
-    pub fn has_edge(&self, target: VertexId) -> bool
-        ensures { result ≡ is_some (weight_at target self.now.edges) }
+    /// Sets the input.
+    pub fn set_input(&mut self, input: i64)
+        ensures { self.new ≡ record self.old { input = input } }
     {
-        match &self.edges {
-            DraftEdges::Kept(edges) => edges.weight(target).is_some(),
-            DraftEdges::Listed(listed) => listed.has(target),
-            DraftEdges::Mapped(map) => map.contains_key(&target),
-        }
+        self.input = input;
     }
 
-    /// The row with this input.
-    pub fn with_input(self, input: i64) -> DraftRow
-        ensures { result ≡ record self { input = input } }
-    {
-        let DraftRow { input: _, edges } = self;
-        DraftRow { input, edges }
-    }
-
-    /// The row with the edge to `target`, in the place of the one that was there.
-    pub fn with_edge(self, alloc: Global, target: VertexId, weight: i64) -> Result<DraftRow, Memory>
-        ensures value { IfOk result (λ row. row ≡ record self { edges = with_edge target weight self.edges }) }
+    /// Puts the edge to `target` in the place of the one that was there, and says whether there was one.
+    pub fn put_edge(&mut self, alloc: Global, target: VertexId, weight: i64) -> Result<bool, Memory>
+        ensures value { OnOk result (self.new ≡ record self.old { edges = with_edge target weight self.old.edges }) }
+        ensures was_there { IfOk result (λ there. there ≡ is_some (weight_at target self.old.edges)) }
         ensures degree { IfOk result
-            (λ row. length row.edges + (if is_some (weight_at target self.edges) then 1 else 0)
-            ≡ length self.edges + 1) }
+            (λ there. length self.new.edges + (if there then 1 else 0) ≡ length self.old.edges + 1) }
     {
-        let DraftRow { input, edges } = self;
-        let edges = edges.with_edge(alloc, target, weight)?;
-        Ok(DraftRow { input, edges })
+        self.edges.put(alloc, target, weight)
     }
 
-    /// The row without the edge to `target`.
-    pub fn without_edge(self, alloc: Global, target: VertexId) -> Result<DraftRow, Memory>
-        ensures value { IfOk result (λ row. row ≡ record self { edges = without_edge target self.edges }) }
+    /// Removes the edge to `target`, and says whether there was one.
+    pub fn remove_edge(&mut self, alloc: Global, target: VertexId) -> Result<bool, Memory>
+        ensures value { OnOk result (self.new ≡ record self.old { edges = without_edge target self.old.edges }) }
+        ensures was_there { IfOk result (λ there. there ≡ is_some (weight_at target self.old.edges)) }
         ensures degree { IfOk result
-            (λ row. length row.edges + (if is_some (weight_at target self.edges) then 1 else 0)
-            ≡ length self.edges) }
+            (λ there. length self.new.edges + (if there then 1 else 0) ≡ length self.old.edges) }
     {
-        let DraftRow { input, edges } = self;
-        let edges = edges.without_edge(alloc, target)?;
-        Ok(DraftRow { input, edges })
+        self.edges.remove(alloc, target)
     }
 
     /// The row as a graph holds it.

@@ -52,7 +52,7 @@ fn vertex_edited(
 /// The same of a row that is there.
 fn row_edited(
     alloc: Global,
-    row: DraftRow,
+    mut row: DraftRow,
     edit: Edit,
 ) -> Result<Result<Option<DraftRow>, EditKind>, Memory>
     ensures { IfOk result (λ made. made ≡ row_edited row edit) }
@@ -60,24 +60,27 @@ fn row_edited(
     match edit {
         Edit::AddVertex(..) => Ok(Err(EditKind::VertexExists)),
         Edit::RemoveVertex(_) => Ok(Ok(None)),
-        Edit::SetInput(_, input) => Ok(Ok(Some(row.with_input(input)))),
+        Edit::SetInput(_, input) => {
+            row.set_input(input);
+            Ok(Ok(Some(row)))
+        }
         Edit::AddEdge(_, target, weight) => {
-            if row.has_edge(target) {
+            if row.put_edge(alloc, target, weight)? {
                 return Ok(Err(EditKind::EdgeExists));
             }
-            Ok(Ok(Some(row.with_edge(alloc, target, weight)?)))
+            Ok(Ok(Some(row)))
         }
         Edit::SetEdge(_, target, weight) => {
-            if !row.has_edge(target) {
+            if !row.put_edge(alloc, target, weight)? {
                 return Ok(Err(EditKind::NoEdge));
             }
-            Ok(Ok(Some(row.with_edge(alloc, target, weight)?)))
+            Ok(Ok(Some(row)))
         }
         Edit::RemoveEdge(_, target) => {
-            if !row.has_edge(target) {
+            if !row.remove_edge(alloc, target)? {
                 return Ok(Err(EditKind::NoEdge));
             }
-            Ok(Ok(Some(row.without_edge(alloc, target)?)))
+            Ok(Ok(Some(row)))
         }
     }
 }

@@ -147,8 +147,9 @@ impl<'a> Draft<'a> {
         ensures ok { IfOk result (BecomesBy (Edit.SetInput id input) self.entry) }
         ensures err { IfErr result (RefusesEdit (Edit.SetInput id input) self.entry) }
     {
-        let row = take_row(self.graph, &mut self.changes, id)?;
-        put(&mut self.changes, id, Some(row.with_input(input)))?;
+        let mut row = take_row(self.graph, &mut self.changes, id)?;
+        row.set_input(input);
+        put(&mut self.changes, id, Some(row))?;
         Ok(self)
     }
 
@@ -162,14 +163,14 @@ impl<'a> Draft<'a> {
         ensures ok { IfOk result (BecomesBy (Edit.AddEdge source target weight) self.entry) }
         ensures err { IfErr result (RefusesEdit (Edit.AddEdge source target weight) self.entry) }
     {
-        let row = take_row(self.graph, &mut self.changes, source)?;
-        if row.has_edge(target) {
+        let mut row = take_row(self.graph, &mut self.changes, source)?;
+        let there = row.put_edge(alloc, target, weight)?;
+        if there {
             return Err(EditKind::EdgeExists);
         }
         if self.edges >= EDGE_LIMIT {
             return Err(EditKind::Full);
         }
-        let row = row.with_edge(alloc, target, weight)?;
         put(&mut self.changes, source, Some(row))?;
         self.edges += 1;
         Ok(self)
@@ -185,11 +186,11 @@ impl<'a> Draft<'a> {
         ensures ok { IfOk result (BecomesBy (Edit.SetEdge source target weight) self.entry) }
         ensures err { IfErr result (RefusesEdit (Edit.SetEdge source target weight) self.entry) }
     {
-        let row = take_row(self.graph, &mut self.changes, source)?;
-        if !row.has_edge(target) {
+        let mut row = take_row(self.graph, &mut self.changes, source)?;
+        let there = row.put_edge(alloc, target, weight)?;
+        if !there {
             return Err(EditKind::NoEdge);
         }
-        let row = row.with_edge(alloc, target, weight)?;
         put(&mut self.changes, source, Some(row))?;
         Ok(self)
     }
@@ -203,11 +204,11 @@ impl<'a> Draft<'a> {
         ensures ok { IfOk result (BecomesBy (Edit.RemoveEdge source target) self.entry) }
         ensures err { IfErr result (RefusesEdit (Edit.RemoveEdge source target) self.entry) }
     {
-        let row = take_row(self.graph, &mut self.changes, source)?;
-        if !row.has_edge(target) {
+        let mut row = take_row(self.graph, &mut self.changes, source)?;
+        let there = row.remove_edge(alloc, target)?;
+        if !there {
             return Err(EditKind::NoEdge);
         }
-        let row = row.without_edge(alloc, target)?;
         put(&mut self.changes, source, Some(row))?;
         self.edges -= 1;
         Ok(self)

@@ -54,38 +54,39 @@ impl ListedEdges {
         self.edits_left == 0
     }
 
-    /// Whether there is an edge to `target`, found by binary search.
-    pub(crate) fn has(&self, target: VertexId) -> bool
-        ensures { result ≡ is_some (weight_at target self.now) }
-    {
-        self.place_of(target).is_ok()
-    }
-
-    /// Puts the edge to `target`, in the place of the one that was there. Costs O(d) for d edges.
-    pub(crate) fn put(&mut self, target: VertexId, weight: i64) -> Result<(), Memory>
+    /// Puts the edge to `target` in the place of the one that was there, and says whether there was one.
+    /// Costs O(d) for d edges.
+    pub(crate) fn put(&mut self, target: VertexId, weight: i64) -> Result<bool, Memory>
         ensures value { OnOk result (self.new ≡ with_edge target weight self.old) }
-        ensures degree { OnOk result
-            (length self.new + (if is_some (weight_at target self.old) then 1 else 0) ≡ length self.old + 1) }
+        ensures was_there { IfOk result (λ there. there ≡ is_some (weight_at target self.old)) }
+        ensures degree { IfOk result (λ there. length self.new + (if there then 1 else 0) ≡ length self.old + 1) }
     {
         self.edits_left = self.edits_left.saturating_sub(1);
         match self.place_of(target) {
-            Ok(place) => self.edges[place] = (target, weight),
-            Err(place) => self.edges.insert(place, (target, weight))?,
+            Ok(place) => {
+                self.edges[place] = (target, weight);
+                Ok(true)
+            }
+            Err(place) => {
+                self.edges.insert(place, (target, weight))?;
+                Ok(false)
+            }
         }
-        Ok(())
     }
 
-    /// Removes the edge to `target`, if it is there. Costs O(d) for d edges.
-    pub(crate) fn remove(&mut self, target: VertexId)
+    /// Removes the edge to `target`, and says whether there was one. Costs O(d) for d edges.
+    pub(crate) fn remove(&mut self, target: VertexId) -> bool
         ensures value { self.new ≡ without_edge target self.old }
-        ensures degree { length self.new + (if is_some (weight_at target self.old) then 1 else 0) ≡ length self.old }
+        ensures was_there { result ≡ is_some (weight_at target self.old) }
+        ensures degree { length self.new + (if result then 1 else 0) ≡ length self.old }
     {
         self.edits_left = self.edits_left.saturating_sub(1);
         match self.place_of(target) {
             Ok(place) => {
                 self.edges.remove(place);
+                true
             }
-            Err(_) => {}
+            Err(_) => false,
         }
     }
 

@@ -14,31 +14,31 @@ returns-in_err-row-clause-err c =
     rw (p.1, p.2) (refused_row _ _ _ _ c.self.invariant c.args.source _ c.self.view_is (AddEdge c.args.source c.args.target c.args.weight) _
     (λ gone. AddEdge-missing _ _ gone c.args.target c.args.weight) c.in_err-row.ensures.err)
 
-pub returns-then-has_edge-clause-err : goal.returns-then-has_edge-clause-err
-returns-then-has_edge-clause-err c =
+pub returns-then-there-clause-err : goal.returns-then-there-clause-err
+returns-then-there-clause-err c =
     let there = row_now _ _ _ _ c.self.invariant c.args.source _ c.in_ok-row.ensures.row in
     refused _ _ _ _ c.self.invariant c.args.source _ c.self.view_is (AddEdge c.args.source c.args.target c.args.weight) EdgeExists
-    (AddEdge-exists _ _ c.in_ok-row.row there c.args.target c.args.weight (sym c.if-has_edge.ensures))
+    (AddEdge-exists _ _ c.in_ok-row.row there c.args.target c.args.weight (sym c.in_ok-there.ensures.was_there ∙ c.if-there.true))
 
 pub returns-then-self-ge-EDGE_LIMIT-clause-err : goal.returns-then-self-ge-EDGE_LIMIT-clause-err
 returns-then-self-ge-EDGE_LIMIT-clause-err c =
     let there = row_now _ _ _ _ c.self.invariant c.args.source _ c.in_ok-row.ensures.row in
     refused _ _ _ _ c.self.invariant c.args.source _ c.self.view_is (AddEdge c.args.source c.args.target c.args.weight) Full
-    (AddEdge-full _ _ c.in_ok-row.row there c.args.target c.args.weight (sym c.if-has_edge.ensures) (omega (arith, c.self.invariant.edges_counted)))
+    (AddEdge-full _ _ c.in_ok-row.row there c.args.target c.args.weight (sym c.in_ok-there.ensures.was_there ∙ c.if-there.false) (omega (arith, c.self.invariant.edges_counted)))
 
 pub invariant_of-self : goal.invariant_of-self
 invariant_of-self c =
     let there = row_now _ _ _ _ c.self.invariant c.args.source _ c.in_ok-row.ensures.row in
-    let more = one_more _ _ _ (sym c.if-has_edge.ensures) c.in_ok-row-2.ensures.degree in
-    replaced _ _ _ _ c.self.invariant c.args.source _ _ _ c.take_row.ensures.taken c.in_ok-put.ensures.ok c.in_ok-row.row there c.in_ok-row-2.row
+    let more = one_more _ _ _ c.if-there.false c.in_ok-there.ensures.degree in
+    replaced _ _ _ _ c.self.invariant c.args.source _ _ _ c.take_row.ensures.taken c.in_ok-put.ensures.ok c.in_ok-row.row there c.put_edge.new.self
     (c.self.inside.edges + 1) refl (omega (arith, more)) (omega arith)
 
 pub returns-clause-ok : goal.returns-clause-ok
 returns-clause-ok c =
     let there = row_now _ _ _ _ c.self.invariant c.args.source _ c.in_ok-row.ensures.row in
     let fits = c.ranges.weight in
-    let made = simp to_z-of_z at c.in_ok-row-2.ensures.value in
+    let made = simp to_z-of_z at c.in_ok-there.ensures.value in
     becomes _ _ _ _ c.self.invariant c.args.source _ c.self.view_is (AddEdge c.args.source c.args.target c.args.weight) c.put.new.map.entries _
-    (AddEdge-ok _ _ c.in_ok-row.row there c.args.target c.args.weight (sym c.if-has_edge.ensures) (omega (arith, c.self.invariant.edges_counted)))
+    (AddEdge-ok _ _ c.in_ok-row.row there c.args.target c.args.weight (sym c.in_ok-there.ensures.was_there ∙ c.if-there.false) (omega (arith, c.self.invariant.edges_counted)))
     (put_back _ _ _ _ c.self.invariant c.args.source _ _ _ c.take_row.ensures.taken c.in_ok-put.ensures.ok
     ∙ ap (λ row. with_change c.args.source (Some row) (with_changes c.self.inside.changes.entries c.self.inside.graph.now)) made)

@@ -14,25 +14,25 @@ returns-in_err-row-clause-err c =
     rw (p.1, p.2) (refused_row _ _ _ _ c.self.invariant c.args.source _ c.self.view_is (SetEdge c.args.source c.args.target c.args.weight) _
     (λ gone. SetEdge-missing _ _ gone c.args.target c.args.weight) c.in_err-row.ensures.err)
 
-pub returns-then-not-has_edge-clause-err : goal.returns-then-not-has_edge-clause-err
-returns-then-not-has_edge-clause-err c =
+pub returns-then-not-there-clause-err : goal.returns-then-not-there-clause-err
+returns-then-not-there-clause-err c =
     let there = row_now _ _ _ _ c.self.invariant c.args.source _ c.in_ok-row.ensures.row in
     refused _ _ _ _ c.self.invariant c.args.source _ c.self.view_is (SetEdge c.args.source c.args.target c.args.weight) NoEdge
-    (SetEdge-none _ _ c.in_ok-row.row there c.args.target c.args.weight (sym c.has_edge.ensures ∙ c.if-not-has_edge.true))
+    (SetEdge-none _ _ c.in_ok-row.row there c.args.target c.args.weight (sym c.in_ok-there.ensures.was_there ∙ c.if-not-there.true))
 
 pub invariant_of-self : goal.invariant_of-self
 invariant_of-self c =
     let there = row_now _ _ _ _ c.self.invariant c.args.source _ c.in_ok-row.ensures.row in
-    let same = as_many _ _ _ (sym c.has_edge.ensures ∙ c.if-not-has_edge.false) c.in_ok-row-2.ensures.degree in
-    replaced _ _ _ _ c.self.invariant c.args.source _ _ _ c.take_row.ensures.taken c.in_ok-put.ensures.ok c.in_ok-row.row there c.in_ok-row-2.row
+    let same = as_many _ _ _ c.if-not-there.false c.in_ok-there.ensures.degree in
+    replaced _ _ _ _ c.self.invariant c.args.source _ _ _ c.take_row.ensures.taken c.in_ok-put.ensures.ok c.in_ok-row.row there c.put_edge.new.self
     c.self.inside.edges refl (omega (arith, same)) c.self.invariant.edges_fit
 
 pub returns-clause-ok : goal.returns-clause-ok
 returns-clause-ok c =
     let there = row_now _ _ _ _ c.self.invariant c.args.source _ c.in_ok-row.ensures.row in
     let fits = c.ranges.weight in
-    let made = simp to_z-of_z at c.in_ok-row-2.ensures.value in
+    let made = simp to_z-of_z at c.in_ok-there.ensures.value in
     becomes _ _ _ _ c.self.invariant c.args.source _ c.self.view_is (SetEdge c.args.source c.args.target c.args.weight) c.put.new.map.entries _
-    (SetEdge-ok _ _ c.in_ok-row.row there c.args.target c.args.weight (sym c.has_edge.ensures ∙ c.if-not-has_edge.false))
+    (SetEdge-ok _ _ c.in_ok-row.row there c.args.target c.args.weight (sym c.in_ok-there.ensures.was_there ∙ c.if-not-there.false))
     (put_back _ _ _ _ c.self.invariant c.args.source _ _ _ c.take_row.ensures.taken c.in_ok-put.ensures.ok
     ∙ ap (λ row. with_change c.args.source (Some row) (with_changes c.self.inside.changes.entries c.self.inside.graph.now)) made)

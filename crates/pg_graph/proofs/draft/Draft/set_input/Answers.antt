@@ -16,15 +16,15 @@ returns-in_err-row-clause-err c =
 pub invariant_of-self : goal.invariant_of-self
 invariant_of-self c =
     let there = row_now _ _ _ _ c.self.invariant c.args.id _ c.in_ok-row.ensures.row in
-    let same = ap (λ row. length row.edges) c.with_input.ensures in
-    replaced _ _ _ _ c.self.invariant c.args.id _ _ _ c.take_row.ensures.taken c.in_ok-put.ensures.ok c.in_ok-row.row there c.with_input.result
+    let same = ap (λ row. length row.edges) c.set_input.ensures in
+    replaced _ _ _ _ c.self.invariant c.args.id _ _ _ c.take_row.ensures.taken c.in_ok-put.ensures.ok c.in_ok-row.row there c.set_input.new.self
     c.self.inside.edges refl (omega (arith, same)) c.self.invariant.edges_fit
 
 pub returns-clause-ok : goal.returns-clause-ok
 returns-clause-ok c =
     let there = row_now _ _ _ _ c.self.invariant c.args.id _ c.in_ok-row.ensures.row in
     let fits = c.ranges.input in
-    let made = simp to_z-of_z at c.with_input.ensures in
+    let made = simp to_z-of_z at c.set_input.ensures in
     becomes _ _ _ _ c.self.invariant c.args.id _ c.self.view_is (SetInput c.args.id c.args.input) c.put.new.map.entries _
     (SetInput-ok _ _ c.in_ok-row.row there c.args.input)
     (put_back _ _ _ _ c.self.invariant c.args.id _ _ _ c.take_row.ensures.taken c.in_ok-put.ensures.ok
