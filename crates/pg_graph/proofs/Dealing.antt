@@ -9,7 +9,7 @@ use Rattle.std.specs.Option.{unwrap_or}
 use Rattle.std.specs.List.Sorted.{IsPartitionPoint, IsStableByKey, IsStrictlySortedBy, ties}
 use Rattle.std.proofs.lemmas.Bool.{cases_eq, leb-true, leb-false}
 use Rattle.std.proofs.lemmas.List.{append-nil, length-drop}
-use Rattle.std.proofs.lemmas.List.Elements.{filter-append}
+use Rattle.std.proofs.lemmas.List.Elements.{filter-append, filter_agree}
 use Rattle.std.proofs.lemmas.List.Sorted.{IsNonDecreasingBy-drop}
 use Rattle.std.proofs.lemmas.Bool.Decides.{nat_tests}
 use Rattle.pg_map.specs.Entries.{ChangesRise, value_at, with_change, with_changes}
@@ -292,16 +292,12 @@ module _ (rows : Rows) (all left : Places) (changes : Changes) (empty : left ≡
 
 -- ---- a stable sort groups edits
 
-filter_same : {X : Type 0} (p q : X → Bool) → ((x : X) → p x ≡ q x) → (xs : List X) → filter p xs ≡ filter q xs
-filter_same p q same [] = refl
-filter_same p q same (x ∷ xs) = ap (λ b. cond b (x ∷ filter p xs) (filter p xs)) (same x) ∙ ap (λ l. cond (q x) (x ∷ l) l) (filter_same p q same xs)
-
 tied : (a b : ℕ) → not (is_lt (nat_cmp a b)) && not (is_lt (nat_cmp b a)) ≡ eqb a b
 tied a b = grind (arith, nat_tests)
 
 pub stays_grouped : (edits sorted : Places) → IsStableByKey (λ e. source_of e.1) nat_cmp edits sorted → (q : ℕ) → edits_of q sorted ≡ edits_of q edits
 stays_grouped edits sorted stable q =
-    let as_ties = λ (l : Places). filter_same (λ e. eqb q (source_of e.1))
+    let as_ties = λ (l : Places). filter_agree (λ e. eqb q (source_of e.1))
     (ties (λ x y. is_lt (nat_cmp (source_of x.1) (source_of y.1))) (0, RemoveVertex q)) (λ e. sym (tied q (source_of e.1))) l in
     as_ties sorted ∙ stable (0, RemoveVertex q) ∙ sym (as_ties edits)
 

@@ -27,9 +27,9 @@ pub fn into_batch(alloc: Global, lines: &[Line], graph: &Graph) -> Result<Batch,
     for (place, line) in lines.iter().enumerate() {
         let source = seen.source_at(place, line, graph);
         let target = seen.target_at(place, line, graph);
-        let ranks = (order.source_rank(place), order.target_rank(place));
-        push_vertex(&mut batch, &mut named, line.source, source.vertex, ranks.0)?;
-        push_vertex(&mut batch, &mut named, line.target, target.vertex, ranks.1)?;
+        let (source_rank, target_rank) = (order.ranks.of_source(place), order.ranks.of_target(place));
+        push_vertex(&mut batch, &mut named, line.source, source.vertex, source_rank)?;
+        push_vertex(&mut batch, &mut named, line.target, target.vertex, target_rank)?;
         push_edge(&mut batch, &mut named, line, source.edge, source.rank)?;
     }
     Ok(batch)
@@ -87,7 +87,7 @@ impl Named {
     {
         let edges = order.edges(alloc, lines)?;
         Ok(Named {
-            vertices: NamedEdges::of(alloc, order.vertices.as_slice())?,
+            vertices: NamedEdges::of(alloc, order.ranks.vertices.as_slice())?,
             edges: NamedEdges::of(alloc, edges.as_slice())?,
         })
     }

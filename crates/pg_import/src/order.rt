@@ -1,7 +1,7 @@
 //! Lines in the order of their ends. No answer depends on it: it says where to look first.
 
 use crate::{Line, Memory};
-use pg_graph::{VertexId, places_by_id};
+use pg_graph::{VertexId, places_by_id, reordered_by_id};
 use std::alloc::Global;
 
 /// The lines of a list in the order of their ends, and the vertices at the ends, each once.
@@ -11,39 +11,24 @@ pub(crate) struct Order {
     pub(crate) by_target: Vec<usize>,
     /// The places of lines by rising source, and those of one source by rising target.
     pub(crate) by_edge: Vec<usize>,
-    /// The vertices at the ends of lines, by rising id, each as an edge to itself.
-    pub(crate) vertices: Vec<(VertexId, VertexId)>,
-    ranks: Vec<usize>,
-    lines: usize,
+    /// Where the ends of lines stand among all vertices.
+    pub(crate) ranks: Ranks,
 }
 
 impl Order {
     /// The order of these lines. Costs O(k) for k lines.
     pub(crate) fn of(alloc: Global, lines: &[Line]) -> Result<Order, Memory> {
-        let ends = ends_of(alloc, lines)?;
-        let all = places_below(alloc, ends.len())?;
-        let by_id = places_by_id(alloc, ends.as_slice(), all)?;
-        let targets = targets_among(alloc, by_id.as_slice(), lines.len())?;
-        let by_target = targets.clone()?;
-        let by_edge = places_by_id(alloc, ends.as_slice(), targets)?;
-        let (vertices, ranks) = ranked(alloc, ends.as_slice(), by_id.as_slice())?;
+        let targets = targets_of(alloc, lines)?;
+        let by_target = places_by_id(alloc, targets.as_slice())?;
+        let sources = sources_of(alloc, lines)?;
+        let by_edge = reordered_by_id(alloc, sources.as_slice(), by_target.clone()?)?;
+        let mut ranks = Ranks::new(alloc, lines.len())?;
+        ranks.add_all(lines, by_edge.as_slice(), by_target.as_slice())?;
         Ok(Order {
             by_target,
             by_edge,
-            vertices,
             ranks,
-            lines: lines.len(),
         })
-    }
-
-    /// Where the source of the line at a place stands among the vertices.
-    pub(crate) fn source_rank(&self, place: usize) -> usize {
-        self.ranks.get(place).copied().unwrap_or(0)
-    }
-
-    /// Where the target of the line at a place stands among the vertices.
-    pub(crate) fn target_rank(&self, place: usize) -> usize {
-        self.source_rank(place.saturating_add(self.lines))
     }
 
     /// The edges of the lines by rising source and target.
@@ -62,63 +47,108 @@ impl Order {
     }
 }
 
-/// The sources of lines, and behind them their targets.
-fn ends_of(alloc: Global, lines: &[Line]) -> Result<Vec<VertexId>, Memory> {
-    let mut ends = Vec::with_capacity(alloc, lines.len().saturating_mul(2))?;
+/// The sources of lines.
+fn sources_of(alloc: Global, lines: &[Line]) -> Result<Vec<VertexId>, Memory> {
+    let mut sources = Vec::with_capacity(alloc, lines.len())?;
     for line in lines {
-        ends.push(line.source)?;
+        sources.push(line.source)?;
     }
-    add_targets(&mut ends, lines)?;
-    Ok(ends)
+    Ok(sources)
 }
 
-fn add_targets(ends: &mut Vec<VertexId>, lines: &[Line]) -> Result<(), Memory> {
+/// The targets of lines.
+fn targets_of(alloc: Global, lines: &[Line]) -> Result<Vec<VertexId>, Memory> {
+    let mut targets = Vec::with_capacity(alloc, lines.len())?;
     for line in lines {
-        ends.push(line.target)?;
+        targets.push(line.target)?;
     }
-    Ok(())
+    Ok(targets)
 }
 
-/// The places below a number.
-fn places_below(alloc: Global, count: usize) -> Result<Vec<usize>, Memory> {
-    let mut places = Vec::with_capacity(alloc, count)?;
-    for place in 0..count {
-        places.push(place)?;
-    }
-    Ok(places)
+/// The vertices at the ends of lines, each once, and where the ends of each line stand among them.
+#[derive(Drop)]
+pub(crate) struct Ranks {
+    /// By rising id, each as an edge to itself.
+    pub(crate) vertices: Vec<(VertexId, VertexId)>,
+    sources: Vec<usize>,
+    targets: Vec<usize>,
 }
 
-/// The places of lines whose targets are among these ends, in their order.
-fn targets_among(alloc: Global, ends: &[usize], lines: usize) -> Result<Vec<usize>, Memory> {
-    let mut places = Vec::with_capacity(alloc, lines)?;
-    for end in ends {
-        if *end >= lines {
-            places.push(*end - lines)?;
-        }
+impl Ranks {
+    /// No vertices yet, for so many lines.
+    fn new(alloc: Global, lines: usize) -> Result<Ranks, Memory> {
+        Ok(Ranks {
+            vertices: Vec::new(alloc),
+            sources: Vec::from_elem(alloc, 0, lines)?,
+            targets: Vec::from_elem(alloc, 0, lines)?,
+        })
     }
-    Ok(places)
-}
 
-/// The vertices at ends, which are given by rising id, and where each end's vertex stands among them.
-fn ranked(
-    alloc: Global,
-    ends: &[VertexId],
-    by_id: &[usize],
-) -> Result<(Vec<(VertexId, VertexId)>, Vec<usize>), Memory> {
-    let mut vertices = Vec::with_capacity(alloc, ends.len())?;
-    let mut ranks = Vec::from_elem(alloc, 0, ends.len())?;
-    let mut last = None;
-    let mut rank: usize = 0;
-    for end in by_id {
-        if *end < ends.len() && *end < ranks.len() {
-            let id = ends[*end];
-            if last != Some(id) {
-                rank = vertices.len();
-                vertices.push((id, id))?;
-                last = Some(id);
+    /// Where the source of the line at a place stands among the vertices.
+    pub(crate) fn of_source(&self, place: usize) -> usize {
+        self.sources.get(place).copied().unwrap_or(0)
+    }
+
+    /// Where the target of the line at a place stands among the vertices.
+    pub(crate) fn of_target(&self, place: usize) -> usize {
+        self.targets.get(place).copied().unwrap_or(0)
+    }
+
+    /// Adds the ends of lines, whose places are given by rising source and by rising target.
+    fn add_all(
+        &mut self,
+        lines: &[Line],
+        by_source: &[usize],
+        by_target: &[usize],
+    ) -> Result<(), Memory> {
+        let mut targets = by_target;
+        for place in by_source {
+            if let Some(line) = lines.get(*place) {
+                targets = self.add_targets(lines, targets, line.source)?;
+                let rank = self.add(line.source)?;
+                set(self.sources.as_mut_slice(), *place, rank);
             }
-            ranks[*end] = rank;
         }
+        if let Some(greatest) = by_target.last() {
+            if let Some(line) = lines.get(*greatest) {
+                self.add_targets(lines, targets, line.target)?;
+            }
+        }
+        Ok(())
     }
-    Ok((vertices, ranks))
+
+    /// Adds the targets at these places that aren't above an id, and hands back the other places.
+    fn add_targets<'a>(
+        &mut self,
+        lines: &[Line],
+        places: &'a [usize],
+        last: VertexId,
+    ) -> Result<&'a [usize], Memory> {
+        for (count, place) in places.iter().enumerate() {
+            if let Some(line) = lines.get(*place) {
+                if line.target > last {
+                    let (_, left) = places.split_at(count);
+                    return Ok(left);
+                }
+                let rank = self.add(line.target)?;
+                set(self.targets.as_mut_slice(), *place, rank);
+            }
+        }
+        Ok(&[])
+    }
+
+    /// Adds a vertex, which is the last one or comes after it, and says where it stands.
+    fn add(&mut self, id: VertexId) -> Result<usize, Memory> {
+        if self.vertices.last().copied() != Some((id, id)) {
+            self.vertices.push((id, id))?;
+        }
+        Ok(self.vertices.len().saturating_sub(1))
+    }
+}
+
+/// Sets the rank at a place, if there is such a place.
+fn set(ranks: &mut [usize], place: usize, rank: usize) {
+    if place < ranks.len() {
+        ranks[place] = rank;
+    }
 }

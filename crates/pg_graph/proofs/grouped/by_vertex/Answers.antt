@@ -1,17 +1,10 @@
-use Rattle.std.proofs.Common.{of_calls, rules, ap, ◌∙◌}
-use Rattle.std.proofs.lemmas.Fn.{always_returns_same}
-use Rattle.std.proofs.lemmas.List.Sorted.{IsNonDecreasingBy-from_sort}
-use Rattle.pg_graph.specs.RowEdit.{edits_of, placed}
-use Rattle.pg_edits.specs.RowEdit.{source_of}
-use Rattle.pg_graph.proofs.Dealing.{stays_grouped}
+use Rattle.std.proofs.Common.{subst, arith}
+use Rattle.pg_graph.specs.Grouped.{AreGrouped, StandInOrder}
+use Rattle.pg_graph.proofs.InOrder.{grouped_in_order}
 use Rattle.pg_graph.proofs.grouped.by_vertex.Goals as goal
 
-pub returns : goal.returns
-returns c = record {
-  rise = IsNonDecreasingBy-from_sort (λ e. source_of e.1) c.sort_by_cached_key.new.self.items
-      (c.in_ok-sort_by_cached_key.ensures.sorted (λ e. source_of e.1) (always_returns_same _ _ _ (λ a r f k. search (rules, of_calls))));
-  same = λ q.
-      stays_grouped c.in_ok-edits.edits.items c.sort_by_cached_key.new.self.items
-      (c.in_ok-sort_by_cached_key.ensures.stable (λ e. source_of e.1) (always_returns_same _ _ _ (λ a r f k. search (rules, of_calls)))) q
-      ∙ ap (edits_of q) (c.in_ok-edits.ensures ∙ ap (placed 1) c.as_slice.ensures);
-}
+pub returns-then-are_in_order : goal.returns-then-are_in_order
+returns-then-are_in_order c =
+    subst (λ edits. AreGrouped edits c.in_ok-gathered.gathered.items) c.as_slice-edits.ensures
+    (grouped_in_order c.as_slice-edits.result.now c.in_ok-gathered.gathered.items (omega (arith, c.len.ensures, c.if-len-edits.true)) c.in_ok-gathered.ensures
+    (subst StandInOrder c.as_slice-then-len-edits.ensures.value (c.are_in_order.ensures c.if-are_in_order.true)))
