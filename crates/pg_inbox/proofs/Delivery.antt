@@ -15,6 +15,7 @@ use Rattle.pg_map.specs.Entries.{HasRisingIds, value_at}
 use Rattle.pg_map.proofs.Filling.{gathered_after}
 use Rattle.pg_map.proofs.Parts.{rises_after}
 use Rattle.pg_map.proofs.Rising.{none_past}
+use Rattle.pg_model.proofs.LawsByNumber.{IsUp, up-filter, up_from}
 use Rattle.pg_model.proofs.LawsFolds.{fold-IsPermutation, fold_from}
 use Rattle.pg_model.proofs.LawsLists.{all-append, all_from_map}
 use Rattle.pg_model.specs.Folds.{IsCommutativeMonoid}
@@ -24,7 +25,6 @@ use Rattle.pg_global.specs.Combiner.{IsLawful}
 use Rattle.pg_parcel.specs.Contents.{contents_of, messages, Holds}
 use Rattle.pg_parcel.specs.Grouping.{AreGroups, any_of, items_to}
 use Rattle.pg_parcel.specs.declared.parcel.Contents.{Contents}
-use Rattle.pg_parcel.proofs.ByNumber.{IsUp, up-filter, up_from}
 use Rattle.pg_inbox.specs.Bundles.{Parcels, bundle_of}
 use Rattle.pg_inbox.specs.Holding.{HoldsAt}
 use Rattle.pg_inbox.specs.Ordered.{in_order}

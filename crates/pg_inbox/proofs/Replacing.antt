@@ -12,6 +12,7 @@ use Rattle.std.proofs.lemmas.List.{append-nil, map-append}
 use Rattle.std.proofs.Math.Bool.{and-true, and-false}
 use Rattle.pg_map.specs.Entries.{ChangesRise, HasRisingIds, value_at, with_changes}
 use Rattle.pg_map.proofs.Changing.{rises-changes, unchanged_at, value_at-with_changes}
+use Rattle.pg_model.proofs.LawsByNumber.{IsUp, up_from}
 use Rattle.pg_model.proofs.LawsLists.{all_pass}
 use Rattle.pg_model.specs.Job.{Combining}
 use Rattle.pg_model.specs.Superstep.{has_id}
@@ -19,7 +20,6 @@ use Rattle.pg_parcel.specs.Contents.{contents_of}
 use Rattle.pg_parcel.specs.Grouping.{AreGroups, any_of, items_to}
 use Rattle.pg_parcel.specs.declared.parcel.Contents.{Contents}
 use Rattle.pg_parcel.proofs.Grouping.{stays}
-use Rattle.pg_parcel.proofs.ByNumber.{IsUp, up_from}
 use Rattle.pg_inbox.specs.Bundles.{Parcels, bundle_of, entries_in}
 use Rattle.pg_inbox.specs.Changed.{AreChanged, IsAdded}
 use Rattle.pg_inbox.specs.Inboxes.{letters_at}

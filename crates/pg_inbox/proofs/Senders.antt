@@ -7,7 +7,7 @@ use Rattle.std.proofs.lemmas.Bool.Decides.{nat_tests}
 use Rattle.std.proofs.lemmas.List.Sorted.{IsPermutation-cons, IsPermutation-middle, IsPermutation-refl, IsPermutation-trans}
 use Rattle.std.specs.Prelude.{nat_lt}
 use Rattle.pg_map.proofs.Moved.{first_of_rest}
-use Rattle.pg_parcel.proofs.ByNumber.{IsUp}
+use Rattle.pg_model.proofs.LawsByNumber.{IsUp}
 use Rattle.pg_inbox.specs.Ordered.{in_order, put}
 
 apart : (a b : ℕ) → a < b → (b == a) ≡ false

@@ -1,6 +1,7 @@
 mod AffectedVertices
 pub mod LawsAffected
 pub mod LawsAgreement
+pub mod LawsByNumber
 pub mod LawsDecides
 pub mod LawsDelivered
 pub mod LawsFolds

@@ -14,9 +14,9 @@ use Rattle.std.proofs.lemmas.Map.Entries.{lookup_head, lookup_tail}
 use Rattle.pg_map.specs.Entries.{HasRisingIds, value_at}
 use Rattle.pg_map.proofs.Parts.{From, above_first, from_weaker, is_less, none_from}
 use Rattle.pg_map.proofs.Rising.{at_other, at_same}
+use Rattle.pg_model.proofs.LawsByNumber.{IsUp, up_from}
 use Rattle.pg_model.specs.Superstep.{is_empty}
 use Rattle.pg_parcel.specs.Grouping.{AreGroups, IsFirstGroup, any_of, before_groups, groups_of, items_to, run_len}
-use Rattle.pg_parcel.proofs.ByNumber.{IsUp, up_from}
 
 other_id : (a b : ℕ) → (a == b) ≡ false → b ≡ a → ⊥
 other_id a b h e = grind (arith, nat_tests)

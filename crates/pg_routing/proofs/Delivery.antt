@@ -10,7 +10,6 @@ use Rattle.std.proofs.lemmas.Bool.Decides.{nat_tests}
 use Rattle.std.proofs.lemmas.List.{append-nil}
 use Rattle.std.proofs.lemmas.List.Elements.{filter-append}
 use Rattle.pg_graph.specs.Rows.{HasRisingIds, Rows}
-use Rattle.pg_parcel.proofs.ByNumber.{IsUp, up-filter}
 use Rattle.pg_inbox.specs.Bundles.{bundle_of}
 use Rattle.pg_inbox.specs.Inboxes.{Delivers}
 use Rattle.pg_inbox.specs.Logged.{Slots, slot_at}
@@ -22,6 +21,7 @@ use Rattle.pg_model.specs.Order.{Sending, sending_cmp, sendings, sendings_from}
 use Rattle.pg_model.specs.Run.{present_at, view_at}
 use Rattle.pg_model.specs.Share.{belongs, present_in_share, records_in, sendings_of, sent_to}
 use Rattle.pg_model.specs.Superstep.{combined, delivered, messages_to, outcome}
+use Rattle.pg_model.proofs.LawsByNumber.{IsUp, up-filter}
 use Rattle.pg_model.proofs.LawsDelivered.{messages_to-sendings, sendings_rise}
 use Rattle.pg_model.proofs.LawsIds.{ids_rise}
 use Rattle.pg_model.proofs.LawsLists.{filter-filter, filter-map}

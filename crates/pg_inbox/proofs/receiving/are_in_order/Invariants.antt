@@ -1,5 +1,5 @@
 use Rattle.std.proofs.Common.{◌-◌, ◌≤◌, drop}
-use Rattle.pg_parcel.proofs.ByNumber.{IsUp}
+use Rattle.pg_model.proofs.LawsByNumber.{IsUp}
 use Rattle.pg_inbox.proofs.receiving.are_in_order.Given as goal
 
 abbrev pub invariant-loop-place : goal.invariant-loop-place
