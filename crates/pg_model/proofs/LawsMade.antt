@@ -5,7 +5,7 @@ use Rattle.std.specs.List.{AllByRecursion}
 use Rattle.std.specs.List.Sorted.{IsStrictlySortedBy}
 use Rattle.std.specs.Ordering.{nat_cmp}
 use Rattle.std.specs.declared.cmp.Ordering.TheVariants.{Less}
-use Rattle.std.proofs.lemmas.Bool.{cases_order, or_parts}
+use Rattle.std.proofs.lemmas.Bool.{cases_order, eqb-true, or_parts}
 use Rattle.std.proofs.lemmas.Bool.Decides.{nat_tests}
 use Rattle.std.proofs.Math.Bool.{or_assoc, or-false}
 use Rattle.pg_graph.specs.declared.missing.Missing.{Missing}
@@ -49,9 +49,6 @@ above_other a b h k = grind (arith, nat_tests)
 above_unlike : (a b : ℕ) → ltb a b ≡ false → (a == b) ≡ false → nat_cmp b a ≡ Less
 above_unlike a b h k = grind (arith, nat_tests)
 
-same_id : (a b : ℕ) → (a == b) ≡ true → a ≡ b
-same_id a b h = grind (arith, nat_tests)
-
 apart_from_less : (a b : ℕ) → nat_cmp a b ≡ Less → (a == b) ≡ false
 apart_from_less a b h = grind (arith, nat_tests)
 
@@ -88,7 +85,7 @@ same_rising (x ∷ xs) (y ∷ ys) h k same =
   where
     later : x ≡ y → (id : ℕ) (b : Bool) → (x == id) ≡ b → has_id xs id ≡ has_id ys id
     later heads id true e =
-        let here : x ≡ id = same_id x id e in
+        let here : x ≡ id = eqb-true x id e in
         let there : y ≡ id = sym heads ∙ here in
         subst (λ n. has_id xs n ≡ false) here (not_below x xs h.0) ∙ sym (subst (λ n. has_id ys n ≡ false) there (not_below y ys k.0))
     later heads id false e =
@@ -128,7 +125,7 @@ has_id-with_id (first ∷ is) id other = by (ltb id first) (id == first) refl (h
         → has_id (cond a (id ∷ first ∷ is) (cond b (first ∷ is) (first ∷ with_id is id))) other ≡ ((id == other) || has_id (first ∷ is) other)
     by true b e rest = refl
     by false true e rest =
-        let same : id ≡ first = same_id id first e in
+        let same : id ≡ first = eqb-true id first e in
         ap (λ (n : ℕ). (first == other) || has_id is other) same
         ∙ or_twice (first == other) (has_id is other)
         ∙ ap (λ (n : ℕ). (n == other) || ((first == other) || has_id is other)) (sym same)
