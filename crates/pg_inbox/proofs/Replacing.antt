@@ -9,6 +9,7 @@ use Rattle.std.specs.Map.{keys_of}
 use Rattle.std.specs.Option.{option_map, unwrap_or}
 use Rattle.std.specs.Ordering.{nat_cmp}
 use Rattle.std.proofs.lemmas.List.{append-nil, map-append}
+use Rattle.std.proofs.lemmas.Simd.{map-map}
 use Rattle.std.proofs.Math.Bool.{and-true, and-false}
 use Rattle.pg_map.specs.Entries.{ChangesRise, HasRisingIds, value_at, with_changes}
 use Rattle.pg_map.proofs.Changing.{rises-changes, unchanged_at, value_at-with_changes}
@@ -60,10 +61,6 @@ module _ {X Y : Type 0} (f : ℕ × X → Y) where
           → cond b (Some (f e)) (value_at q (map (λ e. (e.0, f e)) es)) ≡ option_map (λ x. f (q, x)) (cond b (Some e.1) (value_at q es))
       by true e' h = ap (λ k. Some (f (k, e.1))) (eqb-true e.0 q e')
       by false e' h = h
-
-  keys-made : (es : List (ℕ × X)) → keys_of (map (λ e. (e.0, f e)) es) ≡ keys_of es
-  keys-made [] = refl
-  keys-made (e ∷ es) = ap (λ l. e.0 ∷ l) (keys-made es)
 
 -- ---- what is done to one target
 
@@ -180,7 +177,7 @@ mended_none letters up =
 
 pub changes_rise : {M : Type 0} (combining : Option (Combining M)) (old : Parcels M) (groups : List (ℕ × List (Mend M))) → HasRisingIds groups
     → ChangesRise (changes_of combining old groups)
-changes_rise combining old groups rise = subst (IsStrictlySortedBy nat_cmp) (sym (keys-made (mended_at combining old) groups)) rise
+changes_rise combining old groups rise = subst (IsStrictlySortedBy nat_cmp) (sym (map-map (λ c. c.0) (λ g. (g.0, mended_at combining old g)) groups)) rise
 
 module _ {M : Type 0} (combining : Option (Combining M)) (withdrawn : List (ℕ × ℕ)) (added : Sends M) (old : Parcels M)
     (groups : List (ℕ × List (Mend M))) where

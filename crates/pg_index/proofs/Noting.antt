@@ -9,29 +9,12 @@ use Rattle.std.specs.Map.{keys_of}
 use Rattle.std.specs.Ordering.{nat_cmp}
 use Rattle.std.proofs.lemmas.Bool.Decides.{eqb_tells, nat_tests}
 use Rattle.std.proofs.lemmas.List.{get_or-set_other, get_or-set_same, get_or_default, length-take, take_more}
+use Rattle.std.proofs.lemmas.Map.Made.{lookup-map_values}
 use Rattle.pg_map.specs.Entries.{ChangesRise, HasRisingIds, value_at, with_changes}
 use Rattle.pg_map.proofs.Changing.{value_at-with_changes}
 use Rattle.pg_index.specs.Ran.{IsIndex, IsNoted, Ran, last_of, noted, ran_by, ran_from, ran_in, steps_in, with_ran}
 use Rattle.pg_index.specs.Records.{last_record}
 use Rattle.pg_index.proofs.Supersteps.{Agrees, last_record_is, ran-less, ran-push, ran-set, steps_noted}
-
-same_id : (a b : ℕ) → is_at (nat_cmp a) b ≡ true → b ≡ a
-same_id a b h = grind (arith, nat_tests)
-
-module _ {Y Z : Type 0} where
-  -- what is made of each entry is found where the entry was
-  at_map : (h : ℕ → Y → Z) (id : ℕ) (es : List (ℕ × Y)) → value_at id (map (λ e. (e.0, h e.0 e.1)) es) ≡ option_map (h id) (value_at id es)
-  at_map h id [] = refl
-  at_map h id (e ∷ es) = by (is_at (nat_cmp id) e.0) refl (at_map h id es)
-    where
-      by : (t : Bool) → is_at (nat_cmp id) e.0 ≡ t → value_at id (map (λ e. (e.0, h e.0 e.1)) es) ≡ option_map (h id) (value_at id es)
-          → cond t (Some (h e.0 e.1)) (value_at id (map (λ e. (e.0, h e.0 e.1)) es)) ≡ option_map (h id) (cond t (Some e.1) (value_at id es))
-      by true same later = ap (λ k. Some (h k e.1)) (same_id id e.0 same)
-      by false same later = later
-
-  pub keys_map : (g : ℕ × Y → Z) (es : List (ℕ × Y)) → keys_of (map (λ e. (e.0, g e)) es) ≡ keys_of es
-  keys_map g [] = refl
-  keys_map g (e ∷ es) = ap (λ l. e.0 ∷ l) (keys_map g es)
 
 module _ {X : Type 0} where
   -- what was noted of an id tells in which supersteps it ran
@@ -209,7 +192,7 @@ module _ {X : Type 0} where
   pub index-push : (rs : List (List (ℕ × X))) (xs : List (ℕ × X)) (given : List (ℕ × Option X)) (ran ran' : List (ℕ × Ran X)) → IsIndex rs ran
       → given ≡ map (λ e. (e.0, Some e.1)) xs → IsNoted rs (length rs) given ran ran' → IsIndex (rs ++ xs ∷ []) ran'
   index-push rs xs given ran ran' index are notes id =
-      let o = ap (value_at id) are ∙ at_map (λ k x. Some x) id xs in
+      let o = ap (value_at id) are ∙ lookup-map_values (λ x. Some x) (is_at (nat_cmp id)) xs in
       let steps = ran-push id 0 rs xs (option_map is_some (value_at id given))
       (subst (λ c. Agrees (option_map is_some c) false (is_some (value_at id xs))) (sym o) (come (value_at id xs)))
       ∙ ap (λ n. steps_noted n (option_map is_some (value_at id given)) (ran_from id 0 rs)) (first_is (length rs)) in
@@ -232,7 +215,7 @@ module _ {X : Type 0} where
       → IsIndex (take (n + 1) rs) ran → given ≡ map (λ e. (e.0, None)) r → IsNoted (take n rs) n given ran ran' → IsIndex (take n rs) ran'
   index-less rs n r given ran ran' within here index are notes id =
       let at = here ∙ get_or_default rs n r [] within in
-      let o = ap (value_at id) are ∙ at_map (λ k x. None) id r ∙ ap (λ q. option_map (λ x. None) (value_at id q)) at in
+      let o = ap (value_at id) are ∙ lookup-map_values (λ x. None) (is_at (nat_cmp id)) r ∙ ap (λ q. option_map (λ x. None) (value_at id q)) at in
       let steps = ran-less id 0 n rs (option_map is_some (value_at id given)) within
       (subst (λ c. Agrees (option_map is_some c) (is_some (value_at id (get_or rs n []))) false) (sym o) (gone (value_at id (get_or rs n []))))
       ∙ ap (λ k. steps_noted k (option_map is_some (value_at id given)) (ran_from id 0 (take (n + 1) rs))) (first_is n) in

@@ -3,16 +3,17 @@ use Rattle.std.specs.List.Sorted.{IsStrictlySortedBy}
 use Rattle.std.specs.Map.{keys_of}
 use Rattle.std.specs.Ordering.{nat_cmp}
 use Rattle.std.proofs.lemmas.List.{take_all}
+use Rattle.std.proofs.lemmas.Map.Made.{keys_of-map_values}
 use Rattle.std.proofs.lemmas.Result.{IfOk-from_err, IfOk-weaker}
 use Rattle.pg_index.specs.Ran.{IsIndex, IsNoted}
 use Rattle.pg_index.proofs.Last.{index_rises}
-use Rattle.pg_index.proofs.Noting.{index-less, keys_map}
+use Rattle.pg_index.proofs.Noting.{index-less}
 use Rattle.pg_trace.proofs.records.cut_index.Goals as goal
 
 pub noted-requires-clause-rise : goal.noted-requires-clause-rise
 noted-requires-clause-rise g c =
     subst (IsStrictlySortedBy nat_cmp) (sym (ap keys_of (c.as_slice.ensures.value ∙ c.in_ok-none.ensures.none)
-    ∙ keys_map (λ e. None) c.index-supersteps-left.result)) c.in_ok-none.ensures.rising
+    ∙ keys_of-map_values (λ x. None) c.index-supersteps-left.result)) c.in_ok-none.ensures.rising
 
 pub noted-requires-clause-steps : goal.noted-requires-clause-steps
 noted-requires-clause-steps g c = index_rises (take c.loop-left.left c.args.supersteps.now) c.loop-left.first c.loop-left.invariant.index

@@ -2,17 +2,18 @@ use Rattle.std.proofs.Common.{Some, length, sym, ap, ◌∙◌, subst}
 use Rattle.std.specs.List.Sorted.{IsStrictlySortedBy}
 use Rattle.std.specs.Map.{keys_of}
 use Rattle.std.specs.Ordering.{nat_cmp}
+use Rattle.std.proofs.lemmas.Map.Made.{keys_of-map_values}
 use Rattle.pg_map.specs.Entries.{HasRisingIds, value_at}
 use Rattle.pg_index.specs.Ran.{IsIndex, IsNoted, noted}
 use Rattle.pg_index.proofs.Last.{index_rises}
-use Rattle.pg_index.proofs.Noting.{index-push, keys_map}
+use Rattle.pg_index.proofs.Noting.{index-push}
 use Rattle.pg_trace.proofs.Changed.{one_pushed}
 use Rattle.pg_trace.proofs.trace.Trace.push_superstep.Goals as goal
 
 pub noted_beside-requires-clause-rise : goal.noted_beside-requires-clause-rise
 noted_beside-requires-clause-rise g c =
     subst (IsStrictlySortedBy nat_cmp) (sym (ap keys_of (c.as_slice.ensures.value ∙ c.in_ok-given.ensures.given)
-    ∙ keys_map (λ e. Some e.1) c.in_ok-records.records)) c.in_ok-given.ensures.rising
+    ∙ keys_of-map_values (λ x. Some x) c.in_ok-records.records)) c.in_ok-given.ensures.rising
 
 pub noted_beside-requires-clause-steps : goal.noted_beside-requires-clause-steps
 noted_beside-requires-clause-steps g c = index_rises c.self.inside.supersteps.items c.self.inside.ran c.self.invariant
