@@ -1,5 +1,5 @@
 //! Messages to ids that have no state.
-ghost use Rattle.std.specs.Prelude.{◌≡◌, false, true, map, IfOk};
+ghost use Rattle.std.specs.Prelude.{◌≡◌, map, IfOk};
 ghost use Rattle.pg_model.specs.Superstep.{targets, waiting_after, dropped_count};
 ghost use Rattle.pg_graph.specs.declared.missing.Missing.TheVariants.{Create};
 ghost use Rattle.pg_delivery.specs.Astray.{blank};

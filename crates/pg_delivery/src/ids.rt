@@ -1,5 +1,5 @@
 //! Rising ids, and the place of each.
-ghost use Rattle.std.specs.Prelude.{◌≡◌, ◌<◌, false, slice_get, Some, IfSome, IfOk, MatchOption};
+ghost use Rattle.std.specs.Prelude.{◌≡◌, false, slice_get, Some, IfSome, IfOk, MatchOption};
 ghost use Rattle.std.specs.Ordering.{nat_cmp};
 ghost use Rattle.std.specs.List.Sorted.{IsStrictlySortedBy};
 ghost use Rattle.pg_model.specs.Superstep.{has_id, ids as ids_of};

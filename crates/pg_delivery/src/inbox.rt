@@ -1,7 +1,6 @@
 //! Messages come to their vertices.
-ghost use Rattle.std.specs.Prelude.{◌≡◌, [], ◌<◌, ◌≤◌, length, Some, IsSome, IfSome, IfOk};
+ghost use Rattle.std.specs.Prelude.{◌≡◌, [], ◌≤◌, length, IsSome, IfSome, IfOk};
 ghost use Rattle.std.specs.Prelude.{OnOk};
-ghost use Rattle.pg_model.specs.declared.configuration.Standing.{Standing};
 ghost use Rattle.pg_delivery.specs.Inbox.{with_message, combined_so_far};
 
 use pg_global::MessageCombiner;

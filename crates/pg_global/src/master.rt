@@ -1,6 +1,6 @@
 //! Masters: what decides, before the vertices of each superstep, what they see and whether the run ends.
 ghost use Rattle.std.specs.Prelude.{◌≡◌, [], ◌<◌, ◌⊎◌, false, true, length, slice_get, slice_set, Some, IfErr, OnOk};
-ghost use Rattle.pg_global.specs.Master.{Master, MasterView, decided, leaves_all};
+ghost use Rattle.pg_global.specs.Master.{Master, decided};
 ghost use Rattle.pg_global.specs.Registry.{first_refusal};
 
 use crate::{RegisterFault, Registry};

@@ -1,7 +1,7 @@
 //! The index: in which supersteps each vertex ran, and its last record.
 ghost use Rattle.std.specs.Prelude.{◌≡◌, [], IfOk};
 ghost use Rattle.std.specs.Option.{option_copied};
-ghost use Rattle.pg_map.specs.Entries.{ChangesRise, HasRisingIds, value_at, with_changes};
+ghost use Rattle.pg_map.specs.Entries.{ChangesRise, value_at, with_changes};
 ghost use Rattle.pg_index.specs.Chunks.{AreSound, all_of};
 ghost use Rattle.pg_index.specs.Ran.{IsIndex, IsNoted, StepsRise};
 

@@ -1,6 +1,5 @@
 //! Messages to several targets side by side in one list, of which each target has a run.
 ghost use Rattle.std.specs.Prelude.{◌≡◌, [], ◌^◌, ◌<◌, ◌≤◌, length, get_or, take, drop, IfOk, OnOk};
-ghost use Rattle.std.specs.Arc.{arc_value};
 ghost use Rattle.std.specs.List.{AllByRecursion};
 
 use pg_graph::{Memory, VertexId};

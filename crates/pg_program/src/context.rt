@@ -2,7 +2,7 @@
 ghost use Rattle.std.specs.Prelude.{◌≡◌, [], ◌∷◌, ◌++◌, ◌+◌, true, map, length, take, IsSome, OnOk, OnErr, Some};
 ghost use Rattle.pg_model.specs.Job.{has_place};
 ghost use Rattle.pg_model.specs.Superstep.{capped};
-ghost use Rattle.pg_program.specs.Context.{Context, IsShown, IsShownAt};
+ghost use Rattle.pg_program.specs.Context.{IsShown, IsShownAt};
 
 use crate::{Meter, Plain, Vertex};
 use pg_graph::{Memory, Superstep, VertexId};

@@ -1,6 +1,6 @@
 //! The out-edges of a vertex in one execution.
 ghost use Rattle.std.specs.Prelude.{◌≡◌, true, false, ◌≤◌, length, cond, is_some, IfOk, OnOk, OnErr, vec_capacity};
-ghost use Rattle.pg_edits.specs.EdgeList.{EdgeList, IsRising, weight_at, with_edge, without_edge};
+ghost use Rattle.pg_edits.specs.EdgeList.{IsRising, weight_at, with_edge, without_edge};
 ghost use Rattle.pg_edits.specs.Places.{IsPlaceOf, IsGapFor};
 
 use crate::search::place_of;

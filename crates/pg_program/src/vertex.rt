@@ -28,8 +28,6 @@ impl<V> Model for Vertex<V> {
 }
 
 impl<V> Vertex<V> {
-    ghost use Rattle.pg_model.specs.declared.configuration.VertexState.{VertexState};
-
     /// A vertex at the beginning of an execution, which hasn't voted yet. The room grows where the
     /// vertex has more edges than any before it; later changes of edges that are there take no memory.
     pub fn new(id: VertexId, value: V, edges: Edges, room: EdgeRoom) -> Result<Vertex<V>, Memory>
