@@ -1,5 +1,5 @@
 //! What the words of the command line ask for.
-ghost use Rattle.std.specs.Prelude.{◌≡◌, ◌<◌, ◌≤◌, ℕ, map, IfOk, IfErr, IfSome, IfNone};
+ghost use Rattle.std.specs.Prelude.{◌≡◌, ◌≤◌, ℕ, map, IfOk, IfErr, IfSome, IfNone};
 ghost use Rattle.clap.specs.Words.{found_of, one_text};
 ghost use Rattle.pg_options.specs.Arguments.{AreInRange, AsksForRuns, Explains, Say, WritesIn};
 ghost use Rattle.pg_options.specs.Arguments.{program_in};

@@ -130,8 +130,6 @@ fn make_room<E: Drop, R: Wait>(
 }
 
 impl<E: Drop> Sender<E> {
-    ghost use Rattle.pg_publish.specs.Sender.{Publishing};
-
     /// The publisher of a new history, with places for 8 readers. It waits for nobody.
     ///
     /// # Errors

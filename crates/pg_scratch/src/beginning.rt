@@ -1,5 +1,5 @@
 //! What stands as a run begins, and its answer.
-ghost use Rattle.std.specs.Prelude.{◌≡◌, ◌≤◌, false, map, length, IfOk};
+ghost use Rattle.std.specs.Prelude.{◌≡◌, ◌≤◌, map, length, IfOk};
 ghost use Rattle.pg_model.specs.Run.{beginning};
 ghost use Rattle.pg_global.specs.Registry.{aggregating_of};
 

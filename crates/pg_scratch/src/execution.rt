@@ -5,7 +5,6 @@ ghost use Rattle.std.specs.Ordering.{nat_cmp};
 ghost use Rattle.std.specs.List.Sorted.{IsStrictlySortedBy};
 ghost use Rattle.pg_model.specs.Superstep.{is_active as active_test, outcome, capped, edges_of};
 ghost use Rattle.pg_model.specs.declared.configuration.Standing.{Standing};
-ghost use Rattle.pg_program.specs.Computation.{Executes};
 ghost use Rattle.pg_program.specs.Context.{ShowsDeclared};
 ghost use Rattle.pg_scratch.specs.Pass.{ran, context_after, ran_context, with_unhalted};
 ghost use Rattle.pg_scratch.specs.Totals.{Counts, Exchanges};

@@ -1,4 +1,4 @@
-ghost use Rattle.std.specs.Prelude.{◌≡◌, ◌++◌, ◌∷◌, [], map, true, false, pos, slice_get, unwrap_or, Some, None, IfOk};
+ghost use Rattle.std.specs.Prelude.{◌≡◌, ◌++◌, ◌∷◌, [], map, true, false, pos, slice_get, unwrap_or, None, IfOk};
 ghost use Rattle.pg_edits.specs.EdgeList.{with_edge};
 ghost use Rattle.pg_program.specs.Context.{ShowsDeclared};
 
