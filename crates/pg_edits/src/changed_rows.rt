@@ -1,5 +1,5 @@
 //! Changed rows, gathered one after another with their edges in few lists.
-ghost use Rattle.std.specs.Prelude.{◌≡◌, [], ◌∷◌, ◌++◌, None, Some, IfOk, OnOk};
+ghost use Rattle.std.specs.Prelude.{◌≡◌, [], ◌∷◌, ◌++◌, Some, IfOk, OnOk};
 ghost use Rattle.pg_edits.specs.ChangedRows.{changes_of};
 ghost use Rattle.pg_edits.specs.EdgeList.{IsRising};
 ghost use Rattle.pg_edits.specs.Packing.{AreParts};

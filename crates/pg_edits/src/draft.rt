@@ -103,8 +103,6 @@ impl Model for DraftRow {
 }
 
 impl DraftRow {
-    ghost use Rattle.pg_edits.specs.declared.row.Row.{Row};
-
     /// A row with this input and no edges.
     pub fn new(input: i64) -> DraftRow
         ensures { result ≡ record { input = input; edges = [] } }

@@ -1,7 +1,7 @@
 //! The out-edges of a vertex, shared between copies.
 ghost use Rattle.std.specs.Prelude.{◌≡◌, ◌+◌, ◌≤◌, [], length, IfOk};
 ghost use Rattle.std.specs.Arc.{arc_value};
-ghost use Rattle.pg_edits.specs.EdgeList.{EdgeList, IsRising, weight_at};
+ghost use Rattle.pg_edits.specs.EdgeList.{IsRising, weight_at};
 ghost use Rattle.pg_edits.specs.Edges.{IsPart, part_of};
 
 use crate::{Memory, VertexId};

@@ -19,8 +19,6 @@ impl Share for Row {
 }
 
 impl Row {
-    ghost use Rattle.pg_edits.specs.declared.row.Row.{Row};
-
     /// The same row, which shares its edges.
     pub fn copy(&self) -> Result<Row, Memory>
         ensures { IfOk result (λ row. row ≡ self.now) }

@@ -1,17 +1,16 @@
 -- The edits of one vertex after another.
-use Rattle.std.proofs.Common.{◌≡◌, ℕ, zero, suc, ◌+◌, not, ◌&&◌, is_lt, eqb, ◌<◌, ◌≤◌, inl, inr, Bool, true, false, cond, List, [], ◌∷◌, ◌++◌, length}
+use Rattle.std.proofs.Common.{◌≡◌, ℕ, zero, suc, ◌+◌, ◌<◌, ◌≤◌, inl, inr, Bool, true, false, cond, List, [], ◌∷◌, ◌++◌, length}
 use Rattle.std.proofs.Common.{get_or, take, drop, Option, None, Some, Result, Ok, Err, MatchResult, MatchOption, leb, refl, sym, ap, ◌∙◌, subst}
 use Rattle.std.proofs.Common.{⊎_elim, arith}
 use Rattle.std.specs.BTreeMap.{is_at}
-use Rattle.std.specs.List.{AllByRecursion, filter}
+use Rattle.std.specs.List.{AllByRecursion}
 use Rattle.std.specs.Ordering.{nat_cmp}
 use Rattle.std.specs.Option.{unwrap_or}
-use Rattle.std.specs.List.Sorted.{IsPartitionPoint, IsStableByKey, IsStrictlySortedBy, ties}
+use Rattle.std.specs.List.Sorted.{IsPartitionPoint, IsStrictlySortedBy}
 use Rattle.std.proofs.lemmas.Bool.{cases_eq, leb-true, leb-false}
 use Rattle.std.proofs.lemmas.List.{append-nil, length-drop}
-use Rattle.std.proofs.lemmas.List.Elements.{filter-append, filter_agree}
+use Rattle.std.proofs.lemmas.List.Elements.{filter-append}
 use Rattle.std.proofs.lemmas.List.Sorted.{IsNonDecreasingBy-drop}
-use Rattle.std.proofs.lemmas.Bool.Decides.{nat_tests}
 use Rattle.pg_map.specs.Entries.{ChangesRise, value_at, with_change, with_changes}
 use Rattle.pg_map.proofs.Changing.{rises-changes, value_at-with_changes}
 use Rattle.pg_map.proofs.Parts.{split_all, rises_push, find-left, find-right}
@@ -25,7 +24,6 @@ use Rattle.pg_graph.specs.RowEdit.{HasRoom, placed, edits_of, is_of}
 use Rattle.pg_graph.specs.Rows.{Rows, HasRisingIds, row_at, vertex_count, edge_count}
 use Rattle.pg_edits.specs.declared.row.Row.{Row}
 use Rattle.pg_edits.specs.declared.edit.Edit.{Edit}
-use Rattle.pg_edits.specs.declared.edit.Edit.TheVariants.{RemoveVertex}
 use Rattle.pg_edits.specs.declared.edit.EditFault.{EditFault}
 use Rattle.pg_graph.proofs.Batches.{Ok_not_Err, Err_same}
 use Rattle.pg_graph.proofs.Drafting.{edges-without_row}
@@ -289,17 +287,6 @@ module _ (rows : Rows) (all left : Places) (changes : Changes) (empty : left ≡
         subst (λ r. MatchResult r (λ x. value_at q changes ≡ Some x) (IsNoLater (Some fault))) why d.told in told)
         (dealt.seen q);
   }
-
--- ---- a stable sort groups edits
-
-tied : (a b : ℕ) → not (is_lt (nat_cmp a b)) && not (is_lt (nat_cmp b a)) ≡ eqb a b
-tied a b = grind (arith, nat_tests)
-
-pub stays_grouped : (edits sorted : Places) → IsStableByKey (λ e. source_of e.1) nat_cmp edits sorted → (q : ℕ) → edits_of q sorted ≡ edits_of q edits
-stays_grouped edits sorted stable q =
-    let as_ties = λ (l : Places). filter_agree (λ e. eqb q (source_of e.1))
-    (ties (λ x y. is_lt (nat_cmp (source_of x.1) (source_of y.1))) (0, RemoveVertex q)) (λ e. sym (tied q (source_of e.1))) l in
-    as_ties sorted ∙ stable (0, RemoveVertex q) ∙ sym (as_ties edits)
 
 -- ---- what is made of the vertices is made of the graph
 

@@ -7,3 +7,4 @@ pub mod Laws
 pub mod RowLaw
 pub mod RowsMade
 pub mod Search
+pub mod Taken

@@ -1,6 +1,6 @@
 -- The edits of a batch by vertex, and how far they are dealt with.
-use Rattle.std.specs.Prelude.{◌≡◌, ℕ, Bool, true, nat_le, nat_lt, nat_eq, cond, length, ◌<◌, ◌≤◌, ◌⊎◌, List, [], Option, None, Some, MatchOption, Ok, Err, MatchResult}
-use Rattle.std.specs.List.{AllAdjacentBelow, AllByRecursion}
+use Rattle.std.specs.Prelude.{◌≡◌, ℕ, nat_le, cond, ◌<◌, ◌≤◌, ◌⊎◌, List, [], Option, None, Some, MatchOption, Ok, Err, MatchResult}
+use Rattle.std.specs.List.{AllByRecursion}
 use Rattle.std.specs.List.Sorted.{IsNonDecreasingBy}
 use Rattle.pg_map.specs.Entries.{ChangesRise, value_at, with_changes}
 use Rattle.pg_edits.specs.ChangedRows.{Changes}
@@ -19,18 +19,6 @@ RiseBySource edits = IsNonDecreasingBy (λ e. source_of e.1) edits
 pub record AreGrouped (edits : List Edit) (grouped : Places) : Type 0 where
   pub rise : RiseBySource grouped
   pub same : (q : ℕ) → edits_of q grouped ≡ edits_of q (placed 1 edits)
-
--- each is an edit of the list with its place
-abbrev pub ArePlaced : List Edit → Places → Type 0
-ArePlaced edits made = AllByRecursion (λ e. value_at e.0 (placed 1 edits) ≡ Some e.1) made
-
--- an edit is of a lower vertex than another, or of the same and has the lower place
-abbrev pub comes_before : ℕ × Edit → ℕ × Edit → Bool
-comes_before edit other =
-    cond (nat_eq (source_of edit.1) (source_of other.1)) (nat_lt edit.0 other.0) (nat_lt (source_of edit.1) (source_of other.1))
-
-abbrev pub StandInOrder : Places → Type 0
-StandInOrder edits = AllAdjacentBelow (λ edit next. comes_before edit next ≡ true) edits (length edits)
 
 -- a fault that was found is no later than this one
 abbrev pub IsNoLater : Option EditFault → EditFault → Type 0

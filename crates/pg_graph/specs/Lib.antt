@@ -1,3 +1,4 @@
+pub mod ById
 pub mod Changes
 pub mod Draft
 pub mod Edit

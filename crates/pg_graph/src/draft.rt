@@ -1,5 +1,5 @@
 //! Edits of a graph, gathered beside it.
-ghost use Rattle.std.specs.Prelude.{◌≡◌, ◌<◌, ◌≤◌, ◌⊎◌, length, is_some, Some, None, Ok, Err, IfOk, IfErr};
+ghost use Rattle.std.specs.Prelude.{◌≡◌, ◌≤◌, ◌⊎◌, length, is_some, Some, None, Ok, IfOk, IfErr};
 ghost use Rattle.std.specs.BTreeMap.{is_at};
 ghost use Rattle.std.specs.Map.{remove_entry};
 ghost use Rattle.std.specs.Ordering.{nat_cmp};

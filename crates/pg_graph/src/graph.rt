@@ -39,7 +39,7 @@ impl Model for Graph {
 }
 
 impl Graph {
-    ghost use Rattle.pg_graph.specs.Rows.{Rows, HasRisingIds, row_at, vertex_count, edge_count};
+    ghost use Rattle.pg_graph.specs.Rows.{HasRisingIds, row_at, vertex_count, edge_count};
 
     /// The empty graph.
     pub fn new(_alloc: Global) -> Graph

@@ -1,18 +1,19 @@
 //! A batch that can't meet a limit: its edits are made of one vertex after another.
-ghost use Rattle.std.specs.Prelude.{◌≡◌, ◌+◌, ◌≤◌, true, false, length, nat_le, Ok, Err, IfOk, IfErr, IsTrue, MatchResult};
+ghost use Rattle.std.specs.Prelude.{◌≡◌, ◌+◌, ◌≤◌, true, false, length, map, nat_le, Ok, IfOk, IfErr, MatchResult};
 ghost use Rattle.pg_map.specs.Entries.{with_changes};
 ghost use Rattle.std.specs.List.Sorted.{IsPartitionPoint};
 ghost use Rattle.std.specs.Option.{option_copied};
+ghost use Rattle.pg_graph.specs.ById.{AreById, StandAt};
 ghost use Rattle.pg_graph.specs.Changes.{degree_of};
 ghost use Rattle.pg_graph.specs.Draft.{Makes};
 ghost use Rattle.pg_graph.specs.Edit.{batch_edited, RefusesBatch, batch_limit};
-ghost use Rattle.pg_graph.specs.Grouped.{AreCounted, AreGrouped, ArePlaced, IsFirst, RiseBySource, StandInOrder, comes_before, earlier_of};
+ghost use Rattle.pg_graph.specs.Grouped.{AreCounted, AreGrouped, IsFirst, RiseBySource, earlier_of};
 ghost use Rattle.pg_graph.specs.RowEdit.{HasRoom, placed};
 ghost use Rattle.pg_edits.specs.RowEdit.{source_of};
 ghost use Rattle.pg_graph.specs.Rows.{HasRisingIds, edge_count, vertex_count};
 
 use crate::draft::Changes;
-use crate::{Batch, Edit, EditFault, Graph, Memory, Row, VertexId, places_by_id};
+use crate::{Batch, Edit, EditFault, Graph, Memory, Row, VertexId, sorted_by_id};
 use pg_edits::{ChangedRows, DraftRow, vertex_after};
 use std::alloc::{AllocError, Global};
 
@@ -40,24 +41,20 @@ pub(crate) fn changes_by_vertex(
 }
 
 /// The edits of a batch with their places from 1, by rising vertex. Those of one vertex keep their order.
-///
-/// They are put in order by the digits of their vertices, of which nothing is proved. So the order is tested, and edits
-/// that failed the test would be sorted by comparing.
 fn by_vertex(alloc: Global, batch: &Batch) -> Result<Vec<(u64, Edit)>, Memory>
     requires { length batch.now ≤ batch_limit }
     ensures { IfOk result (λ edits. AreGrouped batch.now edits.items) }
 {
     let edits = batch.as_slice();
-    let places = places_by_id(alloc, sources_of(alloc, edits)?.as_slice())?;
-    let gathered = gathered(alloc, edits, places.as_slice())?;
-    if gathered.len() == edits.len() && are_in_order(gathered.as_slice()) {
-        return Ok(gathered);
-    }
-    sorted(alloc, edits)
+    let sources = sources_of(alloc, edits)?;
+    let found = sorted_by_id(alloc, sources.as_slice())?;
+    placed_at(alloc, edits, found.as_slice())
 }
 
 /// The vertices whose rows edits change.
-fn sources_of(alloc: Global, edits: &[Edit]) -> Result<Vec<VertexId>, Memory> {
+fn sources_of(alloc: Global, edits: &[Edit]) -> Result<Vec<VertexId>, Memory>
+    ensures { IfOk result (λ sources. sources.items ≡ map source_of edits.now) }
+{
     let mut sources = Vec::with_capacity(alloc, edits.len())?;
     for edit in edits {
         sources.push(edit.source())?;
@@ -66,58 +63,18 @@ fn sources_of(alloc: Global, edits: &[Edit]) -> Result<Vec<VertexId>, Memory> {
 }
 
 /// The edits that stand at these places, with their places from 1.
-fn gathered(alloc: Global, edits: &[Edit], places: &[usize]) -> Result<Vec<(u64, Edit)>, Memory>
-    requires { length edits.now ≤ batch_limit }
-    ensures { IfOk result (λ made. ArePlaced edits.now made.items) }
+fn placed_at(
+    alloc: Global,
+    edits: &[Edit],
+    found: &[(usize, VertexId)],
+) -> Result<Vec<(u64, Edit)>, Memory>
+    requires short { length edits.now ≤ batch_limit }
+    requires found { AreById (map source_of edits.now) found.now }
+    ensures { IfOk result (λ made. StandAt (placed 1 edits.now) found.now made.items) }
 {
-    let mut made = Vec::with_capacity(alloc, places.len())?;
-    for place in places {
-        if let Some(edit) = edits.get(*place) {
-            made.push((*place as u64 + 1, *edit))?;
-        }
-    }
-    Ok(made)
-}
-
-/// Whether edits rise by vertex, and those of one vertex by place.
-fn are_in_order(edits: &[(u64, Edit)]) -> bool
-    ensures { IsTrue result → StandInOrder edits.now }
-{
-    edits.is_sorted_by(|edit, next| comes_before(edit, next))
-}
-
-/// Whether an edit is of a lower vertex than another, or of the same vertex and has the lower place.
-fn comes_before(edit: &(u64, Edit), other: &(u64, Edit)) -> bool
-    ensures { result ≡ comes_before edit.now other.now }
-{
-    let (source, other_source) = (edit.1.source(), other.1.source());
-    if source == other_source {
-        edit.0 < other.0
-    } else {
-        source < other_source
-    }
-}
-
-/// Edits with their places from 1, sorted by vertex.
-fn sorted(alloc: Global, edits: &[Edit]) -> Result<Vec<(u64, Edit)>, Memory>
-    requires { length edits.now ≤ batch_limit }
-    ensures { IfOk result (λ sorted. AreGrouped edits.now sorted.items) }
-{
-    let mut edits = placed(alloc, edits)?;
-    edits.sort_by_cached_key(|edit| edit.1.source())?;
-    Ok(edits)
-}
-
-/// Edits with their places from 1.
-fn placed(alloc: Global, edits: &[Edit]) -> Result<Vec<(u64, Edit)>, Memory>
-    requires { length edits.now ≤ batch_limit }
-    ensures { IfOk result (λ made. made.items ≡ placed 1 edits.now) }
-{
-    let mut made = Vec::with_capacity(alloc, edits.len())?;
-    let mut position = 1;
-    for edit in edits {
-        made.push((position, *edit))?;
-        position += 1;
+    let mut made = Vec::with_capacity(alloc, found.len())?;
+    for (place, _) in found {
+        made.push((*place as u64 + 1, edits[*place]))?;
     }
     Ok(made)
 }

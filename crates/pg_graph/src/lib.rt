@@ -2,6 +2,7 @@
 #![tactic(auto)]
 
 mod batch;
+mod by_id;
 mod draft;
 mod entries;
 mod graph;
@@ -10,6 +11,7 @@ mod missing;
 mod order;
 
 pub use batch::Batch;
+pub use by_id::sorted_by_id;
 pub use graph::Graph;
 pub use missing::Missing;
 pub use order::{places_by_id, reordered_by_id};

@@ -1,5 +1,5 @@
 //! The batch of edits that brings the edges of a list into a graph.
-ghost use Rattle.std.specs.Prelude.{◌≡◌, ◌∷◌, ◌++◌, [], true, false, not, IfOk, OnOk};
+ghost use Rattle.std.specs.Prelude.{◌≡◌, ◌∷◌, ◌++◌, [], true, not, IfOk, OnOk};
 ghost use Rattle.pg_graph.specs.Rows.{Rows};
 ghost use Rattle.pg_import.specs.Batch.{Makes, batch_of, edge_edit, has_edge, has_vertex, vertex_edits, with_line_edge, with_lines, with_vertex};
 ghost use Rattle.pg_import.specs.Named.{Shows};
@@ -27,9 +27,24 @@ pub fn into_batch(alloc: Global, lines: &[Line], graph: &Graph) -> Result<Batch,
     for (place, line) in lines.iter().enumerate() {
         let source = seen.source_at(place, line, graph);
         let target = seen.target_at(place, line, graph);
-        let (source_rank, target_rank) = (order.ranks.of_source(place), order.ranks.of_target(place));
-        push_vertex(&mut batch, &mut named, line.source, source.vertex, source_rank)?;
-        push_vertex(&mut batch, &mut named, line.target, target.vertex, target_rank)?;
+        let (source_rank, target_rank) = (
+            order.ranks.of_source(place),
+            order.ranks.of_target(place),
+        );
+        push_vertex(
+            &mut batch,
+            &mut named,
+            line.source,
+            source.vertex,
+            source_rank,
+        )?;
+        push_vertex(
+            &mut batch,
+            &mut named,
+            line.target,
+            target.vertex,
+            target_rank,
+        )?;
         push_edge(&mut batch, &mut named, line, source.edge, source.rank)?;
     }
     Ok(batch)

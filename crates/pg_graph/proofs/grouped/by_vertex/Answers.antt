@@ -1,10 +1,19 @@
-use Rattle.std.proofs.Common.{subst, arith}
-use Rattle.pg_graph.specs.Grouped.{AreGrouped, StandInOrder}
-use Rattle.pg_graph.proofs.InOrder.{grouped_in_order}
+use Rattle.std.proofs.Common.{map, ◌∙◌, subst}
+use Rattle.std.proofs.lemmas.Result.{IfOk-weaker}
+use Rattle.pg_edits.specs.RowEdit.{source_of}
+use Rattle.pg_graph.specs.ById.{AreById, StandAt}
+use Rattle.pg_graph.specs.Grouped.{AreGrouped}
+use Rattle.pg_graph.specs.RowEdit.{placed}
+use Rattle.pg_graph.proofs.Taken.{grouped_by_id}
 use Rattle.pg_graph.proofs.grouped.by_vertex.Goals as goal
 
-pub returns-then-are_in_order : goal.returns-then-are_in_order
-returns-then-are_in_order c =
-    subst (λ edits. AreGrouped edits c.in_ok-gathered.gathered.items) c.as_slice-edits.ensures
-    (grouped_in_order c.as_slice-edits.result.now c.in_ok-gathered.gathered.items (omega (arith, c.len.ensures, c.if-len-edits.true)) c.in_ok-gathered.ensures
-    (subst StandInOrder c.as_slice-then-len-edits.ensures.value (c.are_in_order.ensures c.if-are_in_order.true)))
+pub returns : goal.returns
+returns c =
+    let edits = c.as_slice-edits.result.now in
+    let found = c.in_ok-found.found.items in
+    let by_id : AreById (map source_of edits) found =
+    subst (λ ids. AreById ids found) (c.as_slice.ensures.value ∙ c.in_ok-sources.ensures) c.in_ok-found.ensures in
+    IfOk-weaker c.placed_at.result _ (λ made. AreGrouped c.args.batch.now made.items)
+    (λ made zip. subst (λ edits. AreGrouped edits made.items) c.as_slice-edits.ensures
+    (grouped_by_id edits found made.items by_id (subst (λ found. StandAt (placed 1 edits) found made.items) c.as_slice-2.ensures.value zip)))
+    c.placed_at.ensures

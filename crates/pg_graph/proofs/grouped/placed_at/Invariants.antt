@@ -1,0 +1,7 @@
+use Rattle.std.proofs.Common.{take}
+use Rattle.pg_graph.specs.ById.{StandAt}
+use Rattle.pg_graph.specs.RowEdit.{placed}
+use Rattle.pg_graph.proofs.grouped.placed_at.Given as goal
+
+abbrev pub invariant-loop-place : goal.invariant-loop-place
+invariant-loop-place l = StandAt (placed 1 l.edits) (take l.place-index l.found) l.made.items
