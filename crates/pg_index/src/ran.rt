@@ -13,6 +13,9 @@ use pg_map::{Map, Share};
 use pg_model::Record;
 use std::alloc::Global;
 
+/// A list of supersteps is made with room for so many more: most vertices run again.
+const ROOM: usize = 3;
+
 /// The last record of a vertex before a superstep, where an index has this of it. It is found by halving among the
 /// supersteps in which the vertex ran, and read from the index or by two binary searches.
 pub(crate) fn last_before<'t, V: Drop, M: Drop>(
@@ -179,7 +182,7 @@ fn stepped(
 ) -> Result<Vec<usize>, Memory>
     ensures { IfOk result (λ stepped. stepped.items ≡ with_ran superstep runs steps.now) }
 {
-    let mut stepped = Vec::with_capacity(alloc, steps.len().saturating_add(1))?;
+    let mut stepped = Vec::with_capacity(alloc, steps.len().saturating_add(ROOM))?;
     add_below(&mut stepped, steps, superstep)?;
     if runs {
         stepped.push(superstep)?;
