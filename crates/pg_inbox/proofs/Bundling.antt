@@ -1,6 +1,6 @@
 -- A bundle has at each target what goes to it of the sends.
 use Rattle.std.proofs.Common.{◌≡◌, ℕ, ◌==◌, ◌||◌, not, Bool, true, false, cond, List, [], ◌∷◌, map}
-use Rattle.std.proofs.Common.{Option, None, Some, refl, sym, ap, ◌∙◌, subst, arith, ⊎_elim, eqb-true}
+use Rattle.std.proofs.Common.{Option, None, Some, refl, sym, ap, ◌∙◌, subst, arith, ⊎_elim, eqb, eqb-true}
 use Rattle.std.specs.List.{AllByRecursion, filter}
 use Rattle.std.specs.List.Sorted.{IsStrictlySortedBy}
 use Rattle.std.specs.BTreeMap.{is_at}
@@ -9,7 +9,11 @@ use Rattle.std.specs.Option.{option_map}
 use Rattle.std.specs.Ordering.{nat_cmp}
 use Rattle.std.proofs.lemmas.Bool.{cases_eq}
 use Rattle.std.proofs.lemmas.Bool.Decides.{nat_tests}
+use Rattle.std.proofs.lemmas.List.Elements.{filter_agree}
 use Rattle.std.proofs.lemmas.Map.Entries.{lookup_head, lookup_tail}
+use Rattle.std.proofs.lemmas.Simd.{map-map}
+use Rattle.pg_graph.specs.ById.{AreById, StandAt}
+use Rattle.pg_graph.proofs.Taken.{taken_rise, taken_same}
 use Rattle.pg_map.specs.Entries.{HasRisingIds, value_at}
 use Rattle.pg_map.proofs.Parts.{rises_after}
 use Rattle.pg_map.proofs.Rising.{at_other, at_same, none_past, same_entries}
@@ -17,8 +21,8 @@ use Rattle.pg_model.specs.Job.{Combining}
 use Rattle.pg_model.specs.Superstep.{has_id, is_empty, targets}
 use Rattle.pg_model.proofs.LawsMade.{has_id-targets, targets-rise}
 use Rattle.pg_parcel.specs.Contents.{contents_of}
-use Rattle.pg_parcel.specs.Grouping.{AreGroups, any_of, items_to}
-use Rattle.pg_parcel.proofs.Grouping.{some_not_empty}
+use Rattle.pg_parcel.specs.Grouping.{AreGroups, any_of, groups_of, items_to}
+use Rattle.pg_parcel.proofs.Grouping.{groups_of_same, some_not_empty}
 use Rattle.pg_inbox.specs.Bundles.{Parcels, bundle_of}
 use Rattle.pg_inbox.specs.Sends.{as_item}
 use Rattle.pg_inbox.specs.Sends.{Sends, letters_to, without_senders}
@@ -131,6 +135,21 @@ module _ {M : Type 0} where
             ∙ ap (option_map (contents_of combining)) (grouped.told q ∙ ap any_of (ap (items_to q) are ∙ items-letters q sent)))),
         rise,
       )
+
+-- ---- sends by their targets
+
+turned : (a b : ℕ) → (a == b) ≡ eqb b a
+turned a b = grind (arith, nat_tests)
+
+module _ {M : Type 0} (sent : Sends M) (found : List (ℕ × ℕ)) (letters : List (ℕ × (ℕ × M))) where
+  -- what stands where the targets are found
+  pub groups_by_id : AreById (map (λ s. s.1) sent) found → StandAt (map as_item sent) found letters → AreGroups (map as_item sent) (groups_of letters)
+  groups_by_id by_id zip =
+      let keyed : AreById (map (λ i. i.0) (map as_item sent)) found = subst (λ l. AreById l found) (sym (map-map (λ i. i.0) as_item sent)) by_id in
+      groups_of_same (map as_item sent) letters (taken_rise (λ i. i.0) (map as_item sent) found letters keyed zip)
+      (λ q. filter_agree (λ i. i.0 == q) (λ i. eqb q i.0) (λ i. turned i.0 q) letters
+          ∙ taken_same (λ i. i.0) (map as_item sent) found letters keyed zip q
+          ∙ sym (filter_agree (λ i. i.0 == q) (λ i. eqb q i.0) (λ i. turned i.0 q) (map as_item sent)))
 
 -- ---- each entry, from the look-ups
 

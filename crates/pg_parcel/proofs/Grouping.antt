@@ -186,11 +186,16 @@ module _ {X : Type 0} where
   stays [] (s ∷ sorted) stable q = stays_with s.1 [] (s ∷ sorted) stable q
   stays (i ∷ items) sorted stable q = stays_with i.1 (i ∷ items) sorted stable q
 
-  pub groups_of_sorted : (items sorted : List (ℕ × X)) → IsNonDecreasingBy (λ i. i.0) sorted → IsStableByKey (λ i. i.0) nat_cmp items sorted
-      → AreGroups items (groups_of sorted)
-  groups_of_sorted items sorted rise stable =
+  -- items that rise and are the same of each number
+  pub groups_of_same : (items sorted : List (ℕ × X)) → IsNonDecreasingBy (λ i. i.0) sorted
+      → ((q : ℕ) → filter (λ i. i.0 == q) sorted ≡ filter (λ i. i.0 == q) items) → AreGroups items (groups_of sorted)
+  groups_of_same items sorted rise same =
       let up = up_from (λ i. i.0) sorted rise in
       record {
         rise = rises_groups sorted up;
-        told = λ target. told_groups target sorted up ∙ ap (λ l. any_of (map (λ i. i.1) l)) (stays items sorted stable target);
+        told = λ target. told_groups target sorted up ∙ ap (λ l. any_of (map (λ i. i.1) l)) (same target);
       }
+
+  pub groups_of_sorted : (items sorted : List (ℕ × X)) → IsNonDecreasingBy (λ i. i.0) sorted → IsStableByKey (λ i. i.0) nat_cmp items sorted
+      → AreGroups items (groups_of sorted)
+  groups_of_sorted items sorted rise stable = groups_of_same items sorted rise (stays items sorted stable)
