@@ -48,7 +48,7 @@ module _ {X : Type 0} where
       → nat_cmp (get_or es i e).0 k ≡ Equal → nat_cmp k e.0 ≡ Greater
   above_head e es k i rising within here = Less-Equal e.0 (get_or es i e).0 k (below_at e.0 es i e (sorted_head nat_cmp e.0 (keys_of es) rising) within) here
 
-  pub written_at : (es : List (ℕ × X)) (k i : ℕ) (v : X) → IsStrictlySortedBy nat_cmp (keys_of es) → i < length es
+  written_at : (es : List (ℕ × X)) (k i : ℕ) (v : X) → IsStrictlySortedBy nat_cmp (keys_of es) → i < length es
       → ((d : ℕ × X) → nat_cmp (get_or es i d).0 k ≡ Equal) → set es i (k, v) ≡ insert_entry nat_cmp es k v
   written_at [] k i v rising within here = absurd (omega arith)
   written_at (e ∷ es) k zero v rising within here =
@@ -57,7 +57,7 @@ module _ {X : Type 0} where
       ap (λ l. e ∷ l) (written_at es k i v (sorted_tail nat_cmp e.0 (keys_of es) rising) (omega arith) here)
       ∙ sym (put_step e es k v Greater (above_head e es k i rising (omega arith) (here e)))
 
-  pub removed_at : (es : List (ℕ × X)) (k i : ℕ) → IsStrictlySortedBy nat_cmp (keys_of es) → i < length es
+  removed_at : (es : List (ℕ × X)) (k i : ℕ) → IsStrictlySortedBy nat_cmp (keys_of es) → i < length es
       → ((d : ℕ × X) → nat_cmp (get_or es i d).0 k ≡ Equal) → remove es i ≡ remove_entry (is_at (nat_cmp k)) es
   removed_at [] k i rising within here = absurd (omega arith)
   removed_at (e ∷ es) k zero rising within here = sym (cut_step e es k true (ap is_eq (Equal-turned e.0 k (here e))))
@@ -65,7 +65,7 @@ module _ {X : Type 0} where
       ap (λ l. e ∷ l) (removed_at es k i (sorted_tail nat_cmp e.0 (keys_of es) rising) (omega arith) here)
       ∙ sym (cut_step e es k false (ap is_eq (above_head e es k i rising (omega arith) (here e))))
 
-  pub inserted_at : (es : List (ℕ × X)) (k i : ℕ) (v : X) → i ≤ length es → ((j : ℕ) (d : ℕ × X) → j < i → nat_cmp (get_or es j d).0 k ≡ Less)
+  inserted_at : (es : List (ℕ × X)) (k i : ℕ) (v : X) → i ≤ length es → ((j : ℕ) (d : ℕ × X) → j < i → nat_cmp (get_or es j d).0 k ≡ Less)
       → ((j : ℕ) (d : ℕ × X) → i ≤ j → j < length es → nat_cmp (get_or es j d).0 k ≡ Greater)
       → insert es i (k, v) ≡ insert_entry nat_cmp es k v
   inserted_at [] k zero v within below above = refl

@@ -166,6 +166,10 @@ impl DraftRow {
     }
 
     /// Puts the edge to `target` in the place of the one that was there, and says whether there was one.
+    ///
+    /// # Errors
+    ///
+    /// Where a growth is refused; nothing is said of the row then.
     pub fn put_edge(&mut self, alloc: Global, target: VertexId, weight: i64) -> Result<bool, Memory>
         ensures value { OnOk result (self.new ≡ record self.old { edges = with_edge target weight self.old.edges }) }
         ensures was_there { IfOk result (λ there. there ≡ is_some (weight_at target self.old.edges)) }
@@ -176,6 +180,10 @@ impl DraftRow {
     }
 
     /// Removes the edge to `target`, and says whether there was one.
+    ///
+    /// # Errors
+    ///
+    /// Where a growth is refused; nothing is said of the row then.
     pub fn remove_edge(&mut self, alloc: Global, target: VertexId) -> Result<bool, Memory>
         ensures value { OnOk result (self.new ≡ record self.old { edges = without_edge target self.old.edges }) }
         ensures was_there { IfOk result (λ there. there ≡ is_some (weight_at target self.old.edges)) }

@@ -47,8 +47,8 @@ fn by_vertex(alloc: Global, batch: &Batch) -> Result<Vec<(u64, Edit)>, Memory>
 {
     let edits = batch.as_slice();
     let sources = sources_of(alloc, edits)?;
-    let found = sorted_by_id(alloc, sources.as_slice())?;
-    placed_at(alloc, edits, found.as_slice())
+    let order = sorted_by_id(alloc, sources.as_slice())?;
+    placed_at(alloc, edits, order.as_slice())
 }
 
 /// The vertices whose rows edits change.
@@ -66,14 +66,14 @@ fn sources_of(alloc: Global, edits: &[Edit]) -> Result<Vec<VertexId>, Memory>
 fn placed_at(
     alloc: Global,
     edits: &[Edit],
-    found: &[(usize, VertexId)],
+    order: &[(usize, VertexId)],
 ) -> Result<Vec<(u64, Edit)>, Memory>
     requires short { length edits.now ≤ batch_limit }
-    requires found { AreById (map source_of edits.now) found.now }
-    ensures { IfOk result (λ made. StandAt (placed 1 edits.now) found.now made.items) }
+    requires order { AreById (map source_of edits.now) order.now }
+    ensures { IfOk result (λ made. StandAt (placed 1 edits.now) order.now made.items) }
 {
-    let mut made = Vec::with_capacity(alloc, found.len())?;
-    for (place, _) in found {
+    let mut made = Vec::with_capacity(alloc, order.len())?;
+    for (place, _) in order {
         made.push((*place as u64 + 1, edits[*place]))?;
     }
     Ok(made)

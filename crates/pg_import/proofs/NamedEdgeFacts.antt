@@ -8,7 +8,7 @@ use Rattle.std.proofs.lemmas.Bool.{cases_Bool, true≢false}
 use Rattle.std.proofs.lemmas.List.{take_more}
 use Rattle.std.proofs.lemmas.Option.{slice_get-get_or}
 use Rattle.pg_import.proofs.Graphs.{cmp-refl, is_at-sym, same_from_is_at}
-use Rattle.pg_import.proofs.SeenFacts.{Some_same}
+use Rattle.std.proofs.lemmas.Option.{same_Some}
 use Rattle.pg_import.specs.NamedEdges.{AreBefore, AreDistinct, IsApart, StandsAt, is_edge, named_in}
 use Rattle.pg_import.specs.declared.named_edges.NamedEdge.{NamedEdge}
 
@@ -62,7 +62,7 @@ IsApart-before (e ∷ es) from to source target before past =
 module _ (P : NamedEdge → Type 0) where
   all_at : (es : List NamedEdge) (i : ℕ) (e : NamedEdge) → AllByRecursion P es → slice_get es i ≡ Some e → P e
   all_at [] i e all at = cc at
-  all_at (x ∷ xs) zero e all at = subst P (Some_same at) all.0
+  all_at (x ∷ xs) zero e all at = subst P (same_Some _ _ at) all.0
   all_at (x ∷ xs) (suc i) e all at = all_at xs i e all.1 at
 
   all_push : (es : List NamedEdge) (e : NamedEdge) → AllByRecursion P es → P e → AllByRecursion P (es ++ e ∷ [])
@@ -101,7 +101,7 @@ here x xs all = rw (is_edge-self x, named_in-apart x.source x.target xs all) (or
 -- an edge that stands there was named if it says so
 pub named_at : (es : List NamedEdge) (i : ℕ) (e : NamedEdge) → AreDistinct es → slice_get es i ≡ Some e → named_in e.source e.target es ≡ e.named
 named_at [] i e distinct at = cc at
-named_at (x ∷ xs) zero e distinct at = subst (λ y. named_in y.source y.target (x ∷ xs) ≡ y.named) (Some_same at) (here x xs distinct.0)
+named_at (x ∷ xs) zero e distinct at = subst (λ y. named_in y.source y.target (x ∷ xs) ≡ y.named) (same_Some _ _ at) (here x xs distinct.0)
 named_at (x ∷ xs) (suc i) e distinct at =
     rw (is_edge-sym e x ∙ all_at (λ y. is_edge x.source x.target y ≡ false) xs i e distinct.0 at) (named_at xs i e distinct.1 at)
 
@@ -115,7 +115,7 @@ module _ (e : NamedEdge) (is : e.named ≡ true) where
       → named_in s t (slice_set es i e) ≡ cond (is_edge s t e) true (named_in s t es)
   named_in-set [] i old s t at source target = cc at
   named_in-set (x ∷ xs) zero old s t at source target =
-      let same : is_edge s t x ≡ is_edge s t e = rw (Some_same at, source, target) refl in
+      let same : is_edge s t x ≡ is_edge s t e = rw (same_Some _ _ at, source, target) refl in
       rw same (set_here s t x.named (named_in s t xs))
   named_in-set (x ∷ xs) (suc i) old s t at source target =
       ap (λ b. (is_edge s t x && x.named) || b) (named_in-set xs i old s t at source target)
@@ -140,7 +140,7 @@ pub AreDistinct-set : (es : List NamedEdge) (i : ℕ) (old e : NamedEdge) → Ar
     → old.source ≡ e.source → old.target ≡ e.target → AreDistinct (slice_set es i e)
 AreDistinct-set [] i old e distinct at source target = tt
 AreDistinct-set (x ∷ xs) zero old e distinct at source target =
-    (rw (ap (λ y. y.source) (Some_same at) ∙ source, ap (λ y. y.target) (Some_same at) ∙ target) at distinct.0, distinct.1)
+    (rw (ap (λ y. y.source) (same_Some _ _ at) ∙ source, ap (λ y. y.target) (same_Some _ _ at) ∙ target) at distinct.0, distinct.1)
 AreDistinct-set (x ∷ xs) (suc i) old e distinct at source target =
     let apart : is_edge x.source x.target e ≡ false =
     rw (source, target) at (all_at (λ y. is_edge x.source x.target y ≡ false) xs i old distinct.0 at) in (

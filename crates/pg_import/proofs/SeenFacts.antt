@@ -3,12 +3,9 @@ use Rattle.std.proofs.Common.{◌≡◌, ℕ, ◌<◌, List, length, Option, Som
 use Rattle.std.specs.List.{slice_get}
 use Rattle.std.proofs.lemmas.Bool.{cases_eq}
 use Rattle.std.proofs.lemmas.List.{get_or-set_same, get_or-set_other, length-set}
-use Rattle.std.proofs.lemmas.Option.{slice_get-get_or, slice_get_within}
+use Rattle.std.proofs.lemmas.Option.{same_Some, slice_get-get_or, slice_get_within}
 use Rattle.pg_import.specs.Seen.{AreSeen}
 use Rattle.pg_import.specs.declared.line.Line.{Line}
-
-pub Some_same : {X : Type 0} {x y : X} → Some x ≡ Some y → x ≡ y
-Some_same h = cc
 
 module _ {Y : Type 0} (seen : List Y) (place : ℕ) (within : place < length seen) where
   set_here : (y : Y) → slice_get (slice_set seen place y) place ≡ Some y
@@ -28,9 +25,9 @@ module _ {X : Type 0} (IsSeen : Line → X → Type 0) (lines : List Line) (seen
   seen_more line x at told i line' x' at' there =
       ⊎_elim
       (λ (same : i ≡ place).
-      let line_is : line ≡ line' = Some_same (sym at ∙ ap (slice_get lines) (sym same) ∙ at') in
-      let x_is : x ≡ x' = Some_same
-      (Some_same (sym (set_here seen place within (Some x)) ∙ ap (slice_get (slice_set seen place (Some x))) (sym same) ∙ there)) in
+      let line_is : line ≡ line' = same_Some _ _ (sym at ∙ ap (slice_get lines) (sym same) ∙ at') in
+      let x_is : x ≡ x' = same_Some _ _
+      (same_Some _ _ (sym (set_here seen place within (Some x)) ∙ ap (slice_get (slice_set seen place (Some x))) (sym same) ∙ there)) in
       subst (λ l. IsSeen l x') line_is (subst (IsSeen line) x_is told))
       (λ (apart : i ≡ place → ⊥).
       let inside : i < length seen = omega (arith, slice_get_within (slice_set seen place (Some x)) i (Some x') there, length-set seen place (Some x)) in

@@ -27,10 +27,8 @@ pub fn into_batch(alloc: Global, lines: &[Line], graph: &Graph) -> Result<Batch,
     for (place, line) in lines.iter().enumerate() {
         let source = seen.source_at(place, line, graph);
         let target = seen.target_at(place, line, graph);
-        let (source_rank, target_rank) = (
-            order.ranks.of_source(place),
-            order.ranks.of_target(place),
-        );
+        let source_rank = order.ranks.of_source(place);
+        let target_rank = order.ranks.of_target(place);
         push_vertex(
             &mut batch,
             &mut named,

@@ -18,9 +18,9 @@ pub(crate) struct Order {
 impl Order {
     /// The order of these lines. Costs O(k) for k lines.
     pub(crate) fn of(alloc: Global, lines: &[Line]) -> Result<Order, Memory> {
-        let targets = targets_of(alloc, lines)?;
+        let targets = target_ids(alloc, lines)?;
         let by_target = places_by_id(alloc, targets.as_slice())?;
-        let sources = sources_of(alloc, lines)?;
+        let sources = source_ids(alloc, lines)?;
         let by_edge = reordered_by_id(alloc, sources.as_slice(), by_target.clone()?)?;
         let mut ranks = Ranks::new(alloc, lines.len())?;
         ranks.add_all(lines, by_edge.as_slice(), by_target.as_slice())?;
@@ -47,8 +47,8 @@ impl Order {
     }
 }
 
-/// The sources of lines.
-fn sources_of(alloc: Global, lines: &[Line]) -> Result<Vec<VertexId>, Memory> {
+/// The ids of the sources of lines.
+fn source_ids(alloc: Global, lines: &[Line]) -> Result<Vec<VertexId>, Memory> {
     let mut sources = Vec::with_capacity(alloc, lines.len())?;
     for line in lines {
         sources.push(line.source)?;
@@ -56,8 +56,8 @@ fn sources_of(alloc: Global, lines: &[Line]) -> Result<Vec<VertexId>, Memory> {
     Ok(sources)
 }
 
-/// The targets of lines.
-fn targets_of(alloc: Global, lines: &[Line]) -> Result<Vec<VertexId>, Memory> {
+/// The ids of the targets of lines.
+fn target_ids(alloc: Global, lines: &[Line]) -> Result<Vec<VertexId>, Memory> {
     let mut targets = Vec::with_capacity(alloc, lines.len())?;
     for line in lines {
         targets.push(line.target)?;

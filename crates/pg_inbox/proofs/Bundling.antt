@@ -125,14 +125,14 @@ module _ {M : Type 0} where
 
   -- the contents of groups are the bundle
   pub bundle_from_groups : (combining : Option (Combining M)) (sent : Sends M)
-      {items : List (ℕ × (ℕ × M))} {groups : List (ℕ × List (ℕ × M))} {parcels : Parcels M}
-      → items ≡ map as_item sent → AreGroups items groups → parcels ≡ map (λ g. (g.0, contents_of combining g.1)) groups
+      {groups : List (ℕ × List (ℕ × M))} {parcels : Parcels M}
+      → AreGroups (map as_item sent) groups → parcels ≡ map (λ g. (g.0, contents_of combining g.1)) groups
       → (parcels ≡ bundle_of combining sent) × HasRisingIds parcels
-  bundle_from_groups combining sent {items} {groups} {parcels} are grouped made =
+  bundle_from_groups combining sent {groups} {parcels} grouped made =
       let rise : HasRisingIds parcels = subst HasRisingIds (sym made) (rises-values (contents_of combining) groups grouped.rise) in (
         is_bundle_of combining parcels sent rise (λ q. ap (value_at q) made
             ∙ (value_at-values (contents_of combining) q groups
-            ∙ ap (option_map (contents_of combining)) (grouped.told q ∙ ap any_of (ap (items_to q) are ∙ items-letters q sent)))),
+            ∙ ap (option_map (contents_of combining)) (grouped.told q ∙ ap any_of (items-letters q sent)))),
         rise,
       )
 
@@ -141,15 +141,15 @@ module _ {M : Type 0} where
 turned : (a b : ℕ) → (a == b) ≡ eqb b a
 turned a b = grind (arith, nat_tests)
 
-module _ {M : Type 0} (sent : Sends M) (found : List (ℕ × ℕ)) (letters : List (ℕ × (ℕ × M))) where
-  -- what stands where the targets are found
-  pub groups_by_id : AreById (map (λ s. s.1) sent) found → StandAt (map as_item sent) found letters → AreGroups (map as_item sent) (groups_of letters)
+module _ {M : Type 0} (sent : Sends M) (order : List (ℕ × ℕ)) (letters : List (ℕ × (ℕ × M))) where
+  -- what stands at the places of the targets in order
+  pub groups_by_id : AreById (map (λ s. s.1) sent) order → StandAt (map as_item sent) order letters → AreGroups (map as_item sent) (groups_of letters)
   groups_by_id by_id zip =
-      let keyed : AreById (map (λ i. i.0) (map as_item sent)) found = subst (λ l. AreById l found) (sym (map-map (λ i. i.0) as_item sent)) by_id in
-      groups_of_same (map as_item sent) letters (taken_rise (λ i. i.0) (map as_item sent) found letters keyed zip)
+      let keyed : AreById (map (λ i. i.0) (map as_item sent)) order = subst (λ l. AreById l order) (sym (map-map (λ i. i.0) as_item sent)) by_id in
+      groups_of_same (map as_item sent) letters (taken_rise (λ i. i.0) (map as_item sent) order letters keyed zip)
       (λ q. filter_agree (λ i. i.0 == q) (λ i. eqb q i.0) (λ i. turned i.0 q) letters
-          ∙ taken_same (λ i. i.0) (map as_item sent) found letters keyed zip q
-          ∙ sym (filter_agree (λ i. i.0 == q) (λ i. eqb q i.0) (λ i. turned i.0 q) (map as_item sent)))
+      ∙ taken_same (λ i. i.0) (map as_item sent) order letters keyed zip q
+      ∙ sym (filter_agree (λ i. i.0 == q) (λ i. eqb q i.0) (λ i. turned i.0 q) (map as_item sent)))
 
 -- ---- each entry, from the look-ups
 

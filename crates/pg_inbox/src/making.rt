@@ -38,8 +38,8 @@ fn letters_by_target<M: Plain>(
     ensures { IfOk result (λ letters. AreGroups (map as_item sent.now) (groups_of letters.items)) }
 {
     let targets = targets_of(alloc, sent)?;
-    let found = sorted_by_id(alloc, targets.as_slice())?;
-    letters_at(alloc, sent, found.as_slice())
+    let order = sorted_by_id(alloc, targets.as_slice())?;
+    letters_in_order(alloc, sent, order.as_slice())
 }
 
 /// The targets of sends.
@@ -57,16 +57,16 @@ fn targets_of<M: Plain>(
 }
 
 /// Copies of the messages of the sends at these places, each with its sender, beside its target.
-fn letters_at<M: Plain>(
+fn letters_in_order<M: Plain>(
     alloc: Global,
     sent: &[(VertexId, VertexId, M)],
-    found: &[(usize, VertexId)],
+    order: &[(usize, VertexId)],
 ) -> Result<Vec<(VertexId, (VertexId, M))>, Memory>
-    requires { AreById (map (λ s. s.1) sent.now) found.now }
-    ensures { IfOk result (λ letters. StandAt (map as_item sent.now) found.now letters.items) }
+    requires { AreById (map (λ s. s.1) sent.now) order.now }
+    ensures { IfOk result (λ letters. StandAt (map as_item sent.now) order.now letters.items) }
 {
-    let mut letters = Vec::with_capacity(alloc, found.len())?;
-    for (place, _) in found {
+    let mut letters = Vec::with_capacity(alloc, order.len())?;
+    for (place, _) in order {
         let (sender, target, message) = &sent[*place];
         letters.push((*target, (*sender, message.copy(alloc)?)))?;
     }

@@ -13,7 +13,7 @@ use pg_map::{Map, Share};
 use pg_model::Record;
 use std::alloc::Global;
 
-/// A list of supersteps is made with room for so many more: most vertices run again.
+/// A list of supersteps is made with room for so many more, the next one among them: most vertices run again.
 const ROOM: usize = 3;
 
 /// The last record of a vertex before a superstep, where an index has this of it. It is found by halving among the

@@ -11,4 +11,6 @@ mod inbox;
 #[cfg(test)]
 mod map;
 #[cfg(test)]
+mod order;
+#[cfg(test)]
 mod trace;

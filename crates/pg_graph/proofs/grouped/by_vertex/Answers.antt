@@ -10,10 +10,10 @@ use Rattle.pg_graph.proofs.grouped.by_vertex.Goals as goal
 pub returns : goal.returns
 returns c =
     let edits = c.as_slice-edits.result.now in
-    let found = c.in_ok-found.found.items in
-    let by_id : AreById (map source_of edits) found =
-    subst (λ ids. AreById ids found) (c.as_slice.ensures.value ∙ c.in_ok-sources.ensures) c.in_ok-found.ensures in
+    let order = c.in_ok-order.order.items in
+    let by_id : AreById (map source_of edits) order =
+    subst (λ ids. AreById ids order) (c.as_slice.ensures.value ∙ c.in_ok-sources.ensures) c.in_ok-order.ensures in
     IfOk-weaker c.placed_at.result _ (λ made. AreGrouped c.args.batch.now made.items)
     (λ made zip. subst (λ edits. AreGrouped edits made.items) c.as_slice-edits.ensures
-    (grouped_by_id edits found made.items by_id (subst (λ found. StandAt (placed 1 edits) found made.items) c.as_slice-2.ensures.value zip)))
+    (grouped_by_id edits order made.items by_id (subst (λ order. StandAt (placed 1 edits) order made.items) c.as_slice-2.ensures.value zip)))
     c.placed_at.ensures

@@ -1,4 +1,4 @@
-use Rattle.std.proofs.Common.{refl, ap, ◌∙◌, subst, sym}
+use Rattle.std.proofs.Common.{ap, ◌∙◌, subst, sym}
 use Rattle.pg_parcel.specs.Contents.{parcels_of}
 use Rattle.pg_parcel.specs.Grouping.{groups_of}
 use Rattle.pg_inbox.specs.Holding.{HoldAll}
@@ -9,14 +9,14 @@ use Rattle.pg_inbox.proofs.making.bundle.Goals as goal
 pub from_rising-requires : goal.from_rising-requires
 from_rising-requires g c =
     let combining = g.C.MessageCombiner.combining c.args.combiner.now in
-    (bundle_from_groups combining c.args.sent.now refl c.in_ok-letters.ensures
+    (bundle_from_groups combining c.args.sent.now c.in_ok-letters.ensures
     (c.in_ok-parcels.ensures.contents ∙ ap (λ l. parcels_of combining (groups_of l)) c.as_slice.ensures.value)).1
 
 pub returns : goal.returns
 returns g c =
     let combining = g.C.MessageCombiner.combining c.args.combiner.now in
     c.in_ok-parcels-2.ensures
-    ∙ (bundle_from_groups combining c.args.sent.now refl c.in_ok-letters.ensures
+    ∙ (bundle_from_groups combining c.args.sent.now c.in_ok-letters.ensures
     (c.in_ok-parcels.ensures.contents ∙ ap (λ l. parcels_of combining (groups_of l)) c.as_slice.ensures.value)).0
 
 pub invariant_of-result : goal.invariant_of-result

@@ -4,21 +4,21 @@ use Rattle.std.proofs.lemmas.List.{length-map, take_more}
 use Rattle.std.proofs.lemmas.Option.{slice_get-map, slice_get_read, slice_get_within}
 use Rattle.pg_inbox.specs.Sends.{as_item}
 use Rattle.pg_graph.proofs.Taken.{zip_push}
-use Rattle.pg_inbox.proofs.making.letters_at.Goals as goal
+use Rattle.pg_inbox.proofs.making.letters_in_order.Goals as goal
 
 pub loop-place-preserved : goal.loop-place-preserved
 loop-place-preserved g c =
     let sent = c.args.sent.now in
-    let found = c.args.found.now in
+    let order = c.args.order.now in
     let i = c.loop-place.place-index in
     let at = c.loop-place-item.result in
     let item = c.index-sent-place.result in
     let there : slice_get (map (λ s. s.1) sent) at.0 ≡ Some at.1 =
-        subst (λ e. slice_get (map (λ s. s.1) sent) e.0 ≡ Some e.1) (sym c.loop-place-item.is) (c.requires.each i at c.loop-place-test.true) in
+    subst (λ e. slice_get (map (λ s. s.1) sent) e.0 ≡ Some e.1) (sym c.loop-place-item.is) (c.requires.each i at c.loop-place-test.true) in
     let within : at.0 < length sent = omega (arith, slice_get_within (map (λ s. s.1) sent) at.0 at.1 there, length-map sent (λ s. s.1)) in
     let stands : slice_get (map as_item sent) at.0 ≡ Some (as_item item) =
-        slice_get-map as_item sent at.0 ∙ ap (option_map as_item) (slice_get_read sent (length sent) at.0 item refl within c.index-sent-place.is) in
-    let more : take (i + 1) found ≡ take i found ++ at ∷ [] =
-        take_more found i at c.loop-place-test.true ∙ ap (λ e. take i found ++ e ∷ []) (sym c.loop-place-item.is) in
+    slice_get-map as_item sent at.0 ∙ ap (option_map as_item) (slice_get_read sent (length sent) at.0 item refl within c.index-sent-place.is) in
+    let more : take (i + 1) order ≡ take i order ++ at ∷ [] =
+    take_more order i at c.loop-place-test.true ∙ ap (λ e. take i order ++ e ∷ []) (sym c.loop-place-item.is) in
     rw (more, c.in_ok-push.ensures.items ∙ ap (λ m. c.loop-place.letters.items ++ (item.1, (item.0, m)) ∷ []) c.in_ok-copy.ensures)
-    (zip_push (λ e letter. slice_get (map as_item sent) e.0 ≡ Some letter) (take i found) c.loop-place.letters.items at (as_item item) c.loop-place.invariant stands)
+    (zip_push (λ e letter. slice_get (map as_item sent) e.0 ≡ Some letter) (take i order) c.loop-place.letters.items at (as_item item) c.loop-place.invariant stands)
