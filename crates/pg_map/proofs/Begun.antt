@@ -9,7 +9,7 @@ no_by true h = sym h
 no_by false h = refl
 
 module _ {X : Type 0} (number : X → ℕ) (xs : List X) (rise : IsNonDecreasingBy number xs) (id n m : ℕ) (last : m + 1 ≡ n)
-    (within : n < length xs) (c d : X) (c_is : c ≡ get_or xs m c) (d_is : d ≡ get_or xs n d) where
+    (within : n ≤ length xs) (c : X) (c_is : c ≡ get_or xs m c) where
   below : number c ≤ id → (k : ℕ) (x : X) → k < n → leb (number (get_or xs k x)) id ≡ true
   below low k x h =
       let bound = rise k m x (omega arith) (omega arith) in
@@ -17,13 +17,19 @@ module _ {X : Type 0} (number : X → ℕ) (xs : List X) (rise : IsNonDecreasing
       let fits : number (get_or xs k x) ≤ id = omega arith in
       grind (arith, nat_tests)
 
-  above : id < number d → (k : ℕ) (x : X) → n ≤ k → k < length xs → leb (number (get_or xs k x)) id ≡ false
-  above high k x h g =
+  above : (d : X) → d ≡ get_or xs n d → n < length xs → id < number d → (k : ℕ) (x : X) → n ≤ k → k < length xs
+      → leb (number (get_or xs k x)) id ≡ false
+  above d d_is inside high k x h g =
       let bound = rise n k x h g in
-      let same : number (get_or xs n x) ≡ number d = ap number (get_or_default xs n x d within ∙ sym d_is) in
+      let same : number (get_or xs n x) ≡ number d = ap number (get_or_default xs n x d inside ∙ sym d_is) in
       let past : id < number (get_or xs k x) = omega arith in
       grind (arith, nat_tests)
 
-  pub begun_by_two : leb (number c) id ≡ true → leb (number d) id ≡ false
+  pub begun_by_two : (d : X) → d ≡ get_or xs n d → n < length xs → leb (number c) id ≡ true → leb (number d) id ≡ false
       → IsPartitionPoint (λ y. leb (number y) id ≡ true) (λ y. leb (number y) id ≡ false) xs n
-  begun_by_two low high = (λ k x z h. below (grind (arith, nat_tests)) k x h, λ k x h g. above (grind (arith, nat_tests)) k x h g)
+  begun_by_two d d_is inside low high =
+      (λ k x z h. below (grind (arith, nat_tests)) k x h, λ k x h g. above d d_is inside (grind (arith, nat_tests)) k x h g)
+
+  pub begun_by_last : n ≡ length xs → leb (number c) id ≡ true
+      → IsPartitionPoint (λ y. leb (number y) id ≡ true) (λ y. leb (number y) id ≡ false) xs n
+  begun_by_last all low = (λ k x z h. below (grind (arith, nat_tests)) k x h, λ k x h g. absurd (omega arith))

@@ -85,10 +85,13 @@ fn have_begun<T>(parts: &[Part<T>], count: usize, id: VertexId) -> bool
     ensures bound { IsTrue result → count ≤ length parts.now }
     ensures parts { IsTrue result → IsPartitionPoint (λ p. nat_le p.first id ≡ true) (λ p. nat_le p.first id ≡ false) parts.now count }
 {
-    if count == 0 || count >= parts.len() {
+    if count == 0 || count > parts.len() || !is_at_most(parts[count - 1].first, id) {
         return false;
     }
-    is_at_most(parts[count - 1].first, id) && !is_at_most(parts[count].first, id)
+    if count == parts.len() {
+        return true;
+    }
+    !is_at_most(parts[count].first, id)
 }
 
 /// The value at an id, where so many chunks begin at it or below it. `below` is a guess at how many entries of the
@@ -127,12 +130,13 @@ fn value_near<'a, V>(entries: &'a [(VertexId, V)], below: &mut usize, id: Vertex
 }
 
 /// How many of these entries are below an id. Tested first is how far the id is from that of the first, which it is where
-/// no id is missing between them; then the count before, or a few more; then it is searched for.
+/// no id is missing between them, or all, where it is that far; then the count before, or a few more; then it is searched
+/// for.
 fn count_below<V>(entries: &[(VertexId, V)], before: usize, id: VertexId) -> usize
     requires { HasRisingIds entries.now }
     ensures { IsPartitionPoint (λ e. nat_lt e.0 id ≡ true) (λ e. nat_lt e.0 id ≡ false) entries.now result }
 {
-    let distance = distance_from_first(entries, id);
+    let distance = distance_from_first(entries, id).min(entries.len());
     if are_below(entries, distance, id) {
         return distance;
     }
@@ -171,8 +175,11 @@ fn are_below<V>(entries: &[(VertexId, V)], count: usize, id: VertexId) -> bool
     requires { HasRisingIds entries.now }
     ensures { IsTrue result → IsPartitionPoint (λ e. nat_lt e.0 id ≡ true) (λ e. nat_lt e.0 id ≡ false) entries.now count }
 {
-    if count == 0 || count >= entries.len() {
+    if count == 0 || count > entries.len() || !is_below(entries[count - 1].0, id) {
         return false;
     }
-    is_below(entries[count - 1].0, id) && !is_below(entries[count].0, id)
+    if count == entries.len() {
+        return true;
+    }
+    !is_below(entries[count].0, id)
 }
