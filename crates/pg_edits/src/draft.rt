@@ -23,8 +23,15 @@ pub(crate) enum DraftEdges {
 impl DraftEdges {
     ghost use Rattle.pg_edits.specs.DraftRow.{edges_in};
 
-    /// Puts the edge to `target` in the place of the one that was there, and says whether there was one.
-    fn put(&mut self, alloc: Global, target: VertexId, weight: i64) -> Result<bool, Memory>
+    /// Puts the edge to `target` in the place of the one that was there, and says whether there was one. A list that is
+    /// made has room for so many edges more.
+    fn put(
+        &mut self,
+        alloc: Global,
+        room: usize,
+        target: VertexId,
+        weight: i64,
+    ) -> Result<bool, Memory>
         ensures value { OnOk result (edges_in self.new ≡ with_edge target weight (edges_in self.old)) }
         ensures was_there { IfOk result (λ there. there ≡ is_some (weight_at target (edges_in self.old))) }
         ensures degree { IfOk result
@@ -32,7 +39,7 @@ impl DraftEdges {
     {
         match self {
             DraftEdges::Kept(edges) => {
-                let mut listed = ListedEdges::of(alloc, edges.as_slice())?;
+                let mut listed = ListedEdges::of(alloc, edges.as_slice(), room)?;
                 let there = listed.put(target, weight)?;
                 *self = DraftEdges::Listed(listed);
                 Ok(there)
@@ -50,8 +57,8 @@ impl DraftEdges {
         }
     }
 
-    /// Removes the edge to `target`, and says whether there was one.
-    fn remove(&mut self, alloc: Global, target: VertexId) -> Result<bool, Memory>
+    /// Removes the edge to `target`, and says whether there was one. A list that is made has room for so many edges more.
+    fn remove(&mut self, alloc: Global, room: usize, target: VertexId) -> Result<bool, Memory>
         ensures value { OnOk result (edges_in self.new ≡ without_edge target (edges_in self.old)) }
         ensures was_there { IfOk result (λ there. there ≡ is_some (weight_at target (edges_in self.old))) }
         ensures degree { IfOk result
@@ -59,7 +66,7 @@ impl DraftEdges {
     {
         match self {
             DraftEdges::Kept(edges) => {
-                let mut listed = ListedEdges::of(alloc, edges.as_slice())?;
+                let mut listed = ListedEdges::of(alloc, edges.as_slice(), room)?;
                 let there = listed.remove(target);
                 *self = DraftEdges::Listed(listed);
                 Ok(there)
@@ -83,12 +90,18 @@ impl DraftEdges {
 pub struct DraftRow {
     input: i64,
     edges: DraftEdges,
+    // How many edges more the list of its edges has room for, once it is made.
+    room: usize,
 }
 
 // By hand, so that it is let go by one call wherever that is, and not field by field.
 impl Drop for DraftRow {
     fn drop(self) {
-        let DraftRow { input: _, edges: _ } = self;
+        let DraftRow {
+            input: _,
+            edges: _,
+            room: _,
+        } = self;
     }
 }
 
@@ -103,24 +116,26 @@ impl Model for DraftRow {
 }
 
 impl DraftRow {
-    /// A row with this input and no edges.
-    pub fn new(input: i64) -> DraftRow
+    /// A row with this input and no edges, for so many edits: it gets room for as many edges at the first.
+    pub fn new(input: i64, edits: usize) -> DraftRow
         ensures { result ≡ record { input = input; edges = [] } }
     {
         DraftRow {
             input,
             edges: DraftEdges::Kept(Edges::new()),
+            room: edits,
         }
     }
 
-    /// A row of a graph, which shares its edges until one is edited.
-    pub fn of(row: &Row) -> Result<DraftRow, Memory>
+    /// A row of a graph, for so many edits: it shares its edges until one is edited, and gets room for as many more then.
+    pub fn of(row: &Row, edits: usize) -> Result<DraftRow, Memory>
         ensures { IfOk result (λ draft. draft ≡ row.now) }
     {
         let edges = row.edges.copy()?;
         Ok(DraftRow {
             input: row.input,
             edges: DraftEdges::Kept(edges),
+            room: edits,
         })
     }
 
@@ -176,7 +191,7 @@ impl DraftRow {
         ensures degree { IfOk result
             (λ there. length self.new.edges + (if there then 1 else 0) ≡ length self.old.edges + 1) }
     {
-        self.edges.put(alloc, target, weight)
+        self.edges.put(alloc, self.room, target, weight)
     }
 
     /// Removes the edge to `target`, and says whether there was one.
@@ -190,14 +205,18 @@ impl DraftRow {
         ensures degree { IfOk result
             (λ there. length self.new.edges + (if there then 1 else 0) ≡ length self.old.edges) }
     {
-        self.edges.remove(alloc, target)
+        self.edges.remove(alloc, self.room, target)
     }
 
     /// The row as a graph holds it.
     pub fn into_row(self, alloc: Global) -> Result<Row, Memory>
         ensures { IfOk result (λ row. row ≡ self) }
     {
-        let DraftRow { input, edges } = self;
+        let DraftRow {
+            input,
+            edges,
+            room: _,
+        } = self;
         let edges = match edges {
             DraftEdges::Kept(edges) => edges,
             DraftEdges::Listed(listed) => listed.into_edges(alloc)?,

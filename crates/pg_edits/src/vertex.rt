@@ -17,11 +17,11 @@ pub fn vertex_after(
     ensures { IfOk result (λ made. made ≡ vertex_after (option_copied row.entry) edits.now) }
 {
     let mut draft = match row {
-        Some(row) => Some(DraftRow::of(row)?),
+        Some(row) => Some(DraftRow::of(row, edits.len())?),
         None => None,
     };
     for (position, edit) in edits {
-        draft = match vertex_edited(alloc, draft, *edit)? {
+        draft = match vertex_edited(alloc, draft, *edit, edits.len())? {
             Ok(edited) => edited,
             Err(kind) => {
                 let position = *position;
@@ -32,18 +32,20 @@ pub fn vertex_after(
     Ok(Ok(draft))
 }
 
-/// What one edit makes of a row, or of none. Where it has no result, the inner result says why.
+/// What one edit makes of a row, or of none. Where it has no result, the inner result says why. A new row is made for so
+/// many edits.
 fn vertex_edited(
     alloc: Global,
     row: Option<DraftRow>,
     edit: Edit,
+    edits: usize,
 ) -> Result<Result<Option<DraftRow>, EditKind>, Memory>
     ensures { IfOk result (λ made. made ≡ vertex_edited row edit) }
 {
     match row {
         Some(row) => row_edited(alloc, row, edit),
         None => match edit {
-            Edit::AddVertex(_, input) => Ok(Ok(Some(DraftRow::new(input)))),
+            Edit::AddVertex(_, input) => Ok(Ok(Some(DraftRow::new(input, edits)))),
             _ => Ok(Err(EditKind::NoVertex)),
         },
     }

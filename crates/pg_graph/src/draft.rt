@@ -127,7 +127,7 @@ impl<'a> Draft<'a> {
         if self.vertices >= VERTEX_LIMIT {
             return Err(EditKind::Full);
         }
-        put(&mut self.changes, id, Some(DraftRow::new(input)))?;
+        put(&mut self.changes, id, Some(DraftRow::new(input, 1)))?;
         self.vertices += 1;
         Ok(self)
     }
@@ -240,7 +240,7 @@ fn take_row(
         Some(Some(row)) => Ok(row),
         Some(None) => Err(EditKind::NoVertex),
         None => match graph.row(id) {
-            Some(row) => Ok(DraftRow::of(row)?),
+            Some(row) => Ok(DraftRow::of(row, 1)?),
             None => Err(EditKind::NoVertex),
         },
     }

@@ -22,7 +22,8 @@ pub fn into_batch(alloc: Global, lines: &[Line], graph: &Graph) -> Result<Batch,
 {
     let order = Order::of(alloc, lines)?;
     let seen = Seen::of(alloc, lines, &order, graph)?;
-    let mut batch = Batch::with_capacity(alloc, lines.len())?;
+    let room = lines.len().saturating_add(order.ranks.vertices.len());
+    let mut batch = Batch::with_capacity(alloc, room)?;
     let mut named = Named::new(alloc, lines, &order)?;
     for (place, line) in lines.iter().enumerate() {
         let source = seen.source_at(place, line, graph);

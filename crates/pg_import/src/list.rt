@@ -12,6 +12,9 @@ use crate::{ImportFault, ImportKind, Line, Words, bare_line, read_id, read_weigh
 use pg_graph::VertexId;
 use std::alloc::Global;
 
+// Lines of an edge have so many bytes, or more mostly.
+const BYTES_OF_LINE: usize = 8;
+
 /// The edges of a text in list form, in their order, or its first faulty line.
 ///
 /// A line that is empty or begins with `#`, blanks and tabs aside, has no edge. A pair of vertices may
@@ -19,7 +22,9 @@ use std::alloc::Global;
 pub fn read_list(alloc: Global, text: &[u8]) -> Result<Vec<Line>, ImportFault>
     ensures { Gives (λ lines. lines.items) result (list_of text.now) }
 {
-    let mut lines = Vec::new(alloc);
+    let Ok(mut lines) = Vec::with_capacity(alloc, text.len() / BYTES_OF_LINE) else {
+        return Err(ImportFault::NO_MEMORY);
+    };
     let mut number = 0;
     for raw in text.split_inclusive(|byte| *byte == b'\n') {
         number += 1;

@@ -78,7 +78,7 @@ impl Ranks {
     /// No vertices yet, for so many lines.
     fn new(alloc: Global, lines: usize) -> Result<Ranks, Memory> {
         Ok(Ranks {
-            vertices: Vec::new(alloc),
+            vertices: Vec::with_capacity(alloc, lines.saturating_mul(2))?,
             sources: Vec::from_elem(alloc, 0, lines)?,
             targets: Vec::from_elem(alloc, 0, lines)?,
         })

@@ -28,12 +28,16 @@ impl Model for ListedEdges {
 }
 
 impl ListedEdges {
-    /// A copy of these edges, which rise by target, with room for one more.
-    pub(crate) fn of(alloc: Global, edges: &[(VertexId, i64)]) -> Result<ListedEdges, Memory>
+    /// A copy of these edges, which rise by target, with room for so many more.
+    pub(crate) fn of(
+        alloc: Global,
+        edges: &[(VertexId, i64)],
+        room: usize,
+    ) -> Result<ListedEdges, Memory>
         requires { IsRising edges.now }
         ensures { IfOk result (λ listed. listed ≡ edges.now) }
     {
-        let mut listed = Vec::with_capacity(alloc, edges.len().saturating_add(1))?;
+        let mut listed = Vec::with_capacity(alloc, edges.len().saturating_add(room))?;
         listed.extend_from_slice(edges)?;
         Ok(ListedEdges {
             edges: listed,
