@@ -13,3 +13,4 @@ pub mod Limits
 pub mod BatchLaw
 pub mod BatchSteps
 pub mod Plain
+pub mod PlainLines

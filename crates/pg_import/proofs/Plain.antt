@@ -1,6 +1,6 @@
 -- Lines of plain numbers with single blanks between them.
-use Rattle.std.proofs.Common.{◌≡◌, ℕ, ℤ, pos, ◌==◌, ◌+◌, ◌*◌, ◌<◌, ◌≤◌, true, false, nat_lt, List, [], ◌∷◌, ◌++◌, length, Ok, Option, None, Some}
-use Rattle.std.proofs.Common.{IfSome, refl, ap, sym, ◌∙◌, append_assoc, arith}
+use Rattle.std.proofs.Common.{◌≡◌, ℕ, ℤ, pos, ◌==◌, ◌+◌, ◌*◌, ◌<◌, ◌≤◌, true, false, nat_lt, List, [], ◌∷◌, ◌++◌, length, Ok, Some}
+use Rattle.std.proofs.Common.{refl, ap, sym, ◌∙◌, append_assoc, arith}
 use Rattle.std.specs.Char.{is_ascii_digit}
 use Rattle.std.specs.List.{list_all, All}
 use Rattle.std.proofs.lemmas.Bool.Decides.{nat_tests}
@@ -143,9 +143,3 @@ edge-three text ahead rest later last end source target weight first after secon
     (edge_of-three first.read.digits second.read.digits third.read.digits source target (pos weight)
     (id_of-number text ahead source first) (id_of-number rest later target second)
     (weight_of-digits weight third.read.digits third.read.are_digits third.some third.read.writes third.read.is_small))
-
--- a line that was made of what was read is what a text reads
-pub plain_some : (text : List ℕ) (edge : Line) (result : Option Line) → IfSome result (λ line. line ≡ edge) → reading_of (words_of text) ≡ Ok (Some edge)
-    → IfSome result (λ line. reading_of (words_of text) ≡ Ok (Some line))
-plain_some text edge None made read = tt
-plain_some text edge (Some line) made read = rw made read

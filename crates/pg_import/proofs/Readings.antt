@@ -1,6 +1,6 @@
 -- Readings, one after another.
-use Rattle.std.proofs.Common.{◌≡◌, ℕ, ◌+◌, ◌<◌, List, [], map, length, drop, get_or, Result, Ok, Err, refl, ap}
-use Rattle.std.proofs.lemmas.List.{append-nil, at_drop_more}
+use Rattle.std.proofs.Common.{◌≡◌, ℕ, ◌+◌, List, [], ◌∷◌, map, Result, Ok, Err, refl, ap}
+use Rattle.std.proofs.lemmas.List.{append-nil}
 use Rattle.pg_import.specs.Import.{Reading, at_line, edges_from, followed_by}
 use Rattle.pg_import.specs.declared.line.ImportFault.{ImportFault}
 use Rattle.pg_import.specs.declared.line.Line.{Line}
@@ -9,13 +9,11 @@ pub followed_by-none : (meaning : Result (List Line) ImportFault) → followed_b
 followed_by-none (Ok lines) = refl
 followed_by-none (Err fault) = refl
 
--- the next reading of a list, and those after it
-pub edges_from-next : {X : Type 0} (f : X → Reading) (xs : List X) (x : X) (number i : ℕ) (lines : List Line) → i < length xs → x ≡ get_or xs i x
-    → followed_by lines (edges_from number (map f (drop i xs))) ≡ followed_by lines (at_line number (f x) (edges_from (number + 1) (map f (drop (i + 1) xs))))
+-- the first reading of a list, and those after it
+pub edges_from-first : {X : Type 0} (f : X → Reading) (xs : List X) (x : X) (others : List X) (number : ℕ) (lines : List Line) → xs ≡ x ∷ others
+    → followed_by lines (edges_from number (map f xs)) ≡ followed_by lines (at_line number (f x) (edges_from (number + 1) (map f others)))
 unfolding edges_from
-edges_from-next f xs x number i lines inside is =
-    let e = at_drop_more (λ ys. followed_by lines (edges_from number (map f ys))) xs i x inside in
-    rw (← is) at e
+edges_from-first f xs x others number lines are = rw are refl
 
 -- no reading is left
 pub edges_from-end : {X : Type 0} (f : X → Reading) (xs : List X) (number : ℕ) (lines : List Line) → xs ≡ []

@@ -1,19 +1,10 @@
--- The lines of a text, as `split_inclusive` gives them.
-use Rattle.std.proofs.Common.{◌≡◌, ℕ, ◌+◌, ◌<◌, ◌≤◌, ◌==◌, Bool, List, [], ◌∷◌, ◌++◌, length, take, drop, min, Option, MatchOption, Bor, refl, ap}
-use Rattle.std.proofs.Common.{sym, subst, ◌∙◌, arith, inl, inr, ⊎_elim}
-use denote.Param.Members.{Mut}
-use Rattle.std.specs.Fn.{CalledAt, ComputesKey}
+-- The lines of a text.
+use Rattle.std.proofs.Common.{◌≡◌, ℕ, ◌+◌, ◌<◌, ◌≤◌, ◌==◌, Bool, cond, ltb, List, [], ◌∷◌, length, take, drop, Option, Some, None, refl, ap, sym, ◌∙◌, arith, inl, inr}
 use Rattle.std.specs.Io.BufRead.{drop_through, take_through}
-use Rattle.std.specs.List.{IsFirstMatchOrLen, onto_first, position_or_len}
-use Rattle.std.specs.Slice.Iter.{split_inclusive_callee, split_inclusive_rest}
-use Rattle.std.specs.declared.slice.SplitInclusive.{SplitInclusive}
-use Rattle.std.proofs.lemmas.Bool.{cases_Bool, cases_lt}
-use Rattle.std.proofs.lemmas.Fn.{always_returns_same}
-use Rattle.std.proofs.lemmas.Grind.{common_steps}
-use Rattle.std.proofs.lemmas.Iterator.{YieldsList}
-use Rattle.std.proofs.lemmas.Iterator.Splits.{YieldsList-from_shown_while}
-use Rattle.std.proofs.lemmas.List.{get_or_past}
-use Rattle.std.proofs.lemmas.List.Sums.{position_or_len_is}
+use Rattle.std.specs.List.{onto_first, position_or_len}
+use Rattle.std.proofs.lemmas.Bool.{cases_Bool}
+use Rattle.std.proofs.lemmas.Bool.Decides.{nat_tests}
+use Rattle.std.proofs.lemmas.List.{drop_all, take_all}
 use Rattle.pg_import.specs.Text.{raw_lines}
 use Rattle.pg_import.proofs.TextWords.{drop-next, take-next}
 
@@ -45,21 +36,6 @@ drop_through-place (b ∷ rest) = elim (cases_Bool (is_line_feed b)) [
   | inr other ↦ rw (other, drop-next (1 + position_or_len is_line_feed rest) b rest) (drop_through-place rest)
 ]
 
--- a line that is cut off at a text's first line feed, or at its end
-pub raw_lines-cut : (line rest : List ℕ) (i : ℕ) → length line ≡ min (i + 1) (length (line ++ rest))
-    → IsFirstMatchOrLen is_line_feed (line ++ rest) i → 0 < length (line ++ rest)
-    → raw_lines (line ++ rest) ≡ line ∷ raw_lines rest
-raw_lines-cut line rest i size first more =
-    let text = line ++ rest in
-    let inside : i ≤ length text =
-    ⊎_elim (λ past. absurd (cc (rw (get_or_past text (length text) 10 (omega arith)) at (first.0 (length text) 10 (omega arith) past))))
-    (λ within. within) (cases_lt (length text) i) in
-    let place : position_or_len is_line_feed text ≡ i =
-    position_or_len_is is_line_feed text i 0 inside (λ k h. first.0 k 0 (omega arith) h) (λ h. first.1 h 0) in
-    let front : take (1 + i) text ≡ line = grind (arith, common_steps) in
-    let back : drop (1 + i) text ≡ rest = grind (arith, common_steps) in
-    rw (take_through-place text, drop_through-place text, place, front, back) at (raw_lines-through text more)
-
 length-onto_first : (b : ℕ) (lines : List (List ℕ)) → length (onto_first b lines) ≤ length lines + 1
 length-onto_first b [] = omega arith
 length-onto_first b (line ∷ lines) = omega arith
@@ -72,32 +48,46 @@ length-raw_lines (b ∷ rest) = elim (cases_Bool (is_line_feed b)) [
   | inr other ↦ rw other (omega (arith, length-raw_lines rest, length-onto_first b (raw_lines rest)))
 ]
 
--- one step of `split_inclusive`
-abbrev pub inclusive_steps : {F : Type 0} → Mut F (Bor ℕ × Unit {0}) Bool → SplitInclusive ℕ F → Option (Bor (List ℕ)) → SplitInclusive ℕ F → Type 0
-inclusive_steps g s r t = MatchOption r ((length (split_inclusive_rest s) ≡ 0) × (t ≡ s))
-    (λ x. (split_inclusive_rest s ≡ x.now ++ split_inclusive_rest t)
-    × ((i : ℕ) × (length x.now ≡ min (i + 1) (length (split_inclusive_rest s)))
-    × ((p : ℕ → Bool) → ComputesKey g p (split_inclusive_callee s)
-    → ComputesKey g p (split_inclusive_callee t) × IsFirstMatchOrLen p (split_inclusive_rest s) i))
-    × (0 < length (split_inclusive_rest s)))
+-- a text that isn't empty has a line
+pub raw_lines-some : (text : List ℕ) → 0 < length text → 0 < length (raw_lines text)
+raw_lines-some text more = rw (raw_lines-through text more) (omega arith)
 
-raw_lines-none : (text : List ℕ) → length text ≡ 0 → length (raw_lines text) ≡ 0
-raw_lines-none [] none = refl
-raw_lines-none (b ∷ rest) none = absurd (omega arith)
+-- and less comes after it
+pub through-shorter : (text : List ℕ) → 0 < length text → length (drop_through 10 text) < length text
+through-shorter [] more = absurd (omega arith)
+through-shorter (b ∷ []) more = elim (cases_Bool (is_line_feed b)) [ inl ends ↦ rw ends (omega arith) | inr other ↦ rw other (omega arith) ]
+through-shorter (b ∷ c ∷ rest) more = elim (cases_Bool (is_line_feed b)) [
+  | inl ends ↦ rw ends (omega arith)
+  | inr other ↦ rw other (omega (arith, through-shorter (c ∷ rest) (omega arith)))
+]
 
--- what `split_inclusive` at line feeds gives are the lines of the text
-pub YieldsList-from_split_inclusive : {F : Type 0} {s : SplitInclusive ℕ F} (g : Mut F (Bor ℕ × Unit {0}) Bool) {f : F} (text : List ℕ)
-    → split_inclusive_rest s ≡ text → split_inclusive_callee s ≡ f
-    → ((x : ℕ) (b : Bool) (q : F) → CalledAt g f x b q → (q ≡ f) × (b ≡ is_line_feed x)) → YieldsList (inclusive_steps g) (λ x. x.now) s (raw_lines text)
-YieldsList-from_split_inclusive {F} {s} g {f} text rest closure tests =
-    subst (YieldsList (inclusive_steps g) (λ x. x.now) s) (λ i. raw_lines (rest i))
-    (YieldsList-from_shown_while (inclusive_steps g) (λ x. x.now) (λ t. raw_lines (split_inclusive_rest t))
-    (λ t. ComputesKey g is_line_feed (split_inclusive_callee t))
-    (λ t u h k. raw_lines-none (split_inclusive_rest t) k.0)
-    (λ t x u h k.
-    let (cut, (i, size, matches), more) = k in
-    let first = matches is_line_feed h in
-    (first.0, ap raw_lines cut ∙ raw_lines-cut x.now (split_inclusive_rest u) i (rw cut at size) (rw cut at first.1) (rw cut at more)))
-    s (subst (ComputesKey g is_line_feed) (sym closure)
-    (always_returns_same g (λ a r. r ≡ is_line_feed a.0.now) f
-    (λ a r q k. let m = tests a.0.now r q (record { shown = a.0; shows = refl; called = k }) in (m.1, m.0)))))
+-- where the first line feed of a text was found, or that there is none
+module _ (text : List ℕ) (found : Option ℕ)
+    (is : found ≡ cond (ltb (position_or_len is_line_feed text) (length text)) (Some (position_or_len is_line_feed text)) None) where
+  pub feed_place : (place : ℕ) → found ≡ Some place → place ≡ position_or_len is_line_feed text
+  feed_place place here = elim (cases_Bool (ltb (position_or_len is_line_feed text) (length text))) [
+    | inl within ↦ grind (arith, rw within at is)
+    | inr past ↦ absurd (cc (rw past at is))
+  ]
+
+  pub no_feed_within : found ≡ None → length text ≤ position_or_len is_line_feed text
+  no_feed_within none = elim (cases_Bool (ltb (position_or_len is_line_feed text) (length text))) [
+    | inl within ↦ absurd (cc (rw within at is))
+    | inr past ↦ grind (arith, nat_tests)
+  ]
+
+-- so the line ends behind it
+pub line_through : (text : List ℕ) (place : ℕ) → place ≡ position_or_len is_line_feed text → take (place + 1) text ≡ take_through 10 text
+line_through text place is = let e : place + 1 ≡ 1 + position_or_len is_line_feed text = omega arith in rw e (sym (take_through-place text))
+
+pub rest_through : (text : List ℕ) (place : ℕ) → place ≡ position_or_len is_line_feed text → drop (place + 1) text ≡ drop_through 10 text
+rest_through text place is = let e : place + 1 ≡ 1 + position_or_len is_line_feed text = omega arith in rw e (sym (drop_through-place text))
+
+-- or is all of the text
+pub all_through : (text : List ℕ) → length text ≤ position_or_len is_line_feed text → take (length text) text ≡ take_through 10 text
+all_through text past =
+    take_all (length text) text (omega arith) ∙ sym (take_all (1 + position_or_len is_line_feed text) text (omega arith)) ∙ sym (take_through-place text)
+
+pub none_through : (text : List ℕ) → length text ≤ position_or_len is_line_feed text → drop (length text) text ≡ drop_through 10 text
+none_through text past =
+    drop_all (length text) text (omega arith) ∙ sym (drop_all (1 + position_or_len is_line_feed text) text (omega arith)) ∙ sym (drop_through-place text)

@@ -1,5 +1,5 @@
 -- What a list of edges means: its edges in order, or its first faulty line.
-use Rattle.std.specs.Prelude.{◌≡◌, ◌⊎◌, ℕ, pos, ◌+◌, Bool, false, ◌==◌, if◌then◌else◌, List, [], ◌∷◌, ◌++◌, map, Option, None, Some, Result, Ok, Err}
+use Rattle.std.specs.Prelude.{◌≡◌, ◌⊎◌, ℕ, pos, ◌+◌, ◌<◌, length, Bool, false, ◌==◌, if◌then◌else◌, List, [], ◌∷◌, ◌++◌, map, Option, None, Some, Result, Ok, Err}
 use Rattle.pg_import.specs.Number.{id_of, weight_of}
 use Rattle.pg_import.specs.Text.{line_of, raw_lines, words_of}
 use Rattle.pg_import.specs.declared.line.Line.{Line}
@@ -40,6 +40,13 @@ begins_with test (b ∷ rest) = test b
 unfoldable pub reading_of : List (List ℕ) → Reading
 reading_of [] = Ok None
 reading_of (word ∷ words) = if begins_with (λ b. b == 35) word then Ok None else (edge_of (word ∷ words) >>= λ line. Ok (Some line))
+
+-- the first line of a text says so, and this comes after it
+pub record ReadsLine (text : List ℕ) (reading : Reading) (rest : List ℕ) : Type 0 where
+  pub raw : List ℕ
+  pub lines : raw_lines text ≡ raw ∷ raw_lines rest
+  pub reads : reading ≡ reading_of (words_of (line_of raw))
+  pub shorter : length rest < length text
 
 -- these edges, and then those of a meaning
 abbrev pub followed_by : List Line → Result (List Line) ImportFault → Result (List Line) ImportFault

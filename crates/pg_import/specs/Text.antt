@@ -12,6 +12,11 @@ pub record IsAfterBlank (text rest : List ℕ) : Type 0 where
   pub whole : text ≡ byte ∷ rest
   pub blank : is_blank byte ≡ true
 
+-- a text is at its end, or is a line feed and what comes after it
+abbrev pub IsAfterLine : List ℕ → List ℕ → Type 0
+IsAfterLine [] rest = rest ≡ []
+IsAfterLine (b ∷ after) rest = (b ≡ 10) × (rest ≡ after)
+
 -- a text without the blanks and tabs that it begins with
 abbrev pub skip_blanks : List ℕ → List ℕ
 skip_blanks [] = []

@@ -1,13 +1,13 @@
 //! The list form: a line for each edge, with blanks and tabs between its fields.
-ghost use Rattle.std.specs.Prelude.{◌≡◌, ◌⊎◌, ◌∷◌, List, pos, Ok, Err, Some, Result, OnOk, IfErr, IfSome};
+ghost use Rattle.std.specs.Prelude.{◌≡◌, ◌⊎◌, ◌<◌, ◌∷◌, length, List, pos, Ok, Err, Some, Result, OnOk, IfErr, IfSome};
 ghost use Rattle.std.specs.Option.{option_copied, option_to_list};
-ghost use Rattle.pg_import.specs.Import.{Gives, at_line, edge_of, followed_by, list_of, no_memory, reading_of};
+ghost use Rattle.pg_import.specs.Import.{Gives, ReadsLine, at_line, edge_of, followed_by, list_of, no_memory, reading_of};
 ghost use Rattle.pg_import.specs.Text.{words_of};
 ghost use Rattle.pg_import.specs.declared.line.ImportFault.{ImportFault};
 ghost use Rattle.pg_import.specs.declared.line.Line.{Line};
 
 use crate::number::leading_number;
-use crate::text::after_blank;
+use crate::text::{after_blank, after_line, line_len};
 use crate::{ImportFault, ImportKind, Line, Words, bare_line, read_id, read_weight};
 use pg_graph::VertexId;
 use std::alloc::Global;
@@ -26,11 +26,54 @@ pub fn read_list(alloc: Global, text: &[u8]) -> Result<Vec<Line>, ImportFault>
         return Err(ImportFault::NO_MEMORY);
     };
     let mut number = 0;
-    for raw in text.split_inclusive(|byte| *byte == b'\n') {
+    let mut left = text;
+    while !left.is_empty() {
         number += 1;
-        add_reading(&mut lines, number, read_line(bare_line(raw)))?;
+        let (reading, rest) = first_line(left);
+        add_reading(&mut lines, number, reading)?;
+        left = rest;
     }
     Ok(lines)
+}
+
+// What the first line of a text says, and what comes after it.
+fn first_line(text: &[u8]) -> (Result<Option<Line>, ImportKind>, &[u8])
+    requires { 0 < length text.now }
+    ensures { ReadsLine text.now result.0 result.1.now }
+{
+    if let Some((edge, rest)) = plain_edge(text) {
+        return (Ok(Some(edge)), rest);
+    }
+    let (raw, rest) = text.split_at(line_len(text));
+    (read_line(bare_line(raw)), rest)
+}
+
+// The edge of a first line of plain numbers with single blanks between them, and what comes after it. None of other
+// lines, which may have one all the same.
+fn plain_edge(text: &[u8]) -> Option<(Line, &[u8])>
+    ensures { IfSome result (λ found. ReadsLine text.now (Ok (Some found.0)) found.1.now) }
+{
+    let (source, rest) = leading_number(text)?;
+    let (target, rest) = leading_number(after_blank(rest)?)?;
+    if let Some(rest) = after_line(rest) {
+        let line = plain_line(source, target, 1)?;
+        return Some((line, rest));
+    }
+    let (weight, rest) = leading_number(after_blank(rest)?)?;
+    let rest = after_line(rest)?;
+    let line = plain_line(source, target, weight)?;
+    Some((line, rest))
+}
+
+// The edge of these numbers.
+fn plain_line(source: u64, target: u64, weight: u64) -> Option<Line>
+    ensures { IfSome result (λ line. line ≡ record { source = source; target = target; weight = pos weight }) }
+{
+    Some(Line {
+        source: VertexId::new(source)?,
+        target: VertexId::new(target)?,
+        weight: 0i64.checked_add_unsigned(weight)?,
+    })
 }
 
 // What a line says, without its end.
@@ -38,9 +81,6 @@ pub fn read_list(alloc: Global, text: &[u8]) -> Result<Vec<Line>, ImportFault>
 fn read_line(line: &[u8]) -> Result<Option<Line>, ImportKind>
     ensures { result ≡ reading_of (words_of line.now) }
 {
-    if let Some(edge) = plain_edge(line) {
-        return Ok(Some(edge));
-    }
     let mut words = Words::new(line);
     let Some(source) = words.next() else {
         return Ok(None);
@@ -57,34 +97,6 @@ fn read_line(line: &[u8]) -> Result<Option<Line>, ImportKind>
     }
     let edge = read_edge(source, target, weight)?;
     Ok(Some(edge))
-}
-
-// The edge of a line of plain numbers with single blanks between them. None of other lines, which may
-// have one all the same.
-fn plain_edge(line: &[u8]) -> Option<Line>
-    ensures { IfSome result (λ edge. reading_of (words_of line.now) ≡ Ok (Some edge)) }
-{
-    let (source, rest) = leading_number(line)?;
-    let (target, rest) = leading_number(after_blank(rest)?)?;
-    if rest.is_empty() {
-        return plain_line(source, target, 1);
-    }
-    let (weight, rest) = leading_number(after_blank(rest)?)?;
-    if !rest.is_empty() {
-        return None;
-    }
-    plain_line(source, target, weight)
-}
-
-// The edge of these numbers.
-fn plain_line(source: u64, target: u64, weight: u64) -> Option<Line>
-    ensures { IfSome result (λ line. line ≡ record { source = source; target = target; weight = pos weight }) }
-{
-    Some(Line {
-        source: VertexId::new(source)?,
-        target: VertexId::new(target)?,
-        weight: 0i64.checked_add_unsigned(weight)?,
-    })
 }
 
 /// The edge that two or three fields write.

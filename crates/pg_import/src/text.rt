@@ -1,7 +1,8 @@
 //! Lines and words of a text.
-ghost use Rattle.std.specs.Prelude.{◌≡◌, ◌≤◌, length, IfSome};
+ghost use Rattle.std.specs.Prelude.{◌≡◌, ◌≤◌, length, take, drop, IfSome};
+ghost use Rattle.std.specs.Io.BufRead.{drop_through, take_through};
 ghost use Rattle.std.specs.List.{position_or_len};
-ghost use Rattle.pg_import.specs.Text.{IsAfterBlank, is_blank, line_of, skip_blanks};
+ghost use Rattle.pg_import.specs.Text.{IsAfterBlank, IsAfterLine, is_blank, line_of, skip_blanks};
 
 use std::marker::Model;
 
@@ -80,6 +81,29 @@ pub(crate) fn after_blank(text: &[u8]) -> Option<&[u8]>
     match text {
         [b' ' | b'\t', after @ ..] => Some(after),
         _ => None,
+    }
+}
+
+/// What comes after the line feed that a text begins with, or after the text's end.
+pub(crate) fn after_line(text: &[u8]) -> Option<&[u8]>
+    ensures { IfSome result (λ rest. IsAfterLine text.now rest.now) }
+{
+    match text {
+        [] => Some(text),
+        [b'\n', after @ ..] => Some(after),
+        _ => None,
+    }
+}
+
+/// How many bytes the first line of a text has, with its line feed.
+pub(crate) fn line_len(text: &[u8]) -> usize
+    ensures front { take result text.now ≡ take_through 10 text.now }
+    ensures rest { drop result text.now ≡ drop_through 10 text.now }
+    ensures bound { result ≤ length text.now }
+{
+    match text.iter().position(|byte| *byte == b'\n') {
+        Some(place) => place + 1,
+        None => text.len(),
     }
 }
 
