@@ -23,7 +23,10 @@ impl Order {
         let sources = source_ids(alloc, lines)?;
         let by_edge = reordered_by_id(alloc, sources.as_slice(), by_target.clone()?)?;
         let mut ranks = Ranks::new(alloc, lines.len())?;
-        ranks.add_all(lines, by_edge.as_slice(), by_target.as_slice())?;
+        ranks.add_all(
+            (sources.as_slice(), by_edge.as_slice()),
+            (targets.as_slice(), by_target.as_slice()),
+        )?;
         Ok(Order {
             by_target,
             by_edge,
@@ -94,43 +97,38 @@ impl Ranks {
         self.targets.get(place).copied().unwrap_or(0)
     }
 
-    /// Adds the ends of lines, whose places are given by rising source and by rising target.
+    /// Adds the ends of lines: the ids at one end with their places by rising id, and those at the other.
     fn add_all(
         &mut self,
-        lines: &[Line],
-        by_source: &[usize],
-        by_target: &[usize],
+        sources: (&[VertexId], &[usize]),
+        targets: (&[VertexId], &[usize]),
     ) -> Result<(), Memory> {
-        let mut targets = by_target;
-        for place in by_source {
-            if let Some(line) = lines.get(*place) {
-                targets = self.add_targets(lines, targets, line.source)?;
-                let rank = self.add(line.source)?;
+        let mut left = targets.1;
+        for place in sources.1 {
+            if let Some(id) = sources.0.get(*place) {
+                left = self.add_targets(targets.0, left, id.number())?;
+                let rank = self.add(*id)?;
                 set(self.sources.as_mut_slice(), *place, rank);
             }
         }
-        if let Some(greatest) = by_target.last() {
-            if let Some(line) = lines.get(*greatest) {
-                self.add_targets(lines, targets, line.target)?;
-            }
-        }
+        self.add_targets(targets.0, left, u64::MAX)?;
         Ok(())
     }
 
-    /// Adds the targets at these places that aren't above an id, and hands back the other places.
+    /// Adds the targets at these places whose numbers aren't above this one, and hands back the other places.
     fn add_targets<'a>(
         &mut self,
-        lines: &[Line],
+        ids: &[VertexId],
         places: &'a [usize],
-        last: VertexId,
+        last: u64,
     ) -> Result<&'a [usize], Memory> {
         for (count, place) in places.iter().enumerate() {
-            if let Some(line) = lines.get(*place) {
-                if line.target > last {
+            if let Some(id) = ids.get(*place).copied() {
+                if id.number() > last {
                     let (_, left) = places.split_at(count);
                     return Ok(left);
                 }
-                let rank = self.add(line.target)?;
+                let rank = self.add(id)?;
                 set(self.targets.as_mut_slice(), *place, rank);
             }
         }
@@ -139,10 +137,12 @@ impl Ranks {
 
     /// Adds a vertex, which is the last one or comes after it, and says where it stands.
     fn add(&mut self, id: VertexId) -> Result<usize, Memory> {
-        if self.vertices.last().copied() != Some((id, id)) {
-            self.vertices.push((id, id))?;
+        let vertices = self.vertices.len();
+        if vertices > 0 && self.vertices[vertices - 1].0 == id {
+            return Ok(vertices - 1);
         }
-        Ok(self.vertices.len().saturating_sub(1))
+        self.vertices.push((id, id))?;
+        Ok(vertices)
     }
 }
 
