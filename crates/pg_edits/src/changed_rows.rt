@@ -48,17 +48,17 @@ impl Model for ChangedRows {
 }
 
 impl ChangedRows {
-    /// None yet. Whether the edges of rows are gathered in common lists is told by `gathers`: such a list
-    /// stays until none of its rows is left, so that is for changes after which rows are laid anew.
-    pub fn new(alloc: Global, gathers: bool) -> ChangedRows
-        ensures { result ≡ [] }
+    /// None yet, with room for so many. Whether the edges of rows are gathered in common lists is told by `gathers`: such
+    /// a list stays until none of its rows is left, so that is for changes after which rows are laid anew.
+    pub fn new(alloc: Global, rows: usize, gathers: bool) -> Result<ChangedRows, Memory>
+        ensures { IfOk result (λ changed. changed ≡ []) }
     {
-        ChangedRows {
+        Ok(ChangedRows {
             gathers,
-            done: Vec::new(alloc),
+            done: Vec::with_capacity(alloc, rows)?,
             waiting: Vec::new(alloc),
             edges: Vec::new(alloc),
-        }
+        })
     }
 
     /// Adds what becomes of a vertex.

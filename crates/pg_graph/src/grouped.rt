@@ -89,7 +89,8 @@ fn dealt_with(
     requires edits_rise { RiseBySource edits.now }
     ensures { IfOk result (λ made. MatchResult made (AreCounted graph.now edits.now) (IsFirst graph.now edits.now)) }
 {
-    let mut rows = ChangedRows::new(alloc, is_many(vertices_of(edits), graph.vertices()));
+    let vertices = vertices_of(edits);
+    let mut rows = ChangedRows::new(alloc, vertices, is_many(vertices, graph.vertices()))?;
     let mut finder = graph.finder();
     let mut edges = graph.edges();
     let mut fault = None;

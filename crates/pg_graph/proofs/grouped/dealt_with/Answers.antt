@@ -12,8 +12,8 @@ use Rattle.pg_graph.proofs.grouped.dealt_with.Goals as goal
 pub loop-first-init : goal.loop-first-init
 loop-first-init c = record {
   found = c.finder-finder.ensures;
-  dealt = none_dealt c.args.graph.now c.args.edits.now _ c.new-rows.ensures (no_changes _ c.new-rows.ensures) c.requires.edits_rise;
-  counted = c.edges-edges.ensures.value ∙ ap (λ l. edge_count (with_changes l c.args.graph.now)) (sym c.new-rows.ensures);
+  dealt = none_dealt c.args.graph.now c.args.edits.now _ c.in_ok-rows.ensures (no_changes _ c.in_ok-rows.ensures) c.requires.edits_rise;
+  counted = c.edges-edges.ensures.value ∙ ap (λ l. edge_count (with_changes l c.args.graph.now)) (sym c.in_ok-rows.ensures);
 }
 
 pub edges_with-requires : goal.edges_with-requires
