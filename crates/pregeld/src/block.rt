@@ -9,6 +9,7 @@ ghost use Rattle.pregeld.specs.Reading.{AreWholeLines, TakesLines, lines_left};
 ghost use Rattle.pregeld.specs.declared.block.Block.TheVariants.{Whole};
 
 use crate::ServeFault;
+use memchr::memchr_iter;
 use std::alloc::Global;
 use std::io::{self, BufRead};
 
@@ -119,17 +120,18 @@ fn whole_lines(count: u32, text: &[u8]) -> Front
     ensures lines { AreWholeLines result.lines (take result.bytes text.now) }
     ensures most { result.lines ≡ min count (count_by (λ byte. byte == 10) text.now) }
 {
-    let (mut bytes, mut lines) = (0, 0);
-    for (at, byte) in text.iter().enumerate() {
-        if *byte == b'\n' {
-            if lines == count {
-                break;
-            }
-            bytes = at + 1;
-            lines += 1;
-        }
+    let mut feeds = memchr_iter(b'\n', text);
+    let mut bytes = 0;
+    for lines in 0..count {
+        let Some(at) = feeds.next() else {
+            return Front { bytes, lines };
+        };
+        bytes = at + 1;
     }
-    Front { bytes, lines }
+    Front {
+        bytes,
+        lines: count,
+    }
 }
 
 /// Reads one line onto a text. Where there is no memory for it, its rest is set aside.

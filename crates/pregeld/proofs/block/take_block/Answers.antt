@@ -1,4 +1,4 @@
-use Rattle.std.proofs.Common.{◌+◌, ◌<◌, drop, subst, arith}
+use Rattle.std.proofs.Common.{◌<◌, ◌+◌, drop, subst, arith}
 use Rattle.std.proofs.lemmas.Result.{IfOk-weaker}
 use Rattle.pregeld.specs.Reading.{TakesLines, lines_left}
 use Rattle.pregeld.proofs.Blocks.{fewer_lines, more_taken, rest_skipped}
