@@ -3,17 +3,19 @@ use Rattle.std.proofs.Common.{◌≡◌, ◌≢◌, ℕ, ◌+◌, ◌-◌, ◌<�
 use Rattle.std.proofs.Common.{ap, sym, subst, ◌∙◌, append-nil, append_assoc, true, false, arith}
 use Rattle.std.specs.Io.{StopsAt}
 use Rattle.std.specs.Io.BufRead.{DropsThrough, drop_through, take_through}
+use Rattle.std.specs.Io.KnownBytes.{Consumes}
 use Rattle.std.specs.List.{concat}
-use Rattle.std.proofs.Math.Seq.{take-add}
+use Rattle.std.proofs.Math.Seq.{take-add, take-append_seam, drop-append_seam}
 use Rattle.std.proofs.lemmas.Grind.{common_steps}
 use Rattle.std.proofs.lemmas.List.{drop-drop}
 use Rattle.pg_import.specs.Text.{raw_lines}
-use Rattle.pregeld.specs.Reading.{SkipsLine, SkipsLines, TakesLines, lines_left}
+use Rattle.pregeld.specs.Reading.{AreWholeLines, SkipsLine, SkipsLines, TakesLines, lines_left}
 use Rattle.pregeld.specs.declared.block.Block.{Block}
 use Rattle.pregeld.specs.declared.block.Block.TheVariants.{Whole, CutShort, NoMemory}
 use Rattle.std.proofs.BufReadLemmas.{take_through_nonempty}
 use Rattle.pg_import.proofs.TextLines.{raw_lines-through}
 use Rattle.pregeld.proofs.FirstLines.{past_feed, past_no_feed}
+use Rattle.pregeld.proofs.WholeLines.{concat_raw_lines, raw_lines-append}
 
 same_lines : (text : List ℕ) (lines : List (List ℕ)) → lines_left (Some text) ≡ Some lines → raw_lines text ≡ lines
 same_lines text lines e = cc
@@ -50,6 +52,16 @@ take_of_read (Some text) left lines old new n there read gone size some =
     by_size : 0 < length (take_through 10 text)
     by_size = omega (arith, sizes, some)
 
+-- ---- whole lines that the reader holds
+
+pub take_of_held : (known left : Option (List ℕ)) (lines : List (List ℕ)) (old new front : List ℕ) (n : ℕ) → lines_left known ≡ Some lines
+    → Consumes known left front → AreWholeLines n front → new ≡ old ++ front → TakesLines n Whole lines old new (lines_left left)
+take_of_held None left lines old new front n there gone whole onto = absurd cc
+take_of_held (Some text) None lines old new front n there gone whole onto = absurd gone
+take_of_held (Some text) (Some rest) lines old new front n there gone whole onto =
+    let parted : lines ≡ raw_lines front ++ raw_lines rest = sym (same_lines text lines there) ∙ (ap raw_lines gone ∙ raw_lines-append front rest whole.1) in
+    rw (parted, sym whole.0, take-append_seam, drop-append_seam, concat_raw_lines) (grind (arith, common_steps), onto, refl)
+
 -- ---- lines after lines
 
 concat-append : (xs ys : List (List ℕ)) → concat (xs ++ ys) ≡ concat xs ++ concat ys
@@ -62,16 +74,16 @@ take_later n m lines = take-add n m lines
 drop_later : (n m : ℕ) (lines : List (List ℕ)) → drop m (drop n lines) ≡ drop (n + m) lines
 drop_later n m lines = drop-drop m n lines
 
-pub one_more_taken : (n : ℕ) (lines : List (List ℕ)) (old mid new : List ℕ) (left : Option (List (List ℕ))) → n ≤ length lines → mid
+pub more_taken : (n m : ℕ) (lines : List (List ℕ)) (old mid new : List ℕ) (left : Option (List (List ℕ))) → n ≤ length lines → mid
     ≡ old ++ concat (take n lines)
-    → TakesLines 1 Whole (drop n lines) mid new left → TakesLines (n + 1) Whole lines old new left
-one_more_taken n lines old mid new left within mid_is taken =
-    let more : n + 1 ≤ length lines = grind (arith, common_steps, taken.0) in
-    let text : new ≡ old ++ concat (take (n + 1) lines) =
-    taken.1 ∙ (ap (λ t. t ++ concat (take 1 (drop n lines))) mid_is
-    ∙ (append_assoc old (concat (take n lines)) (concat (take 1 (drop n lines)))
-    ∙ ap (λ t. old ++ t) (sym (ap concat (take_later n 1 lines) ∙ concat-append (take n lines) (take 1 (drop n lines)))))) in
-    (more, text, taken.2 ∙ ap Some (drop_later n 1 lines))
+    → TakesLines m Whole (drop n lines) mid new left → TakesLines (n + m) Whole lines old new left
+more_taken n m lines old mid new left within mid_is taken =
+    let more : n + m ≤ length lines = grind (arith, common_steps, taken.0) in
+    let text : new ≡ old ++ concat (take (n + m) lines) =
+    taken.1 ∙ (ap (λ t. t ++ concat (take m (drop n lines))) mid_is
+    ∙ (append_assoc old (concat (take n lines)) (concat (take m (drop n lines)))
+    ∙ ap (λ t. old ++ t) (sym (ap concat (take_later n m lines) ∙ concat-append (take n lines) (take m (drop n lines)))))) in
+    (more, text, taken.2 ∙ ap Some (drop_later n m lines))
 
 pub fewer_lines : (n count : ℕ) (lines : List (List ℕ)) (left : Option (List (List ℕ))) → n < count → length (drop n lines) < 1 → left ≡ Some []
     → (length lines < count) × (left ≡ Some [])

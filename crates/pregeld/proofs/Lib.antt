@@ -6,4 +6,5 @@ pub mod Pending
 pub mod ReadyRuns
 pub mod Serving
 pub mod SessionRows
+pub mod WholeLines
 pub mod Written

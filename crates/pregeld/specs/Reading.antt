@@ -2,6 +2,7 @@
 use Rattle.std.specs.Prelude.{◌≡◌, ℕ, Bool, true, false, ◌<◌, ◌≤◌, List, [], ◌∷◌, ◌++◌}
 use Rattle.std.specs.Prelude.{length, take, drop, Option, None, Some, option_map}
 use Rattle.std.specs.List.{concat}
+use Rattle.std.specs.Io.{IsEmptyOrEndsWith}
 use Rattle.std.specs.Io.BufRead.{drop_through}
 use Rattle.pg_import.specs.Text.{raw_lines}
 use Rattle.pregeld.specs.declared.block.Block.{Block}
@@ -14,6 +15,10 @@ lines_left known = option_map raw_lines known
 -- where the lines of a reader are known, this holds of them
 abbrev pub IfLines : Option (List ℕ) → (List (List ℕ) → Type 0) → Type 0
 IfLines known P = (lines : List (List ℕ)) → lines_left known ≡ Some lines → P lines
+
+-- a text is so many lines, each with its line feed
+abbrev pub AreWholeLines : ℕ → List ℕ → Type 0
+AreWholeLines n text = (length (raw_lines text) ≡ n) × IsEmptyOrEndsWith text 10
 
 -- so many lines were taken: onto a text, or set aside for want of memory, or there were fewer
 abbrev pub TakesLines :

@@ -1,12 +1,15 @@
 //! Lines of the input.
-ghost use Rattle.std.specs.Prelude.{◌≡◌, ◌≢◌, ◌++◌, ◌-◌, List, ℕ, Some, length, slice_get};
+ghost use Rattle.std.specs.Prelude.{◌≡◌, ◌≢◌, ◌==◌, ◌≤◌, ◌++◌, ◌-◌, List, ℕ, Some, length, min, slice_get, take};
 ghost use Rattle.std.specs.Prelude.{option_map, IfOk, IfErr, MatchBool};
 ghost use Rattle.std.specs.Io.{StopsAt};
+ghost use Rattle.std.specs.List.{count_by};
 ghost use Rattle.pg_import.specs.Text.{raw_lines};
 ghost use Rattle.pregeld.specs.Reading.{IfLines, NextLine, SkipsLine, SkipsLines};
-ghost use Rattle.pregeld.specs.Reading.{TakesLines, lines_left};
+ghost use Rattle.pregeld.specs.Reading.{AreWholeLines, TakesLines, lines_left};
+ghost use Rattle.pregeld.specs.declared.block.Block.TheVariants.{Whole};
 
 use crate::ServeFault;
+use memchr::memchr_iter;
 use std::alloc::Global;
 use std::io::{self, BufRead};
 
@@ -19,6 +22,13 @@ pub(crate) enum Block {
     CutShort,
     /// They were read, and there is no memory for them.
     NoMemory,
+}
+
+/// The whole lines at the front of a text.
+#[derive(Clone, Copy)]
+struct Front {
+    bytes: usize,
+    lines: u32,
 }
 
 /// The next line of the input, with its line feed, or none at the end.
@@ -58,14 +68,70 @@ pub(crate) fn take_block<R: BufRead>(
         (lines_left (R.remaining reader.new)))) }
     ensures err { IfErr result (λ fault. fault ≢ ServeFault.Write) }
 {
-    for taken in 0..count {
-        match take_line(reader, text)? {
-            Block::Whole => {}
-            Block::CutShort => return Ok(Block::CutShort),
-            Block::NoMemory => return skip_lines(count - taken - 1, reader),
+    let mut taken = 0;
+    while taken < count {
+        let held = take_held(count - taken, reader, text)?;
+        taken += held;
+        if held == 0 {
+            match take_line(reader, text)? {
+                Block::Whole => taken += 1,
+                Block::CutShort => return Ok(Block::CutShort),
+                Block::NoMemory => return skip_lines(count - taken - 1, reader),
+            }
         }
     }
     Ok(Block::Whole)
+}
+
+/// Takes whole lines that the reader holds onto a text, at most so many, and says how many. It
+/// takes none where it holds no whole line, or where there is no memory for them.
+///
+/// # Errors
+///
+/// A reader that fails.
+fn take_held<R: BufRead>(count: u32, reader: &mut R, text: &mut Vec<u8>) -> Result<u32, ServeFault>
+    ensures within { IfOk result (λ taken. taken ≤ count) }
+    ensures lines { IfOk result (λ taken. IfLines (R.remaining reader.old) (λ lines.
+        TakesLines taken Whole lines text.old.items text.new.items
+        (lines_left (R.remaining reader.new)))) }
+    ensures err { IfErr result (λ fault. fault ≢ ServeFault.Write) }
+{
+    let held = match reader.fill_buf() {
+        Ok(held) => held,
+        Err(error) => {
+            // For these the line is tried alone.
+            return match error.kind() {
+                io::ErrorKind::Interrupted | io::ErrorKind::OutOfMemory => Ok(0),
+                _ => Err(ServeFault::Read),
+            };
+        }
+    };
+    let front = whole_lines(count, held);
+    if text.extend_from_slice(&held[..front.bytes]).is_err() {
+        return Ok(0);
+    }
+    reader.consume(front.bytes);
+    Ok(front.lines)
+}
+
+/// The whole lines that a text begins with, at most so many.
+fn whole_lines(count: u32, text: &[u8]) -> Front
+    ensures bound { result.bytes ≤ length text.now }
+    ensures lines { AreWholeLines result.lines (take result.bytes text.now) }
+    ensures most { result.lines ≡ min count (count_by (λ byte. byte == 10) text.now) }
+{
+    let mut feeds = memchr_iter(b'\n', text);
+    let mut bytes = 0;
+    for lines in 0..count {
+        let Some(at) = feeds.next() else {
+            return Front { bytes, lines };
+        };
+        bytes = at + 1;
+    }
+    Front {
+        bytes,
+        lines: count,
+    }
 }
 
 /// Reads one line onto a text. Where there is no memory for it, its rest is set aside.
