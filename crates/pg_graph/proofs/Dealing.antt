@@ -277,17 +277,6 @@ module _ (rows : Rows) (all left : Places) (changes : Changes) (empty : left ≡
       by q (Ok x) told = ap (λ o. Ok (unwrap_or o (row_at q rows))) (sym told)
       by q (Err f) told = absurd told
 
-  pub first_of_all : (fault : EditFault) → AreDealt rows all left changes (Some fault) → IsFirst rows all fault
-  first_of_all fault dealt = record {
-    vertex = dealt.found.0;
-    there = dealt.found.1;
-    first = λ q other why. ⊎_elim
-        (λ (l : IsLeft q all left changes). absurd (Ok_not_Err (sym (untouched q l.edits) ∙ why)))
-        (λ (d : IsDone rows q all left changes (Some fault)). let told =
-        subst (λ r. MatchResult r (λ x. value_at q changes ≡ Some x) (IsNoLater (Some fault))) why d.told in told)
-        (dealt.seen q);
-  }
-
 -- ---- what is made of the vertices is made of the graph
 
 Ok_same : {X E : Type 0} {x y : X} → ◌≡◌ {A = Result X E} (Ok x) (Ok y) → x ≡ y

@@ -12,8 +12,9 @@ use std::marker::Model;
 /// How many entries are passed one by one before a search among all of a chunk.
 const STEPS: usize = 16;
 
-/// Looks up ids in a map. Where no id is missing between the first of a chunk and this one, it costs a step; where an id
-/// lies a few entries after the one before, a step for each; and elsewhere in the same chunk a search in that one alone.
+/// Looks up ids in a map. Where no id is missing between the first of a chunk and this one, or none is as high, it costs a
+/// step; where an id lies a few entries after the one before, a step for each; and elsewhere in the same chunk a search in
+/// that one alone.
 /// A contract sees the entries of the map.
 #[derive(Drop)]
 pub struct Finder<'a, V> {
