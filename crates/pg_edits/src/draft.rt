@@ -24,11 +24,11 @@ impl DraftEdges {
     ghost use Rattle.pg_edits.specs.DraftRow.{edges_in};
 
     /// Puts the edge to `target` in the place of the one that was there, and says whether there was one. A list that is
-    /// made has room for so many edges more.
+    /// made is made for so many edits.
     fn put(
         &mut self,
         alloc: Global,
-        room: usize,
+        edits: usize,
         target: VertexId,
         weight: i64,
     ) -> Result<bool, Memory>
@@ -39,7 +39,7 @@ impl DraftEdges {
     {
         match self {
             DraftEdges::Kept(edges) => {
-                let mut listed = ListedEdges::of(alloc, edges.as_slice(), room)?;
+                let mut listed = ListedEdges::of(alloc, edges.as_slice(), edits)?;
                 let there = listed.put(target, weight)?;
                 *self = DraftEdges::Listed(listed);
                 Ok(there)
@@ -57,8 +57,8 @@ impl DraftEdges {
         }
     }
 
-    /// Removes the edge to `target`, and says whether there was one. A list that is made has room for so many edges more.
-    fn remove(&mut self, alloc: Global, room: usize, target: VertexId) -> Result<bool, Memory>
+    /// Removes the edge to `target`, and says whether there was one. A list that is made is made for so many edits.
+    fn remove(&mut self, alloc: Global, edits: usize, target: VertexId) -> Result<bool, Memory>
         ensures value { OnOk result (edges_in self.new ≡ without_edge target (edges_in self.old)) }
         ensures was_there { IfOk result (λ there. there ≡ is_some (weight_at target (edges_in self.old))) }
         ensures degree { IfOk result
@@ -66,7 +66,7 @@ impl DraftEdges {
     {
         match self {
             DraftEdges::Kept(edges) => {
-                let mut listed = ListedEdges::of(alloc, edges.as_slice(), room)?;
+                let mut listed = ListedEdges::of(alloc, edges.as_slice(), edits)?;
                 let there = listed.remove(target);
                 *self = DraftEdges::Listed(listed);
                 Ok(there)
@@ -90,8 +90,8 @@ impl DraftEdges {
 pub struct DraftRow {
     input: i64,
     edges: DraftEdges,
-    // How many edges more the list of its edges has room for, once it is made.
-    room: usize,
+    // How many edits a list of its edges is made for.
+    edits: usize,
 }
 
 // By hand, so that it is let go by one call wherever that is, and not field by field.
@@ -100,7 +100,7 @@ impl Drop for DraftRow {
         let DraftRow {
             input: _,
             edges: _,
-            room: _,
+            edits: _,
         } = self;
     }
 }
@@ -116,18 +116,19 @@ impl Model for DraftRow {
 }
 
 impl DraftRow {
-    /// A row with this input and no edges, for so many edits: it gets room for as many edges at the first.
+    /// A row with this input and no edges, for so many edits: it has room for the edges of the first ones once it has one.
     pub fn new(input: i64, edits: usize) -> DraftRow
         ensures { result ≡ record { input = input; edges = [] } }
     {
         DraftRow {
             input,
             edges: DraftEdges::Kept(Edges::new()),
-            room: edits,
+            edits,
         }
     }
 
-    /// A row of a graph, for so many edits: it shares its edges until one is edited, and gets room for as many more then.
+    /// A row of a graph, for so many edits: it shares its edges until one is edited, and has room then for those of the first
+    /// edits.
     pub fn of(row: &Row, edits: usize) -> Result<DraftRow, Memory>
         ensures { IfOk result (λ draft. draft ≡ row.now) }
     {
@@ -135,7 +136,7 @@ impl DraftRow {
         Ok(DraftRow {
             input: row.input,
             edges: DraftEdges::Kept(edges),
-            room: edits,
+            edits,
         })
     }
 
@@ -191,7 +192,7 @@ impl DraftRow {
         ensures degree { IfOk result
             (λ there. length self.new.edges + (if there then 1 else 0) ≡ length self.old.edges + 1) }
     {
-        self.edges.put(alloc, self.room, target, weight)
+        self.edges.put(alloc, self.edits, target, weight)
     }
 
     /// Removes the edge to `target`, and says whether there was one.
@@ -205,7 +206,7 @@ impl DraftRow {
         ensures degree { IfOk result
             (λ there. length self.new.edges + (if there then 1 else 0) ≡ length self.old.edges) }
     {
-        self.edges.remove(alloc, self.room, target)
+        self.edges.remove(alloc, self.edits, target)
     }
 
     /// The row as a graph holds it.
@@ -215,7 +216,7 @@ impl DraftRow {
         let DraftRow {
             input,
             edges,
-            room: _,
+            edits: _,
         } = self;
         let edges = match edges {
             DraftEdges::Kept(edges) => edges,

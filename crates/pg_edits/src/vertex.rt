@@ -32,8 +32,8 @@ pub fn vertex_after(
     Ok(Ok(draft))
 }
 
-/// What one edit makes of a row, or of none. Where it has no result, the inner result says why. A new row is made for so
-/// many edits.
+/// What one edit makes of a row, or of none. Where it has no result, the inner result says why. A new row is made
+/// for so many edits.
 fn vertex_edited(
     alloc: Global,
     row: Option<DraftRow>,

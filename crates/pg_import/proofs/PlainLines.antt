@@ -1,6 +1,6 @@
 -- A first line of plain numbers, with its end.
 use Rattle.std.proofs.Common.{◌≡◌, ℕ, pos, ◌-◌, ◌<◌, ◌==◌, ◌||◌, Bool, true, false, zero, suc, nat_eq, List, [], ◌∷◌, ◌++◌, length, drop}
-use Rattle.std.proofs.Common.{Ok, Some, refl, sym, ◌∙◌, append_assoc, arith}
+use Rattle.std.proofs.Common.{Ok, Some, not, ⊎_elim, ap, refl, sym, ◌∙◌, append_assoc, arith}
 use Rattle.std.specs.Char.{is_ascii_digit}
 use Rattle.std.specs.List.{list_all}
 use lib.Pointwise.{pointwise}
@@ -19,8 +19,21 @@ use Rattle.pg_import.proofs.Plain.{edge-two, edge-three}
 abbrev is_plain : ℕ → Bool
 is_plain b = is_ascii_digit b || is_blank b
 
-no_feed : (b : ℕ) → is_plain b ≡ true → (b == 10) ≡ false
-no_feed b plain = grind (arith, nat_tests)
+-- no line feed
+abbrev is_other : ℕ → Bool
+is_other b = not (b == 10)
+
+other_than_feed : (b : ℕ) → is_other b ≡ true → (b == 10) ≡ false
+other_than_feed b other = grind (arith, nat_tests)
+
+plain_is_other : (b : ℕ) → is_plain b ≡ true → is_other b ≡ true
+plain_is_other b plain = grind (arith, nat_tests)
+
+plain_are_other : (line : List ℕ) → list_all is_plain line ≡ true → list_all is_other line ≡ true
+plain_are_other [] all = refl
+plain_are_other (b ∷ line) all =
+    let parts = and_parts (is_plain b) (list_all is_plain line) all in
+    rw (plain_is_other b parts.0, plain_are_other line parts.1) refl
 
 feed_differs : (b : ℕ) → is_plain b ≡ true → nat_eq 10 b ≡ false
 feed_differs b plain = grind (arith, nat_tests)
@@ -46,21 +59,21 @@ number_is_plain : (digits rest : List ℕ) (b : ℕ) → list_all is_ascii_digit
 number_is_plain digits rest b all blank plain =
     rw (list_all-append, digits_are_plain digits all, blank_is_plain b blank, plain) refl
 
--- a plain line before a line feed is the first of a text
-raw_lines-plain : (line rest : List ℕ) → list_all is_plain line ≡ true → raw_lines (line ++ 10 ∷ rest) ≡ (line ++ 10 ∷ []) ∷ raw_lines rest
-raw_lines-plain [] rest all = refl
-raw_lines-plain (b ∷ line) rest all =
-    let parts = and_parts (is_plain b) (list_all is_plain line) all in
-    rw (no_feed b parts.0, raw_lines-plain line rest parts.1) refl
+-- what comes before a line feed is the first line of a text
+raw_lines-ended : (line rest : List ℕ) → list_all is_other line ≡ true → raw_lines (line ++ 10 ∷ rest) ≡ (line ++ 10 ∷ []) ∷ raw_lines rest
+raw_lines-ended [] rest all = refl
+raw_lines-ended (b ∷ line) rest all =
+    let parts = and_parts (is_other b) (list_all is_other line) all in
+    rw (other_than_feed b parts.0, raw_lines-ended line rest parts.1) refl
 
--- and one at the end of a text is its only one
-raw_lines-last : (b : ℕ) (line : List ℕ) → list_all is_plain (b ∷ line) ≡ true → raw_lines (b ∷ line) ≡ (b ∷ line) ∷ []
+-- and at the end of a text its only one
+raw_lines-last : (b : ℕ) (line : List ℕ) → list_all is_other (b ∷ line) ≡ true → raw_lines (b ∷ line) ≡ (b ∷ line) ∷ []
 raw_lines-last b [] all =
-    let parts = and_parts (is_plain b) true all in
-    rw (no_feed b parts.0) refl
+    let parts = and_parts (is_other b) true all in
+    rw (other_than_feed b parts.0) refl
 raw_lines-last b (c ∷ line) all =
-    let parts = and_parts (is_plain b) (list_all is_plain (c ∷ line)) all in
-    rw (no_feed b parts.0, raw_lines-last c line parts.1) refl
+    let parts = and_parts (is_other b) (list_all is_other (c ∷ line)) all in
+    rw (other_than_feed b parts.0, raw_lines-last c line parts.1) refl
 
 -- it ends in no byte that no plain one is
 last_differs : (b n : ℕ) (line : List ℕ) → ((c : ℕ) → is_plain c ≡ true → nat_eq b c ≡ false) → list_all is_plain line ≡ true
@@ -81,30 +94,55 @@ nothing_stripped b line differs all = rw (last_differs b (length line - 1) line 
 line_of-plain : (line : List ℕ) → list_all is_plain line ≡ true → line_of line ≡ line
 line_of-plain line all = rw (nothing_stripped 10 line feed_differs all) (nothing_stripped 13 line return_differs all)
 
-feed_stripped : (line : List ℕ) → strip_last 10 (line ++ 10 ∷ []) ≡ line
-feed_stripped line =
-    let size : length (line ++ 10 ∷ []) - 1 ≡ length line = omega (arith, length-append line (10 ∷ [])) in
-    rw (size, drop-append_seam line (10 ∷ []), take-append_seam line (10 ∷ [])) refl
+last_stripped : (b : ℕ) (line : List ℕ) → nat_eq b b ≡ true → strip_last b (line ++ b ∷ []) ≡ line
+last_stripped b line same =
+    let size : length (line ++ b ∷ []) - 1 ≡ length line = omega (arith, length-append line (b ∷ [])) in
+    rw (size, drop-append_seam line (b ∷ []), take-append_seam line (b ∷ []), same) refl
 
 line_of-ended : (line : List ℕ) → list_all is_plain line ≡ true → line_of (line ++ 10 ∷ []) ≡ line
-line_of-ended line all = rw (feed_stripped line) (nothing_stripped 13 line return_differs all)
+line_of-ended line all = rw (last_stripped 10 line refl) (nothing_stripped 13 line return_differs all)
+
+line_of-returned : (line : List ℕ) → line_of ((line ++ 13 ∷ []) ++ 10 ∷ []) ≡ line
+line_of-returned line = rw (last_stripped 10 (line ++ 13 ∷ []) refl) (last_stripped 13 line refl)
 
 -- a plain line is the first of a text, and reads as it does by itself
-reads : (text line after rest : List ℕ) (edge : Line) → text ≡ line ++ after → IsAfterLine after rest → list_all is_plain line ≡ true
-    → 0 < length line → reading_of (words_of line) ≡ Ok (Some edge) → ReadsLine text (Ok (Some edge)) rest
-reads text [] after rest edge whole end all some says = absurd (omega (arith, some))
-reads text (b ∷ line) [] rest edge whole end all some says = record {
-  raw = b ∷ line;
-  lines = rw (whole ∙ append-nil (b ∷ line), end) (raw_lines-last b line all);
-  reads = rw (line_of-plain (b ∷ line) all) (sym says);
-  shorter = rw (whole ∙ append-nil (b ∷ line), end) (omega (arith, some));
-}
-reads text (b ∷ line) (c ∷ after) rest edge whole end all some says = record {
-  raw = (b ∷ line) ++ 10 ∷ [];
-  lines = rw (whole, end.0, end.1) (raw_lines-plain (b ∷ line) after all);
-  reads = rw (line_of-ended (b ∷ line) all) (sym says);
-  shorter = rw (whole, end.1) (omega (arith, length-append (b ∷ line) (c ∷ after)));
-}
+module _ (text line after rest : List ℕ) (edge : Line) (whole : text ≡ line ++ after) (all : list_all is_plain line ≡ true)
+    (some : 0 < length line) (says : reading_of (words_of line) ≡ Ok (Some edge)) where
+  at_end : after ≡ [] → rest ≡ [] → (b : ℕ) (others : List ℕ) → line ≡ b ∷ others → ReadsLine text (Ok (Some edge)) rest
+  at_end none left b others is =
+      let same : text ≡ b ∷ others = whole ∙ rw none (append-nil line) ∙ is in
+      record {
+        raw = b ∷ others;
+        lines = rw (same, left) (raw_lines-last b others (plain_are_other (b ∷ others) (rw is at all)));
+        reads = rw (line_of-plain (b ∷ others) (rw is at all)) (sym (rw is at says));
+        shorter = rw (same, left) (omega arith);
+      }
+
+  at_feed : after ≡ 10 ∷ rest → ReadsLine text (Ok (Some edge)) rest
+  at_feed is = record {
+    raw = line ++ 10 ∷ [];
+    lines = rw (whole, is) (raw_lines-ended line rest (plain_are_other line all));
+    reads = rw (line_of-ended line all) (sym says);
+    shorter = rw (whole, is) (omega (arith, length-append line (10 ∷ rest)));
+  }
+
+  at_return : after ≡ 13 ∷ 10 ∷ rest → ReadsLine text (Ok (Some edge)) rest
+  at_return is =
+      let cut : text ≡ (line ++ 13 ∷ []) ++ 10 ∷ rest = whole ∙ rw is (sym (append_assoc line (13 ∷ []) (10 ∷ rest))) in
+      let others : list_all is_other (line ++ 13 ∷ []) ≡ true = rw (list_all-append, plain_are_other line all) refl in
+      record {
+        raw = (line ++ 13 ∷ []) ++ 10 ∷ [];
+        lines = rw cut (raw_lines-ended (line ++ 13 ∷ []) rest others);
+        reads = rw (line_of-returned line) (sym says);
+        shorter = rw (whole, is) (omega (arith, length-append line (13 ∷ 10 ∷ rest)));
+      }
+
+  some_line : (xs : List ℕ) → line ≡ xs → after ≡ [] → rest ≡ [] → ReadsLine text (Ok (Some edge)) rest
+  some_line [] is none left = absurd (omega (arith, some, ap length is))
+  some_line (b ∷ others) is none left = at_end none left b others is
+
+  reads : IsAfterLine after rest → ReadsLine text (Ok (Some edge)) rest
+  reads end = ⊎_elim (λ none. some_line line refl none.0 none.1) (λ more. ⊎_elim at_feed at_return more) end
 
 -- a number whose text goes on otherwise
 module _ (text ahead others : List ℕ) (number : ℕ) (first : BeginsWithNumber text number ahead) where
@@ -136,10 +174,10 @@ reads-two text ahead last after rest source target first blank second end =
     let whole : text ≡ line ++ after =
     first.read.whole ∙ rw (blank.whole, second.read.whole) (sym (append_assoc first.read.digits (blank.byte ∷ digits) after)) in
     let plain = number_is_plain first.read.digits digits blank.byte first.read.are_digits blank.blank (digits_are_plain digits second.read.are_digits) in
-    reads text line after rest _ whole end plain (longer first.read.digits digits blank.byte)
+    reads text line after rest _ whole plain (longer first.read.digits digits blank.byte)
     (edge-two line (blank.byte ∷ digits) digits [] source target
     (elsewhere text ahead (blank.byte ∷ digits) source first) (after_blank ahead last digits blank)
-    (rw (append-nil digits) at (elsewhere last after [] target second)) refl)
+    (rw (append-nil digits) at (elsewhere last after [] target second)) refl) end
 
 -- and one of three
 pub reads-three : (text ahead middle beyond last after rest : List ℕ) (source target weight : ℕ) → BeginsWithNumber text source ahead
@@ -155,8 +193,8 @@ reads-three text ahead middle beyond last after rest source target weight first 
     first.read.whole ∙ rw (blank.whole, middle_is) (sym (append_assoc first.read.digits (blank.byte ∷ behind) after)) in
     let plain = number_is_plain first.read.digits behind blank.byte first.read.are_digits blank.blank
     (number_is_plain second.read.digits digits gap.byte second.read.are_digits gap.blank (digits_are_plain digits third.read.are_digits)) in
-    reads text line after rest _ whole end plain (longer first.read.digits behind blank.byte)
+    reads text line after rest _ whole plain (longer first.read.digits behind blank.byte)
     (edge-three line (blank.byte ∷ behind) behind (gap.byte ∷ digits) digits [] source target weight
     (elsewhere text ahead (blank.byte ∷ behind) source first) (after_blank ahead middle behind blank)
     (elsewhere middle beyond (gap.byte ∷ digits) target second) (after_blank beyond last digits gap)
-    (rw (append-nil digits) at (elsewhere last after [] weight third)) refl)
+    (rw (append-nil digits) at (elsewhere last after [] weight third)) refl) end

@@ -1,5 +1,5 @@
 -- Lines and words of a text.
-use Rattle.std.specs.Prelude.{◌≡◌, true, ℕ, ◌-◌, Bool, ◌||◌, ◌==◌, nat_eq, nat_lt, if◌then◌else◌, List, [], ◌∷◌, length, take, filter}
+use Rattle.std.specs.Prelude.{◌≡◌, ◌⊎◌, true, ℕ, ◌-◌, Bool, ◌||◌, ◌==◌, nat_eq, nat_lt, if◌then◌else◌, List, [], ◌∷◌, length, take, filter}
 use Rattle.std.specs.List.{ends_with, onto_first, slice_split}
 
 -- a blank or a tab
@@ -12,10 +12,9 @@ pub record IsAfterBlank (text rest : List ℕ) : Type 0 where
   pub whole : text ≡ byte ∷ rest
   pub blank : is_blank byte ≡ true
 
--- a text is at its end, or is a line feed and what comes after it
+-- a text is at its end, or is a line feed, before which there may be a carriage return, and what comes after it
 abbrev pub IsAfterLine : List ℕ → List ℕ → Type 0
-IsAfterLine [] rest = rest ≡ []
-IsAfterLine (b ∷ after) rest = (b ≡ 10) × (rest ≡ after)
+IsAfterLine text rest = ((text ≡ []) × (rest ≡ [])) ⊎ ((text ≡ 10 ∷ rest) ⊎ (text ≡ 13 ∷ 10 ∷ rest))
 
 -- a text without the blanks and tabs that it begins with
 abbrev pub skip_blanks : List ℕ → List ℕ

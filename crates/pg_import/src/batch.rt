@@ -22,6 +22,7 @@ pub fn into_batch(alloc: Global, lines: &[Line], graph: &Graph) -> Result<Batch,
 {
     let order = Order::of(alloc, lines)?;
     let seen = Seen::of(alloc, lines, &order, graph)?;
+    // For each line its edge, and each vertex at most once.
     let room = lines.len().saturating_add(order.ranks.vertices.len());
     let mut batch = Batch::with_capacity(alloc, room)?;
     let mut named = Named::new(alloc, lines, &order)?;

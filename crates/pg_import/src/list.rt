@@ -12,8 +12,8 @@ use crate::{ImportFault, ImportKind, Line, Words, bare_line, read_id, read_weigh
 use pg_graph::VertexId;
 use std::alloc::Global;
 
-// Lines of an edge have so many bytes, or more mostly.
-const BYTES_OF_LINE: usize = 8;
+// A line of an edge mostly has so many bytes or more.
+const BYTES_OF_LINE: usize = 12;
 
 /// The edges of a text in list form, in their order, or its first faulty line.
 ///

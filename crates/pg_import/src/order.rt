@@ -78,7 +78,7 @@ pub(crate) struct Ranks {
 }
 
 impl Ranks {
-    /// No vertices yet, for so many lines.
+    /// No vertices yet, for so many lines, each of which has two.
     fn new(alloc: Global, lines: usize) -> Result<Ranks, Memory> {
         Ok(Ranks {
             vertices: Vec::with_capacity(alloc, lines.saturating_mul(2))?,

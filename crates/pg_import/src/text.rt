@@ -84,13 +84,14 @@ pub(crate) fn after_blank(text: &[u8]) -> Option<&[u8]>
     }
 }
 
-/// What comes after the line feed that a text begins with, or after the text's end.
+/// What comes after the end of a line that a text begins with: a line feed, a carriage return and one, or the text's own end.
 pub(crate) fn after_line(text: &[u8]) -> Option<&[u8]>
     ensures { IfSome result (λ rest. IsAfterLine text.now rest.now) }
 {
     match text {
         [] => Some(text),
         [b'\n', after @ ..] => Some(after),
+        [b'\r', b'\n', after @ ..] => Some(after),
         _ => None,
     }
 }

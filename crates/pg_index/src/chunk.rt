@@ -80,10 +80,13 @@ fn have_begun<X>(chunks: &[Chunk<X>], count: usize, id: VertexId) -> bool
     ensures parts { IsTrue result
         → IsPartitionPoint (λ c. nat_le c.first id ≡ true) (λ c. nat_le c.first id ≡ false) chunks.now count }
 {
-    if count == 0 || count >= chunks.len() {
+    if count == 0 || count > chunks.len() || !is_at_most(chunks[count - 1].first, id) {
         return false;
     }
-    is_at_most(chunks[count - 1].first, id) && !is_at_most(chunks[count].first, id)
+    if count == chunks.len() {
+        return true;
+    }
+    !is_at_most(chunks[count].first, id)
 }
 
 /// Whether an id is below another, or is it.

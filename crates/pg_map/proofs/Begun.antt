@@ -1,4 +1,4 @@
--- How many parts begin at an id or below it, or how many entries are below one, told by two of them.
+-- How many parts begin at an id or below it, or how many entries are below one, told by two of them, or by the last.
 use Rattle.std.proofs.Common.{◌≡◌, ℕ, ◌+◌, ◌<◌, ◌≤◌, List, length, get_or, Bool, true, false, not, IsTrue, leb, refl, sym, ap, ◌∙◌, arith}
 use Rattle.std.specs.List.Sorted.{IsNonDecreasingBy, IsPartitionPoint}
 use Rattle.std.proofs.lemmas.Bool.Decides.{nat_tests}

@@ -12,9 +12,9 @@ use std::marker::Model;
 /// How many entries are passed one by one before a search among all of a chunk.
 const STEPS: usize = 16;
 
-/// Looks up ids in a map. Where no id is missing between the first of a chunk and this one, or none is as high, it costs a
-/// step; where an id lies a few entries after the one before, a step for each; and elsewhere in the same chunk a search in
-/// that one alone.
+/// Looks up ids in a map. Where no id is missing between the first of a chunk and this one, or it is past all of a chunk
+/// without gaps, it costs a step; where an id lies a few entries after the one before, a step for each; and elsewhere in
+/// the same chunk a search in that one alone.
 /// A contract sees the entries of the map.
 #[derive(Drop)]
 pub struct Finder<'a, V> {
@@ -131,8 +131,8 @@ fn value_near<'a, V>(entries: &'a [(VertexId, V)], below: &mut usize, id: Vertex
 }
 
 /// How many of these entries are below an id. Tested first is how far the id is from that of the first, which it is where
-/// no id is missing between them, or all, where it is that far; then the count before, or a few more; then it is searched
-/// for.
+/// no id is missing between them, and all of them where it is as far or farther; then the count before, or a few more;
+/// then it is searched for.
 fn count_below<V>(entries: &[(VertexId, V)], before: usize, id: VertexId) -> usize
     requires { HasRisingIds entries.now }
     ensures { IsPartitionPoint (λ e. nat_lt e.0 id ≡ true) (λ e. nat_lt e.0 id ≡ false) entries.now result }

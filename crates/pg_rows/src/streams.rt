@@ -39,6 +39,28 @@ impl<'a> Read for NthReader<'a> {
     }
 }
 
+// Gives its text seven bytes a call, and is interrupted before each.
+#[derive(Drop)]
+struct InterruptedReader<'a> {
+    text: &'a [u8],
+    ready: bool,
+}
+
+impl<'a> Read for InterruptedReader<'a> {
+    fn read(&mut self, buf: &mut [u8]) -> io::Result<usize> {
+        self.ready = !self.ready;
+        if self.ready {
+            return Err(io::Error::from(io::ErrorKind::Interrupted));
+        }
+        let count = self.text.len().min(buf.len()).min(7);
+        let (front, rest) = self.text.split_at(count);
+        let (room, _) = buf.split_at_mut(count);
+        room.copy_from_slice(front);
+        self.text = rest;
+        Ok(count)
+    }
+}
+
 // Keeps what it is given, and fails at the nth call.
 #[derive(Drop)]
 struct NthWriter {
@@ -82,14 +104,10 @@ fn reached_after(lines: usize) -> Reached {
     Reached { graph, published }
 }
 
-// A session whose nth read fails.
-fn with_broken_reader(alloc: Global, calls: usize) -> Result<Session, Fail> {
+// A session that is read by this reader.
+fn read_by<R: Read + Drop>(alloc: Global, inner: R) -> Result<Session, Fail> {
     let mut service = shortest_paths(alloc)?;
-    let broken = NthReader {
-        text: INPUT,
-        calls_left: calls,
-    };
-    let mut reader = BufReader::with_capacity(alloc, 16, broken)?;
+    let mut reader = BufReader::with_capacity(alloc, 16, inner)?;
     let mut written = Vec::new(alloc);
     let served = served(alloc, &mut reader, &mut written, &mut service);
     Ok(Session {
@@ -97,6 +115,15 @@ fn with_broken_reader(alloc: Global, calls: usize) -> Result<Session, Fail> {
         written,
         reached: reached_by(&service),
     })
+}
+
+// A session whose nth read fails.
+fn with_broken_reader(alloc: Global, calls: usize) -> Result<Session, Fail> {
+    let broken = NthReader {
+        text: INPUT,
+        calls_left: calls,
+    };
+    read_by(alloc, broken)
 }
 
 // How many lines answer what is read in so many calls.
@@ -134,6 +161,18 @@ fn each_read_fails_in_turn(rt: HostRuntime) -> Result<(), Fail> {
         whole = whole.saturating_add(usize::from(session.served.is_ok()));
     }
     assert_eq!(&rt; whole, 1);
+    Ok(())
+}
+
+#[test]
+fn an_interrupted_reader_is_read_on(rt: HostRuntime) -> Result<(), Fail> {
+    let interrupted = InterruptedReader {
+        text: INPUT,
+        ready: false,
+    };
+    let session = read_by(rt.alloc(), interrupted)?;
+    assert!(&rt; session.served.is_ok());
+    assert!(&rt; session.written.as_slice() == OUTPUT);
     Ok(())
 }
 

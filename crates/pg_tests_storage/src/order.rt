@@ -1,13 +1,39 @@
 use pg_graph::{Memory, VertexId, places_by_id, reordered_by_id};
-use std::alloc::Global;
+use std::alloc::{AllocError, Global};
 
-// So many ids, which jump among the numbers below 2^26. A quarter of them stand twice.
-fn jumping_ids(alloc: Global, count: u32) -> Result<Vec<VertexId>, Memory> {
+// Ids from one on, which jump among the next ones.
+#[derive(Clone, Copy)]
+struct Jumping {
+    least: u64,
+    // How far they go at most: one less than a power of two.
+    span: u64,
+}
+
+// Among the low ones and among high ones, always the same one, and among all.
+const SPREADS: [Jumping; 4] = [
+    Jumping {
+        least: 0,
+        span: (1 << 26) - 1,
+    },
+    Jumping {
+        least: 1 << 62,
+        span: (1 << 26) - 1,
+    },
+    Jumping { least: 7, span: 0 },
+    Jumping {
+        least: 0,
+        span: (1 << 63) - 1,
+    },
+];
+
+// So many ids. A quarter of them stand twice, where not all are the same.
+fn jumping_ids(alloc: Global, count: u32, spread: Jumping) -> Result<Vec<VertexId>, Memory> {
     let different = count / 4 * 3 + 1;
     let mut ids = Vec::with_capacity(alloc, count as usize)?;
     for place in 0..count {
-        let number = (place % different).wrapping_mul(40_503_011) & 0x3ff_ffff;
-        ids.push(VertexId::new(u64::from(number)).unwrap())?;
+        let number = u64::from(place % different).wrapping_mul(0x9e37_79b9_7f4a_7c15);
+        let id = spread.least.wrapping_add(number & spread.span);
+        ids.push(VertexId::new(id).ok_or(AllocError)?)?;
     }
     Ok(ids)
 }
@@ -36,8 +62,8 @@ fn falling_places(alloc: Global, count: usize) -> Result<Vec<usize>, Memory> {
 }
 
 // So many ids are put in order, and again where they are given in another order.
-fn are_put_in_order(alloc: Global, count: u32) -> Result<bool, Memory> {
-    let ids = jumping_ids(alloc, count)?;
+fn are_put_in_order(alloc: Global, count: u32, spread: Jumping) -> Result<bool, Memory> {
+    let ids = jumping_ids(alloc, count, spread)?;
     let places = places_by_id(alloc, ids.as_slice())?;
     let falling = falling_places(alloc, ids.len())?;
     let again = reordered_by_id(alloc, ids.as_slice(), falling)?;
@@ -47,12 +73,14 @@ fn are_put_in_order(alloc: Global, count: u32) -> Result<bool, Memory> {
     )
 }
 
-// Few ids are compared, more are told apart by 8 bits at a time, and many by 11.
+// Few ids are compared, more are told apart by at most 8 bits at a time, and many by at most 13.
 #[test]
 fn ids_are_put_in_order(rt: HostRuntime) -> Result<(), Memory> {
     let alloc = rt.alloc();
-    for count in [0, 1, 200, 300, 5_000] {
-        assert!(rt; are_put_in_order(alloc, count)?);
+    for spread in SPREADS {
+        for count in [0, 1, 200, 300, 5_000] {
+            assert!(rt; are_put_in_order(alloc, count, spread)?);
+        }
     }
     Ok(())
 }

@@ -9,7 +9,7 @@ use Rattle.std.proofs.lemmas.Grind.{common_steps}
 use Rattle.std.proofs.lemmas.List.Sums.{count_by_more_no, count_by_more_yes}
 use Rattle.memchr.specs.Find.{places_between, places_from}
 use Rattle.pg_import.specs.Text.{raw_lines}
-use Rattle.pg_import.proofs.TextLines.{is_line_feed}
+use Rattle.pg_import.proofs.TextLines.{is_line_feed, raw_lines-some}
 
 length-onto_first : (b : ℕ) (lines : List (List ℕ)) → 0 < length lines → length (onto_first b lines) ≡ length lines
 length-onto_first b [] some = absurd (omega arith)
@@ -22,17 +22,6 @@ onto_first-append b (line ∷ lines) more some = refl
 concat-onto_first : (b : ℕ) (lines : List (List ℕ)) → concat (onto_first b lines) ≡ b ∷ concat lines
 concat-onto_first b [] = refl
 concat-onto_first b (line ∷ lines) = refl
-
-length_onto_some : (b : ℕ) (lines : List (List ℕ)) → 0 < length (onto_first b lines)
-length_onto_some b [] = omega arith
-length_onto_some b (line ∷ lines) = omega arith
-
--- what is not empty has a line
-raw_lines-some : (b : ℕ) (rest : List ℕ) → 0 < length (raw_lines (b ∷ rest))
-raw_lines-some b rest = elim (cases_Bool (is_line_feed b)) [
-  | inl ends ↦ rw ends (omega arith)
-  | inr other ↦ rw other (length_onto_some b (raw_lines rest))
-]
 
 -- the lines of a text are the text
 pub concat_raw_lines : (text : List ℕ) → concat (raw_lines text) ≡ text
@@ -61,7 +50,7 @@ length-whole_lines (b ∷ c ∷ rest) ends =
       | inl feed ↦
           let one_more : length (raw_lines (b ∷ c ∷ rest)) ≡ length (raw_lines (c ∷ rest)) + 1 = rw feed (omega arith) in
           one_more ∙ count-first b (c ∷ rest) (length (raw_lines (c ∷ rest))) feed later
-      | inr other ↦ rw other (length-onto_first b (raw_lines (c ∷ rest)) (raw_lines-some c rest) ∙ later)
+      | inr other ↦ rw other (length-onto_first b (raw_lines (c ∷ rest)) (raw_lines-some (c ∷ rest) (omega arith)) ∙ later)
     ]
 
 -- after whole lines the lines of a text go on
@@ -72,7 +61,7 @@ raw_lines-append (b ∷ c ∷ front) rest ends =
     let later : raw_lines (c ∷ front ++ rest) ≡ raw_lines (c ∷ front) ++ raw_lines rest = raw_lines-append (c ∷ front) rest (ends_later b c front ends) in
     elim (cases_Bool (is_line_feed b)) [
       | inl feed ↦ rw feed (ap (λ lines. (b ∷ []) ∷ lines) later)
-      | inr other ↦ rw other (ap (onto_first b) later ∙ onto_first-append b (raw_lines (c ∷ front)) (raw_lines rest) (raw_lines-some c front))
+      | inr other ↦ rw other (ap (onto_first b) later ∙ onto_first-append b (raw_lines (c ∷ front)) (raw_lines rest) (raw_lines-some (c ∷ front) (omega arith)))
     ]
 
 -- ---- the line feeds that are left

@@ -84,7 +84,7 @@ pub(crate) fn take_block<R: BufRead>(
 }
 
 /// Takes whole lines that the reader holds onto a text, at most so many, and says how many. It
-/// takes none where it holds no whole line, or where there is no memory for them.
+/// takes none where the reader holds no whole line or was interrupted, or where memory is wanted.
 ///
 /// # Errors
 ///
@@ -96,18 +96,18 @@ fn take_held<R: BufRead>(count: u32, reader: &mut R, text: &mut Vec<u8>) -> Resu
         (lines_left (R.remaining reader.new)))) }
     ensures err { IfErr result (λ fault. fault ≢ ServeFault.Write) }
 {
-    let held = match reader.fill_buf() {
-        Ok(held) => held,
+    let bytes = match reader.fill_buf() {
+        Ok(bytes) => bytes,
         Err(error) => {
-            // For these the line is tried alone.
+            // A line that is read by itself comes through an interruption, and needs less memory.
             return match error.kind() {
                 io::ErrorKind::Interrupted | io::ErrorKind::OutOfMemory => Ok(0),
                 _ => Err(ServeFault::Read),
             };
         }
     };
-    let front = whole_lines(count, held);
-    if text.extend_from_slice(&held[..front.bytes]).is_err() {
+    let front = whole_lines(count, bytes);
+    if text.extend_from_slice(&bytes[..front.bytes]).is_err() {
         return Ok(0);
     }
     reader.consume(front.bytes);

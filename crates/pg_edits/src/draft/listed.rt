@@ -28,15 +28,16 @@ impl Model for ListedEdges {
 }
 
 impl ListedEdges {
-    /// A copy of these edges, which rise by target, with room for so many more.
+    /// A copy of these edges, which rise by target, for so many edits: with room for as many more as it takes of them.
     pub(crate) fn of(
         alloc: Global,
         edges: &[(VertexId, i64)],
-        room: usize,
+        edits: usize,
     ) -> Result<ListedEdges, Memory>
         requires { IsRising edges.now }
         ensures { IfOk result (λ listed. listed ≡ edges.now) }
     {
+        let room = edits.min(usize::from(EDIT_LIMIT));
         let mut listed = Vec::with_capacity(alloc, edges.len().saturating_add(room))?;
         listed.extend_from_slice(edges)?;
         Ok(ListedEdges {

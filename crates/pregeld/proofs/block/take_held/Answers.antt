@@ -6,7 +6,7 @@ use Rattle.pregeld.proofs.block.take_held.Goals as goal
 
 pub returns-clause-lines : goal.returns-clause-lines
 returns-clause-lines g c lines there =
-    let held = c.in-Ok.held.now in
+    let held = c.in-Ok.bytes.now in
     let front = c.whole_lines-front in
     let rested = c.fill_buf.follows.lender-at-none in
     let left = g.R.Read.remaining c.consume.new.self in
