@@ -1,7 +1,7 @@
 //! What edits make of one vertex.
-ghost use Rattle.std.specs.Prelude.{◌≡◌, IfOk};
+ghost use Rattle.std.specs.Prelude.{◌≡◌, Err, IfOk, MatchResult, Ok};
 ghost use Rattle.std.specs.Option.{option_copied};
-ghost use Rattle.pg_edits.specs.RowEdit.{row_edited, vertex_after, vertex_edited};
+ghost use Rattle.pg_edits.specs.RowEdit.{vertex_after, vertex_edited};
 
 use crate::{DraftRow, Edit, EditFault, EditKind, Memory, Row};
 use std::alloc::Global;
@@ -21,68 +21,61 @@ pub fn vertex_after(
         None => None,
     };
     for (position, edit) in edits {
-        draft = match vertex_edited(alloc, draft, *edit, edits.len())? {
-            Ok(edited) => edited,
-            Err(kind) => {
-                let position = *position;
-                return Ok(Err(EditFault { position, kind }));
-            }
-        };
+        if let Err(kind) = edit_vertex(alloc, &mut draft, *edit, edits.len())? {
+            let position = *position;
+            return Ok(Err(EditFault { position, kind }));
+        }
     }
     Ok(Ok(draft))
 }
 
-/// What one edit makes of a row, or of none. Where it has no result, the inner result says why. A new row is made
-/// for so many edits.
-fn vertex_edited(
+/// Makes one edit of a row, or of none. Where it has no result, the inner result says why. A new row is made for so many
+/// edits.
+fn edit_vertex(
     alloc: Global,
-    row: Option<DraftRow>,
+    draft: &mut Option<DraftRow>,
     edit: Edit,
     edits: usize,
-) -> Result<Result<Option<DraftRow>, EditKind>, Memory>
-    ensures { IfOk result (λ made. made ≡ vertex_edited row edit) }
+) -> Result<Result<(), EditKind>, Memory>
+    ensures { IfOk result (λ made. MatchResult made (λ _. vertex_edited draft.old edit ≡ Ok draft.new)
+        (λ kind. vertex_edited draft.old edit ≡ Err kind)) }
 {
-    match row {
-        Some(row) => row_edited(alloc, row, edit),
-        None => match edit {
-            Edit::AddVertex(_, input) => Ok(Ok(Some(DraftRow::new(input, edits)))),
+    let Some(row) = draft else {
+        return match edit {
+            Edit::AddVertex(_, input) => {
+                *draft = Some(DraftRow::new(input, edits));
+                Ok(Ok(()))
+            }
             _ => Ok(Err(EditKind::NoVertex)),
-        },
-    }
-}
-
-/// The same of a row that is there.
-fn row_edited(
-    alloc: Global,
-    mut row: DraftRow,
-    edit: Edit,
-) -> Result<Result<Option<DraftRow>, EditKind>, Memory>
-    ensures { IfOk result (λ made. made ≡ row_edited row edit) }
-{
+        };
+    };
     match edit {
         Edit::AddVertex(..) => Ok(Err(EditKind::VertexExists)),
-        Edit::RemoveVertex(_) => Ok(Ok(None)),
+        Edit::RemoveVertex(_) => {
+            *draft = None;
+            Ok(Ok(()))
+        }
         Edit::SetInput(_, input) => {
             row.set_input(input);
-            Ok(Ok(Some(row)))
+            Ok(Ok(()))
         }
         Edit::AddEdge(_, target, weight) => {
             if row.put_edge(alloc, target, weight)? {
                 return Ok(Err(EditKind::EdgeExists));
             }
-            Ok(Ok(Some(row)))
+            Ok(Ok(()))
         }
         Edit::SetEdge(_, target, weight) => {
             if !row.put_edge(alloc, target, weight)? {
                 return Ok(Err(EditKind::NoEdge));
             }
-            Ok(Ok(Some(row)))
+            Ok(Ok(()))
         }
         Edit::RemoveEdge(_, target) => {
             if !row.remove_edge(alloc, target)? {
                 return Ok(Err(EditKind::NoEdge));
             }
-            Ok(Ok(Some(row)))
+            Ok(Ok(()))
         }
     }
 }

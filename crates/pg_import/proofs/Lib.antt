@@ -3,7 +3,6 @@ pub mod TextWords
 pub mod TextLines
 pub mod Readings
 pub mod RecordsLeft
-pub mod SeenFacts
 pub mod Fields
 pub mod RecordReadings
 pub mod Graphs

@@ -1,5 +1,5 @@
--- Edges that stand once: which of them were named, with one more or one more named.
-use Rattle.std.proofs.Common.{◌≡◌, ℕ, zero, suc, ◌<◌, ◌≤◌, ◌⊎◌, inl, inr, Bool, true, false, ◌&&◌, ◌||◌, cond, List, [], ◌∷◌, ◌++◌, Some, refl, ap}
+-- Edges that stand once: which of them are there, with one more or one more named.
+use Rattle.std.proofs.Common.{◌≡◌, ℕ, zero, suc, ◌<◌, ◌≤◌, ◌⊎◌, inl, inr, Bool, true, false, ◌&&◌, cond, List, [], ◌∷◌, ◌++◌, Some, refl, ap}
 use Rattle.std.proofs.Common.{sym, ◌∙◌, subst, arith, slice_set, ◌+◌, length, get_or, take}
 use Rattle.std.specs.BTreeMap.{is_at}
 use Rattle.std.specs.List.{AllByRecursion, slice_get}
@@ -9,7 +9,7 @@ use Rattle.std.proofs.lemmas.List.{take_more}
 use Rattle.std.proofs.lemmas.Option.{slice_get-get_or}
 use Rattle.pg_import.proofs.Graphs.{cmp-refl, is_at-sym, same_from_is_at}
 use Rattle.std.proofs.lemmas.Option.{same_Some}
-use Rattle.pg_import.specs.NamedEdges.{AreBefore, AreDistinct, IsApart, StandsAt, is_edge, named_in}
+use Rattle.pg_import.specs.NamedEdges.{AreBefore, AreDistinct, AreThereAs, IsApart, StandsAt, is_edge, there_in}
 use Rattle.pg_import.specs.declared.named_edges.NamedEdge.{NamedEdge}
 
 -- ---- tests of numbers
@@ -25,15 +25,6 @@ is_at-apart k q apart = elim (cases_Bool (is_at (nat_cmp k) q)) [
 and-false : (b : Bool) → (b && false) ≡ false
 and-false true = refl
 and-false false = refl
-
-pub or-false : (b : Bool) → (b || false) ≡ b
-or-false true = refl
-or-false false = refl
-
-pub cond-or : (b v c : Bool) → cond b true (v || c) ≡ (v || cond b true c)
-cond-or true true c = refl
-cond-or true false c = refl
-cond-or false v c = refl
 
 -- ---- edges
 is_edge-self : (edge : NamedEdge) → is_edge edge.source edge.target edge ≡ true
@@ -90,49 +81,61 @@ IsApart-more s t es i {e} within is all apart =
     subst (IsApart s t) (sym (take_more es i e within ∙ ap (λ x. take i es ++ x ∷ []) (sym is)))
     (all_push (λ x. is_edge s t x ≡ false) (take i es) e all apart)
 
--- ---- an edge apart from all was not named
-pub named_in-apart : (s t : ℕ) (es : List NamedEdge) → IsApart s t es → named_in s t es ≡ false
-named_in-apart s t [] all = refl
-named_in-apart s t (x ∷ xs) all = rw all.0 (named_in-apart s t xs all.1)
+-- ---- an edge apart from all is there as elsewhere
+pub there_in-apart : (s t : ℕ) (elsewhere : Bool) (es : List NamedEdge) → IsApart s t es → there_in s t elsewhere es ≡ elsewhere
+there_in-apart s t elsewhere [] all = refl
+there_in-apart s t elsewhere (x ∷ xs) all = rw all.0 (there_in-apart s t elsewhere xs all.1)
 
-here : (x : NamedEdge) (xs : List NamedEdge) → IsApart x.source x.target xs → named_in x.source x.target (x ∷ xs) ≡ x.named
-here x xs all = rw (is_edge-self x, named_in-apart x.source x.target xs all) (or-false x.named)
+-- an edge that stands there is there if it says so
+pub there_at : (elsewhere : Bool) (es : List NamedEdge) (i : ℕ) (e : NamedEdge) → AreDistinct es → slice_get es i ≡ Some e
+    → there_in e.source e.target elsewhere es ≡ e.there
+there_at elsewhere [] i e distinct at = cc at
+there_at elsewhere (x ∷ xs) zero e distinct at =
+    subst (λ y. there_in y.source y.target elsewhere (x ∷ xs) ≡ y.there) (same_Some _ _ at) (rw (is_edge-self x) refl)
+there_at elsewhere (x ∷ xs) (suc i) e distinct at =
+    rw (is_edge-sym e x ∙ all_at (λ y. is_edge x.source x.target y ≡ false) xs i e distinct.0 at) (there_at elsewhere xs i e distinct.1 at)
 
--- an edge that stands there was named if it says so
-pub named_at : (es : List NamedEdge) (i : ℕ) (e : NamedEdge) → AreDistinct es → slice_get es i ≡ Some e → named_in e.source e.target es ≡ e.named
-named_at [] i e distinct at = cc at
-named_at (x ∷ xs) zero e distinct at = subst (λ y. named_in y.source y.target (x ∷ xs) ≡ y.named) (same_Some _ _ at) (here x xs distinct.0)
-named_at (x ∷ xs) (suc i) e distinct at =
-    rw (is_edge-sym e x ∙ all_at (λ y. is_edge x.source x.target y ≡ false) xs i e distinct.0 at) (named_at xs i e distinct.1 at)
+-- ---- an edge more, or one in the place of the same edge
+-- of two different edges either may be looked at first
+either_first : (x e : NamedEdge) → is_edge x.source x.target e ≡ false → (s t : ℕ) (a b c : Bool)
+    → cond (is_edge s t x) a (cond (is_edge s t e) b c) ≡ cond (is_edge s t e) b (cond (is_edge s t x) a c)
+either_first x e apart s t a b c = elim (cases_Bool (is_edge s t x)) [
+  | inl there ↦
+      let both = and-both (is_at (nat_cmp x.source) s) (is_at (nat_cmp x.target) t) there in
+      let other : is_edge s t e ≡ false =
+      rw (same_from_is_at x.source s both.0, same_from_is_at x.target t both.1) at apart in
+      rw (there, other) refl
+  | inr not_there ↦ rw not_there refl
+]
 
--- ---- one edge is named
-module _ (e : NamedEdge) (is : e.named ≡ true) where
-  set_here : (s t : ℕ) (v c : Bool) → ((is_edge s t e && e.named) || c) ≡ cond (is_edge s t e) true ((is_edge s t e && v) || c)
-  set_here s t v c = rw is (elim (cases_Bool (is_edge s t e)) [ inl there ↦ rw there refl | inr apart ↦ rw apart refl ])
+pub there_in-push : (e : NamedEdge) (es : List NamedEdge) → IsApart e.source e.target es → (s t : ℕ) (elsewhere : Bool)
+    → there_in s t elsewhere (es ++ e ∷ []) ≡ cond (is_edge s t e) e.there (there_in s t elsewhere es)
+there_in-push e [] apart s t elsewhere = refl
+there_in-push e (x ∷ xs) apart s t elsewhere =
+    ap (cond (is_edge s t x) x.there) (there_in-push e xs apart.1 s t elsewhere)
+    ∙ either_first x e (is_edge-sym x e ∙ apart.0) s t x.there e.there (there_in s t elsewhere xs)
 
-  pub named_in-set : (es : List NamedEdge) (i : ℕ) (old : NamedEdge) (s t : ℕ) → slice_get es i ≡ Some old
-      → old.source ≡ e.source → old.target ≡ e.target
-      → named_in s t (slice_set es i e) ≡ cond (is_edge s t e) true (named_in s t es)
-  named_in-set [] i old s t at source target = cc at
-  named_in-set (x ∷ xs) zero old s t at source target =
-      let same : is_edge s t x ≡ is_edge s t e = rw (same_Some _ _ at, source, target) refl in
-      rw same (set_here s t x.named (named_in s t xs))
-  named_in-set (x ∷ xs) (suc i) old s t at source target =
-      ap (λ b. (is_edge s t x && x.named) || b) (named_in-set xs i old s t at source target)
-      ∙ sym (cond-or (is_edge s t e) (is_edge s t x && x.named) (named_in s t xs))
+pub there_in-set : (e : NamedEdge) (es : List NamedEdge) (i : ℕ) (old : NamedEdge) (s t : ℕ) (elsewhere : Bool) → AreDistinct es
+    → slice_get es i ≡ Some old → old.source ≡ e.source → old.target ≡ e.target
+    → there_in s t elsewhere (slice_set es i e) ≡ cond (is_edge s t e) e.there (there_in s t elsewhere es)
+there_in-set e [] i old s t elsewhere distinct at source target = cc at
+there_in-set e (x ∷ xs) zero old s t elsewhere distinct at source target =
+    let same : is_edge s t x ≡ is_edge s t e = rw (same_Some _ _ at, source, target) refl in
+    rw same (elim (cases_Bool (is_edge s t e)) [ inl there ↦ rw there refl | inr apart ↦ rw apart refl ])
+there_in-set e (x ∷ xs) (suc i) old s t elsewhere distinct at source target =
+    let apart : is_edge x.source x.target e ≡ false =
+    rw (source, target) at (all_at (λ y. is_edge x.source x.target y ≡ false) xs i old distinct.0 at) in
+    ap (cond (is_edge s t x) x.there) (there_in-set e xs i old s t elsewhere distinct.1 at source target)
+    ∙ either_first x e apart s t x.there e.there (there_in s t elsewhere xs)
 
-  pub named_in-push_named : (es : List NamedEdge) (s t : ℕ) → named_in s t (es ++ e ∷ []) ≡ cond (is_edge s t e) true (named_in s t es)
-  named_in-push_named [] s t = rw is (elim (cases_Bool (is_edge s t e)) [ inl there ↦ rw there refl | inr apart ↦ rw apart refl ])
-  named_in-push_named (x ∷ xs) s t =
-      ap (λ b. (is_edge s t x && x.named) || b) (named_in-push_named xs s t)
-      ∙ sym (cond-or (is_edge s t e) (is_edge s t x && x.named) (named_in s t xs))
-
--- an edge more that isn't named
-pub named_in-push : (e : NamedEdge) → e.named ≡ false → (es : List NamedEdge) (s t : ℕ) → named_in s t es ≡ false → named_in s t (es ++ e ∷ []) ≡ false
-named_in-push e is [] s t none = rw is (rw (and-false (is_edge s t e)) refl)
-named_in-push e is (x ∷ xs) s t none = elim (cases_Bool (is_edge s t x && x.named)) [
-  | inl named ↦ absurd (true≢false (rw named at none))
-  | inr apart ↦ rw apart (named_in-push e is xs s t (rw apart at none))
+-- ---- what entries say is so, also with one more of which it is
+pub AreThereAs-push : (has : ℕ → ℕ → Bool) (e : NamedEdge) (es : List NamedEdge) → IsApart e.source e.target es → e.there ≡ has e.source e.target
+    → AreThereAs has es → AreThereAs has (es ++ e ∷ [])
+AreThereAs-push has e es apart is so s t = there_in-push e es apart s t (has s t) ∙ elim (cases_Bool (is_edge s t e)) [
+  | inl there ↦
+      let both = and-both (is_at (nat_cmp e.source) s) (is_at (nat_cmp e.target) t) there in
+      rw there (is ∙ rw (same_from_is_at e.source s both.0, same_from_is_at e.target t both.1) refl)
+  | inr not_there ↦ rw not_there (so s t)
 ]
 
 -- ---- none stands twice

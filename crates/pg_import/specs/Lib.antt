@@ -7,5 +7,4 @@ pub mod Named
 pub mod NamedEdges
 pub mod Number
 pub mod Records
-pub mod Seen
 pub mod Text

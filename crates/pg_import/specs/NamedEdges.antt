@@ -1,5 +1,5 @@
--- The edges that a list may name, each once, and which of them were named.
-use Rattle.std.specs.Prelude.{◌≡◌, ℕ, ◌<◌, ◌⊎◌, ⊤, Bool, false, ◌&&◌, ◌||◌, List, [], ◌∷◌, Some}
+-- The edges that a list names, each once, and which of them are there.
+use Rattle.std.specs.Prelude.{◌≡◌, ℕ, ◌<◌, ◌⊎◌, ⊤, Bool, false, ◌&&◌, if◌then◌else◌, List, [], ◌∷◌, Some}
 use Rattle.std.specs.BTreeMap.{is_at}
 use Rattle.std.specs.List.{AllByRecursion, slice_get}
 use Rattle.std.specs.Ordering.{nat_cmp}
@@ -9,10 +9,14 @@ use Rattle.pg_import.specs.declared.named_edges.NamedEdge.{NamedEdge}
 abbrev pub is_edge : ℕ → ℕ → NamedEdge → Bool
 is_edge source target edge = is_at (nat_cmp edge.source) source && is_at (nat_cmp edge.target) target
 
--- whether the edge between two vertices was named
-abbrev pub named_in : ℕ → ℕ → List NamedEdge → Bool
-named_in source target [] = false
-named_in source target (edge ∷ edges) = (is_edge source target edge && edge.named) || named_in source target edges
+-- whether the edge between two vertices is there: as its entry says, and where it has none as it is elsewhere
+abbrev pub there_in : ℕ → ℕ → Bool → List NamedEdge → Bool
+there_in source target elsewhere [] = elsewhere
+there_in source target elsewhere (edge ∷ edges) = if is_edge source target edge then edge.there else there_in source target elsewhere edges
+
+-- what entries say of edges is so already
+abbrev pub AreThereAs : (ℕ → ℕ → Bool) → List NamedEdge → Type 0
+AreThereAs has edges = (source target : ℕ) → there_in source target (has source target) edges ≡ has source target
 
 -- this edge is none of those
 abbrev pub IsApart : ℕ → ℕ → List NamedEdge → Type 0

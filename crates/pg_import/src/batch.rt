@@ -4,9 +4,9 @@ ghost use Rattle.pg_graph.specs.Rows.{Rows};
 ghost use Rattle.pg_import.specs.Batch.{Makes, batch_of, edge_edit, has_edge, has_vertex, vertex_edits, with_line_edge, with_lines, with_vertex};
 ghost use Rattle.pg_import.specs.Named.{Shows};
 
+use crate::known::{has_edge_to, is_there};
 use crate::named_edges::NamedEdges;
 use crate::order::Order;
-use crate::seen::Seen;
 use crate::{Line, Memory};
 use pg_graph::{Batch, Edit, Graph, VertexId};
 use std::alloc::Global;
@@ -20,75 +20,51 @@ pub fn into_batch(alloc: Global, lines: &[Line], graph: &Graph) -> Result<Batch,
     ensures value { IfOk result (λ batch. batch ≡ batch_of lines.now graph.now) }
     ensures makes { IfOk result (λ batch. Makes graph.now batch (with_lines lines.now graph.now)) }
 {
-    let order = Order::of(alloc, lines)?;
-    let seen = Seen::of(alloc, lines, &order, graph)?;
+    let Order {
+        vertices,
+        edges,
+        ranks,
+    } = Order::of(alloc, lines, graph)?;
     // For each line its edge, and each vertex at most once.
-    let room = lines.len().saturating_add(order.ranks.vertices.len());
+    let room = lines.len().saturating_add(vertices.len());
     let mut batch = Batch::with_capacity(alloc, room)?;
-    let mut named = Named::new(alloc, lines, &order)?;
+    let mut named = Named { vertices, edges };
     for (place, line) in lines.iter().enumerate() {
-        let source = seen.source_at(place, line, graph);
-        let target = seen.target_at(place, line, graph);
-        let source_rank = order.ranks.of_source(place);
-        let target_rank = order.ranks.of_target(place);
-        push_vertex(
-            &mut batch,
-            &mut named,
-            line.source,
-            source.vertex,
-            source_rank,
-        )?;
-        push_vertex(
-            &mut batch,
-            &mut named,
-            line.target,
-            target.vertex,
-            target_rank,
-        )?;
-        push_edge(&mut batch, &mut named, line, source.edge, source.rank)?;
+        let source = named.add_vertex(graph, line.source, ranks.of_source(place))?;
+        push_vertex(&mut batch, line.source, source)?;
+        let target = named.add_vertex(graph, line.target, ranks.of_target(place))?;
+        push_vertex(&mut batch, line.target, target)?;
+        let edge = named.add_edge(graph, line, ranks.of_edge(place))?;
+        push_edge(&mut batch, line, edge)?;
     }
     Ok(batch)
 }
 
-// Names a vertex, and adds it by an edit where it wasn't there yet.
+// Adds a vertex by an edit where it is new.
 #[tactic(auto, unfolding(crate::specs::Batch::vertex_edits))]
-fn push_vertex(
-    batch: &mut Batch,
-    named: &mut Named,
-    id: VertexId,
-    in_graph: bool,
-    rank: usize,
-) -> Result<(), Memory>
-    ensures { OnOk result ((graph rows : Rows) → in_graph ≡ has_vertex id graph → Shows graph named.old rows
-        → (batch.new ≡ batch.old ++ vertex_edits id rows) × Shows graph named.new (with_vertex id rows)) }
+fn push_vertex(batch: &mut Batch, id: VertexId, is_new: bool) -> Result<(), Memory>
+    ensures { OnOk result ((rows : Rows) → is_new ≡ not (has_vertex id rows) → batch.new ≡ batch.old ++ vertex_edits id rows) }
 {
-    if named.add_vertex(id, in_graph, rank)? {
+    if is_new {
         batch.push(Edit::AddVertex(id, 0))?;
     }
     Ok(())
 }
 
-// Names the edge of a line, and adds it by an edit, or sets it where it was there.
+// Adds the edge of a line by an edit where it is new, or sets it.
 #[tactic(auto, unfolding(crate::specs::Batch::edge_edit))]
-fn push_edge(
-    batch: &mut Batch,
-    named: &mut Named,
-    line: &Line,
-    in_graph: bool,
-    rank: usize,
-) -> Result<(), Memory>
-    ensures { OnOk result ((graph rows : Rows) → in_graph ≡ has_edge line.now.source line.now.target graph
-        → Shows graph named.old rows → has_vertex line.now.source rows ≡ true
-        → (batch.new ≡ batch.old ++ edge_edit line.now rows ∷ []) × Shows graph named.new (with_line_edge line.now rows)) }
+fn push_edge(batch: &mut Batch, line: &Line, is_new: bool) -> Result<(), Memory>
+    ensures { OnOk result ((rows : Rows) → is_new ≡ not (has_edge line.now.source line.now.target rows)
+        → batch.new ≡ batch.old ++ edge_edit line.now rows ∷ []) }
 {
-    if named.add_edge(line, in_graph, rank)? {
+    if is_new {
         batch.push(Edit::AddEdge(line.source, line.target, line.weight))
     } else {
         batch.push(Edit::SetEdge(line.source, line.target, line.weight))
     }
 }
 
-// What lines have named so far that a graph doesn't have. A vertex is named as the edge to itself.
+// What lines have named so far, beside what a graph has. A vertex is named as the edge to itself.
 #[derive(Drop)]
 struct Named {
     vertices: NamedEdges,
@@ -96,39 +72,31 @@ struct Named {
 }
 
 impl Named {
-    // Nothing yet, of lines in this order.
-    fn new(alloc: Global, lines: &[Line], order: &Order) -> Result<Named, Memory>
-        ensures { IfOk result (λ named. (graph : Rows) → Shows graph named graph) }
-    {
-        let edges = order.edges(alloc, lines)?;
-        Ok(Named {
-            vertices: NamedEdges::of(alloc, order.ranks.vertices.as_slice())?,
-            edges: NamedEdges::of(alloc, edges.as_slice())?,
-        })
-    }
-
     // Names a vertex, and says whether it wasn't there yet. It is expected at this rank.
-    fn add_vertex(&mut self, id: VertexId, in_graph: bool, rank: usize) -> Result<bool, Memory>
-        ensures { IfOk result (λ added. (graph rows : Rows) → in_graph ≡ has_vertex id graph → Shows graph self.old rows
-            → (added ≡ not (has_vertex id rows)) × Shows graph self.new (with_vertex id rows)) }
+    fn add_vertex(&mut self, graph: &Graph, id: VertexId, rank: usize) -> Result<bool, Memory>
+        ensures { IfOk result (λ added. (rows : Rows) → Shows graph.now self.old rows
+            → (added ≡ not (has_vertex id rows)) × Shows graph.now self.new (with_vertex id rows)) }
     {
-        if in_graph {
-            return Ok(false);
+        match self.vertices.name(id, id, rank) {
+            Some(added) => Ok(added),
+            None => {
+                self.vertices.push_named(id, id)?;
+                Ok(!is_there(graph.row(id)))
+            }
         }
-        let added = self.vertices.name(id, id, rank)?;
-        Ok(added)
     }
 
     // Names the edge of a line, and says whether it wasn't there yet. It is expected at this rank.
-    fn add_edge(&mut self, line: &Line, in_graph: bool, rank: usize) -> Result<bool, Memory>
-        ensures { IfOk result (λ added. (graph rows : Rows) → in_graph ≡ has_edge line.now.source line.now.target graph
-            → Shows graph self.old rows → has_vertex line.now.source rows ≡ true
-            → (added ≡ not (has_edge line.now.source line.now.target rows)) × Shows graph self.new (with_line_edge line.now rows)) }
+    fn add_edge(&mut self, graph: &Graph, line: &Line, rank: usize) -> Result<bool, Memory>
+        ensures { IfOk result (λ added. (rows : Rows) → Shows graph.now self.old rows → has_vertex line.now.source rows ≡ true
+            → (added ≡ not (has_edge line.now.source line.now.target rows)) × Shows graph.now self.new (with_line_edge line.now rows)) }
     {
-        if in_graph {
-            return Ok(false);
+        match self.edges.name(line.source, line.target, rank) {
+            Some(added) => Ok(added),
+            None => {
+                self.edges.push_named(line.source, line.target)?;
+                Ok(!has_edge_to(graph.row(line.source), line.target))
+            }
         }
-        let added = self.edges.name(line.source, line.target, rank)?;
-        Ok(added)
     }
 }

@@ -3,12 +3,12 @@
 
 mod batch;
 mod comma;
+mod known;
 mod line;
 mod list;
 mod named_edges;
 mod number;
 mod order;
-mod seen;
 mod text;
 
 pub use batch::into_batch;

@@ -1,20 +1,20 @@
-//! The edges that the lines of a list name, each once, and which of them were named so far.
-ghost use Rattle.std.specs.Prelude.{◌≡◌, ◌<◌, ◌≤◌, ◌⊎◌, ◌&&◌, ℕ, true, false, cond, not, IfOk, IfSome, IsNone, IsTrue};
+//! The edges that the lines of a list name, each once, and which of them are there by now.
+ghost use Rattle.std.specs.Prelude.{◌≡◌, ◌<◌, ◌≤◌, ◌⊎◌, ◌&&◌, ℕ, Bool, [], true, cond, not, IfOk, IfSome, IsNone, IsTrue, OnErr, OnOk};
 ghost use Rattle.std.specs.BTreeMap.{is_at};
 ghost use Rattle.std.specs.Ordering.{nat_cmp};
-ghost use Rattle.pg_import.specs.NamedEdges.{IsApart, StandsAt, is_edge, named_in};
+ghost use Rattle.pg_import.specs.NamedEdges.{AreThereAs, IsApart, StandsAt, is_edge, there_in};
 
 use crate::Memory;
 use pg_graph::VertexId;
 use std::alloc::Global;
 use std::marker::Model;
 
-/// An edge, and whether it was named.
+/// An edge, and whether it is there: a graph has it, or a line so far has named it.
 #[derive(Clone, Copy)]
 pub(crate) struct NamedEdge {
     pub(crate) source: VertexId,
     pub(crate) target: VertexId,
-    pub(crate) named: bool,
+    pub(crate) there: bool,
 }
 
 impl NamedEdge {
@@ -45,55 +45,48 @@ impl Model for NamedEdges {
 }
 
 impl NamedEdges {
-    /// These edges, which stand by rising source and target, each once; none was named. Costs O(k) for
-    /// k edges. An edge out of order is left out.
-    pub(crate) fn of(alloc: Global, edges: &[(VertexId, VertexId)]) -> Result<NamedEdges, Memory>
-        ensures { IfOk result (λ edges. (source target : ℕ) → named_in source target edges ≡ false) }
-    {
-        let mut once = Vec::with_capacity(alloc, edges.len())?;
-        let (mut from, mut to) = (0, 0);
-        for (source, target) in edges {
-            if is_past(from, to, source.number(), target.number()) {
-                once.push(NamedEdge {
-                    source: *source,
-                    target: *target,
-                    named: false,
-                })?;
-                from = source.number();
-                to = target.number() + 1;
-            }
-        }
-        Ok(NamedEdges { edges: once })
-    }
-
-    /// Names an edge, and says whether it wasn't named yet. Costs O(1) where the edge is at the place
-    /// where it is expected, and a search through all edges elsewhere.
+    /// Names an edge, and says whether it wasn't there yet; none where it isn't one of these. Costs O(1) where the edge is
+    /// at the place where it is expected, and a search through all edges elsewhere.
     pub(crate) fn name(
         &mut self,
         source: VertexId,
         target: VertexId,
         expected: usize,
-    ) -> Result<bool, Memory>
-        ensures added { IfOk result (λ added. added ≡ not (named_in source target self.old)) }
-        ensures named { IfOk result (λ _. (s t : ℕ) → named_in s t self.new
-            ≡ cond (is_at (nat_cmp source) s && is_at (nat_cmp target) t) true (named_in s t self.old)) }
+    ) -> Option<bool>
+        ensures added { IfSome result (λ added. (elsewhere : Bool) → added ≡ not (there_in source target elsewhere self.old)) }
+        ensures named { IfSome result (λ _. (s t : ℕ) (elsewhere : Bool) → there_in s t elsewhere self.new
+            ≡ cond (is_at (nat_cmp source) s && is_at (nat_cmp target) t) true (there_in s t elsewhere self.old)) }
+        ensures apart { IsNone result → IsApart source target self.old }
+        ensures same { IsNone result → self.new ≡ self.old }
     {
-        let edge = NamedEdge {
+        let place = self.place_of(source, target, expected)?;
+        let added = !self.edges[place].there;
+        self.edges[place] = NamedEdge {
             source,
             target,
-            named: true,
+            there: true,
         };
-        match self.place_of(source, target, expected) {
-            Some(place) => {
-                let added = !self.edges[place].named;
-                self.edges[place] = edge;
-                Ok(added)
-            }
-            None => {
-                self.edges.push(edge)?;
-                Ok(true)
-            }
-        }
+        Some(added)
+    }
+
+    /// Adds an edge that is named.
+    pub(crate) fn push_named(&mut self, source: VertexId, target: VertexId) -> Result<(), Memory>
+        requires { IsApart source target self.old }
+        ensures { OnOk result ((s t : ℕ) (elsewhere : Bool) → there_in s t elsewhere self.new
+            ≡ cond (is_at (nat_cmp source) s && is_at (nat_cmp target) t) true (there_in s t elsewhere self.old)) }
+    {
+        let there = true;
+        self.edges.push(NamedEdge {
+            source,
+            target,
+            there,
+        })?;
+        Ok(())
+    }
+
+    /// How many there are.
+    pub(crate) fn len(&self) -> usize {
+        self.edges.len()
     }
 
     /// Where an edge is, if it is anywhere.
@@ -123,13 +116,81 @@ impl NamedEdges {
     }
 }
 
-/// Whether a source and a target don't come before others.
-fn is_past(from: u64, to: u64, source: u64, target: u64) -> bool
-    ensures { IsTrue result → (from < source) ⊎ ((from ≡ source) × (to ≤ target)) }
-{
-    if from == source {
-        to <= target
-    } else {
-        from < source
+/// Edges that are gathered by rising source and target, each once. A contract sees a source and a target that they all
+/// come before, and the list of them.
+#[derive(Drop)]
+pub(crate) struct EdgesOnce {
+    edges: Vec<NamedEdge>,
+    from: u64,
+    to: u64,
+}
+
+impl Model for EdgesOnce {
+    ghost use Rattle.std.specs.Prelude.{ℕ, List};
+    ghost use Rattle.pg_import.specs.NamedEdges.{AreBefore, AreDistinct};
+    ghost use Rattle.pg_import.specs.declared.named_edges.NamedEdge.{NamedEdge};
+
+    ghost Value = { ℕ × ℕ × List NamedEdge };
+
+    ghost view = { λ e. (e.from, e.to, e.edges.items) };
+
+    ghost invariant = { λ e. AreDistinct e.edges.items × AreBefore e.from e.to e.edges.items };
+}
+
+impl EdgesOnce {
+    /// None, with room for so many.
+    pub(crate) fn new(alloc: Global, edges: usize) -> Result<EdgesOnce, Memory>
+        ensures { IfOk result (λ once. once.2 ≡ []) }
+    {
+        Ok(EdgesOnce {
+            edges: Vec::with_capacity(alloc, edges)?,
+            from: 0,
+            to: 0,
+        })
+    }
+
+    /// Where the last one stands.
+    pub(crate) fn last(&self) -> usize {
+        self.edges.len().saturating_sub(1)
+    }
+
+    /// Whether an edge comes after the last one.
+    pub(crate) fn takes(&self, source: VertexId, target: VertexId) -> bool
+        ensures { IsTrue result → (self.now.0 < source) ⊎ ((self.now.0 ≡ source) × (self.now.1 ≤ target)) }
+    {
+        let (source, target) = (source.number(), target.number());
+        if self.from == source {
+            self.to <= target
+        } else {
+            self.from < source
+        }
+    }
+
+    /// Adds an edge that comes after the last one.
+    pub(crate) fn add(
+        &mut self,
+        source: VertexId,
+        target: VertexId,
+        there: bool,
+    ) -> Result<(), Memory>
+        requires { (self.old.0 < source) ⊎ ((self.old.0 ≡ source) × (self.old.1 ≤ target)) }
+        ensures ok { OnOk result ((has : ℕ → ℕ → Bool) → there ≡ has source target → AreThereAs has self.old.2 → AreThereAs has self.new.2) }
+        ensures err { OnErr result (self.new ≡ self.old) }
+    {
+        self.edges.push(NamedEdge {
+            source,
+            target,
+            there,
+        })?;
+        self.from = source.number();
+        self.to = target.number() + 1;
+        Ok(())
+    }
+
+    /// All of them.
+    pub(crate) fn finish(self) -> NamedEdges
+        ensures { result ≡ self.2 }
+    {
+        NamedEdges { edges: self.edges }
     }
 }

@@ -1,52 +1,44 @@
-//! Lines in the order of their ends. No answer depends on it: it says where to look first.
+//! What the lines of a list name, by rising id. No answer depends on the order: it says where to look first.
+ghost use Rattle.std.specs.Prelude.{◌≡◌, IfOk};
+ghost use Rattle.pg_import.specs.Batch.{has_edge, has_vertex};
+ghost use Rattle.pg_import.specs.NamedEdges.{AreThereAs};
 
+use crate::known::Known;
+use crate::named_edges::NamedEdges;
 use crate::{Line, Memory};
-use pg_graph::{VertexId, places_by_id, reordered_by_id};
+use pg_graph::{Graph, VertexId, places_by_id, reordered_by_id};
 use std::alloc::Global;
 
-/// The lines of a list in the order of their ends, and the vertices at the ends, each once.
+/// The vertices and the edges that the lines of a list name, each once and with whether a graph has it, and where those of
+/// each line stand among them.
 #[derive(Drop)]
 pub(crate) struct Order {
-    /// The places of lines by rising target.
-    pub(crate) by_target: Vec<usize>,
-    /// The places of lines by rising source, and those of one source by rising target.
-    pub(crate) by_edge: Vec<usize>,
-    /// Where the ends of lines stand among all vertices.
+    /// Each as the edge to itself.
+    pub(crate) vertices: NamedEdges,
+    pub(crate) edges: NamedEdges,
     pub(crate) ranks: Ranks,
 }
 
 impl Order {
-    /// The order of these lines. Costs O(k) for k lines.
-    pub(crate) fn of(alloc: Global, lines: &[Line]) -> Result<Order, Memory> {
+    /// What these lines name. Costs O(k log n) for k lines and a graph of n vertices and edges.
+    pub(crate) fn of(alloc: Global, lines: &[Line], graph: &Graph) -> Result<Order, Memory>
+        ensures vertices { IfOk result (λ order. AreThereAs (λ id _. has_vertex id graph.now) order.vertices) }
+        ensures edges { IfOk result (λ order. AreThereAs (λ source target. has_edge source target graph.now) order.edges) }
+    {
         let targets = target_ids(alloc, lines)?;
         let by_target = places_by_id(alloc, targets.as_slice())?;
         let sources = source_ids(alloc, lines)?;
         let by_edge = reordered_by_id(alloc, sources.as_slice(), by_target.clone()?)?;
         let mut ranks = Ranks::new(alloc, lines.len())?;
-        ranks.add_all(
-            (sources.as_slice(), by_edge.as_slice()),
-            (targets.as_slice(), by_target.as_slice()),
-        )?;
+        let mut known = Known::new(alloc, graph, lines.len())?;
+        let by_target = (targets.as_slice(), by_target.as_slice());
+        ranks.add_all(&mut known, lines, by_edge.as_slice(), by_target)?;
+        let (vertices, edges) = known.finish();
         Ok(Order {
-            by_target,
-            by_edge,
+            vertices,
+            edges,
             ranks,
         })
-    }
-
-    /// The edges of the lines by rising source and target.
-    pub(crate) fn edges(
-        &self,
-        alloc: Global,
-        lines: &[Line],
-    ) -> Result<Vec<(VertexId, VertexId)>, Memory> {
-        let mut edges = Vec::with_capacity(alloc, lines.len())?;
-        for place in &self.by_edge {
-            if let Some(line) = lines.get(*place) {
-                edges.push((line.source, line.target))?;
-            }
-        }
-        Ok(edges)
     }
 }
 
@@ -68,22 +60,21 @@ fn target_ids(alloc: Global, lines: &[Line]) -> Result<Vec<VertexId>, Memory> {
     Ok(targets)
 }
 
-/// The vertices at the ends of lines, each once, and where the ends of each line stand among them.
+/// Where the ends and the edge of each line of a list stand among all.
 #[derive(Drop)]
 pub(crate) struct Ranks {
-    /// By rising id, each as an edge to itself.
-    pub(crate) vertices: Vec<(VertexId, VertexId)>,
     sources: Vec<usize>,
     targets: Vec<usize>,
+    edges: Vec<usize>,
 }
 
 impl Ranks {
-    /// No vertices yet, for so many lines, each of which has two.
+    /// All at the beginning, for so many lines.
     fn new(alloc: Global, lines: usize) -> Result<Ranks, Memory> {
         Ok(Ranks {
-            vertices: Vec::with_capacity(alloc, lines.saturating_mul(2))?,
             sources: Vec::from_elem(alloc, 0, lines)?,
             targets: Vec::from_elem(alloc, 0, lines)?,
+            edges: Vec::from_elem(alloc, 0, lines)?,
         })
     }
 
@@ -97,52 +88,57 @@ impl Ranks {
         self.targets.get(place).copied().unwrap_or(0)
     }
 
-    /// Adds the ends of lines: the ids at one end with their places by rising id, and those at the other.
+    /// Where the edge of the line at a place stands among the edges.
+    pub(crate) fn of_edge(&self, place: usize) -> usize {
+        self.edges.get(place).copied().unwrap_or(0)
+    }
+
+    /// Adds the ends and the edges of lines, by their places by rising source and target, and by the ids of their targets
+    /// with the places by rising id.
     fn add_all(
         &mut self,
-        sources: (&[VertexId], &[usize]),
-        targets: (&[VertexId], &[usize]),
-    ) -> Result<(), Memory> {
-        let mut left = targets.1;
-        for place in sources.1 {
-            if let Some(id) = sources.0.get(*place) {
-                left = self.add_targets(targets.0, left, id.number())?;
-                let rank = self.add(*id)?;
+        known: &mut Known<'_>,
+        lines: &[Line],
+        by_edge: &[usize],
+        by_target: (&[VertexId], &[usize]),
+    ) -> Result<(), Memory>
+        ensures { known.new.0 ≡ known.old.0 }
+    {
+        let (targets, mut left) = by_target;
+        for place in by_edge {
+            if let Some(line) = lines.get(*place) {
+                left = self.add_targets(known, targets, left, line.source.number())?;
+                let rank = known.add_vertex(line.source)?;
                 set(self.sources.as_mut_slice(), *place, rank);
+                let rank = known.add_edge(line.source, line.target)?;
+                set(self.edges.as_mut_slice(), *place, rank);
             }
         }
-        self.add_targets(targets.0, left, u64::MAX)?;
+        self.add_targets(known, targets, left, u64::MAX)?;
         Ok(())
     }
 
     /// Adds the targets at these places whose numbers aren't above this one, and hands back the other places.
     fn add_targets<'a>(
         &mut self,
+        known: &mut Known<'_>,
         ids: &[VertexId],
         places: &'a [usize],
         last: u64,
-    ) -> Result<&'a [usize], Memory> {
+    ) -> Result<&'a [usize], Memory>
+        ensures { known.new.0 ≡ known.old.0 }
+    {
         for (count, place) in places.iter().enumerate() {
             if let Some(id) = ids.get(*place).copied() {
                 if id.number() > last {
                     let (_, left) = places.split_at(count);
                     return Ok(left);
                 }
-                let rank = self.add(id)?;
+                let rank = known.add_vertex(id)?;
                 set(self.targets.as_mut_slice(), *place, rank);
             }
         }
         Ok(&[])
-    }
-
-    /// Adds a vertex, which is the last one or comes after it, and says where it stands.
-    fn add(&mut self, id: VertexId) -> Result<usize, Memory> {
-        let vertices = self.vertices.len();
-        if vertices > 0 && self.vertices[vertices - 1].0 == id {
-            return Ok(vertices - 1);
-        }
-        self.vertices.push((id, id))?;
-        Ok(vertices)
     }
 }
 
