@@ -1,2 +1,3 @@
 pub mod AtPlace
 pub mod SideBySide
+pub mod LastRow

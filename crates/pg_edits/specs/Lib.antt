@@ -4,6 +4,7 @@ pub mod EdgeList
 pub mod Edges
 pub mod EditFault
 pub mod EditKind
+pub mod LastRow
 pub mod Packing
 pub mod Places
 pub mod RowEdit

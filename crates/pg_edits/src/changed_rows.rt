@@ -1,11 +1,14 @@
 //! Changed rows, gathered one after another with their edges in few lists.
 ghost use Rattle.std.specs.Prelude.{◌≡◌, [], ◌∷◌, ◌++◌, Some, IfOk, OnOk};
-ghost use Rattle.pg_edits.specs.ChangedRows.{changes_of};
+ghost use Rattle.std.specs.Option.{option_copied};
+ghost use Rattle.pg_edits.specs.ChangedRows.{Edited, changes_of, degree_of};
 ghost use Rattle.pg_edits.specs.EdgeList.{IsRising};
 ghost use Rattle.pg_edits.specs.Packing.{AreParts};
 
+use crate::last_row::add_edited;
 use crate::packing::{LARGE, Waiting};
-use crate::{DraftRow, Edges, Memory, Row, VertexId};
+use crate::vertex::vertex_after;
+use crate::{DraftRow, Edges, Edit, EditFault, Memory, Row, VertexId};
 use std::alloc::Global;
 use std::marker::Model;
 use std::mem;
@@ -61,32 +64,94 @@ impl ChangedRows {
         })
     }
 
-    /// Adds what becomes of a vertex.
-    pub fn push(&mut self, alloc: Global, id: VertexId, row: Option<DraftRow>) -> Result<(), Memory>
-        ensures { OnOk result (self.new ≡ self.old ++ (id, row) ∷ []) }
+    /// Makes edits of one vertex, with their places, of its row, if it has one, one after another, and adds what becomes of it.
+    /// Says how many edges it has then. The inner fault is the first edit that has no result, and why; then nothing is added.
+    /// What the limits of a graph forbid isn't asked here.
+    ///
+    /// With d edges and k edits it costs O(d k) where d + k is at most 256, and O((d + k) log(d + k)) elsewhere.
+    ///
+    /// # Errors
+    ///
+    /// Where a growth is refused; nothing is said of what was added so far then.
+    pub fn edit(
+        &mut self,
+        alloc: Global,
+        id: VertexId,
+        row: Option<&Row>,
+        edits: &[(u64, Edit)],
+    ) -> Result<Result<u64, EditFault>, Memory>
+        ensures { IfOk result (Edited id (option_copied row.entry) edits.now self.old self.new) }
     {
-        match row {
-            Some(row) => self.push_row(alloc, id, row),
-            None => self.push_done(alloc, id, None),
+        if is_large(row, edits.len()) {
+            self.edit_large(alloc, id, row, edits)
+        } else {
+            self.edit_small(alloc, id, row, edits)
         }
     }
 
-    /// Adds a row. A large one, or one on a map, gets a list of its own.
-    fn push_row(&mut self, alloc: Global, id: VertexId, row: DraftRow) -> Result<(), Memory>
-        ensures { OnOk result (self.new ≡ self.old ++ (id, Some row) ∷ []) }
+    /// The same, where the edges are edited behind those of the rows before.
+    fn edit_small(
+        &mut self,
+        alloc: Global,
+        id: VertexId,
+        row: Option<&Row>,
+        edits: &[(u64, Edit)],
+    ) -> Result<Result<u64, EditFault>, Memory>
+        ensures { IfOk result (Edited id (option_copied row.entry) edits.now self.old self.new) }
     {
-        if !self.gathers {
-            settle(alloc, &mut self.done, &mut self.waiting, &mut self.edges)?;
-        } else if self.edges.len() >= FULL {
-            self.begin_list(alloc)?;
+        self.make_room(alloc)?;
+        let first = self.edges.len();
+        let input = match add_edited(&mut self.edges, row, edits)? {
+            Ok(input) => input,
+            Err(fault) => return Ok(Err(fault)),
+        };
+        let degree = self.edges.len() - first;
+        match input {
+            Some(input) => self.waiting.push(Waiting {
+                id,
+                input,
+                first,
+                degree,
+            })?,
+            None => self.push_done(alloc, id, None)?,
         }
-        match row.small_list() {
-            Some(edges) => self.wait(id, row.input(), edges),
-            None => {
-                let row = row.into_row(alloc)?;
-                self.push_done(alloc, id, Some(row))
+        Ok(Ok(degree as u64))
+    }
+
+    /// The same, where the edges are edited by themselves.
+    fn edit_large(
+        &mut self,
+        alloc: Global,
+        id: VertexId,
+        row: Option<&Row>,
+        edits: &[(u64, Edit)],
+    ) -> Result<Result<u64, EditFault>, Memory>
+        ensures { IfOk result (Edited id (option_copied row.entry) edits.now self.old self.new) }
+    {
+        let changed = match vertex_after(alloc, row, edits)? {
+            Ok(changed) => changed,
+            Err(fault) => return Ok(Err(fault)),
+        };
+        let degree = degree_of(&changed);
+        let row = match changed {
+            Some(row) => Some(row.into_row(alloc)?),
+            None => None,
+        };
+        self.push_done(alloc, id, row)?;
+        Ok(Ok(degree))
+    }
+
+    /// Makes room for one more row that waits.
+    fn make_room(&mut self, alloc: Global) -> Result<(), Memory>
+        ensures { OnOk result (self.new ≡ self.old) }
+    {
+        if self.gathers {
+            if self.edges.len() >= FULL {
+                self.begin_list(alloc)?;
             }
+            return Ok(());
         }
+        settle(alloc, &mut self.done, &mut self.waiting, &mut self.edges)
     }
 
     /// Begins a new list of edges, with room until it is full.
@@ -107,22 +172,6 @@ impl ChangedRows {
         Ok(())
     }
 
-    /// Adds a row that waits.
-    fn wait(&mut self, id: VertexId, input: i64, edges: &[(VertexId, i64)]) -> Result<(), Memory>
-        requires { IsRising edges.now }
-        ensures { OnOk result (self.new ≡ self.old ++ (id, Some (record { input = input; edges = edges.now })) ∷ []) }
-    {
-        let first = self.edges.len();
-        self.edges.extend_from_slice(edges)?;
-        self.waiting.push(Waiting {
-            id,
-            input,
-            first,
-            degree: edges.len(),
-        })?;
-        Ok(())
-    }
-
     /// All of them.
     pub fn finish(self, alloc: Global) -> Result<Vec<(VertexId, Option<Row>)>, Memory>
         ensures { IfOk result (λ rows. rows.items ≡ self) }
@@ -135,6 +184,25 @@ impl ChangedRows {
         } = self;
         settle(alloc, &mut done, &mut waiting, &mut edges)?;
         Ok(done)
+    }
+}
+
+/// Whether a row has so many edges that, with so many edits, it gets a list of its own.
+fn is_large(row: Option<&Row>, edits: usize) -> bool {
+    let edges = match row {
+        Some(row) => row.edges.as_slice().len(),
+        None => 0,
+    };
+    edges.saturating_add(edits) > LARGE
+}
+
+/// How many edges a row has, if it is there.
+fn degree_of(row: &Option<DraftRow>) -> u64
+    ensures { result ≡ degree_of row.now }
+{
+    match row {
+        Some(row) => row.degree(),
+        None => 0,
     }
 }
 

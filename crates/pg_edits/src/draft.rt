@@ -1,10 +1,9 @@
 //! A row that is being edited.
-ghost use Rattle.std.specs.Prelude.{◌≡◌, ◌+◌, [], length, is_some, IfOk, IfSome, OnOk, if◌then◌else◌};
+ghost use Rattle.std.specs.Prelude.{◌≡◌, ◌+◌, [], length, is_some, IfOk, OnOk, if◌then◌else◌};
 ghost use Rattle.pg_edits.specs.EdgeList.{IsRising, weight_at, with_edge, without_edge};
 
 mod listed;
 
-use crate::packing::LARGE;
 use crate::{Edges, Memory, Row, VertexId};
 use listed::ListedEdges;
 use std::alloc::Global;
@@ -149,29 +148,6 @@ impl DraftRow {
             DraftEdges::Listed(listed) => listed.as_slice().len() as u64,
             DraftEdges::Mapped(map) => map.len() as u64,
         }
-    }
-
-    /// The input.
-    pub(crate) fn input(&self) -> i64
-        ensures { result ≡ self.now.input }
-    {
-        self.input
-    }
-
-    /// The edges, by rising target, where they are a list, and not a large one.
-    pub(crate) fn small_list(&self) -> Option<&[(VertexId, i64)]>
-        ensures value { IfSome result (λ edges. edges.now ≡ self.now.edges) }
-        ensures rising { IfSome result (λ edges. IsRising edges.now) }
-    {
-        let edges = match &self.edges {
-            DraftEdges::Kept(edges) => edges.as_slice(),
-            DraftEdges::Listed(listed) => listed.as_slice(),
-            DraftEdges::Mapped(_) => return None,
-        };
-        if edges.len() > LARGE {
-            return None;
-        }
-        Some(edges)
     }
 
     /// Sets the input.

@@ -9,7 +9,7 @@ use std::alloc::Global;
 /// What edits of one vertex, with their places, make of its row, if it has one, one after another. The
 /// inner result is the first of them that has no result, where there is one, and why; what the limits of
 /// a graph forbid isn't asked here.
-pub fn vertex_after(
+pub(crate) fn vertex_after(
     alloc: Global,
     row: Option<&Row>,
     edits: &[(u64, Edit)],
@@ -29,8 +29,8 @@ pub fn vertex_after(
     Ok(Ok(draft))
 }
 
-/// Makes one edit of a row, or of none. Where it has no result, the inner result says why. A new row is made for so many
-/// edits.
+/// Makes one edit of a row, or of none. Where it has no result, the inner result says why, and nothing is
+/// said of the row. A new row is made for so many edits.
 fn edit_vertex(
     alloc: Global,
     draft: &mut Option<DraftRow>,

@@ -16,7 +16,8 @@ use Rattle.pg_map.proofs.Changing.{rises-changes, value_at-with_changes}
 use Rattle.pg_map.proofs.Parts.{split_all, rises_push, find-left, find-right}
 use Rattle.pg_map.proofs.Rising.{at_same, at_other, same_entries}
 use Rattle.pg_edits.specs.ChangedRows.{Changes}
-use Rattle.pg_graph.specs.Changes.{changed_row_at, degree_of}
+use Rattle.pg_edits.specs.ChangedRows.{degree_of}
+use Rattle.pg_graph.specs.Changes.{changed_row_at}
 use Rattle.pg_graph.specs.Edit.{all_edited}
 use Rattle.pg_graph.specs.Grouped.{RiseBySource, AreGrouped, IsNoLater, IsLeft, IsDone, AreDealt, earlier_of, AreMade, IsFirst}
 use Rattle.pg_edits.specs.RowEdit.{Places, source_of, vertex_after}

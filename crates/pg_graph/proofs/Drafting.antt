@@ -7,7 +7,8 @@ use Rattle.std.specs.Map.{remove_entry}
 use Rattle.std.specs.Option.{option_map, unwrap_or}
 use Rattle.pg_map.specs.Entries.{ChangesRise, with_change, with_changes}
 use Rattle.pg_edits.specs.ChangedRows.{Changes}
-use Rattle.pg_graph.specs.Changes.{changed_row_at, degree_of}
+use Rattle.pg_edits.specs.ChangedRows.{degree_of}
+use Rattle.pg_graph.specs.Changes.{changed_row_at}
 use Rattle.pg_graph.specs.Draft.{IsCounted, BecomesBy, RefusesEdit}
 use Rattle.pg_graph.specs.Edit.{edited, vertex_limit, edge_limit}
 use Rattle.pg_graph.specs.Rows.{Rows, HasRisingIds, row_at, with_row, without_row, vertex_count, edge_count}

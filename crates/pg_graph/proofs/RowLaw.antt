@@ -10,7 +10,7 @@ use Rattle.std.proofs.lemmas.Bool.Decides.{nat_tests}
 use Rattle.pg_map.specs.Entries.{with_change}
 use Rattle.pg_map.proofs.Changing.{rises-change, change_same, change_other}
 use Rattle.pg_map.proofs.Rising.{length-insert_absent, length-insert_present, length-remove_present}
-use Rattle.pg_graph.specs.Changes.{degree_of}
+use Rattle.pg_edits.specs.ChangedRows.{degree_of}
 use Rattle.pg_edits.specs.EdgeList.{EdgeList, weight_at, with_edge, without_edge}
 use Rattle.pg_graph.specs.Edit.{edited, all_edited, vertex_limit, edge_limit}
 use Rattle.pg_edits.specs.RowEdit.{source_of, row_edited, none_edited, vertex_edited, Places, vertex_after}

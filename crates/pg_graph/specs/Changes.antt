@@ -1,5 +1,5 @@
 -- What changes make of a vertex of a graph.
-use Rattle.std.specs.Prelude.{ℕ, length, Option, None, Some, unwrap_or}
+use Rattle.std.specs.Prelude.{ℕ, Option, unwrap_or}
 use Rattle.std.specs.BTreeMap.{is_at}
 use Rattle.std.specs.Ordering.{nat_cmp}
 use Rattle.std.specs.Map.{lookup}
@@ -10,8 +10,3 @@ use Rattle.pg_edits.specs.declared.row.Row.{Row}
 -- what a vertex has after the changes
 abbrev pub changed_row_at : ℕ → Changes → Rows → Option Row
 changed_row_at id changes rows = unwrap_or (lookup (is_at (nat_cmp id)) changes) (row_at id rows)
-
--- how many edges a row has, if it is there
-abbrev pub degree_of : Option Row → ℕ
-degree_of None = 0
-degree_of (Some row) = length row.edges

@@ -4,7 +4,7 @@ ghost use Rattle.pg_map.specs.Entries.{with_changes};
 ghost use Rattle.std.specs.List.Sorted.{IsPartitionPoint};
 ghost use Rattle.std.specs.Option.{option_copied};
 ghost use Rattle.pg_graph.specs.ById.{AreById, StandAt};
-ghost use Rattle.pg_graph.specs.Changes.{degree_of};
+ghost use Rattle.pg_edits.specs.ChangedRows.{degree_of};
 ghost use Rattle.pg_graph.specs.Draft.{Makes};
 ghost use Rattle.pg_graph.specs.Edit.{batch_edited, RefusesBatch, batch_limit};
 ghost use Rattle.pg_graph.specs.Grouped.{AreCounted, AreGrouped, IsFirst, RiseBySource, earlier_of};
@@ -14,7 +14,7 @@ ghost use Rattle.pg_graph.specs.Rows.{HasRisingIds, edge_count, vertex_count};
 
 use crate::draft::Changes;
 use crate::{Batch, Edit, EditFault, Graph, Memory, Row, VertexId, sorted_by_id};
-use pg_edits::{ChangedRows, DraftRow, vertex_after};
+use pg_edits::ChangedRows;
 use std::alloc::{AllocError, Global};
 
 /// Each changed row pays for a look at so many.
@@ -99,11 +99,8 @@ fn dealt_with(
         let id = first.1.source();
         let (here, later) = left.split_at(count_of(left, id));
         let row = finder.get(id);
-        match vertex_after(alloc, row, here)? {
-            Ok(changed) => {
-                edges = edges_with(edges, row, new_degree(&changed))?;
-                rows.push(alloc, id, changed)?;
-            }
+        match rows.edit(alloc, id, row, here)? {
+            Ok(degree) => edges = edges_with(edges, row, degree)?,
             Err(found) => fault = Some(earlier(fault, found)),
         }
         left = later;
@@ -181,16 +178,6 @@ fn old_degree(row: Option<&Row>) -> u64
 {
     match row {
         Some(row) => row.edges.as_slice().len() as u64,
-        None => 0,
-    }
-}
-
-/// How many edges a row has that was edited, if it is there.
-fn new_degree(row: &Option<DraftRow>) -> u64
-    ensures { result ≡ degree_of row.now }
-{
-    match row {
-        Some(row) => row.degree(),
         None => 0,
     }
 }

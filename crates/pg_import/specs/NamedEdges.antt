@@ -1,4 +1,4 @@
--- The edges that a list names, each once, and which of them are there.
+-- The edges that a list mentions, each once, and which of them are there.
 use Rattle.std.specs.Prelude.{◌≡◌, ℕ, ◌<◌, ◌⊎◌, ⊤, Bool, false, ◌&&◌, if◌then◌else◌, List, [], ◌∷◌, Some}
 use Rattle.std.specs.BTreeMap.{is_at}
 use Rattle.std.specs.List.{AllByRecursion, slice_get}
@@ -14,7 +14,7 @@ abbrev pub there_in : ℕ → ℕ → Bool → List NamedEdge → Bool
 there_in source target elsewhere [] = elsewhere
 there_in source target elsewhere (edge ∷ edges) = if is_edge source target edge then edge.there else there_in source target elsewhere edges
 
--- what entries say of edges is so already
+-- what the entries say of each edge is what `has` says
 abbrev pub AreThereAs : (ℕ → ℕ → Bool) → List NamedEdge → Type 0
 AreThereAs has edges = (source target : ℕ) → there_in source target (has source target) edges ≡ has source target
 

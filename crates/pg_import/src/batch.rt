@@ -4,9 +4,9 @@ ghost use Rattle.pg_graph.specs.Rows.{Rows};
 ghost use Rattle.pg_import.specs.Batch.{Makes, batch_of, edge_edit, has_edge, has_vertex, vertex_edits, with_line_edge, with_lines, with_vertex};
 ghost use Rattle.pg_import.specs.Named.{Shows};
 
-use crate::known::{has_edge_to, is_there};
+use crate::looked_up::{has_edge_to, is_there};
 use crate::named_edges::NamedEdges;
-use crate::order::Order;
+use crate::order::Mentioned;
 use crate::{Line, Memory};
 use pg_graph::{Batch, Edit, Graph, VertexId};
 use std::alloc::Global;
@@ -20,21 +20,21 @@ pub fn into_batch(alloc: Global, lines: &[Line], graph: &Graph) -> Result<Batch,
     ensures value { IfOk result (λ batch. batch ≡ batch_of lines.now graph.now) }
     ensures makes { IfOk result (λ batch. Makes graph.now batch (with_lines lines.now graph.now)) }
 {
-    let Order {
+    let Mentioned {
         vertices,
         edges,
         ranks,
-    } = Order::of(alloc, lines, graph)?;
+    } = Mentioned::of(alloc, lines, graph)?;
     // For each line its edge, and each vertex at most once.
     let room = lines.len().saturating_add(vertices.len());
     let mut batch = Batch::with_capacity(alloc, room)?;
     let mut named = Named { vertices, edges };
     for (place, line) in lines.iter().enumerate() {
-        let source = named.add_vertex(graph, line.source, ranks.of_source(place))?;
+        let source = named.name_vertex(graph, line.source, ranks.of_source(place))?;
         push_vertex(&mut batch, line.source, source)?;
-        let target = named.add_vertex(graph, line.target, ranks.of_target(place))?;
+        let target = named.name_vertex(graph, line.target, ranks.of_target(place))?;
         push_vertex(&mut batch, line.target, target)?;
-        let edge = named.add_edge(graph, line, ranks.of_edge(place))?;
+        let edge = named.name_edge(graph, line, ranks.of_edge(place))?;
         push_edge(&mut batch, line, edge)?;
     }
     Ok(batch)
@@ -64,7 +64,8 @@ fn push_edge(batch: &mut Batch, line: &Line, is_new: bool) -> Result<(), Memory>
     }
 }
 
-// What lines have named so far, beside what a graph has. A vertex is named as the edge to itself.
+// What all lines mention, and what of it is there by now: a graph has it, or a line so far has named it. A
+// vertex is named as the edge to itself.
 #[derive(Drop)]
 struct Named {
     vertices: NamedEdges,
@@ -73,12 +74,13 @@ struct Named {
 
 impl Named {
     // Names a vertex, and says whether it wasn't there yet. It is expected at this rank.
-    fn add_vertex(&mut self, graph: &Graph, id: VertexId, rank: usize) -> Result<bool, Memory>
+    fn name_vertex(&mut self, graph: &Graph, id: VertexId, rank: usize) -> Result<bool, Memory>
         ensures { IfOk result (λ added. (rows : Rows) → Shows graph.now self.old rows
             → (added ≡ not (has_vertex id rows)) × Shows graph.now self.new (with_vertex id rows)) }
     {
         match self.vertices.name(id, id, rank) {
             Some(added) => Ok(added),
+            // No line is known to mention it, which costs time and changes no answer.
             None => {
                 self.vertices.push_named(id, id)?;
                 Ok(!is_there(graph.row(id)))
@@ -87,12 +89,13 @@ impl Named {
     }
 
     // Names the edge of a line, and says whether it wasn't there yet. It is expected at this rank.
-    fn add_edge(&mut self, graph: &Graph, line: &Line, rank: usize) -> Result<bool, Memory>
+    fn name_edge(&mut self, graph: &Graph, line: &Line, rank: usize) -> Result<bool, Memory>
         ensures { IfOk result (λ added. (rows : Rows) → Shows graph.now self.old rows → has_vertex line.now.source rows ≡ true
             → (added ≡ not (has_edge line.now.source line.now.target rows)) × Shows graph.now self.new (with_line_edge line.now rows)) }
     {
         match self.edges.name(line.source, line.target, rank) {
             Some(added) => Ok(added),
+            // As for a vertex.
             None => {
                 self.edges.push_named(line.source, line.target)?;
                 Ok(!has_edge_to(graph.row(line.source), line.target))

@@ -3,9 +3,9 @@
 
 mod batch;
 mod comma;
-mod known;
 mod line;
 mod list;
+mod looked_up;
 mod named_edges;
 mod number;
 mod order;

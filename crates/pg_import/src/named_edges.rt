@@ -1,4 +1,4 @@
-//! The edges that the lines of a list name, each once, and which of them are there by now.
+//! The edges that the lines of a list mention, each once, and which of them are there by now.
 ghost use Rattle.std.specs.Prelude.{◌≡◌, ◌<◌, ◌≤◌, ◌⊎◌, ◌&&◌, ℕ, Bool, [], true, cond, not, IfOk, IfSome, IsNone, IsTrue, OnErr, OnOk};
 ghost use Rattle.std.specs.BTreeMap.{is_at};
 ghost use Rattle.std.specs.Ordering.{nat_cmp};
@@ -45,8 +45,8 @@ impl Model for NamedEdges {
 }
 
 impl NamedEdges {
-    /// Names an edge, and says whether it wasn't there yet; none where it isn't one of these. Costs O(1) where the edge is
-    /// at the place where it is expected, and a search through all edges elsewhere.
+    /// Names an edge, and says whether it wasn't there yet; none where it isn't one of these. Costs O(1)
+    /// where the edge is at the place where it is expected, and a search through all edges elsewhere.
     pub(crate) fn name(
         &mut self,
         source: VertexId,
@@ -69,7 +69,7 @@ impl NamedEdges {
         Some(added)
     }
 
-    /// Adds an edge that is named.
+    /// Adds an edge that is none of these, as one that is named.
     pub(crate) fn push_named(&mut self, source: VertexId, target: VertexId) -> Result<(), Memory>
         requires { IsApart source target self.old }
         ensures { OnOk result ((s t : ℕ) (elsewhere : Bool) → there_in s t elsewhere self.new
@@ -116,8 +116,8 @@ impl NamedEdges {
     }
 }
 
-/// Edges that are gathered by rising source and target, each once. A contract sees a source and a target that they all
-/// come before, and the list of them.
+/// Edges that are gathered by rising source and target, each once. A contract sees a source and a target
+/// that they all come before, and the list of them.
 #[derive(Drop)]
 pub(crate) struct EdgesOnce {
     edges: Vec<NamedEdge>,
@@ -150,7 +150,7 @@ impl EdgesOnce {
     }
 
     /// Where the last one stands.
-    pub(crate) fn last(&self) -> usize {
+    pub(crate) fn last_place(&self) -> usize {
         self.edges.len().saturating_sub(1)
     }
 

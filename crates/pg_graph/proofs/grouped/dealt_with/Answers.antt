@@ -2,7 +2,7 @@ use Rattle.std.proofs.Common.{◌≡◌, ◌+◌, [], ◌∷◌, ◌++◌, Some,
 use Rattle.std.proofs.lemmas.List.{nil_from_length}
 use Rattle.std.specs.List.Sorted.{IsPartitionPoint}
 use Rattle.pg_map.specs.Entries.{with_changes}
-use Rattle.pg_graph.specs.Changes.{degree_of}
+use Rattle.pg_edits.specs.ChangedRows.{degree_of}
 use Rattle.pg_edits.specs.RowEdit.{source_of, vertex_after}
 use Rattle.pg_graph.specs.Grouped.{AreDealt, AreMade}
 use Rattle.pg_graph.specs.Rows.{edge_count, row_at}
@@ -38,8 +38,8 @@ edges_with-requires c =
     let was = c.get-row.ensures.value ∙ ap (row_at c.source-id.result) c.loop-first.invariant.found ∙ ap (λ k. row_at k rows) id in
     omega (arith, fits, ap degree_of was, c.loop-first.invariant.counted)
 
-pub loop-first-preserved-in_ok-push-in-Ok : goal.loop-first-preserved-in_ok-push-in-Ok
-loop-first-preserved-in_ok-push-in-Ok c =
+pub loop-first-preserved-in_ok-edges-in-Ok : goal.loop-first-preserved-in_ok-edges-in-Ok
+loop-first-preserved-in_ok-edges-in-Ok c =
     let rows = c.args.graph.now in
     let changes = c.loop-first.rows in
     let id = c.source-id.ensures in
@@ -55,19 +55,21 @@ loop-first-preserved-in_ok-push-in-Ok c =
           (λ e. leb (source_of e.1) k ≡ false) left c.count_of.result) id c.count_of.ensures.parts;
     } in
     let was = c.get-row.ensures.value ∙ ap (row_at c.source-id.result) c.loop-first.invariant.found ∙ ap (λ k. row_at k rows) id in
-    let made = sym c.in-Ok.is ∙ c.in_ok-changed.ensures ∙ ap (λ r. vertex_after r here) was in
-    let grown = c.in_ok-push-in-Ok.ensures ∙ ap (λ k. changes ++ (k, c.in-Ok.changed) ∷ []) id in
+    let told = rw c.in-Ok.is at c.in_ok-degree.ensures in
+    let changed = told.0 in
+    let made = sym told.1 ∙ ap (λ r. vertex_after r here) was in
+    let grown = told.2 ∙ ap (λ k. changes ++ (k, changed) ∷ []) id in
     let none = not_changed rows c.args.edits.now left here _ _ c.in-Some.first.now c.count_of.result changes c.loop-first.fault turn
     c.loop-first.invariant.dealt in
     let edges : c.in_ok-edges-in-Ok.edges + degree_of (row_at (source_of c.in-Some.first.now.1) rows) ≡ edge_count
-    (with_changes changes rows) + degree_of c.in-Ok.changed =
-    omega (arith, c.in_ok-edges-in-Ok.ensures, ap degree_of was, c.new_degree.ensures, c.loop-first.invariant.counted) in
+    (with_changes changes rows) + degree_of changed =
+    omega (arith, c.in_ok-edges-in-Ok.ensures, ap degree_of was, told.3, c.loop-first.invariant.counted) in
     record {
       found = c.get-row.ensures.same ∙ c.loop-first.invariant.found;
       dealt = row_found rows c.args.edits.now left here _ _ c.in-Some.first.now c.count_of.result changes c.loop-first.fault turn
-          c.loop-first.invariant.dealt c.in-Ok.changed made _ grown;
+          c.loop-first.invariant.dealt changed made _ grown;
       counted =
-          next_counted rows changes c.requires.rising c.loop-first.invariant.dealt.changes_rise _ none c.in-Ok.changed c.in_ok-edges-in-Ok.edges edges
+          next_counted rows changes c.requires.rising c.loop-first.invariant.dealt.changes_rise _ none changed c.in_ok-edges-in-Ok.edges edges
           ∙ ap (λ l. edge_count (with_changes l rows)) (sym grown);
     }
 
@@ -88,17 +90,18 @@ loop-first-preserved c =
           (λ e. leb (source_of e.1) k ≡ false) left c.count_of.result) id c.count_of.ensures.parts;
     } in
     let was = c.get-row.ensures.value ∙ ap (row_at c.source-id.result) c.loop-first.invariant.found ∙ ap (λ k. row_at k rows) id in
-    let made = sym c.in-Err.is ∙ c.in_ok-changed.ensures ∙ ap (λ r. vertex_after r here) was in
-    record {
+    let told = rw c.in-Err.is at c.in_ok-degree.ensures in
+    let made = sym told.0 ∙ ap (λ r. vertex_after r here) was in
+    rw told.1 (record {
       found = c.get-row.ensures.same ∙ c.loop-first.invariant.found;
       dealt = subst (λ f. AreDealt rows c.args.edits.now c.split_at.result.1.now changes (Some f)) (sym c.earlier.ensures)
           (fault_found rows c.args.edits.now left here _ _ c.in-Some.first.now c.count_of.result changes c.loop-first.fault turn
           c.loop-first.invariant.dealt c.in-Err.found made);
       counted = c.loop-first.invariant.counted;
-    }
+    })
 
-pub loop-first-smaller-in_ok-push-in-Ok : goal.loop-first-smaller-in_ok-push-in-Ok
-loop-first-smaller-in_ok-push-in-Ok c =
+pub loop-first-smaller-in_ok-edges-in-Ok : goal.loop-first-smaller-in_ok-edges-in-Ok
+loop-first-smaller-in_ok-edges-in-Ok c =
     let id = c.source-id.ensures in
     let left = c.loop-first.left.now in
     fewer_left left c.split_at.result.0.now c.split_at.result.1.now c.in-Some.field-0-1.now c.in-Some.first.now c.count_of.result (record {

@@ -2,7 +2,7 @@ use Rattle.std.proofs.Common.{not, is_some, refl, ap, sym, ◌∙◌}
 use Rattle.pg_import.specs.Batch.{has_vertex}
 use Rattle.pg_import.proofs.NamedEdgeFacts.{there_in-apart}
 use Rattle.pg_import.proofs.NamedFacts.{Shows-vertex}
-use Rattle.pg_import.proofs.batch.Named.add_vertex.Goals as goal
+use Rattle.pg_import.proofs.batch.Named.name_vertex.Goals as goal
 
 pub returns-in-Some : goal.returns-in-Some
 returns-in-Some c = λ rows shows. (

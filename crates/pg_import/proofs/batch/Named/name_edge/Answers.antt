@@ -4,7 +4,7 @@ use Rattle.pg_edits.specs.EdgeList.{weight_at}
 use Rattle.pg_import.specs.Batch.{has_edge}
 use Rattle.pg_import.proofs.NamedEdgeFacts.{there_in-apart}
 use Rattle.pg_import.proofs.NamedFacts.{Shows-edge}
-use Rattle.pg_import.proofs.batch.Named.add_edge.Goals as goal
+use Rattle.pg_import.proofs.batch.Named.name_edge.Goals as goal
 
 pub returns-in-Some : goal.returns-in-Some
 returns-in-Some c = λ rows shows source.

@@ -1,9 +1,9 @@
-//! What the lines of a list name, looked up in a graph by rising id: look-ups that lie near one another in memory come one
-//! after another.
+//! What the lines of a list mention, looked up in a graph by rising id: look-ups that lie near one another
+//! in memory come one after another.
 ghost use Rattle.std.specs.Prelude.{◌≡◌, is_some, option_and_then, IfOk};
 ghost use Rattle.std.specs.Option.{option_copied};
 ghost use Rattle.pg_edits.specs.EdgeList.{weight_at};
-ghost use Rattle.pg_graph.specs.Rows.{Rows, row_at};
+ghost use Rattle.pg_graph.specs.Rows.{row_at};
 ghost use Rattle.pg_import.specs.Batch.{has_edge, has_vertex};
 ghost use Rattle.pg_import.specs.NamedEdges.{AreThereAs};
 
@@ -13,71 +13,71 @@ use pg_graph::{Finder, Graph, Row, VertexId};
 use std::alloc::Global;
 use std::marker::Model;
 
-/// Vertices and edges that lines name, by rising id, each once and with whether a graph has it; a vertex as the edge to
-/// itself. A contract sees the graph and both lists.
+/// Vertices and edges that lines mention, by rising id, each once and with whether a graph has it; a vertex
+/// as the edge to itself. A contract sees the graph.
 #[derive(Drop)]
-pub(crate) struct Known<'a> {
+pub(crate) struct LookedUp<'a> {
     vertices: EdgesOnce,
     edges: EdgesOnce,
-    last: LastRow<'a>,
+    last_row: LastRow<'a>,
 }
 
-impl<'a> Model for Known<'a> {
-    ghost use Rattle.std.specs.Prelude.{List};
+impl<'a> Model for LookedUp<'a> {
     ghost use Rattle.pg_graph.specs.Rows.{Rows};
     ghost use Rattle.pg_import.specs.Batch.{has_edge, has_vertex};
     ghost use Rattle.pg_import.specs.NamedEdges.{AreThereAs};
-    ghost use Rattle.pg_import.specs.declared.named_edges.NamedEdge.{NamedEdge};
 
-    ghost Value = { Rows × List NamedEdge × List NamedEdge };
+    ghost Value = { Rows };
 
-    ghost view = { λ k. (k.last, k.vertices.2, k.edges.2) };
+    ghost view = { λ l. l.last_row };
 
-    ghost invariant = { λ k. AreThereAs (λ id _. has_vertex id k.last) k.vertices.2
-        × AreThereAs (λ source target. has_edge source target k.last) k.edges.2 };
+    ghost invariant = { λ l. AreThereAs (λ id _. has_vertex id l.last_row) l.vertices.2
+        × AreThereAs (λ source target. has_edge source target l.last_row) l.edges.2 };
 }
 
-impl<'a> Known<'a> {
+impl<'a> LookedUp<'a> {
     /// None yet, with room for those of so many lines.
-    pub(crate) fn new(alloc: Global, graph: &'a Graph, lines: usize) -> Result<Known<'a>, Memory>
-        ensures { IfOk result (λ known. known.0 ≡ graph.now) }
+    pub(crate) fn new(alloc: Global, graph: &'a Graph, lines: usize) -> Result<LookedUp<'a>, Memory>
+        ensures { IfOk result (λ looked_up. looked_up ≡ graph.now) }
     {
-        Ok(Known {
+        Ok(LookedUp {
             vertices: EdgesOnce::new(alloc, lines.saturating_mul(2))?,
             edges: EdgesOnce::new(alloc, lines)?,
-            last: LastRow::of(graph),
+            last_row: LastRow::of(graph),
         })
     }
 
-    /// Adds a vertex, which is the last one or comes after it, and says where it stands.
+    /// Adds a vertex, which is the last one or comes after it, and says where it stands. One that comes
+    /// before is left out, and another place told.
     pub(crate) fn add_vertex(&mut self, id: VertexId) -> Result<usize, Memory>
-        ensures { self.new.0 ≡ self.old.0 }
+        ensures { self.new ≡ self.old }
     {
         if !self.vertices.takes(id, id) {
-            return Ok(self.vertices.last());
+            return Ok(self.vertices.last_place());
         }
-        let there = is_there(self.last.row_at(id));
+        let there = is_there(self.last_row.row_at(id));
         self.vertices.add(id, id, there)?;
-        Ok(self.vertices.last())
+        Ok(self.vertices.last_place())
     }
 
-    /// Adds an edge, which is the last one or comes after it, and says where it stands. It costs no look-up among the rows
-    /// where its source is the last vertex.
+    /// Adds an edge, which is the last one or comes after it, and says where it stands. One that comes
+    /// before is left out, and another place told. It costs no look-up among the rows where its source is
+    /// the last vertex.
     pub(crate) fn add_edge(&mut self, source: VertexId, target: VertexId) -> Result<usize, Memory>
-        ensures { self.new.0 ≡ self.old.0 }
+        ensures { self.new ≡ self.old }
     {
         if !self.edges.takes(source, target) {
-            return Ok(self.edges.last());
+            return Ok(self.edges.last_place());
         }
-        let there = has_edge_to(self.last.row_at(source), target);
+        let there = has_edge_to(self.last_row.row_at(source), target);
         self.edges.add(source, target, there)?;
-        Ok(self.edges.last())
+        Ok(self.edges.last_place())
     }
 
     /// All vertices, and all edges.
     pub(crate) fn finish(self) -> (NamedEdges, NamedEdges)
-        ensures vertices { AreThereAs (λ id _. has_vertex id self.entry.0) result.0 }
-        ensures edges { AreThereAs (λ source target. has_edge source target self.entry.0) result.1 }
+        ensures vertices { AreThereAs (λ id _. has_vertex id self.entry) result.0 }
+        ensures edges { AreThereAs (λ source target. has_edge source target self.entry) result.1 }
     {
         (self.vertices.finish(), self.edges.finish())
     }
@@ -137,7 +137,7 @@ pub(crate) fn is_there(row: Option<&Row>) -> bool
 
 /// Whether a row, where there is one, has an edge to the target.
 pub(crate) fn has_edge_to(row: Option<&Row>, target: VertexId) -> bool
-    ensures { result ≡ is_some (option_and_then (λ known. weight_at target known.edges) (option_copied row.entry)) }
+    ensures { result ≡ is_some (option_and_then (λ r. weight_at target r.edges) (option_copied row.entry)) }
 {
     match row {
         Some(row) => row.edges.weight(target).is_some(),
