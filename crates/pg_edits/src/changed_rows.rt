@@ -64,11 +64,12 @@ impl ChangedRows {
         })
     }
 
-    /// Makes edits of one vertex, with their places, of its row, if it has one, one after another, and adds what becomes of it.
-    /// Says how many edges it has then. The inner fault is the first edit that has no result, and why; then nothing is added.
-    /// What the limits of a graph forbid isn't asked here.
+    /// Makes edits of one vertex, with their places, of its row, if it has one, one after another, and adds
+    /// what becomes of it. Says how many edges it has then. The inner fault is the first edit that has no
+    /// result, and why; then nothing is added. What the limits of a graph forbid isn't asked here.
     ///
-    /// With d edges and k edits it costs O(d k) where d + k is at most 256, and O((d + k) log(d + k)) elsewhere.
+    /// With d edges and k edits it costs O((d + k) k) where d + k is at most 256, and O((d + k) log(d + k))
+    /// elsewhere.
     ///
     /// # Errors
     ///

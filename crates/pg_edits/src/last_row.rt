@@ -8,9 +8,9 @@ ghost use Rattle.pg_edits.specs.declared.row.Row.{Row};
 
 use crate::{Edit, EditFault, EditKind, Memory, Row, VertexId};
 
-/// Adds to a list the edges of what edits of one vertex, with their places, make of its row, if it has one, and says the
-/// input that it has then, if the vertex is there. The inner fault is the first edit that has no result; then no edge is
-/// added.
+/// Adds to a list the edges of what edits of one vertex, with their places, make of its row, if it has one,
+/// and says the input that it has then, if the vertex is there. The inner fault is the first edit that has no
+/// result; then no edge is added.
 ///
 /// # Errors
 ///
@@ -53,8 +53,8 @@ fn begin_row(
     Ok(Some(row.input))
 }
 
-/// Makes one edit of the row whose edges are those of a list from `first` on. Where it has no result, the inner result says
-/// why, and nothing is said of these edges.
+/// Makes one edit of the row whose edges are those of a list from `first` on. Where it has no result, the
+/// inner result says why, and nothing is said of these edges.
 fn edit_last(
     list: &mut Vec<(VertexId, i64)>,
     first: usize,
@@ -113,8 +113,8 @@ fn set(input: &mut Option<i64>, given: i64)
     *input = Some(given);
 }
 
-/// Puts the edge to `target` in the place of the one that was there, among the edges of a list from `first` on, and says
-/// whether there was one. Costs O(d) for d such edges.
+/// Puts the edge to `target` in the place of the one that was there, among the edges of a list from `first`
+/// on, and says whether there was one. Costs O(d) for d such edges.
 fn put_last(
     list: &mut Vec<(VertexId, i64)>,
     first: usize,
@@ -138,8 +138,8 @@ fn put_last(
     }
 }
 
-/// Removes the edge to `target` among the edges of a list from `first` on, and says whether there was one. Costs O(d) for d
-/// such edges.
+/// Removes the edge to `target` among the edges of a list from `first` on, and says whether there was one.
+/// Costs O(d) for d such edges.
 fn remove_last(list: &mut Vec<(VertexId, i64)>, first: usize, target: VertexId) -> bool
     requires { first ≤ length list.old.items }
     ensures { (front last : EdgeList) → list.old.items ≡ front ++ last → length front ≡ first → IsRising last

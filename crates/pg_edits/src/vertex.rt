@@ -1,4 +1,4 @@
-//! What edits make of one vertex.
+//! What edits make of one vertex that has many edges, or comes to.
 ghost use Rattle.std.specs.Prelude.{◌≡◌, Err, IfOk, MatchResult, Ok};
 ghost use Rattle.std.specs.Option.{option_copied};
 ghost use Rattle.pg_edits.specs.RowEdit.{vertex_after, vertex_edited};

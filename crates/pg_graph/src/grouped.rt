@@ -23,7 +23,7 @@ const ROWS_TO_PAY: u64 = 64;
 /// What a batch that can't meet a limit changes, or the first of its edits that has no result.
 ///
 /// With k edits it puts them in order by vertex in O(k), looks up each vertex once, and copies the edges
-/// of each whose edges are edited.
+/// of each that is edited.
 pub(crate) fn changes_by_vertex(
     alloc: Global,
     graph: &Graph,

@@ -18,7 +18,7 @@ impl Graph {
     /// decides which fault is answered; a batch of more than 100,000 edits is refused first.
     ///
     /// With k edits of a graph of n vertices it takes O(n / 128 + k log(n + k)), and O(d log d) for
-    /// each vertex whose edges are edited, where d is how many it has. Other edges are shared as before,
+    /// each vertex that is edited, where d is how many edges it has or gets. Other edges are shared as before,
     /// but where a 64th of all rows is changed or more: then it goes over all rows, and the edges of
     /// rows that stand beside changed ones may be copied.
     /// The edits are made of one vertex after another, unless so many could meet a limit.
