@@ -5,12 +5,18 @@
 #![tactic(auto)]
 
 #[cfg(test)]
+mod batches;
+#[cfg(test)]
 mod graph;
+#[cfg(test)]
+mod import;
 #[cfg(test)]
 mod inbox;
 #[cfg(test)]
 mod map;
 #[cfg(test)]
 mod order;
+#[cfg(test)]
+mod plain;
 #[cfg(test)]
 mod trace;
