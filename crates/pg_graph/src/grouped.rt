@@ -90,7 +90,7 @@ fn dealt_with(
     ensures { IfOk result (λ made. MatchResult made (AreCounted graph.now edits.now) (IsFirst graph.now edits.now)) }
 {
     let vertices = vertices_of(edits);
-    let mut rows = ChangedRows::new(alloc, vertices, is_many(vertices, graph.vertices()))?;
+    let mut rows = ChangedRows::new(alloc, vertices, is_many(vertices as u64, graph.vertices()))?;
     let mut finder = graph.finder();
     let mut edges = graph.edges();
     let mut fault = None;
@@ -114,9 +114,12 @@ fn dealt_with(
     }
 }
 
+/// Rows are laid anew once so many times as many were changed as there are.
+pub(crate) const ROUNDS: u64 = 2;
+
 /// Whether so many rows are changed that a walk over all of them is paid for.
-pub(crate) fn is_many(changed: usize, vertices: u64) -> bool {
-    (changed as u64).saturating_mul(ROWS_TO_PAY) >= vertices
+pub(crate) fn is_many(changed: u64, vertices: u64) -> bool {
+    changed.saturating_mul(ROWS_TO_PAY) >= vertices
 }
 
 /// How many vertices edits have that stand by rising vertex.

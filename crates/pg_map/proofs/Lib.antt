@@ -4,6 +4,7 @@ pub mod Cut
 pub mod Filling
 pub mod InGroups
 pub mod InParts
+pub mod InPlace
 pub mod Moved
 pub mod Parts
 pub mod Replaced

@@ -1,8 +1,8 @@
 -- How a map lies in memory: its entries cut into chunks, and these into groups.
-use Rattle.std.specs.Prelude.{◌≡◌, ℕ, ◌<◌, ◌≤◌, Option, List, [], ◌∷◌, length, None, Some}
+use Rattle.std.specs.Prelude.{◌≡◌, ℕ, ◌<◌, ◌≤◌, Option, List, [], ◌∷◌, length, true, None, Some, is_some}
 use Rattle.std.specs.Arc.{arc_value}
 use Rattle.std.specs.List.{AllByRecursion, flat_map}
-use Rattle.pg_map.specs.Entries.{HasRisingIds}
+use Rattle.pg_map.specs.Entries.{HasRisingIds, value_at}
 use Rattle.pg_map.specs.declared.part.Part.{Part}
 use Rattle.pg_map.specs.declared.spine.Spine.{Spine}
 
@@ -54,3 +54,7 @@ pub record AreSound {V : Type 0} (groups : List (Part (Part (ℕ × V)))) (len :
 abbrev pub AreCut : {T X : Type 0} → List (Part T) → List (ℕ × Option X) → List (ℕ × Option X) → Type 0
 AreCut [] here later = later ≡ []
 AreCut (p ∷ ps) here later = AllByRecursion (λ x. x.0 < p.first) here × AllByRecursion (λ x. p.first ≤ x.0) later
+
+-- each change gives a value to an id that is there
+abbrev pub AreThere : {V : Type 0} → List (ℕ × Option V) → List (ℕ × V) → Type 0
+AreThere changes entries = AllByRecursion (λ c. (is_some c.1 ≡ true) × (is_some (value_at c.0 entries) ≡ true)) changes

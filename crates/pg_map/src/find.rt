@@ -117,7 +117,11 @@ fn value_in<'a, V>(
 }
 
 /// The value at an id among these entries, with such a guess.
-fn value_near<'a, V>(entries: &'a [(VertexId, V)], below: &mut usize, id: VertexId) -> Option<&'a V>
+pub(crate) fn value_near<'a, V>(
+    entries: &'a [(VertexId, V)],
+    below: &mut usize,
+    id: VertexId,
+) -> Option<&'a V>
     requires { HasRisingIds entries.now }
     ensures { option_copied result ≡ value_at id entries.now }
 {
@@ -133,7 +137,7 @@ fn value_near<'a, V>(entries: &'a [(VertexId, V)], below: &mut usize, id: Vertex
 /// How many of these entries are below an id. Tested first is how far the id is from that of the first, which it is where
 /// no id is missing between them, and all of them where it is as far or farther; then the count before, or a few more;
 /// then it is searched for.
-fn count_below<V>(entries: &[(VertexId, V)], before: usize, id: VertexId) -> usize
+pub(crate) fn count_below<V>(entries: &[(VertexId, V)], before: usize, id: VertexId) -> usize
     requires { HasRisingIds entries.now }
     ensures { IsPartitionPoint (λ e. nat_lt e.0 id ≡ true) (λ e. nat_lt e.0 id ≡ false) entries.now result }
 {

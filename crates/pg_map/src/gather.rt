@@ -1,5 +1,5 @@
 //! Entries gathered into chunks, one after another.
-ghost use Rattle.std.specs.Prelude.{◌≡◌, [], ◌∷◌, ◌++◌, ◌+◌, ◌≤◌, length, IfOk, OnOk};
+ghost use Rattle.std.specs.Prelude.{◌≡◌, [], ◌∷◌, ◌++◌, ◌+◌, ◌≤◌, length, IfOk, IfSome, OnOk};
 ghost use Rattle.pg_map.specs.Chunks.{AreChunks, AreGroups, IsPart, all_of, chunks_in, entries_of, grouped, listed};
 
 use crate::group::{FEW, Grouping};
@@ -130,6 +130,18 @@ impl<V: Share> Gathering<V> {
     /// Whether the piece is too small for a chunk of its own.
     fn is_small(&self) -> bool {
         self.piece.len() < V::CHUNK / 4
+    }
+
+    /// All entries as one chunk, if they are enough for one and none was cut off.
+    pub(crate) fn into_chunk(self, alloc: Global) -> Option<Chunk<V>>
+        ensures entries { IfSome result (λ chunk. listed chunk ≡ self) }
+        ensures part { IfSome result (λ chunk. IsPart chunk.first chunk.count self) }
+    {
+        if !self.made.is_empty() || self.is_small() || self.piece.is_empty() {
+            return None;
+        }
+        let Gathering { made: _, piece } = self;
+        chunk_of(alloc, piece).ok()
     }
 
     /// All groups.

@@ -1,5 +1,5 @@
 //! Chunks gathered into groups, one after another.
-ghost use Rattle.std.specs.Prelude.{◌≡◌, [], ◌++◌, ◌+◌, ◌≤◌, length, IfOk, OnOk};
+ghost use Rattle.std.specs.Prelude.{◌≡◌, [], ◌++◌, ◌+◌, ◌≤◌, length, IfOk, IsTrue, OnOk};
 ghost use Rattle.pg_map.specs.Chunks.{AreChunks, AreGroups, IsPart, all_of, chunks_in, entries_of, grouped, listed};
 
 use crate::Memory;
@@ -46,6 +46,13 @@ impl<V: Drop> Grouping<V> {
             made: Vec::new(alloc),
             chunks: Vec::new(alloc),
         }
+    }
+
+    /// Whether there are none.
+    pub(crate) fn is_empty(&self) -> bool
+        ensures { IsTrue result → self.now ≡ [] }
+    {
+        self.made.is_empty() && self.chunks.is_empty()
     }
 
     /// How many chunks stand in no group yet.

@@ -4,6 +4,7 @@
 mod find;
 mod gather;
 mod group;
+mod in_place;
 mod list;
 mod merge;
 mod number;

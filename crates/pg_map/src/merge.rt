@@ -10,7 +10,7 @@ use std::alloc::Global;
 
 impl<V: Share> Gathering<V> {
     /// Adds entries with changes of them.
-    fn merge(
+    pub(crate) fn merge(
         &mut self,
         alloc: Global,
         changes: &[(VertexId, Option<V>)],
@@ -130,7 +130,7 @@ pub(crate) fn changed<V: Share>(
 }
 
 /// How many of the changes fall before these parts.
-fn cut_of<T, V>(changes: &[(VertexId, Option<V>)], parts: &[Part<T>]) -> usize
+pub(crate) fn cut_of<T, V>(changes: &[(VertexId, Option<V>)], parts: &[Part<T>]) -> usize
     requires { ChangesRise changes.now }
     ensures bound { result ≤ length changes.now }
     ensures cut { AreCut parts.now (take result changes.now) (drop result changes.now) }

@@ -6,6 +6,7 @@ ghost use Rattle.std.specs.Map.Iter.{ShowsInOrder, deref, deref_pair};
 
 use crate::find::begun;
 use crate::gather::Gathering;
+use crate::in_place::change_in_place;
 use crate::merge::changed;
 use crate::pack::pack_spine;
 use crate::part::counted;
@@ -188,6 +189,26 @@ impl<V: Share> Map<V> {
         self.groups = Spine::of(alloc, made)?;
         self.count = count;
         Ok(())
+    }
+
+    /// Makes all changes as `change` does, and in the memory that the map has where no copy shares it, no chunk would
+    /// be cut or end up small, and there aren't very many groups and chunks. What changes is then moved and not shared, and
+    /// entries beside it aren't touched.
+    pub fn change_own(
+        &mut self,
+        alloc: Global,
+        changes: Vec<(VertexId, Option<V>)>,
+    ) -> Result<(), Memory>
+        requires { ChangesRise changes.items }
+        ensures ok { OnOk result (self.new ≡ with_changes changes.items self.old) }
+        ensures err { OnErr result (self.new ≡ self.old) }
+    {
+        let mut changes = changes;
+        if let Some(count) = change_in_place(alloc, &mut self.groups, &mut changes) {
+            self.count = count;
+            return Ok(());
+        }
+        self.change(alloc, changes.as_slice())
     }
 }
 

@@ -219,6 +219,7 @@ impl<P: Computation, C: MessageCombiner<P::Message>, M: MasterCompute> Service<P
     {
         drop(self.spent.take());
         let kept = self.kept.take();
+        self.graph.settle(alloc);
         let registry = names(alloc, &self.master)?;
         let (run, traces, calls, spent) = self.run_beside(alloc, kept)?;
         let edition = self.edition;

@@ -9,7 +9,7 @@ ghost use Rattle.pg_map.specs.Entries.{with_changes};
 
 use super::Graph;
 use crate::draft::{BATCH_LIMIT, Changes, Draft, EDGE_LIMIT, VERTEX_LIMIT};
-use crate::grouped::{changes_by_vertex, is_many};
+use crate::grouped::{ROUNDS, changes_by_vertex};
 use crate::{Batch, EditFault, EditKind, Memory};
 use std::alloc::Global;
 
@@ -41,7 +41,7 @@ impl Graph {
         } else {
             changes_in_order(alloc, self, batch)?
         };
-        self.change(alloc, &changes)?;
+        self.change(alloc, changes)?;
         Ok(())
     }
 
@@ -54,16 +54,18 @@ impl Graph {
     }
 
     /// Makes all changes, or none where a growth is refused.
-    fn change(&mut self, alloc: Global, changes: &Changes) -> Result<(), Memory>
-        requires { Makes self.old (with_changes changes.now.rows.items self.old) changes.now }
-        ensures ok { OnOk result (self.new ≡ with_changes changes.now.rows.items self.old) }
+    fn change(&mut self, alloc: Global, changes: Changes) -> Result<(), Memory>
+        requires { Makes self.old (with_changes changes.rows.items self.old) changes }
+        ensures ok { OnOk result (self.new ≡ with_changes changes.rows.items self.old) }
         ensures err { OnErr result (self.new ≡ self.old) }
     {
-        let many = is_many(changes.rows.len(), self.vertices());
-        self.rows.change(alloc, changes.rows.as_slice())?;
-        self.total_edges = changes.edges;
-        if many {
-            self.rows.pack(alloc);
+        let Changes { rows, edges } = changes;
+        let changed = rows.len() as u64;
+        self.rows.change_own(alloc, rows)?;
+        self.total_edges = edges;
+        self.loose = self.loose.saturating_add(changed);
+        if self.loose / ROUNDS >= self.vertices() {
+            self.settle(alloc);
         }
         Ok(())
     }
