@@ -222,3 +222,48 @@ fn a_finder_goes_both_ways(rt: HostRuntime) -> Result<(), Memory> {
     }
     Ok(())
 }
+
+// Puts the same number at both ids, in the map's own memory where nothing shares it.
+fn put_both(
+    alloc: Global,
+    map: &mut Numbers,
+    low: VertexId,
+    high: VertexId,
+    value: Number,
+) -> Result<(), Memory>
+    requires { low < high }
+{
+    map.change_own(
+        alloc,
+        vec![in alloc; (low, Some(value)), (high, Some(value))]?,
+    )
+}
+
+fn has_both(map: &Numbers, low: u32, high: u32, value: i64) -> bool {
+    number_at(map, low) == value && number_at(map, high) == value
+}
+
+// Run with each allocation failing in turn, it shows that a refused growth leaves the map.
+#[test]
+fn changes_its_own_memory(rt: HostRuntime) -> Result<(), Memory> {
+    let mut map = six_hundred(rt.alloc())?;
+    if put_both(rt.alloc(), &mut map, id(3), id(500), Number(2)).is_err() {
+        assert!(rt; has_both(&map, 3, 500, 1));
+        put_both(rt.alloc(), &mut map, id(3), id(500), Number(2))?;
+    }
+    assert!(rt; has_both(&map, 3, 500, 2) && map.len() == 600);
+    put_both(rt.alloc(), &mut map, id(4), id(700), Number(3))?;
+    assert!(rt; has_both(&map, 4, 700, 3) && has_both(&map, 3, 500, 2) && map.len() == 601);
+    Ok(())
+}
+
+#[test]
+fn a_change_of_its_own_leaves_copies(rt: HostRuntime) -> Result<(), Memory> {
+    let mut map = thousand(rt.alloc())?;
+    let copy = map.share()?;
+    put_both(rt.alloc(), &mut map, id(3), id(2997), Number(-1))?;
+    put_both(rt.alloc(), &mut map, id(6), id(1500), Number(-2))?;
+    assert!(rt; has_both(&map, 3, 2997, -1) && has_both(&map, 6, 1500, -2) && map.len() == 1000);
+    assert!(rt; is_thousand(&copy));
+    Ok(())
+}
