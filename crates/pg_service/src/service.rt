@@ -219,7 +219,6 @@ impl<P: Computation, C: MessageCombiner<P::Message>, M: MasterCompute> Service<P
     {
         drop(self.spent.take());
         let kept = self.kept.take();
-        self.graph.settle(alloc);
         let registry = names(alloc, &self.master)?;
         let (run, traces, calls, spent) = self.run_beside(alloc, kept)?;
         let edition = self.edition;
@@ -228,6 +227,18 @@ impl<P: Computation, C: MessageCombiner<P::Message>, M: MasterCompute> Service<P
         self.kept = Some(KeptRun::new(alloc, traces));
         self.spent = Some(spent);
         Ok(report)
+    }
+
+    /// Lays the edges of rows that stand side by side so too, where many rows were changed since that was done, as far as
+    /// there is memory for it. A refresh afterwards answers the same, and waits less for memory.
+    ///
+    /// # Cost
+    ///
+    /// A walk over all rows, and a copy of the edges of those that stand beside changed ones; none where few were changed.
+    pub fn settle(&mut self, alloc: Global)
+        ensures { self.new ≡ self.old }
+    {
+        self.graph.settle(alloc);
     }
 
     /// Lets go of what the last refresh had no more use for: what the run before it recorded and sent otherwise. Whoever

@@ -75,6 +75,7 @@ fn refresh(alloc: Global, service: &mut ReadyService, notes: &mut Notes) -> Repl
     ensures { Refreshes (with_notes service.old notes.old) result
         (with_notes service.new notes.new) }
 {
+    service.settle(alloc);
     match service.refresh(alloc) {
         Ok(report) => {
             let told = Told::of(&report);

@@ -19,8 +19,8 @@ impl Graph {
     ///
     /// With k edits of a graph of n vertices it takes O(n / 128 + k log(n + k)), and O(d log d) for
     /// each vertex that is edited, where d is how many edges it has or gets. Other edges are shared as before,
-    /// but where a 64th of all rows is changed or more: then it goes over all rows, and the edges of
-    /// rows that stand beside changed ones may be copied.
+    /// but once twice as many rows were changed as there are, by this batch and those before it: then `settle`
+    /// goes over all rows.
     /// The edits are made of one vertex after another, unless so many could meet a limit.
     pub fn apply(&mut self, alloc: Global, batch: &Batch) -> Result<(), EditFault>
         ensures ok { OnOk result (batch_edited self.old batch.now ≡ Ok self.new) }
