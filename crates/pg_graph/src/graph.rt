@@ -14,7 +14,7 @@ use std::marker::Model;
 
 /// A graph: a finite map from ids to rows. A contract sees the list of (id, row) by rising id.
 ///
-/// It counts the rows that were changed since all were laid anew in memory.
+/// It counts how often a row was changed since `settle` last went over all.
 pub struct Graph {
     rows: Map<Row>,
     total_edges: u64,
@@ -109,9 +109,9 @@ impl Graph {
         })
     }
 
-    /// Lays the rows anew in memory, as far as there is memory for it and no copy shares them, so that the edges of rows
-    /// that stand side by side do so too. Where few rows were changed since the last time it does nothing. What is made of
-    /// rows afterwards waits less for memory.
+    /// Lays rows anew in memory, so that the edges of rows that stand side by side lie side by side: as far as there is
+    /// memory for it and no copy shares them, and where many rows were changed since the last time. What is made of rows
+    /// afterwards waits less for memory. What it has to leave as it is, it doesn't try again before as many have changed.
     ///
     /// It costs a walk over all rows, and a copy of the edges of rows that stand beside changed ones.
     pub fn settle(&mut self, alloc: Global)

@@ -114,7 +114,7 @@ fn dealt_with(
     }
 }
 
-/// Rows are laid anew once so many times as many were changed as there are.
+/// Rows are laid anew once so many times as many have been changed as there are.
 pub(crate) const ROUNDS: u64 = 2;
 
 /// Whether so many rows are changed that a walk over all of them is paid for.

@@ -14,7 +14,7 @@ use crate::{Share, VertexId};
 use std::alloc::Global;
 use std::sync::Arc;
 
-/// No change in place goes over more groups and chunks, so that the calls that hold them fit the stack.
+/// So many calls at most wait for each other, each of which takes half a kilobyte of the stack.
 const DEPTH: usize = 2048;
 
 /// How many entries there are up to the end of a group, and up to the end of the last one.
@@ -27,8 +27,8 @@ struct Counts {
 /// Makes all changes in the groups' own memory and says how many entries there are then, or makes none, where a copy
 /// shares what would change, a chunk would be cut or end up small, there are too many parts, or memory is refused.
 ///
-/// Each call holds one part and has what follows it changed first: so all that could be in the way has shown before the
-/// first change is made.
+/// Each call holds one group or chunk and has what follows it changed first: so all that could be in the way has shown
+/// before the first change is made. Whether there are too many parts shows before the first call.
 pub(crate) fn change_in_place<V: Share>(
     alloc: Global,
     spine: &mut Spine<V>,
@@ -47,6 +47,13 @@ pub(crate) fn change_in_place<V: Share>(
         return None;
     };
     let groups = Arc::get_mut(shared)?;
+    let mut calls: usize = 1;
+    for group in groups.iter() {
+        calls = calls.saturating_add(group.items.len()).saturating_add(2);
+    }
+    if calls > DEPTH {
+        return None;
+    }
     change_groups(alloc, groups, changes, 0, DEPTH)
 }
 
@@ -198,6 +205,7 @@ fn merged<V: Share>(
     ensures part { IfSome result (λ made. IsPart made.first made.count (listed made)) }
 {
     let entries = chunk.items.as_slice();
+    // A full chunk is mostly cut, and so is one that very many changes fall into.
     if entries.len() / 2 >= V::CHUNK || changes.len() / 2 >= V::CHUNK {
         return None;
     }

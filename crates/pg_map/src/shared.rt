@@ -36,7 +36,8 @@ impl Share for i64 {
 /// A map from vertex ids. A contract sees the list of (id, value) by rising id.
 ///
 /// The entries lie in chunks, and these in groups, all of which copies share: a copy costs O(1), and a
-/// change makes anew the chunks and the groups that it falls into, beside the others.
+/// change makes anew the chunks and the groups that it falls into, beside the others, or is made in them where no copy
+/// shares them (`change_own`).
 pub struct Map<V> {
     groups: Spine<V>,
     count: usize,
@@ -191,9 +192,14 @@ impl<V: Share> Map<V> {
         Ok(())
     }
 
-    /// Makes all changes as `change` does, and in the memory that the map has where no copy shares it, no chunk would
-    /// be cut or end up small, and there aren't very many groups and chunks. What changes is then moved and not shared, and
-    /// entries beside it aren't touched.
+    /// Makes all changes as `change` does, in the memory that the map has where that can be: where no copy shares what would
+    /// change, no chunk would be cut or end up small, and there aren't very many groups and chunks. Where all changes
+    /// of a chunk give values to ids that it has, the values are moved there and the other entries aren't touched; another
+    /// chunk is made anew.
+    ///
+    /// It costs a step for each group, and for each chunk of a group that a change falls into; for each change a search or two
+    /// in its chunk; and a copy of each chunk that gets or loses an id. Where something is in the way it costs up to as much
+    /// in vain, and then what `change` costs.
     pub fn change_own(
         &mut self,
         alloc: Global,

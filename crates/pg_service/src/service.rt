@@ -201,7 +201,7 @@ impl<P: Computation, C: MessageCombiner<P::Message>, M: MasterCompute> Service<P
     /// records of each superstep in which something else is contributed, and over what is active past the kept run's
     /// end; and for the answer two copies of the vertices' values, with a look-up for each vertex that may have ended
     /// otherwise. What the kept run sent otherwise is still there afterwards: `release` lets go of it, or the next refresh
-    /// as it begins.
+    /// as it begins. Where many rows were changed, `settle` before it makes it wait less for memory.
     pub fn refresh(&mut self, alloc: Global) -> Result<Report, RefreshFault>
         ensures report { let job = job_meant P.program C.combining M.master self.old.job in
             IfOk result (MayReport job P.Value.PartialEq.eq P.Message.PartialEq.eq
@@ -229,8 +229,9 @@ impl<P: Computation, C: MessageCombiner<P::Message>, M: MasterCompute> Service<P
         Ok(report)
     }
 
-    /// Lays the edges of rows that stand side by side so too, where many rows were changed since that was done, as far as
-    /// there is memory for it. A refresh afterwards answers the same, and waits less for memory.
+    /// Lays rows anew in memory, so that the edges of rows that stand side by side lie side by side: as far as there is
+    /// memory for it and the kept run doesn't share them, and where many rows were changed since the last time. A refresh
+    /// afterwards answers the same, and waits less for memory.
     ///
     /// # Cost
     ///

@@ -70,7 +70,7 @@ fn apply(alloc: Global, batch: &Batch, service: &mut ReadyService) -> Reply
     }
 }
 
-/// Runs the program, publishes the answer and keeps the report.
+/// Has rows laid anew where many were changed, runs the program, publishes the answer and keeps the report.
 fn refresh(alloc: Global, service: &mut ReadyService, notes: &mut Notes) -> Reply
     ensures { Refreshes (with_notes service.old notes.old) result
         (with_notes service.new notes.new) }

@@ -18,9 +18,9 @@ impl Graph {
     /// decides which fault is answered; a batch of more than 100,000 edits is refused first.
     ///
     /// With k edits of a graph of n vertices it takes O(n / 128 + k log(n + k)), and O(d log d) for
-    /// each vertex that is edited, where d is how many edges it has or gets. Other edges are shared as before,
-    /// but once twice as many rows were changed as there are, by this batch and those before it: then `settle`
-    /// goes over all rows.
+    /// each vertex that is edited, where d is how many edges it has or gets. Other edges stay as they are,
+    /// but once twice as many rows have been changed as there are since `settle` last went over all: then it does
+    /// so again, and may copy their edges.
     /// The edits are made of one vertex after another, unless so many could meet a limit.
     pub fn apply(&mut self, alloc: Global, batch: &Batch) -> Result<(), EditFault>
         ensures ok { OnOk result (batch_edited self.old batch.now ≡ Ok self.new) }
