@@ -1,4 +1,5 @@
-ghost use Rattle.std.specs.Prelude.{◌≡◌, ◌<◌};
+ghost use Rattle.std.specs.Prelude.{◌≡◌, ◌<◌, IfOk};
+ghost use Rattle.pg_map.specs.Entries.{ChangesRise};
 
 use pg_map::{Iter, Map, Memory, Pack, Share, VertexId};
 use std::alloc::Global;
@@ -243,27 +244,73 @@ fn has_both(map: &Numbers, low: u32, high: u32, value: i64) -> bool {
     number_at(map, low) == value && number_at(map, high) == value
 }
 
-// Run with each allocation failing in turn, it shows that a refused growth leaves the map.
+// Run with each allocation failing in turn, it shows that what can't be made in place is made beside.
 #[test]
 fn changes_its_own_memory(rt: HostRuntime) -> Result<(), Memory> {
     let mut map = six_hundred(rt.alloc())?;
-    if put_both(rt.alloc(), &mut map, id(3), id(500), Number(2)).is_err() {
-        assert!(rt; has_both(&map, 3, 500, 1));
-        put_both(rt.alloc(), &mut map, id(3), id(500), Number(2))?;
-    }
+    put_both(rt.alloc(), &mut map, id(3), id(500), Number(2))?;
     assert!(rt; has_both(&map, 3, 500, 2) && map.len() == 600);
     put_both(rt.alloc(), &mut map, id(4), id(700), Number(3))?;
     assert!(rt; has_both(&map, 4, 700, 3) && has_both(&map, 3, 500, 2) && map.len() == 601);
     Ok(())
 }
 
+// Run with each allocation failing in turn, it shows that a refused growth leaves the map.
 #[test]
 fn a_change_of_its_own_leaves_copies(rt: HostRuntime) -> Result<(), Memory> {
     let mut map = thousand(rt.alloc())?;
     let copy = map.share()?;
-    put_both(rt.alloc(), &mut map, id(3), id(2997), Number(-1))?;
+    if put_both(rt.alloc(), &mut map, id(3), id(2997), Number(-1)).is_err() {
+        assert!(rt; is_thousand(&map));
+        put_both(rt.alloc(), &mut map, id(3), id(2997), Number(-1))?;
+    }
     put_both(rt.alloc(), &mut map, id(6), id(1500), Number(-2))?;
     assert!(rt; has_both(&map, 3, 2997, -1) && has_both(&map, 6, 1500, -2) && map.len() == 1000);
     assert!(rt; is_thousand(&copy));
+    Ok(())
+}
+
+// A number of which each chunk of a map has one or two.
+#[derive(Clone, Copy)]
+struct Lone(u32);
+
+impl Share for Lone {
+    const CHUNK: usize = 1;
+
+    fn share(&self, _alloc: Global) -> Result<Lone, Memory> {
+        Ok(*self)
+    }
+}
+
+// Puts each number below a bound, and something more, at its id.
+fn each_below(alloc: Global, bound: u32, more: u32) -> Result<Vec<(VertexId, Option<Lone>)>, Memory>
+    ensures { IfOk result (λ changes. ChangesRise changes.items) }
+{
+    let mut changes = Vec::new(alloc);
+    for number in 0..bound {
+        changes.push((id(number), Some(Lone(number.wrapping_add(more)))))?;
+    }
+    Ok(changes)
+}
+
+fn are_each_below(map: &Map<Lone>, bound: u32, more: u32) -> bool {
+    for number in 0..bound {
+        match map.get(id(number)) {
+            Some(value) if value.0 == number.wrapping_add(more) => {}
+            _ => return false,
+        }
+    }
+    map.len() == bound as usize
+}
+
+// Some 1,900 chunks are changed in place, by calls that go as deep; more of them beside.
+#[test]
+fn changes_many_chunks(rt: HostRuntime) -> Result<(), Memory> {
+    for bound in [1900u32, 5000] {
+        let mut map = Map::new();
+        map.change_own(rt.alloc(), each_below(rt.alloc(), bound, 0)?)?;
+        map.change_own(rt.alloc(), each_below(rt.alloc(), bound, 7)?)?;
+        assert!(rt; are_each_below(&map, bound, 7));
+    }
     Ok(())
 }
