@@ -223,10 +223,14 @@ fn settle(
     if waiting.is_empty() {
         return Ok(());
     }
-    let rows = mem::replace(waiting, Vec::new(alloc));
+    let mut rows = mem::replace(waiting, Vec::new(alloc));
     let mut list = mem::replace(edges, Vec::new(alloc));
     list.shrink_to_fit();
-    add_rows(alloc, done, rows.as_slice(), list)
+    add_rows(alloc, done, rows.as_slice(), list)?;
+    // The next rows wait in the same memory.
+    rows.clear();
+    *waiting = rows;
+    Ok(())
 }
 
 /// Adds rows whose edges are parts of a list.

@@ -13,3 +13,5 @@ pub mod BatchLaw
 pub mod BatchSteps
 pub mod Plain
 pub mod PlainLines
+pub mod KnownRanks
+pub mod SourceFacts

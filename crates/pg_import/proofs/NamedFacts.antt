@@ -11,6 +11,10 @@ use Rattle.pg_import.specs.declared.named_edges.NamedEdge.{NamedEdge}
 use Rattle.pg_import.specs.declared.batch.Named.{Named}
 use Rattle.pg_import.specs.declared.line.Line.{Line}
 
+cond-true : (b : Bool) → cond b true true ≡ true
+cond-true true = refl
+cond-true false = refl
+
 and-same : (b : Bool) → (b && b) ≡ b
 and-same true = refl
 and-same false = refl
@@ -23,7 +27,14 @@ Shows-vertex graph named vertices rows id shows put = record {
   vertices = λ q. has_vertex-with_vertex rows id q
       ∙ rw (shows.vertices q, put q q (has_vertex q graph), and-same (is_at (nat_cmp id) q)) refl;
   edges = λ s t. has_edge-with_vertex rows id s t ∙ shows.edges s t;
+  kept = λ q there. has_vertex-with_vertex rows id q ∙ rw (shows.kept q there) (cond-true (is_at (nat_cmp id) q));
 }
+
+-- a vertex that the first graph has is there
+pub Shows-kept : (graph : Rows) (named : Named) (rows : Rows) (id : ℕ) → Shows graph named rows → has_vertex id graph ≡ true
+    → Shows graph named (with_vertex id rows)
+unfolding with_vertex
+Shows-kept graph named rows id shows there = rw (shows.kept id there) shows
 
 -- an edge that is there from now on
 pub Shows-edge : (graph : Rows) (named : Named) (edges : List NamedEdge) (rows : Rows) (line : Line) → Shows graph named rows
@@ -34,4 +45,5 @@ pub Shows-edge : (graph : Rows) (named : Named) (edges : List NamedEdge) (rows :
 Shows-edge graph named edges rows line shows source put = record {
   vertices = λ q. has_vertex-with_line_edge line rows q source ∙ shows.vertices q;
   edges = λ s t. has_edge-with_line_edge line rows s t source ∙ rw (shows.edges s t, put s t (has_edge s t graph)) refl;
+  kept = λ q there. has_vertex-with_line_edge line rows q source ∙ shows.kept q there;
 }

@@ -6,5 +6,7 @@ pub mod Leading
 pub mod Named
 pub mod NamedEdges
 pub mod Number
+pub mod Ranks
 pub mod Records
+pub mod Sources
 pub mod Text

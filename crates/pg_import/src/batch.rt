@@ -1,5 +1,5 @@
 //! The batch of edits that brings the edges of a list into a graph.
-ghost use Rattle.std.specs.Prelude.{◌≡◌, ◌∷◌, ◌++◌, [], true, not, IfOk, OnOk};
+ghost use Rattle.std.specs.Prelude.{◌≡◌, ◌∷◌, ◌++◌, [], true, not, IfOk, IsNone, OnOk};
 ghost use Rattle.pg_graph.specs.Rows.{Rows};
 ghost use Rattle.pg_import.specs.Batch.{Makes, batch_of, edge_edit, has_edge, has_vertex, vertex_edits, with_line_edge, with_lines, with_vertex};
 ghost use Rattle.pg_import.specs.Named.{Shows};
@@ -30,11 +30,12 @@ pub fn into_batch(alloc: Global, lines: &[Line], graph: &Graph) -> Result<Batch,
     let mut batch = Batch::with_capacity(alloc, room)?;
     let mut named = Named { vertices, edges };
     for (place, line) in lines.iter().enumerate() {
-        let source = named.name_vertex(graph, line.source, ranks.of_source(place))?;
+        let ranks = ranks.at(place);
+        let source = named.name_vertex(graph, line.source, ranks.source)?;
         push_vertex(&mut batch, line.source, source)?;
-        let target = named.name_vertex(graph, line.target, ranks.of_target(place))?;
+        let target = named.name_vertex(graph, line.target, ranks.target)?;
         push_vertex(&mut batch, line.target, target)?;
-        let edge = named.name_edge(graph, line, ranks.of_edge(place))?;
+        let edge = named.name_edge(graph, line, ranks.edge)?;
         push_edge(&mut batch, line, edge)?;
     }
     Ok(batch)
@@ -65,7 +66,7 @@ fn push_edge(batch: &mut Batch, line: &Line, is_new: bool) -> Result<(), Memory>
 }
 
 // What all lines mention, and what of it is there by now: a graph has it, or a line so far has named it. A
-// vertex is named as the edge to itself.
+// vertex is named as the edge to itself, unless the graph has it.
 #[derive(Drop)]
 struct Named {
     vertices: NamedEdges,
@@ -73,12 +74,25 @@ struct Named {
 }
 
 impl Named {
-    // Names a vertex, and says whether it wasn't there yet. It is expected at this rank.
-    fn name_vertex(&mut self, graph: &Graph, id: VertexId, rank: usize) -> Result<bool, Memory>
+    // Names an end of a line, and says whether it wasn't there yet. It is expected at this rank, if it has one; else the
+    // graph has it.
+    fn name_vertex(&mut self, graph: &Graph, id: VertexId, rank: Option<u32>) -> Result<bool, Memory>
+        requires { IsNone rank → has_vertex id graph.now ≡ true }
         ensures { IfOk result (λ added. (rows : Rows) → Shows graph.now self.old rows
             → (added ≡ not (has_vertex id rows)) × Shows graph.now self.new (with_vertex id rows)) }
     {
-        match self.vertices.name(id, id, rank) {
+        match rank {
+            Some(rank) => self.name_missing(graph, id, rank),
+            None => Ok(false),
+        }
+    }
+
+    // The same of a vertex that the graph may not have.
+    fn name_missing(&mut self, graph: &Graph, id: VertexId, rank: u32) -> Result<bool, Memory>
+        ensures { IfOk result (λ added. (rows : Rows) → Shows graph.now self.old rows
+            → (added ≡ not (has_vertex id rows)) × Shows graph.now self.new (with_vertex id rows)) }
+    {
+        match self.vertices.name(id, id, rank as usize) {
             Some(added) => Ok(added),
             // No line is known to mention it, which costs time and changes no answer.
             None => {
@@ -89,11 +103,11 @@ impl Named {
     }
 
     // Names the edge of a line, and says whether it wasn't there yet. It is expected at this rank.
-    fn name_edge(&mut self, graph: &Graph, line: &Line, rank: usize) -> Result<bool, Memory>
+    fn name_edge(&mut self, graph: &Graph, line: &Line, rank: u32) -> Result<bool, Memory>
         ensures { IfOk result (λ added. (rows : Rows) → Shows graph.now self.old rows → has_vertex line.now.source rows ≡ true
             → (added ≡ not (has_edge line.now.source line.now.target rows)) × Shows graph.now self.new (with_line_edge line.now rows)) }
     {
-        match self.edges.name(line.source, line.target, rank) {
+        match self.edges.name(line.source, line.target, rank as usize) {
             Some(added) => Ok(added),
             // As for a vertex.
             None => {

@@ -1,25 +1,28 @@
 //! What the lines of a list mention, looked up in a graph by rising id: look-ups that lie near one another
 //! in memory come one after another.
-ghost use Rattle.std.specs.Prelude.{◌≡◌, is_some, option_and_then, IfOk};
+ghost use Rattle.std.specs.Prelude.{◌≡◌, true, is_some, option_and_then, IfOk, IsNone};
 ghost use Rattle.std.specs.Option.{option_copied};
 ghost use Rattle.pg_edits.specs.EdgeList.{weight_at};
 ghost use Rattle.pg_graph.specs.Rows.{row_at};
 ghost use Rattle.pg_import.specs.Batch.{has_edge, has_vertex};
 ghost use Rattle.pg_import.specs.NamedEdges.{AreThereAs};
 
+mod sources;
+
 use crate::Memory;
 use crate::named_edges::{EdgesOnce, NamedEdges};
 use pg_graph::{Finder, Graph, Row, VertexId};
+use sources::Sources;
 use std::alloc::Global;
 use std::marker::Model;
 
-/// Vertices and edges that lines mention, by rising id, each once and with whether a graph has it; a vertex
-/// as the edge to itself. A contract sees the graph.
+/// Vertices that lines mention and a graph doesn't have, and edges that lines mention with whether it has them: by rising
+/// id, each once; a vertex as the edge to itself. A contract sees the graph.
 #[derive(Drop)]
 pub(crate) struct LookedUp<'a> {
     vertices: EdgesOnce,
     edges: EdgesOnce,
-    last_row: LastRow<'a>,
+    sources: Sources<'a>,
 }
 
 impl<'a> Model for LookedUp<'a> {
@@ -29,10 +32,10 @@ impl<'a> Model for LookedUp<'a> {
 
     ghost Value = { Rows };
 
-    ghost view = { λ l. l.last_row };
+    ghost view = { λ l. l.sources };
 
-    ghost invariant = { λ l. AreThereAs (λ id _. has_vertex id l.last_row) l.vertices.2
-        × AreThereAs (λ source target. has_edge source target l.last_row) l.edges.2 };
+    ghost invariant = { λ l. AreThereAs (λ id _. has_vertex id l.sources) l.vertices.2
+        × AreThereAs (λ source target. has_edge source target l.sources) l.edges.2 };
 }
 
 impl<'a> LookedUp<'a> {
@@ -43,35 +46,46 @@ impl<'a> LookedUp<'a> {
         Ok(LookedUp {
             vertices: EdgesOnce::new(alloc, lines.saturating_mul(2))?,
             edges: EdgesOnce::new(alloc, lines)?,
-            last_row: LastRow::of(graph),
+            sources: Sources::new(alloc, graph, lines)?,
         })
     }
 
-    /// Adds a vertex, which is the last one or comes after it, and says where it stands. One that comes
-    /// before is left out, and another place told.
-    pub(crate) fn add_vertex(&mut self, id: VertexId) -> Result<usize, Memory>
-        ensures { self.new ≡ self.old }
+    /// Looks up a vertex, which is the last one or comes after it. One that the graph has is left out, and no place told;
+    /// of another it says where it stands. One that comes before is left out, and some place told.
+    pub(crate) fn add_vertex(&mut self, id: VertexId) -> Result<Option<u32>, Memory>
+        ensures there { IfOk result (λ place. IsNone place → has_vertex id self.old ≡ true) }
+        ensures same { self.new ≡ self.old }
     {
-        if !self.vertices.takes(id, id) {
-            return Ok(self.vertices.last_place());
+        if is_there(self.sources.row_at(id)) {
+            return Ok(None);
         }
-        let there = is_there(self.last_row.row_at(id));
-        self.vertices.add(id, id, there)?;
-        Ok(self.vertices.last_place())
+        if !self.vertices.takes(id, id) {
+            return Ok(Some(counted(self.vertices.last_place())));
+        }
+        self.vertices.add(id, id, false)?;
+        Ok(Some(counted(self.vertices.last_place())))
     }
 
-    /// Adds an edge, which is the last one or comes after it, and says where it stands. One that comes
-    /// before is left out, and another place told. It costs no look-up among the rows where its source is
-    /// the last vertex.
-    pub(crate) fn add_edge(&mut self, source: VertexId, target: VertexId) -> Result<usize, Memory>
+    /// The same of the source of a line, and notes its edges.
+    pub(crate) fn add_source(&mut self, id: VertexId) -> Result<Option<u32>, Memory>
+        ensures there { IfOk result (λ place. IsNone place → has_vertex id self.old ≡ true) }
+        ensures same { self.new ≡ self.old }
+    {
+        self.sources.note(id)?;
+        self.add_vertex(id)
+    }
+
+    /// Adds an edge, which is the last one or comes after it, and says where it stands. One that comes before is left out,
+    /// and another place told. It costs no look-up among the rows where sources come in the order in which they were added.
+    pub(crate) fn add_edge(&mut self, source: VertexId, target: VertexId) -> Result<u32, Memory>
         ensures { self.new ≡ self.old }
     {
         if !self.edges.takes(source, target) {
-            return Ok(self.edges.last_place());
+            return Ok(counted(self.edges.last_place()));
         }
-        let there = has_edge_to(self.last_row.row_at(source), target);
+        let there = self.sources.has_edge(source, target);
         self.edges.add(source, target, there)?;
-        Ok(self.edges.last_place())
+        Ok(counted(self.edges.last_place()))
     }
 
     /// All vertices, and all edges.
@@ -83,9 +97,14 @@ impl<'a> LookedUp<'a> {
     }
 }
 
+/// A place as lines note it. No list is so long that its places don't fit.
+fn counted(place: usize) -> u32 {
+    u32::try_from(place).unwrap_or(u32::MAX)
+}
+
 /// The row that was looked up last, if one was. A contract sees the graph.
 #[derive(Drop)]
-struct LastRow<'a> {
+pub(crate) struct LastRow<'a> {
     finder: Finder<'a, Row>,
     id: Option<VertexId>,
     row: Option<&'a Row>,
@@ -105,7 +124,7 @@ impl<'a> Model for LastRow<'a> {
 
 impl<'a> LastRow<'a> {
     /// None yet, of this graph.
-    fn of(graph: &'a Graph) -> LastRow<'a>
+    pub(crate) fn of(graph: &'a Graph) -> LastRow<'a>
         ensures { result ≡ graph.now }
     {
         LastRow {
@@ -116,7 +135,7 @@ impl<'a> LastRow<'a> {
     }
 
     /// The row at an id. It is looked up where the last one was at another id.
-    fn row_at(&mut self, id: VertexId) -> Option<&'a Row>
+    pub(crate) fn row_at(&mut self, id: VertexId) -> Option<&'a Row>
         ensures row { option_copied result ≡ row_at id self.old }
         ensures same { self.new ≡ self.old }
     {
