@@ -60,10 +60,10 @@ impl<'a> LookedUp<'a> {
             return Ok(None);
         }
         if !self.vertices.takes(id, id) {
-            return Ok(Some(counted(self.vertices.last_place())));
+            return Ok(Some(kept(self.vertices.last_place())));
         }
         self.vertices.add(id, id, false)?;
-        Ok(Some(counted(self.vertices.last_place())))
+        Ok(Some(kept(self.vertices.last_place())))
     }
 
     /// The same of the source of a line, and notes its edges.
@@ -81,11 +81,11 @@ impl<'a> LookedUp<'a> {
         ensures { self.new ≡ self.old }
     {
         if !self.edges.takes(source, target) {
-            return Ok(counted(self.edges.last_place()));
+            return Ok(kept(self.edges.last_place()));
         }
         let there = self.sources.has_edge(source, target);
         self.edges.add(source, target, there)?;
-        Ok(counted(self.edges.last_place()))
+        Ok(kept(self.edges.last_place()))
     }
 
     /// All vertices, and all edges.
@@ -97,8 +97,8 @@ impl<'a> LookedUp<'a> {
     }
 }
 
-/// A place as lines note it. No list is so long that its places don't fit.
-fn counted(place: usize) -> u32 {
+/// A place, as it is kept for each line. No list of what lines mention is so long that its places don't fit.
+fn kept(place: usize) -> u32 {
     u32::try_from(place).unwrap_or(u32::MAX)
 }
 

@@ -30,10 +30,8 @@ impl Mentioned {
         ensures edges { IfOk result (λ mentioned. AreThereAs (λ source target. has_edge source target graph.now) mentioned.edges) }
         ensures known { IfOk result (λ mentioned. AreKnown graph.now lines.now mentioned.ranks.lines.items) }
     {
-        let targets = target_ids(alloc, lines)?;
-        let by_target = places_by_id(alloc, targets.as_slice())?;
-        let sources = source_ids(alloc, lines)?;
-        let by_edge = reordered_by_id(alloc, sources.as_slice(), by_target.clone()?)?;
+        let by_target = places_by_target(alloc, lines)?;
+        let by_edge = reordered_by_source(alloc, lines, by_target.clone()?)?;
         let mut ranks = Ranks::new(alloc, lines.len())?;
         let mut looked_up = LookedUp::new(alloc, graph, lines.len())?;
         ranks.add_ends(&mut looked_up, lines, by_edge.as_slice(), by_target.as_slice())?;
@@ -47,26 +45,30 @@ impl Mentioned {
     }
 }
 
-/// The ids of the sources of lines.
-fn source_ids(alloc: Global, lines: &[Line]) -> Result<Vec<VertexId>, Memory> {
-    let mut sources = Vec::with_capacity(alloc, lines.len())?;
-    for line in lines {
-        sources.push(line.source)?;
-    }
-    Ok(sources)
-}
-
-/// The ids of the targets of lines.
-fn target_ids(alloc: Global, lines: &[Line]) -> Result<Vec<VertexId>, Memory> {
+/// The places of lines by rising target.
+fn places_by_target(alloc: Global, lines: &[Line]) -> Result<Vec<usize>, Memory> {
     let mut targets = Vec::with_capacity(alloc, lines.len())?;
     for line in lines {
         targets.push(line.target)?;
     }
-    Ok(targets)
+    places_by_id(alloc, targets.as_slice())
 }
 
-/// Where the ends and the edge of a line stand among all that aren't known. An end that stands nowhere is a vertex that
-/// the graph has.
+/// Places of lines by rising source, where those of one source keep the order that they are given in.
+fn reordered_by_source(
+    alloc: Global,
+    lines: &[Line],
+    places: Vec<usize>,
+) -> Result<Vec<usize>, Memory> {
+    let mut sources = Vec::with_capacity(alloc, lines.len())?;
+    for line in lines {
+        sources.push(line.source)?;
+    }
+    reordered_by_id(alloc, sources.as_slice(), places)
+}
+
+/// Where the ends of a line stand among the vertices, and its edge among the edges. An end that stands nowhere is a vertex
+/// that the graph has.
 #[derive(Clone, Copy)]
 pub(crate) struct LineRanks {
     pub(crate) source: Option<u32>,

@@ -13,7 +13,7 @@ mod writing;
 use pg_global::AnyCombiner;
 use pg_ready::{ReadyMaster, ReadyProgram};
 pub use pg_service::{Answers, Cause, Check, Loss, RefreshFault, Report, Service, same};
-pub use program::start;
+pub use program::{start, start_leaving};
 pub use session::{ServeFault, serve};
 
 /// A service of a ready program with its master.

@@ -3,9 +3,10 @@
 
 ghost use Rattle.std.specs.Prelude.{◌≤◌};
 
-use pregeld::start;
+use pregeld::start_leaving;
 use std::env;
 use std::io::{self, BufReader, BufWriter, Write};
+use std::mem;
 use std::process::ExitCode;
 
 fn main(rt: HostRuntime) -> ExitCode {
@@ -29,16 +30,20 @@ fn run<E: Write>(rt: &HostRuntime, errors: &mut E) -> io::Result<u8> {
     }
     let mut reader = BufReader::new(rt.alloc(), rt.stdin())?;
     let mut writer = BufWriter::new(rt.alloc(), rt.stdout())?;
-    let status = start(
+    let mut service = None;
+    let status = start_leaving(
         rt.alloc(),
         words.as_slice(),
         &mut reader,
         &mut writer,
         errors,
+        &mut service,
     );
     if status == 0 {
         writer.flush()?;
     }
+    // The process ends, and its memory goes with it.
+    mem::forget(service);
     Ok(status)
 }
 
