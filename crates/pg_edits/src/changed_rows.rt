@@ -223,14 +223,10 @@ fn settle(
     if waiting.is_empty() {
         return Ok(());
     }
-    let mut rows = mem::replace(waiting, Vec::new(alloc));
+    let rows = mem::replace(waiting, Vec::new(alloc));
     let mut list = mem::replace(edges, Vec::new(alloc));
     list.shrink_to_fit();
-    add_rows(alloc, done, rows.as_slice(), list)?;
-    // The next rows wait in the same memory.
-    rows.clear();
-    *waiting = rows;
-    Ok(())
+    add_rows(alloc, done, rows.as_slice(), list)
 }
 
 /// Adds rows whose edges are parts of a list.
