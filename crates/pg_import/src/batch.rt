@@ -76,7 +76,12 @@ struct Named {
 impl Named {
     // Names an end of a line, and says whether it wasn't there yet. It is expected at this rank, if it has one; else the
     // graph has it.
-    fn name_vertex(&mut self, graph: &Graph, id: VertexId, rank: Option<u32>) -> Result<bool, Memory>
+    fn name_vertex(
+        &mut self,
+        graph: &Graph,
+        id: VertexId,
+        rank: Option<u32>,
+    ) -> Result<bool, Memory>
         requires { IsNone rank → has_vertex id graph.now ≡ true }
         ensures { IfOk result (λ added. (rows : Rows) → Shows graph.now self.old rows
             → (added ≡ not (has_vertex id rows)) × Shows graph.now self.new (with_vertex id rows)) }

@@ -34,7 +34,12 @@ impl Mentioned {
         let by_edge = reordered_by_source(alloc, lines, by_target.clone()?)?;
         let mut ranks = Ranks::new(alloc, lines.len())?;
         let mut looked_up = LookedUp::new(alloc, graph, lines.len())?;
-        ranks.add_ends(&mut looked_up, lines, by_edge.as_slice(), by_target.as_slice())?;
+        ranks.add_ends(
+            &mut looked_up,
+            lines,
+            by_edge.as_slice(),
+            by_target.as_slice(),
+        )?;
         ranks.add_edges(&mut looked_up, lines, by_edge.as_slice())?;
         let (vertices, edges) = looked_up.finish();
         Ok(Mentioned {

@@ -4,10 +4,9 @@
 ghost use Rattle.std.specs.Prelude.{◌≤◌};
 
 use pregeld::start_leaving;
-use std::env;
 use std::io::{self, BufReader, BufWriter, Write};
-use std::mem;
 use std::process::ExitCode;
+use std::{env, mem};
 
 fn main(rt: HostRuntime) -> ExitCode {
     let mut errors = rt.stderr();

@@ -13,7 +13,7 @@ invariant_of-self-in_default c =
     let edges = c.edges_of-edges.result in
     let noted = c.self.inside.edges.items in
     let lead : AreTargetsOf graph id edges.now = λ target.
-        ap (λ e. is_some (weight_at target e)) (c.edges_of-edges.ensures ∙ ap edges_of c.row_at.ensures.row)
-        ∙ targets_of_row (row_at id graph) target in
+    ap (λ e. is_some (weight_at target e)) (c.edges_of-edges.ensures ∙ ap edges_of c.row_at.ensures.row)
+    ∙ targets_of_row (row_at id graph) target in
     rw (c.row_at.ensures.same, c.in_ok-push.ensures.items, c.in_default.ensures.items, map-append (λ e. e.now) noted (edges ∷ []))
     (AreNoted-push graph c.self.inside.ids.items (map (λ e. e.now) noted) id edges.now c.self.invariant lead)
