@@ -1,8 +1,7 @@
 -- What is known of the ends of lines stays known.
-use Rattle.std.proofs.Common.{◌≡◌, ℕ, zero, suc, List, [], ◌∷◌, Some, slice_set, slice_get, replicate, subst, sym, IsNone, true}
+use Rattle.std.proofs.Common.{◌≡◌, ℕ, zero, suc, List, [], ◌∷◌, Some, slice_set, slice_get, replicate, subst, sym, IsNone}
 use Rattle.std.proofs.lemmas.Option.{same_Some}
 use Rattle.pg_graph.specs.Rows.{Rows}
-use Rattle.pg_import.specs.Batch.{has_vertex}
 use Rattle.pg_import.specs.Ranks.{AreKnown, IsKnown}
 use Rattle.pg_import.specs.declared.line.Line.{Line}
 use Rattle.pg_import.specs.declared.order.LineRanks.{LineRanks}

@@ -3,17 +3,13 @@ use Rattle.std.proofs.Common.{◌≡◌, ℕ, ◌&&◌, Bool, true, false, cond,
 use Rattle.std.specs.BTreeMap.{is_at}
 use Rattle.std.specs.Ordering.{nat_cmp}
 use Rattle.pg_graph.specs.Rows.{Rows}
-use Rattle.pg_import.proofs.Graphs.{has_edge-with_line_edge, has_edge-with_vertex, has_vertex-with_line_edge, has_vertex-with_vertex}
+use Rattle.pg_import.proofs.Graphs.{cond-true, has_edge-with_line_edge, has_edge-with_vertex, has_vertex-with_line_edge, has_vertex-with_vertex, with_vertex-there}
 use Rattle.pg_import.specs.Batch.{has_edge, has_vertex, with_line_edge, with_vertex}
 use Rattle.pg_import.specs.Named.{Shows}
 use Rattle.pg_import.specs.NamedEdges.{there_in}
 use Rattle.pg_import.specs.declared.named_edges.NamedEdge.{NamedEdge}
 use Rattle.pg_import.specs.declared.batch.Named.{Named}
 use Rattle.pg_import.specs.declared.line.Line.{Line}
-
-cond-true : (b : Bool) → cond b true true ≡ true
-cond-true true = refl
-cond-true false = refl
 
 and-same : (b : Bool) → (b && b) ≡ b
 and-same true = refl
@@ -33,8 +29,7 @@ Shows-vertex graph named vertices rows id shows put = record {
 -- a vertex that the first graph has is there
 pub Shows-kept : (graph : Rows) (named : Named) (rows : Rows) (id : ℕ) → Shows graph named rows → has_vertex id graph ≡ true
     → Shows graph named (with_vertex id rows)
-unfolding with_vertex
-Shows-kept graph named rows id shows there = rw (shows.kept id there) shows
+Shows-kept graph named rows id shows there = rw (with_vertex-there rows id (shows.kept id there)) shows
 
 -- an edge that is there from now on
 pub Shows-edge : (graph : Rows) (named : Named) (edges : List NamedEdge) (rows : Rows) (line : Line) → Shows graph named rows

@@ -1,8 +1,7 @@
 -- The edges that were noted of sources.
-use Rattle.std.proofs.Common.{◌≡◌, ℕ, ℤ, zero, suc, inl, inr, true, false, is_some, nat_eq, arith, List, [], ◌∷◌, ◌++◌, Option, None, Some, IfSome, refl, subst, slice_get, ap, sym, ◌∙◌}
+use Rattle.std.proofs.Common.{◌≡◌, ℕ, ℤ, zero, suc, inl, inr, true, false, is_some, nat_eq, arith, List, [], ◌∷◌, ◌++◌, Option, None, Some, IfSome, refl, subst, slice_get, ap, ◌∙◌}
 use Rattle.std.specs.BTreeMap.{is_at}
 use Rattle.std.specs.List.{AllByRecursion}
-use Rattle.std.specs.Map.{lookup}
 use Rattle.std.specs.Option.{option_and_then}
 use Rattle.std.specs.Ordering.{nat_cmp}
 use Rattle.std.proofs.lemmas.Bool.{cases_Bool}
@@ -11,28 +10,28 @@ use Rattle.std.proofs.lemmas.Option.{same_Some}
 use Rattle.pg_edits.specs.EdgeList.{EdgeList, weight_at}
 use Rattle.pg_edits.specs.declared.row.Row.{Row}
 use Rattle.pg_graph.specs.Rows.{Rows}
-use Rattle.pg_import.specs.Sources.{AreNoted, AreTargetsOf, edges_of}
+use Rattle.pg_import.specs.Sources.{AreNoted, LeadAsFrom, edges_of}
 
 -- ---- edges that were noted
 -- at a place they are those of the vertex there
 pub AreNoted-at : (rows : Rows) (ids : List ℕ) (noted : List EdgeList) (i : ℕ) {id : ℕ} {edges : EdgeList} → AreNoted rows ids noted
-    → slice_get ids i ≡ Some id → slice_get noted i ≡ Some edges → AreTargetsOf rows id edges
+    → slice_get ids i ≡ Some id → slice_get noted i ≡ Some edges → LeadAsFrom rows id edges
 AreNoted-at rows [] noted i all at here = cc at
 AreNoted-at rows (x ∷ xs) [] i all at here = cc here
 AreNoted-at rows (x ∷ xs) (y ∷ ys) zero {id} {edges} all at here =
-    subst (λ v. AreTargetsOf rows v edges) (same_Some _ _ at) (subst (AreTargetsOf rows x) (same_Some _ _ here) all.0)
+    subst (λ v. LeadAsFrom rows v edges) (same_Some _ _ at) (subst (LeadAsFrom rows x) (same_Some _ _ here) all.0)
 AreNoted-at rows (x ∷ xs) (y ∷ ys) (suc i) all at here = AreNoted-at rows xs ys i all.1 at here
 
 -- also where edges were found, if they were
-pub targets_if_noted : (rows : Rows) (ids : List ℕ) (noted : List EdgeList) (place id : ℕ) {X : Type 0} (now : X → EdgeList) (found : Option X)
+pub lead_if_noted : (rows : Rows) (ids : List ℕ) (noted : List EdgeList) (place id : ℕ) {X : Type 0} (now : X → EdgeList) (found : Option X)
     → AreNoted rows ids noted → IfSome found (λ x. slice_get ids place ≡ Some id) → IfSome found (λ x. slice_get noted place ≡ Some (now x))
-    → IfSome found (λ x. AreTargetsOf rows id (now x))
-targets_if_noted rows ids noted place id now None all at here = tt
-targets_if_noted rows ids noted place id now (Some x) all at here = AreNoted-at rows ids noted place all at here
+    → IfSome found (λ x. LeadAsFrom rows id (now x))
+lead_if_noted rows ids noted place id now None all at here = tt
+lead_if_noted rows ids noted place id now (Some x) all at here = AreNoted-at rows ids noted place all at here
 
 -- with one vertex more
 pub AreNoted-push : (rows : Rows) (ids : List ℕ) (noted : List EdgeList) (id : ℕ) (edges : EdgeList) → AreNoted rows ids noted
-    → AreTargetsOf rows id edges → AreNoted rows (ids ++ id ∷ []) (noted ++ edges ∷ [])
+    → LeadAsFrom rows id edges → AreNoted rows (ids ++ id ∷ []) (noted ++ edges ∷ [])
 AreNoted-push rows [] [] id edges all more = (more, tt)
 AreNoted-push rows [] (y ∷ ys) id edges all more = absurd all
 AreNoted-push rows (x ∷ xs) [] id edges all more = absurd all

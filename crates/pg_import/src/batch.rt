@@ -25,7 +25,7 @@ pub fn into_batch(alloc: Global, lines: &[Line], graph: &Graph) -> Result<Batch,
         edges,
         ranks,
     } = Mentioned::of(alloc, lines, graph)?;
-    // For each line its edge, and each vertex at most once.
+    // For each line its edge, and each vertex that the graph lacks at most once.
     let room = lines.len().saturating_add(vertices.len());
     let mut batch = Batch::with_capacity(alloc, room)?;
     let mut named = Named { vertices, edges };
@@ -65,8 +65,8 @@ fn push_edge(batch: &mut Batch, line: &Line, is_new: bool) -> Result<(), Memory>
     }
 }
 
-// What all lines mention, and what of it is there by now: a graph has it, or a line so far has named it. A
-// vertex is named as the edge to itself, unless the graph has it.
+// The edges that all lines mention and the vertices of these that a graph lacks, each as the edge to itself, and which
+// of them are there by now: the graph has them, or a line so far has named them.
 #[derive(Drop)]
 struct Named {
     vertices: NamedEdges,

@@ -3,15 +3,15 @@
 ghost use Rattle.std.specs.Prelude.{◌≡◌, true, is_some, option_and_then, IfOk, IsNone};
 ghost use Rattle.std.specs.Option.{option_copied};
 ghost use Rattle.pg_edits.specs.EdgeList.{weight_at};
-ghost use Rattle.pg_graph.specs.Rows.{row_at};
 ghost use Rattle.pg_import.specs.Batch.{has_edge, has_vertex};
 ghost use Rattle.pg_import.specs.NamedEdges.{AreThereAs};
 
+mod last_row;
 mod sources;
 
 use crate::Memory;
 use crate::named_edges::{EdgesOnce, NamedEdges};
-use pg_graph::{Finder, Graph, Row, VertexId};
+use pg_graph::{Graph, Row, VertexId};
 use sources::Sources;
 use std::alloc::Global;
 use std::marker::Model;
@@ -51,7 +51,7 @@ impl<'a> LookedUp<'a> {
     }
 
     /// Looks up a vertex, which is the last one or comes after it. One that the graph has is left out, and no place told;
-    /// of another it says where it stands. One that comes before is left out, and some place told.
+    /// of another it says where it stands. One that comes before is left out, and the last place told.
     pub(crate) fn add_vertex(&mut self, id: VertexId) -> Result<Option<u32>, Memory>
         ensures there { IfOk result (λ place. IsNone place → has_vertex id self.old ≡ true) }
         ensures same { self.new ≡ self.old }
@@ -76,7 +76,7 @@ impl<'a> LookedUp<'a> {
     }
 
     /// Adds an edge, which is the last one or comes after it, and says where it stands. One that comes before is left out,
-    /// and another place told. It costs no look-up among the rows where sources come in the order in which they were added.
+    /// and the last place told. It costs no look-up among the rows where sources come in the order in which they were added.
     pub(crate) fn add_edge(&mut self, source: VertexId, target: VertexId) -> Result<u32, Memory>
         ensures { self.new ≡ self.old }
     {
@@ -97,54 +97,10 @@ impl<'a> LookedUp<'a> {
     }
 }
 
-/// A place, as it is kept for each line. No list of what lines mention is so long that its places don't fit.
+/// A place, as it is kept for each line. One that doesn't fit is kept as the greatest, which costs a search and changes no
+/// answer.
 fn kept(place: usize) -> u32 {
     u32::try_from(place).unwrap_or(u32::MAX)
-}
-
-/// The row that was looked up last, if one was. A contract sees the graph.
-#[derive(Drop)]
-pub(crate) struct LastRow<'a> {
-    finder: Finder<'a, Row>,
-    id: Option<VertexId>,
-    row: Option<&'a Row>,
-}
-
-impl<'a> Model for LastRow<'a> {
-    ghost use Rattle.std.specs.Prelude.{◌≡◌, IfSome};
-    ghost use Rattle.std.specs.Option.{option_copied};
-    ghost use Rattle.pg_graph.specs.Rows.{Rows, row_at};
-
-    ghost Value = { Rows };
-
-    ghost view = { λ last. last.finder };
-
-    ghost invariant = { λ last. IfSome last.id (λ id. option_copied last.row ≡ row_at id last.finder) };
-}
-
-impl<'a> LastRow<'a> {
-    /// None yet, of this graph.
-    pub(crate) fn of(graph: &'a Graph) -> LastRow<'a>
-        ensures { result ≡ graph.now }
-    {
-        LastRow {
-            finder: graph.finder(),
-            id: None,
-            row: None,
-        }
-    }
-
-    /// The row at an id. It is looked up where the last one was at another id.
-    pub(crate) fn row_at(&mut self, id: VertexId) -> Option<&'a Row>
-        ensures row { option_copied result ≡ row_at id self.old }
-        ensures same { self.new ≡ self.old }
-    {
-        if self.id != Some(id) {
-            self.id = Some(id);
-            self.row = self.finder.get(id);
-        }
-        self.row
-    }
 }
 
 /// Whether there is a row.

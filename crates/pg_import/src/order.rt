@@ -1,6 +1,6 @@
 //! What the lines of a list mention, by rising id. No answer depends on the order: what it leaves out is
 //! looked up when its line goes by.
-ghost use Rattle.std.specs.Prelude.{◌≡◌, List, Some, true, map, slice_get, IfOk, IsNone, OnOk};
+ghost use Rattle.std.specs.Prelude.{◌≡◌, List, Some, true, slice_get, IfOk, IsNone, OnOk};
 ghost use Rattle.pg_graph.specs.Rows.{Rows};
 ghost use Rattle.pg_import.specs.Batch.{has_edge, has_vertex};
 ghost use Rattle.pg_import.specs.NamedEdges.{AreThereAs};
@@ -10,7 +10,7 @@ ghost use Rattle.pg_import.specs.declared.line.Line.{Line};
 use crate::looked_up::LookedUp;
 use crate::named_edges::NamedEdges;
 use crate::{Line, Memory};
-use pg_graph::{Graph, VertexId, places_by_id, reordered_by_id};
+use pg_graph::{Graph, places_by_id, reordered_by_id};
 use std::alloc::Global;
 
 /// The vertices that the lines of a list mention and a graph doesn't have, the edges that they mention with whether it has

@@ -3,7 +3,7 @@ use pg_core::Limits;
 use pg_global::AnyCombiner;
 use pg_graph::VertexId;
 use pg_ready::{ReadyMaster, ReadyProgram, Sssp};
-use pregeld::{ReadyService, ServeFault, Service, serve, start};
+use pregeld::{ReadyService, ServeFault, Service, serve, start_leaving};
 use std::alloc::Global;
 use std::io::{BufRead, Write};
 use std::process::Abort;
@@ -18,8 +18,9 @@ pub(crate) fn started<R: BufRead, W: Write, E: Write>(
     reader: &mut R,
     writer: &mut W,
     errors: &mut E,
+    service_left: &mut Option<ReadyService>,
 ) -> u8 {
-    start(alloc, words, reader, writer, errors)
+    start_leaving(alloc, words, reader, writer, errors, service_left)
 }
 
 // The same of a session.
@@ -38,6 +39,8 @@ struct Ended {
     status: u8,
     output: Vec<u8>,
     errors: Vec<u8>,
+    // How far the session has come, if there was one.
+    reached: Option<Reached>,
 }
 
 // The program with these words on this input.
@@ -45,18 +48,27 @@ fn run(alloc: Global, words: &[&str], input: &[u8]) -> Ended {
     let mut reader = input;
     let mut output = Vec::new(alloc);
     let mut errors = Vec::new(alloc);
-    let status = started(alloc, words, &mut reader, &mut output, &mut errors);
+    let mut service = None;
+    let status = started(
+        alloc,
+        words,
+        &mut reader,
+        &mut output,
+        &mut errors,
+        &mut service,
+    );
     Ended {
         status,
         output,
         errors,
+        reached: service.as_ref().map(|service| reached_by(service)),
     }
 }
 
 // Shortest paths from 1 on these lines print this.
 pub(crate) fn prints(rt: &impl Abort, alloc: Global, input: &[u8], output: &[u8]) {
     let ended = run(alloc, &["pregeld", "--program", "sssp"], input);
-    assert!(rt; ended.status == 0 && ended.errors.is_empty());
+    assert!(rt; ended.status == 0 && ended.errors.is_empty() && ended.reached.is_some());
     assert_eq!(rt; ended.output.as_slice(), output);
 }
 
@@ -108,7 +120,7 @@ fn a_number_of_a_megabyte(rt: HostRuntime) -> Result<(), Fail> {
 // The text of help, with the name under which the program was started.
 fn help_of(rt: &impl Abort, alloc: Global, name: &str) -> Vec<u8> {
     let ended = run(alloc, &[name, "--help"], TWO_HOPS);
-    assert!(rt; ended.status == 0 && ended.errors.is_empty());
+    assert!(rt; ended.status == 0 && ended.errors.is_empty() && ended.reached.is_none());
     ended.output
 }
 

@@ -67,24 +67,88 @@ fn put_lines(alloc: Global, plain: &mut PlainGraph, lines: &[Line]) -> Result<()
     Ok(())
 }
 
-// So many lines are brought into a graph that has some of their vertices and edges.
-fn are_imported(alloc: Global, count: u32) -> Result<bool, EditFault> {
+// Brings lines into a graph, and into a plain one.
+fn bring(
+    alloc: Global,
+    graph: &mut Graph,
+    plain: &mut PlainGraph,
+    lines: &[Line],
+) -> Result<(), EditFault> {
+    let batch = into_batch(alloc, lines, graph)?;
+    graph.apply(alloc, &batch)?;
+    put_lines(alloc, plain, lines)?;
+    Ok(())
+}
+
+// So many lines, and then as many others, are brought into a graph that has some of their vertices and edges.
+fn are_imported(alloc: Global, counts: &[u32]) -> Result<bool, EditFault> {
     let mut graph = Graph::new(alloc);
     let mut plain = PlainGraph::new(alloc);
     let before = batch_before(alloc, &mut plain)?;
     graph.apply(alloc, &before)?;
-    let lines = lines_of(alloc, count)?;
-    let batch = into_batch(alloc, lines.as_slice(), &graph)?;
-    graph.apply(alloc, &batch)?;
-    put_lines(alloc, &mut plain, lines.as_slice())?;
+    for count in counts {
+        let lines = lines_of(alloc, *count)?;
+        bring(alloc, &mut graph, &mut plain, lines.as_slice())?;
+    }
     Ok(plain.is_shown_by(&graph))
 }
 
-// Fewer than 256 lines are put in order by comparing, more by at most 8 bits at a time, and many by at most 13.
+// Vertices with so many edges each, to the first ones.
+fn batch_of_degrees(alloc: Global, plain: &mut PlainGraph) -> Result<Batch, Memory> {
+    let mut batch = Batch::new(alloc);
+    for (place, degree) in [(0, 15), (2, 16), (4, 17), (6, 0), (8, 40)] {
+        let vertex = Edit::AddVertex(far_id(place), -1);
+        plain.edit(alloc, &vertex)?;
+        batch.push(vertex)?;
+        for target in 0..degree {
+            let edge = Edit::AddEdge(far_id(place), far_id(target), -2);
+            plain.edit(alloc, &edge)?;
+            batch.push(edge)?;
+        }
+    }
+    Ok(batch)
+}
+
+// From each of some vertices, of which a graph has every second one, to the first one, to the last ones of 15, 16 and 17, to
+// one that isn't there, and to the first one again.
+fn lines_at_ends(alloc: Global) -> Result<Vec<Line>, Memory> {
+    let mut lines = Vec::new(alloc);
+    for target in [0, 14, 1, 16, 15, 63, 0] {
+        for source in [9, 4, 1, 8, 3, 0, 6, 2, 5, 7, 10] {
+            lines.push(Line {
+                source: far_id(source),
+                target: far_id(target),
+                weight: i64::from(source) - i64::from(target),
+            })?;
+        }
+    }
+    Ok(lines)
+}
+
+// Fewer than 256 lines are put in order by comparing, more by at most 8 bits at a time, and many by at most 13. The second
+// list finds more edges at each source than the first one.
 #[test]
 fn lists_in_no_order(rt: HostRuntime) -> Result<(), EditFault> {
-    for count in [100, 256, 5_000] {
-        assert!(rt; are_imported(rt.alloc(), count)?, "{count} lines");
+    for counts in [[100, 101], [256, 257], [1_800, 1_801], [5_000, 5_001]] {
+        let [first, second] = counts;
+        assert!(rt;
+            are_imported(rt.alloc(), &counts)?,
+            "{first} lines and {second}"
+        );
     }
+    Ok(())
+}
+
+// Few edges are gone over one by one, and more are searched.
+#[test]
+fn few_edges_and_more(rt: HostRuntime) -> Result<(), EditFault> {
+    let alloc = rt.alloc();
+    let mut graph = Graph::new(alloc);
+    let mut plain = PlainGraph::new(alloc);
+    let before = batch_of_degrees(alloc, &mut plain)?;
+    graph.apply(alloc, &before)?;
+    let lines = lines_at_ends(alloc)?;
+    bring(alloc, &mut graph, &mut plain, lines.as_slice())?;
+    assert!(rt; plain.is_shown_by(&graph));
     Ok(())
 }

@@ -38,16 +38,15 @@ pub fn start<S: AsStr, R: BufRead, W: Write, E: Write>(
     start_leaving(alloc, words, reader, writer, errors, &mut service)
 }
 
-/// Does what `start` does, and leaves the service of the session, if one was begun, in the place of what stands there. To
-/// let go of all that a long session holds takes up to a sixth of the time that its first refresh took: a process that
-/// ends can do without.
+/// Does what `start` does, and leaves the service of the session in `service_left`, if one was begun. To let go of all that
+/// a long session holds takes time, which a process that ends can save.
 pub fn start_leaving<S: AsStr, R: BufRead, W: Write, E: Write>(
     alloc: Global,
     words: &[S],
     reader: &mut R,
     writer: &mut W,
     errors: &mut E,
-    left: &mut Option<ReadyService>,
+    service_left: &mut Option<ReadyService>,
 ) -> u8
     ensures status { result ≤ 2 }
     ensures done { result ≡ 0 → EndsWell R.remaining W.contents
@@ -68,19 +67,19 @@ pub fn start_leaving<S: AsStr, R: BufRead, W: Write, E: Write>(
         Err(NoOptions::Memory) => return fail(errors, "memory", 1),
         Err(NoOptions::Arguments) => return fail(errors, "arguments", 2),
     };
-    match serve_asked(alloc, &options, reader, writer, left) {
+    match serve_asked(alloc, &options, reader, writer, service_left) {
         Ok(()) => 0,
         Err(fault) => fail(errors, name_of(fault), 1),
     }
 }
 
-/// Serves a session of the job that the options ask for, by a service that is left where it is told.
+/// Serves a session of the job that the options ask for, and leaves the service in `service_left`.
 fn serve_asked<R: BufRead, W: Write>(
     alloc: Global,
     options: &Options,
     reader: &mut R,
     writer: &mut W,
-    left: &mut Option<ReadyService>,
+    service_left: &mut Option<ReadyService>,
 ) -> Result<(), ServeFault>
     requires { AreInRange options.now }
     ensures ok { OnOk result (IfSome (R.remaining reader.old) (λ input. (left : ReadyState)
@@ -93,7 +92,7 @@ fn serve_asked<R: BufRead, W: Write>(
         return Err(ServeFault::Memory);
     };
     let served = serve(alloc, reader, writer, &mut service);
-    *left = Some(service);
+    *service_left = Some(service);
     served
 }
 

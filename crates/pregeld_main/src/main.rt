@@ -38,11 +38,11 @@ fn run<E: Write>(rt: &HostRuntime, errors: &mut E) -> io::Result<u8> {
         errors,
         &mut service,
     );
+    // The process ends before long, and its memory goes with it.
+    mem::forget(service);
     if status == 0 {
         writer.flush()?;
     }
-    // The process ends, and its memory goes with it.
-    mem::forget(service);
     Ok(status)
 }
 
