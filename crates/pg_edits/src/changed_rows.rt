@@ -1,8 +1,7 @@
 //! Changed rows, gathered one after another with their edges in few lists.
-ghost use Rattle.std.specs.Prelude.{◌≡◌, [], ◌∷◌, ◌++◌, Some, IfOk, OnOk};
+ghost use Rattle.std.specs.Prelude.{◌≡◌, [], ◌∷◌, ◌++◌, IfOk, OnOk};
 ghost use Rattle.std.specs.Option.{option_copied};
 ghost use Rattle.pg_edits.specs.ChangedRows.{Edited, changes_of, degree_of};
-ghost use Rattle.pg_edits.specs.EdgeList.{IsRising};
 ghost use Rattle.pg_edits.specs.Packing.{AreParts};
 
 use crate::last_row::add_edited;
@@ -223,10 +222,13 @@ fn settle(
     if waiting.is_empty() {
         return Ok(());
     }
-    let rows = mem::replace(waiting, Vec::new(alloc));
+    let mut rows = mem::replace(waiting, Vec::new(alloc));
     let mut list = mem::replace(edges, Vec::new(alloc));
     list.shrink_to_fit();
-    add_rows(alloc, done, rows.as_slice(), list)
+    add_rows(alloc, done, rows.as_slice(), list)?;
+    rows.clear();
+    *waiting = rows;
+    Ok(())
 }
 
 /// Adds rows whose edges are parts of a list.

@@ -5,7 +5,7 @@ ghost use Rattle.pg_edits.specs.EdgeList.{IsRising, weight_at};
 ghost use Rattle.pg_edits.specs.Edges.{IsPart, part_of};
 
 use crate::{Memory, VertexId};
-use std::alloc::Global;
+use std::alloc::{AllocError, Global};
 use std::marker::Model;
 use std::sync::Arc;
 
@@ -16,8 +16,8 @@ use std::sync::Arc;
 /// Those of several vertices may lie in one list, of which each has a part.
 pub struct Edges {
     shared: Option<Arc<Vec<(VertexId, i64)>>>,
-    first: usize,
-    degree: usize,
+    first: u32,
+    degree: u32,
 }
 
 // By hand, so that it is let go by one call wherever that is, and not field by field.
@@ -55,7 +55,8 @@ impl Edges {
         }
     }
 
-    /// These edges, which stand by rising target.
+    /// These edges, which stand by rising target. A list of 2^32 edges or more is refused as want of memory;
+    /// a graph has at most 2^24.
     pub fn from_rising(alloc: Global, edges: Vec<(VertexId, i64)>) -> Result<Edges, Memory>
         requires { IsRising edges.items }
         ensures { IfOk result (λ e. e ≡ edges.items) }
@@ -63,7 +64,7 @@ impl Edges {
         if edges.is_empty() {
             return Ok(Edges::new());
         }
-        let degree = edges.len();
+        let degree = narrow(edges.len())?;
         Ok(Edges {
             shared: Some(Arc::new(alloc, edges)?),
             first: 0,
@@ -84,9 +85,9 @@ impl Edges {
             return Ok(Edges::new());
         }
         Ok(Edges {
+            first: narrow(first)?,
+            degree: narrow(degree)?,
             shared: Some(Arc::try_clone(list)?),
-            first,
-            degree,
         })
     }
 
@@ -97,13 +98,14 @@ impl Edges {
     {
         match &self.shared {
             None => &[],
-            Some(shared) => part_of(shared.as_slice(), self.first, self.degree),
+            Some(shared) => part_of(shared.as_slice(), self.first as usize, self.degree as usize),
         }
     }
 
     /// Where the edges begin in their list, and where they end.
     pub(crate) fn places(&self) -> (usize, usize) {
-        (self.first, self.first.saturating_add(self.degree))
+        let first = self.first as usize;
+        (first, first.saturating_add(self.degree as usize))
     }
 
     /// The weight of the edge to `target`, found by binary search.
@@ -130,6 +132,13 @@ impl Edges {
             }),
         }
     }
+}
+
+/// A place or a count of edges in 32 bits, where it fits.
+fn narrow(number: usize) -> Result<u32, Memory>
+    ensures { IfOk result (λ n. n ≡ number) }
+{
+    u32::try_from(number).map_err(|_| AllocError)
 }
 
 /// So many edges of a list, from this place on.

@@ -1,9 +1,8 @@
 //! A row that is edited where its edges lie: they are the last ones of a list.
-ghost use Rattle.std.specs.Prelude.{◌≡◌, ◌<◌, ◌≤◌, ◌++◌, Err, IfErr, IfOk, MatchResult, Ok, OnErr, Option, Some, is_some, length};
+ghost use Rattle.std.specs.Prelude.{◌≡◌, ◌<◌, ◌≤◌, ◌++◌, IfErr, IfOk, MatchResult, OnErr, Option, Some, is_some, length};
 ghost use Rattle.std.specs.Option.{option_copied};
 ghost use Rattle.pg_edits.specs.EdgeList.{EdgeList, IsRising, weight_at, with_edge, without_edge};
 ghost use Rattle.pg_edits.specs.LastRow.{AddsEdited, BeginsWith, EditedBehind, IsGapBehind, IsPlaceBehind, LiesBehind};
-ghost use Rattle.pg_edits.specs.RowEdit.{vertex_after};
 ghost use Rattle.pg_edits.specs.declared.row.Row.{Row};
 
 use crate::{Edit, EditFault, EditKind, Memory, Row, VertexId};
