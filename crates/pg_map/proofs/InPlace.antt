@@ -20,15 +20,12 @@ use Rattle.std.proofs.lemmas.List.{drop_more, nil_from_length}
 use Rattle.std.proofs.lemmas.Option.{get_or_from_slice_get, slice_get_within}
 use Rattle.pg_map.specs.declared.part.Part.{Part}
 use Rattle.pg_map.proofs.InParts.{part_turn}
-use Rattle.pg_map.proofs.Parts.{rises_after, rises_left, rises_right}
+use Rattle.pg_map.proofs.Parts.{is_greater, rises_after, rises_left, rises_right}
 use Rattle.pg_map.proofs.Search.{lookup_past}
 use Rattle.pg_map.proofs.Rising.{find-insert_same, find-insert_other, rises-insert}
 
 is_equal : (a b : ℕ) → b ≡ a → nat_cmp a b ≡ Equal
 is_equal a b h = grind (arith, nat_tests)
-
-is_greater : (a b : ℕ) → b < a → nat_cmp a b ≡ Greater
-is_greater a b h = grind (arith, nat_tests)
 
 module _ {X : Type 0} where
   -- the entry at a place, below which all ids are below its own, gets another value
@@ -176,11 +173,6 @@ module _ {X T : Type 0} (listed : Part T → List (ℕ × X)) (all : List (Part 
     pub others_made : (b : List (ℕ × X)) → length here ≡ 0 → b ≡ with_changes later (flat_map listed cs)
         → listed c ++ b ≡ with_changes todo (flat_map listed all)
     others_made b none others = both_made (listed c) b (sym (ap (λ l. with_changes l (listed c)) (nil_from_length here none))) others
-
--- no parts, and so no changes
-pub none_made : {X T : Type 0} (listed : Part T → List (ℕ × X)) (parts : List (Part T)) (changes : List (ℕ × Option X)) → length parts ≡ 0
-    → length changes ≡ 0 → flat_map listed parts ≡ with_changes changes (flat_map listed parts)
-none_made listed parts changes no_parts no_changes = sym (ap (λ l. with_changes l (flat_map listed parts)) (nil_from_length changes no_changes))
 
 -- the first of some groups and the others
 module _ {X : Type 0} (all : List (Part (Part (ℕ × X)))) (c : Part (Part (ℕ × X))) (cs : List (Part (Part (ℕ × X)))) (at : all ≡ c ∷ cs)

@@ -10,4 +10,5 @@ pub mod Parts
 pub mod Replaced
 pub mod Rising
 pub mod Search
+pub mod Stretch
 pub mod Turns

@@ -19,7 +19,7 @@ less_is a b h = grind (arith, nat_tests)
 pub is_less : (a b : ℕ) → a < b → nat_cmp a b ≡ Less
 is_less a b h = grind (arith, nat_tests)
 
-is_greater : (a b : ℕ) → b < a → nat_cmp a b ≡ Greater
+pub is_greater : (a b : ℕ) → b < a → nat_cmp a b ≡ Greater
 is_greater a b h = grind (arith, nat_tests)
 
 pub is_equal : (a : ℕ) → nat_cmp a a ≡ Equal

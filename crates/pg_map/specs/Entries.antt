@@ -1,7 +1,7 @@
 -- The entries of a map: ids with values, by rising id, and what changes make of them.
-use Rattle.std.specs.Prelude.{ℕ, nat_le, List, [], ◌∷◌, Option, None, Some}
+use Rattle.std.specs.Prelude.{◌≡◌, ◌<◌, ℕ, nat_le, List, [], ◌∷◌, Option, None, Some}
 use Rattle.std.specs.BTreeMap.{insert_entry, is_at}
-use Rattle.std.specs.List.{filter}
+use Rattle.std.specs.List.{AllByRecursion, filter}
 use Rattle.std.specs.List.Sorted.{IsStrictlySortedBy}
 use Rattle.std.specs.Map.{keys_of, lookup, remove_entry}
 use Rattle.std.specs.Ordering.{nat_cmp}
@@ -13,6 +13,14 @@ HasRisingIds entries = IsStrictlySortedBy nat_cmp (keys_of entries)
 -- the value at an id
 abbrev pub value_at : {V : Type 0} → ℕ → List (ℕ × V) → Option V
 value_at id entries = lookup (is_at (nat_cmp id)) entries
+
+-- these entries neither all lie above an id nor all below it
+abbrev pub Spans : {V : Type 0} → ℕ → List (ℕ × V) → Type 0
+Spans id entries = (AllByRecursion (λ e. id < e.0) entries → ⊥) × (AllByRecursion (λ e. e.0 < id) entries → ⊥)
+
+-- some of all entries, in their order, and none between them is left out
+abbrev pub IsStretch : {V : Type 0} → List (ℕ × V) → List (ℕ × V) → Type 0
+IsStretch entries all = HasRisingIds entries × ((id : ℕ) → Spans id entries → Spans id all × (value_at id all ≡ value_at id entries))
 
 -- the entries from an id on
 abbrev pub entries_from : {V : Type 0} → ℕ → List (ℕ × V) → List (ℕ × V)

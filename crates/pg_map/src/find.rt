@@ -1,9 +1,9 @@
 //! Look-ups that come near one another.
-ghost use Rattle.std.specs.Prelude.{◌≡◌, ◌≤◌, true, false, nat_le, nat_lt, length, IsTrue};
+ghost use Rattle.std.specs.Prelude.{◌≡◌, ◌≤◌, ℕ, true, false, nat_le, nat_lt, length, IsTrue};
 ghost use Rattle.std.specs.List.Sorted.{IsNonDecreasingBy, IsPartitionPoint};
 ghost use Rattle.std.specs.Option.{option_copied};
 ghost use Rattle.pg_map.specs.Chunks.{AreChunks, AreGroups, all_of, entries_of};
-ghost use Rattle.pg_map.specs.Entries.{HasRisingIds, value_at};
+ghost use Rattle.pg_map.specs.Entries.{HasRisingIds, IsStretch, Spans, value_at};
 
 use crate::VertexId;
 use crate::part::{Chunk, Group, Part, is_at_most, is_below};
@@ -14,13 +14,16 @@ const STEPS: usize = 16;
 
 /// Looks up ids in a map. Where no id is missing between the first of a chunk and this one, or it is past all of a chunk
 /// without gaps, it costs a step; where an id lies a few entries after the one before, a step for each; and elsewhere in
-/// the same chunk a search in that one alone.
+/// the same chunk a search in that one alone. Where it lies between two ids of the chunk that was asked last, no other is
+/// looked at.
 /// A contract sees the entries of the map.
 #[derive(Drop)]
 pub struct Finder<'a, V> {
     groups: &'a [Group<V>],
     groups_begun: usize,
     chunks_begun: usize,
+    // Those of the chunk that was asked last, and how many of them were below.
+    entries: &'a [(VertexId, V)],
     entries_below: usize,
 }
 
@@ -30,11 +33,11 @@ impl<'a, V> Model for Finder<'a, V> {
     ghost Value = { List (ℕ × V) };
 
     ghost use Rattle.pg_map.specs.Chunks.{AreGroups, all_of};
-    ghost use Rattle.pg_map.specs.Entries.{HasRisingIds};
+    ghost use Rattle.pg_map.specs.Entries.{HasRisingIds, IsStretch};
 
     ghost view = { λ f. all_of f.groups.now };
 
-    ghost invariant = { λ f. AreGroups f.groups.now × HasRisingIds (all_of f.groups.now) };
+    ghost invariant = { λ f. AreGroups f.groups.now × HasRisingIds (all_of f.groups.now) × IsStretch f.entries.now (all_of f.groups.now) };
 }
 
 impl<'a, V> Finder<'a, V> {
@@ -48,6 +51,7 @@ impl<'a, V> Finder<'a, V> {
             groups,
             groups_begun: 0,
             chunks_begun: 0,
+            entries: &[],
             entries_below: 0,
         }
     }
@@ -57,14 +61,37 @@ impl<'a, V> Finder<'a, V> {
         ensures value { option_copied result ≡ value_at id self.old }
         ensures same { self.new ≡ self.old }
     {
+        let entries = self.entries_by(id);
+        self.entries = entries;
+        value_near(entries, &mut self.entries_below, id)
+    }
+
+    /// The entries of the one chunk that may hold an id, which may be those that were asked last.
+    fn entries_by(&mut self, id: VertexId) -> &'a [(VertexId, V)]
+        ensures value { value_at id result.now ≡ value_at id self.old }
+        ensures stretch { IsStretch result.now self.old }
+        ensures same { self.new ≡ self.old }
+    {
+        if spans(self.entries, id) {
+            return self.entries;
+        }
+        self.entries_found(id)
+    }
+
+    /// The same, found among all chunks.
+    fn entries_found(&mut self, id: VertexId) -> &'a [(VertexId, V)]
+        ensures value { value_at id result.now ≡ value_at id self.old }
+        ensures stretch { IsStretch result.now self.old }
+        ensures same { self.new ≡ self.old }
+    {
         let groups = self.groups;
         self.groups_begun = begun(groups, self.groups_begun, id);
         if self.groups_begun == 0 {
-            return None;
+            return &[];
         }
         let chunks = groups[self.groups_begun - 1].items.as_slice();
         self.chunks_begun = begun(chunks, self.chunks_begun, id);
-        value_in(chunks, self.chunks_begun, &mut self.entries_below, id)
+        last_of(chunks, self.chunks_begun)
     }
 }
 
@@ -95,28 +122,32 @@ fn have_begun<T>(parts: &[Part<T>], count: usize, id: VertexId) -> bool
     !is_at_most(parts[count].first, id)
 }
 
-/// The value at an id, where so many chunks begin at it or below it. `below` is a guess at how many entries of the
-/// last of these are below it, and says then how many are.
-fn value_in<'a, V>(
-    chunks: &'a [Chunk<V>],
-    begun: usize,
-    below: &mut usize,
-    id: VertexId,
-) -> Option<&'a V>
+/// The entries of the last of so many chunks, if any.
+fn last_of<V>(chunks: &[Chunk<V>], count: usize) -> &[(VertexId, V)]
     requires chunks { AreChunks chunks.now }
     requires rise { HasRisingIds (entries_of chunks.now) }
-    requires bound { begun ≤ length chunks.now }
-    requires parts { IsPartitionPoint (λ c. nat_le c.first id ≡ true) (λ c. nat_le c.first id ≡ false) chunks.now begun }
-    ensures { option_copied result ≡ value_at id (entries_of chunks.now) }
+    requires bound { count ≤ length chunks.now }
+    ensures values { (id : ℕ) → IsPartitionPoint (λ c. nat_le c.first id ≡ true) (λ c. nat_le c.first id ≡ false) chunks.now count
+        → value_at id result.now ≡ value_at id (entries_of chunks.now) }
+    ensures stretch { IsStretch result.now (entries_of chunks.now) }
 {
-    if begun == 0 {
-        return None;
+    if count == 0 {
+        return &[];
     }
-    let entries = chunks[begun - 1].items.as_slice();
-    value_near(entries, below, id)
+    chunks[count - 1].items.as_slice()
 }
 
-/// The value at an id among these entries, with such a guess.
+/// Whether an id lies from the first of these entries up to the last.
+fn spans<V>(entries: &[(VertexId, V)], id: VertexId) -> bool
+    ensures { IsTrue result → Spans id entries.now }
+{
+    if entries.is_empty() {
+        return false;
+    }
+    is_at_most(entries[0].0, id) && is_at_most(id, entries[entries.len() - 1].0)
+}
+
+/// The value at an id among these entries. `below` is a guess at how many of them are below it, and says then how many are.
 pub(crate) fn value_near<'a, V>(
     entries: &'a [(VertexId, V)],
     below: &mut usize,
