@@ -4,9 +4,13 @@
 ghost use Rattle.std.specs.Prelude.{◌≤◌};
 
 use pregeld::start_leaving;
+use std::alloc::{AllocError, Global};
 use std::io::{self, BufReader, BufWriter, Write};
 use std::process::ExitCode;
 use std::{env, mem};
+
+/// How many bytes the piece has that is taken once. Up to twice as many stay when they are let go of.
+const LARGE_PIECE: usize = 16 << 20;
 
 fn main(rt: HostRuntime) -> ExitCode {
     let mut errors = rt.stderr();
@@ -23,6 +27,7 @@ fn main(rt: HostRuntime) -> ExitCode {
 /// Want of memory before the first command, words that aren't UTF-8, or output that can't be written
 /// after the last one.
 fn run<E: Write>(rt: &HostRuntime, errors: &mut E) -> io::Result<u8> {
+    keep_freed_memory(rt.alloc());
     let mut words = Vec::new(rt.alloc());
     for word in env::args(rt)? {
         words.push(word)?;
@@ -44,6 +49,14 @@ fn run<E: Write>(rt: &HostRuntime, errors: &mut E) -> io::Result<u8> {
         writer.flush()?;
     }
     Ok(status)
+}
+
+/// Has the GNU C library keep what is let go of. It gives memory back to the system once twice as much lies free at the
+/// end of its heap as the largest piece had that it took from the system by itself and gave back. A session takes and
+/// lets go of megabytes again and again, and would pay for each page anew. So one large piece is taken and let go of.
+fn keep_freed_memory(alloc: Global) {
+    let piece: Result<Vec<u8>, AllocError> = Vec::with_capacity(alloc, LARGE_PIECE);
+    drop(piece);
 }
 
 /// Says why the program ends, and gives the exit status for it.
