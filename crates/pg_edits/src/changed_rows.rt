@@ -226,6 +226,7 @@ fn settle(
     let mut list = mem::replace(edges, Vec::new(alloc));
     list.shrink_to_fit();
     add_rows(alloc, done, rows.as_slice(), list)?;
+    // The next rows wait in the same memory.
     rows.clear();
     *waiting = rows;
     Ok(())

@@ -55,8 +55,11 @@ impl Edges {
         }
     }
 
-    /// These edges, which stand by rising target. A list of 2^32 edges or more is refused as want of memory;
-    /// a graph has at most 2^24.
+    /// These edges, which stand by rising target.
+    ///
+    /// # Errors
+    ///
+    /// Where memory is refused, and for 2^32 edges and more: a graph has at most 2^24, but a run may give a vertex more.
     pub fn from_rising(alloc: Global, edges: Vec<(VertexId, i64)>) -> Result<Edges, Memory>
         requires { IsRising edges.items }
         ensures { IfOk result (λ e. e ≡ edges.items) }
@@ -72,7 +75,7 @@ impl Edges {
         })
     }
 
-    /// A part of a list, in the list's memory.
+    /// A part of a list, in the list's memory. One whose place or length doesn't fit in 32 bits is refused as want of memory.
     pub(crate) fn part(
         list: &Arc<Vec<(VertexId, i64)>>,
         first: usize,
@@ -134,7 +137,7 @@ impl Edges {
     }
 }
 
-/// A place or a count of edges in 32 bits, where it fits.
+/// A place or a count of edges in 32 bits where it fits, and else want of memory.
 fn narrow(number: usize) -> Result<u32, Memory>
     ensures { IfOk result (λ n. n ≡ number) }
 {

@@ -2,6 +2,7 @@ pub mod Begun
 pub mod Changing
 pub mod Cut
 pub mod Filling
+pub mod Gapless
 pub mod InGroups
 pub mod InParts
 pub mod InPlace

@@ -5,6 +5,7 @@ use Rattle.std.specs.List.{AllByRecursion, flat_map}
 use Rattle.std.proofs.lemmas.Bool.{cases_lt}
 use Rattle.pg_map.specs.Entries.{HasRisingIds, IsStretch, Spans, value_at}
 use Rattle.pg_map.specs.declared.part.Part.{Part}
+use Rattle.pg_map.proofs.Cut.{all_front, all_later}
 use Rattle.pg_map.proofs.Parts.{Below, From, above_first, find-left, find-right, from_weaker, none_below, none_from, none_rise, rises_after, rises_right}
 
 module _ {X : Type 0} where
@@ -19,14 +20,6 @@ module _ {X : Type 0} where
   from_above q [] above = tt
   from_above q (e ∷ es) above = (omega (arith, above.0), from_above q es above.1)
 
-  all_of_left : (P : ℕ × X → Type 0) (a b : List (ℕ × X)) → AllByRecursion P (a ++ b) → AllByRecursion P a
-  all_of_left P [] b all = tt
-  all_of_left P (x ∷ a) b all = (all.0, all_of_left P a b all.1)
-
-  all_of_right : (P : ℕ × X → Type 0) (a b : List (ℕ × X)) → AllByRecursion P (a ++ b) → AllByRecursion P b
-  all_of_right P [] b all = all
-  all_of_right P (x ∷ a) b all = all_of_right P a b all.1
-
   -- of rising entries in two parts the front is below an id, or the rest above it
   parted : (q : ℕ) (a b : List (ℕ × X)) → HasRisingIds (a ++ b) → Below q a ⊎ Above q b
   parted q [] b rising = inl tt
@@ -39,17 +32,17 @@ module _ {X : Type 0} where
           inr
           (above_from q b
           (from_weaker (q + 1) (x.0 + 1) b (omega arith)
-          (all_of_right (λ e. x.0 + 1 ≤ e.0) a b (above_first x (a ++ b) rising))))
+          (all_later (λ e. x.0 + 1 ≤ e.0) a b (above_first x (a ++ b) rising))))
 
   -- no entries have none between them
   pub none_stretch : (es all : List (ℕ × X)) → es ≡ [] → IsStretch es all
   none_stretch es all none = (none_rise es none, λ q spans. absurd (spans.0 (subst (Above q) (sym none) tt)))
 
   spans_left : (q : ℕ) (a b : List (ℕ × X)) → Spans q a → Spans q (a ++ b)
-  spans_left q a b spans = (λ all. spans.0 (all_of_left (λ e. q < e.0) a b all), λ all. spans.1 (all_of_left (λ e. e.0 < q) a b all))
+  spans_left q a b spans = (λ all. spans.0 (all_front (λ e. q < e.0) a b all), λ all. spans.1 (all_front (λ e. e.0 < q) a b all))
 
   spans_right : (q : ℕ) (a b : List (ℕ × X)) → Spans q b → Spans q (a ++ b)
-  spans_right q a b spans = (λ all. spans.0 (all_of_right (λ e. q < e.0) a b all), λ all. spans.1 (all_of_right (λ e. e.0 < q) a b all))
+  spans_right q a b spans = (λ all. spans.0 (all_later (λ e. q < e.0) a b all), λ all. spans.1 (all_later (λ e. e.0 < q) a b all))
 
   value_left : (q : ℕ) (a b : List (ℕ × X)) → HasRisingIds (a ++ b) → Spans q a → value_at q (a ++ b) ≡ value_at q a
   value_left q a b rising spans = by (parted q a b rising)

@@ -1,5 +1,6 @@
 //! Look-ups that come near one another.
-ghost use Rattle.std.specs.Prelude.{◌≡◌, ◌≤◌, ℕ, true, false, nat_le, nat_lt, length, IsTrue};
+ghost use Rattle.std.specs.Prelude.{◌≡◌, ◌<◌, ◌≤◌, ℕ, true, false, nat_le, nat_lt};
+ghost use Rattle.std.specs.Prelude.{length, slice_index_or, IfSome, IsTrue};
 ghost use Rattle.std.specs.List.Sorted.{IsNonDecreasingBy, IsPartitionPoint};
 ghost use Rattle.std.specs.Option.{option_copied};
 ghost use Rattle.pg_map.specs.Chunks.{AreChunks, AreGroups, all_of, entries_of};
@@ -12,10 +13,11 @@ use std::marker::Model;
 /// How many entries are passed one by one before a search among all of a chunk.
 const STEPS: usize = 16;
 
-/// Looks up ids in a map. Where no id is missing between the first of a chunk and this one, or it is past all of a chunk
-/// without gaps, it costs a step; where an id lies a few entries after the one before, a step for each; and elsewhere in
-/// the same chunk a search in that one alone. Where it lies between two ids of the chunk that was asked last, no other is
-/// looked at.
+/// Looks up ids in a map. Where an id lies from the first to the last of the chunk that was asked last, no other chunk
+/// is looked at. Where no id is missing from the first of a chunk up to the last, or up to this one, or it is past all
+/// of a chunk without gaps, it costs a step; where an id lies a few entries after the one before, a step for each; and
+/// elsewhere in the same chunk a search in that one alone.
+///
 /// A contract sees the entries of the map.
 #[derive(Drop)]
 pub struct Finder<'a, V> {
@@ -91,7 +93,7 @@ impl<'a, V> Finder<'a, V> {
         }
         let chunks = groups[self.groups_begun - 1].items.as_slice();
         self.chunks_begun = begun(chunks, self.chunks_begun, id);
-        last_of(chunks, self.chunks_begun)
+        entries_of_last(chunks, self.chunks_begun)
     }
 }
 
@@ -123,7 +125,7 @@ fn have_begun<T>(parts: &[Part<T>], count: usize, id: VertexId) -> bool
 }
 
 /// The entries of the last of so many chunks, if any.
-fn last_of<V>(chunks: &[Chunk<V>], count: usize) -> &[(VertexId, V)]
+fn entries_of_last<V>(chunks: &[Chunk<V>], count: usize) -> &[(VertexId, V)]
     requires chunks { AreChunks chunks.now }
     requires rise { HasRisingIds (entries_of chunks.now) }
     requires bound { count ≤ length chunks.now }
@@ -147,7 +149,8 @@ fn spans<V>(entries: &[(VertexId, V)], id: VertexId) -> bool
     is_at_most(entries[0].0, id) && is_at_most(id, entries[entries.len() - 1].0)
 }
 
-/// The value at an id among these entries. `below` is a guess at how many of them are below it, and says then how many are.
+/// The value at an id among these entries. `below` is a guess at how many of them are below it, and says then how many
+/// are.
 pub(crate) fn value_near<'a, V>(
     entries: &'a [(VertexId, V)],
     below: &mut usize,
@@ -156,7 +159,11 @@ pub(crate) fn value_near<'a, V>(
     requires { HasRisingIds entries.now }
     ensures { option_copied result ≡ value_at id entries.now }
 {
-    let place = count_below(entries, *below, id);
+    if let Some(place) = place_without_gaps(entries, id) {
+        *below = place;
+        return Some(&entries[place].1);
+    }
+    let place = count_searched(entries, *below, id);
     *below = place;
     if place >= entries.len() {
         return None;
@@ -165,10 +172,21 @@ pub(crate) fn value_near<'a, V>(
     if entry.0 == id { Some(&entry.1) } else { None }
 }
 
-/// How many of these entries are below an id. Tested first is how far the id is from that of the first, which it is where
-/// no id is missing between them, and all of them where it is as far or farther; then the count before, or a few more;
-/// then it is searched for.
+/// How many of these entries are below an id. `before` is a guess at it.
 pub(crate) fn count_below<V>(entries: &[(VertexId, V)], before: usize, id: VertexId) -> usize
+    requires { HasRisingIds entries.now }
+    ensures { IsPartitionPoint (λ e. nat_lt e.0 id ≡ true) (λ e. nat_lt e.0 id ≡ false) entries.now result }
+{
+    match place_without_gaps(entries, id) {
+        Some(place) => place,
+        None => count_searched(entries, before, id),
+    }
+}
+
+/// The same, by looking at the entries near the id. Tested first is how far the id is from that of the first, which it
+/// is where no id is missing between them, and all of them where it is as far or farther; then the count before, or a
+/// few more; then it is searched for.
+fn count_searched<V>(entries: &[(VertexId, V)], before: usize, id: VertexId) -> usize
     requires { HasRisingIds entries.now }
     ensures { IsPartitionPoint (λ e. nat_lt e.0 id ≡ true) (λ e. nat_lt e.0 id ≡ false) entries.now result }
 {
@@ -184,6 +202,26 @@ pub(crate) fn count_below<V>(entries: &[(VertexId, V)], before: usize, id: Verte
         }
     }
     entries.partition_point(|entry| is_below(entry.0, id))
+}
+
+/// Where an id is among these entries, if they leave out none from the first to the last and it lies there. No entry
+/// but these two is looked at.
+fn place_without_gaps<V>(entries: &[(VertexId, V)], id: VertexId) -> Option<usize>
+    requires { HasRisingIds entries.now }
+    ensures inside { IfSome result (λ place. place < length entries.now) }
+    ensures here { IfSome result (λ place. (e : ℕ × V) → e ≡ slice_index_or entries.now place e → e.0 ≡ id) }
+    ensures parts { IfSome result (IsPartitionPoint (λ e. nat_lt e.0 id ≡ true) (λ e. nat_lt e.0 id ≡ false) entries.now) }
+{
+    if entries.is_empty() {
+        return None;
+    }
+    let end = entries.len() - 1;
+    let (first, last) = (entries[0].0.number(), entries[end].0.number());
+    let number = id.number();
+    if number < first || number > last || last - first != end as u64 {
+        return None;
+    }
+    Some((number - first) as usize)
 }
 
 /// How far an id is from that of the first entry.

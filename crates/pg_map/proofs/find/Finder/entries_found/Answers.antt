@@ -34,8 +34,8 @@ begun-self-inside-requires-2 g c =
     (are_there groups are rising id n c.begun-self-inside.ensures.parts (n - 1) last c.begun-self-inside.ensures.bound group c.index-groups-self.is chunks is)
     (rises_there groups are rising id n c.begun-self-inside.ensures.parts (n - 1) last c.begun-self-inside.ensures.bound group c.index-groups-self.is chunks is)
 
-pub last_of-requires-clause-rise : goal.last_of-requires-clause-rise
-last_of-requires-clause-rise g c =
+pub entries_of_last-requires-clause-rise : goal.entries_of_last-requires-clause-rise
+entries_of_last-requires-clause-rise g c =
     let n = c.begun-self-inside.result in
     let last : n - 1 + 1 ≡ n = omega (arith, c.if-self-eq0.false) in
     let is = c.as_slice-chunks.ensures.value ∙ ap (λ v. v.items) c.deref.ensures ∙ sym (ap chunks_in c.index-groups-self.is) in
@@ -49,7 +49,7 @@ returns-clause-value g c =
     let is = c.as_slice-chunks.ensures.value ∙ ap (λ v. v.items) c.deref.ensures ∙ sym (ap chunks_in c.index-groups-self.is) in
     let there = value_there c.self.inside.groups.now c.self.invariant.0 c.self.invariant.1 c.args.id n c.begun-self-inside.ensures.parts (n - 1) last
     c.begun-self-inside.ensures.bound c.index-groups-self.result c.index-groups-self.is c.as_slice-chunks.result.now is in
-    c.last_of.ensures.values c.args.id c.begun-self-inside-2.ensures.parts ∙ sym there ∙ ap (value_at c.args.id) c.self.view_is
+    c.entries_of_last.ensures.values c.args.id c.begun-self-inside-2.ensures.parts ∙ sym there ∙ ap (value_at c.args.id) c.self.view_is
 
 pub returns-clause-stretch : goal.returns-clause-stretch
 returns-clause-stretch g c =
@@ -61,5 +61,5 @@ returns-clause-stretch g c =
     let rises = subst (λ d. HasRisingIds (grouped d)) (sym c.index-groups-self.is)
     (rises_part grouped groups (n - 1) group c.self.invariant.1 within) in
     let outer = part_stretch grouped groups (n - 1) group c.index-groups-self.is within c.self.invariant.1 rises in
-    stretch_of c.last_of.result.now (entries_of c.as_slice-chunks.result.now) c.args.self.now c.last_of.ensures.stretch
+    stretch_of c.entries_of_last.result.now (entries_of c.as_slice-chunks.result.now) c.args.self.now c.entries_of_last.ensures.stretch
     (subst (IsStretch (entries_of c.as_slice-chunks.result.now)) c.self.view_is (subst (λ l. IsStretch (entries_of l) (all_of groups)) (sym is) outer))

@@ -3,7 +3,7 @@ use Rattle.pg_map.specs.Chunks.{entries_of, listed}
 use Rattle.pg_map.specs.Entries.{HasRisingIds, IsStretch, value_at}
 use Rattle.pg_map.proofs.InParts.{get_before, get_in, rises_part}
 use Rattle.pg_map.proofs.Stretch.{none_stretch, part_stretch}
-use Rattle.pg_map.proofs.find.last_of.Goals as goal
+use Rattle.pg_map.proofs.find.entries_of_last.Goals as goal
 
 pub returns-then-count-eq0-clause-values : goal.returns-then-count-eq0-clause-values
 returns-then-count-eq0-clause-values g c = λ id parts.

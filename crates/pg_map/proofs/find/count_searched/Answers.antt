@@ -2,7 +2,7 @@ use Rattle.std.proofs.Common.{of_calls, ltb, rules}
 use Rattle.std.proofs.lemmas.Fn.{always_returns_same}
 use Rattle.std.proofs.lemmas.List.Sorted.{IsPartitionedBy-ltb}
 use Rattle.pg_map.proofs.Search.{rises}
-use Rattle.pg_map.proofs.find.count_below.Goals as goal
+use Rattle.pg_map.proofs.find.count_searched.Goals as goal
 
 pub returns : goal.returns
 returns g c =
