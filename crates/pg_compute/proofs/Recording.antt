@@ -8,7 +8,6 @@ use Rattle.std.specs.Option.{unwrap_or}
 use Rattle.std.specs.Ordering.{nat_cmp}
 use Rattle.std.specs.declared.cmp.Ordering.TheVariants.{Less}
 use Rattle.std.proofs.lemmas.Bool.{eqb-true}
-use Rattle.std.proofs.ByRecursion.{All-map}
 use Rattle.pg_graph.specs.Rows.{HasRisingIds, Rows}
 use Rattle.pg_map.specs.Entries.{value_at, with_changes, HasRisingIds as Rises}
 use Rattle.pg_map.proofs.Changing.{rises-changes, value_at-with_changes}
@@ -19,7 +18,7 @@ use Rattle.pg_model.specs.Run.{present_at, view_at}
 use Rattle.pg_model.specs.Share.{belongs, present_in_share, records_in}
 use Rattle.pg_model.specs.Superstep.{has_id, ids, is_active, outcome}
 use Rattle.pg_model.proofs.LawsIds.{ids_rise}
-use Rattle.pg_model.proofs.LawsLists.{all_weaker, count_by-map, same_count}
+use Rattle.pg_model.proofs.LawsLists.{all_to_map, all_weaker, count_by-map, same_count}
 use Rattle.pg_model.proofs.LawsRising.{count-rising}
 use Rattle.pg_model.proofs.LawsShares.{ids_rise_in_share}
 use Rattle.pg_model.specs.declared.configuration.Standing.{Standing}
@@ -146,5 +145,5 @@ module _ {V M : Type 0} (value_eq : V → V → Bool) (message_eq : M → M → 
           same_count runs (λ c. needed c.id) cs (all_weaker (IsCounted runs) (λ c. runs c ≡ needed c.id) (λ c counted. counted.same) cs h)
           ∙ (sym (count_by-map needed (λ c. c.id) cs)
           ∙ ap (count_by needed) (sym (all_picked (belongs n p) (map (λ c. c.id) cs)
-          (All-map (λ k. belongs n p k ≡ true) (λ c. c.id) cs
+          (all_to_map (λ c. c.id) (λ k. belongs n p k ≡ true) cs
           (all_weaker (IsCounted runs) (λ c. belongs n p c.id ≡ true) (λ c counted. counted.mine) cs h)))))

@@ -12,7 +12,6 @@ use Rattle.std.proofs.lemmas.Option.{same_Some}
 use Rattle.std.proofs.lemmas.Simd.{map-map}
 use Rattle.pg_graph.specs.declared.missing.Missing.{Missing}
 use Rattle.pg_inbox.proofs.Bundling.{all_from_lookups}
-use Rattle.std.proofs.ByRecursion.{All-map}
 use Rattle.pg_map.specs.Entries.{HasRisingIds, value_at, with_changes}
 use Rattle.pg_map.proofs.Changing.{value_at-with_changes}
 use Rattle.pg_model.specs.Job.{Program}
@@ -34,6 +33,7 @@ use Rattle.pg_compute.specs.Found.{change_alone, is_running, reads}
 use Rattle.pg_compute.specs.Turning.{AreTurned, IsTurned, given_at, left_alone}
 use Rattle.pg_compute.specs.declared.found.Candidate.{Candidate}
 use Rattle.pg_compute.proofs.Callees.{has_key, nothing_rises}
+use Rattle.pg_model.proofs.LawsLists.{all_to_map}
 use Rattle.pg_compute.proofs.Changing.{entries-rise, entries-some}
 
 -- the census of what is made of one more
@@ -115,7 +115,7 @@ module _ {V M : Type 0} (program : Program V M) (view : View) (missing : Missing
   are_of : AllByRecursion IsOf (map found ws)
   unfolding found IsOf
   are_of =
-      All-map IsOf found ws
+      all_to_map found IsOf ws
       (all_from_lookups (λ w. IsOf (found w)) ws rise
       (λ q y at x h. ap (λ (z : List M). found_at program missing s trace (q, z)) (same_Some y x (sym at ∙ h))))
 

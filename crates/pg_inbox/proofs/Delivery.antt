@@ -9,7 +9,6 @@ use Rattle.std.proofs.lemmas.List.Sums.{fold-append}
 use Rattle.std.proofs.lemmas.List.Sorted.{IsPermutation-map, length_permutation}
 use Rattle.std.specs.BTreeMap.{is_at}
 use Rattle.std.specs.Ordering.{nat_cmp}
-use Rattle.std.proofs.ByRecursion.{All-map}
 use Rattle.std.proofs.lemmas.Grind.{flat_map-append}
 use Rattle.pg_map.specs.Entries.{HasRisingIds, value_at}
 use Rattle.pg_map.proofs.Filling.{gathered_after}
@@ -17,7 +16,7 @@ use Rattle.pg_map.proofs.Parts.{rises_after}
 use Rattle.pg_map.proofs.Rising.{none_past}
 use Rattle.pg_model.proofs.LawsByNumber.{IsUp, up-filter, up_from}
 use Rattle.pg_model.proofs.LawsFolds.{fold-IsPermutation, fold_from}
-use Rattle.pg_model.proofs.LawsLists.{all-append, all_from_map}
+use Rattle.pg_model.proofs.LawsLists.{all-append, all_from_map, all_to_map}
 use Rattle.pg_model.specs.Folds.{IsCommutativeMonoid}
 use Rattle.pg_model.specs.Job.{Combining}
 use Rattle.pg_model.specs.Superstep.{combined, messages_to}
@@ -101,7 +100,7 @@ module _ {M : Type 0} (id : ℕ) where
 
   pairs_up : (l : Sends M) → IsUp (λ (s : ℕ × ℕ × M). s.0) l → IsUp (λ (x : ℕ × M). x.0) (map (λ s. (s.0, s.2)) l)
   pairs_up [] h = tt
-  pairs_up (s ∷ l) h = (All-map (λ x. s.0 ≤ x.0) (λ s. (s.0, s.2)) l h.0, pairs_up l h.1)
+  pairs_up (s ∷ l) h = (all_to_map (λ s. (s.0, s.2)) (λ x. s.0 ≤ x.0) l h.0, pairs_up l h.1)
 
   pub up_letters : (all : Sends M) → RiseBySender all → IsUp (λ (x : ℕ × M). x.0) (letters_to id all)
   up_letters all rise = pairs_up (filter (λ s. s.1 == id) all) (up-filter (λ s. s.0) (λ s. s.1 == id) all (up_from (λ s. s.0) all rise))
@@ -150,7 +149,7 @@ module _ {M : Type 0} {is_value : M → Type 0} (c : Combining M) (law : IsCommu
   IsValues l = AllByRecursion (λ x. is_value x.1) l
 
   all_values : (l : List (ℕ × M)) → IsValues l → All is_value (messages l)
-  all_values l h = All-from_recursion is_value (messages l) (All-map is_value (λ x. x.1) l h)
+  all_values l h = All-from_recursion is_value (messages l) (all_to_map (λ x. x.1) is_value l h)
 
   one_fold : List (ℕ × M) → List M
   one_fold [] = []

@@ -7,7 +7,6 @@ use Rattle.std.specs.Option.{IfSome, option_to_list}
 use Rattle.std.specs.Ordering.{nat_cmp}
 use Rattle.std.proofs.lemmas.List.Elements.{All-from_recursion}
 use Rattle.std.proofs.lemmas.Map.Views.{All-map-remove_entry, All-values-insert_entry, IfSome-lookup_from_All}
-use Rattle.std.proofs.ByRecursion.{All-map}
 use Rattle.pg_global.specs.Combiner.{IsLawful}
 use Rattle.pg_map.specs.Entries.{value_at, with_changes}
 use Rattle.pg_model.specs.Job.{Combining}
@@ -23,6 +22,7 @@ use Rattle.pg_inbox.specs.Ordered.{in_order}
 use Rattle.pg_inbox.specs.Sends.{Sends, letters_to}
 use Rattle.pg_inbox.proofs.Bundling.{value_at-bundle_of}
 use Rattle.pg_inbox.proofs.Delivery.{delivers_received, folded_at, folded_of_all, letters_at-bundle_of, letters_of_all}
+use Rattle.pg_model.proofs.LawsLists.{all_to_map}
 use Rattle.pg_inbox.proofs.Differing.{letter_of, letters_back}
 
 -- ---- what is held
@@ -30,7 +30,7 @@ use Rattle.pg_inbox.proofs.Differing.{letter_of, letters_back}
 module _ {M : Type 0} (is_value : M → Type 0) where
   -- of each target
   pub hold-all : (parcels : Parcels M) → AllByRecursion (λ e. Holds is_value e.1) parcels → HoldAll is_value parcels
-  hold-all parcels hold = All-from_recursion (Holds is_value) (values_of parcels) (All-map (Holds is_value) (λ e. e.1) parcels hold)
+  hold-all parcels hold = All-from_recursion (Holds is_value) (values_of parcels) (all_to_map (λ e. e.1) (Holds is_value) parcels hold)
 
   -- after changes that hold
   pub hold-changes : (changes : List (ℕ × Option (Contents M))) (old : Parcels M) → AllByRecursion (λ c. HoldsAt is_value c.1) changes

@@ -1,10 +1,9 @@
 -- Steps of loops that go over a list and fill another.
 use Rattle.std.proofs.Common.{◌≡◌, ℕ, ◌+◌, ◌<◌, Bool, List, [], ◌∷◌, ◌++◌, length, map, get_or, take, sym, ap, ◌∙◌, subst, append_assoc}
 use Rattle.std.specs.List.{AllByRecursion, filter, flat_map}
-use Rattle.std.proofs.ByRecursion.{All-push}
 use Rattle.std.proofs.lemmas.Grind.{flat_map-append}
 use Rattle.std.proofs.lemmas.List.{append-nil, map-append, take_more}
-use Rattle.std.proofs.lemmas.List.Elements.{filter-append}
+use Rattle.std.proofs.lemmas.List.Elements.{All-from_recursion, All-more, All-push, filter-append, recursion_from_All}
 
 module _ {X Y : Type 0} (F : List X → List Y) (joins : (xs ys : List X) → F (xs ++ ys) ≡ F xs ++ F ys) where
   -- one more element, of a list that is made part by part and comes after what was there
@@ -49,4 +48,11 @@ module _ {X : Type 0} where
   -- what was there holds, and so does what is added
   pub all_pushed : (P : X → Type 0) (before : List X) {x : X} {after : List X} → AllByRecursion P before → after ≡ before ++ x ∷ [] → P x
       → AllByRecursion P after
-  all_pushed P before {x} all pushed here = subst (AllByRecursion P) (sym pushed) (All-push P before x all here)
+  all_pushed P before {x} all pushed here =
+      subst (AllByRecursion P) (sym pushed) (recursion_from_All P (before ++ x ∷ []) (All-push P before x (All-from_recursion P before all) here))
+
+  -- what holds of the elements that were taken holds with the next one
+  pub all_more : (P : X → Type 0) (xs : List X) (i : ℕ) (d : X) → i < length xs → AllByRecursion P (take i xs) → P (get_or xs i d)
+      → AllByRecursion P (take (i + 1) xs)
+  all_more P xs i d within all here =
+      recursion_from_All P (take (i + 1) xs) (All-more P xs i d within (All-from_recursion P (take i xs) all) here)

@@ -20,12 +20,9 @@ use Rattle.std.proofs.lemmas.List.{drop_more, nil_from_length}
 use Rattle.std.proofs.lemmas.Option.{get_or_from_slice_get, slice_get_within}
 use Rattle.pg_map.specs.declared.part.Part.{Part}
 use Rattle.pg_map.proofs.InParts.{part_turn}
-use Rattle.pg_map.proofs.Parts.{is_greater, rises_after, rises_left, rises_right}
+use Rattle.pg_map.proofs.Parts.{is_equal, is_greater, rises_after, rises_left, rises_right}
 use Rattle.pg_map.proofs.Search.{lookup_past}
 use Rattle.pg_map.proofs.Rising.{find-insert_same, find-insert_other, rises-insert}
-
-is_equal : (a b : ℕ) → b ≡ a → nat_cmp a b ≡ Equal
-is_equal a b h = grind (arith, nat_tests)
 
 module _ {X : Type 0} where
   -- the entry at a place, below which all ids are below its own, gets another value
@@ -33,7 +30,7 @@ module _ {X : Type 0} where
       → (get_or es i d).0 ≡ id → slice_set es i ((get_or es i d).0, v) ≡ insert_entry nat_cmp es id v
   put_at [] i id v d within below here = absurd (omega arith)
   put_at (e ∷ es) zero id v d within below here =
-      sym (ap (λ r. match_ordering r ((id, v) ∷ e ∷ es) ((e.0, v) ∷ es) (e ∷ insert_entry nat_cmp es id v)) (is_equal id e.0 here))
+      sym (ap (λ r. match_ordering r ((id, v) ∷ e ∷ es) ((e.0, v) ∷ es) (e ∷ insert_entry nat_cmp es id v)) (ap (λ k. nat_cmp id k) here ∙ is_equal id))
   put_at (e ∷ es) (suc i) id v d within below here =
       ap (λ l. e ∷ l) (put_at es i id v d (omega arith) (λ k h. below (suc k) (omega arith)) here)
       ∙ sym (ap (λ r. match_ordering r ((id, v) ∷ e ∷ es) ((e.0, v) ∷ es) (e ∷ insert_entry nat_cmp es id v)) (is_greater id e.0 (below 0 (omega arith))))

@@ -2,7 +2,7 @@
 use Rattle.std.proofs.Common.{ℕ, suc, ◌≤◌, Bool, true, false, cond, List, [], ◌∷◌, arith, filter}
 use Rattle.std.specs.List.{AllByRecursion}
 use Rattle.std.specs.List.Sorted.{IsNonDecreasingBy}
-use Rattle.std.proofs.ByRecursion.{All-from_get_or}
+use Rattle.std.proofs.lemmas.List.Elements.{All-from_get_or, recursion_from_All}
 use Rattle.pg_model.proofs.LawsLists.{all-filter}
 
 module _ {X : Type 0} (key : X → ℕ) where
@@ -13,7 +13,8 @@ module _ {X : Type 0} (key : X → ℕ) where
   pub up_from : (xs : List X) → IsNonDecreasingBy key xs → IsUp xs
   up_from [] h = tt
   up_from (x ∷ xs) h = (
-    All-from_get_or (λ y. key x ≤ key y) xs x (λ j w. h 0 (suc j) x (omega arith) (omega arith)),
+    recursion_from_All (λ y. key x ≤ key y) xs
+        (All-from_get_or (λ y. key x ≤ key y) xs x (λ j w. h 0 (suc j) x (omega arith) (omega arith))),
     up_from xs
         (λ i j d l w. h (suc i) (suc j) d (omega arith) (omega arith)),
   )

@@ -64,6 +64,10 @@ module _ {X : Type 0} where
   all_from_map f P [] h = tt
   all_from_map f P (y ∷ ys) h = (h.0, all_from_map f P ys h.1)
 
+  pub all_to_map : {Y : Type 0} (f : Y → X) (P : X → Type 0) (ys : List Y) → AllByRecursion (λ y. P (f y)) ys → AllByRecursion P (map f ys)
+  all_to_map f P [] h = tt
+  all_to_map f P (y ∷ ys) h = (h.0, all_to_map f P ys h.1)
+
   -- a filter keeps what holds of each element
   pub all-filter : (P : X → Type 0) (p : X → Bool) (xs : List X) → AllByRecursion P xs → AllByRecursion P (filter p xs)
   all-filter P p [] h = tt

@@ -1,7 +1,6 @@
 use Rattle.std.proofs.Common.{subst, ap, ◌∙◌}
-use Rattle.std.proofs.ByRecursion.{All-more}
 use Rattle.pg_map.specs.Entries.{HasRisingIds}
-use Rattle.pg_map.proofs.Filling.{gathered_more}
+use Rattle.pg_map.proofs.Filling.{all_more, gathered_more}
 use Rattle.std.specs.List.{AllByRecursion, flat_map}
 use Rattle.std.proofs.lemmas.List.{take_all}
 use Rattle.pg_inbox.proofs.receivers.all_parcels.Goals as goal
@@ -10,7 +9,7 @@ pub loop-bundle-preserved : goal.loop-bundle-preserved
 loop-bundle-preserved g c = record {
   items = gathered_more (λ b. b.now) c.args.bundles.now c.loop-bundle.bundle-index c.loop-bundle-test.true c.bundle-item.is
       c.loop-bundle.invariant.items c.in_ok-add_parcels.ensures.items;
-  rise = All-more (λ b. HasRisingIds b.now) c.args.bundles.now c.loop-bundle.bundle-index c.bundle-item.result
+  rise = all_more (λ b. HasRisingIds b.now) c.args.bundles.now c.loop-bundle.bundle-index c.bundle-item.result
       c.loop-bundle-test.true c.loop-bundle.invariant.rise
       (subst (λ b. HasRisingIds b.now) c.bundle-item.is c.in_ok-add_parcels.ensures.rise);
   hold = c.in_ok-add_parcels.ensures.hold;

@@ -3,9 +3,8 @@ use Rattle.std.specs.List.{AllByRecursion}
 use Rattle.std.proofs.lemmas.Result.{IfOk-weaker}
 use Rattle.std.specs.Map.{values_of}
 use Rattle.std.proofs.lemmas.List.Elements.{recursion_from_All}
-use Rattle.std.proofs.ByRecursion.{All-map}
 use Rattle.pg_map.specs.Entries.{HasRisingIds}
-use Rattle.pg_model.proofs.LawsLists.{all_from_map}
+use Rattle.pg_model.proofs.LawsLists.{all_from_map, all_to_map}
 use Rattle.pg_parcel.specs.Grouping.{AreGroups, groups_of}
 use Rattle.pg_parcel.specs.Contents.{Holds}
 use Rattle.pg_inbox.specs.Inboxes.{AreInboxes, inboxes_of}
@@ -23,7 +22,7 @@ returns g c =
     let are =
     are_inboxes is_value combining (laws.lawful c.args.combiner.now) bundles groups
     (subst (λ l. AreGroups l groups) all c.in_ok-parcels-2.ensures)
-    (All-map HasRisingIds (λ b. b.now) c.args.bundles.now c.in_ok-parcels.ensures.rise)
+    (all_to_map (λ b. b.now) HasRisingIds c.args.bundles.now c.in_ok-parcels.ensures.rise)
     (subst (AllByRecursion (λ e. Holds is_value e.1)) all c.in_ok-parcels.ensures.hold) in
     let made = ap (λ l. inboxes_of combining (groups_of l)) c.as_slice.ensures.value in
     IfOk-weaker c.inboxes_of.result _ _ (λ inboxes is. subst (AreInboxes combining bundles) (sym (is ∙ made)) are) c.inboxes_of.ensures

@@ -1,10 +1,10 @@
 use Rattle.std.proofs.Common.{ap, ◌∙◌, map, subst, sym}
 use Rattle.std.proofs.lemmas.Result.{IfOk-weaker}
-use Rattle.std.proofs.ByRecursion.{All-map}
 use Rattle.pg_map.specs.Entries.{value_at}
 use Rattle.pg_inbox.specs.Holding.{HoldsAt}
 use Rattle.pg_inbox.specs.Inboxes.{Delivers, received_of}
 use Rattle.pg_inbox.proofs.Delivery.{delivers_received}
+use Rattle.pg_model.proofs.LawsLists.{all_to_map}
 use Rattle.pg_inbox.proofs.receiving.inbox.Goals as goal
 
 pub returns : goal.returns
@@ -16,7 +16,7 @@ returns g c =
     let laws = g.met.C.MessageCombiner g.world.𝓛 g.world.𝓜 g.world.𝓡 ((λ s x. x), (λ x. x), (λ x. x), λ x. x) in
     let delivers =
     delivers_received id is_value combining (laws.lawful c.args.combiner.now) (map (λ b. b.now) bundles)
-    (All-map (λ b. HoldsAt is_value (value_at id b)) (λ b. b.now) bundles c.in_ok-parcels.ensures.hold) in
+    (all_to_map (λ b. b.now) (λ b. HoldsAt is_value (value_at id b)) bundles c.in_ok-parcels.ensures.hold) in
     let parcels = ap (map (λ p. p.1)) c.as_slice.ensures.value ∙ c.in_ok-parcels.ensures.items in
     IfOk-weaker c.received.result _ _
     (λ inbox is. subst (Delivers combining id (map (λ b. b.now) bundles)) (sym (is ∙ ap (received_of combining) parcels)) delivers)

@@ -1,12 +1,11 @@
 use Rattle.std.proofs.Common.{◌++◌, ap, map, subst, sym, ◌∙◌}
 use Rattle.std.specs.Option.{option_to_list}
-use Rattle.std.proofs.ByRecursion.{All-more}
 use Rattle.std.proofs.lemmas.Grind.{flat_map-append}
 use Rattle.std.proofs.lemmas.List.{append-nil, map-append, take_all}
 use Rattle.pg_map.specs.Entries.{value_at}
 use Rattle.pg_inbox.specs.Holding.{HoldsAt}
 use Rattle.pg_inbox.specs.Inboxes.{contents_to}
-use Rattle.pg_map.proofs.Filling.{joined_more}
+use Rattle.pg_map.proofs.Filling.{all_more, joined_more}
 use Rattle.std.specs.List.{AllByRecursion}
 use Rattle.pg_inbox.proofs.receiving.parcels_at.Goals as goal
 
@@ -23,7 +22,7 @@ loop-bundle-preserved g c =
           ∙ flat_map-append (λ b. option_to_list (value_at id b)) (map (λ b. b.now) xs) (map (λ b. b.now) ys))
           all i c.loop-bundle-test.true c.bundle-item.is c.loop-bundle.invariant.items
           (c.in_ok-add_parcel.ensures.items ∙ ap (λ l. before ++ l) (sym (append-nil (option_to_list (value_at id bundle.now)))));
-      hold = All-more (λ b. HoldsAt g.M.Plain.is_value (value_at id b.now)) all i bundle c.loop-bundle-test.true c.loop-bundle.invariant.hold
+      hold = all_more (λ b. HoldsAt g.M.Plain.is_value (value_at id b.now)) all i bundle c.loop-bundle-test.true c.loop-bundle.invariant.hold
           (subst (λ b. HoldsAt g.M.Plain.is_value (value_at id b.now)) c.bundle-item.is c.in_ok-add_parcel.ensures.holds);
     }
 
