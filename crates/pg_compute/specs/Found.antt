@@ -25,6 +25,10 @@ module _ {V M : Type 0} where
   abbrev pub vertex_of : Program V M → Missing → ℕ → Option (VertexState V) → List M → Option (Standing V M)
   vertex_of program missing id state delivered = standing_with program id state (arriving missing state delivered)
 
+  -- a vertex with this state, if it is there, and with what is delivered to it
+  abbrev pub standing_of : Option (VertexState V) → List M → Option (Standing V M)
+  standing_of state delivered = option_map (λ x. record { state = x; inbox = delivered }) state
+
   -- the same by the state that a trace has of it, where these bundles are to its partition
   pub record IsFound (program : Program V M) (missing : Missing) (combining : Option (Combining M)) (trace : Trace V M) (s : ℕ)
       (bundles : List (Parcels M)) (id : ℕ) (found : Option (Standing V M)) : Type 0 where

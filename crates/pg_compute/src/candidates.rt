@@ -1,5 +1,5 @@
 //! The vertices that a step looks at: which they are, and how it finds them.
-ghost use Rattle.std.specs.Prelude.{◌≡◌, ◌+◌, ◌<◌, ◌^◌, map, length, is_some, None, Some, true, false, not, IfOk, IfSome};
+ghost use Rattle.std.specs.Prelude.{◌≡◌, ◌+◌, ◌++◌, ◌∷◌, [], ◌<◌, ◌^◌, map, length, is_some, None, Some, true, false, not, IfOk, IfSome, IsTrue};
 ghost use Rattle.std.specs.List.Sorted.{IsStrictlySortedBy};
 ghost use Rattle.std.specs.Ordering.{nat_cmp};
 ghost use Rattle.std.specs.List.{AllByRecursion, count_by, flat_map};
@@ -13,11 +13,11 @@ ghost use Rattle.pg_model.specs.Superstep.{capped};
 ghost use Rattle.pg_program.specs.Context.{ShowsDeclared};
 
 use crate::execution::{Played, Stage, ended, play, play_found};
-use crate::found::{Candidate, tell_same, vertex_at, vertex_by};
+use crate::found::{Candidate, copied_messages, state_by, tell_same, vertex_at};
 use crate::reading::{awake_after, inboxes_at, lent_bundles, with_empty};
 use pg_global::MessageCombiner;
 use pg_graph::{Memory, Missing, Superstep, VertexId};
-use pg_inbox::{Bundle, inbox, inboxes};
+use pg_inbox::{Bundle, Inboxes, inbox, inboxes};
 use pg_model::{Record, Sequence, Standing};
 use pg_program::{Computation, Plain};
 use pg_recount::Turned;
@@ -44,16 +44,60 @@ pub(crate) fn awake_ids<V: Drop, M: Drop>(
     }
 }
 
-/// Those that belong to a partition, in the list's memory.
-fn own<M: Plain>(
-    share: &Share,
-    callees: Vec<(VertexId, Sequence<M>)>,
-) -> Vec<(VertexId, Sequence<M>)>
-    ensures { result.items ≡ own share.now.partitions share.now.partition callees.items }
+/// Those that belong to a partition: mostly all of them.
+fn own<M: Plain>(alloc: Global, share: &Share, callees: Inboxes<M>) -> Result<Inboxes<M>, Memory>
+    ensures { IfOk result (λ mine. mine ≡ own share.now.partitions share.now.partition callees) }
 {
-    let mut found = callees;
-    found.retain(|callee| share.has(callee.0));
-    found
+    if are_own(share, &callees) {
+        return Ok(callees);
+    }
+    only_own(alloc, share, &callees)
+}
+
+/// Whether all of them belong to a partition.
+fn are_own<M: Plain>(share: &Share, callees: &Inboxes<M>) -> bool
+    ensures { IsTrue result → own share.now.partitions share.now.partition callees.now ≡ callees.now }
+{
+    for place in 0..callees.len() {
+        let (id, _) = callees.at(place);
+        if !share.has(id) {
+            return false;
+        }
+    }
+    true
+}
+
+/// Copies of those that belong to a partition.
+fn only_own<M: Plain>(
+    alloc: Global,
+    share: &Share,
+    callees: &Inboxes<M>,
+) -> Result<Inboxes<M>, Memory>
+    ensures { IfOk result (λ mine. mine ≡ own share.now.partitions share.now.partition callees.now) }
+{
+    let mut own = Inboxes::new(alloc, callees.len())?;
+    for place in 0..callees.len() {
+        let (id, messages) = callees.at(place);
+        own = with_own(alloc, share, own, id, messages)?;
+    }
+    Ok(own)
+}
+
+/// The same with a copy of one more, if that belongs to a partition.
+fn with_own<M: Plain>(
+    alloc: Global,
+    share: &Share,
+    callees: Inboxes<M>,
+    id: VertexId,
+    messages: &[M],
+) -> Result<Inboxes<M>, Memory>
+    ensures { IfOk result
+        (λ more. more ≡ callees ++ own share.now.partitions share.now.partition ((id, messages.now) ∷ [])) }
+{
+    if share.has(id) {
+        return callees.with_copies(alloc, id, messages);
+    }
+    Ok(callees)
 }
 
 /// These vertices, by rising id, with what is delivered to each; and where all are asked for, each that receives
@@ -64,10 +108,10 @@ fn callees<M: Plain, C: MessageCombiner<M>>(
     ids: &[VertexId],
     all: bool,
     combiner: &C,
-) -> Result<Vec<(VertexId, Sequence<M>)>, Memory>
+) -> Result<Inboxes<M>, Memory>
     requires { IsStrictlySortedBy nat_cmp ids.now }
     ensures { IfOk result (λ callees.
-        AreCallees (C.combining combiner.now) (map (λ b. b.now) bundles.now) ids.now all callees.items) }
+        AreCallees (C.combining combiner.now) (map (λ b. b.now) bundles.now) ids.now all callees) }
 {
     if all {
         return all_callees(alloc, bundles, ids, combiner);
@@ -76,22 +120,22 @@ fn callees<M: Plain, C: MessageCombiner<M>>(
 }
 
 /// These vertices, by rising id, and all that receive something. Where no vertex is given it costs what the inboxes do,
-/// and else one pass over both besides.
+/// and else one pass over both besides, with a copy of each message.
 fn all_callees<M: Plain, C: MessageCombiner<M>>(
     alloc: Global,
     bundles: &[&Bundle<M>],
     ids: &[VertexId],
     combiner: &C,
-) -> Result<Vec<(VertexId, Sequence<M>)>, Memory>
+) -> Result<Inboxes<M>, Memory>
     requires { IsStrictlySortedBy nat_cmp ids.now }
     ensures { IfOk result (λ callees.
-        AreCallees (C.combining combiner.now) (map (λ b. b.now) bundles.now) ids.now true callees.items) }
+        AreCallees (C.combining combiner.now) (map (λ b. b.now) bundles.now) ids.now true callees) }
 {
     let inboxes = inboxes(alloc, bundles, combiner)?;
     if ids.is_empty() {
         return Ok(inboxes);
     }
-    with_empty(alloc, ids, inboxes)
+    with_empty(alloc, ids, &inboxes)
 }
 
 /// Looks at the vertices that aren't halted and at all that receive something, and executes those that are active. Costs
@@ -119,8 +163,8 @@ pub fn play_alone<P: Computation, C: MessageCombiner<P::Message>>(
     let ids = awake_ids(alloc, trace, superstep)?;
     let lent = lent_bundles(alloc, bundles)?;
     let callees = callees(alloc, lent.as_slice(), ids.as_slice(), true, combiner)?;
-    let callees = own(&share, callees);
-    play_callees(alloc, program, missing, superstep, trace, callees, stage)
+    let callees = own(alloc, &share, callees)?;
+    play_callees(alloc, program, missing, superstep, trace, &callees, stage)
 }
 
 /// Looks at these vertices, with what is delivered to each, as they stand in the run, and executes those that are active.
@@ -131,31 +175,32 @@ fn play_callees<P: Computation>(
     missing: Missing,
     superstep: Superstep,
     trace: &Trace<P::Value, P::Message>,
-    callees: Vec<(VertexId, Sequence<P::Message>)>,
+    callees: &Inboxes<P::Message>,
     stage: Stage,
 ) -> Result<Played<P::Value, P::Message>, Memory>
     requires shown { ShowsDeclared (P.program program.now).declared stage.view }
     requires fits { stage.meter < 2 ^ 64 }
-    ensures looked_at { IfOk result (λ played. played.looked_at.items ≡ keys_of callees.items) }
+    ensures looked_at { IfOk result (λ played. played.looked_at.items ≡ keys_of callees.now) }
     ensures changes { IfOk result (λ played. played.changes.items
         ≡ flat_map (change_alone (P.program program.now) stage.view)
-        (map (alone (P.program program.now) missing superstep trace.now) callees.items)) }
+        (map (alone (P.program program.now) missing superstep trace.now) callees.now)) }
     ensures meter { IfOk result (λ played. played.meter ≡ capped (stage.meter + count_by (λ c. is_some (reads stage.view c.new))
-        (map (alone (P.program program.now) missing superstep trace.now) callees.items))) }
+        (map (alone (P.program program.now) missing superstep trace.now) callees.now))) }
     ensures turned { IfOk result (λ played. IfSome played.turned
-        (AreTurned (P.program program.now) stage.view missing superstep trace.now callees.items)) }
+        (AreTurned (P.program program.now) stage.view missing superstep trace.now callees.now)) }
 {
     let mut states = trace.states();
     let mut looked_at = Vec::with_capacity(alloc, callees.len())?;
     let mut changes = Vec::with_capacity(alloc, callees.len())?;
     let mut turned = Turned::nobody();
     let mut stage = stage;
-    for (id, delivered) in callees {
+    for place in 0..callees.len() {
+        let (id, delivered) = callees.at(place);
         looked_at.push(id)?;
         let state = states.state_at(id, superstep);
-        let vertex = vertex_by(alloc, program, missing, id, &state, delivered)?;
+        let found = state_by(alloc, program, missing, id, &state, delivered)?;
         let before = changes.len();
-        stage = play_found(alloc, program, id, vertex, &mut changes, stage)?;
+        stage = play_found(alloc, program, id, found, delivered, &mut changes, stage)?;
         turned = turned.with(&state, given_at(changes.as_slice(), before))?;
     }
     let Stage { meter, .. } = stage;
@@ -262,7 +307,7 @@ fn found_beside<P: Computation, C: MessageCombiner<P::Message>>(
 {
     let lent = lent_bundles(alloc, bundles)?;
     let callees = callees(alloc, lent.as_slice(), ids, !seen, combiner)?;
-    let callees = own(share, callees);
+    let callees = own(alloc, share, callees)?;
     let old_lent = lent_bundles(alloc, old_bundles)?;
     candidates_beside(
         alloc,
@@ -273,7 +318,7 @@ fn found_beside<P: Computation, C: MessageCombiner<P::Message>>(
         trace,
         old,
         old_lent.as_slice(),
-        callees,
+        &callees,
     )
 }
 
@@ -287,12 +332,12 @@ fn candidates_beside<P: Computation, C: MessageCombiner<P::Message>>(
     trace: &Trace<P::Value, P::Message>,
     old: &Trace<P::Value, P::Message>,
     old_bundles: &[&Bundle<P::Message>],
-    callees: Vec<(VertexId, Sequence<P::Message>)>,
+    callees: &Inboxes<P::Message>,
 ) -> Result<Vec<Candidate<P::Value, P::Message>>, Memory>
     ensures ids { IfOk result
-        (λ candidates. map (λ c. c.id) candidates.items ≡ keys_of callees.items) }
+        (λ candidates. map (λ c. c.id) candidates.items ≡ keys_of callees.now) }
     ensures new { IfOk result (λ candidates. map (λ c. c.new) candidates.items
-        ≡ map (found_at (P.program program.now) missing superstep trace.now) callees.items) }
+        ≡ map (found_at (P.program program.now) missing superstep trace.now) callees.now) }
     ensures old { IfOk result (λ candidates.
         AllByRecursion (λ c. IsFound (P.program program.now) missing (C.combining combiner.now) old.now superstep
         (map (λ b. b.now) old_bundles.now) c.id c.old) candidates.items) }
@@ -302,7 +347,9 @@ fn candidates_beside<P: Computation, C: MessageCombiner<P::Message>>(
     let mut states = trace.states();
     let mut old_states = old.states();
     let mut candidates = Vec::with_capacity(alloc, callees.len())?;
-    for (id, delivered) in callees {
+    for place in 0..callees.len() {
+        let (id, delivered) = callees.at(place);
+        let delivered = copied_messages(alloc, delivered)?;
         let new = vertex_at(
             alloc,
             program,

@@ -3,13 +3,13 @@ ghost use Rattle.std.specs.Prelude.{◌≡◌, ◌+◌, ◌^◌, ◌<◌, ◌≤
 ghost use Rattle.std.specs.List.{count_by, flat_map};
 ghost use Rattle.pg_global.specs.Master.{has_places};
 ghost use Rattle.pg_model.specs.Superstep.{capped, inputs_of, view_of};
-ghost use Rattle.pg_compute.specs.Found.{are_at_rest, change_alone, change_of, change_unless, is_run, reads};
+ghost use Rattle.pg_compute.specs.Found.{are_at_rest, change_alone, change_of, change_unless, is_run, reads, standing_of};
 ghost use Rattle.pg_program.specs.Context.{ShowsDeclared};
 
-use crate::found::{Candidate, are_same_reading, is_active, is_stopping};
+use crate::found::{Candidate, are_same_reading, is_stopping};
 use pg_global::{Visible, view_of};
 use pg_graph::{Memory, Superstep, VertexId};
-use pg_model::{Record, Standing, View};
+use pg_model::{Record, Standing, VertexState, View};
 use pg_program::{Computation, Cx, EdgeRoom, Meter, Plain, Vertex};
 use pg_recount::Turned;
 use std::alloc::Global;
@@ -167,7 +167,7 @@ fn play_other<P: Computation>(
     } = played;
     let stops = is_stopping(&old, &new);
     push_if_stopping(&mut changes, stops, id)?;
-    let stage = play_found(alloc, program, id, new, &mut changes, stage)?;
+    let stage = play_standing(alloc, program, id, new, &mut changes, stage)?;
     Ok(Playing {
         looked_at,
         changes,
@@ -190,7 +190,7 @@ fn push_if_stopping<V: Plain, M: Plain>(
 }
 
 /// Executes a vertex, if it is there and active, and adds its record.
-pub(crate) fn play_found<P: Computation>(
+fn play_standing<P: Computation>(
     alloc: Global,
     program: &P,
     id: VertexId,
@@ -207,11 +207,45 @@ pub(crate) fn play_found<P: Computation>(
         (λ after. after.meter ≡ capped (stage.meter + cond (is_some (reads stage.view vertex)) 1 0)) }
 {
     match vertex {
-        Some(vertex) => {
-            if !is_active(&vertex) {
+        Some(Standing { state, inbox }) => {
+            play_found(
+                alloc,
+                program,
+                id,
+                Some(state),
+                inbox.as_slice(),
+                changes,
+                stage,
+            )
+        }
+        None => Ok(stage),
+    }
+}
+
+/// The same of a vertex by its state and what is delivered to it.
+pub(crate) fn play_found<P: Computation>(
+    alloc: Global,
+    program: &P,
+    id: VertexId,
+    state: Option<VertexState<P::Value>>,
+    delivered: &[P::Message],
+    changes: &mut Vec<(VertexId, Option<Record<P::Value, P::Message>>)>,
+    stage: Stage,
+) -> Result<Stage, Memory>
+    requires shown { ShowsDeclared (P.program program.now).declared stage.view }
+    requires fits { stage.meter < 2 ^ 64 }
+    ensures changes { IfOk result (λ _. changes.new.items ≡ changes.old.items
+        ++ change_alone (P.program program.now) stage.view (record { id = id; old = None; new = standing_of state delivered.now })) }
+    ensures view { IfOk result (λ after. after.view ≡ stage.view) }
+    ensures meter { IfOk result
+        (λ after. after.meter ≡ capped (stage.meter + cond (is_some (reads stage.view (standing_of state delivered.now))) 1 0)) }
+{
+    match state {
+        Some(state) => {
+            if state.halted && delivered.is_empty() {
                 return Ok(stage);
             }
-            let (given, stage) = execute(alloc, program, vertex, stage)?;
+            let (given, stage) = execute(alloc, program, state, delivered, stage)?;
             changes.push((id, Some(given)))?;
             Ok(stage)
         }
@@ -223,20 +257,20 @@ pub(crate) fn play_found<P: Computation>(
 fn execute<P: Computation>(
     alloc: Global,
     program: &P,
-    vertex: Standing<P::Value, P::Message>,
+    state: VertexState<P::Value>,
+    delivered: &[P::Message],
     stage: Stage,
 ) -> Result<(Record<P::Value, P::Message>, Stage), Memory>
     requires shown { ShowsDeclared (P.program program.now).declared stage.view }
     ensures given { IfOk result
-        (λ r. r.0 ≡ (P.program program.now).step (inputs_of stage.view vertex)) }
+        (λ r. r.0 ≡ (P.program program.now).step (inputs_of stage.view (record { state = state; inbox = delivered.now }))) }
     ensures view { IfOk result (λ r. r.1.view ≡ stage.view) }
     ensures meter { IfOk result (λ r. r.1.meter ≡ capped (stage.meter + 1)) }
 {
     let Stage { view, room, meter } = stage;
-    let Standing { state, inbox } = vertex;
     let mut cx = Cx::new(alloc, view, program.declared(), meter);
     let mut vertex = Vertex::new(state.id, state.value, state.edges, room)?;
-    program.compute(alloc, &mut vertex, inbox.as_slice(), &mut cx)?;
+    program.compute(alloc, &mut vertex, delivered, &mut cx)?;
     let (state, room) = vertex.into_parts(alloc)?;
     let (view, sent, contributed, meter) = cx.into_parts();
     let given = Record {

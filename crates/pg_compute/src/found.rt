@@ -3,7 +3,7 @@ ghost use Rattle.std.specs.Prelude.{◌≡◌, ◌&&◌, not, IfOk, true};
 ghost use Rattle.std.specs.Cmp.Lexicographic.{pointwise};
 ghost use Rattle.std.specs.List.{AllByRecursion};
 ghost use Rattle.pg_model.specs.Superstep.{is_active};
-ghost use Rattle.pg_compute.specs.Found.{AreSameVertices, IsSameVertex, are_same_reading, is_running, is_same_vertex, vertex_of};
+ghost use Rattle.pg_compute.specs.Found.{AreSameVertices, IsSameVertex, are_same_reading, is_running, is_same_vertex, standing_of, vertex_of};
 ghost use Rattle.pg_trace.specs.Trace.{state_at};
 
 use pg_graph::{Edges, Memory, Missing, Superstep, VertexId};
@@ -40,7 +40,7 @@ pub(crate) fn vertex_at<P: Computation>(
 
 /// The vertex with an id by its state, if it has one, with what is delivered to it. Without a state it is there where
 /// messages make it.
-pub(crate) fn vertex_by<P: Computation>(
+fn vertex_by<P: Computation>(
     alloc: Global,
     program: &P,
     missing: Missing,
@@ -50,16 +50,46 @@ pub(crate) fn vertex_by<P: Computation>(
 ) -> Result<Option<Standing<P::Value, P::Message>>, Memory>
     ensures { IfOk result (λ x. x ≡ vertex_of (P.program program.now) missing id state.now delivered) }
 {
+    let state = state_by(alloc, program, missing, id, state, delivered.as_slice())?;
     match state {
-        Some(state) => {
-            let state = copied(alloc, state)?;
-            Ok(Some(Standing {
-                state,
-                inbox: delivered,
-            }))
-        }
+        Some(state) => Ok(Some(Standing {
+            state,
+            inbox: delivered,
+        })),
+        None => Ok(None),
+    }
+}
+
+/// The state of a vertex, if it has one, or the one with which what is delivered to it makes it.
+pub(crate) fn state_by<P: Computation>(
+    alloc: Global,
+    program: &P,
+    missing: Missing,
+    id: VertexId,
+    state: &Option<StateRef<'_, P::Value>>,
+    delivered: &[P::Message],
+) -> Result<Option<VertexState<P::Value>>, Memory>
+    ensures { IfOk result
+        (λ x. standing_of x delivered.now ≡ vertex_of (P.program program.now) missing id state.now delivered.now) }
+{
+    match state {
+        Some(state) => Ok(Some(copied(alloc, state)?)),
         None => made_by(alloc, program, missing, id, delivered),
     }
+}
+
+/// Copies of messages.
+pub(crate) fn copied_messages<M: Plain>(
+    alloc: Global,
+    messages: &[M],
+) -> Result<Sequence<M>, Memory>
+    ensures { IfOk result (λ copies. copies ≡ messages.now) }
+{
+    let mut copies = Vec::with_capacity(alloc, messages.len())?;
+    for message in messages {
+        copies.push(message.copy(alloc)?)?;
+    }
+    Ok(Sequence::from_vec(copies))
 }
 
 /// A copy of a state, which shares its edges.
@@ -74,28 +104,25 @@ fn copied<V: Plain>(alloc: Global, state: &StateRef<'_, V>) -> Result<VertexStat
     })
 }
 
-/// The vertex that messages make of an id without a state, if any do.
+/// The state of the vertex that messages make of an id without one, if any do.
 fn made_by<P: Computation>(
     alloc: Global,
     program: &P,
     missing: Missing,
     id: VertexId,
-    delivered: Sequence<P::Message>,
-) -> Result<Option<Standing<P::Value, P::Message>>, Memory>
-    ensures { IfOk result (λ x. x ≡ vertex_of (P.program program.now) missing id None delivered) }
+    delivered: &[P::Message],
+) -> Result<Option<VertexState<P::Value>>, Memory>
+    ensures { IfOk result
+        (λ x. standing_of x delivered.now ≡ vertex_of (P.program program.now) missing id None delivered.now) }
 {
-    if missing == Missing::Drop || delivered.len() == 0 {
+    if missing == Missing::Drop || delivered.is_empty() {
         return Ok(None);
     }
-    let state = VertexState {
+    Ok(Some(VertexState {
         id,
         value: program.initial(alloc, id, 0)?,
         edges: Edges::new(),
         halted: false,
-    };
-    Ok(Some(Standing {
-        state,
-        inbox: delivered,
     }))
 }
 

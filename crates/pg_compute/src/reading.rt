@@ -11,8 +11,8 @@ ghost use Rattle.pg_trace.specs.Trace.{lent};
 
 use pg_global::MessageCombiner;
 use pg_graph::{Memory, VertexId};
-use pg_inbox::{Bundle, inbox};
-use pg_model::{Record, Sequence};
+use pg_inbox::{Bundle, Inboxes, inbox};
+use pg_model::Record;
 use pg_program::Plain;
 use std::alloc::Global;
 
@@ -22,16 +22,16 @@ pub(crate) fn inboxes_at<M: Plain, C: MessageCombiner<M>>(
     bundles: &[&Bundle<M>],
     ids: &[VertexId],
     combiner: &C,
-) -> Result<Vec<(VertexId, Sequence<M>)>, Memory>
-    ensures ids { IfOk result (λ inboxes. keys_of inboxes.items ≡ ids.now) }
+) -> Result<Inboxes<M>, Memory>
+    ensures ids { IfOk result (λ inboxes. keys_of inboxes ≡ ids.now) }
     ensures delivered { IfOk result (λ inboxes. AllByRecursion
         (λ w. Delivers (C.combining combiner.now) w.0 (map (λ b. b.now) bundles.now) w.1)
-        inboxes.items) }
+        inboxes) }
 {
-    let mut inboxes = Vec::with_capacity(alloc, ids.len())?;
+    let mut inboxes = Inboxes::new(alloc, ids.len())?;
     for id in ids {
         let inbox = inbox(alloc, bundles, *id, combiner)?;
-        inboxes.push((*id, Sequence::from_vec(inbox)))?;
+        inboxes = inboxes.with(*id, inbox)?;
     }
     Ok(inboxes)
 }
@@ -46,64 +46,63 @@ pub(crate) fn lent_bundles<M: Plain>(
     bundles.iter().collect(alloc)
 }
 
-/// Inboxes by rising id, with empty ones for those of these ids that have none. Costs one pass over both.
+/// Inboxes by rising id, with empty ones for those of these ids that have none. Costs one pass over both, and
+/// a copy of each message.
 pub(crate) fn with_empty<M: Plain>(
     alloc: Global,
     ids: &[VertexId],
-    inboxes: Vec<(VertexId, Sequence<M>)>,
-) -> Result<Vec<(VertexId, Sequence<M>)>, Memory>
+    inboxes: &Inboxes<M>,
+) -> Result<Inboxes<M>, Memory>
     requires ids { IsStrictlySortedBy nat_cmp ids.now }
-    requires inboxes { HasRisingIds inboxes.items }
-    ensures { IfOk result (λ all. all.items ≡ with_empty ids.now inboxes.items) }
+    requires inboxes { HasRisingIds inboxes.now }
+    ensures { IfOk result (λ all. all ≡ with_empty ids.now inboxes.now) }
 {
-    let mut all = Vec::with_capacity(alloc, ids.len().max(inboxes.len()))?;
+    let mut all = Inboxes::new(alloc, ids.len().max(inboxes.len()))?;
     let mut left = ids;
-    for (id, inbox) in inboxes {
-        left = put_below(alloc, &mut all, left, id)?;
-        all.push((id, inbox))?;
+    for place in 0..inboxes.len() {
+        let (id, messages) = inboxes.at(place);
+        let (put, above) = put_below(all, left, id)?;
+        all = put.with_copies(alloc, id, messages)?;
+        left = above;
     }
-    put_empty(alloc, &mut all, left)?;
-    Ok(all)
+    put_empty(all, left)
 }
 
 /// Adds empty inboxes for those of these ids that are below one, and gives those above it.
-fn put_below<'a, M: Plain>(
-    alloc: Global,
-    all: &mut Vec<(VertexId, Sequence<M>)>,
-    ids: &'a [VertexId],
+fn put_below<M: Plain>(
+    inboxes: Inboxes<M>,
+    ids: &[VertexId],
     id: VertexId,
-) -> Result<&'a [VertexId], Memory>
+) -> Result<(Inboxes<M>, &[VertexId]), Memory>
     requires { IsStrictlySortedBy nat_cmp ids.now }
-    ensures rise { IfOk result (λ left. IsStrictlySortedBy nat_cmp left.now) }
-    ensures put { IfOk result (λ left. (inbox : List M) (later : List (ℕ × List M)) → HasRisingIds ((id, inbox) ∷ later)
-        → all.new.items ++ (id, inbox) ∷ with_empty left.now later ≡ all.old.items ++ with_empty ids.now ((id, inbox) ∷ later)) }
+    ensures rise { IfOk result (λ r. IsStrictlySortedBy nat_cmp r.1.now) }
+    ensures put { IfOk result (λ r. (inbox : List M) (later : List (ℕ × List M)) → HasRisingIds ((id, inbox) ∷ later)
+        → r.0 ++ (id, inbox) ∷ with_empty r.1.now later ≡ inboxes ++ with_empty ids.now ((id, inbox) ∷ later)) }
 {
+    let mut all = inboxes;
     let mut left = ids;
     while let Some((first, others)) = left.split_first() {
         if *first == id {
-            return Ok(others);
+            return Ok((all, others));
         }
         if id < *first {
-            return Ok(left);
+            return Ok((all, left));
         }
-        all.push((*first, Sequence::new(alloc)))?;
+        all = all.with_none(*first)?;
         left = others;
     }
-    Ok(left)
+    Ok((all, left))
 }
 
 /// Adds empty inboxes for these ids.
-fn put_empty<M: Plain>(
-    alloc: Global,
-    all: &mut Vec<(VertexId, Sequence<M>)>,
-    ids: &[VertexId],
-) -> Result<(), Memory>
-    ensures { OnOk result (all.new.items ≡ all.old.items ++ empty_inboxes ids.now) }
+fn put_empty<M: Plain>(inboxes: Inboxes<M>, ids: &[VertexId]) -> Result<Inboxes<M>, Memory>
+    ensures { IfOk result (λ all. all ≡ inboxes ++ empty_inboxes ids.now) }
 {
+    let mut all = inboxes;
     for id in ids {
-        all.push((*id, Sequence::new(alloc)))?;
+        all = all.with_none(*id)?;
     }
-    Ok(())
+    Ok(all)
 }
 
 /// The ids of those that weren't halted by what they gave.

@@ -2,6 +2,7 @@ pub mod AtPlaces
 pub mod Bundling
 pub mod Delivery
 pub mod Differing
+pub mod Parting
 pub mod Replacing
 pub mod SameDelivery
 pub mod Senders

@@ -7,6 +7,7 @@ pub mod Inboxes
 pub mod Logged
 pub mod Mending
 pub mod Ordered
+pub mod Parts
 pub mod Patched
 pub mod Places
 pub mod Rows

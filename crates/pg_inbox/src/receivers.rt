@@ -7,12 +7,11 @@ ghost use Rattle.pg_parcel.specs.Grouping.{groups_of};
 ghost use Rattle.pg_inbox.specs.Holding.{HoldAll};
 ghost use Rattle.pg_inbox.specs.Inboxes.{AreInboxes, each_inbox, inboxes_of};
 
-use crate::Bundle;
-use crate::receiving::{messages_by_sender, received};
+use crate::receiving::received;
+use crate::{Bundle, Inboxes};
 use pg_global::MessageCombiner;
 use pg_graph::{Memory, VertexId};
 use pg_map::Share;
-use pg_model::Sequence;
 use pg_parcel::{Parcel, by_target, first_group};
 use pg_program::Plain;
 use std::alloc::Global;
@@ -25,8 +24,8 @@ pub fn inboxes<M: Plain, C: MessageCombiner<M>>(
     alloc: Global,
     bundles: &[&Bundle<M>],
     combiner: &C,
-) -> Result<Vec<(VertexId, Sequence<M>)>, Memory>
-    ensures { IfOk result (λ inboxes. AreInboxes (C.combining combiner.now) (map (λ b. b.now) bundles.now) inboxes.items) }
+) -> Result<Inboxes<M>, Memory>
+    ensures { IfOk result (λ inboxes. AreInboxes (C.combining combiner.now) (map (λ b. b.now) bundles.now) inboxes) }
 {
     if let [bundle] = bundles {
         if !combiner.combines() {
@@ -40,19 +39,15 @@ pub fn inboxes<M: Plain, C: MessageCombiner<M>>(
 }
 
 /// The inbox of each target of one bundle, where messages aren't combined.
-fn inboxes_in<M: Plain>(
-    alloc: Global,
-    bundle: &Bundle<M>,
-) -> Result<Vec<(VertexId, Sequence<M>)>, Memory>
-    ensures inboxes { IfOk result (λ inboxes. inboxes.items ≡ each_inbox bundle.now) }
+fn inboxes_in<M: Plain>(alloc: Global, bundle: &Bundle<M>) -> Result<Inboxes<M>, Memory>
+    ensures inboxes { IfOk result (λ inboxes. inboxes ≡ each_inbox bundle.now) }
     ensures rise { IfOk result (λ _. HasRisingIds bundle.now) }
     ensures hold { IfOk result (λ _. HoldAll M.is_value bundle.now) }
 {
     bundle.holds();
-    let mut inboxes = Vec::with_capacity(alloc, bundle.parcels.len())?;
+    let mut inboxes = Inboxes::new(alloc, bundle.parcels.len())?;
     for (target, parcel) in bundle.parcels.iter() {
-        let inbox = messages_by_sender(alloc, parcel)?;
-        inboxes.push((*target, Sequence::from_vec(inbox)))?;
+        inboxes = inboxes.with_parcel(alloc, *target, parcel)?;
     }
     Ok(inboxes)
 }
@@ -97,14 +92,14 @@ fn inboxes_of<M: Plain, C: MessageCombiner<M>>(
     alloc: Global,
     parcels: &[(VertexId, Parcel<M>)],
     combiner: &C,
-) -> Result<Vec<(VertexId, Sequence<M>)>, Memory>
-    ensures { IfOk result (λ inboxes. inboxes.items ≡ inboxes_of (C.combining combiner.now) (groups_of parcels.now)) }
+) -> Result<Inboxes<M>, Memory>
+    ensures { IfOk result (λ inboxes. inboxes ≡ inboxes_of (C.combining combiner.now) (groups_of parcels.now)) }
 {
-    let mut inboxes = Vec::with_capacity(alloc, parcels.len())?;
+    let mut inboxes = Inboxes::new(alloc, parcels.len())?;
     let mut left = parcels;
     while let Some((target, here, later)) = first_group(left) {
         let inbox = received(alloc, here, combiner)?;
-        inboxes.push((target, Sequence::from_vec(inbox)))?;
+        inboxes = inboxes.with(target, inbox)?;
         left = later;
     }
     Ok(inboxes)

@@ -86,18 +86,30 @@ pub(crate) fn received<M: Plain, C: MessageCombiner<M>>(
 }
 
 /// The messages to one target of one bundle, by sender and then in the order sent.
-pub(crate) fn messages_by_sender<M: Plain>(
-    alloc: Global,
-    parcel: &Parcel<M>,
-) -> Result<Vec<M>, Memory>
+fn messages_by_sender<M: Plain>(alloc: Global, parcel: &Parcel<M>) -> Result<Vec<M>, Memory>
     ensures { IfOk result (λ inbox. inbox.items ≡ messages (in_order parcel.now.letters)) }
 {
+    let mut messages = Vec::with_capacity(alloc, parcel.len())?;
+    add_by_sender(alloc, &mut messages, parcel)?;
+    Ok(messages)
+}
+
+/// Adds the messages to one target of one bundle, by sender and then in the order sent.
+pub(crate) fn add_by_sender<M: Plain>(
+    alloc: Global,
+    into: &mut Vec<M>,
+    parcel: &Parcel<M>,
+) -> Result<(), Memory>
+    ensures { OnOk result (into.new.items ≡ into.old.items ++ messages (in_order parcel.now.letters)) }
+{
     if are_in_order(parcel) {
-        return messages_in(alloc, parcel);
+        return add_messages(alloc, into, parcel);
     }
     let mut letters = Vec::with_capacity(alloc, parcel.len())?;
     copy_letters(alloc, &mut letters, parcel)?;
-    sorted_messages(alloc, letters)
+    let mut messages = sorted_messages(alloc, letters)?;
+    into.append(&mut messages)?;
+    Ok(())
 }
 
 /// Messages by sender, those of one sender in their order.
@@ -165,15 +177,18 @@ fn are_in_order<M: Plain>(parcel: &Parcel<M>) -> bool
     true
 }
 
-/// Copies of messages without their senders.
-fn messages_in<M: Plain>(alloc: Global, parcel: &Parcel<M>) -> Result<Vec<M>, Memory>
-    ensures { IfOk result (λ inbox. inbox.items ≡ messages parcel.now.letters) }
+/// Adds copies of messages without their senders.
+fn add_messages<M: Plain>(
+    alloc: Global,
+    into: &mut Vec<M>,
+    parcel: &Parcel<M>,
+) -> Result<(), Memory>
+    ensures { OnOk result (into.new.items ≡ into.old.items ++ messages parcel.now.letters) }
 {
-    let mut inbox = Vec::with_capacity(alloc, parcel.len())?;
     for place in 0..parcel.len() {
-        inbox.push(parcel.letter(place).1.copy(alloc)?)?;
+        into.push(parcel.letter(place).1.copy(alloc)?)?;
     }
-    Ok(inbox)
+    Ok(())
 }
 
 /// The messages of all bundles with their senders, bundle by bundle.

@@ -12,12 +12,12 @@ returns-then-is_empty g c =
     let bundles = map (λ b. b.now) c.args.bundles.now in
     let ids = c.args.ids.now in
     let none = nil_from_length ids (eqb-true (length ids) 0 (sym c.is_empty.ensures ∙ c.if-is_empty.true)) in
-    subst (λ ids. AreCallees combining bundles ids true c.in_ok-inboxes.inboxes.items) (sym none)
-    (are_receivers combining bundles c.in_ok-inboxes.inboxes.items c.in_ok-inboxes.ensures)
+    subst (λ ids. AreCallees combining bundles ids true c.in_ok-inboxes.inboxes) (sym none)
+    (are_receivers combining bundles c.in_ok-inboxes.inboxes c.in_ok-inboxes.ensures)
 
 pub returns : goal.returns
 returns g c =
     let combining = g.C.MessageCombiner.combining c.args.combiner.now in
     let bundles = map (λ b. b.now) c.args.bundles.now in
     IfOk-weaker c.with_empty.result _ _ (λ callees is. subst (AreCallees combining bundles c.args.ids.now true) (sym is)
-    (are_callees combining bundles c.args.ids.now c.in_ok-inboxes.inboxes.items c.requires c.in_ok-inboxes.ensures)) c.with_empty.ensures
+    (are_callees combining bundles c.args.ids.now c.in_ok-inboxes.inboxes c.requires c.in_ok-inboxes.ensures)) c.with_empty.ensures

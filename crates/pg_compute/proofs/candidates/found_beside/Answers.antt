@@ -10,8 +10,8 @@ pub returns : goal.returns
 returns g c =
     let program = g.P.Computation.program c.args.program.now in
     let combining = g.C.MessageCombiner.combining c.args.combiner.now in
-    let own = c.own-callees.ensures in
-    let callees = c.in_ok-callees.callees.items in
+    let own = c.in_ok-callees-2.ensures in
+    let callees = c.in_ok-callees.callees in
     let are = subst (λ bundles. AreCallees combining bundles c.args.ids.now (not c.args.seen) callees)
     (ap (map (λ b. b.now)) c.as_slice.ensures.value ∙ c.in_ok-lent.ensures) c.in_ok-callees.ensures in
     let found = c.candidates_beside.ensures in

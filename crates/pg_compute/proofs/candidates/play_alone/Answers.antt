@@ -27,15 +27,15 @@ returns g c =
     let message_eq = g.P.Message.PartialEq.eq in
     let view = c.args.stage.view in
     let found = alone program c.args.missing c.args.superstep c.args.trace.now in
-    let callees = c.in_ok-callees.callees.items in
-    let mine = c.own-callees.result.items in
+    let callees = c.in_ok-callees.callees in
+    let mine = c.in_ok-callees-2.callees in
     let none = none_beside program c.args.missing c.args.superstep c.args.trace.now mine in
     let played = c.play_callees.ensures in
     let bundles = ap (map (λ b. b.now)) c.as_slice.ensures.value ∙ c.in_ok-lent.ensures in
     let ids = c.as_slice-2.ensures.value ∙ c.in_ok-ids.ensures.ids in
     let s = c.args.superstep in
     let trace = c.args.trace.now in
-    let rise = subst HasRisingIds (sym c.own-callees.ensures) (own_rise c.args.share.partitions c.args.share.partition callees c.in_ok-callees.ensures.rise) in
+    let rise = subst HasRisingIds (sym c.in_ok-callees-2.ensures) (own_rise c.args.share.partitions c.args.share.partition callees c.in_ok-callees.ensures.rise) in
     record {
       turned = IfOk-four c.play_callees.result _ _ _ _ _ (λ p looked_at changes turned _. subst₂ (λ i l. IfSome p.turned (IsTurned s trace i l))
           (sym looked_at) (sym changes) (if_some p.turned (turned_are program view c.args.missing s trace mine rise) turned)) played.looked_at played.changes played.turned
@@ -44,9 +44,9 @@ returns g c =
         callees = callees;
         are = subst₂ (λ b i. AreCallees (g.C.MessageCombiner.combining c.args.combiner.now) b i true callees) bundles ids c.in_ok-callees.ensures;
         candidates = map found mine;
-        ids_are = map-map (λ x. x.id) found mine ∙ ap keys_of c.own-callees.ensures;
+        ids_are = map-map (λ x. x.id) found mine ∙ ap keys_of c.in_ok-callees-2.ensures;
         new_are = map-map (λ x. x.new) found mine
-            ∙ ap (map (found_at program c.args.missing c.args.superstep c.args.trace.now)) c.own-callees.ensures;
+            ∙ ap (map (found_at program c.args.missing c.args.superstep c.args.trace.now)) c.in_ok-callees-2.ensures;
         beside_are = none;
         told = untold value_eq message_eq (map found mine) none;
         looked_at_are = looked_at ∙ sym (map-map (λ x. x.id) found mine);

@@ -1,4 +1,4 @@
-use Rattle.std.proofs.Common.{◌≡◌, ◌+◌, ◌++◌, is_some, map}
+use Rattle.std.proofs.Common.{◌≡◌, ◌+◌, is_some, map, take}
 use Rattle.std.specs.List.{count_by, flat_map}
 use Rattle.std.specs.Map.{keys_of}
 use Rattle.std.specs.Option.{option_to_list}
@@ -10,17 +10,17 @@ use Rattle.pg_recount.specs.Census.{states_among}
 use Rattle.pg_stats.specs.Stats.{census_of}
 use Rattle.pg_compute.proofs.candidates.play_callees.Given as goal
 
-abbrev pub invariant-loop-id : goal.invariant-loop-id
-invariant-loop-id g l =
+abbrev pub invariant-loop-place : goal.invariant-loop-place
+invariant-loop-place g l =
     let program = g.P.Computation.program l.program in
-    let found = map (alone program l.missing l.superstep l.trace) l.yielded in
+    let before = take l.place l.callees in
+    let found = map (alone program l.missing l.superstep l.trace) before in
     record {
-      looked_at : l.looked_at.items ≡ keys_of l.yielded;
+      looked_at : l.looked_at.items ≡ keys_of before;
       changes : l.changes.items ≡ flat_map (change_alone program l.fn.stage.view) found;
       view : l.stage.view ≡ l.fn.stage.view;
       meter : l.stage.meter ≡ capped (l.fn.stage.meter + count_by (λ c. is_some (reads l.fn.stage.view c.new)) found);
-      gone : l.turned.gone ≡ census_of (states_among l.superstep (keys_of l.yielded) l.trace);
-      come : l.turned.come ≡ census_of (flat_map (λ w. option_to_list (left_alone program l.fn.stage.view l.missing l.superstep l.trace w)) l.yielded);
+      gone : l.turned.gone ≡ census_of (states_among l.superstep (keys_of before) l.trace);
+      come : l.turned.come ≡ census_of (flat_map (λ w. option_to_list (left_alone program l.fn.stage.view l.missing l.superstep l.trace w)) before);
       states : l.states ≡ l.trace;
-      whole : l.yielded ++ l.id-iterator.rest.items ≡ l.fn.callees.items;
     }

@@ -6,6 +6,6 @@ use Rattle.pg_compute.proofs.reading.inboxes_at.Given as goal
 
 abbrev pub invariant-loop-id : goal.invariant-loop-id
 invariant-loop-id g l = record {
-  ids : keys_of l.inboxes.items ≡ take l.id-index l.ids;
-  delivered : AllByRecursion (λ w. Delivers (g.C.MessageCombiner.combining l.combiner) w.0 (map (λ b. b.now) l.bundles) w.1) l.inboxes.items;
+  ids : keys_of l.inboxes ≡ take l.id-index l.ids;
+  delivered : AllByRecursion (λ w. Delivers (g.C.MessageCombiner.combining l.combiner) w.0 (map (λ b. b.now) l.bundles) w.1) l.inboxes;
 }

@@ -23,51 +23,44 @@ loop-first-preserved g c =
       rise = sorted_tail nat_cmp first others (subst (IsStrictlySortedBy nat_cmp) at now.invariant.rise);
       put = λ inbox later rise.
           let left = (id, inbox) ∷ later in
-          ap (λ l. l ++ with_empty others left) (c.in_ok-push.ensures.items ∙ ap (λ x. now.all.items ++ (first, x) ∷ []) c.new.ensures)
-          ∙ append_assoc now.all.items ((first, []) ∷ []) (with_empty others left)
-          ∙ ap (λ l. now.all.items ++ l) (sym (empty_below id inbox later rise first others less) ∙ ap (λ l. with_empty l left) (sym at))
+          ap (λ l. l ++ with_empty others left) c.in_ok-all.ensures
+          ∙ append_assoc now.all ((first, []) ∷ []) (with_empty others left)
+          ∙ ap (λ l. now.all ++ l) (sym (empty_below id inbox later rise first others less) ∙ ap (λ l. with_empty l left) (sym at))
           ∙ now.invariant.put inbox later rise;
     }
 
-pub returns-then-eq : goal.returns-then-eq
-returns-then-eq g c =
+pub returns-then-eq-clause-rise : goal.returns-then-eq-clause-rise
+returns-then-eq-clause-rise g c =
+    let at = c.in-Some.ensures.cases.0 in
+    sorted_tail nat_cmp c.in-Some.first.now c.in-Some.others.now (subst (IsStrictlySortedBy nat_cmp) at c.loop-first.invariant.rise)
+
+pub returns-then-eq-clause-put : goal.returns-then-eq-clause-put
+returns-then-eq-clause-put g c = λ inbox later rise.
     let now = c.loop-first in
     let id = c.args.id in
     let first = c.in-Some.first.now in
     let others = c.in-Some.others.now in
     let at = c.in-Some.ensures.cases.0 in
     let rising = subst (IsStrictlySortedBy nat_cmp) at now.invariant.rise in
-    record {
-      rise = sorted_tail nat_cmp first others rising;
-      put = λ inbox later rise.
-          ap (λ l. now.all.items ++ l) (sym (first_at id inbox later rise first others rising (same_by first id c.if-eq.ensures))
-          ∙ ap (λ l. with_empty l ((id, inbox) ∷ later)) (sym at))
-          ∙ now.invariant.put inbox later rise;
-    }
+    ap (λ l. now.all ++ l) (sym (first_at id inbox later rise first others rising (same_by first id c.if-eq.ensures))
+    ∙ ap (λ l. with_empty l ((id, inbox) ∷ later)) (sym at))
+    ∙ now.invariant.put inbox later rise
 
-pub returns-then-lt : goal.returns-then-lt
-returns-then-lt g c =
+pub returns-then-lt-clause-put : goal.returns-then-lt-clause-put
+returns-then-lt-clause-put g c = λ inbox later rise.
     let now = c.loop-first in
     let id = c.args.id in
     let first = c.in-Some.first.now in
     let others = c.in-Some.others.now in
     let at = c.in-Some.ensures.cases.0 in
     let rising = subst (IsStrictlySortedBy nat_cmp) at now.invariant.rise in
-    record {
-      rise = now.invariant.rise;
-      put = λ inbox later rise.
-          ap (λ l. now.all.items ++ (id, inbox) ∷ with_empty l later) at
-          ∙ ap (λ l. now.all.items ++ l) (sym (first_above id inbox later rise first others rising (below_by id first c.if-lt.ensures))
-          ∙ ap (λ l. with_empty l ((id, inbox) ∷ later)) (sym at))
-          ∙ now.invariant.put inbox later rise;
-    }
+    ap (λ l. now.all ++ (id, inbox) ∷ with_empty l later) at
+    ∙ ap (λ l. now.all ++ l) (sym (first_above id inbox later rise first others rising (below_by id first c.if-lt.ensures))
+    ∙ ap (λ l. with_empty l ((id, inbox) ∷ later)) (sym at))
+    ∙ now.invariant.put inbox later rise
 
-pub returns : goal.returns
-returns g c =
+pub returns-clause-put : goal.returns-clause-put
+returns-clause-put g c = λ inbox later rise.
     let now = c.loop-first in
     let none = nil_from_length now.left.now c.in_default.ensures.cases in
-    record {
-      rise = now.invariant.rise;
-      put = λ inbox later rise.
-          ap (λ l. now.all.items ++ l) (sym (none_left c.args.id inbox later rise now.left.now none)) ∙ now.invariant.put inbox later rise;
-    }
+    ap (λ l. now.all ++ l) (sym (none_left c.args.id inbox later rise now.left.now none)) ∙ now.invariant.put inbox later rise

@@ -9,7 +9,7 @@ abbrev pub invariant-loop-first : goal.invariant-loop-first
 invariant-loop-first g l = record {
   rise : IsStrictlySortedBy nat_cmp l.left;
   put : (inbox : List g.row.M.Denot) (later : List (ℕ × List g.row.M.Denot)) → HasRisingIds ((l.id, inbox) ∷ later)
-      → l.all.items ++ with_empty l.left ((l.id, inbox) ∷ later) ≡ l.initial.all.items ++ with_empty l.ids ((l.id, inbox) ∷ later);
+      → l.all ++ with_empty l.left ((l.id, inbox) ∷ later) ≡ l.fn.inboxes ++ with_empty l.ids ((l.id, inbox) ∷ later);
 }
 
 abbrev pub decreases-loop-first : goal.decreases-loop-first

@@ -6,7 +6,7 @@ use Rattle.pg_inbox.proofs.receivers.inboxes_of.Given as goal
 abbrev pub invariant-loop-target : goal.invariant-loop-target
 invariant-loop-target g l =
     let inboxes = inboxes_of (g.C.MessageCombiner.combining l.combiner) in
-    l.inboxes.items ++ inboxes (groups_of l.left) ≡ inboxes (groups_of l.parcels)
+    l.inboxes ++ inboxes (groups_of l.left) ≡ inboxes (groups_of l.parcels)
 
 abbrev pub decreases-loop-target : goal.decreases-loop-target
 decreases-loop-target g l = length l.left

@@ -1,0 +1,5 @@
+use Rattle.std.proofs.Common.{◌≡◌, ◌++◌, take}
+use Rattle.pg_inbox.proofs.delivered.add_copies.Given as goal
+
+abbrev pub invariant-loop-message : goal.invariant-loop-message
+invariant-loop-message g l = l.into.items ≡ l.initial.into.items ++ take l.message-index l.messages

@@ -1,6 +1,0 @@
-use Rattle.std.proofs.Common.{◌≡◌, take}
-use Rattle.pg_parcel.specs.Contents.{messages}
-use Rattle.pg_inbox.proofs.receiving.messages_in.Given as goal
-
-abbrev pub invariant-loop-place : goal.invariant-loop-place
-invariant-loop-place g l = l.inbox.items ≡ messages (take l.place l.parcel.letters)

@@ -1,0 +1,158 @@
+//! Inboxes of vertices, whose messages lie in one list.
+ghost use Rattle.std.specs.Prelude.{◌≡◌, ◌++◌, ◌∷◌, ◌<◌, ◌≤◌, ℕ, List, [], drop, length, slice_index_or, IfOk, OnOk};
+ghost use Rattle.pg_parcel.specs.Contents.{messages};
+ghost use Rattle.pg_inbox.specs.Ordered.{in_order};
+
+use crate::receiving::add_by_sender;
+use pg_graph::{Memory, VertexId};
+use pg_parcel::Parcel;
+use pg_program::Plain;
+use std::alloc::Global;
+use std::marker::Model;
+
+/// What vertices receive: each has an inbox, and the messages of all lie in one list, so that an inbox takes no memory of
+/// its own. A contract sees the list of (id, messages).
+#[derive(Drop)]
+pub struct Inboxes<M> {
+    messages: Vec<M>,
+    parts: Vec<Delivered>,
+}
+
+/// A vertex, and which part of the list it receives.
+#[derive(Clone, Copy)]
+struct Delivered {
+    id: VertexId,
+    first: usize,
+    count: usize,
+}
+
+impl<M> Model for Inboxes<M> {
+    ghost use Rattle.std.specs.Prelude.{ℕ, List};
+    ghost use Rattle.pg_inbox.specs.Parts.{AreWithin, inboxes_in};
+
+    ghost Value = { List (ℕ × List M) };
+
+    ghost view = { λ i. inboxes_in i.messages.items i.parts.items };
+
+    ghost invariant = { λ i. AreWithin i.messages.items i.parts.items };
+}
+
+impl<M: Drop> Inboxes<M> {
+    ghost use Rattle.pg_inbox.specs.Parts.{AreWithin, inboxes_in};
+
+    /// No inboxes, with room for so many.
+    pub fn new(alloc: Global, vertices: usize) -> Result<Inboxes<M>, Memory>
+        ensures { IfOk result (λ inboxes. inboxes ≡ []) }
+    {
+        Ok(Inboxes {
+            messages: Vec::new(alloc),
+            parts: Vec::with_capacity(alloc, vertices)?,
+        })
+    }
+
+    /// How many there are.
+    pub fn len(&self) -> usize
+        ensures { result ≡ length self.now }
+    {
+        self.parts.len()
+    }
+
+    /// The vertex at a place, and what it receives. Costs O(1).
+    pub fn at(&self, place: usize) -> (VertexId, &[M])
+        requires { place < length self.now }
+        ensures { (e : ℕ × List M) → (result.0, result.1.now) ≡ slice_index_or self.now place e }
+    {
+        let part = self.parts[place];
+        let (_, from) = self.messages.as_slice().split_at(part.first);
+        let (messages, _) = from.split_at(part.count);
+        (part.id, messages)
+    }
+
+    /// The same with one more. Costs a move of its messages.
+    pub fn with(self, id: VertexId, messages: Vec<M>) -> Result<Inboxes<M>, Memory>
+        ensures { IfOk result (λ inboxes. inboxes ≡ self ++ (id, messages.items) ∷ []) }
+    {
+        let Inboxes {
+            messages: mut all,
+            parts,
+        } = self;
+        let first = all.len();
+        let mut messages = messages;
+        all.append(&mut messages)?;
+        Inboxes::ended(all, parts, id, first)
+    }
+
+    /// The same with an inbox of no messages.
+    pub fn with_none(self, id: VertexId) -> Result<Inboxes<M>, Memory>
+        ensures { IfOk result (λ inboxes. inboxes ≡ self ++ (id, []) ∷ []) }
+    {
+        let Inboxes { messages, parts } = self;
+        let end = messages.len();
+        Inboxes::ended(messages, parts, id, end)
+    }
+
+    /// These inboxes, and one of the messages from a place on.
+    fn ended(
+        messages: Vec<M>,
+        parts: Vec<Delivered>,
+        id: VertexId,
+        first: usize,
+    ) -> Result<Inboxes<M>, Memory>
+        requires within { AreWithin messages.items parts.items }
+        requires first { first ≤ length messages.items }
+        ensures { IfOk result (λ inboxes. inboxes ≡ inboxes_in messages.items parts.items ++ (id, drop first messages.items) ∷ []) }
+    {
+        let mut parts = parts;
+        let count = messages.len() - first;
+        parts.push(Delivered { id, first, count })?;
+        Ok(Inboxes { messages, parts })
+    }
+}
+
+impl<M: Plain> Inboxes<M> {
+    /// The same with copies of messages.
+    pub fn with_copies(
+        self,
+        alloc: Global,
+        id: VertexId,
+        messages: &[M],
+    ) -> Result<Inboxes<M>, Memory>
+        ensures { IfOk result (λ inboxes. inboxes ≡ self ++ (id, messages.now) ∷ []) }
+    {
+        let Inboxes {
+            messages: mut all,
+            parts,
+        } = self;
+        let first = all.len();
+        add_copies(alloc, &mut all, messages)?;
+        Inboxes::ended(all, parts, id, first)
+    }
+
+    /// The same with the messages to one target of one bundle, by sender and then in the order sent.
+    pub(crate) fn with_parcel(
+        self,
+        alloc: Global,
+        id: VertexId,
+        parcel: &Parcel<M>,
+    ) -> Result<Inboxes<M>, Memory>
+        ensures { IfOk result (λ inboxes. inboxes ≡ self ++ (id, messages (in_order parcel.now.letters)) ∷ []) }
+    {
+        let Inboxes {
+            mut messages,
+            parts,
+        } = self;
+        let first = messages.len();
+        add_by_sender(alloc, &mut messages, parcel)?;
+        Inboxes::ended(messages, parts, id, first)
+    }
+}
+
+/// Adds copies of messages.
+fn add_copies<M: Plain>(alloc: Global, into: &mut Vec<M>, messages: &[M]) -> Result<(), Memory>
+    ensures { OnOk result (into.new.items ≡ into.old.items ++ messages.now) }
+{
+    for message in messages {
+        into.push(message.copy(alloc)?)?;
+    }
+    Ok(())
+}
