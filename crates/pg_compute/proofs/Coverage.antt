@@ -20,7 +20,7 @@ use Rattle.pg_model.specs.declared.configuration.Standing.{Standing}
 use Rattle.pg_model.specs.declared.configuration.VertexState.{VertexState}
 use Rattle.pg_model.specs.declared.record.Record.{Record}
 use Rattle.pg_compute.specs.Candidates.{awake_ids}
-use Rattle.pg_compute.specs.Lists.{awake_after}
+use Rattle.pg_records.specs.Records.{awake_after}
 use Rattle.pg_trace.specs.OfRun.{HoldsRun}
 use Rattle.pg_trace.specs.Trace.{Trace, records_of}
 

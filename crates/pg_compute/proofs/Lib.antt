@@ -1,6 +1,7 @@
 pub mod Callees
 pub mod Changing
 pub mod Coverage
+pub mod Executing
 pub mod Finding
 pub mod Looking
 pub mod Playing

@@ -20,7 +20,7 @@ pub played_rise : {V M : Type 0} (value_eq : V → V → Bool) (message_eq : M �
     (missing : Missing) (combining : Option (Combining M)) (view : View)
     (n p s : ℕ) (trace : Trace V M) (bundles : List (Parcels M)) (beside : Option (Trace V M × List (Parcels M))) (ids : List ℕ)
     (all seen : Bool) (before : ℕ) (played : Played V M)
-    → IsPlayed value_eq message_eq program missing combining view n p s trace bundles beside ids all seen before played → ChangesRise played.changes.items
+    → IsPlayed value_eq message_eq program missing combining view n p s trace bundles beside ids all seen before played → ChangesRise played.changes
 played_rise value_eq message_eq program missing combining view n p s trace bundles beside ids all seen before played is =
     subst ChangesRise (sym is.changes_are)
     (entries-rise (λ c. c.id) (is_left value_eq message_eq seen) (λ c. option_map program.step (reads view c.new)) is.candidates

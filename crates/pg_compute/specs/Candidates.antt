@@ -16,7 +16,7 @@ use Rattle.pg_model.specs.declared.view.View.{View}
 use Rattle.pg_compute.specs.Found.{IsFound, IsTold, change_of, is_run, vertex_of}
 use Rattle.pg_routing.specs.Routes.{AreSameTo}
 use Rattle.pg_routing.specs.Starting.{own}
-use Rattle.pg_compute.specs.Lists.{awake_after}
+use Rattle.pg_records.specs.Records.{awake_after}
 use Rattle.pg_compute.specs.declared.execution.Played.{Played}
 use Rattle.pg_compute.specs.declared.found.Candidate.{Candidate}
 use Rattle.pg_trace.specs.Trace.{Trace, records_of, state_at}
@@ -73,7 +73,7 @@ pub record IsPlayed {V M : Type 0} (value_eq : V → V → Bool) (message_eq : M
   pub beside_are : AllByRecursion (λ c. IsFoundBeside program missing combining s beside c.id c.old) candidates
   pub told : AllByRecursion (IsTold value_eq message_eq) candidates
   pub looked_at_are : played.looked_at.items ≡ map (λ c. c.id) candidates
-  pub changes_are : played.changes.items ≡ flat_map (change_of value_eq message_eq program view seen) candidates
+  pub changes_are : played.changes ≡ flat_map (change_of value_eq message_eq program view seen) candidates
   pub counted : played.meter ≡ capped (before + count_by (is_run value_eq message_eq program view seen) candidates)
 
 -- rising ids with all that a step beside an old run has to look at: where states may differ, but for vertices that rest in

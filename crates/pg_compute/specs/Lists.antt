@@ -1,8 +1,6 @@
 -- Lists by rising id that are made of others.
-use Rattle.std.specs.Prelude.{ℕ, [], List, map, not, Some}
-use Rattle.std.specs.List.{filter}
+use Rattle.std.specs.Prelude.{ℕ, [], List, map, Some}
 use Rattle.pg_map.specs.Entries.{with_changes}
-use Rattle.pg_model.specs.declared.record.Record.{Record}
 
 module _ {M : Type 0} where
   -- empty inboxes for these ids
@@ -12,7 +10,3 @@ module _ {M : Type 0} where
   -- inboxes by rising id, and empty ones for those of these ids, which rise, that have none
   abbrev pub with_empty : List ℕ → List (ℕ × List M) → List (ℕ × List M)
   with_empty ids inboxes = with_changes (map (λ w. (w.0, Some w.1)) inboxes) (empty_inboxes ids)
-
--- the ids of those that weren't halted by what they gave
-abbrev pub awake_after : {V M : Type 0} → List (ℕ × Record V M) → List ℕ
-awake_after records = map (λ r. r.0) (filter (λ r. not r.1.halted) records)

@@ -14,15 +14,15 @@ ghost use Rattle.pg_program.specs.Context.{ShowsDeclared};
 
 use crate::execution::{Played, Stage, ended, play, play_found};
 use crate::found::{Candidate, copied_messages, state_by, tell_same, vertex_at};
-use crate::reading::{awake_after, inboxes_at, lent_bundles, with_empty};
+use crate::reading::{inboxes_at, lent_bundles, with_empty};
 use pg_global::MessageCombiner;
 use pg_graph::{Memory, Missing, Superstep, VertexId};
 use pg_inbox::{Bundle, Inboxes, inbox, inboxes};
-use pg_model::{Record, Sequence, Standing};
+use pg_model::{Sequence, Standing};
 use pg_program::{Computation, Plain};
 use pg_recount::Turned;
 use pg_routing::Share;
-use pg_trace::{States, Trace};
+use pg_trace::{Changes, RecordRef, States, Trace};
 use std::alloc::Global;
 
 /// The vertices that aren't halted as a superstep begins, by rising id. Costs a walk over the records of the superstep
@@ -36,10 +36,7 @@ pub(crate) fn awake_ids<V: Drop, M: Drop>(
     ensures rising { IfOk result (λ ids. IsStrictlySortedBy nat_cmp ids.items) }
 {
     match superstep.number().checked_sub(1) {
-        Some(before) => {
-            let records = trace.records(alloc, Superstep::new(before))?;
-            awake_after(alloc, records.as_slice())
-        }
+        Some(before) => trace.awake_after(alloc, Superstep::new(before)),
         None => trace.initial_ids(alloc),
     }
 }
@@ -149,7 +146,7 @@ pub fn play_alone<P: Computation, C: MessageCombiner<P::Message>>(
     superstep: Superstep,
     trace: &Trace<P::Value, P::Message>,
     bundles: &[Bundle<P::Message>],
-    stage: Stage,
+    stage: Stage<P::Message>,
 ) -> Result<Played<P::Value, P::Message>, Memory>
     requires shown { ShowsDeclared (P.program program.now).declared stage.view }
     requires fits { stage.meter < 2 ^ 64 }
@@ -158,7 +155,7 @@ pub fn play_alone<P: Computation, C: MessageCombiner<P::Message>>(
         (C.combining combiner.now) stage.view share.partitions share.partition superstep trace.now
         bundles.now None (awake_ids superstep trace.now) true false stage.meter played) }
     ensures turned { IfOk result (λ played.
-        IfSome played.turned (IsTurned superstep trace.now played.looked_at.items played.changes.items)) }
+        IfSome played.turned (IsTurned superstep trace.now played.looked_at.items played.changes)) }
 {
     let ids = awake_ids(alloc, trace, superstep)?;
     let lent = lent_bundles(alloc, bundles)?;
@@ -176,12 +173,12 @@ fn play_callees<P: Computation>(
     superstep: Superstep,
     trace: &Trace<P::Value, P::Message>,
     callees: &Inboxes<P::Message>,
-    stage: Stage,
+    stage: Stage<P::Message>,
 ) -> Result<Played<P::Value, P::Message>, Memory>
     requires shown { ShowsDeclared (P.program program.now).declared stage.view }
     requires fits { stage.meter < 2 ^ 64 }
     ensures looked_at { IfOk result (λ played. played.looked_at.items ≡ keys_of callees.now) }
-    ensures changes { IfOk result (λ played. played.changes.items
+    ensures changes { IfOk result (λ played. played.changes
         ≡ flat_map (change_alone (P.program program.now) stage.view)
         (map (alone (P.program program.now) missing superstep trace.now) callees.now)) }
     ensures meter { IfOk result (λ played. played.meter ≡ capped (stage.meter + count_by (λ c. is_some (reads stage.view c.new))
@@ -191,7 +188,7 @@ fn play_callees<P: Computation>(
 {
     let mut states = trace.states();
     let mut looked_at = Vec::with_capacity(alloc, callees.len())?;
-    let mut changes = Vec::with_capacity(alloc, callees.len())?;
+    let mut changes = Changes::new(alloc, callees.len())?;
     let mut turned = Turned::nobody();
     let mut stage = stage;
     for place in 0..callees.len() {
@@ -201,7 +198,7 @@ fn play_callees<P: Computation>(
         let found = state_by(alloc, program, missing, id, &state, delivered)?;
         let before = changes.len();
         stage = play_found(alloc, program, id, found, delivered, &mut changes, stage)?;
-        turned = turned.with(&state, given_at(changes.as_slice(), before))?;
+        turned = turned.with(&state, &given_at(&changes, before))?;
     }
     let Stage { meter, .. } = stage;
     Ok(Played {
@@ -227,16 +224,14 @@ fn turned_next<V: Drop, M: Drop>(
 }
 
 /// The record that the change at a place gives, if there is one.
-fn given_at<V, M>(
-    changes: &[(VertexId, Option<Record<V, M>>)],
-    place: usize,
-) -> Option<&Record<V, M>>
-    ensures { option_copied result ≡ given_at changes.now place }
+fn given_at<V: Drop, M: Drop>(changes: &Changes<V, M>, place: usize) -> Option<RecordRef<'_, V, M>>
+    ensures { result ≡ given_at changes.now place }
 {
-    match changes.get(place) {
-        Some((_, given)) => given.as_ref(),
-        None => None,
+    if place >= changes.len() {
+        return None;
     }
+    let (_, given) = changes.at(place);
+    given
 }
 
 /// Looks at these vertices, in the new run and in the old one, and executes those that are active and don't read
@@ -255,7 +250,7 @@ pub fn play_beside<P: Computation, C: MessageCombiner<P::Message>>(
     old_bundles: &[Bundle<P::Message>],
     ids: &[VertexId],
     seen: bool,
-    stage: Stage,
+    stage: Stage<P::Message>,
 ) -> Result<Played<P::Value, P::Message>, Memory>
     requires rise { IsStrictlySortedBy nat_cmp ids.now }
     requires shown { ShowsDeclared (P.program program.now).declared stage.view }

@@ -9,20 +9,30 @@ ghost use Rattle.pg_program.specs.Context.{ShowsDeclared};
 use crate::found::{Candidate, are_same_reading, is_stopping};
 use pg_global::{Visible, view_of};
 use pg_graph::{Memory, Superstep, VertexId};
-use pg_model::{Record, Standing, VertexState, View};
+use pg_model::{Place, Sequence, Standing, VertexState, View};
 use pg_program::{Computation, Cx, EdgeRoom, Meter, Plain, Vertex};
 use pg_recount::Turned;
+use pg_trace::Changes;
 use std::alloc::Global;
 
-/// What the executions of a superstep share: what they see, room for changed edges, and the meter.
+/// What the executions of a superstep share: what they see, room for changed edges and for what is sent and contributed, and
+/// the meter.
 #[derive(Drop)]
-pub struct Stage {
+pub struct Stage<M> {
     pub view: View,
     pub room: EdgeRoom,
+    pub(crate) spare: Spare<M>,
     pub meter: Meter,
 }
 
-impl Stage {
+/// Room for what an execution sends and contributes.
+#[derive(Drop)]
+pub(crate) struct Spare<M> {
+    sent: Vec<(VertexId, M)>,
+    contributed: Vec<(Place, i64)>,
+}
+
+impl<M: Drop> Stage<M> {
     /// What the executions of a superstep see, as the master shows it, with a meter that goes on.
     pub fn new<P: Computation>(
         alloc: Global,
@@ -30,7 +40,7 @@ impl Stage {
         superstep: Superstep,
         visible: &Visible,
         meter: Meter,
-    ) -> Result<Stage, Memory>
+    ) -> Result<Stage<M>, Memory>
         requires few { length visible.now.values ≤ 16 }
         requires declared { has_places (P.program program.now).declared (length visible.now.values) ≡ true }
         ensures view { IfOk result (λ stage. stage.view ≡ view_of (P.program program.now).declared superstep visible.now) }
@@ -44,6 +54,10 @@ impl Stage {
         Ok(Stage {
             view,
             room: EdgeRoom::new(alloc),
+            spare: Spare {
+                sent: Vec::new(alloc),
+                contributed: Vec::new(alloc),
+            },
             meter,
         })
     }
@@ -54,7 +68,7 @@ impl Stage {
 #[derive(Drop)]
 pub struct Played<V, M> {
     pub looked_at: Vec<VertexId>,
-    pub changes: Vec<(VertexId, Option<Record<V, M>>)>,
+    pub changes: Changes<V, M>,
     pub meter: Meter,
     pub turned: Option<Turned>,
 }
@@ -63,14 +77,14 @@ pub struct Played<V, M> {
 #[derive(Drop)]
 pub(crate) struct Playing<V, M> {
     pub looked_at: Vec<VertexId>,
-    pub changes: Vec<(VertexId, Option<Record<V, M>>)>,
-    pub stage: Stage,
+    pub changes: Changes<V, M>,
+    pub stage: Stage<M>,
 }
 
 /// What a step has made of its vertices once all are executed.
-pub(crate) fn ended<V, M>(playing: Playing<V, M>) -> Played<V, M>
+pub(crate) fn ended<V: Drop, M: Drop>(playing: Playing<V, M>) -> Played<V, M>
     ensures looked_at { result.looked_at.items ≡ playing.looked_at.items }
-    ensures changes { result.changes.items ≡ playing.changes.items }
+    ensures changes { result.changes ≡ playing.changes }
     ensures meter { result.meter ≡ playing.stage.meter }
     ensures turned { result.turned ≡ None }
 {
@@ -95,20 +109,22 @@ pub(crate) fn play<P: Computation>(
     program: &P,
     candidates: Vec<Candidate<P::Value, P::Message>>,
     seen: bool,
-    stage: Stage,
+    stage: Stage<P::Message>,
 ) -> Result<Playing<P::Value, P::Message>, Memory>
     requires shown { ShowsDeclared (P.program program.now).declared stage.view }
     requires fits { stage.meter < 2 ^ 64 }
     ensures looked_at { IfOk result (λ p. p.looked_at.items ≡ map (λ c. c.id) candidates.items) }
-    ensures changes { IfOk result (λ p. p.changes.items
+    ensures changes { IfOk result (λ p. p.changes
         ≡ flat_map (change_of P.Value.PartialEq.eq P.Message.PartialEq.eq (P.program program.now) stage.view seen) candidates.items) }
     ensures view { IfOk result (λ p. p.stage.view ≡ stage.view) }
     ensures meter { IfOk result (λ p. p.stage.meter
         ≡ capped (stage.meter + count_by (is_run P.Value.PartialEq.eq P.Message.PartialEq.eq (P.program program.now) stage.view seen) candidates.items)) }
 {
+    let looked_at = Vec::with_capacity(alloc, candidates.len())?;
+    let changes = Changes::new(alloc, 0)?;
     let mut played = Playing {
-        looked_at: Vec::with_capacity(alloc, candidates.len())?,
-        changes: Vec::new(alloc),
+        looked_at,
+        changes,
         stage,
     };
     for candidate in candidates {
@@ -128,8 +144,8 @@ fn play_one<P: Computation>(
     requires shown { ShowsDeclared (P.program program.now).declared played.stage.view }
     requires fits { played.stage.meter < 2 ^ 64 }
     ensures looked_at { IfOk result (λ p. p.looked_at.items ≡ played.looked_at.items ++ candidate.id ∷ []) }
-    ensures changes { IfOk result (λ p. p.changes.items
-        ≡ played.changes.items ++ change_of P.Value.PartialEq.eq P.Message.PartialEq.eq (P.program program.now) played.stage.view seen candidate) }
+    ensures changes { IfOk result (λ p. p.changes
+        ≡ played.changes ++ change_of P.Value.PartialEq.eq P.Message.PartialEq.eq (P.program program.now) played.stage.view seen candidate) }
     ensures view { IfOk result (λ p. p.stage.view ≡ played.stage.view) }
     ensures meter { IfOk result (λ p. p.stage.meter
         ≡ capped (played.stage.meter + cond (is_run P.Value.PartialEq.eq P.Message.PartialEq.eq (P.program program.now)
@@ -153,8 +169,8 @@ fn play_other<P: Computation>(
     requires shown { ShowsDeclared (P.program program.now).declared played.stage.view }
     requires fits { played.stage.meter < 2 ^ 64 }
     ensures looked_at { IfOk result (λ p. p.looked_at.items ≡ played.looked_at.items) }
-    ensures changes { IfOk result (λ p. p.changes.items
-        ≡ played.changes.items ++ change_unless (P.program program.now) played.stage.view (are_at_rest candidate.old candidate.new) candidate) }
+    ensures changes { IfOk result (λ p. p.changes
+        ≡ played.changes ++ change_unless (P.program program.now) played.stage.view (are_at_rest candidate.old candidate.new) candidate) }
     ensures view { IfOk result (λ p. p.stage.view ≡ played.stage.view) }
     ensures meter { IfOk result (λ p. p.stage.meter
         ≡ capped (played.stage.meter + cond (is_some (reads played.stage.view candidate.new)) 1 0)) }
@@ -177,14 +193,14 @@ fn play_other<P: Computation>(
 
 /// Adds that there is no record any more, where a vertex stops running.
 fn push_if_stopping<V: Plain, M: Plain>(
-    changes: &mut Vec<(VertexId, Option<Record<V, M>>)>,
+    changes: &mut Changes<V, M>,
     stops: bool,
     id: VertexId,
 ) -> Result<(), Memory>
-    ensures { OnOk result (changes.new.items ≡ changes.old.items ++ cond stops ((id, None) ∷ []) []) }
+    ensures { OnOk result (changes.new ≡ changes.old ++ cond stops ((id, None) ∷ []) []) }
 {
     if stops {
-        changes.push((id, None))?;
+        changes.add_none(id)?;
     }
     Ok(())
 }
@@ -195,13 +211,13 @@ fn play_standing<P: Computation>(
     program: &P,
     id: VertexId,
     vertex: Option<Standing<P::Value, P::Message>>,
-    changes: &mut Vec<(VertexId, Option<Record<P::Value, P::Message>>)>,
-    stage: Stage,
-) -> Result<Stage, Memory>
+    changes: &mut Changes<P::Value, P::Message>,
+    stage: Stage<P::Message>,
+) -> Result<Stage<P::Message>, Memory>
     requires shown { ShowsDeclared (P.program program.now).declared stage.view }
     requires fits { stage.meter < 2 ^ 64 }
-    ensures changes { IfOk result (λ _. changes.new.items
-        ≡ changes.old.items ++ change_alone (P.program program.now) stage.view (record { id = id; old = None; new = vertex })) }
+    ensures changes { IfOk result (λ _. changes.new
+        ≡ changes.old ++ change_alone (P.program program.now) stage.view (record { id = id; old = None; new = vertex })) }
     ensures view { IfOk result (λ after. after.view ≡ stage.view) }
     ensures meter { IfOk result
         (λ after. after.meter ≡ capped (stage.meter + cond (is_some (reads stage.view vertex)) 1 0)) }
@@ -229,12 +245,12 @@ pub(crate) fn play_found<P: Computation>(
     id: VertexId,
     state: Option<VertexState<P::Value>>,
     delivered: &[P::Message],
-    changes: &mut Vec<(VertexId, Option<Record<P::Value, P::Message>>)>,
-    stage: Stage,
-) -> Result<Stage, Memory>
+    changes: &mut Changes<P::Value, P::Message>,
+    stage: Stage<P::Message>,
+) -> Result<Stage<P::Message>, Memory>
     requires shown { ShowsDeclared (P.program program.now).declared stage.view }
     requires fits { stage.meter < 2 ^ 64 }
-    ensures changes { IfOk result (λ _. changes.new.items ≡ changes.old.items
+    ensures changes { IfOk result (λ _. changes.new ≡ changes.old
         ++ change_alone (P.program program.now) stage.view (record { id = id; old = None; new = standing_of state delivered.now })) }
     ensures view { IfOk result (λ after. after.view ≡ stage.view) }
     ensures meter { IfOk result
@@ -245,40 +261,57 @@ pub(crate) fn play_found<P: Computation>(
             if state.halted && delivered.is_empty() {
                 return Ok(stage);
             }
-            let (given, stage) = execute(alloc, program, state, delivered, stage)?;
-            changes.push((id, Some(given)))?;
-            Ok(stage)
+            execute(alloc, program, id, state, delivered, changes, stage)
         }
         None => Ok(stage),
     }
 }
 
-/// Executes a vertex.
+/// Executes a vertex, and adds its record.
 fn execute<P: Computation>(
     alloc: Global,
     program: &P,
+    id: VertexId,
     state: VertexState<P::Value>,
     delivered: &[P::Message],
-    stage: Stage,
-) -> Result<(Record<P::Value, P::Message>, Stage), Memory>
+    changes: &mut Changes<P::Value, P::Message>,
+    stage: Stage<P::Message>,
+) -> Result<Stage<P::Message>, Memory>
     requires shown { ShowsDeclared (P.program program.now).declared stage.view }
-    ensures given { IfOk result
-        (λ r. r.0 ≡ (P.program program.now).step (inputs_of stage.view (record { state = state; inbox = delivered.now }))) }
-    ensures view { IfOk result (λ r. r.1.view ≡ stage.view) }
-    ensures meter { IfOk result (λ r. r.1.meter ≡ capped (stage.meter + 1)) }
+    ensures given { IfOk result (λ _. changes.new ≡ changes.old ++ (
+      id,
+      Some ((P.program program.now).step
+          (inputs_of stage.view (record { state = state; inbox = delivered.now }))),
+    ) ∷ []) }
+    ensures view { IfOk result (λ after. after.view ≡ stage.view) }
+    ensures meter { IfOk result (λ after. after.meter ≡ capped (stage.meter + 1)) }
 {
-    let Stage { view, room, meter } = stage;
-    let mut cx = Cx::new(alloc, view, program.declared(), meter);
+    let Stage {
+        view,
+        room,
+        spare,
+        meter,
+    } = stage;
+    let Spare { sent, contributed } = spare;
+    let mut cx = Cx::with_room(
+        view,
+        program.declared(),
+        meter,
+        Sequence::from_vec(sent),
+        Sequence::from_vec(contributed),
+    );
     let mut vertex = Vertex::new(state.id, state.value, state.edges, room)?;
     program.compute(alloc, &mut vertex, delivered, &mut cx)?;
     let (state, room) = vertex.into_parts(alloc)?;
     let (view, sent, contributed, meter) = cx.into_parts();
-    let given = Record {
-        value: state.value,
-        edges: state.edges,
-        halted: state.halted,
-        sent,
-        contributed,
-    };
-    Ok((given, Stage { view, room, meter }))
+    let left = VertexState { id, ..state };
+    let mut sent = sent.into_vec();
+    let mut contributed = contributed.into_vec();
+    changes.add(left, &mut sent, &mut contributed)?;
+    Ok(Stage {
+        view,
+        room,
+        spare: Spare { sent, contributed },
+        meter,
+    })
 }

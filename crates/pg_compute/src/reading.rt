@@ -6,13 +6,11 @@ ghost use Rattle.std.specs.Map.{keys_of};
 ghost use Rattle.std.specs.Ordering.{nat_cmp};
 ghost use Rattle.pg_inbox.specs.Inboxes.{Delivers};
 ghost use Rattle.pg_map.specs.Entries.{HasRisingIds};
-ghost use Rattle.pg_compute.specs.Lists.{awake_after, empty_inboxes, with_empty};
-ghost use Rattle.pg_trace.specs.Trace.{lent};
+ghost use Rattle.pg_compute.specs.Lists.{empty_inboxes, with_empty};
 
 use pg_global::MessageCombiner;
 use pg_graph::{Memory, VertexId};
 use pg_inbox::{Bundle, Inboxes, inbox};
-use pg_model::Record;
 use pg_program::Plain;
 use std::alloc::Global;
 
@@ -103,20 +101,4 @@ fn put_empty<M: Plain>(inboxes: Inboxes<M>, ids: &[VertexId]) -> Result<Inboxes<
         all = all.with_none(*id)?;
     }
     Ok(all)
-}
-
-/// The ids of those that weren't halted by what they gave.
-pub(crate) fn awake_after<V: Drop, M: Drop>(
-    alloc: Global,
-    records: &[(VertexId, &Record<V, M>)],
-) -> Result<Vec<VertexId>, Memory>
-    ensures { IfOk result (λ ids. ids.items ≡ awake_after (lent records.now)) }
-{
-    let mut awake = Vec::with_capacity(alloc, records.len())?;
-    for (id, given) in records {
-        if !given.halted {
-            awake.push(*id)?;
-        }
-    }
-    Ok(awake)
 }

@@ -90,7 +90,7 @@ module _ {V M : Type 0} (value_eq : V → V → Bool) (message_eq : M → M → 
   changes : List (ℕ × Option (Record V M))
   changes = entries (λ c. c.id) rests gives cs
 
-  changed : played.changes.items ≡ changes
+  changed : played.changes ≡ changes
   unfolding changes gives rests cs
   changed = is.changes_are
 
@@ -134,12 +134,12 @@ module _ {V M : Type 0} (value_eq : V → V → Bool) (message_eq : M → M → 
           ap (λ (o : Option (Inputs V M)). is_changed value_eq message_eq o (inputs_at job rows s id)) (nothing_kept kept past id)
           ∙ changed_from (inputs_at job rows s id)
 
-  rises : ChangesRise played.changes.items
+  rises : ChangesRise played.changes
   unfolding changes
   rises = subst ChangesRise (sym changed) (entries-rise (λ c. c.id) rests gives cs rise)
 
   -- the records of the superstep are the run's
-  records_left : with_changes played.changes.items (records_of s (reaching s course.trace)) ≡ records_in job rows n p s
+  records_left : with_changes played.changes (records_of s (reaching s course.trace)) ≡ records_in job rows n p s
   records_left =
       ap (λ l. with_changes l (records_of s (reaching s course.trace))) changed
       ∙ (ap (with_changes changes) (reaching_next s course.trace long).0 ∙ new_records)
@@ -148,22 +148,22 @@ module _ {V M : Type 0} (value_eq : V → V → Bool) (message_eq : M → M → 
       long = let e = holds.supersteps in omega (arith, past, e)
 
   -- and so is what is sent
-  sends_are : (q : ℕ) → items_to n q (flat_map sends_of played.changes.items) ≡ as_sends (sent_to job rows n p q s)
+  sends_are : (q : ℕ) → items_to n q (flat_map sends_of played.changes) ≡ as_sends (sent_to job rows n p q s)
   sends_are q =
-      sends_of_changes n q played.changes.items (records_in job rows n p s)
-      (somes_are played.changes.items rises ∙ (ap (λ l. with_changes l []) changed ∙ new_records))
+      sends_of_changes n q played.changes (records_in job rows n p s)
+      (somes_are played.changes rises ∙ (ap (λ l. with_changes l []) changed ∙ new_records))
 
   -- what the step changes: no other vertex has a record, and each other is as before
   none_else : (id : ℕ) → has_id played.looked_at.items id ≡ false → value_at id (records_in job rows n p s) ≡ None
   unfolding changes cs
   none_else id other =
       ap (value_at id) (sym records_left)
-      ∙ (unchanged_at played.changes.items (records_of s (reaching s course.trace)) id unchanged ∙ ap (value_at id) (reaching_next s course.trace long).0)
+      ∙ (unchanged_at played.changes (records_of s (reaching s course.trace)) id unchanged ∙ ap (value_at id) (reaching_next s course.trace long).0)
     where
       long : length course.trace.records ≡ s
       long = let e = holds.supersteps in omega (arith, past, e)
 
-      unchanged : has_id (keys_of played.changes.items) id ≡ false
+      unchanged : has_id (keys_of played.changes) id ≡ false
       unchanged =
           ap (λ l. has_id (keys_of l) id) changed
           ∙ entries-among (λ c. c.id) rests gives id cs (sym (ap (λ l. has_id l id) is.looked_at_are) ∙ other)
@@ -187,13 +187,13 @@ module _ {V M : Type 0} (value_eq : V → V → Bool) (message_eq : M → M → 
   pub stepped_alone : (after : Holding V M) (sent : List (Logged M))
       → after ≡ record course {
         place = s + 1;
-        trace = with_replaced s played.changes.items (reaching s course.trace);
+        trace = with_replaced s played.changes (reaching s course.trace);
         restless = differing_past course.kept course.restless played.looked_at.items;
         changed = played.looked_at.items;
         beside_old = false;
       }
       → length sent ≡ n
-      → ((q : ℕ) → q < n → IsFresh job.combining (items_to n q (flat_map sends_of played.changes.items)) (slice_get sent q))
+      → ((q : ℕ) → q < n → IsFresh job.combining (items_to n q (flat_map sends_of played.changes)) (slice_get sent q))
       → HasStepped job value_eq message_eq kept rows n p s after sent before played.meter
   unfolding cs
   stepped_alone after sent further to_each fresh = record {
@@ -202,9 +202,9 @@ module _ {V M : Type 0} (value_eq : V → V → Bool) (message_eq : M → M → 
       partitions_are = holds.partitions_are;
       missing_is = holds.missing_is;
       place_is = refl;
-      run = stepped_holds job rows n p s course.trace played.changes.items holds.run (omega (arith, long)) records_left;
+      run = stepped_holds job rows n p s course.trace played.changes holds.run (omega (arith, long)) records_left;
       supersteps =
-          let more = length-set (reaching s course.trace).records s (with_changes played.changes.items (records_of s (reaching s course.trace))) in
+          let more = length-set (reaching s course.trace).records s (with_changes played.changes (records_of s (reaching s course.trace))) in
           let next = (reaching_next s course.trace long).1 in
           omega (arith, more, next, past);
       beside = besides kept past holds.beside;
@@ -221,7 +221,7 @@ module _ {V M : Type 0} (value_eq : V → V → Bool) (message_eq : M → M → 
       next_part : Holding V M
       next_part = record course {
         place = s + 1;
-        trace = with_replaced s played.changes.items (reaching s course.trace);
+        trace = with_replaced s played.changes (reaching s course.trace);
         restless = differing_past course.kept course.restless played.looked_at.items;
         changed = played.looked_at.items;
         beside_old = false;
@@ -250,7 +250,7 @@ module _ {V M : Type 0} (value_eq : V → V → Bool) (message_eq : M → M → 
       tells None ends q logged none = none
       tells (Some old) ends q logged none = λ high. absurd (omega (arith, high, ends))
 
-      sent_is : (q : ℕ) (o : Option (Logged M)) → IsFresh job.combining (items_to n q (flat_map sends_of played.changes.items)) o
+      sent_is : (q : ℕ) (o : Option (Logged M)) → IsFresh job.combining (items_to n q (flat_map sends_of played.changes)) o
           → IsSentTo job kept rows n p q s o
       sent_is q None f = absurd f
       sent_is q (Some logged) f = (f.0 ∙ ap (bundle_of job.combining) (sends_are q), tells kept past q logged f.1)
@@ -262,7 +262,7 @@ module _ {V M : Type 0} (value_eq : V → V → Bool) (message_eq : M → M → 
     (is : IsPlayed value_eq message_eq program course.missing combining view course.partitions course.partition course.place course.trace bundles None
     (awake_ids course.place course.trace) true false before played)
     (some : 0 < course.partitions) (after : Holding V M) (sent : List (Logged M))
-    (concluded : IsConcludedAlone course played.looked_at.items played.changes.items combining after sent) where
+    (concluded : IsConcludedAlone course played.looked_at.items played.changes combining after sent) where
   pub alone_steps : (job : Job V M) (kept : Option Rows) (rows : Rows) (n p s : ℕ) (logs : Slots M) → job.program ≡ program → job.combining ≡ combining
       → Holds job kept rows n p s course → kept_length job kept ≤ s → s < run_length job rows → HasMessages job rows n p s logs
       → bundles ≡ bundles_before logs n p s → view ≡ view_at job rows s → HasStepped job value_eq message_eq kept rows n p s after sent before played.meter
@@ -289,12 +289,12 @@ module _ {V M : Type 0} (value_eq : V → V → Bool) (message_eq : M → M → 
       after sent
       (concluded.further ∙ ap (λ k. record course {
         place = k + 1;
-        trace = with_replaced k played.changes.items (reaching k course.trace);
+        trace = with_replaced k played.changes (reaching k course.trace);
         restless = differing_past course.kept course.restless played.looked_at.items;
         changed = played.looked_at.items;
         beside_old = false;
       }) here)
       (concluded.to_each ∙ all)
-      (λ q below. subst (λ k. IsFresh k (items_to n q (flat_map sends_of played.changes.items)) (slice_get sent q)) (sym combining_is)
-      (subst (λ k. IsFresh combining (items_to k q (flat_map sends_of played.changes.items)) (slice_get sent q)) all
+      (λ q below. subst (λ k. IsFresh k (items_to n q (flat_map sends_of played.changes)) (slice_get sent q)) (sym combining_is)
+      (subst (λ k. IsFresh combining (items_to k q (flat_map sends_of played.changes)) (slice_get sent q)) all
       (concluded.sends q (subst (λ k. q < k) (sym all) below))))

@@ -158,7 +158,7 @@ module _ {V M : Type 0} (value_eq : V → V → Bool) (message_eq : M → M → 
   abbrev changes : List (ℕ × Option (Record V M))
   changes = entries (λ c. c.id) left gives cs
 
-  changed : played.changes.items ≡ changes
+  changed : played.changes ≡ changes
   changed = w.is.changes_are
 
   changes_rise : ChangesRise changes
@@ -265,7 +265,7 @@ module _ {V M : Type 0} (value_eq : V → V → Bool) (message_eq : M → M → 
 
   -- where the trace goes on: one superstep further, and the old run's later ones as before
   abbrev pub next_trace : Trace V M
-  next_trace = with_replaced s played.changes.items (reaching s course.trace)
+  next_trace = with_replaced s played.changes (reaching s course.trace)
 
   reached : reaching s course.trace ≡ course.trace
   reached = ap (λ (b : Bool). cond b (with_superstep [] course.trace) course.trace) (by (length course.trace.records == s) refl)
@@ -274,17 +274,17 @@ module _ {V M : Type 0} (value_eq : V → V → Bool) (message_eq : M → M → 
       by true e = let long = w.holds.supersteps in let same = eqb-true (length course.trace.records) s e in absurd (omega (arith, long, same, w.lends.there))
       by false e = refl
 
-  records_left : with_changes played.changes.items (records_of s (reaching s course.trace)) ≡ records_in job rows n p s
+  records_left : with_changes played.changes (records_of s (reaching s course.trace)) ≡ records_in job rows n p s
   records_left = ap₂ with_changes changed (ap (records_of s) reached ∙ held_before) ∙ new_records
 
   next_holds : HoldsRun job rows n p (s + 1) next_trace
   next_holds =
-      stepped_holds job rows n p s course.trace played.changes.items w.holds.run
+      stepped_holds job rows n p s course.trace played.changes w.holds.run
       (let long = w.holds.supersteps in omega (arith, long, w.lends.there)) records_left
 
   later_records : (t : ℕ) → s + 1 ≤ t → t < run_length job old → records_of t next_trace ≡ records_in job old n p t
   later_records t low high =
-      get_or-set_other (reaching s course.trace).records s t (with_changes played.changes.items (records_of s (reaching s course.trace))) []
+      get_or-set_other (reaching s course.trace).records s t (with_changes played.changes (records_of s (reaching s course.trace))) []
       (λ e. omega (arith, low, e))
       ∙ (ap (records_of t) reached ∙ w.holds.beside.later t (omega (arith, low)) high)
 
@@ -407,8 +407,8 @@ module _ {V M : Type 0} (value_eq : V → V → Bool) (message_eq : M → M → 
       }
       → AreTold value_eq trace next_trace (s + 1) looked_at
       → length sent ≡ n
-      → ((q : ℕ) → q < n → IsMended job.combining (items_to n q (flat_map (pairs_of trace s) played.changes.items))
-      (items_to n q (flat_map sends_of played.changes.items))
+      → ((q : ℕ) → q < n → IsMended job.combining (items_to n q (flat_map (pairs_of trace s) played.changes))
+      (items_to n q (flat_map sends_of played.changes))
       (slot_at old_logs s p q) (slice_get sent q))
       → HasStepped job value_eq message_eq (Some old) rows n p s after sent before played.meter
   warm_step after sent further told to_each mended = record {
@@ -419,7 +419,7 @@ module _ {V M : Type 0} (value_eq : V → V → Bool) (message_eq : M → M → 
       place_is = refl;
       run = next_holds;
       supersteps =
-          let more = length-set (reaching s course.trace).records s (with_changes played.changes.items (records_of s (reaching s course.trace))) in
+          let more = length-set (reaching s course.trace).records s (with_changes played.changes (records_of s (reaching s course.trace))) in
           let same = ap (λ (t : Trace V M). length t.records) reached in
           let long = w.holds.supersteps in
           omega (arith, more, same, long, w.lends.there);
@@ -453,7 +453,7 @@ module _ {V M : Type 0} (value_eq : V → V → Bool) (message_eq : M → M → 
     (replayed : IsReplayed value_eq message_eq combining (record course { kept = None }) trace old_logs program logs old_view view bundles before played)
     (after : Holding V M) (sent : List (Logged M))
     (concluded : IsConcluded value_eq message_eq combining
-    (record course { kept = None }) trace old_logs played.looked_at.items played.changes.items after sent) where
+    (record course { kept = None }) trace old_logs played.looked_at.items played.changes after sent) where
   module _ (job : Job V M) (old rows : Rows) (program_is : job.program ≡ program) (combining_is : job.combining ≡ combining) where
     abbrev StepsAt : ℕ → ℕ → ℕ → Type 0
     StepsAt n p s =
@@ -482,12 +482,12 @@ module _ {V M : Type 0} (value_eq : V → V → Bool) (message_eq : M → M → 
             (sym combining_is)
             (subst (λ k. IsReplayed value_eq message_eq combining emptied k old_logs program logs old_view view bundles before played) same replayed))
 
-        ending : IsConcluded value_eq message_eq job.combining emptied holds.beside.trace old_logs played.looked_at.items played.changes.items after sent
+        ending : IsConcluded value_eq message_eq job.combining emptied holds.beside.trace old_logs played.looked_at.items played.changes after sent
         ending =
             subst
-            (λ k. IsConcluded value_eq message_eq k emptied holds.beside.trace old_logs played.looked_at.items played.changes.items after sent)
+            (λ k. IsConcluded value_eq message_eq k emptied holds.beside.trace old_logs played.looked_at.items played.changes after sent)
             (sym combining_is)
-            (subst (λ k. IsConcluded value_eq message_eq combining emptied k old_logs played.looked_at.items played.changes.items after sent) same concluded)
+            (subst (λ k. IsConcluded value_eq message_eq combining emptied k old_logs played.looked_at.items played.changes after sent) same concluded)
 
         seen : Bool
         seen = is_same_view old_view view

@@ -12,11 +12,10 @@ use pg_compute::{Differing, Played, Stage, play_alone, with_ids};
 use pg_global::MessageCombiner;
 use pg_graph::{Memory, Superstep, VertexId};
 use pg_inbox::Bundle;
-use pg_model::Record;
 use pg_program::{Computation, Plain};
 use pg_recount::Turned;
 use pg_routing::{Share, fresh_bundles};
-use pg_trace::Trace;
+use pg_trace::{Changes, Trace};
 use std::alloc::Global;
 
 /// Executes the active vertices of a course.
@@ -26,7 +25,7 @@ pub(crate) fn played<P: Computation, C: MessageCombiner<P::Message>>(
     bundles: &[Bundle<P::Message>],
     program: &P,
     combiner: &C,
-    stage: Stage,
+    stage: Stage<P::Message>,
 ) -> Result<Played<P::Value, P::Message>, Memory>
     requires shown { ShowsDeclared (P.program program.now).declared stage.view }
     requires fits { stage.meter < 2 ^ 64 }
@@ -36,7 +35,7 @@ pub(crate) fn played<P: Computation, C: MessageCombiner<P::Message>>(
         bundles.now None (awake_ids course.now.place course.now.trace) true false stage.meter played) }
     ensures some { IfOk result (λ _. 0 < course.now.partitions) }
     ensures turned { IfOk result (λ played. IfSome played.turned
-        (IsTurned course.now.place course.now.trace played.looked_at.items played.changes.items)) }
+        (IsTurned course.now.place course.now.trace played.looked_at.items played.changes)) }
 {
     // Tells the prover that there is a partition.
     course.partitions.partitions();
@@ -64,11 +63,11 @@ pub(crate) fn concluded_alone<V: Plain, M: Plain, C: MessageCombiner<M>>(
     played: Played<V, M>,
     combiner: &C,
 ) -> Result<Stepped<V, M>, Memory>
-    requires rise { ChangesRise played.changes.items }
+    requires rise { ChangesRise played.changes }
     requires counts { course.place + 1 < 2 ^ 32 }
-    requires turned { IfSome played.turned (IsTurned course.place course.trace played.looked_at.items played.changes.items) }
+    requires turned { IfSome played.turned (IsTurned course.place course.trace played.looked_at.items played.changes) }
     ensures concluded { IfOk result (λ stepped.
-        IsConcludedAlone course played.looked_at.items played.changes.items (C.combining combiner.now) stepped.course stepped.sent) }
+        IsConcludedAlone course played.looked_at.items played.changes (C.combining combiner.now) stepped.course stepped.sent) }
     ensures counted { IfOk result (λ stepped. stepped.meter ≡ played.meter) }
 {
     let Played {
@@ -77,7 +76,7 @@ pub(crate) fn concluded_alone<V: Plain, M: Plain, C: MessageCombiner<M>>(
         meter,
         turned,
     } = played;
-    let sent = fresh_bundles(alloc, course.partitions(), changes.as_slice(), combiner)?;
+    let sent = fresh_bundles(alloc, course.partitions(), &changes, combiner)?;
     let course = past(alloc, course, looked_at, changes, turned)?;
     Ok(Stepped {
         course,
@@ -92,13 +91,13 @@ fn past<V: Plain, M: Plain>(
     alloc: Global,
     course: Course<V, M>,
     looked_at: Vec<VertexId>,
-    changes: Vec<(VertexId, Option<Record<V, M>>)>,
+    changes: Changes<V, M>,
     turned: Option<Turned>,
 ) -> Result<Course<V, M>, Memory>
-    requires rise { ChangesRise changes.items }
+    requires rise { ChangesRise changes }
     requires counts { course.place + 1 < 2 ^ 32 }
-    requires turned { IfSome turned (IsTurned course.place course.trace looked_at.items changes.items) }
-    ensures { IfOk result (λ after. after ≡ past course looked_at.items changes.items) }
+    requires turned { IfSome turned (IsTurned course.place course.trace looked_at.items changes) }
+    ensures { IfOk result (λ after. after ≡ past course looked_at.items changes) }
 {
     let Course {
         partition,

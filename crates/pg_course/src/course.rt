@@ -24,11 +24,11 @@ use pg_compute::{Differing, Stage, copied, rising, with_ids};
 use pg_global::{MessageCombiner, Visible, view_of};
 use pg_graph::{Memory, Missing, PartitionId, Superstep, VertexId};
 use pg_inbox::{Bundle, Logs};
-use pg_model::{Record, VertexState, View};
+use pg_model::{VertexState, View};
 use pg_program::{Computation, Meter, Plain};
 use pg_recount::Turned;
 use pg_routing::{Partitioner, Rows, Sent, Share, bundles_before, first_changes};
-use pg_trace::Trace;
+use pg_trace::{Changes, Trace};
 use std::alloc::Global;
 use std::marker::Model;
 
@@ -87,7 +87,7 @@ pub(crate) struct Stepped<V, M: Plain> {
 /// What a step reads: what its executions share, what the old run saw where that is lent, and the bundles that it receives.
 #[derive(Drop)]
 struct Lent<M: Plain> {
-    stage: Stage,
+    stage: Stage<M>,
     old_view: Option<View>,
     bundles: Vec<Bundle<M>>,
 }
@@ -446,7 +446,7 @@ impl<V: Plain, M: Plain> Course<V, M> {
         old_view: &View,
         program: &P,
         combiner: &C,
-        stage: Stage,
+        stage: Stage<M>,
     ) -> Result<Stepped<V, M>, Memory>
         requires shown { ShowsDeclared (P.program program.now).declared stage.view }
         requires fits { stage.meter < 2 ^ 64 }
@@ -482,7 +482,7 @@ impl<V: Plain, M: Plain> Course<V, M> {
         bundles: &[Bundle<M>],
         program: &P,
         combiner: &C,
-        stage: Stage,
+        stage: Stage<M>,
     ) -> Result<Stepped<V, M>, Memory>
         requires shown { ShowsDeclared (P.program program.now).declared stage.view }
         requires fits { stage.meter < 2 ^ 64 }
@@ -524,12 +524,12 @@ pub(crate) fn with_records<V: Plain, M: Plain>(
     alloc: Global,
     trace: Trace<V, M>,
     superstep: Superstep,
-    changes: Vec<(VertexId, Option<Record<V, M>>)>,
+    changes: Changes<V, M>,
 ) -> Result<Trace<V, M>, Memory>
-    requires rise { ChangesRise changes.items }
+    requires rise { ChangesRise changes }
     requires within { superstep ≤ length trace.records }
     ensures { IfOk result
-        (λ after. after ≡ with_replaced superstep changes.items (reaching superstep trace)) }
+        (λ after. after ≡ with_replaced superstep changes (reaching superstep trace)) }
 {
     trace.recorded(alloc, superstep, changes)
 }

@@ -12,10 +12,10 @@ use pg_compute::{Played, Stage, differing_after, is_same_view, looked_at, play_b
 use pg_global::MessageCombiner;
 use pg_graph::{Memory, Superstep, VertexId};
 use pg_inbox::{Bundle, Logs, tell_alike};
-use pg_model::{Record, View};
+use pg_model::View;
 use pg_program::{Computation, Plain};
 use pg_routing::{Sent, Share, bundles_before, mended_bundles};
-use pg_trace::Trace;
+use pg_trace::{Changes, Trace};
 use std::alloc::Global;
 
 /// Looks at the vertices that may read something else than in the old run, and executes those that do.
@@ -29,7 +29,7 @@ pub(crate) fn replayed<P: Computation, C: MessageCombiner<P::Message>>(
     old_view: &View,
     program: &P,
     combiner: &C,
-    stage: Stage,
+    stage: Stage<P::Message>,
 ) -> Result<Played<P::Value, P::Message>, Memory>
     requires shown { ShowsDeclared (P.program program.now).declared stage.view }
     requires fits { stage.meter < 2 ^ 64 }
@@ -91,12 +91,12 @@ pub(crate) fn concluded<V: Plain, M: Plain, C: MessageCombiner<M>>(
     old_logs: &Logs<M>,
     combiner: &C,
 ) -> Result<Stepped<V, M>, Memory>
-    requires rise { ChangesRise played.changes.items }
+    requires rise { ChangesRise played.changes }
     requires looked_at_rise { IsStrictlySortedBy nat_cmp played.looked_at.items }
     requires counts { course.place + 1 < 2 ^ 32 }
     ensures concluded { IfOk result (λ stepped.
         IsConcluded V.PartialEq.eq M.PartialEq.eq (C.combining combiner.now) course old old_logs.now
-        played.looked_at.items played.changes.items stepped.course stepped.sent) }
+        played.looked_at.items played.changes stepped.course stepped.sent) }
     ensures counted { IfOk result (λ stepped. stepped.meter ≡ played.meter) }
 {
     let Played {
@@ -105,7 +105,7 @@ pub(crate) fn concluded<V: Plain, M: Plain, C: MessageCombiner<M>>(
         meter,
         turned: _,
     } = played;
-    let sent = mended(alloc, &course, &old, changes.as_slice(), old_logs, combiner)?;
+    let sent = mended(alloc, &course, &old, &changes, old_logs, combiner)?;
     let course = further(alloc, course, old, looked_at, changes)?;
     Ok(Stepped {
         course,
@@ -119,7 +119,7 @@ fn mended<V: Plain, M: Plain, C: MessageCombiner<M>>(
     alloc: Global,
     course: &Course<V, M>,
     old: &Trace<V, M>,
-    changes: &[(VertexId, Option<Record<V, M>>)],
+    changes: &Changes<V, M>,
     old_logs: &Logs<M>,
     combiner: &C,
 ) -> Result<Sent<M>, Memory>
@@ -143,13 +143,13 @@ fn further<V: Plain, M: Plain>(
     course: Course<V, M>,
     old: Trace<V, M>,
     looked_at: Vec<VertexId>,
-    changes: Vec<(VertexId, Option<Record<V, M>>)>,
+    changes: Changes<V, M>,
 ) -> Result<Course<V, M>, Memory>
-    requires rise { ChangesRise changes.items }
+    requires rise { ChangesRise changes }
     requires looked_at_rise { IsStrictlySortedBy nat_cmp looked_at.items }
     requires counts { course.place + 1 < 2 ^ 32 }
-    ensures further { IfOk result (λ after. after ≡ further V.PartialEq.eq course old looked_at.items changes.items) }
-    ensures told { IfOk result (λ _. AreCompared V.PartialEq.eq course old looked_at.items changes.items) }
+    ensures further { IfOk result (λ after. after ≡ further V.PartialEq.eq course old looked_at.items changes) }
+    ensures told { IfOk result (λ _. AreCompared V.PartialEq.eq course old looked_at.items changes) }
 {
     let Course {
         partition,

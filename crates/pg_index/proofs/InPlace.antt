@@ -1,7 +1,7 @@
 -- Notes that are made in place, one after another, and records that are put in the superstep that comes next.
 use Rattle.std.proofs.Common.{◌≡◌, ℕ, suc, ◌+◌, ◌-◌, ◌<◌, ◌≤◌, ◌==◌, ◌≢◌, ◌⊎◌, inl, inr, true, false}
-use Rattle.std.proofs.Common.{cond, List, [], ◌∷◌, ◌++◌, length, get_or, set, take, drop, Option, None, Some}
-use Rattle.std.proofs.Common.{unwrap_or, option_map, refl, sym, ap, ◌∙◌, subst, ⊎_elim, append_assoc, arith, ltb, eq-eqb}
+use Rattle.std.proofs.Common.{cond, List, [], ◌∷◌, ◌++◌, length, get_or, set, take, drop, Option, None, Some, is_some}
+use Rattle.std.proofs.Common.{unwrap_or, refl, sym, ap, ◌∙◌, subst, ⊎_elim, append_assoc, arith, ltb, eq-eqb}
 use Rattle.std.specs.BTreeMap.{insert_entry, is_at}
 use Rattle.std.specs.List.{AllByRecursion, filter}
 use Rattle.std.specs.List.Sorted.{IsNonDecreasingBy}
@@ -16,9 +16,9 @@ use Rattle.std.proofs.lemmas.Map.Keys.{sorted_head, sorted_tail}
 use Rattle.pg_map.specs.Entries.{ChangesRise, HasRisingIds, value_at, with_changes}
 use Rattle.pg_map.proofs.Changing.{value_at-with_changes}
 use Rattle.pg_map.proofs.Rising.{at_other, at_same, find-insert_other, find-insert_same, insert_entry-take}
-use Rattle.pg_index.specs.Ran.{IsIndex, IsNoted, IsNotedOf, Ran, last_of, noted, ran_by, with_ran}
+use Rattle.pg_index.specs.Ran.{IsIndex, IsNoted, IsNotedOf, last_of, steps_in, steps_noted, with_ran}
 use Rattle.pg_index.specs.Records.{put_at}
-use Rattle.pg_index.proofs.Noting.{index-next, index-set}
+use Rattle.pg_index.proofs.Noting.{TellsAlike, index-next, index-set}
 use Rattle.pg_index.proofs.Somes.{nothing_rises}
 use Rattle.pg_index.proofs.Supersteps.{last_of_all, lower, not_lower}
 
@@ -53,38 +53,10 @@ pub last_of_below : (s t : ℕ) (steps : List ℕ) → ((k : ℕ) → k < length
     → Some t ≡ last_of (filter (λ t. ltb t s) steps)
 last_of_below s t steps low last = last ∙ sym (ap last_of (all_below s steps low).0)
 
-ran_last : (s : ℕ) (steps : List ℕ) → ((k : ℕ) → k < length steps → get_or steps k 0 < s) → with_ran s true steps ≡ steps ++ s ∷ []
+pub ran_last : (s : ℕ) (steps : List ℕ) → ((k : ℕ) → k < length steps → get_or steps k 0 < s) → with_ran s true steps ≡ steps ++ s ∷ []
 ran_last s steps low =
     let below = all_below s steps low in
     ap (λ l. l ++ s ∷ [] ++ filter (λ t. ltb s t) steps) below.0 ∙ ap (λ l. steps ++ s ∷ [] ++ l) below.1 ∙ append-nil (steps ++ s ∷ [])
-
-module _ {X : Type 0} where
-  abbrev ran_at : List ℕ → (ℕ → Option X) → Option ℕ → Option (Ran X)
-  ran_at steps f None = None
-  ran_at steps f (Some t) = option_map {U = Ran X} (λ last. record { steps = steps; last = last }) (f t)
-
-  -- what is made of the record of the last superstep, if there is one
-  pub ran_found : (id : ℕ) (records : List (List (ℕ × X))) (s : ℕ) (given : Option X) (steps : List ℕ) (t : ℕ) {kept : Option X}
-      → Some t ≡ last_of steps → kept ≡ cond (t == s) given (value_at id (get_or records t []))
-      → option_map {U = Ran X} (λ last. record { steps = steps; last = last }) kept ≡ ran_by id records s given steps
-  ran_found id records s given steps t last is =
-      ap (option_map {U = Ran X} (λ last. record { steps = steps; last = last })) is
-      ∙ ap (ran_at steps (λ t. cond (t == s) given (value_at id (get_or records t [])))) last
-
-  noted_last : (id : ℕ) (records : List (List (ℕ × X))) (s : ℕ) (x : X) (ran : Ran X) → ((k : ℕ) → k < length ran.steps → get_or ran.steps k 0 < s)
-      → noted id records s (Some (Some x)) (Some ran) ≡ Some (record { steps = ran.steps ++ s ∷ []; last = x })
-  noted_last id records s x ran low =
-      let all = ran.steps ++ s ∷ [] in
-      ap (ran_by id records s (Some x)) (ran_last s ran.steps low)
-      ∙ ap (ran_at all (λ t. cond (t == s) (Some x) (value_at id (get_or records t [])))) (last_of-push ran.steps s)
-      ∙ ap (λ b. option_map {U = Ran X} (λ last. record { steps = all; last = last }) (cond b (Some x) (value_at id (get_or records s []))))
-      (eq-eqb s s refl)
-
-  pub noted_pushed : (id : ℕ) (records : List (List (ℕ × X))) (s : ℕ) (x y : X) (ran ran' : Ran X) → ((k : ℕ) → k < length ran.steps → get_or ran.steps k 0 < s)
-      → ran' ≡ record { steps = ran.steps ++ s ∷ []; last = y } → y ≡ x → Some ran' ≡ noted id records s (Some (Some x)) (Some ran)
-  noted_pushed id records s x y ran ran' low pushed same =
-      let with_last : X → Ran X = λ k. record { steps = ran.steps ++ s ∷ []; last = k } in
-      ap Some (pushed ∙ ap with_last same) ∙ sym (noted_last id records s x ran low)
 
 -- ---- one note after another
 
@@ -109,38 +81,38 @@ module _ {Y : Type 0} where
       let whole : (take i es ++ e ∷ []) ++ drop (i + 1) es ≡ es = ap (λ l. l ++ drop (i + 1) es) (sym more) ∙ take-append-drop (i + 1) es in
       none_before (take i es) e (drop (i + 1) es) (subst (λ l. HasRisingIds l) (sym whole ∙ append_assoc (take i es) (e ∷ []) (drop (i + 1) es)) rising)
 
-module _ {X : Type 0} (records : List (List (ℕ × X))) (s : ℕ) (given : List (ℕ × Option X)) (i : ℕ) (e : ℕ × Option X) (ran now : List (ℕ × Ran X))
-    (rise : ChangesRise given) (within : i < length given) (here : e ≡ get_or given i e) (notes : IsNoted records s (take i given) ran now) where
-  -- of the next id nothing was noted so far
-  pub unsaid : value_at e.0 now ≡ value_at e.0 ran
-  unsaid = notes e.0 ∙ ap (λ o. noted e.0 records s o (value_at e.0 ran)) (none_at given i e rise within here)
+-- what an index has of an id after a note of another, or of itself
+abbrev noted_at : {Y : Type 0} → ℕ → ℕ × Option Y → List (ℕ × List ℕ) → ℕ → List ℕ
+noted_at s e now k = cond (is_at (nat_cmp e.0) k) (with_ran s (is_some e.1) (steps_in (value_at e.0 now))) (steps_in (value_at k now))
 
-  pub noted_more : (next : List (ℕ × Ran X)) → IsNotedOf e.0 records s e.1 now next → IsNoted records s (take (i + 1) given) ran next
+module _ {Y : Type 0} (s : ℕ) (given : List (ℕ × Option Y)) (i : ℕ) (e : ℕ × Option Y) (ran now : List (ℕ × List ℕ))
+    (rise : ChangesRise given) (within : i < length given) (here : e ≡ get_or given i e) (notes : IsNoted s (take i given) ran now) where
+  -- of the next id nothing was noted so far
+  pub unsaid : steps_in (value_at e.0 now) ≡ steps_in (value_at e.0 ran)
+  unsaid = notes e.0 ∙ ap (λ o. steps_noted s o (steps_in (value_at e.0 ran))) (none_at given i e rise within here)
+
+  pub noted_more : (next : List (ℕ × List ℕ)) → IsNotedOf e.0 s (is_some e.1) now next → IsNoted s (take (i + 1) given) ran next
   noted_more next more q = more q ∙ ⊎_elim same other (cases_eq q e.0)
     where
       put : insert_entry nat_cmp (take i given) e.0 e.1 ≡ take (i + 1) given
       put = insert_entry-take given i e rise within here
 
-      after : Option (Ran X)
-      after = noted e.0 records s (Some e.1) (value_at e.0 now)
-
       told : value_at e.0 (take (i + 1) given) ≡ Some e.1
       told = ap (value_at e.0) (sym put) ∙ find-insert_same (take i given) e.0 e.1
 
-      at_itself : cond (is_at (nat_cmp e.0) e.0) after (value_at e.0 now) ≡ noted e.0 records s (value_at e.0 (take (i + 1) given)) (value_at e.0 ran)
+      at_itself : noted_at s e now e.0 ≡ steps_noted s (value_at e.0 (take (i + 1) given)) (steps_in (value_at e.0 ran))
       at_itself =
-          ap (λ b. cond b after (value_at e.0 now)) (at_same e.0) ∙ ap (noted e.0 records s (Some e.1)) unsaid
-          ∙ sym (ap (λ o. noted e.0 records s o (value_at e.0 ran)) told)
+          ap (λ b. cond b (with_ran s (is_some e.1) (steps_in (value_at e.0 now))) (steps_in (value_at e.0 now))) (at_same e.0)
+          ∙ ap (with_ran s (is_some e.1)) unsaid ∙ sym (ap (λ o. steps_noted s o (steps_in (value_at e.0 ran))) told)
 
-      same : q ≡ e.0 → cond (is_at (nat_cmp e.0) q) after (value_at q now) ≡ noted q records s (value_at q (take (i + 1) given)) (value_at q ran)
-      same is =
-          subst (λ k. cond (is_at (nat_cmp e.0) k) after (value_at k now) ≡ noted k records s (value_at k (take (i + 1) given)) (value_at k ran))
-          (sym is) at_itself
+      same : q ≡ e.0 → noted_at s e now q ≡ steps_noted s (value_at q (take (i + 1) given)) (steps_in (value_at q ran))
+      same is = subst (λ k. noted_at s e now k ≡ steps_noted s (value_at k (take (i + 1) given)) (steps_in (value_at k ran))) (sym is) at_itself
 
-      other : (q ≡ e.0 → ⊥) → cond (is_at (nat_cmp e.0) q) after (value_at q now) ≡ noted q records s (value_at q (take (i + 1) given)) (value_at q ran)
+      other : (q ≡ e.0 → ⊥) → noted_at s e now q ≡ steps_noted s (value_at q (take (i + 1) given)) (steps_in (value_at q ran))
       other apart =
-          ap (λ b. cond b after (value_at q now)) (at_other e.0 q (λ is. apart (sym is))) ∙ notes q
-          ∙ ap (λ o. noted q records s o (value_at q ran)) (sym (ap (value_at q) (sym put) ∙ find-insert_other (take i given) e.0 e.1 q apart))
+          ap (λ b. cond b (with_ran s (is_some e.1) (steps_in (value_at e.0 now))) (steps_in (value_at q now))) (at_other e.0 q (λ is. apart (sym is)))
+          ∙ notes q
+          ∙ ap (λ o. steps_noted s o (steps_in (value_at q ran))) (sym (ap (value_at q) (sym put) ∙ find-insert_other (take i given) e.0 e.1 q apart))
 
 -- ---- the records of a superstep that a run has or that comes next
 
@@ -173,17 +145,19 @@ module _ {X : Type 0} where
       by (inl same) = let e = same.1 in absurd (omega (arith, within, e))
       by (inr other) = ap (λ b. put_in n given (cond b (rs ++ [] ∷ []) rs)) other.0
 
-  pub index-put : (rs : List (List (ℕ × X))) (n : ℕ) (given : List (ℕ × Option X)) (ran ran' : List (ℕ × Ran X)) → n ≤ length rs → ChangesRise given
-      → HasRisingIds (get_or rs n []) → IsIndex rs ran → IsNoted rs n given ran ran' → IsIndex (put_at n given rs) ran'
-  index-put rs n given ran ran' within rise rising index notes = by (eqb_tells n (length rs))
+module _ {X Y : Type 0} where
+  pub index-put : (rs : List (List (ℕ × X))) (n : ℕ) (given : List (ℕ × Option Y)) (changes : List (ℕ × Option X)) (ran ran' : List (ℕ × List ℕ))
+      → n ≤ length rs → ChangesRise changes → HasRisingIds (get_or rs n []) → TellsAlike given changes
+      → IsIndex rs ran → IsNoted n given ran ran' → IsIndex (put_at n changes rs) ran'
+  index-put rs n given changes ran ran' within rise rising alike index notes = by (eqb_tells n (length rs))
     where
-      by : ((n == length rs) ≡ true) × (n ≡ length rs) ⊎ ((n == length rs) ≡ false) × (n ≢ length rs) → IsIndex (put_at n given rs) ran'
+      by : ((n == length rs) ≡ true) × (n ≡ length rs) ⊎ ((n == length rs) ≡ false) × (n ≢ length rs) → IsIndex (put_at n changes rs) ran'
       by (inl same) =
-          subst (λ l. IsIndex l ran') (sym (put-next rs n given same.1))
-          (index-next rs (with_changes given []) given ran ran' index (λ id. value_at-with_changes given [] id rise (nothing_rises X))
-          (subst (λ k. IsNoted rs k given ran ran') same.1 notes))
+          subst (λ l. IsIndex l ran') (sym (put-next rs n changes same.1))
+          (index-next rs (with_changes changes []) given changes ran ran' alike (λ id. value_at-with_changes changes [] id rise (nothing_rises X)) index
+          (subst (λ k. IsNoted k given ran ran') same.1 notes))
       by (inr other) =
           let low : n < length rs = let e = other.1 in omega (arith, within, e) in
-          subst (λ l. IsIndex l ran') (sym (put-there rs n given low))
-          (index-set rs n (get_or rs n []) (with_changes given (get_or rs n [])) given ran ran' low
-          (sym (get_or_default rs n (get_or rs n []) [] low)) rising rise refl index notes)
+          subst (λ l. IsIndex l ran') (sym (put-there rs n changes low))
+          (index-set rs n (get_or rs n []) (with_changes changes (get_or rs n [])) given changes ran ran' low
+          (sym (get_or_default rs n (get_or rs n []) [] low)) rising rise alike refl index notes)

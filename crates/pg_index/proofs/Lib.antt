@@ -5,5 +5,6 @@ pub mod Keeping
 pub mod Last
 pub mod Noting
 pub mod Over
+pub mod Runs
 pub mod Somes
 pub mod Supersteps

@@ -6,14 +6,14 @@ use Rattle.std.proofs.lemmas.Bool.{cases_eq}
 use Rattle.pg_map.specs.Entries.{ChangesRise, HasRisingIds, value_at, with_changes}
 use Rattle.pg_map.proofs.Changing.{value_at-with_changes}
 use Rattle.pg_map.proofs.Rising.{at_other, at_same, find-insert_other, find-insert_same, rises-insert}
-use Rattle.pg_index.specs.Ran.{IsNotedOf, Ran, noted}
+use Rattle.pg_index.specs.Ran.{IsNotedOf, steps_in, with_ran}
 
-module _ {X : Type 0} (base : List (ℕ × Ran X)) (notes : List (ℕ × Option (Ran X))) (rising : HasRisingIds base) (rise : ChangesRise notes) where
+module _ (base : List (ℕ × List ℕ)) (notes : List (ℕ × Option (List ℕ))) (rising : HasRisingIds base) (rise : ChangesRise notes) where
   -- a note is what there is of its id, and else what the map has
-  pub over : (id : ℕ) (o : Option (Option (Ran X))) → value_at id notes ≡ o → value_at id (with_changes notes base) ≡ unwrap_or o (value_at id base)
+  pub over : (id : ℕ) (o : Option (Option (List ℕ))) → value_at id notes ≡ o → value_at id (with_changes notes base) ≡ unwrap_or o (value_at id base)
   over id o is = value_at-with_changes notes base id rise rising ∙ ap (λ n. unwrap_or n (value_at id base)) is
 
-  put : (id q : ℕ) (steps : Option (Ran X))
+  put : (id q : ℕ) (steps : Option (List ℕ))
       → value_at q (insert_entry nat_cmp notes id steps) ≡ cond (is_at (nat_cmp id) q) (Some steps) (value_at q notes)
   put id q steps =
       ⊎_elim
@@ -24,15 +24,16 @@ module _ {X : Type 0} (base : List (ℕ × Ran X)) (notes : List (ℕ × Option 
       (cases_eq q id)
 
   -- a note more, or another in its place
-  pub noted_over : (notes' : List (ℕ × Option (Ran X))) (id : ℕ) (records : List (List (ℕ × X))) (s : ℕ) (given : Option X) (before steps : Option (Ran X))
-      → notes' ≡ insert_entry nat_cmp notes id steps
-      → value_at id (with_changes notes base) ≡ before → steps ≡ noted id records s (Some given) before
-      → IsNotedOf id records s given (with_changes notes base) (with_changes notes' base)
-  noted_over notes' id records s given before steps now was is q =
-      value_at-with_changes notes' base q (subst ChangesRise (sym now) (rises-insert notes id steps rise)) rising
-      ∙ ap (λ l. unwrap_or (value_at q l) (value_at q base)) now ∙ ap (λ o. unwrap_or o (value_at q base)) (put id q steps) ∙ by (is_at (nat_cmp id) q)
+  pub noted_over : (notes' : List (ℕ × Option (List ℕ))) (id s : ℕ) (runs : Bool) (before steps : Option (List ℕ))
+      → notes' ≡ insert_entry nat_cmp notes id steps → value_at id (with_changes notes base) ≡ before → steps_in steps ≡ with_ran s runs (steps_in before)
+      → IsNotedOf id s runs (with_changes notes base) (with_changes notes' base)
+  noted_over notes' id s runs before steps now was is q =
+      ap steps_in
+      (value_at-with_changes notes' base q (subst ChangesRise (sym now) (rises-insert notes id steps rise)) rising
+      ∙ ap (λ l. unwrap_or (value_at q l) (value_at q base)) now ∙ ap (λ o. unwrap_or o (value_at q base)) (put id q steps))
+      ∙ by (is_at (nat_cmp id) q)
     where
-      by : (b : Bool) → unwrap_or (cond b (Some steps) (value_at q notes)) (value_at q base)
-          ≡ cond b (noted id records s (Some given) (value_at id (with_changes notes base))) (value_at q (with_changes notes base))
-      by true = is ∙ ap (noted id records s (Some given)) (sym was)
-      by false = sym (over q (value_at q notes) refl)
+      by : (b : Bool) → steps_in (unwrap_or (cond b (Some steps) (value_at q notes)) (value_at q base))
+          ≡ cond b (with_ran s runs (steps_in (value_at id (with_changes notes base)))) (steps_in (value_at q (with_changes notes base)))
+      by true = is ∙ ap (λ o. with_ran s runs (steps_in o)) (sym was)
+      by false = ap steps_in (sym (over q (value_at q notes) refl))

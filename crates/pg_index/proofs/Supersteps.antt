@@ -1,14 +1,13 @@
--- What an index says of an id as supersteps come, go and change, and how it finds the last record.
+-- In which supersteps an id ran, as supersteps come, go and change, and where its last record stands.
 use Rattle.std.proofs.Common.{◌≡◌, ℕ, zero, suc, ◌+◌, ◌<◌, ◌≤◌, ◌-◌, ◌==◌, Bool, true, false, cond, List, [], ◌∷◌, ◌++◌, length, get_or}
 use Rattle.std.proofs.Common.{set, take, Option, None, Some, is_some, unwrap_or, refl, sym, ap, ◌∙◌, arith, ltb, true≢false}
 use Rattle.std.specs.List.{filter}
-use Rattle.std.specs.List.Sorted.{IsNonDecreasingBy, IsPartitionPoint}
-use Rattle.std.specs.Option.{option_and_then, option_eq, option_or}
-use Rattle.std.proofs.lemmas.Bool.{ltb-true, ltb-false}
+use Rattle.std.specs.List.Sorted.{IsNonDecreasingBy}
+use Rattle.std.specs.Option.{option_and_then, option_or}
 use Rattle.std.proofs.lemmas.Bool.Decides.{nat_tests}
 use Rattle.std.proofs.lemmas.List.{get_or-take, length-take}
 use Rattle.pg_map.specs.Entries.{value_at}
-use Rattle.pg_index.specs.Ran.{last_of, ran_from, steps_above, steps_below, with_ran}
+use Rattle.pg_index.specs.Ran.{last_of, ran_from, steps_above, steps_below, steps_noted, with_ran}
 use Rattle.pg_index.specs.Records.{last_record}
 
 pub lower : (a b : ℕ) → a < b → ltb a b ≡ true
@@ -21,25 +20,24 @@ not_lower a b h = grind (arith, nat_tests)
 abbrev begun_by : Bool → ℕ → List ℕ → List ℕ
 begun_by t b steps = cond t (b ∷ steps) steps
 
--- rising supersteps, where something is said of s or nothing
-abbrev pub steps_noted : ℕ → Option Bool → List ℕ → List ℕ
-steps_noted s None steps = steps
-steps_noted s (Some runs) steps = with_ran s runs steps
-
 -- what is noted of an id agrees with whether it ran before and runs now
-abbrev pub Agrees : Option Bool → Bool → Bool → Type 0
+abbrev pub Agrees : {Y : Type 0} → Option (Option Y) → Bool → Bool → Type 0
 Agrees None old new = new ≡ old
-Agrees (Some runs) old new = new ≡ runs
+Agrees (Some given) old new = new ≡ is_some given
 
 -- ---- one superstep noted
 
 -- below the superstep that is noted nothing changes
-under : (b s : ℕ) (o : Option Bool) (t : Bool) (steps : List ℕ) → b < s → begun_by t b (steps_noted s o steps) ≡ steps_noted s o (begun_by t b steps)
-under b s None t steps h = refl
-under b s (Some runs) false steps h = refl
-under b s (Some runs) true steps h =
+ran_under : (b s : ℕ) (runs t : Bool) (steps : List ℕ) → b < s → begun_by t b (with_ran s runs steps) ≡ with_ran s runs (begun_by t b steps)
+ran_under b s runs false steps h = refl
+ran_under b s runs true steps h =
     sym (ap (λ c. begun_by c b (steps_below s steps) ++ cond runs (s ∷ []) [] ++ begun_by (ltb s b) b (steps_above s steps)) (lower b s h)
     ∙ ap (λ c. (b ∷ steps_below s steps) ++ cond runs (s ∷ []) [] ++ begun_by c b (steps_above s steps)) (not_lower s b (omega arith)))
+
+under : {Y : Type 0} (b s : ℕ) (o : Option (Option Y)) (t : Bool) (steps : List ℕ) → b < s
+    → begun_by t b (steps_noted s o steps) ≡ steps_noted s o (begun_by t b steps)
+under b s None t steps h = refl
+under b s (Some given) t steps h = ran_under b s (is_some given) t steps h
 
 module _ {X : Type 0} (id : ℕ) where
   below_none : (b s : ℕ) (rs : List (List (ℕ × X))) → s ≤ b → filter (λ t. ltb t s) (ran_from id b rs) ≡ []
@@ -86,13 +84,14 @@ module _ {X : Type 0} (id : ℕ) where
       put true = refl
       put false = refl
 
-  first_noted : (b : ℕ) (o : Option Bool) (old new : Bool) (rs : List (List (ℕ × X))) → Agrees o old new
+module _ {X Y : Type 0} (id : ℕ) where
+  first_noted : (b : ℕ) (o : Option (Option Y)) (old new : Bool) (rs : List (List (ℕ × X))) → Agrees o old new
       → begun_by new b (ran_from id (b + 1) rs) ≡ steps_noted b o (begun_by old b (ran_from id (b + 1) rs))
   first_noted b None old new rs fits = ap (λ t. begun_by t b (ran_from id (b + 1) rs)) fits
-  first_noted b (Some runs) old new rs fits = ap (λ t. begun_by t b (ran_from id (b + 1) rs)) fits ∙ sym (here b runs old rs)
+  first_noted b (Some given) old new rs fits = ap (λ t. begun_by t b (ran_from id (b + 1) rs)) fits ∙ sym (here id b (is_some given) old rs)
 
   -- a superstep whose records change
-  pub ran-set : (b k : ℕ) (rs : List (List (ℕ × X))) (xs : List (ℕ × X)) (o : Option Bool) → k < length rs
+  pub ran-set : (b k : ℕ) (rs : List (List (ℕ × X))) (xs : List (ℕ × X)) (o : Option (Option Y)) → k < length rs
       → Agrees o (is_some (value_at id (get_or rs k []))) (is_some (value_at id xs)) → ran_from id b (set rs k xs) ≡ steps_noted (b + k) o (ran_from id b rs)
   ran-set b k [] xs o h fits = absurd (omega arith)
   ran-set b zero (r ∷ rs) xs o h fits =
@@ -105,7 +104,7 @@ module _ {X : Type 0} (id : ℕ) where
       ∙ under b (b + suc k) o t (ran_from id (b + 1) rs) (omega arith)
 
   -- a superstep more
-  pub ran-push : (b : ℕ) (rs : List (List (ℕ × X))) (xs : List (ℕ × X)) (o : Option Bool) → Agrees o false (is_some (value_at id xs))
+  pub ran-push : (b : ℕ) (rs : List (List (ℕ × X))) (xs : List (ℕ × X)) (o : Option (Option Y)) → Agrees o false (is_some (value_at id xs))
       → ran_from id b (rs ++ xs ∷ []) ≡ steps_noted (b + length rs) o (ran_from id b rs)
   ran-push b [] xs o fits =
       let at : b ≡ b + 0 = omega arith in
@@ -117,7 +116,7 @@ module _ {X : Type 0} (id : ℕ) where
       ∙ under b (b + length (r ∷ rs)) o t (ran_from id (b + 1) rs) (omega arith)
 
   -- the last superstep less
-  pub ran-less : (b n : ℕ) (rs : List (List (ℕ × X))) (o : Option Bool) → n < length rs
+  pub ran-less : (b n : ℕ) (rs : List (List (ℕ × X))) (o : Option (Option Y)) → n < length rs
       → Agrees o (is_some (value_at id (get_or rs n []))) false → ran_from id b (take n rs) ≡ steps_noted (b + n) o (ran_from id b (take (n + 1) rs))
   ran-less b n [] o h fits = absurd (omega arith)
   ran-less b zero (r ∷ rs) o h fits =
@@ -131,10 +130,11 @@ module _ {X : Type 0} (id : ℕ) where
       ∙ under b (b + suc n) o t (ran_from id (b + 1) (take (n + 1) rs)) (omega arith)
       ∙ sym (ap (λ m. steps_noted (b + suc n) o (ran_from id b (take m (r ∷ rs)))) all)
 
-  -- ---- the last record
+-- ---- the last record
 
+module _ {X : Type 0} (id : ℕ) where
   ran-take : (b n : ℕ) (rs : List (List (ℕ × X))) → ran_from id b (take n rs) ≡ filter (λ t. ltb t (b + n)) (ran_from id b rs)
-  ran-take b zero rs = sym (below_none b (b + 0) rs (omega arith))
+  ran-take b zero rs = sym (below_none id b (b + 0) rs (omega arith))
   ran-take b (suc n) [] = refl
   ran-take b (suc n) (r ∷ rs) = by (is_some (value_at id r)) (ran-take (b + 1) n rs)
     where
@@ -175,12 +175,6 @@ module _ {X : Type 0} (id : ℕ) where
       joined (ran_from id (b + 1) rs) (last_record id rs) (value_at id r) (λ t. value_at id (at t)) b later.0 later.1
       (ap (value_at id) (ap at first ∙ h 0 (omega arith)))
 
-  -- the last record is that of the last superstep in which the id ran
-  pub last_record_is : (rs : List (List (ℕ × X)))
-      → (last_record id rs ≡ option_and_then (λ t. value_at id (get_or rs t [])) (last_of (ran_from id 0 rs)))
-      × (is_some (last_record id rs) ≡ is_some (last_of (ran_from id 0 rs)))
-  last_record_is rs = last_ran 0 (λ t. get_or rs t []) rs (λ k w. let at : 0 + k ≡ k = omega arith in ap (λ t. get_or rs t []) at)
-
   -- the last record before a superstep is that of the last superstep before it in which the id ran
   pub last_before : (rs : List (List (ℕ × X))) (s : ℕ)
       → last_record id (take s rs) ≡ option_and_then (λ t. value_at id (get_or rs t [])) (last_of (filter (λ t. ltb t s) (ran_from id 0 rs)))
@@ -191,8 +185,9 @@ module _ {X : Type 0} (id : ℕ) where
       ∙ ap (λ l. option_and_then (λ t. value_at id (get_or rs t [])) (last_of l))
       (ran-take 0 s rs ∙ ap (λ n. filter (λ t. ltb t n) (ran_from id 0 rs)) zero_first)
 
-  -- ---- the supersteps of an id rise
+-- ---- the supersteps of an id rise
 
+module _ {X : Type 0} (id : ℕ) where
   above : (b : ℕ) (rs : List (List (ℕ × X))) (k d : ℕ) → k < length (ran_from id b rs) → b ≤ get_or (ran_from id b rs) k d
   above b [] k d h = absurd (omega arith)
   above b (r ∷ rs) k d h = by (λ k w. above (b + 1) rs k d w) (is_some (value_at id r)) k h
@@ -216,51 +211,18 @@ module _ {X : Type 0} (id : ℕ) where
       by rises true (suc i) (suc j) h w = rises i j (omega arith) (omega arith)
       by rises false i j h w = rises i j h w
 
--- ---- a search among them
+-- ---- the last of them
 
-front : (s n : ℕ) (xs : List ℕ) → n ≤ length xs → ((k d : ℕ) → k < n → get_or xs k d < s) → ((k d : ℕ) → n ≤ k → k < length xs → s ≤ get_or xs k d)
-    → filter (λ t. ltb t s) xs ≡ take n xs
-front s zero [] h low high = refl
-front s (suc n) [] h low high = absurd (omega arith)
-front s zero (x ∷ xs) h low high =
-    ap (λ c. cond c (x ∷ filter (λ t. ltb t s) xs) (filter (λ t. ltb t s) xs)) (not_lower x s (high 0 0 (omega arith) (omega arith)))
-    ∙ front s zero xs (omega arith) (λ k d w. absurd (omega arith)) (λ k d w v. high (suc k) d (omega arith) (omega arith))
-front s (suc n) (x ∷ xs) h low high =
-    ap (λ c. cond c (x ∷ filter (λ t. ltb t s) xs) (filter (λ t. ltb t s) xs)) (lower x s (low 0 0 (omega arith)))
-    ∙ ap (λ l. x ∷ l) (front s n xs (omega arith) (λ k d w. low (suc k) d (omega arith)) (λ k d w v. high (suc k) d (omega arith) (omega arith)))
-
-last_of-take : (n : ℕ) (xs : List ℕ) → n < length xs → last_of (take (suc n) xs) ≡ Some (get_or xs n 0)
-last_of-take n [] h = absurd (omega arith)
-last_of-take zero (x ∷ xs) h = refl
-last_of-take (suc n) (x ∷ xs) h = ap (λ l. Some (unwrap_or l x)) (last_of-take n xs (omega arith))
-
-module _ (s n : ℕ) (xs : List ℕ) (within : n ≤ length xs) (parts : IsPartitionPoint (λ y. ltb y s ≡ true) (λ y. ltb y s ≡ false) xs n) where
-  found : filter (λ t. ltb t s) xs ≡ take n xs
-  found = front s n xs within (λ k d w. ltb-true (get_or xs k d) s (parts.0 k d (omega arith) w)) (λ k d w v. ltb-false (get_or xs k d) s (parts.1 k d w v))
-
-  pub none_below : n ≡ 0 → None ≡ last_of (filter (λ t. ltb t s) xs)
-  none_below first = sym (ap last_of (found ∙ ap (λ k. take k xs) first))
-
-  pub last_below : (m : ℕ) → suc m ≡ n → Some (get_or xs m 0) ≡ last_of (filter (λ t. ltb t s) xs)
-  last_below m last = sym (ap last_of (found ∙ ap (λ k. take k xs) (sym last)) ∙ last_of-take m xs (omega arith))
-
--- the last of all steps
 pub last_of_all : (xs : List ℕ) (m : ℕ) → suc m ≡ length xs → Some (get_or xs m 0) ≡ last_of xs
-last_of_all xs m last = sym (ap last_of (take_all xs) ∙ ap (λ k. last_of (take k xs)) (sym last) ∙ last_of-take m xs (omega arith))
-  where
-    take_all : (xs : List ℕ) → xs ≡ take (length xs) xs
-    take_all [] = refl
-    take_all (x ∷ xs) = ap (λ l. x ∷ l) (take_all xs)
+last_of_all [] m last = absurd (omega arith)
+last_of_all (x ∷ []) zero last = refl
+last_of_all (x ∷ []) (suc m) last = absurd (omega arith)
+last_of_all (x ∷ y ∷ ys) zero last = absurd (omega arith)
+last_of_all (x ∷ y ∷ ys) (suc m) last = ap (λ o. Some (unwrap_or o x)) (last_of_all (y ∷ ys) m (omega arith))
+
+pub no_last : (xs : List ℕ) → None ≡ last_of xs → [] ≡ xs
+no_last [] none = refl
+no_last (x ∷ xs) none = absurd (true≢false (sym (ap is_some none)))
 
 pub one_at_least : (n : ℕ) → false ≡ (n == 0) → suc (n - 1) ≡ n
 one_at_least n h = grind (arith, nat_tests)
-
-same_number : (a b : ℕ) → true ≡ (a == b) → a ≡ b
-same_number a b h = grind (arith, nat_tests)
-
--- two supersteps, or none, that are found equal
-pub same_step : (a b : Option ℕ) → true ≡ option_eq ◌==◌ a b → a ≡ b
-same_step None None h = refl
-same_step None (Some b) h = absurd (true≢false h)
-same_step (Some a) None h = absurd (true≢false h)
-same_step (Some a) (Some b) h = ap Some (same_number a b h)

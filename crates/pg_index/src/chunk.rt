@@ -1,5 +1,6 @@
 //! Values by rising id, in chunks that are changed in place.
-ghost use Rattle.std.specs.Prelude.{◌≡◌, ◌≤◌, ◌<◌, true, false, nat_le, length, None, IfErr, IfNone, IfOk, IfSome, IsTrue, OnOk};
+ghost use Rattle.std.specs.Prelude.{◌≡◌, ◌≤◌, ◌<◌, true, false, nat_le, length, None};
+ghost use Rattle.std.specs.Prelude.{IfErr, IfNone, IfOk, IfSome, IsTrue, OnOk};
 ghost use Rattle.std.specs.BTreeMap.{insert_entry};
 ghost use Rattle.std.specs.List.{HoldsAt};
 ghost use Rattle.std.specs.List.Sorted.{IsPartitionPoint};
@@ -33,9 +34,9 @@ pub(crate) fn get<'a, X>(chunks: &'a [Chunk<X>], near: &mut usize, id: VertexId)
     Some(&chunks[chunk].entries[place].1)
 }
 
-/// In which chunk the value at an id stands, and at which place there. `near` becomes how many chunks begin at the id or
-/// below it. Where it was that before, from a look-up near this one, it costs a binary search in one chunk alone; else two.
-/// The one in the chunk is spared where the chunk has each id from its first up to this.
+/// In which chunk the value at an id stands, and at which place there. `near` becomes how many chunks begin at the id
+/// or below it. Where it was that before, from a look-up near this one, it costs a binary search in one chunk alone;
+/// else two. The one in the chunk is spared where the chunk has each id from its first up to this.
 pub(crate) fn found<X>(
     chunks: &[Chunk<X>],
     near: &mut usize,
@@ -115,13 +116,14 @@ fn place_of<X>(entries: &[(VertexId, X)], id: VertexId) -> Result<usize, usize>
     ensures within { IfOk result (λ place. place < length entries.now) }
     ensures found { IfOk result (HoldsAt (λ e. nat_cmp e.0 id ≡ Equal) entries.now) }
     ensures bound { IfErr result (λ place. place ≤ length entries.now) }
-    ensures missing { IfErr result (IsPartitionPoint (λ e. nat_cmp e.0 id ≡ Less) (λ e. nat_cmp e.0 id ≡ Greater) entries.now) }
+    ensures missing { IfErr result
+        (IsPartitionPoint (λ e. nat_cmp e.0 id ≡ Less) (λ e. nat_cmp e.0 id ≡ Greater) entries.now) }
 {
     entries.binary_search_by_key(&id, |entry| entry.0)
 }
 
-/// Puts a value at an id. It costs the binary searches of `found`, and moves what follows in the id's chunk and, where that is cut in
-/// two, the chunks that follow. Where memory is refused some of the values may be lost.
+/// Puts a value at an id. It costs the binary searches of `found`, and moves what follows in the id's chunk and, where
+/// that is cut in two, the chunks that follow. Where memory is refused some of the values may be lost.
 pub(crate) fn put<X: Drop>(
     alloc: Global,
     chunks: &mut Vec<Chunk<X>>,

@@ -1,70 +1,107 @@
-//! Look-ups of last records that come near one another.
-ghost use Rattle.std.specs.Prelude.{◌≡◌, ◌+◌, ◌<◌, ◌^◌, take};
-ghost use Rattle.std.specs.Option.{option_copied};
-ghost use Rattle.pg_index.specs.Ran.{IsIndex};
-ghost use Rattle.pg_index.specs.Records.{last_record};
+//! Look-ups in an index.
+ghost use Rattle.std.specs.Prelude.{◌≡◌, ◌+◌};
+ghost use Rattle.std.specs.List.Sorted.{IsNonDecreasingBy};
+ghost use Rattle.std.specs.Option.{option_copied, option_map};
+ghost use Rattle.pg_map.specs.Entries.{HasRisingIds, value_at, with_changes};
+ghost use Rattle.pg_index.specs.Chunks.{AreSound, all_of};
+ghost use Rattle.pg_index.specs.Ran.{last_of, steps_below, steps_in};
 
-use crate::index::IndexFinder;
-use crate::kept::Kept;
-use crate::ran::{LastRecords, last_around, last_before};
+use crate::chunk::get;
+use crate::notes::Notes;
+use crate::ran::Run;
+use crate::steps::Steps;
 use pg_graph::VertexId;
-use pg_map::Map;
-use pg_model::Record;
+use pg_map::Finder;
 use std::marker::Model;
 
-/// Looks up the last records of vertices in supersteps with their index. Where an id lies near the one before, it costs
-/// a search near that. A contract sees the records of the supersteps.
+/// Looks up ids in an index: among the notes, and then in the map. In both an id near the one before costs a search
+/// near that. A contract sees the index.
 #[derive(Drop)]
-pub struct LastFinder<'a, V, M> {
-    index: IndexFinder<'a, V, M>,
-    supersteps: &'a [Map<Kept<V, M>>],
+pub struct IndexFinder<'a> {
+    base: Finder<'a, Steps>,
+    notes: &'a Notes,
+    notes_begun: usize,
 }
 
-impl<'a, V, M> Model for LastFinder<'a, V, M> {
+impl<'a> Model for IndexFinder<'a> {
     ghost use Rattle.std.specs.Prelude.{ℕ, List};
-    ghost use Rattle.pg_index.specs.Ran.{IsIndex};
-    ghost use Rattle.pg_model.specs.declared.record.Record.{Record};
+    ghost use Rattle.pg_map.specs.Entries.{HasRisingIds, with_changes};
+    ghost use Rattle.pg_index.specs.Chunks.{AreSound, all_of};
 
-    ghost Value = { List (List (ℕ × Record V M)) };
+    ghost Value = { List (ℕ × List ℕ) };
 
-    ghost view = { λ f. f.supersteps.now };
+    ghost view = { λ f. with_changes (all_of f.notes.now.items) f.base };
 
-    ghost invariant = { λ f. IsIndex f.supersteps.now f.index };
+    ghost invariant = { λ f. HasRisingIds f.base × AreSound f.notes.now.items };
 }
 
-impl<'a, V: Drop, M: Drop> LastFinder<'a, V, M> {
-    /// Look-ups in supersteps with their index.
-    pub(crate) fn of(
-        index: IndexFinder<'a, V, M>,
-        supersteps: &'a [Map<Kept<V, M>>],
-    ) -> LastFinder<'a, V, M>
-        requires { IsIndex supersteps.now index }
-        ensures { result ≡ supersteps.now }
+/// The last runs of a vertex before a superstep and before the next one. They are one where the vertex didn't run in
+/// the superstep.
+#[derive(Clone, Copy, Debug, PartialEq, Eq)]
+pub struct LastRuns {
+    /// The last one before the superstep, if there is one.
+    pub before: Option<Run>,
+    /// The last one before the next superstep, if there is one.
+    pub after: Option<Run>,
+}
+
+impl<'a> IndexFinder<'a> {
+    /// Look-ups in an index of these parts.
+    pub(crate) fn of(base: Finder<'a, Steps>, notes: &'a Notes) -> IndexFinder<'a>
+        requires rising { HasRisingIds base }
+        requires sound { AreSound notes.now.items }
+        ensures { result ≡ with_changes (all_of notes.now.items) base.entry }
     {
-        LastFinder { index, supersteps }
+        IndexFinder {
+            base,
+            notes,
+            notes_begun: 0,
+        }
     }
 
-    /// The last record of a vertex before a superstep. The superstep is found by halving among those in which the
-    /// vertex ran, and its record is read from the index, or by two binary searches.
-    pub fn last_before(&mut self, id: VertexId, superstep: usize) -> Option<&'a Record<V, M>>
-        ensures value { option_copied result ≡ last_record id (take superstep self.old) }
+    /// What there is of an id.
+    fn get(&mut self, id: VertexId) -> Option<&'a Steps>
+        ensures value { option_copied result ≡ value_at id self.old }
         ensures same { self.new ≡ self.old }
     {
-        let supersteps = self.supersteps;
-        let ran = self.index.get(id);
-        last_before(supersteps, ran, id, superstep)
+        let notes = self.notes;
+        match get(notes.as_slice(), &mut self.notes_begun, id) {
+            Some(steps) => steps.as_ref(),
+            None => self.base.get(id),
+        }
     }
 
-    /// The last records of a vertex before a superstep and before the next one, by one look-up of the vertex. It costs
-    /// what `last_before` does, and a second search where the vertex ran in the superstep.
-    pub fn last_around(&mut self, id: VertexId, superstep: usize) -> LastRecords<'a, V, M>
-        requires { superstep + 1 < 2 ^ 64 }
-        ensures before { option_copied result.before ≡ last_record id (take superstep self.old) }
-        ensures after { option_copied result.after ≡ last_record id (take (superstep + 1) self.old) }
+    /// The last run of a vertex before a superstep. Where that isn't its last of all, it is found by halving among
+    /// those of the vertex.
+    pub fn last_before(&mut self, id: VertexId, superstep: u32) -> Option<Run>
+        requires { IsNonDecreasingBy (λ t. t) (steps_in (value_at id self.old)) }
+        ensures value { option_map (λ r. r.superstep) result
+            ≡ last_of (steps_below superstep (steps_in (value_at id self.old))) }
         ensures same { self.new ≡ self.old }
     {
-        let supersteps = self.supersteps;
-        let ran = self.index.get(id);
-        last_around(supersteps, ran, id, superstep)
+        let steps = self.get(id)?;
+        steps.last_below(superstep)
+    }
+
+    /// The last runs of a vertex before a superstep and before the next one, by one look-up of the vertex. Each costs
+    /// what `last_before` does then.
+    pub fn last_around(&mut self, id: VertexId, superstep: u32) -> LastRuns
+        requires { IsNonDecreasingBy (λ t. t) (steps_in (value_at id self.old)) }
+        ensures before { option_map (λ r. r.superstep) result.before
+            ≡ last_of (steps_below superstep (steps_in (value_at id self.old))) }
+        ensures after { option_map (λ r. r.superstep) result.after
+            ≡ last_of (steps_below (superstep + 1) (steps_in (value_at id self.old))) }
+        ensures same { self.new ≡ self.old }
+    {
+        match self.get(id) {
+            Some(steps) => LastRuns {
+                before: steps.last_below(superstep),
+                after: steps.last_up_to(superstep),
+            },
+            None => LastRuns {
+                before: None,
+                after: None,
+            },
+        }
     }
 }

@@ -1,18 +1,15 @@
-//! The index of records: in which supersteps each vertex ran, and its last record.
+//! In which supersteps each vertex ran: an index that copies share, with notes over it that are made in place.
 #![tactic(auto)]
 
-mod changes;
 mod chunk;
 mod finder;
 mod index;
-mod kept;
+mod maps;
 mod notes;
 mod ran;
 mod steps;
 
-pub use changes::put_records;
-pub use finder::LastFinder;
+pub use finder::{IndexFinder, LastRuns};
 pub use index::Index;
-pub use kept::Kept;
 pub use pg_graph::Memory;
-pub use ran::{LastRecords, kept_in};
+pub use ran::Run;

@@ -1,126 +1,109 @@
 //! Notes over a map that copies share: what is said of some vertices in place of their entries there.
-ghost use Rattle.std.specs.Prelude.{◌≡◌, ◌++◌, List, ℕ, false, Some, IfOk, OnOk, IsTrue};
+ghost use Rattle.std.specs.Prelude.{◌≡◌, ◌++◌, false, is_some, true, IfOk, OnOk, IsTrue};
 ghost use Rattle.std.specs.List.Sorted.{IsNonDecreasingBy};
-ghost use Rattle.std.specs.Option.{option_copied};
 ghost use Rattle.pg_map.specs.Entries.{ChangesRise, HasRisingIds, value_at, with_changes};
-ghost use Rattle.pg_model.specs.declared.record.Record.{Record};
 ghost use Rattle.pg_index.specs.Chunks.{AreSound, all_of};
-ghost use Rattle.pg_index.specs.Ran.{IsNoted, IsNotedOf, StepsRise, noted, steps_in};
+ghost use Rattle.pg_index.specs.Ran.{IsNoted, IsNotedOf, StepsRise, steps_in, with_ran};
 
-use crate::changes::tell_rising;
 use crate::chunk::{Chunk, found, put};
-use crate::kept::Kept;
+use crate::maps::tell_rising;
 use crate::ran::after;
 use crate::steps::Steps;
 use pg_graph::{Memory, VertexId};
 use pg_map::{Finder, Map, Share};
 use std::alloc::Global;
 
-/// What is said of each vertex of which there is a note, by rising id: in which supersteps it ran and its last record, or
-/// nothing.
-pub(crate) type Notes<V, M> = Vec<Chunk<Option<Steps<V, M>>>>;
+/// What is said of each vertex of which there is a note, by rising id: in which supersteps it ran, or that it ran in
+/// none.
+pub(crate) type Notes = Vec<Chunk<Option<Steps>>>;
 
-/// Notes of these vertices, by rising id, which record a superstep gave them, if any. Where memory is refused some of
-/// the notes may have been made.
+/// Notes of these vertices, by rising id, at which place a superstep has their records, if it has them. Where memory is
+/// refused some of the notes may have been made.
 ///
 /// For k vertices it costs k look-ups among the notes, and k in the map at most. One that has no note yet, that ran in
-/// this superstep or a later one, or that is given none, also costs a copy of the numbers of its supersteps; and one that
-/// has no note yet moves the notes that follow in its chunk.
-pub(crate) fn note_over<V: Drop, M: Drop>(
+/// this superstep or a later one, or that is given none, also costs a copy of its runs; and one that has no note yet
+/// moves the notes that follow in its chunk.
+pub(crate) fn note_over(
     alloc: Global,
-    notes: &mut Notes<V, M>,
-    base: &Map<Steps<V, M>>,
-    supersteps: &[Map<Kept<V, M>>],
-    superstep: usize,
-    given: &[(VertexId, Option<Kept<V, M>>)],
+    notes: &mut Notes,
+    base: &Map<Steps>,
+    superstep: u32,
+    given: &[(VertexId, Option<u32>)],
 ) -> Result<(), Memory>
     requires rise { ChangesRise given.now }
     requires sound { AreSound notes.old.items }
     requires steps { StepsRise (with_changes (all_of notes.old.items) base.now) }
     ensures sound { OnOk result (AreSound notes.new.items) }
-    ensures noted { OnOk result (IsNoted supersteps.now superstep given.now
+    ensures noted { OnOk result (IsNoted superstep given.now
         (with_changes (all_of notes.old.items) base.now) (with_changes (all_of notes.new.items) base.now)) }
 {
     tell_rising(base);
     let mut finder = base.finder();
     let mut near = 0;
     for (id, given) in given {
-        note_of(
-            alloc,
-            notes,
-            &mut near,
-            &mut finder,
-            supersteps,
-            *id,
-            superstep,
-            given.as_ref(),
-        )?;
+        note_of(alloc, notes, &mut near, &mut finder, *id, superstep, *given)?;
     }
     Ok(())
 }
 
-/// Notes of a vertex which record a superstep gave it, if any.
-fn note_of<V: Drop, M: Drop>(
+/// Notes of a vertex at which place a superstep has its record, if it has one.
+fn note_of(
     alloc: Global,
-    notes: &mut Notes<V, M>,
+    notes: &mut Notes,
     near: &mut usize,
-    base: &mut Finder<'_, Steps<V, M>>,
-    supersteps: &[Map<Kept<V, M>>],
+    base: &mut Finder<'_, Steps>,
     id: VertexId,
-    superstep: usize,
-    given: Option<&Kept<V, M>>,
+    superstep: u32,
+    given: Option<u32>,
 ) -> Result<(), Memory>
     requires rising { HasRisingIds base.old }
     requires sound { AreSound notes.old.items }
     requires steps { IsNonDecreasingBy (λ t. t) (steps_in (value_at id (with_changes (all_of notes.old.items) base.old))) }
     ensures sound { OnOk result (AreSound notes.new.items) }
-    ensures noted { OnOk result (IsNotedOf id supersteps.now superstep (option_copied given.entry)
+    ensures noted { OnOk result (IsNotedOf id superstep (is_some given)
         (with_changes (all_of notes.old.items) base.old) (with_changes (all_of notes.new.items) base.old)) }
     ensures same { base.new ≡ base.old }
 {
     if let Some((chunk, place)) = found(notes.as_slice(), near, id) {
         let steps = &mut notes[chunk].entries[place].1;
-        note_again(alloc, steps, supersteps, id, superstep, given)?;
+        note_again(alloc, steps, superstep, given)?;
         return Ok(());
     }
-    let steps = after(alloc, supersteps, id, superstep, given, base.get(id))?;
+    let steps = after(alloc, superstep, given, base.get(id))?;
     put(alloc, notes, *near, id, steps)?;
     Ok(())
 }
 
-/// Changes the note of a vertex by which record a superstep gave it, if any.
-fn note_again<V: Drop, M: Drop>(
+/// Changes the note of a vertex by at which place a superstep has its record, if it has one.
+fn note_again(
     alloc: Global,
-    steps: &mut Option<Steps<V, M>>,
-    supersteps: &[Map<Kept<V, M>>],
-    id: VertexId,
-    superstep: usize,
-    given: Option<&Kept<V, M>>,
+    steps: &mut Option<Steps>,
+    superstep: u32,
+    given: Option<u32>,
 ) -> Result<(), Memory>
     requires { IsNonDecreasingBy (λ t. t) (steps_in steps.old) }
-    ensures { OnOk result
-        (steps.new ≡ noted id supersteps.now superstep (Some (option_copied given.entry)) steps.old) }
+    ensures { OnOk result (steps_in steps.new ≡ with_ran superstep (is_some given) (steps_in steps.old)) }
 {
-    if let Some(kept) = given {
-        if add_last(alloc, steps, superstep, kept)? {
+    if let Some(place) = given {
+        if add_last(alloc, steps, superstep, place)? {
             return Ok(());
         }
     }
-    let changed = after(alloc, supersteps, id, superstep, given, steps.as_ref())?;
+    let changed = after(alloc, superstep, given, steps.as_ref())?;
     *steps = changed;
     Ok(())
 }
 
-/// Adds a superstep to those of a vertex, where it has some and all are below it. Else nothing changes, and it says so.
-fn add_last<V: Drop, M: Drop>(
+/// Adds a run to those of a vertex, where it has some and all are below it. Else nothing changes, and it says so.
+fn add_last(
     alloc: Global,
-    steps: &mut Option<Steps<V, M>>,
-    superstep: usize,
-    kept: &Kept<V, M>,
+    steps: &mut Option<Steps>,
+    superstep: u32,
+    place: u32,
 ) -> Result<bool, Memory>
     requires { IsNonDecreasingBy (λ t. t) (steps_in steps.old) }
-    ensures added { IfOk result (λ added. IsTrue added → (id : ℕ) (records : List (List (ℕ × Record V M)))
-        → steps.new ≡ noted id records superstep (Some (Some kept.now)) steps.old) }
+    ensures added { IfOk result (λ added.
+        IsTrue added → steps_in steps.new ≡ with_ran superstep true (steps_in steps.old)) }
     ensures same { IfOk result (λ added. added ≡ false → steps.new ≡ steps.old) }
 {
     match steps {
@@ -128,7 +111,7 @@ fn add_last<V: Drop, M: Drop>(
             if !ran.are_below(superstep) {
                 return Ok(false);
             }
-            ran.push(alloc, superstep, kept.share(alloc)?)?;
+            ran.push(alloc, superstep, place)?;
             Ok(true)
         }
         None => Ok(false),
@@ -136,10 +119,10 @@ fn add_last<V: Drop, M: Drop>(
 }
 
 /// Copies of notes, by rising id.
-pub(crate) fn copied<V: Drop, M: Drop>(
+pub(crate) fn copied(
     alloc: Global,
-    notes: &[Chunk<Option<Steps<V, M>>>],
-) -> Result<Vec<(VertexId, Option<Steps<V, M>>)>, Memory>
+    notes: &[Chunk<Option<Steps>>],
+) -> Result<Vec<(VertexId, Option<Steps>)>, Memory>
     ensures { IfOk result (λ copies. copies.items ≡ all_of notes.now) }
 {
     let mut copies = Vec::with_capacity(alloc, count(notes))?;
@@ -150,7 +133,7 @@ pub(crate) fn copied<V: Drop, M: Drop>(
 }
 
 /// How many notes there are: for how many to make room, so no contract tells it.
-fn count<V, M>(notes: &[Chunk<Option<Steps<V, M>>>]) -> usize {
+fn count(notes: &[Chunk<Option<Steps>>]) -> usize {
     let mut count: usize = 0;
     for chunk in notes {
         count = count.saturating_add(chunk.entries.len());
@@ -159,10 +142,10 @@ fn count<V, M>(notes: &[Chunk<Option<Steps<V, M>>>]) -> usize {
 }
 
 /// Adds copies of notes.
-fn copy_of<V: Drop, M: Drop>(
+fn copy_of(
     alloc: Global,
-    copies: &mut Vec<(VertexId, Option<Steps<V, M>>)>,
-    notes: &[(VertexId, Option<Steps<V, M>>)],
+    copies: &mut Vec<(VertexId, Option<Steps>)>,
+    notes: &[(VertexId, Option<Steps>)],
 ) -> Result<(), Memory>
     ensures { OnOk result (copies.new.items ≡ copies.old.items ++ notes.now) }
 {
@@ -173,10 +156,7 @@ fn copy_of<V: Drop, M: Drop>(
 }
 
 /// The same steps, if there are any.
-fn shared_if_any<V: Drop, M: Drop>(
-    alloc: Global,
-    steps: &Option<Steps<V, M>>,
-) -> Result<Option<Steps<V, M>>, Memory>
+fn shared_if_any(alloc: Global, steps: &Option<Steps>) -> Result<Option<Steps>, Memory>
     ensures { IfOk result (λ copy. copy ≡ steps.now) }
 {
     match steps {
@@ -186,10 +166,7 @@ fn shared_if_any<V: Drop, M: Drop>(
 }
 
 /// The notes, by rising id.
-pub(crate) fn moved<V: Drop, M: Drop>(
-    alloc: Global,
-    notes: Notes<V, M>,
-) -> Result<Vec<(VertexId, Option<Steps<V, M>>)>, Memory>
+pub(crate) fn moved(alloc: Global, notes: Notes) -> Result<Vec<(VertexId, Option<Steps>)>, Memory>
     ensures { IfOk result (λ list. list.items ≡ all_of notes.items) }
 {
     let mut list = Vec::with_capacity(alloc, count(notes.as_slice()))?;

@@ -11,9 +11,9 @@ ghost use Rattle.pg_trace.specs.Trace.{records_of};
 
 use pg_global::{Aggregator, AnyAggregator, Registry, gather};
 use pg_graph::{Memory, Superstep, VertexId};
-use pg_model::{Place, Record, Sequence};
+use pg_model::{Place, Sequence};
 use pg_program::Plain;
-use pg_trace::Trace;
+use pg_trace::{RecordRef, Trace};
 use std::alloc::Global;
 
 /// What the vertices of a superstep contribute, by rising id and each vertex's in the order given. Costs a look at
@@ -28,7 +28,7 @@ pub fn contributions<V: Plain, M: Plain>(
     let records = trace.records(alloc, superstep)?;
     let mut all = Vec::new(alloc);
     for (_, record) in records.as_slice() {
-        push_all(&mut all, record.contributed.as_slice())?;
+        push_all(&mut all, record.contributed())?;
     }
     Ok(all)
 }
@@ -137,11 +137,11 @@ fn contributes_alike<V: Plain, M: Plain>(
 }
 
 /// What a vertex contributes by its record, if it has one.
-fn contributed_by<V, M>(by: Option<&Record<V, M>>) -> &[(Place, i64)]
-    ensures { result.now ≡ contributed_by (option_copied by.entry) }
+fn contributed_by<'a, V, M>(by: Option<RecordRef<'a, V, M>>) -> &'a [(Place, i64)]
+    ensures { result.now ≡ contributed_by by.entry }
 {
     match by {
-        Some(record) => record.contributed.as_slice(),
+        Some(record) => record.contributed(),
         None => &[],
     }
 }

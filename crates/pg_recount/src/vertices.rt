@@ -5,10 +5,10 @@ ghost use Rattle.pg_recount.specs.Census.{IsRecounted, IsSum, IsTurnedMore, of_n
 ghost use Rattle.pg_stats.specs.Stats.{census_of};
 
 use pg_graph::{Memory, Superstep, VertexId};
-use pg_model::{Record, VertexState};
+use pg_model::VertexState;
 use pg_program::Plain;
 use pg_stats::Census;
-use pg_trace::{StateRef, States, Trace};
+use pg_trace::{RecordRef, StateRef, States, Trace};
 use std::alloc::AllocError;
 
 /// The census of these vertices.
@@ -64,12 +64,12 @@ impl Turned {
     pub fn with<V: Plain, M>(
         self,
         before: &Option<StateRef<'_, V>>,
-        given: Option<&Record<V, M>>,
+        given: &Option<RecordRef<'_, V, M>>,
     ) -> Result<Turned, Memory>
-        ensures { (id : ℕ) → IfOk result (IsTurnedMore self before.now (option_copied given.entry) id) }
+        ensures { (id : ℕ) → IfOk result (IsTurnedMore self before.now given.now id) }
     {
         let come = match given {
-            Some(left) => with_vertex(self.come, left.edges.as_slice().len(), left.halted)?,
+            Some(left) => with_vertex(self.come, left.edges().as_slice().len(), left.halted())?,
             None => with_state(self.come, before)?,
         };
         Ok(Turned {

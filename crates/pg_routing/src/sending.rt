@@ -6,36 +6,26 @@ ghost use Rattle.pg_routing.specs.Sending.{AreParts, HaveMore, pairs_by, pairs_o
 
 use crate::Partitioner;
 use pg_graph::{Memory, Superstep, VertexId};
-use pg_model::{Record, Sequence};
+use pg_model::Sequence;
 use pg_program::Plain;
-use pg_trace::Trace;
+use pg_trace::{Changes, RecordRef, Trace};
 use std::alloc::Global;
 
 /// What is sent by these changes of records, as (sender, target, message), by the partition of the target.
 pub(crate) fn sends_of<V: Plain, M: Plain>(
     alloc: Global,
     partitions: Partitioner,
-    changes: &[(VertexId, Option<Record<V, M>>)],
+    changes: &Changes<V, M>,
 ) -> Result<Vec<Sequence<(VertexId, VertexId, M)>>, Memory>
     ensures len { IfOk result (λ parts. length parts.items ≡ partitions) }
     ensures parts { IfOk result (λ parts. AreParts partitions (flat_map sends_of changes.now) parts.items) }
 {
-    let mut parts = nothing_each(alloc, partitions, sent_by(changes))?;
-    for change in changes {
-        add_sends(alloc, partitions, &mut parts, change.0, change.1.as_ref())?;
+    let mut parts = nothing_each(alloc, partitions, changes.messages())?;
+    for place in 0..changes.len() {
+        let (sender, given) = changes.at(place);
+        add_sends(alloc, partitions, &mut parts, sender, &given)?;
     }
     Ok(parts)
-}
-
-/// How many messages are sent by these changes of records.
-fn sent_by<V: Plain, M: Plain>(changes: &[(VertexId, Option<Record<V, M>>)]) -> usize {
-    let mut sent: usize = 0;
-    for (_, change) in changes {
-        if let Some(record) = change {
-            sent = sent.saturating_add(record.sent.len());
-        }
-    }
-    sent
 }
 
 fn add_sends<V: Plain, M: Plain>(
@@ -43,14 +33,14 @@ fn add_sends<V: Plain, M: Plain>(
     partitions: Partitioner,
     parts: &mut Vec<Sequence<(VertexId, VertexId, M)>>,
     sender: VertexId,
-    by: Option<&Record<V, M>>,
+    by: &Option<RecordRef<'_, V, M>>,
 ) -> Result<(), Memory>
     requires { length parts.old.items ≡ partitions }
     ensures len { OnOk result (length parts.new.items ≡ partitions) }
-    ensures more { OnOk result (HaveMore partitions (sends_by sender (option_copied by.entry)) parts.old.items parts.new.items) }
+    ensures more { OnOk result (HaveMore partitions (sends_by sender by.now) parts.old.items parts.new.items) }
 {
     match by {
-        Some(given) => push_sends(alloc, partitions, parts, sender, given.sent.as_slice()),
+        Some(given) => push_sends(alloc, partitions, parts, sender, given.sent()),
         None => Ok(()),
     }
 }
@@ -80,19 +70,16 @@ pub(crate) fn withdrawn_of<V: Plain, M: Plain>(
     partitions: Partitioner,
     old: &Trace<V, M>,
     superstep: Superstep,
-    changes: &[(VertexId, Option<Record<V, M>>)],
+    changes: &Changes<V, M>,
 ) -> Result<Vec<Sequence<(VertexId, VertexId)>>, Memory>
     ensures len { IfOk result (λ parts. length parts.items ≡ partitions) }
     ensures parts { IfOk result (λ parts. AreParts partitions (flat_map (pairs_of old.now superstep) changes.now) parts.items) }
 {
     let mut parts = nothing_each(alloc, partitions, 0)?;
-    for change in changes {
-        add_pairs(
-            partitions,
-            &mut parts,
-            change.0,
-            old.record_at(change.0, superstep),
-        )?;
+    for place in 0..changes.len() {
+        let (sender, _) = changes.at(place);
+        let before = old.record_at(sender, superstep);
+        add_pairs(partitions, &mut parts, sender, &before)?;
     }
     Ok(parts)
 }
@@ -101,14 +88,14 @@ fn add_pairs<V: Plain, M: Plain>(
     partitions: Partitioner,
     parts: &mut Vec<Sequence<(VertexId, VertexId)>>,
     sender: VertexId,
-    by: Option<&Record<V, M>>,
+    by: &Option<RecordRef<'_, V, M>>,
 ) -> Result<(), Memory>
     requires { length parts.old.items ≡ partitions }
     ensures len { OnOk result (length parts.new.items ≡ partitions) }
-    ensures more { OnOk result (HaveMore partitions (pairs_by sender (option_copied by.entry)) parts.old.items parts.new.items) }
+    ensures more { OnOk result (HaveMore partitions (pairs_by sender by.now) parts.old.items parts.new.items) }
 {
     match by {
-        Some(given) => push_pairs(partitions, parts, sender, given.sent.as_slice()),
+        Some(given) => push_pairs(partitions, parts, sender, given.sent()),
         None => Ok(()),
     }
 }

@@ -10,9 +10,9 @@ use crate::sending::{sends_of, withdrawn_of};
 use pg_global::MessageCombiner;
 use pg_graph::{Memory, PartitionId, Superstep, VertexId};
 use pg_inbox::{Logged, Logs, bundle, patch};
-use pg_model::{Record, Sequence};
+use pg_model::Sequence;
 use pg_program::Plain;
-use pg_trace::Trace;
+use pg_trace::{Changes, Trace};
 use std::alloc::Global;
 use std::marker::Model;
 
@@ -65,7 +65,7 @@ impl<M: Plain> Sent<M> {
 pub fn fresh_bundles<V: Plain, M: Plain, C: MessageCombiner<M>>(
     alloc: Global,
     partitions: Partitioner,
-    changes: &[(VertexId, Option<Record<V, M>>)],
+    changes: &Changes<V, M>,
     combiner: &C,
 ) -> Result<Sent<M>, Memory>
     ensures to_each { IfOk result (λ sent. length sent ≡ partitions) }
@@ -115,7 +115,7 @@ pub fn mended_bundles<V: Plain, M: Plain, C: MessageCombiner<M>>(
     partitions: Partitioner,
     from: PartitionId,
     superstep: Superstep,
-    changes: &[(VertexId, Option<Record<V, M>>)],
+    changes: &Changes<V, M>,
     old: &Trace<V, M>,
     logs: &Logs<M>,
     combiner: &C,

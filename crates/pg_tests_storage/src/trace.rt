@@ -82,7 +82,7 @@ fn value_at(trace: &Numbers, id: VertexId, place: u32) -> Option<i64> {
 
 fn given_at(trace: &Numbers, id: VertexId, place: u32) -> Option<i64> {
     let given = trace.record_at(id, Superstep::new(place))?;
-    Some(given.value)
+    Some(*given.value())
 }
 
 // The values of an id as supersteps 0 to 3 begin.

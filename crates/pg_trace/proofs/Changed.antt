@@ -1,5 +1,5 @@
 -- Traces with other records.
-use Rattle.std.proofs.Common.{◌≡◌, ◌==◌, ℕ, Bool, true, false, cond, List, [], ◌∷◌, ◌++◌, Option, length, refl, ap, ap₂, ◌∙◌}
+use Rattle.std.proofs.Common.{◌≡◌, ◌==◌, ℕ, Bool, true, false, cond, List, [], ◌∷◌, ◌++◌, Option, length, refl, ap, ◌∙◌}
 use Rattle.pg_index.specs.Records.{put_at}
 use Rattle.pg_model.specs.declared.configuration.VertexState.{VertexState}
 use Rattle.pg_model.specs.declared.record.Record.{Record}
@@ -18,11 +18,10 @@ module _ {V M : Type 0} where
       by true = refl
       by false = refl
 
-  pub one_put : (s n : ℕ) (changes : List (ℕ × Option (Record V M))) {given : List (ℕ × Option (Record V M))} {before now : Trace V M}
-      {after : List (List (ℕ × Record V M))} → before ≡ now → n ≡ s → given ≡ changes → after ≡ put_at n given before.records
-      → trace_of before.initial after ≡ with_replaced s changes (reaching s now)
-  one_put s n changes {before = before} same number changed made =
-      ap (trace_of before.initial) (made ∙ ap₂ (λ k l. put_at k l before.records) number changed)
+  pub one_put : (s n : ℕ) (changes : List (ℕ × Option (Record V M))) {before now : Trace V M} {after : List (List (ℕ × Record V M))}
+      → before ≡ now → n ≡ s → after ≡ put_at n changes before.records → trace_of before.initial after ≡ with_replaced s changes (reaching s now)
+  one_put s n changes {before = before} same number made =
+      ap (trace_of before.initial) (made ∙ ap (λ k. put_at k changes before.records) number)
       ∙ put_reached s changes before ∙ ap (λ t. with_replaced s changes (reaching s t)) same
 
   pub one_pushed : (records : List (ℕ × Record V M)) {kept : List (ℕ × Record V M)} {before now : Trace V M} {after : List (List (ℕ × Record V M))}

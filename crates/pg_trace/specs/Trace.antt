@@ -4,7 +4,6 @@ use Rattle.std.specs.List.{find}
 use Rattle.std.specs.List.Sorted.{IsStrictlySortedBy}
 use Rattle.std.specs.Option.{option_map, option_or}
 use Rattle.std.specs.Ordering.{nat_cmp}
-use denote.Ref.{Bor}
 use Rattle.pg_map.specs.Entries.{value_at, with_changes}
 use Rattle.pg_index.specs.Records.{last_record}
 use Rattle.pg_model.specs.declared.configuration.VertexState.{VertexState}
@@ -23,11 +22,6 @@ module _ {V : Type 0} where
   -- the state with an id
   abbrev pub state_of : ℕ → List (VertexState V) → Option (VertexState V)
   state_of id states = find (λ x. x.id == id) states
-
-module _ {X : Type 0} where
-  -- lent records, as what they point to
-  abbrev pub lent : List (ℕ × Bor X) → List (ℕ × X)
-  lent entries = map (λ e. (e.0, e.1.now)) entries
 
 module _ {V M : Type 0} where
   -- as a run begins with these states

@@ -1,20 +1,20 @@
 //! The records of supersteps, one superstep or many at a time.
-ghost use Rattle.std.specs.Prelude.{◌≡◌, length, map, take, ◌≤◌, None, Some, IfOk};
-ghost use Rattle.pg_map.specs.Entries.{HasRisingIds};
+ghost use Rattle.std.specs.Prelude.{◌≡◌, ◌++◌, ◌∷◌, [], length, map, take, slice_index_or, ◌≤◌, None, Some, IfOk, OnOk};
+ghost use Rattle.pg_map.specs.Entries.{ChangesRise, HasRisingIds};
 ghost use Rattle.pg_index.specs.Ran.{IsIndex};
-ghost use Rattle.pg_trace.specs.Trace.{lent};
+ghost use Rattle.pg_index.specs.Records.{put_at};
 
 use pg_graph::{Memory, VertexId};
-use pg_index::{Index, Kept};
-use pg_map::{Map, Share};
-use pg_model::Record;
-use std::alloc::Global;
+use pg_index::Index;
+use pg_model::{Record, VertexState};
+use pg_records::{Changes, RecordRef, Records};
+use std::alloc::{AllocError, Global};
 
 /// The same supersteps, in the same memory.
 pub(crate) fn shared<V: Drop, M: Drop>(
     alloc: Global,
-    supersteps: &[Map<Kept<V, M>>],
-) -> Result<Vec<Map<Kept<V, M>>>, Memory>
+    supersteps: &[Records<V, M>],
+) -> Result<Vec<Records<V, M>>, Memory>
     ensures { IfOk result (λ shared. shared.items ≡ supersteps.now) }
 {
     let mut shared = Vec::with_capacity(alloc, supersteps.len())?;
@@ -24,41 +24,36 @@ pub(crate) fn shared<V: Drop, M: Drop>(
     Ok(shared)
 }
 
-/// The records of a superstep, lent.
-pub(crate) fn listed<V: Drop, M: Drop>(
+/// Supersteps with these changes of the records of one, which they have or which comes next. Where it comes next its
+/// records are the changes, in their memory; else it costs a copy of what is changed.
+pub(crate) fn put_records<V: Drop, M: Drop>(
     alloc: Global,
-    records: &Map<Kept<V, M>>,
-) -> Result<Vec<(VertexId, &Record<V, M>)>, Memory>
-    ensures records { IfOk result (λ found. lent found.items ≡ records.now) }
-    ensures rising { HasRisingIds records.now }
+    supersteps: Vec<Records<V, M>>,
+    place: usize,
+    changes: Changes<V, M>,
+) -> Result<Vec<Records<V, M>>, Memory>
+    requires rise { ChangesRise changes }
+    requires within { place ≤ length supersteps.items }
+    ensures put { IfOk result (λ after. after.items ≡ put_at place changes supersteps.items) }
+    ensures rising { IfOk result (λ after. HasRisingIds (slice_index_or supersteps.items place [])) }
 {
-    records
-        .iter()
-        .map(|(id, kept)| (*id, kept.record()))
-        .collect(alloc)
-}
-
-/// Keeps all of these records.
-pub(crate) fn all_kept<V: Drop, M: Drop>(
-    alloc: Global,
-    records: Vec<(VertexId, Record<V, M>)>,
-) -> Result<Vec<(VertexId, Kept<V, M>)>, Memory>
-    ensures { IfOk result (λ kept. kept.items ≡ records.items) }
-{
-    let mut all = Vec::with_capacity(alloc, records.len())?;
-    for (id, given) in records {
-        all.push((id, Kept::of(alloc, given)?))?;
+    let mut supersteps = supersteps;
+    if place == supersteps.len() {
+        supersteps.push(Records::of(alloc, changes)?)?;
+        return Ok(supersteps);
     }
-    Ok(all)
+    let changed = supersteps[place].changed(alloc, changes)?;
+    supersteps[place] = changed;
+    Ok(supersteps)
 }
 
 /// The index of the first of these supersteps, so many, by one of all. It has no notes.
 pub(crate) fn cut_index<V: Drop, M: Drop>(
     alloc: Global,
-    ran: &Index<V, M>,
-    supersteps: &[Map<Kept<V, M>>],
+    ran: &Index,
+    supersteps: &[Records<V, M>],
     len: usize,
-) -> Result<Index<V, M>, Memory>
+) -> Result<Index, Memory>
     requires index { IsIndex supersteps.now ran.now }
     requires within { len ≤ length supersteps.now }
     ensures { IfOk result (λ first. IsIndex (take len supersteps.now) first) }
@@ -68,72 +63,111 @@ pub(crate) fn cut_index<V: Drop, M: Drop>(
     while left > len {
         left -= 1;
         let none = none_given(alloc, &supersteps[left])?;
-        let (before, _) = supersteps.split_at(left);
-        first = first.noted(alloc, before, left, none.as_slice())?;
+        first = first.noted(alloc, narrow(left)?, none.as_slice())?;
     }
     first.settled(alloc)
 }
 
-/// No record for the ids of a superstep's records.
+/// A number in 32 bits. No memory has so many supersteps that it doesn't fit.
+pub(crate) fn narrow(number: usize) -> Result<u32, Memory>
+    ensures { IfOk result (λ n. n ≡ number) }
+{
+    if number > u32::MAX as usize {
+        return Err(AllocError);
+    }
+    Ok(number as u32)
+}
+
+/// No place for the ids of a superstep's records.
 fn none_given<V: Drop, M: Drop>(
     alloc: Global,
-    records: &Map<Kept<V, M>>,
-) -> Result<Vec<(VertexId, Option<Kept<V, M>>)>, Memory>
+    records: &Records<V, M>,
+) -> Result<Vec<(VertexId, Option<u32>)>, Memory>
     ensures none { IfOk result (λ none. none.items ≡ map (λ e. (e.0, None)) records.now) }
     ensures rising { HasRisingIds records.now }
 {
+    let all = records.listed(alloc)?;
+    none_for(alloc, all.as_slice())
+}
+
+/// No place for the ids of these records.
+fn none_for<V: Drop, M: Drop>(
+    alloc: Global,
+    records: &[(VertexId, RecordRef<'_, V, M>)],
+) -> Result<Vec<(VertexId, Option<u32>)>, Memory>
+    ensures { IfOk result (λ none. none.items ≡ map (λ e. (e.0, None)) records.now) }
+{
     let mut none = Vec::with_capacity(alloc, records.len())?;
-    for (id, _) in records.iter() {
+    for (id, _) in records {
         none.push((*id, None))?;
     }
     Ok(none)
 }
 
-/// Their own records for the ids of a superstep's records.
+/// The changes that give these records.
 pub(crate) fn all_given<V: Drop, M: Drop>(
     alloc: Global,
-    records: &Map<Kept<V, M>>,
-) -> Result<Vec<(VertexId, Option<Kept<V, M>>)>, Memory>
-    ensures given { IfOk result (λ given. given.items ≡ map (λ e. (e.0, Some e.1)) records.now) }
-    ensures rising { HasRisingIds records.now }
+    records: Vec<(VertexId, Record<V, M>)>,
+) -> Result<Changes<V, M>, Memory>
+    ensures { IfOk result (λ changes. changes ≡ map (λ e. (e.0, Some e.1)) records.items) }
 {
-    let mut given = Vec::with_capacity(alloc, records.len())?;
-    for (id, kept) in records.iter() {
-        given.push((*id, Some(kept.share(alloc)?)))?;
+    let mut changes = Changes::new(alloc, records.len())?;
+    for (id, record) in records {
+        add_record(&mut changes, id, record)?;
     }
-    Ok(given)
+    Ok(changes)
 }
 
-/// Keeps the records among these changes.
-pub(crate) fn changes_kept<V: Drop, M: Drop>(
+/// These changes, side by side.
+pub(crate) fn all_changed<V: Drop, M: Drop>(
     alloc: Global,
-    changes: Vec<(VertexId, Option<Record<V, M>>)>,
-) -> Result<Vec<(VertexId, Option<Kept<V, M>>)>, Memory>
-    ensures { IfOk result (λ kept. kept.items ≡ changes.items) }
+    replaced: Vec<(VertexId, Option<Record<V, M>>)>,
+) -> Result<Changes<V, M>, Memory>
+    ensures { IfOk result (λ changes. changes ≡ replaced.items) }
 {
-    let mut all = Vec::with_capacity(alloc, changes.len())?;
-    for (id, change) in changes {
-        all.push((id, kept_if_any(alloc, change)?))?;
+    let mut changes = Changes::new(alloc, replaced.len())?;
+    for (id, given) in replaced {
+        add_change(&mut changes, id, given)?;
     }
-    Ok(all)
+    Ok(changes)
 }
 
-/// Keeps a record, if there is one.
-fn kept_if_any<V: Drop, M: Drop>(
-    alloc: Global,
-    change: Option<Record<V, M>>,
-) -> Result<Option<Kept<V, M>>, Memory>
-    ensures { IfOk result (λ kept. kept ≡ change) }
+/// Adds the record that a vertex is given, or that it has none any more.
+fn add_change<V: Drop, M: Drop>(
+    changes: &mut Changes<V, M>,
+    id: VertexId,
+    given: Option<Record<V, M>>,
+) -> Result<(), Memory>
+    ensures { OnOk result (changes.new ≡ changes.old ++ (id, given) ∷ []) }
 {
-    match change {
-        Some(given) => Ok(Some(Kept::of(alloc, given)?)),
-        None => Ok(None),
+    match given {
+        Some(given) => add_record(changes, id, given),
+        None => changes.add_none(id),
     }
 }
 
-/// Tells the prover that a map's ids rise.
-pub(crate) fn tell_rising<X>(map: &Map<X>)
-    ensures { HasRisingIds map.now }
+/// Adds the record that a vertex is given.
+fn add_record<V: Drop, M: Drop>(
+    changes: &mut Changes<V, M>,
+    id: VertexId,
+    given: Record<V, M>,
+) -> Result<(), Memory>
+    ensures { OnOk result (changes.new ≡ changes.old ++ (id, Some given) ∷ []) }
 {
-    let _count = map.len();
+    let Record {
+        value,
+        edges,
+        halted,
+        sent,
+        contributed,
+    } = given;
+    let state = VertexState {
+        id,
+        value,
+        edges,
+        halted,
+    };
+    let mut sent = sent.into_vec();
+    let mut contributed = contributed.into_vec();
+    changes.add(state, &mut sent, &mut contributed)
 }

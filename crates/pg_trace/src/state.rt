@@ -3,7 +3,8 @@ ghost use Rattle.std.specs.Prelude.{◌≡◌};
 ghost use Rattle.pg_trace.specs.Trace.{left_by};
 
 use pg_graph::{Edges, VertexId};
-use pg_model::{Record, VertexState};
+use pg_model::VertexState;
+use pg_records::RecordRef;
 use std::marker::Model;
 
 /// The state of a vertex as a superstep begins. A contract sees it as a `VertexState`.
@@ -37,14 +38,14 @@ impl<'a, V> StateRef<'a, V> {
     }
 
     /// The state that a record leaves.
-    pub(crate) fn of_record<M>(id: VertexId, left: &'a Record<V, M>) -> StateRef<'a, V>
+    pub(crate) fn of_record<M>(id: VertexId, left: &RecordRef<'a, V, M>) -> StateRef<'a, V>
         ensures { result ≡ left_by id left.now }
     {
         StateRef {
             id,
-            value: &left.value,
-            edges: &left.edges,
-            halted: left.halted,
+            value: left.value(),
+            edges: left.edges(),
+            halted: left.halted(),
         }
     }
 

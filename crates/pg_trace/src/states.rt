@@ -1,6 +1,7 @@
 //! Look-ups of states that come near one another.
-ghost use Rattle.std.specs.Prelude.{◌≡◌, ◌+◌};
-ghost use Rattle.std.specs.Option.{option_copied, option_map, option_or};
+ghost use Rattle.std.specs.Prelude.{◌≡◌, ◌+◌, [], slice_index_or};
+ghost use Rattle.std.specs.Option.{option_and_then, option_copied, option_map, option_or};
+ghost use Rattle.pg_map.specs.Entries.{value_at};
 ghost use Rattle.pg_index.specs.Ran.{IsIndex};
 ghost use Rattle.pg_trace.specs.OfRun.{IsOfRun};
 ghost use Rattle.pg_trace.specs.Trace.{left_by, state_at};
@@ -8,9 +9,9 @@ ghost use Rattle.pg_trace.specs.Trace.{left_by, state_at};
 use crate::beginnings::{Beginnings, BegunFinder};
 use crate::{StateRef, Turn};
 use pg_graph::{Superstep, VertexId};
-use pg_index::{Index, Kept, LastFinder, LastRecords};
-use pg_map::Map;
-use pg_model::{Record, VertexState};
+use pg_index::{Index, IndexFinder, LastRuns, Run};
+use pg_model::VertexState;
+use pg_records::{RecordRef, Records};
 use std::marker::Model;
 
 /// Looks up the states of vertices in a trace. Where an id lies near the one before, it costs a search near that.
@@ -18,7 +19,8 @@ use std::marker::Model;
 #[derive(Drop)]
 pub struct States<'a, V, M> {
     initial: BegunFinder<'a, V>,
-    records: LastFinder<'a, V, M>,
+    runs: IndexFinder<'a>,
+    supersteps: &'a [Records<V, M>],
 }
 
 impl<'a, V, M> Model for States<'a, V, M> {
@@ -26,22 +28,27 @@ impl<'a, V, M> Model for States<'a, V, M> {
 
     ghost Value = { Trace V M };
 
-    ghost view = { λ s. record { initial = s.initial; records = s.records } };
+    ghost use Rattle.pg_index.specs.Ran.{IsIndex};
+
+    ghost view = { λ s. record { initial = s.initial; records = s.supersteps.now } };
+
+    ghost invariant = { λ s. IsIndex s.supersteps.now s.runs };
 }
 
 impl<'a, V: Drop, M: Drop> States<'a, V, M> {
     /// Look-ups in a trace of these parts.
     pub(crate) fn of(
         initial: &'a Beginnings<V>,
-        ran: &'a Index<V, M>,
-        supersteps: &'a [Map<Kept<V, M>>],
+        ran: &'a Index,
+        supersteps: &'a [Records<V, M>],
     ) -> States<'a, V, M>
         requires { IsIndex supersteps.now ran.now }
         ensures { result ≡ record { initial = initial.now; records = supersteps.now } }
     {
         States {
             initial: initial.finder(),
-            records: ran.finder(supersteps),
+            runs: ran.finder(),
+            supersteps,
         }
     }
 
@@ -54,7 +61,7 @@ impl<'a, V: Drop, M: Drop> States<'a, V, M> {
         ensures run { IsOfRun self.old id superstep result }
         ensures same { self.new ≡ self.old }
     {
-        self.state_before(id, superstep.number() as usize)
+        self.state_before(id, superstep.number())
     }
 
     /// The states of a vertex as a superstep begins and as the next one begins: those that `state_at` finds, by one look-up
@@ -64,10 +71,11 @@ impl<'a, V: Drop, M: Drop> States<'a, V, M> {
         ensures after { result.after ≡ state_at id (superstep + 1) self.old }
         ensures same { self.new ≡ self.old }
     {
-        let LastRecords { before, after } = self
-            .records
-            .last_around(id, superstep.number() as usize);
-        if let (Some(before), Some(after)) = (before, after) {
+        let supersteps = self.supersteps;
+        let LastRuns { before, after } = self.runs.last_around(id, superstep.number());
+        let before = record_of(supersteps, id, before);
+        let after = record_of(supersteps, id, after);
+        if let (Some(before), Some(after)) = (&before, &after) {
             return Turn {
                 before: Some(StateRef::of_record(id, before)),
                 after: Some(StateRef::of_record(id, after)),
@@ -75,18 +83,20 @@ impl<'a, V: Drop, M: Drop> States<'a, V, M> {
         }
         let begun = self.initial.get(id);
         Turn {
-            before: state_left(id, before, begun),
-            after: state_left(id, after, begun),
+            before: state_left(id, &before, begun),
+            after: state_left(id, &after, begun),
         }
     }
 
     /// The state of a vertex as a superstep begins.
-    fn state_before(&mut self, id: VertexId, place: usize) -> Option<StateRef<'a, V>>
-        ensures value { result ≡ state_at id place self.old }
+    fn state_before(&mut self, id: VertexId, superstep: u32) -> Option<StateRef<'a, V>>
+        ensures value { result ≡ state_at id superstep self.old }
         ensures same { self.new ≡ self.old }
     {
-        match self.records.last_before(id, place) {
-            Some(left) => Some(StateRef::of_record(id, left)),
+        let supersteps = self.supersteps;
+        let run = self.runs.last_before(id, superstep);
+        match record_of(supersteps, id, run) {
+            Some(left) => Some(StateRef::of_record(id, &left)),
             None => {
                 let state = self.initial.get(id)?;
                 Some(StateRef::of_state(state))
@@ -95,13 +105,27 @@ impl<'a, V: Drop, M: Drop> States<'a, V, M> {
     }
 }
 
+/// The record of a run of a vertex, if there is one.
+fn record_of<'a, V: Drop, M: Drop>(
+    supersteps: &'a [Records<V, M>],
+    id: VertexId,
+    run: Option<Run>,
+) -> Option<RecordRef<'a, V, M>>
+    ensures { result
+        ≡ option_and_then (λ t. value_at id (slice_index_or supersteps.now t [])) (option_map (λ r. r.superstep) run) }
+{
+    let run = run?;
+    let records = supersteps.get(run.superstep as usize)?;
+    records.get(id, run.place as usize)
+}
+
 /// The state that a record leaves, or where there is none the one with which the vertex began.
 fn state_left<'a, V, M>(
     id: VertexId,
-    left: Option<&'a Record<V, M>>,
+    left: &Option<RecordRef<'a, V, M>>,
     begun: Option<&'a VertexState<V>>,
 ) -> Option<StateRef<'a, V>>
-    ensures { result ≡ option_or (option_map (left_by id) (option_copied left.entry)) (option_copied begun.entry) }
+    ensures { result ≡ option_or (option_map (left_by id) (left.now)) (option_copied begun.entry) }
 {
     match left {
         Some(left) => Some(StateRef::of_record(id, left)),

@@ -1,19 +1,19 @@
 //! The trace of a partition's run.
 ghost use Rattle.std.specs.Prelude.{◌≡◌, length, map, ◌<◌, ◌≤◌, IfOk, OnOk, OnErr};
-ghost use Rattle.std.specs.Option.{option_copied};
 ghost use Rattle.pg_map.specs.Entries.{ChangesRise, HasRisingIds};
 ghost use Rattle.pg_trace.specs.Beginning.{ChangesById, with_first};
 ghost use Rattle.pg_trace.specs.OfRun.{IsOfRun};
-ghost use Rattle.pg_trace.specs.Trace.{StatesRise, begun, lent, record_at, records_of, state_at, reaching, with_superstep, first_supersteps, with_replaced};
+ghost use Rattle.pg_records.specs.Records.{awake_after};
+ghost use Rattle.pg_trace.specs.Trace.{StatesRise, begun, record_at, records_of, state_at, reaching, with_superstep, first_supersteps, with_replaced};
 
 use crate::StateRef;
 use crate::beginnings::Beginnings;
-use crate::records::{all_given, all_kept, changes_kept, cut_index, listed, shared, tell_rising};
+use crate::records::{all_changed, all_given, cut_index, narrow, put_records, shared};
 use crate::states::States;
 use pg_graph::{Memory, Superstep, VertexId};
-use pg_index::{Index, Kept, kept_in, put_records};
-use pg_map::Map;
+use pg_index::Index;
 use pg_model::{Record, VertexState};
+use pg_records::{Changes, RecordRef, Records};
 use std::alloc::Global;
 use std::marker::Model;
 
@@ -25,8 +25,8 @@ use std::marker::Model;
 /// lies beside the memory that copies share, and is put into that once, where the trace is settled.
 pub struct Trace<V, M> {
     initial: Beginnings<V>,
-    supersteps: Vec<Map<Kept<V, M>>>,
-    ran: Index<V, M>,
+    supersteps: Vec<Records<V, M>>,
+    ran: Index,
 }
 
 // By hand, so that it is let go by one call wherever that is, and not field by field.
@@ -115,11 +115,11 @@ impl<V: Drop, M: Drop> Trace<V, M> {
     }
 
     /// The record of a vertex in a superstep, if it ran in it. Costs two binary searches.
-    pub fn record_at(&self, id: VertexId, superstep: Superstep) -> Option<&Record<V, M>>
-        ensures { option_copied result ≡ record_at id superstep self.now }
+    pub fn record_at(&self, id: VertexId, superstep: Superstep) -> Option<RecordRef<'_, V, M>>
+        ensures { result ≡ record_at id superstep self.now }
     {
-        let kept = kept_in(self.supersteps.as_slice(), id, superstep.number() as usize)?;
-        Some(kept.record())
+        let records = self.supersteps.get(superstep.number() as usize)?;
+        records.get(id, 0)
     }
 
     /// The state of a vertex as a superstep begins: that of its last record before it, else its
@@ -184,22 +184,22 @@ impl<V: Drop, M: Drop> Trace<V, M> {
         self,
         alloc: Global,
         superstep: Superstep,
-        changes: Vec<(VertexId, Option<Record<V, M>>)>,
+        changes: Changes<V, M>,
     ) -> Result<Trace<V, M>, Memory>
-        requires rise { ChangesRise changes.items }
+        requires rise { ChangesRise changes }
         requires within { superstep ≤ length self.records }
         ensures { IfOk result
-            (λ after. after ≡ with_replaced superstep changes.items (reaching superstep self)) }
+            (λ after. after ≡ with_replaced superstep changes (reaching superstep self)) }
     {
-        let place = superstep.number() as usize;
         let Trace {
             initial,
             supersteps,
             ran,
         } = self;
-        let changes = changes_kept(alloc, changes)?;
-        let ran = ran.noted(alloc, supersteps.as_slice(), place, changes.as_slice())?;
-        let supersteps = put_records(alloc, supersteps, place, changes)?;
+        let number = superstep.number();
+        let places = changes.places(alloc)?;
+        let ran = ran.noted(alloc, number, places.as_slice())?;
+        let supersteps = put_records(alloc, supersteps, number as usize, changes)?;
         Ok(Trace {
             initial,
             supersteps,
@@ -213,12 +213,23 @@ impl<V: Drop, M: Drop> Trace<V, M> {
         &self,
         alloc: Global,
         superstep: Superstep,
-    ) -> Result<Vec<(VertexId, &Record<V, M>)>, Memory>
-        ensures records { IfOk result (λ found. lent found.items ≡ records_of superstep self.now) }
+    ) -> Result<Vec<(VertexId, RecordRef<'_, V, M>)>, Memory>
+        ensures records { IfOk result (λ found. found.items ≡ records_of superstep self.now) }
         ensures rising { HasRisingIds (records_of superstep self.now) }
     {
         match self.supersteps.get(superstep.number() as usize) {
-            Some(records) => listed(alloc, records),
+            Some(records) => records.listed(alloc),
+            None => Ok(Vec::new(alloc)),
+        }
+    }
+
+    /// The ids of the vertices that weren't halted by their records of a superstep, rising. Costs a look at each record.
+    pub fn awake_after(&self, alloc: Global, superstep: Superstep) -> Result<Vec<VertexId>, Memory>
+        ensures ids { IfOk result (λ ids. ids.items ≡ awake_after (records_of superstep self.now)) }
+        ensures rising { HasRisingIds (records_of superstep self.now) }
+    {
+        match self.supersteps.get(superstep.number() as usize) {
+            Some(records) => records.awake(alloc),
             None => Ok(Vec::new(alloc)),
         }
     }
@@ -238,12 +249,11 @@ impl<V: Drop, M: Drop> Trace<V, M> {
         ensures ok { OnOk result (self.new ≡ with_superstep records.items self.old) }
         ensures err { OnErr result (self.new ≡ self.old) }
     {
-        let records = Map::from_rising(alloc, all_kept(alloc, records)?)?;
-        let given = all_given(alloc, &records)?;
-        let supersteps = self.supersteps.as_slice();
-        let ran = self
-            .ran
-            .noted_beside(alloc, supersteps, supersteps.len(), given.as_slice())?;
+        let given = all_given(alloc, records)?;
+        let places = given.places(alloc)?;
+        let superstep = narrow(self.supersteps.len())?;
+        let ran = self.ran.noted_beside(alloc, superstep, places.as_slice())?;
+        let records = Records::of(alloc, given)?;
         self.supersteps.push(records)?;
         self.ran = ran;
         Ok(())
@@ -287,16 +297,12 @@ impl<V: Drop, M: Drop> Trace<V, M> {
         if changes.is_empty() {
             return Ok(());
         }
-        let place = superstep.number() as usize;
-        let changes = changes_kept(alloc, changes)?;
-        let supersteps = self.supersteps.as_slice();
-        let ran = self
-            .ran
-            .noted_beside(alloc, supersteps, place, changes.as_slice())?;
-        let mut records = supersteps[place].share()?;
-        tell_rising(&records);
-        records.change(alloc, changes.as_slice())?;
-        self.supersteps[place] = records;
+        let number = superstep.number();
+        let changes = all_changed(alloc, changes)?;
+        let places = changes.places(alloc)?;
+        let ran = self.ran.noted_beside(alloc, number, places.as_slice())?;
+        let records = self.supersteps[number as usize].changed(alloc, changes)?;
+        self.supersteps[number as usize] = records;
         self.ran = ran;
         Ok(())
     }

@@ -7,16 +7,14 @@ ghost use Rattle.pg_values.specs.Values.{HaveShares, ids_before, ids_of_part, ra
 ghost use Rattle.pg_graph.specs.Rows.{Rows};
 ghost use Rattle.pg_model.specs.Job.{Job};
 ghost use Rattle.pg_model.specs.Run.{configuration, values_of};
-ghost use Rattle.pg_trace.specs.Trace.{lent};
 
 use crate::Values;
 use crate::kept::Held;
 use pg_course::rising;
 use pg_graph::{Memory, Missing, Superstep, VertexId};
-use pg_model::Record;
 use pg_part::{Part, Partitioner};
 use pg_program::Plain;
-use pg_trace::{StateRef, States, Trace};
+use pg_trace::{RecordRef, StateRef, States, Trace};
 use std::alloc::Global;
 
 /// The values of the vertices as a superstep begins, by rising id. Costs a sort of their ids and a look-up for each;
@@ -178,9 +176,9 @@ pub(crate) fn add_ran<V: Plain, M: Plain>(
 /// Adds the ids of records.
 fn add_keys<V, M>(
     ids: &mut Vec<VertexId>,
-    records: &[(VertexId, &Record<V, M>)],
+    records: &[(VertexId, RecordRef<'_, V, M>)],
 ) -> Result<(), Memory>
-    ensures { OnOk result (ids.new.items ≡ ids.old.items ++ keys_of (lent records.now)) }
+    ensures { OnOk result (ids.new.items ≡ ids.old.items ++ keys_of records.now) }
 {
     for (id, _) in records {
         ids.push(*id)?;

@@ -1,4 +1,4 @@
-use Rattle.std.proofs.Common.{◌≡◌, ℕ, Bool, true, false, not, cond, List, [], ◌∷◌, ap, sym, ◌∙◌, subst}
+use Rattle.std.proofs.Common.{◌≡◌, ℕ, Bool, true, false, not, cond, List, [], ◌∷◌, sym, subst}
 use Rattle.std.proofs.lemmas.Result.{IfOk-weaker}
 use Rattle.std.specs.List.{AllByRecursion, filter}
 use Rattle.std.specs.List.Sorted.{IsStrictlySortedBy}
@@ -7,8 +7,7 @@ use Rattle.std.specs.Ordering.{nat_cmp}
 use Rattle.std.specs.declared.cmp.Ordering.TheVariants.{Less}
 use Rattle.pg_map.specs.Entries.{HasRisingIds}
 use Rattle.pg_model.specs.declared.record.Record.{Record}
-use Rattle.pg_compute.specs.Lists.{awake_after}
-use Rattle.pg_trace.specs.Trace.{lent}
+use Rattle.pg_records.specs.Records.{awake_after}
 use Rattle.pg_compute.proofs.candidates.awake_ids.Goals as goal
 
 module _ {V M : Type 0} where
@@ -32,9 +31,7 @@ module _ {V M : Type 0} where
       by true later = (awake_above r.0 rs h.0, later)
       by false later = later
 
-pub returns-in_ok-records-in-Some-clause-rising : goal.returns-in_ok-records-in-Some-clause-rising
-returns-in_ok-records-in-Some-clause-rising g c =
-    let found = c.in_ok-records-in-Some.ensures in
-    IfOk-weaker c.awake_after.result _ _ (λ ids is. subst (IsStrictlySortedBy nat_cmp)
-    (sym (is ∙ (ap (λ l. awake_after (lent l)) c.as_slice.ensures.value ∙ ap awake_after found.records)))
-    (awake_rise _ found.rising)) c.awake_after.ensures
+pub returns-in-Some-clause-rising : goal.returns-in-Some-clause-rising
+returns-in-Some-clause-rising g c =
+    IfOk-weaker c.awake_after.result _ _ (λ ids is. subst (IsStrictlySortedBy nat_cmp) (sym is) (awake_rise _ c.awake_after.ensures.rising))
+    c.awake_after.ensures.ids

@@ -36,8 +36,8 @@ loop-place-preserved g c =
     let more : map (alone program c.args.missing s trace) (before ++ one ∷ []) ≡ found ++ alone program c.args.missing s trace one ∷ [] =
     map-append (alone program c.args.missing s trace) before (one ∷ []) in
     let given = c.given_at.ensures
-    ∙ ap₂ given_at (c.as_slice.ensures.value ∙ c.in_ok-stage.ensures.changes) (c.len-before.ensures ∙ c.loop-place.changes.ok.0)
-    ∙ given_is program c.loop-place.stage.view (record { id = one.0; old = None; new = vertex }) c.loop-place.changes.items
+    ∙ ap₂ given_at c.in_ok-stage.ensures.changes c.len-before.ensures
+    ∙ given_is program c.loop-place.stage.view (record { id = one.0; old = None; new = vertex }) c.loop-place.changes
     ∙ ap₂ (λ v x. option_map program.step (reads v x)) now.view here in
     let runs : View → Candidate g.row.P-Value.Denot g.row.P-Message.Denot → _ = λ v c. is_some (reads v c.new) in
     let view = c.args.stage.view in

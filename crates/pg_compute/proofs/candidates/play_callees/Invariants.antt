@@ -17,7 +17,7 @@ invariant-loop-place g l =
     let found = map (alone program l.missing l.superstep l.trace) before in
     record {
       looked_at : l.looked_at.items ≡ keys_of before;
-      changes : l.changes.items ≡ flat_map (change_alone program l.fn.stage.view) found;
+      changes : l.changes ≡ flat_map (change_alone program l.fn.stage.view) found;
       view : l.stage.view ≡ l.fn.stage.view;
       meter : l.stage.meter ≡ capped (l.fn.stage.meter + count_by (λ c. is_some (reads l.fn.stage.view c.new)) found);
       gone : l.turned.gone ≡ census_of (states_among l.superstep (keys_of before) l.trace);

@@ -51,8 +51,8 @@ returns g c =
           ∙ ap (λ l. capped (c.args.stage.meter + count_by (is_run value_eq message_eq program c.args.stage.view c.args.seen) l)) all;
     }
 
-pub returns-in_err-with_capacity : goal.returns-in_err-with_capacity
-returns-in_err-with_capacity g c =
+pub returns-in_err-looked_at : goal.returns-in_err-looked_at
+returns-in_err-looked_at g c =
     let none = c.from_residual.ensures.0 in
     let at = c.from_residual.result in
     record { looked_at = IfOk-from_err at _ none; changes = IfOk-from_err at _ none; view = IfOk-from_err at _ none; meter = IfOk-from_err at _ none }
@@ -65,8 +65,8 @@ returns-in_err-played g c =
 
 pub loop-candidate-init : goal.loop-candidate-init
 loop-candidate-init g c = record {
-  looked_at = c.in_ok-with_capacity.ensures.items;
-  changes = c.new.ensures.items;
+  looked_at = c.in_ok-looked_at.ensures.items;
+  changes = c.in_ok-changes.ensures;
   view = refl;
   meter = capped_same c.args.stage.meter c.requires.fits;
   whole = c.into_iter-candidate-iterator.ensures.into_iter_gives.0;

@@ -9,7 +9,7 @@ invariant-loop-candidate g l =
     let program = g.P.Computation.program l.program in
     record {
       looked_at : l.played.looked_at.items ≡ map (λ c. c.id) l.yielded;
-      changes : l.played.changes.items ≡ flat_map (change_of g.P.Value.PartialEq.eq g.P.Message.PartialEq.eq program l.fn.stage.view l.seen) l.yielded;
+      changes : l.played.changes ≡ flat_map (change_of g.P.Value.PartialEq.eq g.P.Message.PartialEq.eq program l.fn.stage.view l.seen) l.yielded;
       view : l.played.stage.view ≡ l.fn.stage.view;
       meter : l.played.stage.meter ≡ capped (l.fn.stage.meter + count_by
           (is_run g.P.Value.PartialEq.eq g.P.Message.PartialEq.eq program l.fn.stage.view l.seen) l.yielded);

@@ -20,8 +20,8 @@ returns g c =
     ] in
     record {
       looked_at = IfOk-weaker c.play_other.result _ _ (λ p is. is ∙ c.in_ok-push.ensures.items) c.play_other.ensures.looked_at;
-      changes = subst (λ (b : Bool). IfOk c.play_other.result (λ p. p.changes.items
-          ≡ before.changes.items ++ change_unless program view (b || are_at_rest one.old one.new) one))
+      changes = subst (λ (b : Bool). IfOk c.play_other.result (λ p. p.changes
+          ≡ before.changes ++ change_unless program view (b || are_at_rest one.old one.new) one))
           (sym apart) c.play_other.ensures.changes;
       view = c.play_other.ensures.view;
       meter = subst (λ (b : Bool). IfOk c.play_other.result (λ p. p.stage.meter
@@ -46,8 +46,8 @@ returns-then-are_same_reading g c =
     ap₂ ◌&&◌ c.if-seen.true (sym c.are_same_reading.ensures.value ∙ c.if-are_same_reading.true) in
     record {
       looked_at = c.in_ok-push.ensures.items;
-      changes = sym (append-nil before.changes.items)
-          ∙ ap (λ (b : Bool). before.changes.items ++ change_unless program view (b || are_at_rest one.old one.new) one) (sym same);
+      changes = sym (append-nil before.changes)
+          ∙ ap (λ (b : Bool). before.changes ++ change_unless program view (b || are_at_rest one.old one.new) one) (sym same);
       view = refl;
       meter = capped_same meter c.requires.fits ∙ ap (λ (b : Bool). capped (meter + cond (not b && is_some (reads view one.new)) 1 0)) (sym same);
     }

@@ -39,7 +39,7 @@ unfolding change stopped
 returns g c =
     let program = g.P.Computation.program c.args.program.now in
     let one = c.args.candidate in
-    let before = c.args.played.changes.items in
+    let before = c.args.played.changes in
     let view = c.args.played.stage.view in
     let found = c.in_ok-stage.ensures in
     let alone = cond (not (is_running one.new)) [] (change program view one.id one.new) in

@@ -1,4 +1,4 @@
-use Rattle.std.proofs.Common.{◌<◌, sym, ◌∙◌, subst, subst₂}
+use Rattle.std.proofs.Common.{◌<◌, sym, ◌∙◌, subst}
 use Rattle.std.specs.List.{flat_map, slice_get}
 use Rattle.std.proofs.lemmas.Result.{IfOk-from_err}
 use Rattle.pg_routing.specs.Sending.{IsFresh, items_to, sends_of}
@@ -11,9 +11,8 @@ returns-clause-concluded g c =
       further = c.in_ok-course.ensures;
       to_each = c.in_ok-sent.ensures.to_each ∙ all;
       sends = λ q below.
-          subst₂ (λ n changes. IsFresh (g.C.MessageCombiner.combining c.args.combiner.now) (items_to n q (flat_map sends_of changes))
-          (slice_get c.in_ok-sent.sent q))
-          all c.as_slice.ensures.value (c.in_ok-sent.ensures.sends q (subst (λ n. q < n) (sym all) below));
+          subst (λ n. IsFresh (g.C.MessageCombiner.combining c.args.combiner.now) (items_to n q (flat_map sends_of c.args.played.changes))
+          (slice_get c.in_ok-sent.sent q)) all (c.in_ok-sent.ensures.sends q (subst (λ n. q < n) (sym all) below));
     }
 
 pub returns-in_err-sent : goal.returns-in_err-sent

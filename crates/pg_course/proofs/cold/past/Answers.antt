@@ -16,7 +16,7 @@ invariant_of-result g c =
     let place = c.course.inside.place in
     let trace = reaching place c.course.inside.trace in
     let reached = length-reaching place c.course.inside.trace c.course.invariant.0 in
-    let long = ap (λ t. length t.records) c.in_ok-trace.ensures ∙ length-set trace.records place (with_changes c.args.changes.items (records_of place trace)) in
+    let long = ap (λ t. length t.records) c.in_ok-trace.ensures ∙ length-set trace.records place (with_changes c.args.changes (records_of place trace)) in
     let next = c.new.ensures ∙ ap (λ k. k + 1) c.number.ensures in
     let fact : c.new.result ≤ length c.in_ok-trace.trace.records = omega (arith, next, long, reached) in (
       fact,
@@ -24,7 +24,7 @@ invariant_of-result g c =
           let same : place ≡ s = omega (arith, later, next) in
           subst₂ (λ (k : ℕ) trace. (t.gone ≡ census_of (states_among k c.args.looked_at.items trace)) × (t.come ≡ census_of (states_among (k + 1) c.args.looked_at.items trace)))
           same (sym c.in_ok-trace.ensures) (turned.gone, turned.come))
-          (subst (λ h. IfSome c.args.turned (IsTurned h.place h.trace c.args.looked_at.items c.args.changes.items)) (sym c.course.view_is) c.requires.turned),
+          (subst (λ h. IfSome c.args.turned (IsTurned h.place h.trace c.args.looked_at.items c.args.changes)) (sym c.course.view_is) c.requires.turned),
     )
 
 pub returns : goal.returns
@@ -41,7 +41,7 @@ returns g c =
       changed = c.args.looked_at.items;
       beside_old = false;
     } in
-    subst (λ h. after ≡ past h c.args.looked_at.items c.args.changes.items) c.course.view_is
+    subst (λ h. after ≡ past h c.args.looked_at.items c.args.changes) c.course.view_is
     (λ i. record {
       partition = c.course.inside.partition;
       partitions = c.course.inside.partitions;

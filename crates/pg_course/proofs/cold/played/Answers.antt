@@ -19,4 +19,4 @@ returns-clause-some g c =
 pub returns-clause-turned : goal.returns-clause-turned
 returns-clause-turned g c =
     IfOk-weaker c.play_alone.result _ _ (λ played turned. subst
-    (λ h. IfSome played.turned (IsTurned h.place h.trace played.looked_at.items played.changes.items)) c.course.view_is turned) c.play_alone.ensures.turned
+    (λ h. IfSome played.turned (IsTurned h.place h.trace played.looked_at.items played.changes)) c.course.view_is turned) c.play_alone.ensures.turned

@@ -14,7 +14,7 @@ invariant_of-result g c =
     let place = c.course.inside.place in
     let trace = reaching place c.course.inside.trace in
     let reached = length-reaching place c.course.inside.trace c.course.invariant.0 in
-    let long = ap (λ t. length t.records) c.in_ok-trace.ensures ∙ length-set trace.records place (with_changes c.args.changes.items (records_of place trace)) in
+    let long = ap (λ t. length t.records) c.in_ok-trace.ensures ∙ length-set trace.records place (with_changes c.args.changes (records_of place trace)) in
     let next = c.new-place.ensures ∙ ap (λ k. k + 1) c.number.ensures in
     let fact : c.new-place.result ≤ length c.in_ok-trace.trace.records = omega (arith, next, long, reached) in
     (fact, tt)
@@ -39,7 +39,7 @@ returns-clause-further g c =
       changed = looked_at;
       beside_old = true;
     } in
-    subst (λ h. after ≡ further value_eq h old looked_at c.args.changes.items) c.course.view_is
+    subst (λ h. after ≡ further value_eq h old looked_at c.args.changes) c.course.view_is
     (λ i. record {
       partition = c.course.inside.partition;
       partitions = c.course.inside.partitions;
@@ -58,9 +58,9 @@ returns-clause-told g c =
     let value_eq = g.V.PartialEq.eq in
     let old = c.args.old in
     let place = c.course.inside.place in
-    let trace = with_replaced place c.args.changes.items (reaching place c.course.inside.trace) in
+    let trace = with_replaced place c.args.changes (reaching place c.course.inside.trace) in
     let next = c.new-place.ensures ∙ ap (λ k. k + 1) c.number.ensures in
-    subst (λ (h : Holding g.row.V.Denot g.row.M.Denot). AreCompared value_eq h old c.args.looked_at.items c.args.changes.items) c.course.view_is
+    subst (λ (h : Holding g.row.V.Denot g.row.M.Denot). AreCompared value_eq h old c.args.looked_at.items c.args.changes) c.course.view_is
     (subst (AreTold value_eq old trace (place + 1)) c.as_slice.ensures.value
     (subst₂ (λ t k. AreTold value_eq old t k c.as_slice.result.now) c.in_ok-trace.ensures next c.in_ok-differing.ensures.told))
 

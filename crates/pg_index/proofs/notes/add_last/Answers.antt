@@ -1,12 +1,10 @@
-use Rattle.std.proofs.Common.{Some, refl, ap, sym, ◌∙◌}
-use Rattle.pg_index.specs.Ran.{noted}
-use Rattle.pg_index.proofs.InPlace.{noted_pushed}
+use Rattle.std.proofs.Common.{true, refl, ap, sym, ◌∙◌}
+use Rattle.pg_index.specs.Ran.{steps_in, with_ran}
+use Rattle.pg_index.proofs.InPlace.{ran_last}
 use Rattle.pg_index.proofs.notes.add_last.Goals as goal
 
 pub returns-in_ok-push-in-Some-clause-added : goal.returns-in_ok-push-in-Some-clause-added
-returns-in_ok-push-in-Some-clause-added g c was_added id records =
+returns-in_ok-push-in-Some-clause-added c was_added =
     let s = c.args.superstep in
-    let x = c.args.kept.now in
-    noted_pushed id records s x c.in_ok-share-in-Some.field-0 c.in-Some.ran c.push.new.self (c.if-not-are_below.ensures refl)
-    c.in_ok-push-in-Some.ensures c.in_ok-share-in-Some.ensures
-    ∙ ap (noted id records s (Some (Some x))) (sym c.in-Some.is)
+    c.in_ok-push-in-Some.ensures ∙ sym (ran_last s c.in-Some.ran (c.if-not-are_below.ensures refl))
+    ∙ ap (λ o. with_ran s true (steps_in o)) (sym c.in-Some.is)

@@ -5,10 +5,10 @@ use Rattle.pg_index.proofs.InChunks.{one_more}
 use Rattle.pg_index.proofs.notes.copied.Goals as goal
 
 pub loop-chunk-preserved : goal.loop-chunk-preserved
-loop-chunk-preserved g c =
+loop-chunk-preserved c =
     let done = c.loop-chunk.copies.items in
     c.in_ok-copy_of.ensures ∙ ap (λ l. done ++ l) c.as_slice.ensures.value ∙ ap (λ l. l ++ listed c.chunk-item.result) c.loop-chunk.invariant
     ∙ sym (one_more c.args.notes.now c.loop-chunk.chunk-index c.chunk-item.result c.loop-chunk-test.true c.chunk-item.is)
 
 pub returns : goal.returns
-returns g c = c.loop-chunk.invariant ∙ ap all_of (take_all c.loop-chunk.chunk-index c.args.notes.now c.loop-chunk-test.false)
+returns c = c.loop-chunk.invariant ∙ ap all_of (take_all c.loop-chunk.chunk-index c.args.notes.now c.loop-chunk-test.false)

@@ -3,7 +3,7 @@ use Rattle.std.proofs.lemmas.List.{take_all, take_more}
 use Rattle.pg_index.proofs.notes.copy_of.Goals as goal
 
 pub loop-id-preserved : goal.loop-id-preserved
-loop-id-preserved g c =
+loop-id-preserved c =
     let start = c.args.copies.now.items in
     let notes = c.args.notes.now in
     let i = c.loop-id.id-index in
@@ -14,4 +14,4 @@ loop-id-preserved g c =
     ∙ ap (λ l. start ++ l) (ap (λ e. take i notes ++ e ∷ []) c.loop-id-item.is ∙ sym (take_more notes i note c.loop-id-test.true))
 
 pub returns : goal.returns
-returns g c = c.loop-id.invariant ∙ ap (λ l. c.args.copies.now.items ++ l) (take_all c.loop-id.id-index c.args.notes.now c.loop-id-test.false)
+returns c = c.loop-id.invariant ∙ ap (λ l. c.args.copies.now.items ++ l) (take_all c.loop-id.id-index c.args.notes.now c.loop-id-test.false)

@@ -5,7 +5,7 @@ use Rattle.pg_index.proofs.Somes.{nil_from_test}
 use Rattle.pg_index.proofs.notes.moved.Goals as goal
 
 pub loop-chunk-preserved : goal.loop-chunk-preserved
-loop-chunk-preserved g c =
+loop-chunk-preserved c =
     let before = c.loop-chunk.list.items in
     let left = c.next.new.self.rest.items in
     let added : c.append.new.self.items ≡ before ++ listed c.in-Some.chunk = c.in_ok-append.ensures.items in
@@ -13,7 +13,7 @@ loop-chunk-preserved g c =
     ∙ ap (λ l. before ++ all_of l) (sym c.in-Some.ensures.steps.0) ∙ c.loop-chunk.invariant
 
 pub returns : goal.returns
-returns g c =
+returns c =
     let all = c.loop-chunk.list.items in
     let rest = c.loop-chunk.chunk-iterator.rest in
     let none = nil_from_test rest.items 0 (sym c.in-None.ensures.steps.0 ∙ rest.ok.0) refl in

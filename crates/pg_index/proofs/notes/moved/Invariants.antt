@@ -3,4 +3,4 @@ use Rattle.pg_index.specs.Chunks.{all_of}
 use Rattle.pg_index.proofs.notes.moved.Given as goal
 
 abbrev pub invariant-loop-chunk : goal.invariant-loop-chunk
-invariant-loop-chunk g l = l.list.items ++ all_of l.chunk-iterator.rest.items ≡ all_of l.fn.notes.items
+invariant-loop-chunk l = l.list.items ++ all_of l.chunk-iterator.rest.items ≡ all_of l.fn.notes.items

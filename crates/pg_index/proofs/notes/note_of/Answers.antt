@@ -1,17 +1,16 @@
-use Rattle.std.proofs.Common.{◌≡◌, Some, None, refl, ap, sym, ◌∙◌, subst}
+use Rattle.std.proofs.Common.{◌≡◌, Some, None, is_some, refl, ap, sym, ◌∙◌, subst}
 use Rattle.std.specs.List.Sorted.{IsNonDecreasingBy}
-use Rattle.std.specs.Option.{option_copied}
 use Rattle.std.specs.Vec.{with_item}
 use Rattle.pg_map.specs.Entries.{value_at}
 use Rattle.pg_index.specs.Chunks.{IsAt, all_of}
 use Rattle.pg_index.specs.declared.chunk.Chunk.{Chunk}
-use Rattle.pg_index.specs.Ran.{noted, steps_in}
+use Rattle.pg_index.specs.Ran.{steps_in, with_ran}
 use Rattle.pg_index.proofs.InChunks.{changed_there, value_found}
 use Rattle.pg_index.proofs.Over.{noted_over, over}
 use Rattle.pg_index.proofs.notes.note_of.Goals as goal
 
 pub note_again-requires : goal.note_again-requires
-note_again-requires g c =
+note_again-requires c =
     let id = c.args.id in
     let notes = c.args.notes.now.items in
     let at = subst (λ l. IsAt id l c.in-Some.chunk c.in-Some.place) c.as_slice.ensures.value c.in-Some.ensures.some in
@@ -23,7 +22,7 @@ note_again-requires g c =
     (over c.args.base.now (all_of notes) c.requires.rising c.requires.sound.rise id (Some e.1) found) c.requires.steps
 
 pub returns-in-Some-clause-sound : goal.returns-in-Some-clause-sound
-returns-in-Some-clause-sound g c =
+returns-in-Some-clause-sound c =
     let id = c.args.id in
     let notes = c.args.notes.now.items in
     let at = subst (λ l. IsAt id l c.in-Some.chunk c.in-Some.place) c.as_slice.ensures.value c.in-Some.ensures.some in
@@ -34,7 +33,7 @@ returns-in-Some-clause-sound g c =
     c.index_mut-in-Some.ensures.value refl refl).1
 
 pub returns-in-Some-clause-noted : goal.returns-in-Some-clause-noted
-returns-in-Some-clause-noted g c =
+returns-in-Some-clause-noted c =
     let id = c.args.id in
     let base = c.args.base.now in
     let notes = c.args.notes.now.items in
@@ -45,19 +44,18 @@ returns-in-Some-clause-noted g c =
     let found : value_at id (all_of notes) ≡ Some e.1 =
     value_found id notes c.requires.sound c.in-Some.chunk c.in-Some.place at chunk c.index_mut.ensures.value e
     ∙ ap (λ x. Some x.1) (sym c.index_mut-in-Some.ensures.value) in
-    noted_over base (all_of notes) c.requires.rising c.requires.sound.rise _ id c.args.supersteps.now c.args.superstep (option_copied c.args.given) e.1
-    c.note_again.new.steps
+    noted_over base (all_of notes) c.requires.rising c.requires.sound.rise _ id c.args.superstep (is_some c.args.given) e.1 c.note_again.new.steps
     (changed_there id notes c.requires.sound c.in-Some.chunk c.in-Some.place at chunk c.index_mut.ensures.value now e c.note_again.new.steps
     c.index_mut-in-Some.ensures.value refl refl).0
     (over base (all_of notes) c.requires.rising c.requires.sound.rise id (Some e.1) found) c.in_ok-note_again.ensures
 
 pub returns-clause-noted : goal.returns-clause-noted
-returns-clause-noted g c =
+returns-clause-noted c =
     let id = c.args.id in
     let base = c.args.base.now in
     let notes = c.args.notes.now.items in
     let none = ap (λ l. value_at id (all_of l)) (sym c.as_slice.ensures.value) ∙ c.in_default.ensures.none in
     noted_over base (all_of notes) c.requires.rising c.requires.sound.rise (all_of c.put.new.chunks.items)
-    id c.args.supersteps.now c.args.superstep (option_copied c.args.given) (value_at id base) c.in_ok-steps.steps c.in_ok-put.ensures.all
+    id c.args.superstep (is_some c.args.given) (value_at id base) c.in_ok-steps.steps c.in_ok-put.ensures.all
     (over base (all_of notes) c.requires.rising c.requires.sound.rise id None none)
-    (c.in_ok-steps.ensures ∙ ap (noted id c.args.supersteps.now c.args.superstep (Some (option_copied c.args.given))) c.get.ensures.value)
+    (c.in_ok-steps.ensures ∙ ap (λ o. with_ran c.args.superstep (is_some c.args.given) (steps_in o)) c.get.ensures.value)

@@ -1,28 +1,33 @@
-use Rattle.std.proofs.Common.{◌++◌, get_or, nat_lt, ap, ◌∙◌}
+use Rattle.std.proofs.Common.{◌++◌, nat_lt, ap, ◌∙◌}
 use Rattle.std.specs.List.{filter}
-use Rattle.std.proofs.lemmas.List.{take_all}
+use Rattle.std.proofs.lemmas.List.{take_all, map-append}
+use Rattle.pg_index.specs.History.{steps_of}
+use Rattle.pg_index.specs.declared.ran.Run.{Run}
 use Rattle.pg_index.proofs.Keeping.{kept_more, left_out}
+use Rattle.pg_index.proofs.Runs.{map-filter}
 use Rattle.pg_index.proofs.Supersteps.{lower, not_lower}
 use Rattle.pg_index.proofs.ran.add_below.Goals as goal
-use Rattle.pg_index.proofs.ran.add_below.Goals.{then-step-superstep+in_ok-push, else-step-superstep}
+use Rattle.pg_index.proofs.ran.add_below.Goals.{then-run-superstep+in_ok-push, else-run-superstep}
 
-pub loop-step-preserved : goal.loop-step-preserved
-loop-step-preserved c =
+pub loop-run-preserved : goal.loop-run-preserved
+loop-run-preserved c =
     let s = c.args.superstep in
-    let steps = c.args.steps.now in
+    let runs = c.args.runs.now in
     let start = c.args.into.now.items in
-    let i = c.loop-step.step-index in
-    let within = c.loop-step-test.true in
-    elim c.if-step-superstep.branch [
-      | then-step-superstep+in_ok-push w ↦ ap (λ v. v.items) w.into-is
-          ∙ kept_more (λ t. nat_lt t s) start steps i 0 within (lower (get_or steps i 0) s w.if-step-superstep.true)
-          c.loop-step.invariant w.in_ok-push.ensures.items
-      | else-step-superstep w ↦ ap (λ v. v.items) w.into-is
-          ∙ left_out (λ t. nat_lt t s) start steps i 0 within (not_lower (get_or steps i 0) s w.if-step-superstep.false) c.loop-step.invariant
+    let i = c.loop-run.run-index in
+    let within = c.loop-run-test.true in
+    elim c.if-run-superstep.branch [
+      | then-run-superstep+in_ok-push w ↦ ap (λ v. v.items) w.into-is
+          ∙ kept_more (λ r. nat_lt r.superstep s) start runs i _ within (lower _ s w.if-run-superstep.true) c.loop-run.invariant w.in_ok-push.ensures.items
+      | else-run-superstep w ↦ ap (λ v. v.items) w.into-is
+          ∙ left_out (λ r. nat_lt r.superstep s) start runs i _ within (not_lower _ s w.if-run-superstep.false) c.loop-run.invariant
     ]
 
 pub returns : goal.returns
 returns c =
     let s = c.args.superstep in
-    c.loop-step.invariant
-    ∙ ap (λ l. c.args.into.now.items ++ filter (λ t. nat_lt t s) l) (take_all c.loop-step.step-index c.args.steps.now c.loop-step-test.false)
+    let runs = c.args.runs.now in
+    let start = c.args.into.now.items in
+    let kept = filter (λ (r : Run). nat_lt r.superstep s) runs in
+    ap steps_of (c.loop-run.invariant ∙ ap (λ l. start ++ filter (λ r. nat_lt r.superstep s) l) (take_all c.loop-run.run-index runs c.loop-run-test.false))
+    ∙ map-append (λ r. r.superstep) start kept ∙ ap (λ l. steps_of start ++ l) (map-filter (λ r. r.superstep) (λ t. nat_lt t s) runs)

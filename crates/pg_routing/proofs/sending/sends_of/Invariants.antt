@@ -3,8 +3,8 @@ use Rattle.std.specs.List.{flat_map}
 use Rattle.pg_routing.specs.Sending.{AreParts, sends_of}
 use Rattle.pg_routing.proofs.sending.sends_of.Given as goal
 
-abbrev pub invariant-loop-change : goal.invariant-loop-change
-invariant-loop-change g l = record {
+abbrev pub invariant-loop-place : goal.invariant-loop-place
+invariant-loop-place g l = record {
   len : length l.parts.items ≡ l.partitions;
-  parts : AreParts l.partitions (flat_map sends_of (take l.change-index l.changes)) l.parts.items;
+  parts : AreParts l.partitions (flat_map sends_of (take l.place l.changes)) l.parts.items;
 }

@@ -1,34 +1,19 @@
-use Rattle.std.proofs.Common.{◌++◌, ◌∷◌, [], Some, ap, map, ◌∙◌}
-use Rattle.std.proofs.lemmas.Result.{IfOk-from_err}
+use Rattle.std.proofs.Common.{◌++◌, Some, ap, map, sym, ◌∙◌}
+use Rattle.std.proofs.lemmas.List.{nil_from_length}
 use Rattle.pg_map.proofs.Moved.{moved_all, moved_one}
 use Rattle.pg_trace.proofs.records.all_given.Goals as goal
 
 pub loop-id-preserved : goal.loop-id-preserved
 loop-id-preserved g c =
-    let before = c.loop-id.given.items in
-    moved_one before (map (λ e. (e.0, Some e.1)) c.next.new.self) (ap (map (λ e. (e.0, Some e.1))) c.in-Some.ensures.steps) c.loop-id.invariant
-    (c.in_ok-push.ensures.items ∙ ap (λ x. before ++ (c.in-Some.id.now, Some x) ∷ []) c.in_ok-share.ensures)
+    moved_one c.loop-id.changes (map (λ e. (e.0, Some e.1)) c.next.new.self.rest.items) (ap (map (λ e. (e.0, Some e.1))) c.in-Some.ensures.steps.0)
+    c.loop-id.invariant c.in_ok-add_record.ensures
 
 pub returns : goal.returns
-returns g c = record {
-  given = moved_all c.loop-id.given.items (ap (map (λ e. (e.0, Some e.1))) c.in-None.ensures.steps.0) c.loop-id.invariant;
-  rising = c.len.ensures.rising;
-}
+returns g c =
+    let left = c.loop-id.id-iterator.rest in
+    moved_all c.loop-id.changes (ap (map (λ e. (e.0, Some e.1))) (nil_from_length left.items (sym left.ok.0 ∙ c.in-None.ensures.steps.0))) c.loop-id.invariant
 
-pub returns-in_err-given : goal.returns-in_err-given
-returns-in_err-given g c = record {
-  given = IfOk-from_err c.from_residual.result _ c.from_residual.ensures.0;
-  rising = c.len.ensures.rising;
-}
-
-pub returns-in_err-share : goal.returns-in_err-share
-returns-in_err-share g c = record {
-  given = IfOk-from_err c.from_residual-in_err-share.result _ c.from_residual-in_err-share.ensures.0;
-  rising = c.len.ensures.rising;
-}
-
-pub returns-in_err-push : goal.returns-in_err-push
-returns-in_err-push g c = record {
-  given = IfOk-from_err c.from_residual-in_err-push.result _ c.from_residual-in_err-push.ensures.0;
-  rising = c.len.ensures.rising;
-}
+pub loop-id-init : goal.loop-id-init
+loop-id-init g c =
+    let start = c.into_iter-id-iterator in
+    ap (λ l. l ++ map (λ e. (e.0, Some e.1)) start.result.rest.items) c.in_ok-changes.ensures ∙ ap (map (λ e. (e.0, Some e.1))) start.ensures.into_iter_gives.0

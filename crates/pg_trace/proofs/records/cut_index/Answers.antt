@@ -4,7 +4,7 @@ use Rattle.std.specs.Map.{keys_of}
 use Rattle.std.specs.Ordering.{nat_cmp}
 use Rattle.std.proofs.lemmas.List.{take_all}
 use Rattle.std.proofs.lemmas.Map.Made.{keys_of-map_values}
-use Rattle.std.proofs.lemmas.Result.{IfOk-from_err, IfOk-weaker}
+use Rattle.std.proofs.lemmas.Result.{IfOk-weaker}
 use Rattle.pg_index.specs.Ran.{IsIndex, IsNoted}
 use Rattle.pg_index.proofs.Last.{index_rises}
 use Rattle.pg_index.proofs.Noting.{index-less}
@@ -13,7 +13,7 @@ use Rattle.pg_trace.proofs.records.cut_index.Goals as goal
 pub noted-requires-clause-rise : goal.noted-requires-clause-rise
 noted-requires-clause-rise g c =
     subst (IsStrictlySortedBy nat_cmp) (sym (ap keys_of (c.as_slice.ensures.value ∙ c.in_ok-none.ensures.none)
-    ∙ keys_of-map_values (λ x. None) c.index-supersteps-left.result)) c.in_ok-none.ensures.rising
+    ∙ keys_of-map_values (λ x. None) c.index-supersteps-left.result)) c.none_given.ensures.rising
 
 pub noted-requires-clause-steps : goal.noted-requires-clause-steps
 noted-requires-clause-steps g c = index_rises (take c.loop-left.left c.args.supersteps.now) c.loop-left.first c.loop-left.invariant.index
@@ -30,7 +30,7 @@ loop-left-preserved g c =
       index = index-less ss (left - 1) c.index-supersteps-left.result c.as_slice.result.now c.loop-left.first c.in_ok-first-2.first within
           c.index-supersteps-left.is (subst (λ n. IsIndex (take n ss) c.loop-left.first) one c.loop-left.invariant.index)
           (c.as_slice.ensures.value ∙ c.in_ok-none.ensures.none)
-          (subst (λ l. IsNoted l (left - 1) c.as_slice.result.now c.loop-left.first c.in_ok-first-2.first) c.split_at.ensures.front c.in_ok-first-2.ensures);
+          (subst (λ n. IsNoted n c.as_slice.result.now c.loop-left.first c.in_ok-first-2.first) c.in_ok-narrow.ensures c.in_ok-first-2.ensures);
     }
 
 pub loop-left-init : goal.loop-left-init
@@ -51,12 +51,3 @@ returns g c =
     IfOk-weaker c.settled.result _ _
     (λ after is. subst (λ ran. IsIndex (take c.args.len ss) ran) (sym is) (subst (λ n. IsIndex (take n ss) first) end c.loop-left.invariant.index))
     c.settled.ensures
-
-pub returns-in_err-first : goal.returns-in_err-first
-returns-in_err-first g c = IfOk-from_err c.from_residual.result _ c.from_residual.ensures.0
-
-pub returns-in_err-none : goal.returns-in_err-none
-returns-in_err-none g c = IfOk-from_err c.from_residual-in_err-none.result _ c.from_residual-in_err-none.ensures.0
-
-pub returns-in_err-first-2 : goal.returns-in_err-first-2
-returns-in_err-first-2 g c = IfOk-from_err c.from_residual-in_err-first-2.result _ c.from_residual-in_err-first-2.ensures.0

@@ -3,7 +3,7 @@ use Rattle.std.specs.List.{range_with_len}
 use Rattle.std.specs.Map.{keys_of}
 use Rattle.pg_routing.proofs.Listing.{flat_map-range_from}
 use Rattle.pg_values.specs.Values.{ran_between}
-use Rattle.pg_trace.specs.Trace.{lent, records_of}
+use Rattle.pg_trace.specs.Trace.{records_of}
 use Rattle.pg_values.proofs.values.add_ran.Goals as goal
 
 pub loop-place-preserved : goal.loop-place-preserved
@@ -16,7 +16,7 @@ loop-place-preserved g c =
     let low : from ≤ s = omega arith in
     let one_more : s + 1 - from ≡ s - from + 1 = omega (arith, low) in
     let last : from + (s - from) ≡ s = omega (arith, low) in
-    let these = ap (λ l. keys_of (lent l)) c.as_slice.ensures.value ∙ (ap keys_of c.in_ok-records.ensures.records ∙ ap keys c.new.ensures) in
+    let these = ap keys_of (c.as_slice.ensures.value ∙ c.in_ok-records.ensures.records) ∙ ap keys c.new.ensures in
     record {
       so_far = c.in_ok-add_keys.ensures
           ∙ (ap₂ ◌++◌ c.loop-place.invariant.so_far these

@@ -21,7 +21,7 @@ returns-in_ok-played-in-Some-clause-further g c =
     let rest = c.parted-course.ensures.rest in
     IfOk-weaker c.concluded.result _ _
     (λ stepped concluded.
-    let is = concluded.part_is ∙ (λ i. further g.V.PartialEq.eq (rest i) c.in-Some.old played.looked_at.items played.changes.items) in
+    let is = concluded.part_is ∙ (λ i. further g.V.PartialEq.eq (rest i) c.in-Some.old played.looked_at.items played.changes) in
     record {
       partition_stays = ap (λ h. h.partition) is;
       partitions_stay = ap (λ h. h.partitions) is;
@@ -55,7 +55,7 @@ returns-in_ok-played-in-Some-clause-stepped g c =
     c.args.bundles.now c.args.stage.meter played) rest c.in_ok-played-in-Some.ensures.replayed)
     stepped.course stepped.sent
     (subst
-    (λ h. IsConcluded value_eq message_eq combining' h old c.args.old_logs.now played.looked_at.items played.changes.items stepped.course stepped.sent) rest
+    (λ h. IsConcluded value_eq message_eq combining' h old c.args.old_logs.now played.looked_at.items played.changes stepped.course stepped.sent) rest
     concluded) in
     subst (HasStepped job value_eq message_eq kept rows n p s stepped.course stepped.sent c.args.stage.meter) (sym counted)
     (steps job kept rows n p s program combining holds within has bundled sees lent))

@@ -4,4 +4,4 @@ use Rattle.pg_index.proofs.InChunks.{none_sound}
 use Rattle.pg_index.proofs.index.Index.of.Goals as goal
 
 pub over-requires : goal.over-requires
-over-requires g c = subst AreSound (sym c.new.ensures.items) none_sound
+over-requires c = subst AreSound (sym c.new.ensures.items) none_sound

@@ -5,7 +5,7 @@ use Rattle.pg_index.proofs.InPlace.{below_the_last}
 use Rattle.pg_index.proofs.steps.Steps.are_below.Goals as goal
 
 pub returns : goal.returns
-returns g c is_below =
+returns c is_below =
     let latest = (arc_value c.self.inside.shared).latest in
-    below_the_last c.args.superstep latest c.args.self.now.steps c.requires (c.self.invariant ∙ ap (λ s. last_of s.steps) c.self.view_is)
-    (ltb-true latest c.args.superstep (ap (λ h. ltb h.latest c.args.superstep) (sym c.deref.ensures) ∙ is_below))
+    below_the_last c.args.superstep latest.superstep c.args.self.now c.requires (c.self.invariant ∙ ap last_of c.self.view_is)
+    (ltb-true latest.superstep c.args.superstep (ap (λ h. ltb h.latest.superstep c.args.superstep) (sym c.deref.ensures) ∙ is_below))

@@ -5,7 +5,7 @@ use Rattle.pg_index.proofs.InPlace.{last_of_below}
 use Rattle.pg_index.proofs.steps.Steps.last_below.Goals as goal
 
 pub returns-then-are_below : goal.returns-then-are_below
-returns-then-are_below g c =
-    ap (λ h. Some h.latest) c.deref.ensures
-    ∙ last_of_below c.args.superstep (arc_value c.self.inside.shared).latest c.args.self.now.steps (c.if-are_below.ensures refl)
-    (c.self.invariant ∙ ap (λ s. last_of s.steps) c.self.view_is)
+returns-then-are_below c =
+    ap (λ h. Some h.latest.superstep) c.deref.ensures
+    ∙ last_of_below c.args.superstep (arc_value c.self.inside.shared).latest.superstep c.args.self.now (c.if-are_below.ensures refl)
+    (c.self.invariant ∙ ap last_of c.self.view_is)

@@ -1,20 +1,9 @@
-use Rattle.std.proofs.Common.{◌≡◌, IfNone, IfSome, ◌∙◌, subst}
-use Rattle.std.specs.Arc.{arc_value}
-use Rattle.pg_index.specs.History.{IsPushed}
-use Rattle.pg_index.proofs.Histories.{sound-pushed}
+use Rattle.std.proofs.Common.{rules}
+use Rattle.pg_index.proofs.Histories.{sound_pushed}
 use Rattle.pg_index.proofs.steps.Steps.push.Goals as goal
 
-pub invariant_of-self-in-Some : goal.invariant_of-self-in-Some
-invariant_of-self-in-Some g c =
-    let s = c.args.superstep in
-    let stays = subst (λ o. IfSome o (λ kept. (kept ≡ c.args.last) × (arc_value c.add_in_place.new.shared ≡ arc_value c.self.inside.shared)))
-    c.in-Some.is c.in_ok-last.ensures.same in
-    sound-pushed s c.in-Some.last (arc_value c.self.inside.shared) (arc_value c.in_ok-self-inside.field-0)
-    (subst (λ before. IsPushed s c.in-Some.last before (arc_value c.in_ok-self-inside.field-0)) (c.deref.ensures ∙ stays.1) c.in_ok-self-inside.ensures)
+pub invariant_of-self-then-not-branch : goal.invariant_of-self-then-not-branch
+invariant_of-self-then-not-branch c = sound_pushed _ _ _ c.in_ok-self-inside.ensures
 
-pub invariant_of-self-in_default : goal.invariant_of-self-in_default
-invariant_of-self-in_default g c =
-    let s = c.args.superstep in
-    let pushed = subst (λ o. IfNone o (IsPushed s c.args.last (arc_value c.self.inside.shared) (arc_value c.add_in_place.new.shared)))
-    c.in_default.is c.in_ok-last.ensures.added in
-    sound-pushed s c.args.last (arc_value c.self.inside.shared) (arc_value c.add_in_place.new.shared) pushed
+pub invariant_of-self-else-not-branch : goal.invariant_of-self-else-not-branch
+invariant_of-self-else-not-branch c = sound_pushed _ _ _ (c.in_ok-add_in_place.ensures.added (search rules))

@@ -1,12 +1,12 @@
-use Rattle.std.proofs.Common.{◌≡◌, ◌==◌, ℕ, ◌<◌, true, List, [], Option, length, get_or, set, sym, ap, ap₂, ◌∙◌, subst, subst₂, arith}
+use Rattle.std.proofs.Common.{◌≡◌, ◌==◌, ℕ, ◌<◌, true, List, [], Option, length, set, sym, ap, ap₂, ◌∙◌, subst, arith}
 use Rattle.std.proofs.lemmas.Bool.Decides.{nat_tests}
 use Rattle.std.proofs.lemmas.List.{get_or_default, nil_from_length, set-get_or}
-use Rattle.std.proofs.lemmas.Result.{IfOk-from_err}
-use Rattle.pg_map.specs.Entries.{ChangesRise, value_at, with_changes}
-use Rattle.pg_index.specs.Ran.{IsNoted, noted}
+use Rattle.pg_map.specs.Entries.{ChangesRise, with_changes}
 use Rattle.pg_index.proofs.Last.{index_rises}
-use Rattle.pg_index.proofs.Noting.{index-set}
+use Rattle.pg_index.proofs.Noting.{index-set, told_alike}
 use Rattle.pg_model.specs.declared.record.Record.{Record}
+use Rattle.pg_records.specs.Changes.{told}
+use Rattle.pg_records.proofs.Changed.{told_rise}
 use Rattle.pg_trace.specs.Trace.{Trace, records_of, with_replaced}
 use Rattle.pg_trace.proofs.trace.Trace.replace.Goals as goal
 
@@ -25,28 +25,29 @@ zero_from_test n test = grind (arith, nat_tests, test)
 
 pub noted_beside-requires-clause-rise : goal.noted_beside-requires-clause-rise
 noted_beside-requires-clause-rise g c =
-    subst (λ l. ChangesRise l) (sym (c.as_slice.ensures.value ∙ c.in_ok-changes.ensures)) c.requires.rise
+    told_rise c.as_slice.result.now c.args.changes.items
+    (ap told c.as_slice.ensures.value ∙ c.in_ok-places.ensures ∙ ap told c.in_ok-changes.ensures) c.requires.rise
 
 pub noted_beside-requires-clause-steps : goal.noted_beside-requires-clause-steps
 noted_beside-requires-clause-steps g c = index_rises c.self.inside.supersteps.items c.self.inside.ran c.self.invariant
 
+pub changed-requires : goal.changed-requires
+changed-requires g c = subst (λ l. ChangesRise l) (sym c.in_ok-changes.ensures) c.requires.rise
+
 pub invariant_of-self : goal.invariant_of-self
 invariant_of-self g c =
     let rs = c.self.inside.supersteps.items in
-    let n = c.number-place.result in
-    let r = c.in_ok-records.records in
+    let n = c.number-number.result in
+    let r = c.index.result.now in
     let given = c.as_slice.result.now in
-    let slice = c.as_slice-supersteps.ensures.value in
-    let within : n < length rs = let w = c.requires.within in let e = c.number-place.ensures in let v = ap
+    let changes = c.args.changes.items in
+    let within : n < length rs = let w = c.requires.within in let e = c.number-number.ensures in let v = ap
     (λ t. length t.records) c.self.view_is in omega (arith, w, e, v) in
-    let here : r ≡ get_or rs n r = c.in_ok-records.ensures ∙ c.index-supersteps-place.is
-    ∙ ap (λ d. get_or c.as_slice-supersteps.result.now n d) (sym c.in_ok-records.ensures) ∙ ap (λ l. get_or l n r) slice in
-    let notes : IsNoted rs n given c.self.inside.ran c.in_ok-ran.ran = λ id. c.in_ok-ran.ensures id
-    ∙ ap (λ l. noted id l n (value_at id given) (value_at id c.self.inside.ran)) slice in
-    let rise = subst (λ l. ChangesRise l) (sym (c.as_slice.ensures.value ∙ c.in_ok-changes.ensures)) c.requires.rise in
-    let made = c.in_ok-change.ensures.ok ∙ ap (λ l. with_changes l r) (c.as_slice-2.ensures.value ∙ sym c.as_slice.ensures.value) in
-    index-set rs n r c.change.new.self given c.self.inside.ran c.in_ok-ran.ran within here
-    c.tell_rising.ensures rise made c.self.invariant notes
+    let made = c.in_ok-records.ensures.records ∙ ap (λ l. with_changes l r) c.in_ok-changes.ensures in
+    index-set rs n r c.in_ok-records.records given changes c.self.inside.ran c.in_ok-ran.ran within c.index.ensures
+    c.in_ok-records.ensures.rising c.requires.rise
+    (told_alike given changes (ap told c.as_slice.ensures.value ∙ c.in_ok-places.ensures ∙ ap told c.in_ok-changes.ensures))
+    made c.self.invariant c.in_ok-ran.ensures
 
 pub returns-then-is_empty-clause-ok : goal.returns-then-is_empty-clause-ok
 returns-then-is_empty-clause-ok g c =
@@ -57,28 +58,10 @@ returns-then-is_empty-clause-ok g c =
 
 pub returns-clause-ok : goal.returns-clause-ok
 returns-clause-ok g c =
-    let n = c.number-place.result in
-    let number = c.number-place.ensures in
-    let all = c.as_slice-supersteps.result.now in
-    let slice = c.as_slice-supersteps.ensures.value in
-    let within : n < length all = subst (λ l. n < length l) (sym slice)
-    (subst₂ (λ k t. k < length t.records) (sym number) (sym c.self.view_is) c.requires.within) in
+    let rs = c.self.inside.supersteps.items in
+    let n = c.number-number.result in
+    let number = c.number-number.ensures in
+    let within : n < length rs = let w = c.requires.within in let e = number in let v = ap
+    (λ t. length t.records) c.self.view_is in omega (arith, w, e, v) in
     one_replaced c.args.superstep n c.args.changes.items c.self.view_is number
-    (c.in_ok-change.ensures.ok ∙ ap₂ with_changes (c.as_slice-2.ensures.value ∙ c.in_ok-changes.ensures)
-    (c.in_ok-records.ensures ∙ c.index-supersteps-place.is ∙ get_or_default all n c.index-supersteps-place.result [] within
-    ∙ ap (λ l. get_or l n []) slice))
-
-pub change-requires : goal.change-requires
-change-requires g c = subst (λ l. ChangesRise l) (sym (c.as_slice-2.ensures.value ∙ c.in_ok-changes.ensures)) c.requires.rise
-
-pub returns-in_err-changes-clause-ok : goal.returns-in_err-changes-clause-ok
-returns-in_err-changes-clause-ok g c = IfOk-from_err c.from_residual.result _ c.from_residual.ensures.0
-
-pub returns-in_err-ran-clause-ok : goal.returns-in_err-ran-clause-ok
-returns-in_err-ran-clause-ok g c = IfOk-from_err c.from_residual-in_err-ran.result _ c.from_residual-in_err-ran.ensures.0
-
-pub returns-in_err-records-clause-ok : goal.returns-in_err-records-clause-ok
-returns-in_err-records-clause-ok g c = IfOk-from_err c.from_residual-in_err-records.result _ c.from_residual-in_err-records.ensures.0
-
-pub returns-in_err-change-clause-ok : goal.returns-in_err-change-clause-ok
-returns-in_err-change-clause-ok g c = IfOk-from_err c.from_residual-in_err-change.result _ c.from_residual-in_err-change.ensures.0
+    (c.in_ok-records.ensures.records ∙ ap₂ with_changes c.in_ok-changes.ensures (c.index.ensures ∙ get_or_default rs n c.index.result.now [] within))

@@ -1,0 +1,3 @@
+pub mod Changed
+pub mod Parting
+pub mod Somes

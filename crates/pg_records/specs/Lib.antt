@@ -1,0 +1,4 @@
+pub mod Changes
+pub mod Parts
+pub mod Records
+pub mod Rows

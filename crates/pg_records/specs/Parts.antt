@@ -1,0 +1,37 @@
+-- Records of which what was sent lies in one list, and what was contributed in another.
+use Rattle.std.specs.Prelude.{ℕ, ℤ, ◌+◌, ◌≤◌, List, length, take, drop, map, Option, None, Some}
+use Rattle.std.specs.List.{AllByRecursion}
+use Rattle.std.specs.Option.{option_map}
+use Rattle.pg_model.specs.declared.record.Record.{Record}
+use Rattle.pg_records.specs.declared.changes.Left.{Left}
+use Rattle.pg_records.specs.declared.changes.Part.{Part}
+
+module _ {X : Type 0} where
+  -- so many items of a list, from a place on
+  abbrev pub part_of : Part → List X → List X
+  part_of part items = take part.count (drop part.first items)
+
+  abbrev pub IsPart : Part → List X → Type 0
+  IsPart part items = part.first + part.count ≤ length items
+
+module _ {V M : Type 0} (sent : List (ℕ × M)) (contributed : List (ℕ × ℤ)) where
+  -- the record of an execution that left this
+  abbrev pub record_in : Left V → Record V M
+  record_in left = record {
+    value = left.value;
+    edges = left.edges;
+    halted = left.halted;
+    sent = part_of left.sent sent;
+    contributed = part_of left.contributed contributed;
+  }
+
+  abbrev pub changes_in : List (ℕ × Option (Left V)) → List (ℕ × Option (Record V M))
+  changes_in entries = map (λ e. (e.0, option_map record_in e.1)) entries
+
+  -- its parts lie within the lists
+  abbrev pub IsWithin : Option (Left V) → Type 0
+  IsWithin None = Unit {0}
+  IsWithin (Some left) = IsPart left.sent sent × IsPart left.contributed contributed
+
+  abbrev pub AreWithin : List (ℕ × Option (Left V)) → Type 0
+  AreWithin entries = AllByRecursion (λ e. IsWithin e.1) entries

@@ -1,0 +1,18 @@
+use Rattle.std.proofs.Common.{◌++◌, ap, sym, ◌∙◌}
+use Rattle.std.proofs.lemmas.List.{nil_from_length}
+use Rattle.pg_map.proofs.Moved.{moved_all, moved_one}
+use Rattle.pg_trace.proofs.records.all_changed.Goals as goal
+
+pub loop-id-preserved : goal.loop-id-preserved
+loop-id-preserved g c =
+    moved_one c.loop-id.changes c.next.new.self.rest.items c.in-Some.ensures.steps.0 c.loop-id.invariant c.in_ok-add_change.ensures
+
+pub returns : goal.returns
+returns g c =
+    let left = c.loop-id.id-iterator.rest in
+    moved_all c.loop-id.changes (nil_from_length left.items (sym left.ok.0 ∙ c.in-None.ensures.steps.0)) c.loop-id.invariant
+
+pub loop-id-init : goal.loop-id-init
+loop-id-init g c =
+    let start = c.into_iter-id-iterator in
+    ap (λ l. l ++ start.result.rest.items) c.in_ok-changes.ensures ∙ start.ensures.into_iter_gives.0
