@@ -2,7 +2,7 @@
 use Rattle.std.proofs.Common.{◌≡◌, ℕ, ◌==◌, ◌||◌, not, Bool, true, false, cond, List, [], ◌∷◌, map}
 use Rattle.std.proofs.Common.{Option, None, Some, refl, sym, ap, ◌∙◌, subst, arith, ⊎_elim, eqb, eqb-true}
 use Rattle.std.specs.List.{AllByRecursion, filter}
-use Rattle.std.specs.List.Sorted.{IsStrictlySortedBy}
+use Rattle.std.specs.List.Sorted.{IsNonDecreasingBy, IsStrictlySortedBy}
 use Rattle.std.specs.BTreeMap.{is_at}
 use Rattle.std.specs.Map.{keys_of}
 use Rattle.std.specs.Option.{option_map}
@@ -142,14 +142,19 @@ turned : (a b : ℕ) → (a == b) ≡ eqb b a
 turned a b = grind (arith, nat_tests)
 
 module _ {M : Type 0} (sent : Sends M) (order : List (ℕ × ℕ)) (letters : List (ℕ × (ℕ × M))) where
-  -- what stands at the places of the targets in order
-  pub groups_by_id : AreById (map (λ s. s.1) sent) order → StandAt (map as_item sent) order letters → AreGroups (map as_item sent) (groups_of letters)
-  groups_by_id by_id zip =
-      let keyed : AreById (map (λ i. i.0) (map as_item sent)) order = subst (λ l. AreById l order) (sym (map-map (λ i. i.0) as_item sent)) by_id in
-      groups_of_same (map as_item sent) letters (taken_rise (λ i. i.0) (map as_item sent) order letters keyed zip)
-      (λ q. filter_agree (λ i. i.0 == q) (λ i. eqb q i.0) (λ i. turned i.0 q) letters
-      ∙ taken_same (λ i. i.0) (map as_item sent) order letters keyed zip q
-      ∙ sym (filter_agree (λ i. i.0 == q) (λ i. eqb q i.0) (λ i. turned i.0 q) (map as_item sent)))
+  module _ (by_id : AreById (map (λ s. s.1) sent) order) (zip : StandAt (map as_item sent) order letters) where
+    keyed : AreById (map (λ i. i.0) (map as_item sent)) order
+    keyed = subst (λ l. AreById l order) (sym (map-map (λ i. i.0) as_item sent)) by_id
+
+    pub rise_by_id : IsNonDecreasingBy (λ i. i.0) letters
+    rise_by_id = taken_rise (λ i. i.0) (map as_item sent) order letters keyed zip
+
+    -- what stands at the places of the targets in order
+    pub groups_by_id : AreGroups (map as_item sent) (groups_of letters)
+    groups_by_id = groups_of_same (map as_item sent) letters rise_by_id
+        (λ q. filter_agree (λ i. i.0 == q) (λ i. eqb q i.0) (λ i. turned i.0 q) letters
+        ∙ taken_same (λ i. i.0) (map as_item sent) order letters keyed zip q
+        ∙ sym (filter_agree (λ i. i.0 == q) (λ i. eqb q i.0) (λ i. turned i.0 q) (map as_item sent)))
 
 -- ---- each entry, from the look-ups
 

@@ -360,17 +360,6 @@ module _ {M : Type 0} (is_value : M → Type 0) where
       by true later = h.0
       by false later = later
 
-  apart_all : (a b : Parcels M) → AllByRecursion (λ e. Holds is_value e.1) (a ++ b)
-      → AllByRecursion (λ e. Holds is_value e.1) a × AllByRecursion (λ e. Holds is_value e.1) b
-  apart_all [] b h = (tt, h)
-  apart_all (e ∷ a) b h = let later = apart_all a b h.1 in ((h.0, later.0), later.1)
-
-  -- what holds of all entries of bundles holds of those of each
-  all_apart : (bundles : List (Parcels M)) → AllByRecursion (λ e. Holds is_value e.1) (flat_map (λ b. b) bundles)
-      → AllByRecursion (λ b. AllByRecursion (λ e. Holds is_value e.1) b) bundles
-  all_apart [] h = tt
-  all_apart (b ∷ bundles) h = let parts = apart_all b (flat_map (λ b. b) bundles) h in (parts.0, all_apart bundles parts.1)
-
   hold_in_all : (id : ℕ) (bundles : List (Parcels M)) → AllByRecursion (λ b. AllByRecursion (λ e. Holds is_value e.1) b) bundles
       → AllByRecursion (λ b. HoldsAt is_value (value_at id b)) bundles
   hold_in_all id [] h = tt
@@ -379,13 +368,13 @@ module _ {M : Type 0} (is_value : M → Type 0) where
   module _ (combining : Option (Combining M)) (law : IsLawful is_value combining) (bundles : List (Parcels M)) where
     -- the inboxes made of what all bundles have, by target
     pub are_inboxes : (groups : List (ℕ × List (Contents M))) → AreGroups (flat_map (λ b. b) bundles) groups
-        → AllByRecursion HasRisingIds bundles → AllByRecursion (λ e. Holds is_value e.1) (flat_map (λ b. b) bundles)
+        → AllByRecursion HasRisingIds bundles → AllByRecursion (λ b. AllByRecursion (λ e. Holds is_value e.1) b) bundles
         → AreInboxes combining bundles (map (λ g. (g.0, received_of combining g.1)) groups)
     are_inboxes groups grouped rise hold = record {
       rise = rises-values (received_of combining) groups grouped.rise;
       receivers = λ id. ap is_some (here id) ∙ (is_some-map (any_of (contents_to id bundles)) ∙ any_of_all id bundles);
       told = λ id. subst (Delivers combining id bundles) (sym (ap opened (here id) ∙ whole (contents_to id bundles)))
-          (delivers_received id is_value combining law bundles (hold_in_all id bundles (all_apart bundles hold)));
+          (delivers_received id is_value combining law bundles (hold_in_all id bundles hold));
     }
       where
         here : (id : ℕ)
@@ -409,7 +398,7 @@ module _ {M : Type 0} (is_value : M → Type 0) where
         let all : flat_map (λ b. b) bundles ≡ b = ap (flat_map (λ b. b)) one ∙ append-nil b in
         subst (AreInboxes combining bundles) (each b)
         (are_inboxes (singles b) (subst (λ l. AreGroups l (singles b)) (sym all) (single_groups b rise))
-        (subst (AllByRecursion HasRisingIds) (sym one) (rise, tt)) (subst (AllByRecursion (λ e. Holds is_value e.1)) (sym all) hold))
+        (subst (AllByRecursion HasRisingIds) (sym one) (rise, tt)) (subst (AllByRecursion (λ b. AllByRecursion (λ e. Holds is_value e.1) b)) (sym one) (hold, tt)))
       where
         each : (es : Parcels M) → inboxes_of combining (singles es) ≡ each_inbox es
         each [] = refl

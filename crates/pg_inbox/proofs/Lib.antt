@@ -6,4 +6,5 @@ pub mod Parting
 pub mod Replacing
 pub mod SameDelivery
 pub mod Senders
+pub mod Sent
 pub mod Taking

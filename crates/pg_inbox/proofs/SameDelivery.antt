@@ -41,7 +41,7 @@ module _ {M : Type 0} (is_value : M → Type 0) where
   hold-changes ((id, Some contents) ∷ changes) old h before =
       hold-changes changes (insert_entry nat_cmp old id contents) h.1 (All-values-insert_entry nat_cmp id contents (Holds is_value) old before h.0)
 
-  holds_at : (id : ℕ) (b : Parcels M) → HoldAll is_value b → HoldsAt is_value (value_at id b)
+  pub holds_at : (id : ℕ) (b : Parcels M) → HoldAll is_value b → HoldsAt is_value (value_at id b)
   holds_at id b h = by (value_at id b) (IfSome-lookup_from_All (Holds is_value) (is_at (nat_cmp id)) b h)
     where
       by : (o : Option (Contents M)) → IfSome o (Holds is_value) → HoldsAt is_value o

@@ -12,3 +12,5 @@ pub mod Patched
 pub mod Places
 pub mod Rows
 pub mod Sends
+pub mod Shared
+pub mod Sound

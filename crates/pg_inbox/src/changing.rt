@@ -2,6 +2,7 @@
 ghost use Rattle.std.specs.Prelude.{◌≡◌, ◌++◌, ℕ, ◌↔◌, IsTrue, IfOk, OnOk};
 ghost use Rattle.std.specs.Map.{keys_of};
 ghost use Rattle.std.specs.Option.{option_copied};
+ghost use Rattle.pg_map.specs.Entries.{value_at};
 ghost use Rattle.pg_parcel.specs.Contents.{Holds};
 ghost use Rattle.pg_inbox.specs.Bundles.{entries_in, entries_of, parcels_in};
 ghost use Rattle.pg_inbox.specs.Changed.{AreCandidates, AreChanged, IsAdded};
@@ -9,7 +10,7 @@ ghost use Rattle.pg_inbox.specs.Holding.{HoldsAt};
 
 use crate::Bundle;
 use pg_graph::{Memory, VertexId};
-use pg_parcel::Parcel;
+use pg_parcel::ParcelRef;
 use pg_program::Plain;
 use std::alloc::Global;
 
@@ -60,9 +61,23 @@ fn differing_among<M: Plain>(
 {
     let mut changed = Vec::new(alloc);
     for id in ids {
-        add_if_changed(&mut changed, id, old.parcel(id), new.parcel(id))?;
+        add_if_differing(&mut changed, id, old, new)?;
     }
     Ok(changed)
+}
+
+/// Adds an id at which two bundles differ.
+fn add_if_differing<M: Plain>(
+    ids: &mut Vec<VertexId>,
+    id: VertexId,
+    old: &Bundle<M>,
+    new: &Bundle<M>,
+) -> Result<(), Memory>
+    ensures { OnOk result (IsAdded id (value_at id old.now) (value_at id new.now) ids.old.items ids.new.items) }
+{
+    let before = old.parcel(id);
+    let after = new.parcel(id);
+    add_if_changed(ids, id, before.as_ref(), after.as_ref())
 }
 
 /// The targets of two bundles, rising, each once.
@@ -74,18 +89,34 @@ fn targets_of_both<M: Plain>(
     ensures { IfOk result (λ ids. AreCandidates old.now new.now ids.items) }
 {
     let mut ids = Vec::new(alloc);
-    add_targets(&mut ids, old)?;
-    add_targets(&mut ids, new)?;
+    add_targets(alloc, &mut ids, old)?;
+    add_targets(alloc, &mut ids, new)?;
     ids.sort_unstable();
     ids.dedup();
     Ok(ids)
 }
 
 /// Adds the targets of a bundle.
-fn add_targets<M: Plain>(ids: &mut Vec<VertexId>, bundle: &Bundle<M>) -> Result<(), Memory>
+fn add_targets<M: Plain>(
+    alloc: Global,
+    ids: &mut Vec<VertexId>,
+    bundle: &Bundle<M>,
+) -> Result<(), Memory>
     ensures { OnOk result (ids.new.items ≡ ids.old.items ++ keys_of bundle.now) }
 {
-    for id in bundle.parcels.ids() {
+    let parcels = bundle.parcels(alloc)?;
+    add_listed(ids, parcels.as_slice())?;
+    Ok(())
+}
+
+/// Adds the targets of parcels.
+fn add_listed<M: Plain>(
+    ids: &mut Vec<VertexId>,
+    parcels: &[(VertexId, ParcelRef<'_, M>)],
+) -> Result<(), Memory>
+    ensures { OnOk result (ids.new.items ≡ ids.old.items ++ keys_of parcels.now) }
+{
+    for (id, _) in parcels {
         ids.push(*id)?;
     }
     Ok(())
@@ -95,8 +126,8 @@ fn add_targets<M: Plain>(ids: &mut Vec<VertexId>, bundle: &Bundle<M>) -> Result<
 pub(crate) fn add_if_changed<M: Plain>(
     ids: &mut Vec<VertexId>,
     id: VertexId,
-    old: Option<&Parcel<M>>,
-    new: Option<&Parcel<M>>,
+    old: Option<&ParcelRef<'_, M>>,
+    new: Option<&ParcelRef<'_, M>>,
 ) -> Result<(), Memory>
     requires old { HoldsAt M.is_value (option_copied old) }
     requires new { HoldsAt M.is_value (option_copied new) }
@@ -109,7 +140,7 @@ pub(crate) fn add_if_changed<M: Plain>(
 }
 
 /// Whether others see the same of the messages to a target.
-fn is_same<M: Plain>(old: Option<&Parcel<M>>, new: Option<&Parcel<M>>) -> bool
+fn is_same<M: Plain>(old: Option<&ParcelRef<'_, M>>, new: Option<&ParcelRef<'_, M>>) -> bool
     requires old { HoldsAt M.is_value (option_copied old) }
     requires new { HoldsAt M.is_value (option_copied new) }
     ensures { (target : ℕ) → IsTrue result ↔ (entries_in target (option_copied old.entry) ≡ entries_in target (option_copied new.entry)) }
@@ -124,7 +155,7 @@ fn is_same<M: Plain>(old: Option<&Parcel<M>>, new: Option<&Parcel<M>>) -> bool
 }
 
 /// The same of messages that are there.
-fn is_same_contents<M: Plain>(old: &Parcel<M>, new: &Parcel<M>) -> bool
+fn is_same_contents<M: Plain>(old: &ParcelRef<'_, M>, new: &ParcelRef<'_, M>) -> bool
     requires old { Holds M.is_value old.now }
     requires new { Holds M.is_value new.now }
     ensures { (target : ℕ) → IsTrue result ↔ (entries_of target old.now ≡ entries_of target new.now) }
@@ -142,7 +173,7 @@ fn is_same_contents<M: Plain>(old: &Parcel<M>, new: &Parcel<M>) -> bool
 }
 
 /// Whether messages are the same, with the same senders in the same order.
-fn are_same_letters<M: Plain>(old: &Parcel<M>, new: &Parcel<M>) -> bool
+fn are_same_letters<M: Plain>(old: &ParcelRef<'_, M>, new: &ParcelRef<'_, M>) -> bool
     ensures { IsTrue result ↔ (old.now.letters ≡ new.now.letters) }
 {
     if old.len() != new.len() {

@@ -6,12 +6,12 @@ ghost use Rattle.pg_inbox.specs.Inboxes.{letters_at};
 
 use crate::Bundle;
 use pg_graph::{Graph, Memory, VertexId};
-use pg_parcel::Parcel;
+use pg_parcel::ParcelRef;
 use pg_program::Plain;
-use std::alloc::AllocError;
+use std::alloc::{AllocError, Global};
 
 impl<M: Plain> Bundle<M> {
-    /// How many messages there are to a target. Costs two binary searches.
+    /// How many messages there are to a target. Costs a few binary searches.
     pub fn messages_to(&self, target: VertexId) -> usize
         ensures { result ≡ length (letters_at target self.now) }
     {
@@ -21,35 +21,70 @@ impl<M: Plain> Bundle<M> {
         }
     }
 
-    /// How many messages there are. Costs one look at each target.
-    pub fn messages(&self) -> Result<u64, Memory>
+    /// How many messages there are. Costs one look at each target, or O(1) where the bundle is as it was made of messages that
+    /// aren't combined.
+    pub fn messages(&self, alloc: Global) -> Result<u64, Memory>
         ensures { IfOk result (λ count. count ≡ messages_where (λ _. true) self.now) }
     {
-        let mut count = 0u64;
-        for (_, parcel) in self.parcels.iter() {
-            count = with_messages(count, parcel, true)?;
+        match self.unchanged() {
+            Some(letters) => Ok(letters.len() as u64),
+            None => self.messages_counted(alloc),
         }
-        Ok(count)
+    }
+
+    /// The same, target by target.
+    fn messages_counted(&self, alloc: Global) -> Result<u64, Memory>
+        ensures { IfOk result (λ count. count ≡ messages_where (λ _. true) self.now) }
+    {
+        let parcels = self.parcels(alloc)?;
+        messages_listed(parcels.as_slice())
     }
 
     /// How many messages there are to ids that are no vertices of a graph. Costs one look-up in the graph for each
     /// target, each near the one before.
-    pub fn astray(&self, graph: &Graph) -> Result<u64, Memory>
+    pub fn astray(&self, alloc: Global, graph: &Graph) -> Result<u64, Memory>
         ensures { IfOk result
             (λ count. count ≡ messages_where (λ id. not (is_some (row_at id graph.now))) self.now) }
     {
-        let mut rows = graph.finder();
-        let mut count = 0u64;
-        for (target, parcel) in self.parcels.iter() {
-            let is_astray = rows.get(*target).is_none();
-            count = with_messages(count, parcel, is_astray)?;
-        }
-        Ok(count)
+        let parcels = self.parcels(alloc)?;
+        astray_listed(parcels.as_slice(), graph)
     }
 }
 
+/// How many messages there are.
+fn messages_listed<M: Plain>(parcels: &[(VertexId, ParcelRef<'_, M>)]) -> Result<u64, Memory>
+    ensures { IfOk result (λ count. count ≡ messages_where (λ _. true) parcels.now) }
+{
+    let mut count = 0u64;
+    for (_, parcel) in parcels {
+        count = with_messages(count, parcel, true)?;
+    }
+    Ok(count)
+}
+
+/// How many messages there are to ids that are no vertices of a graph.
+fn astray_listed<M: Plain>(
+    parcels: &[(VertexId, ParcelRef<'_, M>)],
+    graph: &Graph,
+) -> Result<u64, Memory>
+    ensures { IfOk result
+        (λ count. count ≡ messages_where (λ id. not (is_some (row_at id graph.now))) parcels.now) }
+{
+    let mut rows = graph.finder();
+    let mut count = 0u64;
+    for (target, parcel) in parcels {
+        let is_astray = rows.get(*target).is_none();
+        count = with_messages(count, parcel, is_astray)?;
+    }
+    Ok(count)
+}
+
 /// A count with the messages to one target, where they are counted. No memory holds more than fit the count.
-fn with_messages<M: Plain>(count: u64, parcel: &Parcel<M>, counts: bool) -> Result<u64, Memory>
+fn with_messages<M: Plain>(
+    count: u64,
+    parcel: &ParcelRef<'_, M>,
+    counts: bool,
+) -> Result<u64, Memory>
     ensures { IfOk result (λ after. after ≡ count + cond counts (length parcel.now.letters) 0) }
 {
     if !counts {

@@ -1,11 +1,11 @@
 //! Inboxes of vertices, whose messages lie in one list.
-ghost use Rattle.std.specs.Prelude.{◌≡◌, ◌++◌, ◌∷◌, ◌<◌, ◌≤◌, ℕ, List, [], drop, length, slice_index_or, IfOk, OnOk};
+ghost use Rattle.std.specs.Prelude.{◌≡◌, ◌++◌, ◌∷◌, ◌<◌, ◌≤◌, ℕ, List, [], drop, length, map, slice_index_or, IfOk, OnOk};
 ghost use Rattle.pg_parcel.specs.Contents.{messages};
 ghost use Rattle.pg_inbox.specs.Ordered.{in_order};
 
 use crate::receiving::add_by_sender;
 use pg_graph::{Memory, VertexId};
-use pg_parcel::Parcel;
+use pg_parcel::ParcelRef;
 use pg_program::Plain;
 use std::alloc::Global;
 use std::marker::Model;
@@ -48,6 +48,19 @@ impl<M: Drop> Inboxes<M> {
             messages: Vec::new(alloc),
             parts: Vec::with_capacity(alloc, vertices)?,
         })
+    }
+
+    /// No inboxes, with room for so many and so many messages.
+    pub(crate) fn with_room(
+        alloc: Global,
+        vertices: usize,
+        messages: usize,
+    ) -> Result<Inboxes<M>, Memory>
+        ensures { IfOk result (λ inboxes. inboxes ≡ []) }
+    {
+        let messages = Vec::with_capacity(alloc, messages)?;
+        let parts = Vec::with_capacity(alloc, vertices)?;
+        Ok(Inboxes { messages, parts })
     }
 
     /// How many there are.
@@ -133,7 +146,7 @@ impl<M: Plain> Inboxes<M> {
         self,
         alloc: Global,
         id: VertexId,
-        parcel: &Parcel<M>,
+        parcel: &ParcelRef<'_, M>,
     ) -> Result<Inboxes<M>, Memory>
         ensures { IfOk result (λ inboxes. inboxes ≡ self ++ (id, messages (in_order parcel.now.letters)) ∷ []) }
     {

@@ -1,11 +1,16 @@
 //! Bundles made of sends.
 ghost use Rattle.std.specs.Prelude.{◌≡◌, map, IfOk};
+ghost use Rattle.std.specs.List.{AllByRecursion};
+ghost use Rattle.std.specs.List.Sorted.{IsNonDecreasingBy};
 ghost use Rattle.pg_graph.specs.ById.{AreById, StandAt};
+ghost use Rattle.pg_parcel.specs.Contents.{parcels_of};
 ghost use Rattle.pg_parcel.specs.Grouping.{AreGroups, groups_of};
 ghost use Rattle.pg_inbox.specs.Bundles.{bundle_of};
 ghost use Rattle.pg_inbox.specs.Sends.{as_item};
+ghost use Rattle.pg_inbox.specs.Sound.{sent_parcels};
 
 use crate::Bundle;
+use crate::letters::Letters;
 use pg_global::MessageCombiner;
 use pg_graph::{Memory, VertexId, sorted_by_id};
 use pg_map::Map;
@@ -15,8 +20,8 @@ use std::alloc::Global;
 
 /// The bundle of sends, as (sender, target, message) in the order in which they are to arrive.
 ///
-/// Costs what it takes to put the targets in order (`sorted_by_id`), a copy of each message in that order, and one look
-/// at it where the combiner combines.
+/// Costs what it takes to put the targets in order (`sorted_by_id`) and a copy of each message in that order; where the
+/// combiner combines, one more copy and one look at it.
 pub fn bundle<M: Plain, C: MessageCombiner<M>>(
     alloc: Global,
     sent: &[(VertexId, VertexId, M)],
@@ -25,9 +30,43 @@ pub fn bundle<M: Plain, C: MessageCombiner<M>>(
     ensures { IfOk result (λ bundle. bundle ≡ bundle_of (C.combining combiner.now) sent.now) }
 {
     let letters = letters_by_target(alloc, sent)?;
-    let parcels = parcels_of(alloc, letters.as_slice(), combiner)?;
-    let parcels = Map::from_rising(alloc, parcels)?;
-    Ok(Bundle { parcels })
+    if combiner.combines() {
+        return combined_bundle(alloc, letters.as_slice(), combiner);
+    }
+    sent_bundle(alloc, letters)
+}
+
+/// The bundle of letters that aren't combined, in the memory that they lie in.
+fn sent_bundle<M: Plain>(
+    alloc: Global,
+    letters: Vec<(VertexId, (VertexId, M))>,
+) -> Result<Bundle<M>, Memory>
+    requires rise { IsNonDecreasingBy (λ l. l.0) letters.items }
+    requires values { AllByRecursion (λ l. M.is_value l.1.1) letters.items }
+    ensures { IfOk result (λ bundle. bundle ≡ sent_parcels letters.items) }
+{
+    let letters = Letters::of(alloc, letters)?;
+    Ok(Bundle {
+        letters,
+        changes: Map::new(),
+    })
+}
+
+/// The bundle of letters that are combined.
+fn combined_bundle<M: Plain, C: MessageCombiner<M>>(
+    alloc: Global,
+    letters: &[(VertexId, (VertexId, M))],
+    combiner: &C,
+) -> Result<Bundle<M>, Memory>
+    requires { IsNonDecreasingBy (λ l. l.0) letters.now }
+    ensures { IfOk result (λ bundle. bundle ≡ parcels_of (C.combining combiner.now) (groups_of letters.now)) }
+{
+    let parcels = parcels_of(alloc, letters, combiner)?;
+    let changes = Map::from_rising(alloc, parcels)?;
+    Ok(Bundle {
+        letters: Letters::new(),
+        changes,
+    })
 }
 
 /// Each message with its sender, beside its target, by rising target; those to one target in their order.
@@ -35,7 +74,9 @@ fn letters_by_target<M: Plain>(
     alloc: Global,
     sent: &[(VertexId, VertexId, M)],
 ) -> Result<Vec<(VertexId, (VertexId, M))>, Memory>
-    ensures { IfOk result (λ letters. AreGroups (map as_item sent.now) (groups_of letters.items)) }
+    ensures groups { IfOk result (λ letters. AreGroups (map as_item sent.now) (groups_of letters.items)) }
+    ensures rise { IfOk result (λ letters. IsNonDecreasingBy (λ l. l.0) letters.items) }
+    ensures values { IfOk result (λ letters. AllByRecursion (λ l. M.is_value l.1.1) letters.items) }
 {
     let targets = targets_of(alloc, sent)?;
     let order = sorted_by_id(alloc, targets.as_slice())?;
@@ -63,12 +104,23 @@ fn letters_in_order<M: Plain>(
     order: &[(usize, VertexId)],
 ) -> Result<Vec<(VertexId, (VertexId, M))>, Memory>
     requires { AreById (map (λ s. s.1) sent.now) order.now }
-    ensures { IfOk result (λ letters. StandAt (map as_item sent.now) order.now letters.items) }
+    ensures stand { IfOk result (λ letters. StandAt (map as_item sent.now) order.now letters.items) }
+    ensures values { IfOk result (λ letters. AllByRecursion (λ l. M.is_value l.1.1) letters.items) }
 {
     let mut letters = Vec::with_capacity(alloc, order.len())?;
     for (place, _) in order {
         let (sender, target, message) = &sent[*place];
-        letters.push((*target, (*sender, message.copy(alloc)?)))?;
+        letters.push((*target, (*sender, copied(alloc, message)?)))?;
     }
     Ok(letters)
+}
+
+/// A copy of a message.
+fn copied<M: Plain>(alloc: Global, message: &M) -> Result<M, Memory>
+    ensures same { IfOk result (λ copied. copied ≡ message.now) }
+    ensures value { IfOk result (λ copied. M.is_value copied) }
+{
+    let copied = message.copy(alloc)?;
+    copied.fits();
+    Ok(copied)
 }

@@ -5,8 +5,9 @@ ghost use Rattle.std.specs.List.{AllByRecursion};
 ghost use Rattle.std.specs.Option.{option_copied};
 ghost use Rattle.std.specs.Ordering.{nat_cmp};
 ghost use Rattle.pg_map.specs.Entries.{ChangesRise, with_changes};
+ghost use Rattle.pg_parcel.specs.Contents.{as_changes};
 ghost use Rattle.pg_parcel.specs.Grouping.{groups_of};
-ghost use Rattle.pg_inbox.specs.Changed.{AreChanged};
+ghost use Rattle.pg_inbox.specs.Changed.{AreChanged, IsAdded};
 ghost use Rattle.pg_inbox.specs.Holding.{HoldsAt};
 ghost use Rattle.pg_inbox.specs.Inboxes.{letters_in};
 ghost use Rattle.pg_inbox.specs.Mending.{HasJust, HasMore, additions, as_addition, as_withdrawal, changes_of, mended, mended_in, mends_of, others};
@@ -18,7 +19,7 @@ use crate::{Bundle, Logged};
 use pg_global::MessageCombiner;
 use pg_graph::{Memory, VertexId};
 use pg_model::Sequence;
-use pg_parcel::{Parcel, by_target, first_group};
+use pg_parcel::{Change, Parcel, ParcelRef, by_target, first_group};
 use pg_program::Plain;
 use std::alloc::Global;
 use std::collections::BTreeSet;
@@ -35,7 +36,7 @@ pub(crate) enum Mend<M> {
 /// What targets have afterwards, and those of them at which others see something else.
 #[derive(Drop)]
 struct After<M: Plain> {
-    changes: Vec<(VertexId, Option<Parcel<M>>)>,
+    changes: Vec<(VertexId, Change<M>)>,
     changed: Vec<VertexId>,
 }
 
@@ -44,7 +45,7 @@ struct After<M: Plain> {
 /// differs from the old one, and shares with that all else.
 ///
 /// With k of both it costs a sort of them by target, what is sent to their targets, and a copy of the chunks of the
-/// old bundle that these targets lie in.
+/// changes of the old bundle that these targets lie in.
 pub fn patch<M: Plain, C: MessageCombiner<M>>(
     alloc: Global,
     old: &Bundle<M>,
@@ -58,10 +59,11 @@ pub fn patch<M: Plain, C: MessageCombiner<M>>(
     let mends = mends_by_target(alloc, withdrawn, added)?;
     let mends = by_target(mends)?;
     let after = changes_at(alloc, old, mends.as_slice(), combiner)?;
-    let bundle = mended_bundle(alloc, old, after.changes.as_slice())?;
+    let After { changes, changed } = after;
+    let bundle = mended_bundle(alloc, old, changes)?;
     Ok(Logged {
         bundle,
-        changed: Some(Sequence::from_vec(after.changed)),
+        changed: Some(Sequence::from_vec(changed)),
     })
 }
 
@@ -108,31 +110,47 @@ fn add_additions<M: Plain>(
 fn mended_bundle<M: Plain>(
     alloc: Global,
     old: &Bundle<M>,
-    changes: &[(VertexId, Option<Parcel<M>>)],
+    changes: Vec<(VertexId, Change<M>)>,
 ) -> Result<Bundle<M>, Memory>
-    requires rise { ChangesRise changes.now }
-    requires hold { AllByRecursion (λ c. HoldsAt M.is_value c.1) changes.now }
-    ensures { IfOk result (λ bundle. bundle ≡ with_changes changes.now old.now) }
+    requires rise { ChangesRise changes.items }
+    requires hold { AllByRecursion (λ c. HoldsAt M.is_value c.1) changes.items }
+    ensures { IfOk result (λ bundle. bundle ≡ with_changes changes.items old.now) }
 {
-    match changes.split_first() {
-        Some(_) => changed_bundle(alloc, old, changes),
-        None => old.share(),
+    if changes.is_empty() {
+        return old.share();
     }
+    changed_bundle(alloc, old, changes)
 }
 
 /// The old bundle with these changes, in which it isn't shared.
 fn changed_bundle<M: Plain>(
     alloc: Global,
     old: &Bundle<M>,
-    changes: &[(VertexId, Option<Parcel<M>>)],
+    changes: Vec<(VertexId, Change<M>)>,
 ) -> Result<Bundle<M>, Memory>
-    requires rise { ChangesRise changes.now }
-    requires hold { AllByRecursion (λ c. HoldsAt M.is_value c.1) changes.now }
-    ensures { IfOk result (λ bundle. bundle ≡ with_changes changes.now old.now) }
+    requires rise { ChangesRise changes.items }
+    requires hold { AllByRecursion (λ c. HoldsAt M.is_value c.1) changes.items }
+    ensures { IfOk result (λ bundle. bundle ≡ with_changes changes.items old.now) }
 {
-    let mut parcels = old.parcels.share()?;
-    parcels.change(alloc, changes)?;
-    Ok(Bundle { parcels })
+    let given = each_given(alloc, changes)?;
+    let letters = old.letters.share()?;
+    let mut changes = old.changes.share()?;
+    changes.change(alloc, given.as_slice())?;
+    Ok(Bundle { letters, changes })
+}
+
+/// These changes as values that are given to their targets.
+fn each_given<M: Plain>(
+    alloc: Global,
+    changes: Vec<(VertexId, Change<M>)>,
+) -> Result<Vec<(VertexId, Option<Change<M>>)>, Memory>
+    ensures { IfOk result (λ given. given.items ≡ as_changes changes.items) }
+{
+    let mut given = Vec::with_capacity(alloc, changes.len())?;
+    for (id, change) in changes {
+        given.push((id, Some(change)))?;
+    }
+    Ok(given)
 }
 
 /// The new contents of each target, of what is done by rising target. Costs one look-up each.
@@ -148,25 +166,55 @@ fn changes_at<M: Plain, C: MessageCombiner<M>>(
     ensures changed { IfOk result (λ after. ChangesRise after.changes.items
         → AreChanged old.now (with_changes after.changes.items old.now) after.changed.items) }
 {
-    // Tells the prover that the old targets rise.
-    old.parcels.len();
+    old.holds();
     let mut changes = Vec::new(alloc);
     let mut changed = Vec::new(alloc);
     let mut left = mends;
     while let Some((target, here, later)) = first_group(left) {
         let before = old.parcel(target);
-        let parcel = parcel_after(alloc, before, here, combiner)?;
-        add_if_changed(&mut changed, target, before, parcel.as_ref())?;
-        changes.push((target, parcel))?;
+        let seen = before.as_ref();
+        let change = change_to(alloc, seen, here, combiner)?;
+        note_if_changed(&mut changed, target, seen, &change)?;
+        changes.push((target, change))?;
         left = later;
     }
     Ok(After { changes, changed })
 }
 
-/// What becomes of the messages to a target; nothing where none is left.
+/// Adds a target at which others see something else.
+fn note_if_changed<M: Plain>(
+    changed: &mut Vec<VertexId>,
+    target: VertexId,
+    before: Option<&ParcelRef<'_, M>>,
+    change: &Change<M>,
+) -> Result<(), Memory>
+    requires before { HoldsAt M.is_value (option_copied before) }
+    requires after { HoldsAt M.is_value change.now }
+    ensures { OnOk result (IsAdded target (option_copied before.entry) change.now changed.old.items changed.new.items) }
+{
+    let after = change.parcel();
+    add_if_changed(changed, target, before, after.as_ref())
+}
+
+/// What becomes of the messages to a target.
+fn change_to<M: Plain, C: MessageCombiner<M>>(
+    alloc: Global,
+    old: Option<&ParcelRef<'_, M>>,
+    mends: &[(VertexId, Mend<M>)],
+    combiner: &C,
+) -> Result<Change<M>, Memory>
+    ensures value { IfOk result
+        (λ change. change ≡ mended_in (C.combining combiner.now) (option_copied old.entry) (map (λ m. m.1) mends.now)) }
+    ensures holds { IfOk result (λ change. HoldsAt M.is_value change) }
+{
+    let parcel = parcel_after(alloc, old, mends, combiner)?;
+    Ok(Change::of(parcel))
+}
+
+/// The messages to a target afterwards; nothing where none is left.
 fn parcel_after<M: Plain, C: MessageCombiner<M>>(
     alloc: Global,
-    old: Option<&Parcel<M>>,
+    old: Option<&ParcelRef<'_, M>>,
     mends: &[(VertexId, Mend<M>)],
     combiner: &C,
 ) -> Result<Option<Parcel<M>>, Memory>
@@ -185,7 +233,7 @@ fn parcel_after<M: Plain, C: MessageCombiner<M>>(
 /// The messages that stay and those that are added, by rising sender.
 fn mended_letters<M: Plain>(
     alloc: Global,
-    old: Option<&Parcel<M>>,
+    old: Option<&ParcelRef<'_, M>>,
     mends: &[(VertexId, Mend<M>)],
 ) -> Result<Vec<(VertexId, M)>, Memory>
     ensures items { IfOk result
@@ -232,7 +280,7 @@ fn add_if_withdrawn<M: Plain>(
 /// The messages of all other senders to a target, if there are any.
 fn staying_in<M: Plain>(
     alloc: Global,
-    old: Option<&Parcel<M>>,
+    old: Option<&ParcelRef<'_, M>>,
     withdrawn: &BTreeSet<VertexId>,
 ) -> Result<Vec<(VertexId, M)>, Memory>
     ensures items { IfOk result (λ after. after.items ≡ others withdrawn.now (letters_in (option_copied old.entry))) }
@@ -247,7 +295,7 @@ fn staying_in<M: Plain>(
 /// The messages of all other senders.
 fn staying_letters<M: Plain>(
     alloc: Global,
-    letters: &Parcel<M>,
+    letters: &ParcelRef<'_, M>,
     withdrawn: &BTreeSet<VertexId>,
 ) -> Result<Vec<(VertexId, M)>, Memory>
     ensures items { IfOk result (λ after. after.items ≡ others withdrawn.now letters.now.letters) }

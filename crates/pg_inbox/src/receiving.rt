@@ -12,15 +12,14 @@ ghost use Rattle.pg_inbox.specs.Ordered.{in_order};
 use crate::Bundle;
 use pg_global::MessageCombiner;
 use pg_graph::{Memory, VertexId};
-use pg_map::Share;
-use pg_parcel::Parcel;
+use pg_parcel::ParcelRef;
 use pg_program::Plain;
 use std::alloc::Global;
 
 /// What a vertex receives: the messages to it in all bundles, by sender and then in the order sent, or the one
 /// message that they come to where the combiner combines. No bundle, or none with a message to it, gives nothing.
 ///
-/// Costs two binary searches a bundle, and O(m log n) for m messages in n bundles: those of a bundle rise by sender
+/// Costs a few binary searches a bundle, and O(m log n) for m messages in n bundles: those of a bundle rise by sender
 /// already, and the stable sort merges such runs. Where the combiner combines it reads one message of a bundle.
 pub fn inbox<M: Plain, C: MessageCombiner<M>>(
     alloc: Global,
@@ -35,26 +34,25 @@ pub fn inbox<M: Plain, C: MessageCombiner<M>>(
 }
 
 /// What the bundles have for a vertex, bundle by bundle.
-fn parcels_at<M: Plain>(
+fn parcels_at<'a, M: Plain>(
     alloc: Global,
-    bundles: &[&Bundle<M>],
+    bundles: &[&'a Bundle<M>],
     id: VertexId,
-) -> Result<Vec<(VertexId, Parcel<M>)>, Memory>
+) -> Result<Vec<(VertexId, ParcelRef<'a, M>)>, Memory>
     ensures items { IfOk result (λ parcels. map (λ p. p.1) parcels.items ≡ contents_to id (map (λ b. b.now) bundles.now)) }
     ensures hold { IfOk result (λ _. AllByRecursion (λ b. HoldsAt M.is_value (value_at id b.now)) bundles.now) }
 {
     let mut parcels = Vec::new(alloc);
     for bundle in bundles {
-        add_parcel(alloc, &mut parcels, bundle, id)?;
+        add_parcel(&mut parcels, bundle, id)?;
     }
     Ok(parcels)
 }
 
 /// Adds what a bundle has for a vertex.
-fn add_parcel<M: Plain>(
-    alloc: Global,
-    parcels: &mut Vec<(VertexId, Parcel<M>)>,
-    bundle: &Bundle<M>,
+fn add_parcel<'a, M: Plain>(
+    parcels: &mut Vec<(VertexId, ParcelRef<'a, M>)>,
+    bundle: &'a Bundle<M>,
     id: VertexId,
 ) -> Result<(), Memory>
     ensures items { OnOk result
@@ -62,7 +60,7 @@ fn add_parcel<M: Plain>(
     ensures holds { HoldsAt M.is_value (value_at id bundle.now) }
 {
     if let Some(parcel) = bundle.parcel(id) {
-        parcels.push((id, parcel.share(alloc)?))?;
+        parcels.push((id, parcel))?;
     }
     Ok(())
 }
@@ -70,7 +68,7 @@ fn add_parcel<M: Plain>(
 /// What a vertex receives of these.
 pub(crate) fn received<M: Plain, C: MessageCombiner<M>>(
     alloc: Global,
-    parcels: &[(VertexId, Parcel<M>)],
+    parcels: &[(VertexId, ParcelRef<'_, M>)],
     combiner: &C,
 ) -> Result<Vec<M>, Memory>
     ensures { IfOk result (λ inbox. inbox.items ≡ received_of (C.combining combiner.now) (map (λ p. p.1) parcels.now)) }
@@ -86,7 +84,7 @@ pub(crate) fn received<M: Plain, C: MessageCombiner<M>>(
 }
 
 /// The messages to one target of one bundle, by sender and then in the order sent.
-fn messages_by_sender<M: Plain>(alloc: Global, parcel: &Parcel<M>) -> Result<Vec<M>, Memory>
+fn messages_by_sender<M: Plain>(alloc: Global, parcel: &ParcelRef<'_, M>) -> Result<Vec<M>, Memory>
     ensures { IfOk result (λ inbox. inbox.items ≡ messages (in_order parcel.now.letters)) }
 {
     let mut messages = Vec::with_capacity(alloc, parcel.len())?;
@@ -98,7 +96,7 @@ fn messages_by_sender<M: Plain>(alloc: Global, parcel: &Parcel<M>) -> Result<Vec
 pub(crate) fn add_by_sender<M: Plain>(
     alloc: Global,
     into: &mut Vec<M>,
-    parcel: &Parcel<M>,
+    parcel: &ParcelRef<'_, M>,
 ) -> Result<(), Memory>
     ensures { OnOk result (into.new.items ≡ into.old.items ++ messages (in_order parcel.now.letters)) }
 {
@@ -124,7 +122,7 @@ fn sorted_messages<M: Plain>(alloc: Global, letters: Vec<(VertexId, M)>) -> Resu
 /// One message for what those of each bundle come to, if there are any.
 fn combined<M: Plain, C: MessageCombiner<M>>(
     alloc: Global,
-    parcels: &[(VertexId, Parcel<M>)],
+    parcels: &[(VertexId, ParcelRef<'_, M>)],
     combiner: &C,
 ) -> Result<Vec<M>, Memory>
     requires { IsSome (C.combining combiner.now) }
@@ -148,7 +146,7 @@ fn combine_folded<M: Plain, C: MessageCombiner<M>>(
     alloc: Global,
     so_far: &mut M,
     is_any: bool,
-    parcel: &Parcel<M>,
+    parcel: &ParcelRef<'_, M>,
     combiner: &C,
 ) -> Result<bool, Memory>
     requires { IsSome (C.combining combiner.now) }
@@ -166,7 +164,7 @@ fn combine_folded<M: Plain, C: MessageCombiner<M>>(
 }
 
 /// Whether messages stand by rising sender.
-fn are_in_order<M: Plain>(parcel: &Parcel<M>) -> bool
+fn are_in_order<M: Plain>(parcel: &ParcelRef<'_, M>) -> bool
     ensures { result ≡ true → in_order parcel.now.letters ≡ parcel.now.letters }
 {
     for place in 1..parcel.len() {
@@ -181,7 +179,7 @@ fn are_in_order<M: Plain>(parcel: &Parcel<M>) -> bool
 fn add_messages<M: Plain>(
     alloc: Global,
     into: &mut Vec<M>,
-    parcel: &Parcel<M>,
+    parcel: &ParcelRef<'_, M>,
 ) -> Result<(), Memory>
     ensures { OnOk result (into.new.items ≡ into.old.items ++ messages parcel.now.letters) }
 {
@@ -194,7 +192,7 @@ fn add_messages<M: Plain>(
 /// The messages of all bundles with their senders, bundle by bundle.
 fn letters_in<M: Plain>(
     alloc: Global,
-    parcels: &[(VertexId, Parcel<M>)],
+    parcels: &[(VertexId, ParcelRef<'_, M>)],
 ) -> Result<Vec<(VertexId, M)>, Memory>
     ensures { IfOk result (λ letters. letters.items ≡ flat_map (λ c. c.letters) (map (λ p. p.1) parcels.now)) }
 {
@@ -209,7 +207,7 @@ fn letters_in<M: Plain>(
 fn copy_letters<M: Plain>(
     alloc: Global,
     letters: &mut Vec<(VertexId, M)>,
-    more: &Parcel<M>,
+    more: &ParcelRef<'_, M>,
 ) -> Result<(), Memory>
     ensures { OnOk result (letters.new.items ≡ letters.old.items ++ more.now.letters) }
 {

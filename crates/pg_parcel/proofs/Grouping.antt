@@ -1,18 +1,18 @@
 -- Items that stand by target, and what there is of each target then.
 use Rattle.std.proofs.Common.{◌≡◌, ℕ, ◌+◌, ◌≤◌, ◌==◌, Bool, true, false, cond, not, ◌&&◌, is_lt, suc, zero, List, [], ◌∷◌, length}
-use Rattle.std.proofs.Common.{map, take, drop, Option, None, Some, refl, sym, ap, ap₂, ◌++◌, ◌∙◌, subst, arith, eq-eqb, eqb-true, true≢false}
+use Rattle.std.proofs.Common.{map, take, drop, Option, None, Some, refl, sym, ap, ap₂, ◌++◌, ◌∙◌, subst, arith, eq-eqb, eqb-true, get_or, ltb, true≢false}
 use Rattle.std.specs.List.{AllByRecursion, filter}
-use Rattle.std.specs.List.Sorted.{IsNonDecreasingBy, IsStableByKey, IsStrictlySortedBy, ties}
+use Rattle.std.specs.List.Sorted.{IsNonDecreasingBy, IsPartitionPoint, IsStableByKey, IsStrictlySortedBy, ties}
 use Rattle.std.specs.BTreeMap.{is_at}
 use Rattle.std.specs.Map.{keys_of}
 use Rattle.std.specs.Ordering.{nat_cmp}
 use Rattle.std.specs.declared.cmp.Ordering.TheVariants.{Less}
 use Rattle.std.proofs.lemmas.Bool.Decides.{nat_tests}
 use Rattle.std.proofs.lemmas.List.{take-append-drop}
-use Rattle.std.proofs.lemmas.List.Elements.{filter_agree}
+use Rattle.std.proofs.lemmas.List.Elements.{filter-append, filter_agree}
 use Rattle.std.proofs.lemmas.Map.Entries.{lookup_head, lookup_tail}
 use Rattle.pg_map.specs.Entries.{HasRisingIds, value_at}
-use Rattle.pg_map.proofs.Parts.{From, above_first, from_weaker, is_less, none_from}
+use Rattle.pg_map.proofs.Parts.{From, above_first, from_weaker, is_less, none_from, split_all}
 use Rattle.pg_map.proofs.Rising.{at_other, at_same}
 use Rattle.pg_model.proofs.LawsByNumber.{IsUp, up_from}
 use Rattle.pg_model.specs.Superstep.{is_empty}
@@ -23,6 +23,18 @@ other_id a b h e = grind (arith, nat_tests)
 
 higher : (a b : ℕ) → (b == a) ≡ false → a ≤ b → a + 1 ≤ b
 higher a b h e = grind (arith, nat_tests)
+
+above_apart : (q i : ℕ) → q + 1 ≤ i → (i == q) ≡ false
+above_apart q i h = grind (arith, nat_tests)
+
+below_apart : (q i : ℕ) → i + 1 ≤ q → (i == q) ≡ false
+below_apart q i h = grind (arith, nat_tests)
+
+below_by : (a b : ℕ) → ltb a b ≡ true → a + 1 ≤ b
+below_by a b h = grind (arith, nat_tests)
+
+not_below : (a b : ℕ) → ltb a b ≡ false → b ≤ a
+not_below a b h = grind (arith, nat_tests)
 
 tied : (a b : ℕ) → not (is_lt (nat_cmp a b)) && not (is_lt (nat_cmp b a)) ≡ (b == a)
 tied a b = grind (arith, nat_tests)
@@ -97,7 +109,7 @@ module _ {X : Type 0} where
       by true = (h, all.1)
       by false = (h, all)
 
-  from_groups : (m : ℕ) (items : List (ℕ × X)) → AllByRecursion (λ i. m ≤ i.0) items → From m (groups_of items)
+  pub from_groups : (m : ℕ) (items : List (ℕ × X)) → AllByRecursion (λ i. m ≤ i.0) items → From m (groups_of items)
   from_groups m [] all = tt
   from_groups m (i ∷ items) all = from_before m i (groups_of items) all.0 (from_groups m items all.1)
 
@@ -149,13 +161,13 @@ module _ {X : Type 0} where
 
   -- ---- items by rising target
 
-  rises_groups : (items : List (ℕ × X)) → IsUp (λ i. i.0) items → HasRisingIds (groups_of items)
+  pub rises_groups : (items : List (ℕ × X)) → IsUp (λ i. i.0) items → HasRisingIds (groups_of items)
   unfolding IsStrictlySortedBy
   rises_groups [] up = tt
   rises_groups (i ∷ items) up = rises_before i (groups_of items) (from_groups i.0 items up.0) (rises_groups items up.1)
 
   -- each target has those of the items that go to it
-  told_groups : (q : ℕ) (items : List (ℕ × X)) → IsUp (λ i. i.0) items → value_at q (groups_of items) ≡ any_of (items_to q items)
+  pub told_groups : (q : ℕ) (items : List (ℕ × X)) → IsUp (λ i. i.0) items → value_at q (groups_of items) ≡ any_of (items_to q items)
   told_groups q [] up = refl
   told_groups q (i ∷ items) up = by (i.0 == q) refl (told_groups q items up.1)
     where
@@ -170,6 +182,51 @@ module _ {X : Type 0} where
           (same_before i gs (from_groups i.0 items up.0) (rises_groups items up.1))
           ∙ ap (λ l. Some (i.1 ∷ l)) (ap opened told ∙ opened_any (items_to q items))
       by false e told = other_before i q (other_id i.0 q e) gs ∙ told
+
+  -- ---- the items to one target
+
+  run_later : (q : ℕ) (items : List (ℕ × X)) → AllByRecursion (λ i. q + 1 ≤ i.0) items → filter (λ i. i.0 == q) items ≡ []
+  run_later q [] all = refl
+  run_later q (i ∷ items) all =
+      ap (λ b. cond b (i ∷ filter (λ i. i.0 == q) items) (filter (λ i. i.0 == q) items)) (above_apart q i.0 all.0) ∙ run_later q items all.1
+
+  all_higher : (a b : ℕ) (items : List (ℕ × X)) → a ≤ b → AllByRecursion (λ i. b ≤ i.0) items → AllByRecursion (λ i. a ≤ i.0) items
+  all_higher a b [] h all = tt
+  all_higher a b (i ∷ items) h all = (let k = all.0 in omega arith, all_higher a b items h all.1)
+
+  -- where none is below a number, those of it stand at the beginning
+  run_is : (q : ℕ) (items : List (ℕ × X)) → AllByRecursion (λ i. q ≤ i.0) items → IsUp (λ i. i.0) items
+      → take (run_len q items) items ≡ filter (λ i. i.0 == q) items
+  run_is q [] all up = refl
+  run_is q (i ∷ items) all up = by (i.0 == q) refl (run_is q items all.1 up.1)
+    where
+      by : (b : Bool) → (i.0 == q) ≡ b → take (run_len q items) items ≡ filter (λ i. i.0 == q) items
+          → take (cond b (suc (run_len q items)) zero) (i ∷ items) ≡ cond b (i ∷ filter (λ i. i.0 == q) items) (filter (λ i. i.0 == q) items)
+      by true e h = ap (λ l. i ∷ l) h
+      by false e h = sym (run_later q items (all_higher (q + 1) i.0 items (higher q i.0 e all.0) up.0))
+
+  below_none : (q : ℕ) (items : List (ℕ × X)) → AllByRecursion (λ i. i.0 + 1 ≤ q) items → filter (λ i. i.0 == q) items ≡ []
+  below_none q [] all = refl
+  below_none q (i ∷ items) all =
+      ap (λ b. cond b (i ∷ filter (λ i. i.0 == q) items) (filter (λ i. i.0 == q) items)) (below_apart q i.0 all.0) ∙ below_none q items all.1
+
+  up_drop : (n : ℕ) (items : List (ℕ × X)) → IsUp (λ i. i.0) items → IsUp (λ i. i.0) (drop n items)
+  up_drop zero items up = up
+  up_drop (suc n) [] up = tt
+  up_drop (suc n) (i ∷ items) up = up_drop n items up.1
+
+  -- of items by rising number, those from the first that isn't below a number on, as many as are of it
+  pub items_found : (q : ℕ) (items from here : List (ℕ × X)) (n r : ℕ) → IsNonDecreasingBy (λ i. i.0) items → n ≤ length items
+      → IsPartitionPoint (λ i. ltb i.0 q ≡ true) (λ i. ltb i.0 q ≡ false) items n → from ≡ drop n items → r ≡ run_len q from → here ≡ take r from
+      → map (λ i. i.1) here ≡ items_to q items
+  items_found q items from here n r rise within parts back counted front =
+      let both = split_all (λ i. i.0 + 1 ≤ q) (λ i. q ≤ i.0) items n within
+      (λ k d h. below_by (get_or items k d).0 q (parts.0 k d (omega arith) h)) (λ k d h g. not_below (get_or items k d).0 q (parts.1 k d h g)) in
+      let up = up_drop n items (up_from (λ i. i.0) items rise) in
+      let cut : filter (λ i. i.0 == q) items ≡ filter (λ i. i.0 == q) (drop n items) =
+      ap (filter (λ i. i.0 == q)) (sym (take-append-drop n items)) ∙ filter-append (λ (i : ℕ × X). i.0 == q) (take n items) (drop n items)
+      ∙ ap (λ l. l ++ filter (λ i. i.0 == q) (drop n items)) (below_none q (take n items) both.0) in
+      ap (map (λ i. i.1)) (front ∙ ap (λ k. take k from) counted ∙ ap (λ l. take (run_len q l) l) back ∙ run_is q (drop n items) both.1 up ∙ sym cut)
 
   -- ---- a stable sort
 

@@ -1,5 +1,5 @@
 -- The messages to one target, and what they come to.
-use Rattle.std.specs.Prelude.{◌≡◌, ℕ, false, List, map, Option}
+use Rattle.std.specs.Prelude.{◌≡◌, ℕ, false, List, map, Option, Some}
 use Rattle.std.specs.List.{AllByRecursion, fold}
 use Rattle.std.specs.Option.{option_map}
 use Rattle.pg_model.specs.Job.{Combining}
@@ -28,3 +28,7 @@ module _ {M : Type 0} where
 
   abbrev pub Holds : (M → Type 0) → Contents M → Type 0
   Holds is_value contents = IsLetters is_value contents.letters
+
+-- values as changes to them
+abbrev pub as_changes : {X : Type 0} → List (ℕ × X) → List (ℕ × Option X)
+as_changes entries = map (λ e. (e.0, Some e.1)) entries

@@ -1,4 +1,4 @@
 pub mod Contents
 pub mod Grouping
 pub mod Held
-pub mod Runs
+pub mod Lent

@@ -1,11 +1,10 @@
 //! The messages to one target.
-ghost use Rattle.std.specs.Prelude.{◌≡◌, [], ◌∷◌, ◌<◌, length, get_or, None, IfOk, IfSome, IsSome};
+ghost use Rattle.std.specs.Prelude.{◌≡◌, [], ◌∷◌, ◌<◌, length, get_or, IfOk, IfSome, IsSome};
 ghost use Rattle.std.specs.List.{AllByRecursion, fold};
 ghost use Rattle.std.specs.Option.{option_copied};
 ghost use Rattle.pg_parcel.specs.Contents.{messages, folded, contents_of};
 ghost use Rattle.pg_parcel.specs.Held.{contents_in};
 
-use crate::runs::Run;
 use pg_global::MessageCombiner;
 use pg_graph::{Memory, VertexId};
 use pg_map::Share;
@@ -29,8 +28,6 @@ pub(crate) enum Held<M> {
     Alone((VertexId, M)),
     /// A message that is what it comes to, since the initial message is neutral.
     Combined((VertexId, M)),
-    /// Messages that aren't combined, together with those of other targets.
-    Together(Run<M>),
     Many(Arc<Contents<M>>),
 }
 
@@ -60,7 +57,6 @@ impl<M: Plain> Share for Parcel<M> {
         let held = match &self.held {
             Held::Alone(letter) => Held::Alone((letter.0, letter.1.copy(alloc)?)),
             Held::Combined(letter) => Held::Combined((letter.0, letter.1.copy(alloc)?)),
-            Held::Together(run) => Held::Together(run.share()?),
             Held::Many(contents) => Held::Many(Arc::try_clone(contents)?),
         };
         Ok(Parcel { held })
@@ -92,16 +88,6 @@ impl<M: Plain> Parcel<M> {
         Parcel { held }
     }
 
-    /// A parcel of messages that aren't combined, in the list that they lie in.
-    pub(crate) fn of_run(run: Run<M>) -> Parcel<M>
-        requires { IsLetters M.is_value run }
-        ensures { result ≡ record { letters = run; folded = None } }
-    {
-        Parcel {
-            held: Held::Together(run),
-        }
-    }
-
     /// How many messages there are.
     pub fn len(&self) -> usize
         ensures value { result ≡ length self.now.letters }
@@ -110,7 +96,6 @@ impl<M: Plain> Parcel<M> {
         match &self.held {
             Held::Alone(_) => 1,
             Held::Combined(_) => 1,
-            Held::Together(run) => run.len(),
             Held::Many(contents) => contents.letters.len(),
         }
     }
@@ -123,7 +108,6 @@ impl<M: Plain> Parcel<M> {
         match &self.held {
             Held::Alone(letter) => letter,
             Held::Combined(letter) => letter,
-            Held::Together(run) => run.letter(place),
             Held::Many(contents) => &contents.letters.as_slice()[place],
         }
     }
@@ -135,7 +119,6 @@ impl<M: Plain> Parcel<M> {
         match &self.held {
             Held::Alone(_) => None,
             Held::Combined(letter) => Some(&letter.1),
-            Held::Together(_) => None,
             Held::Many(contents) => contents.folded.as_ref(),
         }
     }

@@ -232,7 +232,7 @@ fn stats_after<V: Plain, M: Plain>(
 {
     Ok(PartitionStats {
         census: census_next(before.census, course, superstep)?,
-        traffic: traffic(bundles, graph, course.missing())?,
+        traffic: traffic(alloc, bundles, graph, course.missing())?,
         gathered: gathered_in(alloc, registry, course.trace(), superstep)?,
     })
 }

@@ -11,11 +11,12 @@ use pg_graph::{Graph, Memory, Missing, PartitionId, Superstep, VertexId};
 use pg_inbox::{Bundle, Logged, Logs};
 use pg_program::Plain;
 use pg_stats::Traffic;
-use std::alloc::AllocError;
+use std::alloc::{AllocError, Global};
 
 /// What is sent and dropped with these bundles. Costs a look at each target, and where messages to nobody are dropped
 /// a look-up in the graph.
 pub fn traffic<M: Plain>(
+    alloc: Global,
     bundles: &[Logged<M>],
     graph: &Graph,
     missing: Missing,
@@ -28,13 +29,14 @@ pub fn traffic<M: Plain>(
         dropped: 0,
     };
     for logged in bundles {
-        traffic = with_bundle(traffic, &logged.bundle, graph, missing)?;
+        traffic = with_bundle(alloc, traffic, &logged.bundle, graph, missing)?;
     }
     Ok(traffic)
 }
 
 /// With the messages of one bundle more. No memory holds more than fit the counts.
 fn with_bundle<M: Plain>(
+    alloc: Global,
     traffic: Traffic,
     bundle: &Bundle<M>,
     graph: &Graph,
@@ -43,13 +45,13 @@ fn with_bundle<M: Plain>(
     ensures { IfOk result (λ after. IsWithBundle missing graph.now bundle.now traffic after) }
 {
     let dropped = match missing {
-        Missing::Drop => bundle.astray(graph)?,
+        Missing::Drop => bundle.astray(alloc, graph)?,
         Missing::Create => 0,
     };
     Ok(Traffic {
         sent: traffic
             .sent
-            .checked_add(bundle.messages()?)
+            .checked_add(bundle.messages(alloc)?)
             .ok_or(AllocError)?,
         dropped: traffic.dropped.checked_add(dropped).ok_or(AllocError)?,
     })

@@ -8,7 +8,7 @@ use Rattle.pg_inbox.proofs.alike.tell_values.Goals as goal
 pub loop-bundle-preserved : goal.loop-bundle-preserved
 loop-bundle-preserved g c =
     all_more (HoldAll g.M.Plain.is_value) c.args.bundles.now c.loop-bundle.bundle-index c.bundle-item.result c.loop-bundle-test.true
-    c.loop-bundle.invariant (subst (HoldAll g.M.Plain.is_value) c.bundle-item.is c.holds.ensures)
+    c.loop-bundle.invariant (subst (HoldAll g.M.Plain.is_value) c.bundle-item.is c.holds.ensures.hold)
 
 pub returns : goal.returns
 returns g c =

@@ -1,9 +1,6 @@
-use Rattle.pg_map.proofs.Moved.{moved_all, moved_one}
+use Rattle.std.proofs.Common.{◌++◌, ap, ◌∙◌}
+use Rattle.std.specs.Map.{keys_of}
 use Rattle.pg_inbox.proofs.changing.add_targets.Goals as goal
 
-pub loop-id-preserved : goal.loop-id-preserved
-loop-id-preserved g c =
-    moved_one c.loop-id.ids.items c.next.new.self c.in-Some.ensures.steps c.loop-id.invariant c.in_ok-push.ensures.items
-
 pub returns : goal.returns
-returns g c = moved_all c.loop-id.ids.items c.in-None.ensures.steps.0 c.loop-id.invariant
+returns g c = c.in_ok-add_listed.ensures ∙ ap (λ l. c.args.ids.now.items ++ keys_of l) (c.as_slice.ensures.value ∙ c.in_ok-parcels.ensures)

@@ -6,22 +6,22 @@ use Rattle.pg_inbox.proofs.changing.are_same_letters.Goals as goal
 pub returns-then-len : goal.returns-then-len
 returns-then-len g c = (
   (λ h. absurd (search (rules, h))),
-  λ same. absurd (c.if-len.true (c.len.ensures.value ∙ ap length same ∙ sym c.len-2.ensures.value)),
+  λ same. absurd (c.if-len.true (c.len.ensures ∙ ap length same ∙ sym c.len-2.ensures)),
 )
 
 pub letter-requires-after_bounds : goal.letter-requires-after_bounds
-letter-requires-after_bounds g c κs within = subst (λ n. c.loop-place.place < n) c.len-place-end.ensures.value c.loop-place-test.true
+letter-requires-after_bounds g c κs within = subst (λ n. c.loop-place.place < n) c.len-place-end.ensures c.loop-place-test.true
 
 pub letter-requires-in-loop-place-after_bounds : goal.letter-requires-in-loop-place-after_bounds
 letter-requires-in-loop-place-after_bounds g c κs within =
-    subst (λ n. c.loop-place.place < n) (c.len-place-end.ensures.value ∙ c.loop-place.invariant.lengths) c.loop-place-test.true
+    subst (λ n. c.loop-place.place < n) (c.len-place-end.ensures ∙ c.loop-place.invariant.lengths) c.loop-place-test.true
 
 pub loop-place-preserved : goal.loop-place-preserved
 loop-place-preserved g c =
     let i = c.loop-place.place in
     let old = c.args.old.now.letters in
     let new = c.args.new.now.letters in
-    let within = subst (λ n. i < n) c.len-place-end.ensures.value c.loop-place-test.true in
+    let within = subst (λ n. i < n) c.len-place-end.ensures c.loop-place-test.true in
     record {
       so_far = sym (joined_more (λ l. l) (λ xs ys. refl) old i within c.letter.ensures refl refl)
           ∙ ap₂ (λ l x. l ++ x ∷ []) c.loop-place.invariant.so_far (c.if-not-is_same_letter.ensures.0 refl)
@@ -34,7 +34,7 @@ returns g c =
     let i = c.loop-place.place in
     let old = c.args.old.now.letters in
     let new = c.args.new.now.letters in
-    let over = subst (λ n. n ≤ i) c.len-place-end.ensures.value c.loop-place-test.false in (
+    let over = subst (λ n. n ≤ i) c.len-place-end.ensures c.loop-place-test.false in (
       (λ same. sym (take_all i old over) ∙ c.loop-place.invariant.so_far ∙ take_all i new (subst (λ n. n ≤ i) c.loop-place.invariant.lengths over)),
       λ same. refl,
     )

@@ -1,8 +1,7 @@
-use Rattle.std.proofs.Common.{sym, ap, ◌∙◌, ◌++◌, ◌∷◌, [], subst, append_assoc, subst₂}
+use Rattle.std.proofs.Common.{sym, ap, ◌∙◌, ◌++◌, ◌∷◌, [], subst, append_assoc}
 use Rattle.std.specs.List.Sorted.{IsStrictlySortedBy}
 use Rattle.std.specs.Ordering.{nat_cmp}
 use Rattle.pg_map.specs.Entries.{value_at}
-use Rattle.pg_inbox.specs.Changed.{IsAdded}
 use Rattle.pg_inbox.proofs.Differing.{rises-more, told-more, AreTold, changed_all, told-none}
 use Rattle.std.proofs.lemmas.List.{nil_from_length}
 use Rattle.pg_map.proofs.Moved.{moved_all}
@@ -13,15 +12,14 @@ loop-id-preserved g c =
     let old = c.args.old.now in
     let new = c.args.new.now in
     let now = c.loop-id in
-    let added = subst₂ (λ a b. IsAdded c.in-Some.id a b c.loop-id.changed.items c.add_if_changed.new.ids.items) c.parcel.ensures.value c.parcel-in-loop-id.ensures.value
-    c.in_ok-add_if_changed.ensures in
+    let added = c.in_ok-add_if_differing.ensures in
     let next = c.in-Some.ensures.steps.0 in
     record {
       rise =
-          rises-more (value_at c.in-Some.id old) (value_at c.in-Some.id new) now.changed.items c.add_if_changed.new.ids.items c.next.new.self.rest.items c.in-Some.id
+          rises-more (value_at c.in-Some.id old) (value_at c.in-Some.id new) now.changed.items c.add_if_differing.new.ids.items c.next.new.self.rest.items c.in-Some.id
           (subst (λ l. IsStrictlySortedBy nat_cmp (now.changed.items ++ l)) next now.invariant.rise) added;
       whole = append_assoc now.yielded (c.in-Some.id ∷ []) c.next.new.self.rest.items ∙ (ap (λ l. now.yielded ++ l) (sym next) ∙ now.invariant.whole);
-      told = told-more old new now.changed.items c.add_if_changed.new.ids.items now.yielded c.in-Some.id now.invariant.told added;
+      told = told-more old new now.changed.items c.add_if_differing.new.ids.items now.yielded c.in-Some.id now.invariant.told added;
     }
 
 pub loop-id-init : goal.loop-id-init

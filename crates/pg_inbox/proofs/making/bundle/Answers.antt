@@ -1,24 +1,26 @@
-use Rattle.std.proofs.Common.{ap, ◌∙◌, subst, sym}
+use Rattle.std.proofs.Common.{◌≡◌, false, None, Option, Some, ap, is_some, refl, ◌∙◌, sym, true≢false}
+use Rattle.std.proofs.lemmas.Result.{IfOk-weaker}
 use Rattle.pg_parcel.specs.Contents.{parcels_of}
 use Rattle.pg_parcel.specs.Grouping.{groups_of}
-use Rattle.pg_inbox.specs.Holding.{HoldAll}
 use Rattle.pg_inbox.proofs.Bundling.{bundle_from_groups}
-use Rattle.pg_inbox.proofs.SameDelivery.{hold-all}
 use Rattle.pg_inbox.proofs.making.bundle.Goals as goal
 
-pub from_rising-requires : goal.from_rising-requires
-from_rising-requires g c =
+none_by : {X : Type 0} (o : Option X) → is_some o ≡ false → o ≡ None
+none_by None h = refl
+none_by (Some x) h = absurd (true≢false h)
+
+pub returns-then-combines : goal.returns-then-combines
+returns-then-combines g c =
     let combining = g.C.MessageCombiner.combining c.args.combiner.now in
-    (bundle_from_groups combining c.args.sent.now c.in_ok-letters.ensures
-    (c.in_ok-parcels.ensures.contents ∙ ap (λ l. parcels_of combining (groups_of l)) c.as_slice.ensures.value)).1
+    IfOk-weaker c.combined_bundle.result _ _
+    (λ bundle is. (bundle_from_groups combining c.args.sent.now c.in_ok-letters.ensures.groups (is ∙ ap (λ l. parcels_of combining (groups_of l)) c.as_slice.ensures.value)).0)
+    c.combined_bundle.ensures
 
 pub returns : goal.returns
 returns g c =
     let combining = g.C.MessageCombiner.combining c.args.combiner.now in
-    c.in_ok-parcels-2.ensures
-    ∙ (bundle_from_groups combining c.args.sent.now c.in_ok-letters.ensures
-    (c.in_ok-parcels.ensures.contents ∙ ap (λ l. parcels_of combining (groups_of l)) c.as_slice.ensures.value)).0
-
-pub invariant_of-result : goal.invariant_of-result
-invariant_of-result g c =
-    subst (HoldAll g.M.Plain.is_value) (sym c.in_ok-parcels-2.ensures) (hold-all g.M.Plain.is_value c.in_ok-parcels.parcels.items c.in_ok-parcels.ensures.hold)
+    let groups = groups_of c.in_ok-letters.letters.items in
+    let none : combining ≡ None = none_by combining (sym c.combines.ensures ∙ c.if-combines.false) in
+    IfOk-weaker c.sent_bundle.result _ _
+    (λ bundle is. (bundle_from_groups combining c.args.sent.now c.in_ok-letters.ensures.groups (is ∙ ap (λ o. parcels_of o groups) (sym none))).0)
+    c.sent_bundle.ensures

@@ -4,6 +4,7 @@ use Rattle.std.proofs.lemmas.List.{length-map, take_more}
 use Rattle.std.proofs.lemmas.Option.{slice_get-map, slice_get_read, slice_get_within}
 use Rattle.pg_inbox.specs.Sends.{as_item}
 use Rattle.pg_graph.proofs.Taken.{zip_push}
+use Rattle.pg_map.proofs.Filling.{all_pushed}
 use Rattle.pg_inbox.proofs.making.letters_in_order.Goals as goal
 
 pub loop-place-preserved : goal.loop-place-preserved
@@ -20,5 +21,10 @@ loop-place-preserved g c =
     slice_get-map as_item sent at.0 ∙ ap (option_map as_item) (slice_get_read sent (length sent) at.0 item refl within c.index-sent-place.is) in
     let more : take (i + 1) order ≡ take i order ++ at ∷ [] =
     take_more order i at c.loop-place-test.true ∙ ap (λ e. take i order ++ e ∷ []) (sym c.loop-place-item.is) in
-    rw (more, c.in_ok-push.ensures.items ∙ ap (λ m. c.loop-place.letters.items ++ (item.1, (item.0, m)) ∷ []) c.in_ok-copy.ensures)
-    (zip_push (λ e letter. slice_get (map as_item sent) e.0 ≡ Some letter) (take i order) c.loop-place.letters.items at (as_item item) c.loop-place.invariant stands)
+    let pushed = c.in_ok-push.ensures.items in
+    record {
+      stand = rw (more, pushed ∙ ap (λ m. c.loop-place.letters.items ++ (item.1, (item.0, m)) ∷ []) c.in_ok-copied.ensures.same)
+          (zip_push (λ e letter. slice_get (map as_item sent) e.0 ≡ Some letter) (take i order) c.loop-place.letters.items at (as_item item)
+          c.loop-place.invariant.stand stands);
+      values = all_pushed (λ p. g.M.Plain.is_value p.1.1) c.loop-place.letters.items c.loop-place.invariant.values pushed c.in_ok-copied.ensures.value;
+    }

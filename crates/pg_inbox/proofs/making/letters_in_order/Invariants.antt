@@ -1,7 +1,11 @@
 use Rattle.std.proofs.Common.{map, take}
+use Rattle.std.specs.List.{AllByRecursion}
 use Rattle.pg_graph.specs.ById.{StandAt}
 use Rattle.pg_inbox.specs.Sends.{as_item}
 use Rattle.pg_inbox.proofs.making.letters_in_order.Given as goal
 
 abbrev pub invariant-loop-place : goal.invariant-loop-place
-invariant-loop-place g l = StandAt (map as_item l.sent) (take l.place-index l.order) l.letters.items
+invariant-loop-place g l = record {
+  stand : StandAt (map as_item l.sent) (take l.place-index l.order) l.letters.items;
+  values : AllByRecursion (λ p. g.M.Plain.is_value p.1.1) l.letters.items;
+}

@@ -1,7 +1,7 @@
-use Rattle.std.proofs.Common.{◌≡◌, [], ◌∷◌, ◌++◌, ap, append_assoc, map, rules, subst, sym}
+use Rattle.std.proofs.Common.{◌≡◌, [], ◌∷◌, ◌++◌, ap, append_assoc, map, refl, rules, subst, sym}
 use Rattle.std.specs.List.{AllByRecursion}
 use Rattle.std.specs.Option.{option_copied}
-use Rattle.pg_map.specs.Entries.{HasRisingIds, value_at}
+use Rattle.pg_map.specs.Entries.{value_at}
 use Rattle.pg_model.proofs.LawsLists.{all-append}
 use Rattle.pg_inbox.specs.Holding.{HoldsAt}
 use Rattle.pg_inbox.specs.Mending.{mended_in}
@@ -14,18 +14,19 @@ loop-target-preserved g c =
     let old = c.args.old.now in
     let now = c.loop-target in
     let target = c.in-Some.target in
-    let parcel = c.in_ok-parcel.parcel in
+    let change = c.in_ok-change.change in
     let mends = map (λ m. m.1) c.in-Some.here.now in
-    let pushed : c.push.new.self.items ≡ now.changes.items ++ (target, parcel) ∷ [] = search rules in
-    let at : option_copied c.parcel-before.result ≡ value_at target old = search rules in record {
+    let pushed : c.push.new.self.items ≡ now.changes.items ++ (target, change) ∷ [] = search rules in
+    let at : option_copied c.as_ref-seen.result ≡ value_at target old = search rules in
+    record {
       items = search (rules, ap (λ o. mended_in combining o mends) at, append_assoc);
-      found = found-more old now.changes.items c.push.new.self.items now.changed.items c.add_if_changed.new.ids.items now.invariant.found
-          pushed at c.as_ref.ensures.value c.in_ok-add_if_changed.ensures (search rules);
+      found = found-more old now.changes.items c.push.new.self.items now.changed.items c.note_if_changed.new.changed.items now.invariant.found
+          pushed at refl c.in_ok-note_if_changed.ensures (search rules);
       hold = subst (AllByRecursion (λ x. HoldsAt g.M.Plain.is_value x.1)) (sym pushed)
-          (all-append (λ x. HoldsAt g.M.Plain.is_value x.1) now.changes.items ((target, parcel) ∷ []) now.invariant.hold (c.in_ok-parcel.ensures.holds, tt));
+          (all-append (λ x. HoldsAt g.M.Plain.is_value x.1) now.changes.items ((target, change) ∷ []) now.invariant.hold (c.in_ok-change.ensures.holds, tt));
     }
 
 pub returns-clause-changed : goal.returns-clause-changed
 returns-clause-changed g c rise =
     found_all c.args.old.now c.loop-target.changes.items c.loop-target.changed.items
-    (subst HasRisingIds c.old.view_is c.len.ensures.rising) c.loop-target.invariant.found rise
+    c.holds.ensures.rise c.loop-target.invariant.found rise

@@ -3,6 +3,7 @@ use Rattle.pg_map.specs.Entries.{HasRisingIds}
 use Rattle.pg_map.proofs.Filling.{all_more, gathered_more}
 use Rattle.std.specs.List.{AllByRecursion, flat_map}
 use Rattle.std.proofs.lemmas.List.{take_all}
+use Rattle.pg_inbox.specs.Holding.{HoldAll}
 use Rattle.pg_inbox.proofs.receivers.all_parcels.Goals as goal
 
 pub loop-bundle-preserved : goal.loop-bundle-preserved
@@ -12,11 +13,10 @@ loop-bundle-preserved g c = record {
   rise = all_more (λ b. HasRisingIds b.now) c.args.bundles.now c.loop-bundle.bundle-index c.bundle-item.result
       c.loop-bundle-test.true c.loop-bundle.invariant.rise
       (subst (λ b. HasRisingIds b.now) c.bundle-item.is c.in_ok-add_parcels.ensures.rise);
-  hold = c.in_ok-add_parcels.ensures.hold;
+  hold = all_more (λ b. HoldAll g.M.Plain.is_value b.now) c.args.bundles.now c.loop-bundle.bundle-index c.bundle-item.result
+      c.loop-bundle-test.true c.loop-bundle.invariant.hold
+      (subst (λ b. HoldAll g.M.Plain.is_value b.now) c.bundle-item.is c.in_ok-add_parcels.ensures.hold);
 }
-
-pub add_parcels-requires-after_bounds : goal.add_parcels-requires-after_bounds
-add_parcels-requires-after_bounds g c κs within = c.loop-bundle.invariant.hold
 
 pub returns-clause-items : goal.returns-clause-items
 returns-clause-items g c =
@@ -29,4 +29,6 @@ returns-clause-rise g c =
     c.loop-bundle.invariant.rise
 
 pub returns-clause-hold : goal.returns-clause-hold
-returns-clause-hold g c = c.loop-bundle.invariant.hold
+returns-clause-hold g c =
+    subst (AllByRecursion (λ b. HoldAll g.M.Plain.is_value b.now)) (take_all c.loop-bundle.bundle-index c.args.bundles.now c.loop-bundle-test.false)
+    c.loop-bundle.invariant.hold

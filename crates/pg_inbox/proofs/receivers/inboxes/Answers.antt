@@ -4,9 +4,10 @@ use Rattle.std.proofs.lemmas.Result.{IfOk-weaker}
 use Rattle.std.specs.Map.{values_of}
 use Rattle.std.proofs.lemmas.List.Elements.{recursion_from_All}
 use Rattle.pg_map.specs.Entries.{HasRisingIds}
-use Rattle.pg_model.proofs.LawsLists.{all_from_map, all_to_map}
+use Rattle.pg_model.proofs.LawsLists.{all_from_map, all_to_map, all_weaker}
 use Rattle.pg_parcel.specs.Grouping.{AreGroups, groups_of}
 use Rattle.pg_parcel.specs.Contents.{Holds}
+use Rattle.pg_inbox.specs.Holding.{HoldAll}
 use Rattle.pg_inbox.specs.Inboxes.{AreInboxes, inboxes_of}
 use Rattle.pg_inbox.proofs.Delivery.{are_inboxes, flat_map-of_map, inboxes_of_one, only_one}
 use Rattle.pg_inbox.proofs.receivers.inboxes.Goals as goal
@@ -23,7 +24,10 @@ returns g c =
     are_inboxes is_value combining (laws.lawful c.args.combiner.now) bundles groups
     (subst (λ l. AreGroups l groups) all c.in_ok-parcels-2.ensures)
     (all_to_map (λ b. b.now) HasRisingIds c.args.bundles.now c.in_ok-parcels.ensures.rise)
-    (subst (AllByRecursion (λ e. Holds is_value e.1)) all c.in_ok-parcels.ensures.hold) in
+    (all_to_map (λ b. b.now) (λ b. AllByRecursion (λ e. Holds is_value e.1) b) c.args.bundles.now
+    (all_weaker (λ b. HoldAll is_value b.now) (λ b. AllByRecursion (λ e. Holds is_value e.1) b.now)
+    (λ b h. all_from_map (λ e. e.1) (Holds is_value) b.now (recursion_from_All (Holds is_value) (values_of b.now) h)) c.args.bundles.now
+    c.in_ok-parcels.ensures.hold)) in
     let made = ap (λ l. inboxes_of combining (groups_of l)) c.as_slice.ensures.value in
     IfOk-weaker c.inboxes_of.result _ _ (λ inboxes is. subst (AreInboxes combining bundles) (sym (is ∙ made)) are) c.inboxes_of.ensures
 

@@ -1,5 +1,5 @@
-use Rattle.std.proofs.Common.{[], ◌∷◌, ◌++◌, ap, map, sym, ◌∙◌}
-use Rattle.std.specs.Option.{option_copied, option_to_list}
+use Rattle.std.proofs.Common.{◌++◌, ap, map, sym, ◌∙◌}
+use Rattle.std.specs.Option.{option_to_list}
 use Rattle.std.proofs.lemmas.List.{append-nil, map-append}
 use Rattle.pg_inbox.proofs.receiving.add_parcel.Goals as goal
 
@@ -7,10 +7,9 @@ pub returns-in_ok-push-clause-items : goal.returns-in_ok-push-clause-items
 returns-in_ok-push-clause-items g c =
     let before = map (λ p. p.1) c.args.parcels.now.items in
     ap (map (λ p. p.1)) c.in_ok-push.ensures.items ∙ map-append (λ p. p.1) c.args.parcels.now.items _
-    ∙ ap (λ p. before ++ p ∷ []) c.in_ok-share.ensures
-    ∙ ap (λ o. before ++ option_to_list o) (sym (ap option_copied c.in-Some.is) ∙ c.parcel.ensures.value)
+    ∙ ap (λ o. before ++ option_to_list o) (sym c.in-Some.is ∙ c.parcel.ensures.value)
 
 pub returns-in_default-clause-items : goal.returns-in_default-clause-items
 returns-in_default-clause-items g c =
     let before = map (λ p. p.1) c.args.parcels.now.items in
-    sym (append-nil before) ∙ ap (λ o. before ++ option_to_list o) (sym (ap option_copied c.in_default.is) ∙ c.parcel.ensures.value)
+    sym (append-nil before) ∙ ap (λ o. before ++ option_to_list o) (sym c.in_default.is ∙ c.parcel.ensures.value)

@@ -8,7 +8,7 @@ loop-place-preserved g c =
     let letters = c.args.parcel.now.letters in
     let place = c.loop-place.place in
     let from = c.loop-place.invariant.from in
-    let within = subst (λ n. place < n) c.len-place-end.ensures.value c.loop-place-test.true in
+    let within = subst (λ n. place < n) c.len-place-end.ensures c.loop-place-test.true in
     let le : c.letter-in-loop-place.result.now.0 ≤ c.letter.result.now.0 = grind (arith, c.lt.ensures, c.if-lt.false) in
     let next : place - 1 + 1 ≡ place = omega (arith, from) in
     let same : place + 1 - 1 ≡ place = omega arith in
@@ -23,5 +23,5 @@ pub returns : goal.returns
 returns g c =
     let letters = c.args.parcel.now.letters in
     let place = c.loop-place.place in
-    let all = subst (λ n. n ≤ place) c.len-place-end.ensures.value c.loop-place-test.false in
+    let all = subst (λ n. n ≤ place) c.len-place-end.ensures c.loop-place-test.false in
     λ _. up_in_order letters (c.loop-place.invariant.up (up_short letters (place - 1) (omega (arith, all, c.loop-place.invariant.from))))

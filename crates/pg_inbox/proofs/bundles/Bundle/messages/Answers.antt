@@ -1,10 +1,7 @@
-use Rattle.std.proofs.Common.{length}
-use Rattle.pg_inbox.proofs.Taking.{counted_all, counted_one}
+use Rattle.std.proofs.Common.{true, ap, ◌∙◌, sym}
+use Rattle.pg_inbox.specs.Counting.{messages_where}
+use Rattle.pg_inbox.proofs.Sent.{messages_sent}
 use Rattle.pg_inbox.proofs.bundles.Bundle.messages.Goals as goal
 
-pub loop-parcel-preserved : goal.loop-parcel-preserved
-loop-parcel-preserved g c =
-    counted_one (λ p. length p.1.letters) c.next.new.self c.loop-parcel.count c.in-Some.ensures.steps c.loop-parcel.invariant c.in_ok-count.ensures
-
-pub returns : goal.returns
-returns g c = counted_all (λ p. length p.1.letters) c.loop-parcel.count c.in-None.ensures.steps.0 c.loop-parcel.invariant
+pub returns-in-Some : goal.returns-in-Some
+returns-in-Some g c = sym (messages_sent c.in-Some.letters.now) ∙ ap (messages_where (λ _. true)) (sym c.in-Some.ensures)

@@ -1,0 +1,320 @@
+-- Bundles as they lie in memory: letters by target, and what is changed of them.
+use Rattle.std.proofs.Common.{◌≡◌, ℕ, ◌+◌, ◌<◌, ◌≤◌, ◌==◌, suc, Bool, true, false, cond, List, [], ◌∷◌, ◌++◌, length, map, take, drop, get_or}
+use Rattle.std.proofs.Common.{Option, None, Some, option_map, unwrap_or, refl, sym, ap, ap₂, ◌∙◌, subst, arith, append_assoc, ltb, leb}
+use Rattle.std.specs.List.{AllByRecursion, sum_by}
+use Rattle.std.specs.List.Sorted.{IsNonDecreasingBy, IsPartitionPoint}
+use Rattle.std.specs.Option.{IfSome}
+use Rattle.std.proofs.lemmas.Bool.Decides.{nat_tests}
+use Rattle.std.proofs.lemmas.List.{map-append, take-append-drop}
+use Rattle.std.proofs.lemmas.List.Sums.{sum_by-cons}
+use Rattle.pg_map.specs.Entries.{ChangesRise, HasRisingIds, value_at, with_change, with_changes}
+use Rattle.pg_map.proofs.Changing.{rises-changes, value_at-with_changes}
+use Rattle.pg_map.proofs.Parts.{Below, From, changes-right, from_first, none_rise, rises_after, rises_right, split_all}
+use Rattle.pg_map.proofs.Rising.{same_entries}
+use Rattle.pg_map.proofs.Turns.{put, removed, skipped}
+use Rattle.pg_model.proofs.LawsByNumber.{up_from}
+use Rattle.pg_model.proofs.LawsLists.{all_to_map, all_weaker}
+use Rattle.pg_model.specs.Superstep.{is_empty}
+use Rattle.pg_parcel.specs.Contents.{Holds, as_changes, contents_of}
+use Rattle.pg_parcel.specs.Grouping.{any_of, before_groups, groups_of, items_to}
+use Rattle.pg_parcel.specs.declared.parcel.Contents.{Contents}
+use Rattle.pg_parcel.proofs.Grouping.{from_groups, rises_groups, some_not_empty, told_groups}
+use Rattle.pg_inbox.specs.Bundles.{Parcels}
+use Rattle.pg_inbox.specs.Counting.{messages_where}
+use Rattle.pg_inbox.specs.Holding.{HoldAll, HoldsAt}
+use Rattle.pg_inbox.specs.Sound.{IsSound, parcels_with, sent_parcels}
+use Rattle.pg_inbox.proofs.Bundling.{rises-values, value_at-values}
+use Rattle.pg_inbox.proofs.SameDelivery.{hold-all, hold-changes}
+
+apart : (a b : ℕ) → a < b → (b == a) ≡ false
+apart a b h = grind (arith, nat_tests)
+
+is_below : (a b : ℕ) → ltb a b ≡ true → a < b
+is_below a b h = grind (arith, nat_tests)
+
+is_from : (a b : ℕ) → ltb a b ≡ false → b ≤ a
+is_from a b h = grind (arith, nat_tests)
+
+is_up_to : (a b : ℕ) → leb a b ≡ true → a < b + 1
+is_up_to a b h = grind (arith, nat_tests)
+
+is_past : (a b : ℕ) → leb a b ≡ false → b + 1 ≤ a
+is_past a b h = grind (arith, nat_tests)
+
+one_alone : (a b : ℕ) → b ≤ a → a < b + 1 → a ≡ b
+one_alone a b h k = omega (arith, h, k)
+
+all_first : {X : Type 0} (P : X → Type 0) (xs ys : List X) → AllByRecursion P (xs ++ ys) → AllByRecursion P xs
+all_first P [] ys all = tt
+all_first P (x ∷ xs) ys all = (all.0, all_first P xs ys all.1)
+
+nothing_rises : (X : Type 0) → HasRisingIds {V = X} []
+nothing_rises X = none_rise {X = X} [] refl
+
+one_more : (n : ℕ) → 1 + n ≡ suc n
+one_more n = omega arith
+
+suc_more : (n m : ℕ) → suc n + m ≡ suc (n + m)
+suc_more n m = omega arith
+
+-- ---- values as changes
+
+module _ {X : Type 0} where
+  pub changes_given : (es : List (ℕ × X)) → HasRisingIds es → ChangesRise (as_changes es)
+  changes_given es rise = rises-values Some es rise
+
+  -- changes of nothing give what they give
+  pub given_all : (es : List (ℕ × X)) → HasRisingIds es → with_changes (as_changes es) [] ≡ es
+  given_all es rise =
+      same_entries (with_changes (as_changes es) []) es (rises-changes (as_changes es) [] (nothing_rises X)) rise
+      (λ q. value_at-with_changes (as_changes es) [] q (rises-values Some es rise) (nothing_rises X)
+      ∙ (ap (λ o. unwrap_or o None) (value_at-values Some q es) ∙ back (value_at q es)))
+    where
+      back : (o : Option X) → unwrap_or (option_map Some o) None ≡ o
+      back None = refl
+      back (Some x) = refl
+
+  -- changes over changes over entries
+  pub changed_over : (changes : List (ℕ × Option X)) (over : List (ℕ × Option X)) (base : List (ℕ × X)) → ChangesRise changes → ChangesRise over
+      → HasRisingIds base → with_changes (with_changes (as_changes changes) over) base ≡ with_changes changes (with_changes over base)
+  changed_over changes over base rise over_rise rises =
+      same_entries (with_changes (with_changes (as_changes changes) over) base) (with_changes changes (with_changes over base))
+      (rises-changes (with_changes (as_changes changes) over) base rises) (rises-changes changes (with_changes over base) both)
+      (λ q. value_at-with_changes (with_changes (as_changes changes) over) base q (rises-changes (as_changes changes) over over_rise) rises
+      ∙ ap (λ o. unwrap_or o (value_at q base))
+      (value_at-with_changes (as_changes changes) over q (rises-values Some changes rise) over_rise
+      ∙ ap (λ o. unwrap_or o (value_at q over)) (value_at-values Some q changes))
+      ∙ by q (value_at q changes)
+      ∙ sym (value_at-with_changes changes (with_changes over base) q rise both
+      ∙ ap (λ x. unwrap_or (value_at q changes) x) (value_at-with_changes over base q over_rise rises)))
+    where
+      both : HasRisingIds (with_changes over base)
+      both = rises-changes over base rises
+
+      by : (q : ℕ) (o : Option (Option X)) → unwrap_or (unwrap_or (option_map Some o) (value_at q over)) (value_at q base)
+          ≡ unwrap_or o (unwrap_or (value_at q over) (value_at q base))
+      by q None = refl
+      by q (Some x) = refl
+
+-- ---- items in two parts
+
+module _ {X : Type 0} where
+  before_apart : (i : ℕ × X) (m : ℕ) (gs hs : List (ℕ × List X)) → i.0 < m → From m hs → before_groups i (gs ++ hs) ≡ before_groups i gs ++ hs
+  before_apart i m [] [] low from = refl
+  before_apart i m [] (h ∷ hs) low from =
+      ap (λ b. cond b ((i.0, i.1 ∷ h.1) ∷ hs) ((i.0, i.1 ∷ []) ∷ h ∷ hs)) (apart i.0 h.0 (omega (arith, low, from.0)))
+  before_apart i m (g ∷ gs) hs low from = by (g.0 == i.0)
+    where
+      by : (b : Bool) → cond b ((i.0, i.1 ∷ g.1) ∷ (gs ++ hs)) ((i.0, i.1 ∷ []) ∷ g ∷ (gs ++ hs))
+          ≡ cond b ((i.0, i.1 ∷ g.1) ∷ gs) ((i.0, i.1 ∷ []) ∷ g ∷ gs) ++ hs
+      by true = refl
+      by false = refl
+
+  -- those below a number have no target in common with those that aren't
+  groups_apart : (m : ℕ) (xs ys : List (ℕ × X)) → AllByRecursion (λ i. i.0 < m) xs → From m (groups_of ys)
+      → groups_of (xs ++ ys) ≡ groups_of xs ++ groups_of ys
+  groups_apart m [] ys below from = refl
+  groups_apart m (x ∷ xs) ys below from =
+      ap (before_groups x) (groups_apart m xs ys below.1 from) ∙ before_apart x m (groups_of xs) (groups_of ys) below.0 from
+
+  below_before : (m : ℕ) (i : ℕ × X) (gs : List (ℕ × List X)) → i.0 < m → Below m gs → Below m (before_groups i gs)
+  below_before m i [] low all = (low, tt)
+  below_before m i (g ∷ gs) low all = by (g.0 == i.0)
+    where
+      by : (b : Bool) → Below m (cond b ((i.0, i.1 ∷ g.1) ∷ gs) ((i.0, i.1 ∷ []) ∷ g ∷ gs))
+      by true = (low, all.1)
+      by false = (low, all)
+
+  below_groups : (m : ℕ) (items : List (ℕ × X)) → AllByRecursion (λ i. i.0 < m) items → Below m (groups_of items)
+  below_groups m [] all = tt
+  below_groups m (i ∷ items) all = below_before m i (groups_of items) all.0 (below_groups m items all.1)
+
+-- ---- the parcels of letters
+
+module _ {M : Type 0} where
+  abbrev parcel_of : ℕ × List (ℕ × M) → ℕ × Contents M
+  parcel_of g = (g.0, contents_of None g.1)
+
+  pub sent_rise : (letters : List (ℕ × (ℕ × M))) → IsNonDecreasingBy (λ l. l.0) letters → HasRisingIds (sent_parcels letters)
+  sent_rise letters rise = rises-values (contents_of None) (groups_of letters) (rises_groups letters (up_from (λ l. l.0) letters rise))
+
+  value_at_sent : (q : ℕ) (letters : List (ℕ × (ℕ × M))) → IsNonDecreasingBy (λ l. l.0) letters
+      → value_at q (sent_parcels letters) ≡ option_map (contents_of None) (any_of (items_to q letters))
+  value_at_sent q letters rise =
+      value_at-values (contents_of None) q (groups_of letters)
+      ∙ ap (option_map (contents_of None)) (told_groups q letters (up_from (λ l. l.0) letters rise))
+
+  sent_apart : (m : ℕ) (xs ys : List (ℕ × (ℕ × M))) → AllByRecursion (λ l. l.0 < m) xs → AllByRecursion (λ l. m ≤ l.0) ys
+      → sent_parcels (xs ++ ys) ≡ sent_parcels xs ++ sent_parcels ys
+  sent_apart m xs ys below from =
+      ap (map parcel_of) (groups_apart m xs ys below (from_groups m ys from)) ∙ map-append parcel_of (groups_of xs) (groups_of ys)
+
+  sent_from : (m : ℕ) (letters : List (ℕ × (ℕ × M))) → AllByRecursion (λ l. m ≤ l.0) letters → From m (sent_parcels letters)
+  sent_from m letters all = all_to_map parcel_of (λ e. m ≤ e.0) (groups_of letters) (from_groups m letters all)
+
+  sent_below : (m : ℕ) (letters : List (ℕ × (ℕ × M))) → AllByRecursion (λ l. l.0 < m) letters → Below m (sent_parcels letters)
+  sent_below m letters all = all_to_map parcel_of (λ e. e.0 < m) (groups_of letters) (below_groups m letters all)
+
+  -- how many messages they have
+  abbrev count : ℕ × Contents M → ℕ
+  count p = length p.1.letters
+
+  counted_before : (i : ℕ × (ℕ × M)) (gs : List (ℕ × List (ℕ × M)))
+      → sum_by count (map parcel_of (before_groups i gs)) ≡ suc (sum_by count (map parcel_of gs))
+  counted_before i [] = sum_by-cons count (parcel_of (i.0, i.1 ∷ [])) [] ∙ one_more (sum_by count [])
+  counted_before i (g ∷ gs) = by (g.0 == i.0)
+    where
+      rest : List (ℕ × Contents M)
+      rest = map parcel_of gs
+
+      by : (b : Bool) → sum_by count (map parcel_of (cond b ((i.0, i.1 ∷ g.1) ∷ gs) ((i.0, i.1 ∷ []) ∷ g ∷ gs)))
+          ≡ suc (sum_by count (map parcel_of (g ∷ gs)))
+      by true = sum_by-cons count (parcel_of (i.0, i.1 ∷ g.1)) rest ∙ suc_more (length g.1) (sum_by count rest) ∙ ap suc (sym (sum_by-cons count (parcel_of g) rest))
+      by false = sum_by-cons count (parcel_of (i.0, i.1 ∷ [])) (parcel_of g ∷ rest) ∙ one_more (sum_by count (parcel_of g ∷ rest))
+
+  pub messages_sent : (letters : List (ℕ × (ℕ × M))) → messages_where (λ _. true) (sent_parcels letters) ≡ length letters
+  messages_sent [] = refl
+  messages_sent (l ∷ letters) = counted_before l (groups_of letters) ∙ ap suc (messages_sent letters)
+
+  -- ---- with changes
+
+  module _ (changes : List (ℕ × Option (Contents M))) (letters : List (ℕ × (ℕ × M))) (rise : IsNonDecreasingBy (λ l. l.0) letters) where
+    pub with_rise : HasRisingIds (parcels_with changes letters)
+    with_rise = rises-changes changes (sent_parcels letters) (sent_rise letters rise)
+
+    module _ (changes_rise : ChangesRise changes) (q : ℕ) where
+      -- a target that is changed
+      pub value_changed : {o : Option (Contents M)} → value_at q changes ≡ Some o → value_at q (parcels_with changes letters) ≡ o
+      value_changed is =
+          value_at-with_changes changes (sent_parcels letters) q changes_rise (sent_rise letters rise)
+          ∙ ap (λ o. unwrap_or o (value_at q (sent_parcels letters))) is
+
+      -- and one that isn't
+      pub value_sent : value_at q changes ≡ None → value_at q (parcels_with changes letters) ≡ option_map (contents_of None) (any_of (items_to q letters))
+      value_sent is =
+          value_at-with_changes changes (sent_parcels letters) q changes_rise (sent_rise letters rise)
+          ∙ ap (λ o. unwrap_or o (value_at q (sent_parcels letters))) is
+          ∙ value_at_sent q letters rise
+
+  -- ---- the next change, and the letters up to its target
+
+  module _ (id : ℕ) (change : Option (Contents M)) (todo : List (ℕ × Option (Contents M))) (rise : ChangesRise ((id, change) ∷ todo)) where
+    -- what stands at its target makes no difference
+    skip_all : (es others : Parcels M) → HasRisingIds (es ++ others) → From id es → Below (id + 1) es
+        → with_changes ((id, change) ∷ todo) (es ++ others) ≡ with_changes ((id, change) ∷ todo) others
+    skip_all [] others rises from below = refl
+    skip_all (e ∷ es) others rises from below =
+        skipped (id, change) todo rise e (es ++ others) (one_alone e.0 id from.0 below.0) rises
+        ∙ skip_all es others (rises_after e (es ++ others) rises) from.1 below.1
+
+    turn : (others : Parcels M) → From (id + 1) others
+        → with_changes ((id, change) ∷ todo) others ≡ with_change id change [] ++ with_changes todo others
+    turn others from = by change refl
+      where
+        by : (c : Option (Contents M)) → change ≡ c → with_changes ((id, change) ∷ todo) others ≡ with_change id c [] ++ with_changes todo others
+        by None is = removed (id, change) todo rise others from is
+        by (Some v) is = put (id, change) todo rise others from v is
+
+    parcels_turn : (here middle later : List (ℕ × (ℕ × M))) → HasRisingIds (sent_parcels (here ++ (middle ++ later)))
+        → AllByRecursion (λ l. l.0 < id) here → AllByRecursion (λ l. id ≤ l.0) (middle ++ later)
+        → AllByRecursion (λ l. l.0 < id + 1) middle → AllByRecursion (λ l. id + 1 ≤ l.0) later
+        → parcels_with ((id, change) ∷ todo) (here ++ (middle ++ later)) ≡ sent_parcels here ++ (with_change id change [] ++ parcels_with todo later)
+    parcels_turn here middle later rises below from at past =
+        let cut : sent_parcels (here ++ (middle ++ later)) ≡ sent_parcels here ++ sent_parcels (middle ++ later) = sent_apart id here (middle ++ later) below from in
+        let cut' : sent_parcels (middle ++ later) ≡ sent_parcels middle ++ sent_parcels later = sent_apart (id + 1) middle later at past in
+        ap (with_changes ((id, change) ∷ todo)) cut
+        ∙ changes-right id ((id, change) ∷ todo) (sent_parcels here) (sent_parcels (middle ++ later)) (sent_below id here below) (from_first (id, change) todo rise)
+        ∙ ap (λ l. sent_parcels here ++ l)
+        (ap (with_changes ((id, change) ∷ todo)) cut'
+        ∙ skip_all (sent_parcels middle) (sent_parcels later)
+        (subst HasRisingIds cut' (rises_right (sent_parcels here) (sent_parcels (middle ++ later)) (subst HasRisingIds cut rises)))
+        (sent_from id middle (all_first (λ l. id ≤ l.0) middle later from)) (sent_below (id + 1) middle at)
+        ∙ turn (sent_parcels later) (sent_from (id + 1) later past))
+
+  module _ (id : ℕ) (change : Option (Contents M)) (letters here from later : List (ℕ × (ℕ × M))) (n k : ℕ)
+      (rise : IsNonDecreasingBy (λ l. l.0) letters) (within : n ≤ length letters)
+      (parts : IsPartitionPoint (λ l. ltb l.0 id ≡ true) (λ l. ltb l.0 id ≡ false) letters n)
+      (front : here ≡ take n letters) (back : from ≡ drop n letters)
+      (within' : k ≤ length from) (parts' : IsPartitionPoint (λ l. leb l.0 id ≡ true) (λ l. leb l.0 id ≡ false) from k)
+      (rest : later ≡ drop k from) where
+    -- in two searches
+    pub parcels_up_to : (before after : Parcels M) → after ≡ (before ++ sent_parcels here) ++ with_change id change []
+        → (todo : List (ℕ × Option (Contents M))) → ChangesRise ((id, change) ∷ todo)
+        → after ++ parcels_with todo later ≡ before ++ parcels_with ((id, change) ∷ todo) letters
+    parcels_up_to before after grown todo todo_rise =
+        let low = split_all (λ l. l.0 < id) (λ l. id ≤ l.0) letters n within
+        (λ i d h. is_below (get_or letters i d).0 id (parts.0 i d (omega (arith, h, within)) h))
+        (λ i d h g. is_from (get_or letters i d).0 id (parts.1 i d h g)) in
+        let high = split_all (λ l. l.0 < id + 1) (λ l. id + 1 ≤ l.0) from k within'
+        (λ i d h. is_up_to (get_or from i d).0 id (parts'.0 i d (omega (arith, h, within')) h))
+        (λ i d h g. is_past (get_or from i d).0 id (parts'.1 i d h g)) in
+        let middle = take k from in
+        let cut : middle ++ later ≡ from = ap (λ l. middle ++ l) rest ∙ take-append-drop k from in
+        let whole : here ++ (middle ++ later) ≡ letters = ap₂ ◌++◌ front (cut ∙ back) ∙ take-append-drop n letters in
+        let made =
+        parcels_turn id change todo todo_rise here middle later
+        (subst (λ l. HasRisingIds (sent_parcels l)) (sym whole) (sent_rise letters rise))
+        (subst (AllByRecursion (λ l. l.0 < id)) (sym front) low.0)
+        (subst (AllByRecursion (λ l. id ≤ l.0)) (sym (cut ∙ back)) low.1)
+        high.0 (subst (AllByRecursion (λ l. id + 1 ≤ l.0)) (sym rest) high.1) in
+        ap (λ l. l ++ parcels_with todo later) grown
+        ∙ append_assoc (before ++ sent_parcels here) (with_change id change []) (parcels_with todo later)
+        ∙ append_assoc before (sent_parcels here) (with_change id change [] ++ parcels_with todo later)
+        ∙ ap (λ l. before ++ l) (sym made ∙ ap (parcels_with ((id, change) ∷ todo)) whole)
+
+  -- ---- what they hold
+
+  module _ (is_value : M → Type 0) where
+    abbrev GroupHolds : ℕ × List (ℕ × M) → Type 0
+    GroupHolds g = (is_empty g.1 ≡ false) × AllByRecursion (λ l. is_value l.1) g.1
+
+    before_holds : (i : ℕ × (ℕ × M)) (gs : List (ℕ × List (ℕ × M))) → is_value i.1.1 → AllByRecursion GroupHolds gs
+        → AllByRecursion GroupHolds (before_groups i gs)
+    before_holds i [] here all = ((some_not_empty i.1 [], (here, tt)), tt)
+    before_holds i (g ∷ gs) here all = by (g.0 == i.0)
+      where
+        by : (b : Bool) → AllByRecursion GroupHolds (cond b ((i.0, i.1 ∷ g.1) ∷ gs) ((i.0, i.1 ∷ []) ∷ g ∷ gs))
+        by true = ((some_not_empty i.1 g.1, (here, all.0.1)), all.1)
+        by false = ((some_not_empty i.1 [], (here, tt)), all)
+
+    groups_hold : (letters : List (ℕ × (ℕ × M))) → AllByRecursion (λ l. is_value l.1.1) letters → AllByRecursion GroupHolds (groups_of letters)
+    groups_hold [] all = tt
+    groups_hold (l ∷ letters) all = before_holds l (groups_of letters) all.0 (groups_hold letters all.1)
+
+    -- letters that were sent, with no change
+    pub sound_sent : (letters : List (ℕ × (ℕ × M))) → IsNonDecreasingBy (λ l. l.0) letters → AllByRecursion (λ l. is_value l.1.1) letters
+        → IsSound is_value [] letters
+    sound_sent letters rise values = record {
+      letters_rise = rise;
+      changes_rise = nothing_rises (Option (Contents M));
+      hold = hold-all is_value (sent_parcels letters)
+          (all_to_map parcel_of (λ e. Holds is_value e.1) (groups_of letters) (groups_hold letters values));
+    }
+
+    pub sound_none : IsSound is_value [] []
+    sound_none = sound_sent [] (λ i j d le within. absurd (omega (arith, within))) tt
+
+    -- changes of no letters
+    pub sound_changes : (changes : List (ℕ × Option (Contents M))) → ChangesRise changes → AllByRecursion (λ c. IfSome c.1 (Holds is_value)) changes
+        → IsSound is_value changes []
+    sound_changes changes rise hold = record {
+      letters_rise = λ i j d le within. absurd (omega (arith, within));
+      changes_rise = rise;
+      hold = hold-changes is_value changes [] (all_weaker (λ c. IfSome c.1 (Holds is_value)) (λ c. HoldsAt is_value c.1) (λ c h. at c.1 h) changes hold)
+          (hold-all is_value [] tt);
+    }
+      where
+        at : (o : Option (Contents M)) → IfSome o (Holds is_value) → HoldsAt is_value o
+        at None h = tt
+        at (Some contents) h = h
+
+    -- more changes
+    pub sound_more : (more changes : List (ℕ × Option (Contents M))) (letters : List (ℕ × (ℕ × M))) → IsSound is_value changes letters → ChangesRise more
+        → AllByRecursion (λ c. HoldsAt is_value c.1) more → IsSound is_value (with_changes (as_changes more) changes) letters
+    sound_more more changes letters sound rise hold = record {
+      letters_rise = sound.letters_rise;
+      changes_rise = rises-changes (as_changes more) changes sound.changes_rise;
+      hold = subst (HoldAll is_value)
+          (sym (changed_over more changes (sent_parcels letters) rise sound.changes_rise (sent_rise letters sound.letters_rise)))
+          (hold-changes is_value more (parcels_with changes letters) hold sound.hold);
+    }

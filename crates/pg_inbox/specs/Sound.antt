@@ -1,0 +1,24 @@
+-- A bundle as it lies in memory: letters as they were sent, and what is changed of them since.
+use Rattle.std.specs.Prelude.{ℕ, List, Option, None}
+use Rattle.std.specs.List.Sorted.{IsNonDecreasingBy}
+use Rattle.pg_map.specs.Entries.{ChangesRise, with_changes}
+use Rattle.pg_parcel.specs.Contents.{parcels_of}
+use Rattle.pg_parcel.specs.Grouping.{groups_of}
+use Rattle.pg_parcel.specs.declared.parcel.Contents.{Contents}
+use Rattle.pg_inbox.specs.Bundles.{Parcels}
+use Rattle.pg_inbox.specs.Holding.{HoldAll}
+
+module _ {M : Type 0} where
+  -- the parcel of each target of letters by target
+  abbrev pub sent_parcels : List (ℕ × (ℕ × M)) → Parcels M
+  sent_parcels letters = parcels_of None (groups_of letters)
+
+  -- those with changes
+  abbrev pub parcels_with : List (ℕ × Option (Contents M)) → List (ℕ × (ℕ × M)) → Parcels M
+  parcels_with changes letters = with_changes changes (sent_parcels letters)
+
+  -- letters stand by rising target, changes too, and each message is a value
+  pub record IsSound (is_value : M → Type 0) (changes : List (ℕ × Option (Contents M))) (letters : List (ℕ × (ℕ × M))) : Type 0 where
+    pub letters_rise : IsNonDecreasingBy (λ i. i.0) letters
+    pub changes_rise : ChangesRise changes
+    pub hold : HoldAll is_value (parcels_with changes letters)
