@@ -121,7 +121,7 @@ module _ {Y : Type 0} where
   set_last [] y z = refl
   set_last (x ∷ ys) y z = ap (λ l. x ∷ l) (set_last ys y z)
 
-  get_last : (ys : List Y) (y d : Y) → get_or (ys ++ y ∷ []) (length ys) d ≡ y
+  pub get_last : (ys : List Y) (y d : Y) → get_or (ys ++ y ∷ []) (length ys) d ≡ y
   get_last [] y d = refl
   get_last (x ∷ ys) y d = get_last ys y d
 

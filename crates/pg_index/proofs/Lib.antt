@@ -1,10 +1,11 @@
-pub mod Histories
+pub mod Chains
 pub mod InChunks
 pub mod InPlace
 pub mod Keeping
 pub mod Last
 pub mod Noting
 pub mod Over
+pub mod PartsOf
 pub mod Runs
 pub mod Somes
 pub mod Supersteps

@@ -1,22 +1,24 @@
 -- The runs of a vertex, as they lie in memory.
-use Rattle.std.specs.Prelude.{◌≡◌, ℕ, List, [], ◌∷◌, ◌++◌, map, Some}
+use Rattle.std.specs.Prelude.{◌≡◌, ◌≤◌, ◌++◌, ℕ, List, length, map, slice_range, Some}
 use Rattle.pg_index.specs.Ran.{last_of}
 use Rattle.pg_index.specs.declared.ran.Run.{Run}
-use Rattle.pg_index.specs.declared.steps.History.{History}
 
 -- their supersteps
 abbrev pub steps_of : List Run → List ℕ
 steps_of runs = map (λ r. r.superstep) runs
 
--- the last run is noted
-abbrev pub IsSound : History → Type 0
-IsSound h = Some h.latest.superstep ≡ last_of (steps_of h.runs.items)
+-- those of a part of a list
+abbrev pub part_of : List Run → ℕ → ℕ → List ℕ
+part_of runs first end = steps_of (slice_range runs first end)
 
--- the same but for spare memory
-abbrev pub IsSame : History → History → Type 0
-IsSame before after = (after.runs.items ≡ before.runs.items) × (after.latest ≡ before.latest)
+-- a part of a list, and the last run in it
+pub record IsPart (runs : List Run) (first end : ℕ) (latest : Run) : Type 0 where
+  pub start : first ≤ end
+  pub within : end ≤ length runs
+  pub last : Some latest.superstep ≡ last_of (part_of runs first end)
 
--- with a run behind the others
-pub record IsPushed (run : Run) (before after : History) : Type 0 where
-  pub runs : after.runs.items ≡ before.runs.items ++ run ∷ []
-  pub latest : after.latest ≡ run
+-- a list of runs with more behind the others, in these supersteps
+pub record Adds (steps : List ℕ) (before after : List Run) : Type 0 where
+  pub more : List Run
+  pub is : after ≡ before ++ more
+  pub steps_are : steps_of more ≡ steps

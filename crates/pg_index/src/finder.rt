@@ -1,24 +1,24 @@
 //! Look-ups in an index.
 ghost use Rattle.std.specs.Prelude.{◌≡◌, ◌+◌};
 ghost use Rattle.std.specs.List.Sorted.{IsNonDecreasingBy};
-ghost use Rattle.std.specs.Option.{option_copied, option_map};
+ghost use Rattle.std.specs.Option.{option_map};
 ghost use Rattle.pg_map.specs.Entries.{HasRisingIds, value_at, with_changes};
 ghost use Rattle.pg_index.specs.Chunks.{AreSound, all_of};
 ghost use Rattle.pg_index.specs.Ran.{last_of, steps_below, steps_in};
 
+use crate::base::BaseFinder;
+use crate::chain::Ran;
 use crate::chunk::get;
 use crate::notes::Notes;
 use crate::ran::Run;
-use crate::steps::Steps;
 use pg_graph::VertexId;
-use pg_map::Finder;
 use std::marker::Model;
 
 /// Looks up ids in an index: among the notes, and then in the map. In both an id near the one before costs a search
 /// near that. A contract sees the index.
 #[derive(Drop)]
 pub struct IndexFinder<'a> {
-    base: Finder<'a, Steps>,
+    base: BaseFinder<'a>,
     notes: &'a Notes,
     notes_begun: usize,
 }
@@ -47,7 +47,7 @@ pub struct LastRuns {
 
 impl<'a> IndexFinder<'a> {
     /// Look-ups in an index of these parts.
-    pub(crate) fn of(base: Finder<'a, Steps>, notes: &'a Notes) -> IndexFinder<'a>
+    pub(crate) fn of(base: BaseFinder<'a>, notes: &'a Notes) -> IndexFinder<'a>
         requires rising { HasRisingIds base }
         requires sound { AreSound notes.now.items }
         ensures { result ≡ with_changes (all_of notes.now.items) base.entry }
@@ -60,13 +60,13 @@ impl<'a> IndexFinder<'a> {
     }
 
     /// What there is of an id.
-    fn get(&mut self, id: VertexId) -> Option<&'a Steps>
-        ensures value { option_copied result ≡ value_at id self.old }
+    fn get(&mut self, id: VertexId) -> Option<Ran<'a>>
+        ensures value { result ≡ value_at id self.old }
         ensures same { self.new ≡ self.old }
     {
         let notes = self.notes;
         match get(notes.as_slice(), &mut self.notes_begun, id) {
-            Some(steps) => steps.as_ref(),
+            Some(steps) => Ran::noted(steps),
             None => self.base.get(id),
         }
     }

@@ -4,9 +4,11 @@ ghost use Rattle.pg_map.specs.Entries.{ChangesRise, with_changes};
 ghost use Rattle.pg_index.specs.Chunks.{AreSound, all_of};
 ghost use Rattle.pg_index.specs.Ran.{IsNoted, StepsRise};
 
+use crate::base::{Base, Lies};
 use crate::finder::IndexFinder;
-use crate::maps::{changed, tell_rising};
-use crate::notes::{Notes, copied, moved, note_over};
+use crate::log::Log;
+use crate::maps::changed;
+use crate::notes::{Notes, copied, moved, note_in_log, note_over};
 use crate::steps::Steps;
 use pg_graph::{Memory, VertexId};
 use pg_map::Map;
@@ -19,7 +21,7 @@ use std::marker::Model;
 /// That an index is the index of the records of some supersteps is `IsIndex`; what it becomes where those of one change
 /// is `IsNoted`.
 pub struct Index {
-    base: Map<Steps>,
+    base: Base,
     notes: Notes,
 }
 
@@ -47,22 +49,22 @@ impl Index {
     pub fn new(alloc: Global) -> Index
         ensures { result ≡ [] }
     {
-        Index::of(alloc, Map::new())
+        Index::over(Base::in_log(Log::new(alloc)), Vec::new(alloc))
     }
 
     /// An index with no notes.
     fn of(alloc: Global, ran: Map<Steps>) -> Index
         ensures { result ≡ ran }
     {
-        Index::over(ran, Vec::new(alloc))
+        Index::over(Base::in_map(ran), Vec::new(alloc))
     }
 
     /// An index of notes over a map.
-    fn over(base: Map<Steps>, notes: Notes) -> Index
+    fn over(base: Base, notes: Notes) -> Index
         requires { AreSound notes.items }
         ensures { result ≡ with_changes (all_of notes.items) base }
     {
-        tell_rising(&base);
+        base.tell_rising();
         Index { base, notes }
     }
 
@@ -78,7 +80,7 @@ impl Index {
     pub fn share(&self, alloc: Global) -> Result<Index, Memory>
         ensures { IfOk result (λ index. index ≡ self.now) }
     {
-        let base = self.base.share()?;
+        let base = self.base.map(alloc)?;
         let changes = copied(alloc, self.notes.as_slice())?;
         let ran = changed(alloc, base, changes)?;
         Ok(Index::of(alloc, ran))
@@ -90,6 +92,7 @@ impl Index {
         ensures { IfOk result (λ index. index ≡ self) }
     {
         let Index { base, notes } = self;
+        let base = base.map(alloc)?;
         let changes = moved(alloc, notes)?;
         let ran = changed(alloc, base, changes)?;
         Ok(Index::of(alloc, ran))
@@ -112,8 +115,18 @@ impl Index {
         ensures { IfOk result (λ after. IsNoted superstep given.now self after) }
     {
         let Index { base, mut notes } = self;
-        note_over(alloc, &mut notes, &base, superstep, given)?;
-        Ok(Index::over(base, notes))
+        let Base { lies } = base;
+        match lies {
+            Lies::InMap(map) => {
+                let base = Base::in_map(map);
+                note_over(alloc, &mut notes, &base, superstep, given)?;
+                Ok(Index::over(base, notes))
+            }
+            Lies::InLog(log) => {
+                let log = note_in_log(alloc, &mut notes, log, superstep, given)?;
+                Ok(Index::over(Base::in_log(log), notes))
+            }
+        }
     }
 
     /// The same beside this index, with all notes put into its map. It costs what `share`, `noted` and `settled` do.

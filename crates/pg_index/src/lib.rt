@@ -1,9 +1,13 @@
 //! In which supersteps each vertex ran: an index that copies share, with notes over it that are made in place.
 #![tactic(auto)]
 
+mod base;
+mod chain;
 mod chunk;
 mod finder;
 mod index;
+mod listing;
+mod log;
 mod maps;
 mod notes;
 mod ran;

@@ -3,14 +3,16 @@ ghost use Rattle.std.specs.Prelude.{◌≡◌, ◌++◌, false, is_some, true, I
 ghost use Rattle.std.specs.List.Sorted.{IsNonDecreasingBy};
 ghost use Rattle.pg_map.specs.Entries.{ChangesRise, HasRisingIds, value_at, with_changes};
 ghost use Rattle.pg_index.specs.Chunks.{AreSound, all_of};
+ghost use Rattle.pg_index.specs.Logged.{AreWithin, chains};
 ghost use Rattle.pg_index.specs.Ran.{IsNoted, IsNotedOf, StepsRise, steps_in, with_ran};
 
+use crate::base::{Base, BaseFinder};
 use crate::chunk::{Chunk, found, put};
-use crate::maps::tell_rising;
-use crate::ran::after;
+use crate::log::{Last, Log, LogFinder, Logged, add_run};
+use crate::ran::{Run, after, after_runs, runs_in};
 use crate::steps::Steps;
 use pg_graph::{Memory, VertexId};
-use pg_map::{Finder, Map, Share};
+use pg_map::Share;
 use std::alloc::Global;
 
 /// What is said of each vertex of which there is a note, by rising id: in which supersteps it ran, or that it ran in
@@ -26,7 +28,7 @@ pub(crate) type Notes = Vec<Chunk<Option<Steps>>>;
 pub(crate) fn note_over(
     alloc: Global,
     notes: &mut Notes,
-    base: &Map<Steps>,
+    base: &Base,
     superstep: u32,
     given: &[(VertexId, Option<u32>)],
 ) -> Result<(), Memory>
@@ -37,7 +39,7 @@ pub(crate) fn note_over(
     ensures noted { OnOk result (IsNoted superstep given.now
         (with_changes (all_of notes.old.items) base.now) (with_changes (all_of notes.new.items) base.now)) }
 {
-    tell_rising(base);
+    base.tell_rising();
     let mut finder = base.finder();
     let mut near = 0;
     for (id, given) in given {
@@ -46,12 +48,115 @@ pub(crate) fn note_over(
     Ok(())
 }
 
+/// Notes of these vertices over a log, or in the log itself as long as nothing is noted over it: where those that run do
+/// so in a superstep above all others. Where memory is refused some of the notes may have been made.
+///
+/// For k vertices it costs k look-ups, and of one that ran in this superstep or a later one, or that is given none, what
+/// `note_over` does.
+pub(crate) fn note_in_log(
+    alloc: Global,
+    notes: &mut Notes,
+    log: Log,
+    superstep: u32,
+    given: &[(VertexId, Option<u32>)],
+) -> Result<Log, Memory>
+    requires rise { ChangesRise given.now }
+    requires sound { AreSound notes.old.items }
+    requires steps { StepsRise (with_changes (all_of notes.old.items) log) }
+    ensures sound { OnOk result (AreSound notes.new.items) }
+    ensures noted { IfOk result (λ after. IsNoted superstep given.now
+        (with_changes (all_of notes.old.items) log) (with_changes (all_of notes.new.items) after)) }
+{
+    let Log {
+        mut last,
+        mut earlier,
+    } = log;
+    let mut near = 0;
+    for (id, given) in given {
+        note_one(
+            alloc,
+            notes,
+            &mut last,
+            &mut earlier,
+            &mut near,
+            *id,
+            superstep,
+            *given,
+        )?;
+    }
+    Ok(Log { last, earlier })
+}
+
+/// Notes of a vertex at which place a superstep has its record, if it has one, in a log or over it.
+fn note_one(
+    alloc: Global,
+    notes: &mut Notes,
+    last: &mut Last,
+    earlier: &mut Vec<Logged>,
+    near: &mut usize,
+    id: VertexId,
+    superstep: u32,
+    given: Option<u32>,
+) -> Result<(), Memory>
+    requires log { AreSound last.old.items }
+    requires within { AreWithin earlier.old.items (all_of last.old.items) }
+    requires sound { AreSound notes.old.items }
+    requires steps { IsNonDecreasingBy (λ t. t) (steps_in (value_at id
+        (with_changes (all_of notes.old.items) (chains earlier.old.items (all_of last.old.items))))) }
+    ensures log { OnOk result (AreSound last.new.items) }
+    ensures within { OnOk result (AreWithin earlier.new.items (all_of last.new.items)) }
+    ensures sound { OnOk result (AreSound notes.new.items) }
+    ensures noted { OnOk result (IsNotedOf id superstep (is_some given)
+        (with_changes (all_of notes.old.items) (chains earlier.old.items (all_of last.old.items)))
+        (with_changes (all_of notes.new.items) (chains earlier.new.items (all_of last.new.items)))) }
+{
+    if add_in_log(alloc, notes, last, earlier, near, id, superstep, given)? {
+        return Ok(());
+    }
+    let finder = LogFinder::of(last.as_slice(), earlier.as_slice());
+    let mut base = BaseFinder::by_log(finder);
+    note_of(alloc, notes, &mut 0, &mut base, id, superstep, given)
+}
+
+/// Adds a run of a vertex to the log where that says what a note would: nothing is noted over the log, and the runs that
+/// the vertex has are below it. Else nothing changes, and it says so.
+fn add_in_log(
+    alloc: Global,
+    notes: &Notes,
+    last: &mut Last,
+    earlier: &mut Vec<Logged>,
+    near: &mut usize,
+    id: VertexId,
+    superstep: u32,
+    given: Option<u32>,
+) -> Result<bool, Memory>
+    requires log { AreSound last.old.items }
+    requires within { AreWithin earlier.old.items (all_of last.old.items) }
+    requires steps { IsNonDecreasingBy (λ t. t) (steps_in (value_at id
+        (with_changes (all_of notes.now.items) (chains earlier.old.items (all_of last.old.items))))) }
+    ensures log { OnOk result (AreSound last.new.items) }
+    ensures within { OnOk result (AreWithin earlier.new.items (all_of last.new.items)) }
+    ensures noted { IfOk result (λ added. IsTrue added → IsNotedOf id superstep (is_some given)
+        (with_changes (all_of notes.now.items) (chains earlier.old.items (all_of last.old.items)))
+        (with_changes (all_of notes.now.items) (chains earlier.new.items (all_of last.new.items)))) }
+    ensures same { IfOk result (λ added. added ≡ false
+        → chains earlier.new.items (all_of last.new.items) ≡ chains earlier.old.items (all_of last.old.items)) }
+{
+    if !notes.is_empty() {
+        return Ok(false);
+    }
+    match given {
+        Some(place) => add_run(alloc, last, earlier, near, id, Run { superstep, place }),
+        None => Ok(false),
+    }
+}
+
 /// Notes of a vertex at which place a superstep has its record, if it has one.
 fn note_of(
     alloc: Global,
     notes: &mut Notes,
     near: &mut usize,
-    base: &mut Finder<'_, Steps>,
+    base: &mut BaseFinder<'_>,
     id: VertexId,
     superstep: u32,
     given: Option<u32>,
@@ -89,7 +194,7 @@ fn note_again(
             return Ok(());
         }
     }
-    let changed = after(alloc, superstep, given, steps.as_ref())?;
+    let changed = after_runs(alloc, superstep, given, runs_in(steps))?;
     *steps = changed;
     Ok(())
 }

@@ -4,6 +4,7 @@ ghost use Rattle.std.specs.Option.{option_copied, option_map};
 ghost use Rattle.pg_index.specs.History.{steps_of};
 ghost use Rattle.pg_index.specs.Ran.{last_of, steps_above, steps_below, steps_in, with_ran};
 
+use crate::chain::Ran;
 use crate::steps::Steps;
 use pg_graph::Memory;
 use std::alloc::Global;
@@ -20,21 +21,35 @@ pub struct Run {
 /// A list of runs is made with room for so many more, the next one among them: most vertices run again.
 const ROOM: usize = 3;
 
-/// What a vertex has after it is noted at which place a superstep has its record, if it has one. It costs a copy of its
-/// runs.
+/// What a vertex with these runs has after it is noted at which place a superstep has its record, if it has one. It
+/// costs a copy of its runs.
+pub(crate) fn after_runs(
+    alloc: Global,
+    superstep: u32,
+    given: Option<u32>,
+    runs: &[Run],
+) -> Result<Option<Steps>, Memory>
+    ensures { IfOk result (λ after. steps_in after ≡ with_ran superstep (is_some given) (steps_of runs.now)) }
+{
+    let runs = stepped(alloc, runs, superstep, given)?;
+    match last_of(runs.as_slice()) {
+        Some(latest) => Ok(Some(Steps::of(alloc, latest, runs)?)),
+        None => Ok(None),
+    }
+}
+
+/// The same for a vertex that has runs or none.
 pub(crate) fn after(
     alloc: Global,
     superstep: u32,
     given: Option<u32>,
-    before: Option<&Steps>,
+    before: Option<Ran<'_>>,
 ) -> Result<Option<Steps>, Memory>
-    ensures { IfOk result (λ after.
-        steps_in after ≡ with_ran superstep (is_some given) (steps_in (option_copied before.entry))) }
+    ensures { IfOk result (λ after. steps_in after ≡ with_ran superstep (is_some given) (steps_in before.entry)) }
 {
-    let runs = stepped(alloc, runs_in(before), superstep, given)?;
-    match last_of(runs.as_slice()) {
-        Some(latest) => Ok(Some(Steps::of(alloc, latest, runs)?)),
-        None => Ok(None),
+    match before {
+        Some(ran) => ran.after(alloc, superstep, given),
+        None => after_runs(alloc, superstep, given, &[]),
     }
 }
 
@@ -48,9 +63,9 @@ fn last_of(runs: &[Run]) -> Option<Run>
     Some(runs[runs.len() - 1])
 }
 
-/// The runs that an index has of a vertex.
-fn runs_in<'t>(ran: Option<&'t Steps>) -> &'t [Run]
-    ensures { steps_of result.now ≡ steps_in (option_copied ran.entry) }
+/// The runs that a note has of a vertex.
+pub(crate) fn runs_in(ran: &Option<Steps>) -> &[Run]
+    ensures { steps_of result.now ≡ steps_in ran.now }
 {
     match ran {
         Some(ran) => ran.runs(),

@@ -1,55 +1,59 @@
 //! In which supersteps a vertex ran.
-ghost use Rattle.std.specs.Prelude.{◌≡◌, ◌++◌, ◌+◌, ◌∷◌, [], ℕ, ◌<◌, false, length, slice_index};
+ghost use Rattle.std.specs.Prelude.{◌≡◌, ◌++◌, ◌+◌, ◌∷◌, [], ℕ, ◌<◌, ◌≤◌, false, length, slice_index};
 ghost use Rattle.std.specs.Prelude.{Some, IfOk, OnErr, OnOk, IsTrue};
 ghost use Rattle.std.specs.Arc.{arc_value};
 ghost use Rattle.std.specs.List.Sorted.{IsNonDecreasingBy};
 ghost use Rattle.std.specs.Option.{option_map};
-ghost use Rattle.pg_index.specs.History.{IsPushed, IsSame, steps_of};
+ghost use Rattle.pg_index.specs.History.{IsPart, part_of, steps_of};
 ghost use Rattle.pg_index.specs.Ran.{last_of, steps_below};
 
 use crate::ran::Run;
 use pg_graph::Memory;
 use pg_map::Share;
-use std::alloc::Global;
+use std::alloc::{AllocError, Global};
 use std::marker::Model;
 use std::sync::Arc;
 
-/// The runs of a vertex, by rising superstep. The last one is noted beside their list, so that most look-ups don't read
-/// the list.
-#[derive(Drop)]
-struct History {
-    runs: Vec<Run>,
-    latest: Run,
-}
-
-/// The runs of a vertex in one piece of memory, which copies share. A contract sees the supersteps.
+/// The runs of a vertex, by rising superstep: a part of a list that copies and other vertices share. The last one is
+/// noted beside, so that most look-ups don't read the list. A contract sees the supersteps.
 pub(crate) struct Steps {
-    shared: Arc<History>,
+    shared: Arc<Vec<Run>>,
+    first: u32,
+    end: u32,
+    latest: Run,
 }
 
 // By hand, so that it is let go by one call wherever that is, and not field by field.
 impl Drop for Steps {
     fn drop(self) {
-        let Steps { shared: _ } = self;
+        let Steps {
+            shared: _,
+            first: _,
+            end: _,
+            latest: _,
+        } = self;
     }
 }
 
 impl Model for Steps {
     ghost use Rattle.std.specs.Prelude.{ℕ, List};
     ghost use Rattle.std.specs.Arc.{arc_value};
-    ghost use Rattle.pg_index.specs.History.{IsSound, steps_of};
+    ghost use Rattle.pg_index.specs.History.{IsPart, part_of};
 
     ghost Value = { List ℕ };
 
-    ghost view = { λ s. steps_of (arc_value s.shared).runs.items };
+    ghost view = { λ s. part_of (arc_value s.shared).items s.first s.end };
 
-    ghost invariant = { λ s. IsSound (arc_value s.shared) };
+    ghost invariant = { λ s. IsPart (arc_value s.shared).items s.first s.end s.latest };
 }
 
 impl Share for Steps {
     fn share(&self, _alloc: Global) -> Result<Steps, Memory> {
         Ok(Steps {
             shared: Arc::try_clone(&self.shared)?,
+            first: self.first,
+            end: self.end,
+            latest: self.latest,
         })
     }
 }
@@ -60,9 +64,30 @@ impl Steps {
         requires { Some latest.superstep ≡ last_of (steps_of runs.items) }
         ensures { IfOk result (λ steps. steps ≡ steps_of runs.items) }
     {
-        let history = History { runs, latest };
+        let end = narrow(runs.len())?;
         Ok(Steps {
-            shared: Arc::new(alloc, history)?,
+            shared: Arc::new(alloc, runs)?,
+            first: 0,
+            end,
+            latest,
+        })
+    }
+
+    /// A part of a list of runs, of which this is the last.
+    pub(crate) fn part_of(
+        shared: &Arc<Vec<Run>>,
+        first: u32,
+        end: u32,
+        latest: Run,
+    ) -> Result<Steps, Memory>
+        requires { IsPart (arc_value shared.now).items first end latest }
+        ensures { IfOk result (λ steps. steps ≡ part_of (arc_value shared.now).items first end) }
+    {
+        Ok(Steps {
+            shared: Arc::try_clone(shared)?,
+            first,
+            end,
+            latest,
         })
     }
 
@@ -70,7 +95,8 @@ impl Steps {
     pub(crate) fn runs(&self) -> &[Run]
         ensures { steps_of result.now ≡ self.now }
     {
-        self.shared.runs.as_slice()
+        let runs = self.shared.as_slice();
+        &runs[self.first as usize..self.end as usize]
     }
 
     /// Adds a run behind the others. Nothing changes where memory is refused. It costs O(1) where no copy shares the
@@ -79,9 +105,13 @@ impl Steps {
         ensures { OnOk result (self.new ≡ self.old ++ superstep ∷ []) }
     {
         let run = Run { superstep, place };
-        if !add_in_place(&mut self.shared, run)? {
-            self.shared = longer(alloc, &self.shared, run)?;
+        if self.end < u32::MAX && add_in_place(&mut self.shared, self.end, run)? {
+            self.end += 1;
+            self.latest = run;
+            return Ok(());
         }
+        let longer = longer(alloc, self.runs(), run)?;
+        *self = Steps::of(alloc, run, longer)?;
         Ok(())
     }
 
@@ -90,7 +120,7 @@ impl Steps {
         requires { IsNonDecreasingBy (λ t. t) self.now }
         ensures { IsTrue result → (k : ℕ) → k < length self.now → slice_index self.now k < superstep }
     {
-        self.shared.latest.superstep < superstep
+        self.latest.superstep < superstep
     }
 
     /// The last run in a superstep below one: the last of all, or found by halving.
@@ -99,7 +129,7 @@ impl Steps {
         ensures { option_map (λ r. r.superstep) result ≡ last_of (steps_below superstep self.now) }
     {
         if self.are_below(superstep) {
-            return Some(self.shared.latest);
+            return Some(self.latest);
         }
         last_below(self.runs(), superstep)
     }
@@ -109,38 +139,52 @@ impl Steps {
         requires { IsNonDecreasingBy (λ t. t) self.now }
         ensures { option_map (λ r. r.superstep) result ≡ last_of (steps_below (superstep + 1) self.now) }
     {
-        if self.shared.latest.superstep <= superstep {
-            return Some(self.shared.latest);
+        if self.latest.superstep <= superstep {
+            return Some(self.latest);
         }
         last_up_to(self.runs(), superstep)
     }
 }
 
-/// Adds a run where no copy shares the history. Else nothing changes, and it says so.
-fn add_in_place(shared: &mut Arc<History>, run: Run) -> Result<bool, Memory>
-    ensures added { IfOk result (λ added. IsTrue added → IsPushed run (arc_value shared.old) (arc_value shared.new)) }
-    ensures same { IfOk result (λ added. added ≡ false → arc_value shared.new ≡ arc_value shared.old) }
-    ensures err { OnErr result (IsSame (arc_value shared.old) (arc_value shared.new)) }
+/// Adds a run to a list that no copy shares and that has no more than so many runs. Else nothing changes, and it says
+/// so.
+fn add_in_place(shared: &mut Arc<Vec<Run>>, end: u32, run: Run) -> Result<bool, Memory>
+    requires { end ≤ length (arc_value shared.old).items }
+    ensures added { IfOk result (λ added. IsTrue added
+        → ((arc_value shared.new).items ≡ (arc_value shared.old).items ++ run ∷ []) × (end ≡ length (arc_value shared.old).items)) }
+    ensures same { IfOk result (λ added. added ≡ false → (arc_value shared.new).items ≡ (arc_value shared.old).items) }
+    ensures err { OnErr result ((arc_value shared.new).items ≡ (arc_value shared.old).items) }
 {
     match Arc::get_mut(shared) {
-        Some(history) => {
-            history.runs.push(run)?;
-            history.latest = run;
+        Some(runs) => {
+            if runs.len() > end as usize {
+                return Ok(false);
+            }
+            runs.push(run)?;
             Ok(true)
         }
         None => Ok(false),
     }
 }
 
-/// A copy of a history with one run more.
-fn longer(alloc: Global, history: &History, run: Run) -> Result<Arc<History>, Memory>
-    ensures { IfOk result (λ longer. IsPushed run history.now (arc_value longer)) }
+/// A copy of runs with one more.
+fn longer(alloc: Global, runs: &[Run], run: Run) -> Result<Vec<Run>, Memory>
+    ensures { IfOk result (λ longer. longer.items ≡ runs.now ++ run ∷ []) }
 {
-    let mut runs = Vec::with_capacity(alloc, history.runs.len().saturating_add(1))?;
-    runs.extend_from_slice(history.runs.as_slice())?;
-    runs.push(run)?;
-    let longer = History { runs, latest: run };
-    Ok(Arc::new(alloc, longer)?)
+    let mut longer = Vec::with_capacity(alloc, runs.len().saturating_add(1))?;
+    longer.extend_from_slice(runs)?;
+    longer.push(run)?;
+    Ok(longer)
+}
+
+/// A number in 32 bits. No list of runs is longer: more memory is refused.
+pub(crate) fn narrow(number: usize) -> Result<u32, Memory>
+    ensures { IfOk result (λ n. n ≡ number) }
+{
+    if number > u32::MAX as usize {
+        return Err(AllocError);
+    }
+    Ok(number as u32)
 }
 
 /// The last of runs by rising superstep that is below one, found by halving.

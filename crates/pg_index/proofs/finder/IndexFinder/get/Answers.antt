@@ -7,7 +7,7 @@ use Rattle.pg_index.proofs.finder.IndexFinder.get.Goals as goal
 pub returns-in-Some-clause-value : goal.returns-in-Some-clause-value
 returns-in-Some-clause-value c =
     let there = sym (c.in-Some.ensures ∙ ap (λ l. value_at c.args.id (all_of l)) c.as_slice.ensures.value) in
-    c.as_ref.ensures.value
+    c.noted.ensures
     ∙ sym (over c.self.inside.base (all_of c.self.inside.notes.now.items) c.self.invariant.0 c.self.invariant.1.rise c.args.id (Some c.in-Some.steps.now) there)
     ∙ ap (value_at c.args.id) c.self.view_is
 

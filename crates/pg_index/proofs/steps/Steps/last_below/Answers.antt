@@ -1,11 +1,9 @@
-use Rattle.std.proofs.Common.{refl, ap, Some, ◌∙◌}
-use Rattle.std.specs.Arc.{arc_value}
+use Rattle.std.proofs.Common.{refl, ap, ◌∙◌}
 use Rattle.pg_index.specs.Ran.{last_of}
 use Rattle.pg_index.proofs.InPlace.{last_of_below}
 use Rattle.pg_index.proofs.steps.Steps.last_below.Goals as goal
 
 pub returns-then-are_below : goal.returns-then-are_below
 returns-then-are_below c =
-    ap (λ h. Some h.latest.superstep) c.deref.ensures
-    ∙ last_of_below c.args.superstep (arc_value c.self.inside.shared).latest.superstep c.args.self.now (c.if-are_below.ensures refl)
-    (c.self.invariant ∙ ap last_of c.self.view_is)
+    last_of_below c.args.superstep c.self.inside.latest.superstep c.args.self.now (c.if-are_below.ensures refl)
+    (c.self.invariant.last ∙ ap last_of c.self.view_is)

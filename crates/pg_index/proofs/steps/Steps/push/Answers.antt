@@ -1,9 +1,21 @@
-use Rattle.std.proofs.Common.{rules}
-use Rattle.pg_index.proofs.Histories.{sound_pushed}
+use Rattle.std.proofs.Common.{◌∷◌, [], sym, ap, ◌∙◌, rules}
+use Rattle.std.proofs.lemmas.List.{map-append}
+use Rattle.std.specs.Arc.{arc_value}
+use Rattle.pg_index.specs.History.{steps_of}
+use Rattle.pg_index.specs.Ran.{last_of}
+use Rattle.pg_index.proofs.InPlace.{last_of-push}
+use Rattle.pg_index.proofs.PartsOf.{is_pushed}
 use Rattle.pg_index.proofs.steps.Steps.push.Goals as goal
 
-pub invariant_of-self-then-not-branch : goal.invariant_of-self-then-not-branch
-invariant_of-self-then-not-branch c = sound_pushed _ _ _ c.in_ok-self-inside.ensures
+pub invariant_of-self-then-branch : goal.invariant_of-self-then-branch
+invariant_of-self-then-branch c =
+    let pushed = c.in_ok-add_in_place.ensures.added (search rules) in
+    is_pushed (arc_value c.self.inside.shared).items (arc_value c.add_in_place.new.shared).items _ c.self.inside.latest c.self.inside.first c.self.inside.end
+    c.self.invariant pushed.0 pushed.1
 
-pub invariant_of-self-else-not-branch : goal.invariant_of-self-else-not-branch
-invariant_of-self-else-not-branch c = sound_pushed _ _ _ (c.in_ok-add_in_place.ensures.added (search rules))
+pub of-requires : goal.of-requires
+of-requires c =
+    let runs = c.runs.result.now in
+    sym (ap (λ l. last_of (steps_of l)) c.in_ok-longer.ensures
+    ∙ ap last_of (map-append (λ r. r.superstep) runs (record { superstep = c.args.superstep; place = c.args.place } ∷ []))
+    ∙ last_of-push (steps_of runs) c.args.superstep)

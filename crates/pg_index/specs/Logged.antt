@@ -1,0 +1,26 @@
+-- The runs of vertices in a log: of each vertex the last one, and in one list those before, each found from the one after it.
+use Rattle.std.specs.Prelude.{ℕ, zero, suc, ◌≤◌, nat_eq, cond, List, [], ◌∷◌, length, map, reverse, slice_index_or}
+use Rattle.std.specs.List.{AllByRecursion}
+use Rattle.pg_index.specs.declared.log.Logged.{Logged}
+
+abbrev pub no_run : Logged
+no_run = record { run = record { superstep = 0; place = 0 }; before = 0 }
+
+-- the supersteps of the last of so many entries and of those before it, the latest first, among the first n of a list
+abbrev pub back : List Logged → ℕ → ℕ → List ℕ
+back log zero at = []
+back log (suc n) at =
+    let entry = slice_index_or log n no_run in
+    cond (nat_eq at (suc n)) (entry.run.superstep ∷ back log n entry.before) (back log n at)
+
+-- the supersteps of a run and of those before it
+abbrev pub chain : List Logged → Logged → List ℕ
+chain log last = reverse (last.run.superstep ∷ back log (length log) last.before)
+
+-- those of each vertex
+abbrev pub chains : List Logged → List (ℕ × Logged) → List (ℕ × List ℕ)
+chains log last = map (λ e. (e.0, chain log e.1)) last
+
+-- the run before each stands in the list
+abbrev pub AreWithin : List Logged → List (ℕ × Logged) → Type 0
+AreWithin log last = AllByRecursion (λ e. e.1.before ≤ length log) last

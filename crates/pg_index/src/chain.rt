@@ -1,0 +1,143 @@
+//! The runs of a vertex, where they lie.
+ghost use Rattle.std.specs.Prelude.{◌≡◌, ◌+◌, is_some, IfOk};
+ghost use Rattle.std.specs.List.Sorted.{IsNonDecreasingBy};
+ghost use Rattle.std.specs.Option.{option_map};
+ghost use Rattle.pg_index.specs.Logged.{chain};
+ghost use Rattle.pg_index.specs.Ran.{last_of, steps_below, steps_in, with_ran};
+
+use crate::listing::add_chain;
+use crate::log::Logged;
+use crate::ran::{Run, after_runs};
+use crate::steps::Steps;
+use pg_graph::Memory;
+use std::alloc::Global;
+use std::marker::Model;
+
+/// The runs of a vertex: in a list side by side, or the last one and the list in which those before are found one from
+/// the other. A contract sees the supersteps.
+#[derive(Drop)]
+pub(crate) struct Ran<'a> {
+    form: Form<'a>,
+}
+
+/// In which form they lie.
+#[derive(Drop)]
+enum Form<'a> {
+    Listed(&'a Steps),
+    Chained(Logged, &'a [Logged]),
+}
+
+impl<'a> Model for Ran<'a> {
+    ghost use Rattle.std.specs.Prelude.{ℕ, List};
+    ghost use Rattle.pg_index.specs.Forms.{steps_by};
+
+    ghost Value = { List ℕ };
+
+    ghost view = { λ r. steps_by r.form };
+}
+
+impl<'a> Ran<'a> {
+    /// Runs side by side.
+    pub(crate) fn listed(steps: &'a Steps) -> Ran<'a>
+        ensures { result ≡ steps.now }
+    {
+        Ran {
+            form: Form::Listed(steps),
+        }
+    }
+
+    /// Those of a note, if it has some.
+    pub(crate) fn noted(steps: &'a Option<Steps>) -> Option<Ran<'a>>
+        ensures { result ≡ steps.now }
+    {
+        match steps {
+            Some(steps) => Some(Ran::listed(steps)),
+            None => None,
+        }
+    }
+
+    /// A run and those before it.
+    pub(crate) fn chained(logged: Logged, earlier: &'a [Logged]) -> Ran<'a>
+        ensures { result ≡ chain earlier.now logged }
+    {
+        Ran {
+            form: Form::Chained(logged, earlier),
+        }
+    }
+
+    /// The last run in a superstep below one: the last of all, or found by halving in a list, or one from the other.
+    pub(crate) fn last_below(&self, superstep: u32) -> Option<Run>
+        requires { IsNonDecreasingBy (λ t. t) self.now }
+        ensures { option_map (λ r. r.superstep) result ≡ last_of (steps_below superstep self.now) }
+    {
+        match &self.form {
+            Form::Listed(steps) => steps.last_below(superstep),
+            Form::Chained(logged, earlier) => last_under(*logged, earlier, superstep as u64),
+        }
+    }
+
+    /// The last run in a superstep up to one, found as `last_below` does.
+    pub(crate) fn last_up_to(&self, superstep: u32) -> Option<Run>
+        requires { IsNonDecreasingBy (λ t. t) self.now }
+        ensures { option_map (λ r. r.superstep) result ≡ last_of (steps_below (superstep + 1) self.now) }
+    {
+        match &self.form {
+            Form::Listed(steps) => steps.last_up_to(superstep),
+            Form::Chained(logged, earlier) => last_under(*logged, earlier, superstep as u64 + 1),
+        }
+    }
+
+    /// What the vertex has after it is noted at which place a superstep has its record, if it has one. It costs a copy
+    /// of its runs.
+    pub(crate) fn after(
+        &self,
+        alloc: Global,
+        superstep: u32,
+        given: Option<u32>,
+    ) -> Result<Option<Steps>, Memory>
+        ensures { IfOk result (λ after. steps_in after ≡ with_ran superstep (is_some given) self.now) }
+    {
+        match &self.form {
+            Form::Listed(steps) => after_runs(alloc, superstep, given, steps.runs()),
+            Form::Chained(logged, earlier) => after_chain(
+                alloc, superstep, given, *logged, earlier,
+            ),
+        }
+    }
+}
+
+/// What a vertex with a run and those before it has after a note.
+fn after_chain(
+    alloc: Global,
+    superstep: u32,
+    given: Option<u32>,
+    logged: Logged,
+    earlier: &[Logged],
+) -> Result<Option<Steps>, Memory>
+    ensures { IfOk result (λ after. steps_in after ≡ with_ran superstep (is_some given) (chain earlier.now logged)) }
+{
+    let mut runs = Vec::new(alloc);
+    let mut spare = Vec::new(alloc);
+    add_chain(&mut runs, &mut spare, logged, earlier)?;
+    after_runs(alloc, superstep, given, runs.as_slice())
+}
+
+/// The last run in a superstep below a number, of a run and those before it.
+fn last_under(logged: Logged, earlier: &[Logged], limit: u64) -> Option<Run>
+    ensures { option_map (λ r. r.superstep) result ≡ last_of (steps_below limit (chain earlier.now logged)) }
+{
+    if (logged.run.superstep as u64) < limit {
+        return Some(logged.run);
+    }
+    let mut at = logged.before as usize;
+    let mut left = earlier.len();
+    while 0 < at && at <= left {
+        let entry = earlier[at - 1];
+        if (entry.run.superstep as u64) < limit {
+            return Some(entry.run);
+        }
+        left = at - 1;
+        at = entry.before as usize;
+    }
+    None
+}

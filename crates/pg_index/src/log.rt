@@ -1,0 +1,166 @@
+//! What a first run notes: of each vertex its last run, and in one list for all vertices the runs before.
+ghost use Rattle.std.specs.Prelude.{◌≡◌, ◌++◌, ◌∷◌, [], false, length, true, IfOk, IsTrue, OnOk};
+ghost use Rattle.std.specs.List.Sorted.{IsNonDecreasingBy};
+ghost use Rattle.pg_map.specs.Entries.{HasRisingIds, value_at};
+ghost use Rattle.pg_index.specs.Chunks.{AreSound, all_of};
+ghost use Rattle.pg_index.specs.Logged.{AreWithin, chains};
+ghost use Rattle.pg_index.specs.Ran.{IsNotedOf, steps_in};
+
+use crate::chain::Ran;
+use crate::chunk::{Chunk, found, get, put};
+use crate::listing::listed;
+use crate::ran::Run;
+use crate::steps::{Steps, narrow};
+use pg_graph::{Memory, VertexId};
+use std::alloc::Global;
+use std::marker::Model;
+
+/// A run of a vertex, and where the one before it stands: it is the last of so many entries of a list, or there is none
+/// where they are 0.
+#[derive(Clone, Copy, Debug, PartialEq, Eq)]
+pub(crate) struct Logged {
+    pub(crate) run: Run,
+    pub(crate) before: u32,
+}
+
+/// Of each vertex its last run, by rising id.
+pub(crate) type Last = Vec<Chunk<Logged>>;
+
+/// In which supersteps vertices ran: of each the last run, and all runs before in one list, so that a vertex has no
+/// memory of its own. A contract sees the supersteps of each vertex, by rising id.
+#[derive(Drop)]
+pub(crate) struct Log {
+    pub(crate) last: Last,
+    pub(crate) earlier: Vec<Logged>,
+}
+
+impl Model for Log {
+    ghost use Rattle.std.specs.Prelude.{ℕ, List};
+    ghost use Rattle.pg_index.specs.Chunks.{AreSound, all_of};
+    ghost use Rattle.pg_index.specs.Logged.{AreWithin, chains};
+
+    ghost Value = { List (ℕ × List ℕ) };
+
+    ghost view = { λ l. chains l.earlier.items (all_of l.last.items) };
+
+    ghost invariant = { λ l. AreSound l.last.items × AreWithin l.earlier.items (all_of l.last.items) };
+}
+
+/// Looks up ids in a log. A contract sees the log.
+#[derive(Drop)]
+pub(crate) struct LogFinder<'a> {
+    last: &'a [Chunk<Logged>],
+    earlier: &'a [Logged],
+    begun: usize,
+}
+
+impl<'a> Model for LogFinder<'a> {
+    ghost use Rattle.std.specs.Prelude.{ℕ, List};
+    ghost use Rattle.pg_index.specs.Chunks.{AreSound, all_of};
+    ghost use Rattle.pg_index.specs.Logged.{chains};
+
+    ghost Value = { List (ℕ × List ℕ) };
+
+    ghost view = { λ f. chains f.earlier.now (all_of f.last.now) };
+
+    ghost invariant = { λ f. AreSound f.last.now };
+}
+
+impl<'a> LogFinder<'a> {
+    /// Look-ups among these runs.
+    pub(crate) fn of(last: &'a [Chunk<Logged>], earlier: &'a [Logged]) -> LogFinder<'a>
+        requires { AreSound last.now }
+        ensures { result ≡ chains earlier.now (all_of last.now) }
+    {
+        LogFinder {
+            last,
+            earlier,
+            begun: 0,
+        }
+    }
+
+    /// What there is of an id.
+    pub(crate) fn get(&mut self, id: VertexId) -> Option<Ran<'a>>
+        ensures value { result ≡ value_at id self.old }
+        ensures same { self.new ≡ self.old }
+    {
+        match get(self.last, &mut self.begun, id) {
+            Some(logged) => Some(Ran::chained(*logged, self.earlier)),
+            None => None,
+        }
+    }
+}
+
+impl Log {
+    /// A log of no runs.
+    pub(crate) fn new(alloc: Global) -> Log
+        ensures { result ≡ [] }
+    {
+        Log {
+            last: Vec::new(alloc),
+            earlier: Vec::new(alloc),
+        }
+    }
+
+    /// Look-ups in the log.
+    pub(crate) fn finder(&self) -> LogFinder<'_>
+        ensures { result ≡ self.now }
+    {
+        LogFinder::of(self.last.as_slice(), self.earlier.as_slice())
+    }
+
+    /// Tells the prover that the ids rise.
+    pub(crate) fn tell_rising(&self)
+        ensures { HasRisingIds self.now }
+    {
+        let _count = self.last.len();
+    }
+
+    /// The runs of each vertex, by rising id, side by side in one list that all share. It costs O(1) a run.
+    pub(crate) fn listed(&self, alloc: Global) -> Result<Vec<(VertexId, Steps)>, Memory>
+        ensures { IfOk result (λ listed. listed.items ≡ self.now) }
+    {
+        listed(alloc, self.last.as_slice(), self.earlier.as_slice())
+    }
+}
+
+/// Adds a run of a vertex, where those that it has are below it. Else nothing changes, and it says so.
+pub(crate) fn add_run(
+    alloc: Global,
+    last: &mut Last,
+    earlier: &mut Vec<Logged>,
+    near: &mut usize,
+    id: VertexId,
+    run: Run,
+) -> Result<bool, Memory>
+    requires sound { AreSound last.old.items }
+    requires within { AreWithin earlier.old.items (all_of last.old.items) }
+    requires steps { IsNonDecreasingBy (λ t. t) (steps_in (value_at id (chains earlier.old.items (all_of last.old.items)))) }
+    ensures sound { OnOk result (AreSound last.new.items) }
+    ensures within { OnOk result (AreWithin earlier.new.items (all_of last.new.items)) }
+    ensures noted { IfOk result (λ added. IsTrue added → IsNotedOf id run.superstep true
+        (chains earlier.old.items (all_of last.old.items)) (chains earlier.new.items (all_of last.new.items))) }
+    ensures same { IfOk result (λ added. added ≡ false
+        → chains earlier.new.items (all_of last.new.items) ≡ chains earlier.old.items (all_of last.old.items)) }
+{
+    if let Some((chunk, place)) = found(last.as_slice(), near, id) {
+        let logged = last[chunk].entries[place].1;
+        if run.superstep <= logged.run.superstep {
+            return Ok(false);
+        }
+        last[chunk].entries[place].1 = after_this(earlier, logged, run)?;
+        return Ok(true);
+    }
+    put(alloc, last, *near, id, Logged { run, before: 0 })?;
+    Ok(true)
+}
+
+/// A run that comes after a logged one, which is put into the list.
+fn after_this(earlier: &mut Vec<Logged>, logged: Logged, run: Run) -> Result<Logged, Memory>
+    ensures pushed { OnOk result (earlier.new.items ≡ earlier.old.items ++ logged ∷ []) }
+    ensures next { IfOk result (λ next. next ≡ record { run = run; before = length earlier.new.items }) }
+{
+    earlier.push(logged)?;
+    let before = narrow(earlier.len())?;
+    Ok(Logged { run, before })
+}
