@@ -14,7 +14,7 @@ use Rattle.std.proofs.lemmas.List.Elements.{filter-append}
 use Rattle.std.proofs.lemmas.Map.Made.{keys_of-map_values, lookup-map_values}
 use Rattle.pg_map.specs.Entries.{HasRisingIds, value_at, with_changes}
 use Rattle.pg_map.proofs.Rising.{at_other, at_same, find-insert_other, find-insert_same}
-use Rattle.pg_index.specs.Logged.{AreWithin, back, chain, chains, no_run}
+use Rattle.pg_index.specs.Logged.{AreWithin, back, chain, chains, first_below, no_run}
 use Rattle.pg_index.specs.Ran.{IsNotedOf, last_of, steps_below, steps_in, with_ran}
 use Rattle.pg_index.specs.declared.log.Logged.{Logged}
 use Rattle.pg_index.proofs.InPlace.{below_the_last, get_last, last_of-push, ran_last}
@@ -110,10 +110,6 @@ module _ (log : List Logged) where
       ap last_of (reverse_next e.run.superstep before) ∙ last_of-push (reverse before) e.run.superstep
 
 -- ---- the last run in a superstep below one
-
-abbrev pub first_below : ℕ → List ℕ → Option ℕ
-first_below s [] = None
-first_below s (t ∷ steps) = cond (ltb t s) (Some t) (first_below s steps)
 
 pub last_by_back : (s : ℕ) (steps : List ℕ) → last_of (filter (λ t. ltb t s) (reverse steps)) ≡ first_below s steps
 last_by_back s [] = refl

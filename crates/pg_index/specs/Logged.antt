@@ -1,5 +1,5 @@
 -- The runs of vertices in a log: of each vertex the last one, and in one list those before, each found from the one after it.
-use Rattle.std.specs.Prelude.{ℕ, zero, suc, ◌≤◌, nat_eq, cond, List, [], ◌∷◌, length, map, reverse, slice_index_or}
+use Rattle.std.specs.Prelude.{ℕ, zero, suc, ◌≤◌, nat_eq, nat_lt, cond, List, [], ◌∷◌, length, map, reverse, slice_index_or, Option, None, Some}
 use Rattle.std.specs.List.{AllByRecursion}
 use Rattle.pg_index.specs.declared.log.Logged.{Logged}
 
@@ -12,6 +12,11 @@ back log zero at = []
 back log (suc n) at =
     let entry = slice_index_or log n no_run in
     cond (nat_eq at (suc n)) (entry.run.superstep ∷ back log n entry.before) (back log n at)
+
+-- the first of them that is below one
+abbrev pub first_below : ℕ → List ℕ → Option ℕ
+first_below s [] = None
+first_below s (step ∷ steps) = cond (nat_lt step s) (Some step) (first_below s steps)
 
 -- the supersteps of a run and of those before it
 abbrev pub chain : List Logged → Logged → List ℕ

@@ -1,10 +1,14 @@
 //! What lies under the notes of an index: a map that copies share, or the log of a first run.
 ghost use Rattle.std.specs.Prelude.{◌≡◌, IfOk};
+ghost use Rattle.std.specs.List.Sorted.{IsNonDecreasingBy};
+ghost use Rattle.std.specs.Option.{option_map};
 ghost use Rattle.pg_map.specs.Entries.{HasRisingIds, value_at};
+ghost use Rattle.pg_index.specs.Ran.{last_of, steps_below, steps_in};
 
 use crate::chain::Ran;
 use crate::log::{Log, LogFinder};
 use crate::maps::tell_rising;
+use crate::ran::Run;
 use crate::steps::Steps;
 use pg_graph::{Memory, VertexId};
 use pg_map::{Finder, Map};
@@ -86,6 +90,32 @@ impl<'a> BaseFinder<'a> {
             },
             Finding::ByLog(finder) => finder.get(id),
         }
+    }
+
+    /// The last run of a vertex before a superstep: as `get` and `last_below` find it, in fewer steps.
+    pub(crate) fn last_before(&mut self, id: VertexId, superstep: u32) -> Option<Run>
+        requires { IsNonDecreasingBy (λ t. t) (steps_in (value_at id self.old)) }
+        ensures value { option_map (λ r. r.superstep) result
+            ≡ last_of (steps_below superstep (steps_in (value_at id self.old))) }
+        ensures same { self.new ≡ self.old }
+    {
+        match &mut self.finding {
+            Finding::ByMap(finder) => last_before(finder, id, superstep),
+            Finding::ByLog(finder) => finder.last_before(id, superstep),
+        }
+    }
+}
+
+/// The last run before a superstep of a vertex in a map.
+fn last_before(finder: &mut Finder<'_, Steps>, id: VertexId, superstep: u32) -> Option<Run>
+    requires { IsNonDecreasingBy (λ t. t) (steps_in (value_at id finder.old)) }
+    ensures value { option_map (λ r. r.superstep) result
+        ≡ last_of (steps_below superstep (steps_in (value_at id finder.old))) }
+    ensures same { finder.new ≡ finder.old }
+{
+    match finder.get(id) {
+        Some(steps) => steps.last_below(superstep),
+        None => None,
     }
 }
 

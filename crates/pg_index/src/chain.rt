@@ -1,8 +1,8 @@
 //! The runs of a vertex, where they lie.
-ghost use Rattle.std.specs.Prelude.{◌≡◌, ◌+◌, is_some, IfOk};
+ghost use Rattle.std.specs.Prelude.{◌≡◌, ◌+◌, is_some, length, IfOk};
 ghost use Rattle.std.specs.List.Sorted.{IsNonDecreasingBy};
 ghost use Rattle.std.specs.Option.{option_map};
-ghost use Rattle.pg_index.specs.Logged.{chain};
+ghost use Rattle.pg_index.specs.Logged.{back, chain, first_below};
 ghost use Rattle.pg_index.specs.Ran.{last_of, steps_below, steps_in, with_ran};
 
 use crate::listing::add_chain;
@@ -122,13 +122,21 @@ fn after_chain(
     after_runs(alloc, superstep, given, runs.as_slice())
 }
 
-/// The last run in a superstep below a number, of a run and those before it.
-fn last_under(logged: Logged, earlier: &[Logged], limit: u64) -> Option<Run>
+/// The last run in a superstep below a number, of a run and those before it: the last of all, or found one from the
+/// other.
+pub(crate) fn last_under(logged: Logged, earlier: &[Logged], limit: u64) -> Option<Run>
     ensures { option_map (λ r. r.superstep) result ≡ last_of (steps_below limit (chain earlier.now logged)) }
 {
     if (logged.run.superstep as u64) < limit {
         return Some(logged.run);
     }
+    last_before(logged, earlier, limit)
+}
+
+/// The same of those before a run.
+fn last_before(logged: Logged, earlier: &[Logged], limit: u64) -> Option<Run>
+    ensures { option_map (λ r. r.superstep) result ≡ first_below limit (back earlier.now (length earlier.now) logged.before) }
+{
     let mut at = logged.before as usize;
     let mut left = earlier.len();
     while 0 < at && at <= left {

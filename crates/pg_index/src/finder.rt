@@ -14,7 +14,7 @@ use crate::ran::Run;
 use pg_graph::VertexId;
 use std::marker::Model;
 
-/// Looks up ids in an index: among the notes, and then in the map. In both an id near the one before costs a search
+/// Looks up ids in an index: among the notes, and then in the map or the log. In each an id near the one before costs a search
 /// near that. A contract sees the index.
 #[derive(Drop)]
 pub struct IndexFinder<'a> {
@@ -72,13 +72,16 @@ impl<'a> IndexFinder<'a> {
     }
 
     /// The last run of a vertex before a superstep. Where that isn't its last of all, it is found by halving among
-    /// those of the vertex.
+    /// those of the vertex; in a first run, by a step for each run after it.
     pub fn last_before(&mut self, id: VertexId, superstep: u32) -> Option<Run>
         requires { IsNonDecreasingBy (λ t. t) (steps_in (value_at id self.old)) }
         ensures value { option_map (λ r. r.superstep) result
             ≡ last_of (steps_below superstep (steps_in (value_at id self.old))) }
         ensures same { self.new ≡ self.old }
     {
+        if self.notes.is_empty() {
+            return self.base.last_before(id, superstep);
+        }
         let steps = self.get(id)?;
         steps.last_below(superstep)
     }

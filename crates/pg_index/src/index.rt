@@ -15,8 +15,9 @@ use pg_map::Map;
 use std::alloc::Global;
 use std::marker::Model;
 
-/// In which supersteps each vertex ran: a map that copies share, and notes over it, which are made in place. A contract
-/// sees the entries of the map with the notes put over them, by rising id.
+/// In which supersteps each vertex ran: a map that copies share, and notes over it, which are made in place. In a first
+/// run a log of all runs takes the place of the map. A contract sees the entries of the map or the log with the notes
+/// put over them, by rising id.
 ///
 /// That an index is the index of the records of some supersteps is `IsIndex`; what it becomes where those of one change
 /// is `IsNoted`.
@@ -76,7 +77,7 @@ impl Index {
     }
 
     /// The same index beside this one, with the notes put into its map. Where there are none it costs O(1), and else a
-    /// copy of what they change.
+    /// copy of what they change; in a first run O(1) a run.
     pub fn share(&self, alloc: Global) -> Result<Index, Memory>
         ensures { IfOk result (λ index. index ≡ self.now) }
     {
@@ -86,8 +87,8 @@ impl Index {
         Ok(Index::of(alloc, ran))
     }
 
-    /// The same index, with the notes put into its map. Where there are none it costs O(1), where the map has no
-    /// entries O(1) a note, and else a copy of the chunks that they change.
+    /// The same index, with the notes put into its map. Where there are none it costs O(1), and else a copy of the chunks
+    /// that they change; in a first run O(1) a run.
     pub fn settled(self, alloc: Global) -> Result<Index, Memory>
         ensures { IfOk result (λ index. index ≡ self) }
     {
@@ -103,7 +104,7 @@ impl Index {
     ///
     /// For k vertices it costs k look-ups among the notes, and k in the map at most; and it copies no chunk. One that
     /// has no note yet, that ran in this superstep or a later one, or that is given none, also costs a copy of its
-    /// runs.
+    /// runs. In a first run one that runs again costs one look-up and O(1).
     pub fn noted(
         self,
         alloc: Global,

@@ -7,6 +7,7 @@ ghost use Rattle.pg_index.specs.Logged.{back, chain, chains};
 
 use crate::chunk::Chunk;
 use crate::log::Logged;
+use crate::notes::count;
 use crate::ran::Run;
 use crate::steps::{Steps, narrow};
 use pg_graph::{Memory, VertexId};
@@ -29,8 +30,9 @@ pub(crate) fn listed(
 ) -> Result<Vec<(VertexId, Steps)>, Memory>
     ensures { IfOk result (λ listed. listed.items ≡ chains earlier.now (all_of last.now)) }
 {
-    let mut runs = Vec::with_capacity(alloc, earlier.len())?;
-    let mut parts = Vec::new(alloc);
+    let count = count(last);
+    let mut runs = Vec::with_capacity(alloc, earlier.len().saturating_add(count))?;
+    let mut parts = Vec::with_capacity(alloc, count)?;
     for chunk in last {
         list_chunk(
             alloc,

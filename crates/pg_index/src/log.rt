@@ -1,12 +1,13 @@
 //! What a first run notes: of each vertex its last run, and in one list for all vertices the runs before.
 ghost use Rattle.std.specs.Prelude.{◌≡◌, ◌++◌, ◌∷◌, [], false, length, true, IfOk, IsTrue, OnOk};
 ghost use Rattle.std.specs.List.Sorted.{IsNonDecreasingBy};
+ghost use Rattle.std.specs.Option.{option_map};
 ghost use Rattle.pg_map.specs.Entries.{HasRisingIds, value_at};
 ghost use Rattle.pg_index.specs.Chunks.{AreSound, all_of};
 ghost use Rattle.pg_index.specs.Logged.{AreWithin, chains};
-ghost use Rattle.pg_index.specs.Ran.{IsNotedOf, steps_in};
+ghost use Rattle.pg_index.specs.Ran.{IsNotedOf, last_of, steps_below, steps_in};
 
-use crate::chain::Ran;
+use crate::chain::{Ran, last_under};
 use crate::chunk::{Chunk, found, get, put};
 use crate::listing::listed;
 use crate::ran::Run;
@@ -86,6 +87,18 @@ impl<'a> LogFinder<'a> {
     {
         match get(self.last, &mut self.begun, id) {
             Some(logged) => Some(Ran::chained(*logged, self.earlier)),
+            None => None,
+        }
+    }
+
+    /// The last run of a vertex before a superstep.
+    pub(crate) fn last_before(&mut self, id: VertexId, superstep: u32) -> Option<Run>
+        ensures value { option_map (λ r. r.superstep) result
+            ≡ last_of (steps_below superstep (steps_in (value_at id self.old))) }
+        ensures same { self.new ≡ self.old }
+    {
+        match get(self.last, &mut self.begun, id) {
+            Some(logged) => last_under(*logged, self.earlier, superstep as u64),
             None => None,
         }
     }

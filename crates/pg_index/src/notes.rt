@@ -238,7 +238,7 @@ pub(crate) fn copied(
 }
 
 /// How many notes there are: for how many to make room, so no contract tells it.
-fn count(notes: &[Chunk<Option<Steps>>]) -> usize {
+pub(crate) fn count<X>(notes: &[Chunk<X>]) -> usize {
     let mut count: usize = 0;
     for chunk in notes {
         count = count.saturating_add(chunk.entries.len());

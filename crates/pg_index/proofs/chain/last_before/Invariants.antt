@@ -1,7 +1,6 @@
 use Rattle.std.proofs.Common.{◌≡◌, ◌≤◌, length}
-use Rattle.pg_index.specs.Logged.{back}
-use Rattle.pg_index.proofs.Chains.{first_below}
-use Rattle.pg_index.proofs.chain.last_under.Given as goal
+use Rattle.pg_index.specs.Logged.{back, first_below}
+use Rattle.pg_index.proofs.chain.last_before.Given as goal
 
 abbrev pub invariant-loop-at : goal.invariant-loop-at
 invariant-loop-at l = record {
