@@ -142,13 +142,15 @@ module _ (log : List Logged) (n at : ℕ) (some : 0 < at) (here : at ≤ n) (wit
       → Some (get_or log (at - 1) d).run.superstep ≡ first_below s (back log n at)
   found_here s d low =
       let e = get_or log (at - 1) d in
-      sym (ap (first_below s) (step_back d) ∙ ap (λ b. cond b (Some e.run.superstep) (first_below s (back log (at - 1) e.before))) (lower e.run.superstep s low))
+      let rest = back log (at - 1) e.before in
+      sym (ap (first_below s) (step_back d) ∙ ap (λ b. cond b (Some e.run.superstep) (first_below s rest)) (lower e.run.superstep s low))
 
   pub passed_here : (s : ℕ) (d : Logged) → s ≤ (get_or log (at - 1) d).run.superstep
       → first_below s (back log (at - 1) (get_or log (at - 1) d).before) ≡ first_below s (back log n at)
   passed_here s d high =
       let e = get_or log (at - 1) d in
-      sym (ap (first_below s) (step_back d) ∙ ap (λ b. cond b (Some e.run.superstep) (first_below s (back log (at - 1) e.before))) (not_lower e.run.superstep s high))
+      let rest = back log (at - 1) e.before in
+      sym (ap (first_below s) (step_back d) ∙ ap (λ b. cond b (Some e.run.superstep) (first_below s rest)) (not_lower e.run.superstep s high))
 
 -- ---- the runs of all vertices
 

@@ -56,7 +56,8 @@ parts_more xs ys (p ∷ parts) are =
     let within = one.within in
     let same = part_more xs ys p.1.first p.1.end start within in
     let len = length-append xs ys in
-    let still : IsPart (xs ++ ys) p.1.first p.1.end p.1.latest = record { start = start; within = omega (arith, within, len); last = one.last ∙ sym (ap last_of same) } in (
+    let still : IsPart (xs ++ ys) p.1.first p.1.end p.1.latest =
+    record { start = start; within = omega (arith, within, len); last = one.last ∙ sym (ap last_of same) } in (
       (still, later.0),
       ap (λ steps. (p.0, steps) ∷ parts_of (xs ++ ys) parts) same ∙ ap (λ l. (p.0, part_of xs p.1.first p.1.end) ∷ l) later.1,
     )

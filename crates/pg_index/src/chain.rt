@@ -135,7 +135,8 @@ pub(crate) fn last_under(logged: Logged, earlier: &[Logged], limit: u64) -> Opti
 
 /// The same of those before a run.
 fn last_before(logged: Logged, earlier: &[Logged], limit: u64) -> Option<Run>
-    ensures { option_map (λ r. r.superstep) result ≡ first_below limit (back earlier.now (length earlier.now) logged.before) }
+    ensures { option_map (λ r. r.superstep) result
+        ≡ first_below limit (back earlier.now (length earlier.now) logged.before) }
 {
     let mut at = logged.before as usize;
     let mut left = earlier.len();

@@ -14,8 +14,8 @@ use crate::ran::Run;
 use pg_graph::VertexId;
 use std::marker::Model;
 
-/// Looks up ids in an index: among the notes, and then in the map or the log. In each an id near the one before costs a search
-/// near that. A contract sees the index.
+/// Looks up ids in an index: among the notes, and then in the map or the log. In each an id near the one before costs a
+/// search near that. A contract sees the index.
 #[derive(Drop)]
 pub struct IndexFinder<'a> {
     base: BaseFinder<'a>,

@@ -123,7 +123,8 @@ fn add_earlier(
 
 /// Adds the last of so many entries and those before it to a list, the latest first.
 fn add_back(runs: &mut Vec<Run>, before: u32, earlier: &[Logged]) -> Result<(), Memory>
-    ensures { OnOk result (steps_of runs.new.items ≡ steps_of runs.old.items ++ back earlier.now (length earlier.now) before) }
+    ensures { OnOk result
+        (steps_of runs.new.items ≡ steps_of runs.old.items ++ back earlier.now (length earlier.now) before) }
 {
     let mut at = before as usize;
     let mut left = earlier.len();

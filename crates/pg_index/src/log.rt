@@ -148,7 +148,8 @@ pub(crate) fn add_run(
 ) -> Result<bool, Memory>
     requires sound { AreSound last.old.items }
     requires within { AreWithin earlier.old.items (all_of last.old.items) }
-    requires steps { IsNonDecreasingBy (λ t. t) (steps_in (value_at id (chains earlier.old.items (all_of last.old.items)))) }
+    requires steps { IsNonDecreasingBy (λ t. t)
+        (steps_in (value_at id (chains earlier.old.items (all_of last.old.items)))) }
     ensures sound { OnOk result (AreSound last.new.items) }
     ensures within { OnOk result (AreWithin earlier.new.items (all_of last.new.items)) }
     ensures noted { IfOk result (λ added. IsTrue added → IsNotedOf id run.superstep true

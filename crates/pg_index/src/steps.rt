@@ -151,7 +151,8 @@ impl Steps {
 fn add_in_place(shared: &mut Arc<Vec<Run>>, end: u32, run: Run) -> Result<bool, Memory>
     requires { end ≤ length (arc_value shared.old).items }
     ensures added { IfOk result (λ added. IsTrue added
-        → ((arc_value shared.new).items ≡ (arc_value shared.old).items ++ run ∷ []) × (end ≡ length (arc_value shared.old).items)) }
+        → (arc_value shared.new).items ≡ (arc_value shared.old).items ++ run ∷ []) }
+    ensures all { IfOk result (λ added. IsTrue added → end ≡ length (arc_value shared.old).items) }
     ensures same { IfOk result (λ added. added ≡ false → (arc_value shared.new).items ≡ (arc_value shared.old).items) }
     ensures err { OnErr result ((arc_value shared.new).items ≡ (arc_value shared.old).items) }
 {

@@ -5,7 +5,8 @@ use Rattle.pg_index.proofs.chain.last_before.Goals as goal
 
 pub returns-then-entry-limit : goal.returns-then-entry-limit
 returns-then-entry-limit c =
-    found_here c.args.earlier.now c.loop-at.left c.loop-at.at c.loop-at-test.true c.if-at-left.true c.loop-at.invariant.within c.args.limit no_run c.if-entry-limit.true
+    let l = c.loop-at in
+    found_here c.args.earlier.now l.left l.at c.loop-at-test.true c.if-at-left.true l.invariant.within c.args.limit no_run c.if-entry-limit.true
     ∙ c.loop-at.invariant.found
 
 pub loop-at-preserved : goal.loop-at-preserved

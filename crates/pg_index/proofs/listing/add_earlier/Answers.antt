@@ -15,9 +15,10 @@ returns-then-before-eq0 c =
 
 pub returns : goal.returns
 returns c =
+    let log = c.args.earlier.now in
     let spare = c.add_back.new.runs.items in record {
       more = reverse spare;
       is = c.in_ok-append.ensures.items ∙ ap (λ l. c.args.runs.now.items ++ l) c.reverse.ensures.items;
       steps_are = map-reverse (λ r. r.superstep) spare
-          ∙ ap reverse (c.in_ok-add_back.ensures ∙ ap (λ l. steps_of l ++ back c.args.earlier.now (length c.args.earlier.now) c.args.before) c.clear.ensures.items);
+          ∙ ap reverse (c.in_ok-add_back.ensures ∙ ap (λ l. steps_of l ++ back log (length log) c.args.before) c.clear.ensures.items);
     }

@@ -21,5 +21,5 @@ loop-id-preserved c =
 
 pub returns-clause-listed : goal.returns-clause-listed
 returns-clause-listed c =
-    c.loop-id.invariant.listed
-    ∙ ap (λ l. parts_of c.args.runs.now.items c.args.parts.now.items ++ chains c.args.earlier.now l) (take_all c.loop-id.id-index c.args.last.now c.loop-id-test.false)
+    let start = parts_of c.args.runs.now.items c.args.parts.now.items in
+    c.loop-id.invariant.listed ∙ ap (λ l. start ++ chains c.args.earlier.now l) (take_all c.loop-id.id-index c.args.last.now c.loop-id-test.false)

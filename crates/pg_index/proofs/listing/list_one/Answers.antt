@@ -15,7 +15,8 @@ returns-clause-parts c =
     let pushed : c.push.new.self.items ≡ parts ++ part ∷ [] = c.in_ok-push.ensures.items in
     subst (AreParts after) (sym pushed)
     (are_added before after parts c.requires (chain c.args.earlier.now c.args.logged) c.in_ok-add_chain.ensures part
-    (c.in_ok-first.ensures ∙ c.len.ensures ∙ c.args.runs.now.ok.0) (c.in_ok-end.ensures ∙ c.len-2.ensures ∙ c.add_chain.new.runs.ok.0) (sym (chain_last c.args.earlier.now c.args.logged)))
+    (c.in_ok-first.ensures ∙ c.len.ensures ∙ c.args.runs.now.ok.0) (c.in_ok-end.ensures ∙ c.len-2.ensures ∙ c.add_chain.new.runs.ok.0)
+    (sym (chain_last c.args.earlier.now c.args.logged)))
 
 pub returns-clause-listed : goal.returns-clause-listed
 returns-clause-listed c =

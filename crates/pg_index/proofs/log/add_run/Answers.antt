@@ -55,7 +55,8 @@ returns-in-Some-clause-noted c _ =
     let pushed : c.after_this.new.earlier.items ≡ log ++ was.1 ∷ [] = c.in_ok-last.ensures.pushed in
     let before : next.before ≡ length (log ++ was.1 ∷ []) = ap (λ x. x.before) c.in_ok-last.ensures.next ∙ ap length pushed in
     let here : value_at id (all_of cs) ≡ Some was.1 =
-    value_found id cs c.requires.sound c.in-Some.chunk c.in-Some.place at c.index.result.now c.index.ensures was ∙ ap (λ x. Some x.1) (sym c.index-in-Some.ensures) in
+    value_found id cs c.requires.sound c.in-Some.chunk c.in-Some.place at c.index.result.now c.index.ensures was
+    ∙ ap (λ x. Some x.1) (sym c.index-in-Some.ensures) in
     subst (λ l. IsNotedOf id s true (chains log (all_of cs)) (chains l (all_of (set cs c.in-Some.chunk now)))) (sym pushed)
     (noted_in log (log ++ was.1 ∷ []) (all_of cs) (chains_more log was.1 (all_of cs) c.requires.within) id s next
     (runs_after log (all_of cs) id s was.1 next here c.requires.steps c.if-run-logged.false (ap (λ x. x.run.superstep) c.in_ok-last.ensures.next) before)

@@ -9,9 +9,9 @@ use Rattle.pg_index.proofs.steps.Steps.push.Goals as goal
 
 pub invariant_of-self-then-branch : goal.invariant_of-self-then-branch
 invariant_of-self-then-branch c =
-    let pushed = c.in_ok-add_in_place.ensures.added (search rules) in
-    is_pushed (arc_value c.self.inside.shared).items (arc_value c.add_in_place.new.shared).items _ c.self.inside.latest c.self.inside.first c.self.inside.end
-    c.self.invariant pushed.0 pushed.1
+    let now = c.in_ok-add_in_place.ensures in
+    is_pushed (arc_value c.self.inside.shared).items (arc_value c.add_in_place.new.shared).items _ c.self.inside.latest c.self.inside.first
+    c.self.inside.end c.self.invariant (now.added (search rules)) (now.all (search rules))
 
 pub of-requires : goal.of-requires
 of-requires c =
