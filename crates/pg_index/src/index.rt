@@ -87,8 +87,8 @@ impl Index {
         Ok(Index::of(alloc, ran))
     }
 
-    /// The same index, with the notes put into its map. Where there are none it costs O(1), and else a copy of the
-    /// chunks that they change; in a first run O(1) a run.
+    /// The same index, with the notes put into its map. Where there are none it costs O(1), where the map has no
+    /// entries O(1) a note, and else a copy of the chunks that they change; in a first run O(1) a run.
     pub fn settled(self, alloc: Global) -> Result<Index, Memory>
         ensures { IfOk result (λ index. index ≡ self) }
     {
