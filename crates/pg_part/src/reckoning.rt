@@ -214,6 +214,9 @@ fn gathered_in<V: Plain, M: Plain>(
 ) -> Result<Sequence<i64>, Memory>
     ensures { IfOk result (λ gathered. gathered ≡ gathered_of registry.now trace.now superstep) }
 {
+    if registry.len() == 0 {
+        return Ok(Sequence::new(alloc));
+    }
     let contributions = contributions(alloc, trace, superstep)?;
     gathered(alloc, registry, contributions.as_slice())
 }

@@ -1,0 +1,17 @@
+use Rattle.std.proofs.Common.{◌≡◌, ℕ, ℤ, List, [], ◌∷◌, arith, length, refl, sym, ◌∙◌}
+use Rattle.pg_global.specs.Registry.{Registered}
+use Rattle.pg_recount.specs.Contributed.{contributions_of}
+use Rattle.pg_stats.specs.GlobalStats.{aggregators_of}
+use Rattle.pg_stats.specs.Stats.{gathered_afresh}
+use Rattle.pg_trace.specs.Trace.{records_of}
+use Rattle.pg_part.proofs.reckoning.gathered_in.Goals as goal
+
+none_gathered : (registry : Registered) (contributions : List (ℕ × ℤ)) → length registry ≡ 0
+    → [] ≡ gathered_afresh 0 (aggregators_of registry) contributions
+none_gathered [] contributions none = refl
+none_gathered (r ∷ registry) contributions none = absurd (omega (arith, none))
+
+pub returns-then-len : goal.returns-then-len
+returns-then-len g c =
+    c.new.ensures
+    ∙ none_gathered c.args.registry.now (contributions_of (records_of c.args.superstep c.args.trace.now)) (sym c.len.ensures.value ∙ c.if-len.true)
