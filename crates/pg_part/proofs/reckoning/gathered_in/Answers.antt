@@ -11,7 +11,7 @@ none_gathered : (registry : Registered) (contributions : List (ℕ × ℤ)) → 
 none_gathered [] contributions none = refl
 none_gathered (r ∷ registry) contributions none = absurd (omega (arith, none))
 
-pub returns-then-len : goal.returns-then-len
-returns-then-len g c =
+pub returns-then-len-eq0 : goal.returns-then-len-eq0
+returns-then-len-eq0 g c =
     c.new.ensures
-    ∙ none_gathered c.args.registry.now (contributions_of (records_of c.args.superstep c.args.trace.now)) (sym c.len.ensures.value ∙ c.if-len.true)
+    ∙ none_gathered c.args.registry.now (contributions_of (records_of c.args.superstep c.args.trace.now)) (sym c.len.ensures.value ∙ c.if-len-eq0.true)
