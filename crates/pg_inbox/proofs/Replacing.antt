@@ -50,7 +50,7 @@ values_sorted P items sorted moved all = recursion_from_All P sorted (All-permut
 -- ---- look-ups of entries that are made of ids and values
 
 module _ {X Y : Type 0} (f : ℕ × X → Y) where
-  value_at-made : (q : ℕ) (es : List (ℕ × X)) → value_at q (map (λ e. (e.0, f e)) es) ≡ option_map (λ x. f (q, x)) (value_at q es)
+  pub value_at-made : (q : ℕ) (es : List (ℕ × X)) → value_at q (map (λ e. (e.0, f e)) es) ≡ option_map (λ x. f (q, x)) (value_at q es)
   value_at-made q [] = refl
   value_at-made q (e ∷ es) =
       ap (λ b. cond b (Some (f e)) (value_at q (map (λ e. (e.0, f e)) es))) (at_id q e.0)

@@ -2,7 +2,9 @@
 use Rattle.std.proofs.Common.{◌≡◌, ℕ, ◌+◌, ◌<◌, ◌≤◌, ◌==◌, suc, Bool, true, false, cond, List, [], ◌∷◌, ◌++◌, length, map, take, drop, get_or}
 use Rattle.std.proofs.Common.{Option, None, Some, option_map, unwrap_or, refl, sym, ap, ap₂, ◌∙◌, subst, arith, append_assoc, ltb, leb}
 use Rattle.std.specs.List.{AllByRecursion, sum_by}
-use Rattle.std.specs.List.Sorted.{IsNonDecreasingBy, IsPartitionPoint}
+use Rattle.std.specs.List.Sorted.{IsNonDecreasingBy, IsPartitionPoint, IsStrictlySortedBy}
+use Rattle.std.specs.Ordering.{nat_cmp}
+use Rattle.std.proofs.lemmas.Simd.{map-map}
 use Rattle.std.specs.Option.{IfSome}
 use Rattle.std.proofs.lemmas.Bool.Decides.{nat_tests}
 use Rattle.std.proofs.lemmas.List.{map-append, take-append-drop}
@@ -18,12 +20,13 @@ use Rattle.pg_model.specs.Superstep.{is_empty}
 use Rattle.pg_parcel.specs.Contents.{Holds, as_changes, contents_of}
 use Rattle.pg_parcel.specs.Grouping.{any_of, before_groups, groups_of, items_to}
 use Rattle.pg_parcel.specs.declared.parcel.Contents.{Contents}
-use Rattle.pg_parcel.proofs.Grouping.{from_groups, rises_groups, some_not_empty, told_groups}
+use Rattle.pg_parcel.proofs.Grouping.{any_of_none, from_groups, rises_groups, some_not_empty, told_groups}
 use Rattle.pg_inbox.specs.Bundles.{Parcels}
 use Rattle.pg_inbox.specs.Counting.{messages_where}
 use Rattle.pg_inbox.specs.Holding.{HoldAll, HoldsAt}
-use Rattle.pg_inbox.specs.Sound.{IsSound, parcels_with, sent_parcels}
+use Rattle.pg_inbox.specs.Sound.{IsSound, needed, parcels_with, sent_parcels}
 use Rattle.pg_inbox.proofs.Bundling.{rises-values, value_at-values}
+use Rattle.pg_inbox.proofs.Replacing.{value_at-made}
 use Rattle.pg_inbox.proofs.SameDelivery.{hold-all, hold-changes}
 
 apart : (a b : ℕ) → a < b → (b == a) ≡ false
@@ -73,28 +76,6 @@ module _ {X : Type 0} where
       back : (o : Option X) → unwrap_or (option_map Some o) None ≡ o
       back None = refl
       back (Some x) = refl
-
-  -- changes over changes over entries
-  pub changed_over : (changes : List (ℕ × Option X)) (over : List (ℕ × Option X)) (base : List (ℕ × X)) → ChangesRise changes → ChangesRise over
-      → HasRisingIds base → with_changes (with_changes (as_changes changes) over) base ≡ with_changes changes (with_changes over base)
-  changed_over changes over base rise over_rise rises =
-      same_entries (with_changes (with_changes (as_changes changes) over) base) (with_changes changes (with_changes over base))
-      (rises-changes (with_changes (as_changes changes) over) base rises) (rises-changes changes (with_changes over base) both)
-      (λ q. value_at-with_changes (with_changes (as_changes changes) over) base q (rises-changes (as_changes changes) over over_rise) rises
-      ∙ ap (λ o. unwrap_or o (value_at q base))
-      (value_at-with_changes (as_changes changes) over q (rises-values Some changes rise) over_rise
-      ∙ ap (λ o. unwrap_or o (value_at q over)) (value_at-values Some q changes))
-      ∙ by q (value_at q changes)
-      ∙ sym (value_at-with_changes changes (with_changes over base) q rise both
-      ∙ ap (λ x. unwrap_or (value_at q changes) x) (value_at-with_changes over base q over_rise rises)))
-    where
-      both : HasRisingIds (with_changes over base)
-      both = rises-changes over base rises
-
-      by : (q : ℕ) (o : Option (Option X)) → unwrap_or (unwrap_or (option_map Some o) (value_at q over)) (value_at q base)
-          ≡ unwrap_or o (unwrap_or (value_at q over) (value_at q base))
-      by q None = refl
-      by q (Some x) = refl
 
 -- ---- items in two parts
 
@@ -195,6 +176,51 @@ module _ {M : Type 0} where
           value_at-with_changes changes (sent_parcels letters) q changes_rise (sent_rise letters rise)
           ∙ ap (λ o. unwrap_or o (value_at q (sent_parcels letters))) is
           ∙ value_at_sent q letters rise
+
+  -- ---- more changes
+
+  module _ (letters : List (ℕ × (ℕ × M))) (letters_rise : IsNonDecreasingBy (λ l. l.0) letters) (more : List (ℕ × Option (Contents M)))
+      (rise : ChangesRise more) where
+    pub needed_rise : ChangesRise (map (needed letters) more)
+    needed_rise = subst (IsStrictlySortedBy nat_cmp) (sym (map-map (λ c. c.0) (needed letters) more)) rise
+
+    -- what they give is put over the changes that are there
+    pub changed_over : (changes : List (ℕ × Option (Contents M))) → ChangesRise changes
+        → parcels_with (with_changes (map (needed letters) more) changes) letters ≡ with_changes more (parcels_with changes letters)
+    changed_over changes changes_rise =
+        same_entries (with_changes (with_changes given changes) base) (with_changes more (with_changes changes base))
+        (rises-changes (with_changes given changes) base base_rise) (rises-changes more (with_changes changes base) both)
+        (λ q. value_at-with_changes (with_changes given changes) base q (rises-changes given changes changes_rise) base_rise
+        ∙ ap (λ o. unwrap_or o (value_at q base))
+        (value_at-with_changes given changes q needed_rise changes_rise
+        ∙ ap (λ o. unwrap_or o (value_at q changes)) (value_at-made (λ c. (needed letters c).1) q more))
+        ∙ by q (value_at q more)
+        ∙ sym (value_at-with_changes more (with_changes changes base) q rise both
+        ∙ ap (λ x. unwrap_or (value_at q more) x) (value_at-with_changes changes base q changes_rise base_rise)))
+      where
+        base : Parcels M
+        base = sent_parcels letters
+
+        given : List (ℕ × Option (Option (Contents M)))
+        given = map (needed letters) more
+
+        base_rise : HasRisingIds base
+        base_rise = sent_rise letters letters_rise
+
+        both : HasRisingIds (with_changes changes base)
+        both = rises-changes changes base base_rise
+
+        none_by : (q : ℕ) (b : Bool) → is_empty (items_to q letters) ≡ b
+            → unwrap_or (unwrap_or (Some (cond b None (Some None))) (value_at q changes)) (value_at q base) ≡ None
+        none_by q true e = value_at_sent q letters letters_rise ∙ ap (option_map (contents_of None)) (any_of_none (items_to q letters) e)
+        none_by q false e = refl
+
+        by : (q : ℕ) (o : Option (Option (Contents M)))
+            → unwrap_or (unwrap_or (option_map (λ x. (needed letters (q, x)).1) o) (value_at q changes)) (value_at q base)
+            ≡ unwrap_or o (unwrap_or (value_at q changes) (value_at q base))
+        by q None = refl
+        by q (Some None) = none_by q (is_empty (items_to q letters)) refl
+        by q (Some (Some contents)) = refl
 
   -- ---- the next change, and the letters up to its target
 
@@ -310,11 +336,10 @@ module _ {M : Type 0} where
 
     -- more changes
     pub sound_more : (more changes : List (ℕ × Option (Contents M))) (letters : List (ℕ × (ℕ × M))) → IsSound is_value changes letters → ChangesRise more
-        → AllByRecursion (λ c. HoldsAt is_value c.1) more → IsSound is_value (with_changes (as_changes more) changes) letters
+        → AllByRecursion (λ c. HoldsAt is_value c.1) more → IsSound is_value (with_changes (map (needed letters) more) changes) letters
     sound_more more changes letters sound rise hold = record {
       letters_rise = sound.letters_rise;
-      changes_rise = rises-changes (as_changes more) changes sound.changes_rise;
-      hold = subst (HoldAll is_value)
-          (sym (changed_over more changes (sent_parcels letters) rise sound.changes_rise (sent_rise letters sound.letters_rise)))
+      changes_rise = rises-changes (map (needed letters) more) changes sound.changes_rise;
+      hold = subst (HoldAll is_value) (sym (changed_over letters sound.letters_rise more rise changes sound.changes_rise))
           (hold-changes is_value more (parcels_with changes letters) hold sound.hold);
     }

@@ -2,10 +2,10 @@
 ghost use Rattle.std.specs.Prelude.{◌≡◌, [], ◌∷◌, ◌++◌, map, IfOk, OnOk};
 ghost use Rattle.std.specs.BTreeSet.{contains};
 ghost use Rattle.std.specs.List.{AllByRecursion};
+ghost use Rattle.std.specs.List.Sorted.{IsNonDecreasingBy};
 ghost use Rattle.std.specs.Option.{option_copied};
 ghost use Rattle.std.specs.Ordering.{nat_cmp};
 ghost use Rattle.pg_map.specs.Entries.{ChangesRise, with_changes};
-ghost use Rattle.pg_parcel.specs.Contents.{as_changes};
 ghost use Rattle.pg_parcel.specs.Grouping.{groups_of};
 ghost use Rattle.pg_inbox.specs.Changed.{AreChanged, IsAdded};
 ghost use Rattle.pg_inbox.specs.Holding.{HoldsAt};
@@ -13,13 +13,14 @@ ghost use Rattle.pg_inbox.specs.Inboxes.{letters_in};
 ghost use Rattle.pg_inbox.specs.Mending.{HasJust, HasMore, additions, as_addition, as_withdrawal, changes_of, mended, mended_in, mends_of, others};
 ghost use Rattle.pg_inbox.specs.Mending.{senders_of, withdrawn_by};
 ghost use Rattle.pg_inbox.specs.Patched.{IsPatched, TellsChanges};
+ghost use Rattle.pg_inbox.specs.Sound.{needed};
 
 use crate::changing::add_if_changed;
 use crate::{Bundle, Logged};
 use pg_global::MessageCombiner;
 use pg_graph::{Memory, VertexId};
 use pg_model::Sequence;
-use pg_parcel::{Change, Parcel, ParcelRef, by_target, first_group};
+use pg_parcel::{Change, Parcel, ParcelRef, by_target, first_group, items_to};
 use pg_program::Plain;
 use std::alloc::Global;
 use std::collections::BTreeSet;
@@ -132,25 +133,42 @@ fn changed_bundle<M: Plain>(
     requires hold { AllByRecursion (λ c. HoldsAt M.is_value c.1) changes.items }
     ensures { IfOk result (λ bundle. bundle ≡ with_changes changes.items old.now) }
 {
-    let given = each_given(alloc, changes)?;
+    let given = each_given(alloc, old.letters.as_slice(), changes)?;
     let letters = old.letters.share()?;
     let mut changes = old.changes.share()?;
     changes.change(alloc, given.as_slice())?;
     Ok(Bundle { letters, changes })
 }
 
-/// These changes as values that are given to their targets.
+/// What these changes give the map of a bundle with these letters.
 fn each_given<M: Plain>(
     alloc: Global,
+    letters: &[(VertexId, (VertexId, M))],
     changes: Vec<(VertexId, Change<M>)>,
 ) -> Result<Vec<(VertexId, Option<Change<M>>)>, Memory>
-    ensures { IfOk result (λ given. given.items ≡ as_changes changes.items) }
+    requires { IsNonDecreasingBy (λ l. l.0) letters.now }
+    ensures { IfOk result (λ given. given.items ≡ map (needed letters.now) changes.items) }
 {
     let mut given = Vec::with_capacity(alloc, changes.len())?;
     for (id, change) in changes {
-        given.push((id, Some(change)))?;
+        given.push((id, needed(letters, id, change)))?;
     }
     Ok(given)
+}
+
+/// What a change gives the map: nothing where it leaves its target no messages and the letters have none to it.
+fn needed<M: Plain>(
+    letters: &[(VertexId, (VertexId, M))],
+    id: VertexId,
+    change: Change<M>,
+) -> Option<Change<M>>
+    requires { IsNonDecreasingBy (λ l. l.0) letters.now }
+    ensures { (id, result) ≡ needed letters.now (id, change) }
+{
+    if change.parcel().is_some() || !items_to(letters, id).is_empty() {
+        return Some(change);
+    }
+    None
 }
 
 /// The new contents of each target, of what is done by rising target. Costs one look-up each.
