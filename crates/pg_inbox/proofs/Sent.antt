@@ -317,9 +317,6 @@ module _ {M : Type 0} where
           (all_to_map parcel_of (λ e. Holds is_value e.1) (groups_of letters) (groups_hold letters values));
     }
 
-    pub sound_none : IsSound is_value [] []
-    sound_none = sound_sent [] (λ i j d le within. absurd (omega (arith, within))) tt
-
     -- changes of no letters
     pub sound_changes : (changes : List (ℕ × Option (Contents M))) → ChangesRise changes → AllByRecursion (λ c. IfSome c.1 (Holds is_value)) changes
         → IsSound is_value changes []

@@ -19,8 +19,8 @@ use std::marker::Model;
 /// What one partition sends to another in a superstep: for each target, by rising id, the messages to it with
 /// their senders, and where the combiner combines what they come to. Copies share their memory.
 ///
-/// Messages that aren't combined lie as they were sent, in one list by rising target, beside what is changed of it since;
-/// those that are combined are changes of no list.
+/// Messages that aren't combined lie as they were sent, in one list by rising target, beside what is changed of it
+/// since; those that are combined are changes of no list.
 pub struct Bundle<M: Plain> {
     pub(crate) letters: Letters<M>,
     pub(crate) changes: Map<Change<M>>,
@@ -76,7 +76,7 @@ impl<M: Plain> Bundle<M> {
         let _ = &self.changes;
     }
 
-    /// The messages to a target. Costs a search among the changes and one among the letters.
+    /// The messages to a target. Costs a search among the changes and one among the letters, and as much as there are.
     pub(crate) fn parcel(&self, target: VertexId) -> Option<ParcelRef<'_, M>>
         ensures value { result ≡ value_at target self.now }
         ensures holds { HoldsAt M.is_value (value_at target self.now) }

@@ -11,7 +11,7 @@ use pg_program::Plain;
 use std::alloc::{AllocError, Global};
 
 impl<M: Plain> Bundle<M> {
-    /// How many messages there are to a target. Costs a few binary searches.
+    /// How many messages there are to a target. Costs a few binary searches, and as much as there are.
     pub fn messages_to(&self, target: VertexId) -> usize
         ensures { result ≡ length (letters_at target self.now) }
     {
@@ -21,8 +21,8 @@ impl<M: Plain> Bundle<M> {
         }
     }
 
-    /// How many messages there are. Costs one look at each target, or O(1) where the bundle is as it was made of messages that
-    /// aren't combined.
+    /// How many messages there are. Costs O(1) where the bundle is as it was made of messages that aren't combined;
+    /// else a look at each message and a list of the targets.
     pub fn messages(&self, alloc: Global) -> Result<u64, Memory>
         ensures { IfOk result (λ count. count ≡ messages_where (λ _. true) self.now) }
     {
@@ -40,8 +40,8 @@ impl<M: Plain> Bundle<M> {
         messages_listed(parcels.as_slice())
     }
 
-    /// How many messages there are to ids that are no vertices of a graph. Costs one look-up in the graph for each
-    /// target, each near the one before.
+    /// How many messages there are to ids that are no vertices of a graph. Costs a list of the
+    /// targets, a look at each message, and one look-up in the graph for each target, each near the one before.
     pub fn astray(&self, alloc: Global, graph: &Graph) -> Result<u64, Memory>
         ensures { IfOk result
             (λ count. count ≡ messages_where (λ id. not (is_some (row_at id graph.now))) self.now) }

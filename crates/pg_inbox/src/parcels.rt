@@ -12,12 +12,12 @@ use pg_program::Plain;
 use std::alloc::Global;
 
 impl<M: Plain> Bundle<M> {
-    /// Each target with its messages, by rising id. Costs one look at each target, and two binary searches among the letters
-    /// for each change.
+    /// Each target with its messages, by rising id. Costs a look at each letter, and for each change two binary
+    /// searches among the letters.
     pub(crate) fn parcels(&self, alloc: Global) -> Result<Vec<(VertexId, ParcelRef<'_, M>)>, Memory>
         ensures { IfOk result (λ parcels. parcels.items ≡ self.now) }
     {
-        let mut parcels = Vec::new(alloc);
+        let mut parcels = Vec::with_capacity(alloc, self.changes.len())?;
         let mut left = self.letters.as_slice();
         for (id, change) in self.changes.iter() {
             left = add_up_to(&mut parcels, left, *id, change)?;
@@ -27,8 +27,8 @@ impl<M: Plain> Bundle<M> {
     }
 }
 
-/// Adds the parcel of each target of letters below an id, and then that of a change at the id. Gives the letters to targets
-/// above it.
+/// Adds the parcel of each target of letters below an id, and then that of a change at the id. Gives the letters to
+/// targets above it.
 fn add_up_to<'a, M: Plain>(
     parcels: &mut Vec<(VertexId, ParcelRef<'a, M>)>,
     letters: &'a [(VertexId, (VertexId, M))],

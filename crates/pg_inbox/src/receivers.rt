@@ -140,7 +140,8 @@ fn inboxes_of<M: Plain, C: MessageCombiner<M>>(
     Ok(inboxes)
 }
 
-/// Inboxes with that of the first target of parcels by target, and how many parcels go to it.
+/// Inboxes with that of the first target of parcels by target, and how many parcels go to it. (`first_group` would give
+/// parts of the list of lent parcels, which the prover doesn't follow.)
 fn with_first<M: Plain, C: MessageCombiner<M>>(
     alloc: Global,
     inboxes: Inboxes<M>,

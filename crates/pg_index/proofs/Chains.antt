@@ -225,12 +225,3 @@ pub runs_first : (log : List Logged) (last : List (ℕ × Logged)) (id : ℕ) (x
 runs_first log last id x none first =
     ap (λ l. reverse (x.run.superstep ∷ l)) (ap (back log (length log)) first ∙ back_none log (length log))
     ∙ ap (λ o. with_ran x.run.superstep true (steps_in o)) (sym (chain_at log last id ∙ ap (option_map (chain log)) none))
-
--- ---- notes over a log
-
--- a note over a log that stays
-pub over_same : (id s : ℕ) (runs : Bool) (notes notes' : List (ℕ × Option (List ℕ))) (base old new : List (ℕ × List ℕ)) → base ≡ new → new ≡ old
-    → IsNotedOf id s runs (with_changes notes base) (with_changes notes' base) → IsNotedOf id s runs (with_changes notes old) (with_changes notes' new)
-over_same id s runs notes notes' base old new is same noted =
-    subst (λ l. IsNotedOf id s runs (with_changes notes l) (with_changes notes' new)) same
-    (subst (λ l. IsNotedOf id s runs (with_changes notes l) (with_changes notes' l)) is noted)

@@ -158,7 +158,18 @@ impl Base {
         }
     }
 
-    /// The same in a map. It costs O(1) where they lie in one, and else O(1) a run.
+    /// The same in a map. What they lay in is let go of. It costs O(1) where they lie in one, and else O(1) a run.
+    pub(crate) fn into_map(self, alloc: Global) -> Result<Map<Steps>, Memory>
+        ensures { IfOk result (λ map. map ≡ self) }
+    {
+        let Base { lies } = self;
+        match lies {
+            Lies::InMap(map) => Ok(map),
+            Lies::InLog(log) => map_of(alloc, &log),
+        }
+    }
+
+    /// A copy of them in a map. It costs O(1) where they lie in one, and else O(1) a run.
     pub(crate) fn map(&self, alloc: Global) -> Result<Map<Steps>, Memory>
         ensures { IfOk result (λ map. map ≡ self.now) }
     {

@@ -60,7 +60,7 @@ impl Index {
         Index::over(Base::in_map(ran), Vec::new(alloc))
     }
 
-    /// An index of notes over a map.
+    /// An index of notes over a map or a log.
     fn over(base: Base, notes: Notes) -> Index
         requires { AreSound notes.items }
         ensures { result ≡ with_changes (all_of notes.items) base }
@@ -93,7 +93,7 @@ impl Index {
         ensures { IfOk result (λ index. index ≡ self) }
     {
         let Index { base, notes } = self;
-        let base = base.map(alloc)?;
+        let base = base.into_map(alloc)?;
         let changes = moved(alloc, notes)?;
         let ran = changed(alloc, base, changes)?;
         Ok(Index::of(alloc, ran))
@@ -104,7 +104,7 @@ impl Index {
     ///
     /// For k vertices it costs k look-ups among the notes, and k in the map at most; and it copies no chunk. One that
     /// has no note yet, that ran in this superstep or a later one, or that is given none, also costs a copy of its
-    /// runs. In a first run one that runs again costs one look-up and O(1).
+    /// runs. In a first run one that runs again costs one look-up and O(1), as long as nothing else was noted.
     pub fn noted(
         self,
         alloc: Global,

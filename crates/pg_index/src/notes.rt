@@ -48,11 +48,11 @@ pub(crate) fn note_over(
     Ok(())
 }
 
-/// Notes of these vertices over a log; or in the log itself, as long as nothing is noted over it, of those that run in a
-/// superstep above their others. The log is gone where memory is refused.
+/// Notes of these vertices over a log; or in the log itself, as long as nothing is noted over it, of those that run in
+/// a superstep above their others. The log is gone where memory is refused.
 ///
-/// For k vertices it costs k look-ups; and of one that ran in this superstep or a later one, or that is given none, what
-/// `note_over` costs.
+/// For k vertices it costs k look-ups; and what `note_over` costs, of one that ran in this superstep or a later one or
+/// that is given none, and of all that come after such a one.
 pub(crate) fn note_in_log(
     alloc: Global,
     notes: &mut Notes,
@@ -118,8 +118,8 @@ fn note_one(
     note_of(alloc, notes, &mut 0, &mut base, id, superstep, given)
 }
 
-/// Adds a run of a vertex to the log where that says what a note would: where nothing is noted over the log, and the runs
-/// that the vertex has are below it. Else nothing changes, and it says so.
+/// Adds a run of a vertex to the log where that says what a note would: where nothing is noted over the log, and the
+/// runs that the vertex has are below it. Else nothing changes, and it says so.
 fn add_in_log(
     alloc: Global,
     notes: &Notes,

@@ -178,7 +178,7 @@ fn longer(alloc: Global, runs: &[Run], run: Run) -> Result<Vec<Run>, Memory>
     Ok(longer)
 }
 
-/// A number in 32 bits. No list of runs is longer: more memory is refused.
+/// A number in 32 bits. No list of runs is longer, also that of all runs of a first run: more memory is refused.
 pub(crate) fn narrow(number: usize) -> Result<u32, Memory>
     ensures { IfOk result (λ n. n ≡ number) }
 {

@@ -13,11 +13,11 @@ use pg_graph::{Memory, VertexId};
 use pg_program::Plain;
 use std::alloc::Global;
 
-/// The parcel of each target, of letters that stand by target, each a message with its sender. Each parcel is a change of
-/// what the target has.
+/// The parcel of each target, of letters that stand by target, each a message with its sender. Each parcel is a
+/// change of what the target has.
 ///
-/// Costs a copy of each message, and one look at it where the combiner combines. The list has room for as many parcels as
-/// there are letters.
+/// Costs a copy of each message, and one look at it where the combiner combines. The list has room for as many parcels
+/// as there are letters.
 pub fn parcels_of<M: Plain, C: MessageCombiner<M>>(
     alloc: Global,
     letters: &[(VertexId, (VertexId, M))],

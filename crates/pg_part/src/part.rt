@@ -259,7 +259,7 @@ impl<V: Plain, M: Plain> Part<V, M> {
     }
 
     /// What it leaves of a run of so many supersteps, at the end of which it stands, and what it has no more use for. Costs
-    /// what is cut where the old run was longer, and O(1) a vertex that ran where there was none; beside an old run it
+    /// what is cut where the old run was longer, and O(1) a record where there was none; beside an old run it
     /// copies the chunks of the trace's index with the vertices whose records are others.
     pub fn leave(
         self,

@@ -13,8 +13,8 @@ use pg_program::Plain;
 use pg_stats::Traffic;
 use std::alloc::{AllocError, Global};
 
-/// What is sent and dropped with these bundles. Costs a look at each target, and where messages to nobody are dropped
-/// a look-up in the graph.
+/// What is sent and dropped with these bundles. Costs what `messages` does, and where messages to nobody are dropped
+/// what `astray` does.
 pub fn traffic<M: Plain>(
     alloc: Global,
     bundles: &[Logged<M>],

@@ -21,8 +21,8 @@ use std::marker::Model;
 /// the records of the vertices that ran. A contract sees both as lists by rising id.
 ///
 /// No other state is kept: that of a vertex as a superstep begins is what its last record before it
-/// left. An index says of each vertex in which supersteps it ran, and has its last record. What `recorded` notes in it
-/// lies beside the memory that copies share, and is put into that once, where the trace is settled.
+/// left. An index says of each vertex in which supersteps it ran. What `recorded` notes in it lies
+/// beside the memory that copies share, and is put into that once, where the trace is settled.
 pub struct Trace<V, M> {
     initial: Beginnings<V>,
     supersteps: Vec<Records<V, M>>,
@@ -123,7 +123,8 @@ impl<V: Drop, M: Drop> Trace<V, M> {
     }
 
     /// The state of a vertex as a superstep begins: that of its last record before it, else its
-    /// initial one. There is none where it has neither. Costs five binary searches at most.
+    /// initial one. There is none where it has neither. Costs five binary searches at most; in a first run that isn't
+    /// settled, a step for each record of the vertex from that superstep on.
     ///
     /// Where the trace holds a run so far, it is the state in that run.
     pub fn state_at(&self, id: VertexId, superstep: Superstep) -> Option<StateRef<'_, V>>
@@ -141,7 +142,7 @@ impl<V: Drop, M: Drop> Trace<V, M> {
     }
 
     /// The same trace, in the same memory. Costs one count a superstep; where the trace isn't settled, also a copy of what
-    /// was noted since, and of the chunks of the index with these vertices.
+    /// was noted since, and of the chunks of the index with these vertices; in a first run O(1) a record.
     pub fn share(&self, alloc: Global) -> Result<Trace<V, M>, Memory>
         ensures { IfOk result (λ trace. trace ≡ self.now) }
     {
@@ -157,7 +158,7 @@ impl<V: Drop, M: Drop> Trace<V, M> {
 
     /// The same trace, whose copies share all its memory from now on. Costs O(1) where nothing was recorded since it was
     /// settled or restarted; else one change of the index, of the chunks with the vertices that were recorded. For a new
-    /// trace that is O(1) a vertex that ran.
+    /// trace that is O(1) a record.
     pub fn settled(self, alloc: Global) -> Result<Trace<V, M>, Memory>
         ensures { IfOk result (λ trace. trace ≡ self) }
     {

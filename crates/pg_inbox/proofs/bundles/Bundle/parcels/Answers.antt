@@ -12,7 +12,7 @@ loop-id-init g c =
     record {
       letters_rise = subst (IsNonDecreasingBy (λ p. p.0)) (sym c.as_slice-left.ensures) c.self.invariant.letters_rise;
       changes_rise = subst ChangesRise (sym all) c.self.invariant.changes_rise;
-      parcels = ap (λ l. l ++ parcels_with c.into_iter-id-iterator.result c.as_slice-left.result.now) c.new-parcels.ensures.items
+      parcels = ap (λ l. l ++ parcels_with c.into_iter-id-iterator.result c.as_slice-left.result.now) c.in_ok-parcels.ensures.items
           ∙ ap (λ cs. parcels_with cs c.as_slice-left.result.now) all ∙ ap (parcels_with c.self.inside.changes) c.as_slice-left.ensures ∙ c.self.view_is;
     }
 
