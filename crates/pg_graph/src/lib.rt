@@ -14,7 +14,7 @@ pub use batch::Batch;
 pub use by_id::sorted_by_id;
 pub use graph::Graph;
 pub use missing::Missing;
-pub use order::{places_by_id, reordered_by_id};
+pub use order::reordered_by_id;
 pub use pg_edits::{Edges, Edit, EditFault, EditKind, Row};
 pub use pg_map::{Edition, Finder, Ids, Iter, PartitionId, Superstep, VertexId, WorkerId};
 pub use std::alloc::AllocError as Memory;
