@@ -1,42 +1,38 @@
 -- What is known of the ends of lines stays known.
-use Rattle.std.proofs.Common.{◌≡◌, ℕ, zero, suc, List, [], ◌∷◌, Some, slice_set, slice_get, replicate, subst, sym, IsNone}
+use Rattle.std.proofs.Common.{◌≡◌, ℕ, zero, suc, List, [], ◌∷◌, Some, slice_set, slice_get, replicate, ap, option_map, subst, sym}
 use Rattle.std.proofs.lemmas.Option.{same_Some}
 use Rattle.pg_graph.specs.Rows.{Rows}
-use Rattle.pg_import.specs.Ranks.{AreKnown, IsKnown}
+use Rattle.pg_import.specs.Ranks.{AreKnown, IsKnown, sources_of, targets_of}
 use Rattle.pg_import.specs.declared.line.Line.{Line}
-use Rattle.pg_import.specs.declared.order.LineRanks.{LineRanks}
+use Rattle.pg_import.specs.declared.order.EndRank.{EndRank}
 
 module _ (rows : Rows) where
-  -- where all ends stand somewhere
-  pub AreKnown-replicate : (ranks : LineRanks) → ((line : Line) → IsKnown rows line ranks) → (n : ℕ) (lines : List Line)
-      → AreKnown rows lines (replicate n ranks)
-  AreKnown-replicate ranks each n [] = tt
-  AreKnown-replicate ranks each zero (line ∷ lines) = tt
-  AreKnown-replicate ranks each (suc n) (line ∷ lines) = (each line, AreKnown-replicate ranks each n lines)
+  -- where all stand somewhere
+  pub AreKnown-replicate : (place : ℕ) (n : ℕ) (ids : List ℕ) → AreKnown rows ids (replicate n (record { place = Some place }))
+  AreKnown-replicate place n [] = tt
+  AreKnown-replicate place zero (id ∷ ids) = tt
+  AreKnown-replicate place (suc n) (id ∷ ids) = (λ none. cc none, AreKnown-replicate place n ids)
 
-  -- of the line at a place
-  pub AreKnown-at : (lines : List Line) (all : List LineRanks) (i : ℕ) {line : Line} {ranks : LineRanks} → AreKnown rows lines all
-      → slice_get lines i ≡ Some line → slice_get all i ≡ Some ranks → IsKnown rows line ranks
-  AreKnown-at [] all i known at here = cc at
-  AreKnown-at (l ∷ ls) [] i known at here = cc here
-  AreKnown-at (l ∷ ls) (r ∷ rs) zero {line} {ranks} known at here =
-      subst (λ x. IsKnown rows x ranks) (same_Some _ _ at) (subst (IsKnown rows l) (same_Some _ _ here) known.0)
-  AreKnown-at (l ∷ ls) (r ∷ rs) (suc i) known at here = AreKnown-at ls rs i known.1 at here
+  -- of the id at a place
+  pub AreKnown-at : (ids : List ℕ) (ranks : List EndRank) (i : ℕ) {id : ℕ} {rank : EndRank} → AreKnown rows ids ranks
+      → slice_get ids i ≡ Some id → slice_get ranks i ≡ Some rank → IsKnown rows id rank
+  AreKnown-at [] ranks i known at here = cc at
+  AreKnown-at (x ∷ xs) [] i known at here = cc here
+  AreKnown-at (x ∷ xs) (r ∷ rs) zero {id} {rank} known at here =
+      subst (λ y. IsKnown rows y rank) (same_Some _ _ at) (subst (IsKnown rows x) (same_Some _ _ here) known.0)
+  AreKnown-at (x ∷ xs) (r ∷ rs) (suc i) known at here = AreKnown-at xs rs i known.1 at here
 
-  -- with others of the line at a place
-  pub AreKnown-set : (lines : List Line) (all : List LineRanks) (i : ℕ) {line : Line} (ranks : LineRanks) → AreKnown rows lines all
-      → slice_get lines i ≡ Some line → IsKnown rows line ranks → AreKnown rows lines (slice_set all i ranks)
-  AreKnown-set [] all i ranks known at is = tt
-  AreKnown-set (l ∷ ls) [] i ranks known at is = tt
-  AreKnown-set (l ∷ ls) (r ∷ rs) zero ranks known at is = (subst (λ x. IsKnown rows x ranks) (sym (same_Some _ _ at)) is, known.1)
-  AreKnown-set (l ∷ ls) (r ∷ rs) (suc i) ranks known at is = (known.0, AreKnown-set ls rs i ranks known.1 at is)
+  -- with another of the id at a place
+  pub AreKnown-set : (ids : List ℕ) (ranks : List EndRank) (i : ℕ) {id : ℕ} (rank : EndRank) → AreKnown rows ids ranks
+      → slice_get ids i ≡ Some id → IsKnown rows id rank → AreKnown rows ids (slice_set ranks i rank)
+  AreKnown-set [] ranks i rank known at is = tt
+  AreKnown-set (x ∷ xs) [] i rank known at is = tt
+  AreKnown-set (x ∷ xs) (r ∷ rs) zero rank known at is = (subst (λ y. IsKnown rows y rank) (sym (same_Some _ _ at)) is, known.1)
+  AreKnown-set (x ∷ xs) (r ∷ rs) (suc i) rank known at is = (known.0, AreKnown-set xs rs i rank known.1 at is)
 
-  -- with others that say the same of ends
-  pub AreKnown-same : (lines : List Line) (all : List LineRanks) (i : ℕ) {old : LineRanks} (ranks : LineRanks) → AreKnown rows lines all
-      → slice_get all i ≡ Some old → old.source ≡ ranks.source → old.target ≡ ranks.target → AreKnown rows lines (slice_set all i ranks)
-  AreKnown-same [] all i ranks known here source target = tt
-  AreKnown-same (l ∷ ls) [] i ranks known here source target = tt
-  AreKnown-same (l ∷ ls) (r ∷ rs) zero {old} ranks known here source target =
-      let was = subst (IsKnown rows l) (same_Some _ _ here) known.0 in
-      ((λ none. was.0 (subst IsNone (sym source) none), λ none. was.1 (subst IsNone (sym target) none)), known.1)
-  AreKnown-same (l ∷ ls) (r ∷ rs) (suc i) ranks known here source target = (known.0, AreKnown-same ls rs i ranks known.1 here source target)
+-- the ends of the line at a place stand there
+pub ends_at : (lines : List Line) (i : ℕ) {line : Line} → slice_get lines i ≡ Some line
+    → (slice_get (sources_of lines) i ≡ Some line.source) × (slice_get (targets_of lines) i ≡ Some line.target)
+ends_at [] i at = cc at
+ends_at (l ∷ ls) zero at = (ap (λ o. option_map (λ x. x.source) o) at, ap (λ o. option_map (λ x. x.target) o) at)
+ends_at (l ∷ ls) (suc i) at = ends_at ls i at

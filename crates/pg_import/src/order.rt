@@ -1,17 +1,19 @@
 //! What the lines of a list mention, by rising id. No answer depends on the order: what it leaves out is
 //! looked up when its line goes by.
-ghost use Rattle.std.specs.Prelude.{◌≡◌, List, Some, true, slice_get, IfOk, IsNone, OnOk};
+ghost use Rattle.std.specs.Prelude.{◌≡◌, ℕ, List, Some, map, slice_get, IfOk, OnOk};
+ghost use Rattle.pg_graph.specs.ById.{StandIn};
 ghost use Rattle.pg_graph.specs.Rows.{Rows};
 ghost use Rattle.pg_import.specs.Batch.{has_edge, has_vertex};
 ghost use Rattle.pg_import.specs.NamedEdges.{AreThereAs};
-ghost use Rattle.pg_import.specs.Ranks.{AreKnown, IsKnown};
+ghost use Rattle.pg_import.specs.Ranks.{AreKnown, EndsAreKnown, IsKnown, sources_of, targets_of};
 ghost use Rattle.pg_import.specs.declared.line.Line.{Line};
 
 use crate::looked_up::LookedUp;
 use crate::named_edges::NamedEdges;
 use crate::{Line, Memory};
-use pg_graph::{Graph, places_by_id, reordered_by_id};
+use pg_graph::{Graph, VertexId, reordered_by_id};
 use std::alloc::Global;
+use std::marker::Model;
 
 /// The vertices that the lines of a list mention and a graph doesn't have, the edges that they mention with whether it has
 /// them, each once, and where the ends and the edge of each line stand among these.
@@ -28,19 +30,14 @@ impl Mentioned {
     pub(crate) fn of(alloc: Global, lines: &[Line], graph: &Graph) -> Result<Mentioned, Memory>
         ensures vertices { IfOk result (λ mentioned. AreThereAs (λ id _. has_vertex id graph.now) mentioned.vertices) }
         ensures edges { IfOk result (λ mentioned. AreThereAs (λ source target. has_edge source target graph.now) mentioned.edges) }
-        ensures known { IfOk result (λ mentioned. AreKnown graph.now lines.now mentioned.ranks.lines.items) }
+        ensures known { IfOk result (λ mentioned. EndsAreKnown graph.now lines.now mentioned.ranks) }
     {
-        let by_target = places_by_target(alloc, lines)?;
-        let by_edge = reordered_by_source(alloc, lines, by_target.clone()?)?;
-        let mut ranks = Ranks::new(alloc, lines.len())?;
+        let targets = reordered_by_id(alloc, targets_of(alloc, lines)?)?;
+        let sources = reordered_by_id(alloc, sources_at(alloc, lines, targets.as_slice())?)?;
         let mut looked_up = LookedUp::new(alloc, graph, lines.len())?;
-        ranks.add_ends(
-            &mut looked_up,
-            lines,
-            by_edge.as_slice(),
-            by_target.as_slice(),
-        )?;
-        ranks.add_edges(&mut looked_up, lines, by_edge.as_slice())?;
+        let mut ranks = Ranks::new(alloc, lines.len())?;
+        ranks.add_ends(&mut looked_up, sources.as_slice(), targets.as_slice())?;
+        ranks.add_edges(&mut looked_up, lines, sources.as_slice())?;
         let (vertices, edges) = looked_up.finish();
         Ok(Mentioned {
             vertices,
@@ -50,186 +47,205 @@ impl Mentioned {
     }
 }
 
-/// The places of lines by rising target.
-fn places_by_target(alloc: Global, lines: &[Line]) -> Result<Vec<usize>, Memory> {
+/// The targets of lines with the places of these.
+fn targets_of(alloc: Global, lines: &[Line]) -> Result<Vec<(usize, VertexId)>, Memory>
+    ensures { IfOk result (λ targets. StandIn (targets_of lines.now) targets.items) }
+{
     let mut targets = Vec::with_capacity(alloc, lines.len())?;
-    for line in lines {
-        targets.push(line.target)?;
+    for (place, line) in lines.iter().enumerate() {
+        targets.push((place, line.target))?;
     }
-    places_by_id(alloc, targets.as_slice())
+    Ok(targets)
 }
 
-/// Places of lines by rising source, where those of one source keep the order that they are given in.
-fn reordered_by_source(
+/// The sources of the lines at these places, with the places.
+fn sources_at(
     alloc: Global,
     lines: &[Line],
-    places: Vec<usize>,
-) -> Result<Vec<usize>, Memory> {
-    let mut sources = Vec::with_capacity(alloc, lines.len())?;
-    for line in lines {
-        sources.push(line.source)?;
+    places: &[(usize, VertexId)],
+) -> Result<Vec<(usize, VertexId)>, Memory>
+    ensures { IfOk result (λ sources. StandIn (sources_of lines.now) sources.items) }
+{
+    let mut sources = Vec::with_capacity(alloc, places.len())?;
+    for (place, _) in places {
+        if let Some(line) = lines.get(*place) {
+            sources.push((*place, line.source))?;
+        }
     }
-    reordered_by_id(alloc, sources.as_slice(), places)
+    Ok(sources)
 }
 
-/// Where the ends of a line stand among the vertices, and its edge among the edges. An end that stands nowhere is a vertex
-/// that the graph has.
+/// Where an end of a line stands among the vertices. One that stands nowhere is a vertex that the graph has.
+#[derive(Clone, Copy)]
+pub(crate) struct EndRank {
+    pub(crate) place: Option<u32>,
+}
+
+impl EndRank {
+    /// At the beginning.
+    const FIRST: EndRank = EndRank { place: Some(0) };
+}
+
+/// Where the ends of a line stand among the vertices, and its edge among the edges.
 #[derive(Clone, Copy)]
 pub(crate) struct LineRanks {
-    pub(crate) source: Option<u32>,
-    pub(crate) target: Option<u32>,
+    pub(crate) source: EndRank,
+    pub(crate) target: EndRank,
     pub(crate) edge: u32,
 }
 
-impl LineRanks {
-    /// All at the beginning.
-    const FIRST: LineRanks = LineRanks {
-        source: Some(0),
-        target: Some(0),
-        edge: 0,
-    };
+/// Where ends of lines stand, by the places of the lines. A contract sees the list of them.
+#[derive(Drop)]
+struct EndRanks {
+    ranks: Vec<EndRank>,
+}
+
+impl Model for EndRanks {
+    ghost use Rattle.std.specs.Prelude.{List};
+    ghost use Rattle.pg_import.specs.declared.order.EndRank.{EndRank};
+
+    ghost Value = { List EndRank };
+
+    ghost view = { λ r. r.ranks.items };
+}
+
+impl EndRanks {
+    /// All at the beginning, for so many lines.
+    fn new(alloc: Global, lines: usize) -> Result<EndRanks, Memory>
+        ensures { IfOk result (λ ranks. (rows : Rows) (ids : List ℕ) → AreKnown rows ids ranks) }
+    {
+        Ok(EndRanks {
+            ranks: Vec::from_elem(alloc, EndRank::FIRST, lines)?,
+        })
+    }
+
+    /// That of the id at a place.
+    fn at(&self, place: usize) -> EndRank
+        ensures { (rows : Rows) (ids : List ℕ) (id : ℕ) → slice_get ids place ≡ Some id → AreKnown rows ids self.now → IsKnown rows id result }
+    {
+        match self.ranks.get(place) {
+            Some(rank) => *rank,
+            None => EndRank::FIRST,
+        }
+    }
+
+    /// Sets where the id at a place stands.
+    fn set(&mut self, place: usize, rank: EndRank)
+        ensures { (rows : Rows) (ids : List ℕ) (id : ℕ) → slice_get ids place ≡ Some id → IsKnown rows id rank
+            → AreKnown rows ids self.old → AreKnown rows ids self.new }
+    {
+        if place < self.ranks.len() {
+            self.ranks[place] = rank;
+        }
+    }
+
+    /// Looks up those of these ids whose numbers aren't above this one, sets where they stand, and hands back the others.
+    fn add<'a>(
+        &mut self,
+        looked_up: &mut LookedUp<'_>,
+        entries: &'a [(usize, VertexId)],
+        last: u64,
+    ) -> Result<&'a [(usize, VertexId)], Memory>
+        ensures known { OnOk result ((ids : List ℕ) → StandIn ids entries.now → AreKnown looked_up.old ids self.old
+            → AreKnown looked_up.old ids self.new) }
+        ensures others { IfOk result (λ others. (ids : List ℕ) → StandIn ids entries.now → StandIn ids others.now) }
+        ensures same { looked_up.new ≡ looked_up.old }
+    {
+        for (count, (place, id)) in entries.iter().enumerate() {
+            if id.number() > last {
+                let (_, others) = entries.split_at(count);
+                return Ok(others);
+            }
+            let rank = EndRank {
+                place: looked_up.add_vertex(*id)?,
+            };
+            self.set(*place, rank);
+        }
+        Ok(&[])
+    }
 }
 
 /// The ranks of all lines of a list.
 #[derive(Drop)]
 pub(crate) struct Ranks {
-    lines: Vec<LineRanks>,
+    sources: EndRanks,
+    targets: EndRanks,
+    edges: Vec<u32>,
 }
 
 impl Ranks {
     /// All at the beginning, for so many lines.
     fn new(alloc: Global, lines: usize) -> Result<Ranks, Memory>
-        ensures { IfOk result (λ ranks. (rows : Rows) (all : List Line) → AreKnown rows all ranks.lines.items) }
+        ensures { IfOk result (λ ranks. (rows : Rows) (all : List Line) → EndsAreKnown rows all ranks) }
     {
         Ok(Ranks {
-            lines: Vec::from_elem(alloc, LineRanks::FIRST, lines)?,
+            sources: EndRanks::new(alloc, lines)?,
+            targets: EndRanks::new(alloc, lines)?,
+            edges: Vec::from_elem(alloc, 0, lines)?,
         })
     }
 
     /// Those of the line at a place.
     pub(crate) fn at(&self, place: usize) -> LineRanks
-        ensures { (rows : Rows) (lines : List Line) (line : Line) → slice_get lines place ≡ Some line
-            → AreKnown rows lines self.now.lines.items → IsKnown rows line result }
+        ensures { (rows : Rows) (lines : List Line) (line : Line) → slice_get lines place ≡ Some line → EndsAreKnown rows lines self.now
+            → IsKnown rows line.source result.source × IsKnown rows line.target result.target }
     {
-        match self.lines.get(place) {
-            Some(ranks) => *ranks,
-            None => LineRanks::FIRST,
+        LineRanks {
+            source: self.sources.at(place),
+            target: self.targets.at(place),
+            edge: self.edges.get(place).copied().unwrap_or(0),
         }
     }
 
-    /// Adds the ends of lines, by their places by rising source and by rising target.
+    /// Adds the sources and the targets of lines, with the places of these, each by rising id. A source is looked up when the
+    /// targets that don't come after it are.
     fn add_ends(
         &mut self,
         looked_up: &mut LookedUp<'_>,
-        lines: &[Line],
-        by_source: &[usize],
-        by_target: &[usize],
+        sources: &[(usize, VertexId)],
+        targets: &[(usize, VertexId)],
     ) -> Result<(), Memory>
-        requires { AreKnown looked_up.old lines.now self.old.lines.items }
-        ensures known { OnOk result (AreKnown looked_up.old lines.now self.new.lines.items) }
+        ensures known { OnOk result ((lines : List Line) → StandIn (sources_of lines) sources.now → StandIn (targets_of lines) targets.now
+            → EndsAreKnown looked_up.old lines self.old → EndsAreKnown looked_up.old lines self.new) }
         ensures same { looked_up.new ≡ looked_up.old }
     {
-        let mut left = by_target;
-        for place in by_source {
-            if let Some(line) = lines.get(*place) {
-                left = self.add_targets(looked_up, lines, left, line.source.number())?;
-                let source = looked_up.add_source(line.source)?;
-                self.set_source(*place, source);
-            }
+        let mut left = targets;
+        for (place, id) in sources {
+            left = self.targets.add(looked_up, left, id.number())?;
+            let rank = EndRank {
+                place: looked_up.add_source(*id)?,
+            };
+            self.sources.set(*place, rank);
         }
-        self.add_targets(looked_up, lines, left, u64::MAX)?;
+        self.targets.add(looked_up, left, u64::MAX)?;
         Ok(())
     }
 
-    /// Adds the targets of the lines at these places whose numbers aren't above this one, and hands back the other places.
-    fn add_targets<'a>(
-        &mut self,
-        looked_up: &mut LookedUp<'_>,
-        lines: &[Line],
-        places: &'a [usize],
-        last: u64,
-    ) -> Result<&'a [usize], Memory>
-        requires { AreKnown looked_up.old lines.now self.old.lines.items }
-        ensures known { OnOk result (AreKnown looked_up.old lines.now self.new.lines.items) }
-        ensures same { looked_up.new ≡ looked_up.old }
-    {
-        for (count, place) in places.iter().enumerate() {
-            if let Some(line) = lines.get(*place) {
-                if line.target.number() > last {
-                    let (_, left) = places.split_at(count);
-                    return Ok(left);
-                }
-                let target = looked_up.add_vertex(line.target)?;
-                self.set_target(*place, target);
-            }
-        }
-        Ok(&[])
-    }
-
-    /// Adds the edges of lines, by their places by rising source and target.
+    /// Adds the edges of lines, by their sources with their places, by rising source and target.
     fn add_edges(
         &mut self,
         looked_up: &mut LookedUp<'_>,
         lines: &[Line],
-        by_edge: &[usize],
+        sources: &[(usize, VertexId)],
     ) -> Result<(), Memory>
-        requires { AreKnown looked_up.old lines.now self.old.lines.items }
-        ensures known { OnOk result (AreKnown looked_up.old lines.now self.new.lines.items) }
+        ensures ends { OnOk result ((rows : Rows) (all : List Line) → EndsAreKnown rows all self.old → EndsAreKnown rows all self.new) }
         ensures same { looked_up.new ≡ looked_up.old }
     {
-        for place in by_edge {
+        for (place, source) in sources {
             if let Some(line) = lines.get(*place) {
-                let edge = looked_up.add_edge(line.source, line.target)?;
+                let edge = looked_up.add_edge(*source, line.target)?;
                 self.set_edge(*place, edge);
             }
         }
         Ok(())
     }
 
-    /// Sets where the source of a line stands.
-    fn set_source(&mut self, place: usize, source: Option<u32>)
-        ensures { (rows : Rows) (lines : List Line) (line : Line) → slice_get lines place ≡ Some line
-            → (IsNone source → has_vertex line.source rows ≡ true)
-            → AreKnown rows lines self.old.lines.items → AreKnown rows lines self.new.lines.items }
-    {
-        if place < self.lines.len() {
-            let LineRanks { target, edge, .. } = self.lines[place];
-            self.lines[place] = LineRanks {
-                source,
-                target,
-                edge,
-            };
-        }
-    }
-
-    /// Sets where the target of a line stands.
-    fn set_target(&mut self, place: usize, target: Option<u32>)
-        ensures { (rows : Rows) (lines : List Line) (line : Line) → slice_get lines place ≡ Some line
-            → (IsNone target → has_vertex line.target rows ≡ true)
-            → AreKnown rows lines self.old.lines.items → AreKnown rows lines self.new.lines.items }
-    {
-        if place < self.lines.len() {
-            let LineRanks { source, edge, .. } = self.lines[place];
-            self.lines[place] = LineRanks {
-                source,
-                target,
-                edge,
-            };
-        }
-    }
-
     /// Sets where the edge of a line stands.
     fn set_edge(&mut self, place: usize, edge: u32)
-        ensures { (rows : Rows) (lines : List Line)
-            → AreKnown rows lines self.old.lines.items → AreKnown rows lines self.new.lines.items }
+        ensures { (rows : Rows) (lines : List Line) → EndsAreKnown rows lines self.old → EndsAreKnown rows lines self.new }
     {
-        if place < self.lines.len() {
-            let LineRanks { source, target, .. } = self.lines[place];
-            self.lines[place] = LineRanks {
-                source,
-                target,
-                edge,
-            };
+        if place < self.edges.len() {
+            self.edges[place] = edge;
         }
     }
 }

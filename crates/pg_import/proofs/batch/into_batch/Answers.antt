@@ -1,9 +1,17 @@
-use Rattle.std.proofs.Common.{take, arith}
+use Rattle.std.proofs.Common.{length, take, refl, arith}
+use Rattle.std.proofs.lemmas.Option.{slice_get_read}
 use Rattle.pg_import.proofs.BatchLaw.{Makes-batch_of}
 use Rattle.pg_import.proofs.BatchSteps.{batch_of-end, batch_of-more, with_lines-more}
 use Rattle.pg_import.proofs.Graphs.{has_vertex-with_ends}
 use Rattle.pg_import.specs.Batch.{batch_of, with_ends, with_lines, with_vertex}
 use Rattle.pg_import.proofs.batch.into_batch.Goals as goal
+
+pub name_vertex-requires-in-loop-place : goal.name_vertex-requires-in-loop-place
+name_vertex-requires-in-loop-place c =
+    let lines = c.args.lines.now in
+    let line = c.index-lines-place.result in
+    let at = slice_get_read lines (length lines) c.loop-place.place line refl (omega (arith, c.loop-place-test.true)) c.index-lines-place.is in
+    (c.at-ranks.ensures c.args.graph.now lines line at c.in_ok-vertices.ensures.known).1
 
 pub loop-place-preserved : goal.loop-place-preserved
 loop-place-preserved c =

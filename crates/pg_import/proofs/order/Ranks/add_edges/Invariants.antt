@@ -1,9 +1,11 @@
-use Rattle.std.proofs.Common.{◌≡◌}
-use Rattle.pg_import.specs.Ranks.{AreKnown}
+use Rattle.std.proofs.Common.{◌≡◌, List}
+use Rattle.pg_graph.specs.Rows.{Rows}
+use Rattle.pg_import.specs.Ranks.{EndsAreKnown}
+use Rattle.pg_import.specs.declared.line.Line.{Line}
 use Rattle.pg_import.proofs.order.Ranks.add_edges.Given as goal
 
 abbrev pub invariant-loop-place : goal.invariant-loop-place
 invariant-loop-place l = record {
   same : l.looked_up ≡ l.fn.looked_up;
-  known : AreKnown l.looked_up l.lines l.self.lines.items;
+  ends : (rows : Rows) (all : List Line) → EndsAreKnown rows all l.fn.self → EndsAreKnown rows all l.self;
 }

@@ -1,11 +1,8 @@
-use Rattle.std.proofs.Common.{length, refl, arith}
-use Rattle.std.proofs.lemmas.Option.{slice_get_read}
-use Rattle.pg_import.proofs.KnownRanks.{AreKnown-at}
+use Rattle.pg_import.specs.Ranks.{sources_of, targets_of}
+use Rattle.pg_import.proofs.KnownRanks.{ends_at}
 use Rattle.pg_import.proofs.order.Ranks.at.Goals as goal
 
-pub returns-in-Some : goal.returns-in-Some
-returns-in-Some c = λ rows lines line at known.
-    let all = c.args.self.now.lines.items in
-    let here = rw c.deref.ensures.value at c.in-Some.ensures.lookup in
-    AreKnown-at rows lines all c.args.place known at
-    (slice_get_read all (length all) c.args.place c.in-Some.ranks.now refl (omega (arith, here.0)) here.1)
+pub returns : goal.returns
+returns c = λ rows lines line at known.
+    let ends = ends_at lines c.args.place at in
+    (c.at.ensures rows (sources_of lines) line.source ends.0 known.0, c.at-2.ensures rows (targets_of lines) line.target ends.1 known.1)
