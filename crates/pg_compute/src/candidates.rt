@@ -188,7 +188,7 @@ fn play_callees<P: Computation>(
 {
     let mut states = trace.states();
     let mut looked_at = Vec::with_capacity(alloc, callees.len())?;
-    let mut changes = Changes::new(alloc, callees.len())?;
+    let mut changes = Changes::new(alloc, callees.len(), callees.messages())?;
     let mut turned = Turned::nobody();
     let mut stage = stage;
     for place in 0..callees.len() {

@@ -121,7 +121,7 @@ pub(crate) fn play<P: Computation>(
         ≡ capped (stage.meter + count_by (is_run P.Value.PartialEq.eq P.Message.PartialEq.eq (P.program program.now) stage.view seen) candidates.items)) }
 {
     let looked_at = Vec::with_capacity(alloc, candidates.len())?;
-    let changes = Changes::new(alloc, 0)?;
+    let changes = Changes::new(alloc, 0, 0)?;
     let mut played = Playing {
         looked_at,
         changes,

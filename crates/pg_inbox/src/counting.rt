@@ -3,10 +3,11 @@ ghost use Rattle.std.specs.Prelude.{◌≡◌, ◌+◌, cond, length, not, is_so
 ghost use Rattle.pg_graph.specs.Rows.{row_at};
 ghost use Rattle.pg_inbox.specs.Counting.{messages_where};
 ghost use Rattle.pg_inbox.specs.Inboxes.{letters_at};
+ghost use Rattle.pg_inbox.specs.Sound.{sent_parcels};
 
 use crate::Bundle;
-use pg_graph::{Graph, Memory, VertexId};
-use pg_parcel::ParcelRef;
+use pg_graph::{Finder, Graph, Memory, Row, VertexId};
+use pg_parcel::{ParcelRef, first_group};
 use pg_program::Plain;
 use std::alloc::{AllocError, Global};
 
@@ -40,15 +41,61 @@ impl<M: Plain> Bundle<M> {
         messages_listed(parcels.as_slice())
     }
 
-    /// How many messages there are to ids that are no vertices of a graph. Costs a list of the
-    /// targets, a look at each message, and one look-up in the graph for each target, each near the one before.
+    /// How many messages there are to ids that are no vertices of a graph. Costs a look at each message, and one look-up in
+    /// the graph for each target, each near the one before; and a list of the targets where the bundle isn't as it was made
+    /// of messages that aren't combined.
     pub fn astray(&self, alloc: Global, graph: &Graph) -> Result<u64, Memory>
+        ensures { IfOk result
+            (λ count. count ≡ messages_where (λ id. not (is_some (row_at id graph.now))) self.now) }
+    {
+        match self.unchanged() {
+            Some(letters) => astray_sent(letters, graph),
+            None => self.astray_counted(alloc, graph),
+        }
+    }
+
+    /// The same, target by target.
+    fn astray_counted(&self, alloc: Global, graph: &Graph) -> Result<u64, Memory>
         ensures { IfOk result
             (λ count. count ≡ messages_where (λ id. not (is_some (row_at id graph.now))) self.now) }
     {
         let parcels = self.parcels(alloc)?;
         astray_listed(parcels.as_slice(), graph)
     }
+}
+
+/// How many letters, by target, there are to ids that are no vertices of a graph.
+fn astray_sent<M: Plain>(
+    letters: &[(VertexId, (VertexId, M))],
+    graph: &Graph,
+) -> Result<u64, Memory>
+    ensures { IfOk result
+        (λ count. count ≡ messages_where (λ id. not (is_some (row_at id graph.now))) (sent_parcels letters.now)) }
+{
+    let mut rows = graph.finder();
+    let mut count = 0u64;
+    let mut left = letters;
+    while let Some((target, here, later)) = first_group(left) {
+        count = with_astray(count, &mut rows, target, here.len())?;
+        left = later;
+    }
+    Ok(count)
+}
+
+/// A count with so many messages to a target, if that is no vertex.
+fn with_astray(
+    count: u64,
+    rows: &mut Finder<'_, Row>,
+    target: VertexId,
+    messages: usize,
+) -> Result<u64, Memory>
+    ensures count { IfOk result (λ after. after ≡ count + cond (not (is_some (row_at target rows.old))) messages 0) }
+    ensures same { rows.new ≡ rows.old }
+{
+    if rows.get(target).is_some() {
+        return Ok(count);
+    }
+    count.checked_add(messages as u64).ok_or(AllocError)
 }
 
 /// How many messages there are.

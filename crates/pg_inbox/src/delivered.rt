@@ -63,6 +63,11 @@ impl<M: Drop> Inboxes<M> {
         Ok(Inboxes { messages, parts })
     }
 
+    /// How many messages all of them have: for how many to make room, so no contract tells it.
+    pub fn messages(&self) -> usize {
+        self.messages.len()
+    }
+
     /// How many there are.
     pub fn len(&self) -> usize
         ensures { result ≡ length self.now }

@@ -65,15 +65,22 @@ impl<V, M> Model for Changes<V, M> {
 }
 
 impl<V: Drop, M: Drop> Changes<V, M> {
-    /// No changes, with room for those of so many vertices.
-    pub fn new(alloc: Global, vertices: usize) -> Result<Changes<V, M>, Memory>
+    /// No changes, with room for those of so many vertices and for so many messages.
+    pub fn new(alloc: Global, vertices: usize, messages: usize) -> Result<Changes<V, M>, Memory>
         ensures { IfOk result (λ changes. changes ≡ []) }
     {
         Ok(Changes {
             entries: Vec::with_capacity(alloc, vertices)?,
-            sent: Vec::new(alloc),
+            sent: Vec::with_capacity(alloc, messages)?,
             contributed: Vec::new(alloc),
         })
+    }
+
+    /// Lets go of the memory that was made room of for messages and wasn't taken.
+    pub(crate) fn cut_room(&mut self)
+        ensures { self.new ≡ self.old }
+    {
+        self.sent.shrink_to_fit();
     }
 
     /// How many vertices there are.

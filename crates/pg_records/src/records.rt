@@ -53,6 +53,8 @@ impl<V: Drop, M: Drop> Records<V, M> {
         requires { ChangesRise given }
         ensures { IfOk result (λ records. records ≡ with_changes given []) }
     {
+        let mut given = given;
+        given.cut_room();
         Ok(Records {
             given: Arc::new(alloc, given)?,
             changes: Map::new(),

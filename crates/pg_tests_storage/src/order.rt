@@ -1,4 +1,4 @@
-use pg_graph::{Memory, VertexId, places_by_id, reordered_by_id};
+use pg_graph::{Memory, VertexId, reordered_by_id, sorted_by_id};
 use std::alloc::{AllocError, Global};
 
 // Ids from one on, which jump among the next ones.
@@ -38,38 +38,37 @@ fn jumping_ids(alloc: Global, count: u32, spread: Jumping) -> Result<Vec<VertexI
     Ok(ids)
 }
 
-// At these places, as many as there are, ids rise; those of one id stand by rising place, or by falling place.
-fn rise_at(ids: &[VertexId], places: &[usize], falling: bool) -> bool {
+// These are all ids, each with its place, by rising id; those of one id stand by rising place, or by falling place.
+fn rise(ids: &[VertexId], entries: &[(usize, VertexId)], falling: bool) -> bool {
     let mut last = None;
-    for place in places {
+    for (place, id) in entries {
         let order = if falling { usize::MAX - *place } else { *place };
-        let here = ids.get(*place).map(|id| (id.number(), order));
-        if here.is_none() || here <= last {
+        let here = Some((id.number(), order));
+        if ids.get(*place) != Some(id) || here <= last {
             return false;
         }
         last = here;
     }
-    places.len() == ids.len()
+    entries.len() == ids.len()
 }
 
-// All places below a number, the last one first.
-fn falling_places(alloc: Global, count: usize) -> Result<Vec<usize>, Memory> {
-    let mut places = Vec::with_capacity(alloc, count)?;
-    for place in (0..count).rev() {
-        places.push(place)?;
+// Ids with their places, the last one first.
+fn falling(alloc: Global, ids: &[VertexId]) -> Result<Vec<(usize, VertexId)>, Memory> {
+    let mut entries = Vec::with_capacity(alloc, ids.len())?;
+    for (place, id) in ids.iter().enumerate().rev() {
+        entries.push((place, *id))?;
     }
-    Ok(places)
+    Ok(entries)
 }
 
 // So many ids are put in order, and again where they are given in another order.
 fn are_put_in_order(alloc: Global, count: u32, spread: Jumping) -> Result<bool, Memory> {
     let ids = jumping_ids(alloc, count, spread)?;
-    let places = places_by_id(alloc, ids.as_slice())?;
-    let falling = falling_places(alloc, ids.len())?;
-    let again = reordered_by_id(alloc, ids.as_slice(), falling)?;
+    let sorted = sorted_by_id(alloc, ids.as_slice())?;
+    let again = reordered_by_id(alloc, falling(alloc, ids.as_slice())?)?;
     Ok(
-        rise_at(ids.as_slice(), places.as_slice(), false)
-            && rise_at(ids.as_slice(), again.as_slice(), true),
+        rise(ids.as_slice(), sorted.as_slice(), false)
+            && rise(ids.as_slice(), again.as_slice(), true),
     )
 }
 

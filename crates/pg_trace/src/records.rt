@@ -111,7 +111,7 @@ pub(crate) fn all_given<V: Drop, M: Drop>(
 ) -> Result<Changes<V, M>, Memory>
     ensures { IfOk result (λ changes. changes ≡ map (λ e. (e.0, Some e.1)) records.items) }
 {
-    let mut changes = Changes::new(alloc, records.len())?;
+    let mut changes = Changes::new(alloc, records.len(), 0)?;
     for (id, record) in records {
         add_record(&mut changes, id, record)?;
     }
@@ -125,7 +125,7 @@ pub(crate) fn all_changed<V: Drop, M: Drop>(
 ) -> Result<Changes<V, M>, Memory>
     ensures { IfOk result (λ changes. changes ≡ replaced.items) }
 {
-    let mut changes = Changes::new(alloc, replaced.len())?;
+    let mut changes = Changes::new(alloc, replaced.len(), 0)?;
     for (id, given) in replaced {
         add_change(&mut changes, id, given)?;
     }
