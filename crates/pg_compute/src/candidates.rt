@@ -188,6 +188,7 @@ fn play_callees<P: Computation>(
 {
     let mut states = trace.states();
     let mut looked_at = Vec::with_capacity(alloc, callees.len())?;
+    // As many messages are sent as are received, mostly: a guess, and others grow the list or leave room, which is cut.
     let mut changes = Changes::new(alloc, callees.len(), callees.messages())?;
     let mut turned = Turned::nobody();
     let mut stage = stage;

@@ -239,6 +239,7 @@ fn play_standing<P: Computation>(
 }
 
 /// The same of a vertex by its state and what is delivered to it.
+#[inline(always)]
 pub(crate) fn play_found<P: Computation>(
     alloc: Global,
     program: &P,
@@ -268,6 +269,7 @@ pub(crate) fn play_found<P: Computation>(
 }
 
 /// Executes a vertex, and adds its record.
+#[inline(always)]
 fn execute<P: Computation>(
     alloc: Global,
     program: &P,

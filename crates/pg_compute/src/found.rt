@@ -61,6 +61,7 @@ fn vertex_by<P: Computation>(
 }
 
 /// The state of a vertex, if it has one, or the one with which what is delivered to it makes it.
+#[inline(always)]
 pub(crate) fn state_by<P: Computation>(
     alloc: Global,
     program: &P,
@@ -93,6 +94,7 @@ pub(crate) fn copied_messages<M: Plain>(
 }
 
 /// A copy of a state, which shares its edges.
+#[inline(always)]
 fn copied<V: Plain>(alloc: Global, state: &StateRef<'_, V>) -> Result<VertexState<V>, Memory>
     ensures { IfOk result (λ copy. copy ≡ state.now) }
 {

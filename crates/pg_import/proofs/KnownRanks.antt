@@ -1,6 +1,6 @@
 -- What is known of the ends of lines stays known.
-use Rattle.std.proofs.Common.{◌≡◌, ℕ, zero, suc, List, [], ◌∷◌, Some, slice_set, slice_get, replicate, ap, option_map, subst, sym}
-use Rattle.std.proofs.lemmas.Option.{same_Some}
+use Rattle.std.proofs.Common.{◌≡◌, ℕ, zero, suc, List, [], ◌∷◌, Some, slice_set, slice_get, replicate, ap, option_map, subst, sym, ◌∙◌}
+use Rattle.std.proofs.lemmas.Option.{same_Some, slice_get-map}
 use Rattle.pg_graph.specs.Rows.{Rows}
 use Rattle.pg_import.specs.Ranks.{AreKnown, IsKnown, sources_of, targets_of}
 use Rattle.pg_import.specs.declared.line.Line.{Line}
@@ -8,7 +8,7 @@ use Rattle.pg_import.specs.declared.order.EndRank.{EndRank}
 
 module _ (rows : Rows) where
   -- where all stand somewhere
-  pub AreKnown-replicate : (place : ℕ) (n : ℕ) (ids : List ℕ) → AreKnown rows ids (replicate n (record { place = Some place }))
+  pub AreKnown-replicate : (place : ℕ) (n : ℕ) (ids : List ℕ) → AreKnown rows ids (replicate n (record { rank = Some place }))
   AreKnown-replicate place n [] = tt
   AreKnown-replicate place zero (id ∷ ids) = tt
   AreKnown-replicate place (suc n) (id ∷ ids) = (λ none. cc none, AreKnown-replicate place n ids)
@@ -33,6 +33,7 @@ module _ (rows : Rows) where
 -- the ends of the line at a place stand there
 pub ends_at : (lines : List Line) (i : ℕ) {line : Line} → slice_get lines i ≡ Some line
     → (slice_get (sources_of lines) i ≡ Some line.source) × (slice_get (targets_of lines) i ≡ Some line.target)
-ends_at [] i at = cc at
-ends_at (l ∷ ls) zero at = (ap (λ o. option_map (λ x. x.source) o) at, ap (λ o. option_map (λ x. x.target) o) at)
-ends_at (l ∷ ls) (suc i) at = ends_at ls i at
+ends_at lines i at = (
+  slice_get-map (λ l. l.source) lines i ∙ ap (option_map (λ l. l.source)) at,
+  slice_get-map (λ l. l.target) lines i ∙ ap (option_map (λ l. l.target)) at,
+)

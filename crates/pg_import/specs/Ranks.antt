@@ -15,7 +15,7 @@ targets_of lines = map (λ line. line.target) lines
 
 -- an id that stands nowhere is a vertex that a graph has
 abbrev pub IsKnown : Rows → ℕ → EndRank → Type 0
-IsKnown rows id rank = IsNone rank.place → has_vertex id rows ≡ true
+IsKnown rows id rank = IsNone rank.rank → has_vertex id rows ≡ true
 
 -- so it is of each
 abbrev pub AreKnown : Rows → List ℕ → List EndRank → Type 0

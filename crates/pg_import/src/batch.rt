@@ -31,9 +31,9 @@ pub fn into_batch(alloc: Global, lines: &[Line], graph: &Graph) -> Result<Batch,
     let mut named = Named { vertices, edges };
     for (place, line) in lines.iter().enumerate() {
         let ranks = ranks.at(place);
-        let source = named.name_vertex(graph, line.source, ranks.source.place)?;
+        let source = named.name_vertex(graph, line.source, ranks.source.rank)?;
         push_vertex(&mut batch, line.source, source)?;
-        let target = named.name_vertex(graph, line.target, ranks.target.place)?;
+        let target = named.name_vertex(graph, line.target, ranks.target.rank)?;
         push_vertex(&mut batch, line.target, target)?;
         let edge = named.name_edge(graph, line, ranks.edge)?;
         push_edge(&mut batch, line, edge)?;

@@ -1,6 +1,6 @@
 //! What the lines of a list mention, by rising id. No answer depends on the order: what it leaves out is
 //! looked up when its line goes by.
-ghost use Rattle.std.specs.Prelude.{◌≡◌, ℕ, List, Some, map, slice_get, IfOk, OnOk};
+ghost use Rattle.std.specs.Prelude.{◌≡◌, ℕ, List, Some, slice_get, IfOk, OnOk};
 ghost use Rattle.pg_graph.specs.ById.{StandIn};
 ghost use Rattle.pg_graph.specs.Rows.{Rows};
 ghost use Rattle.pg_import.specs.Batch.{has_edge, has_vertex};
@@ -32,12 +32,13 @@ impl Mentioned {
         ensures edges { IfOk result (λ mentioned. AreThereAs (λ source target. has_edge source target graph.now) mentioned.edges) }
         ensures known { IfOk result (λ mentioned. EndsAreKnown graph.now lines.now mentioned.ranks) }
     {
-        let targets = reordered_by_id(alloc, targets_of(alloc, lines)?)?;
-        let sources = reordered_by_id(alloc, sources_at(alloc, lines, targets.as_slice())?)?;
+        let targets = reordered_by_id(alloc, numbered_targets(alloc, lines)?)?;
+        let sources = numbered_sources(alloc, lines, targets.as_slice())?;
+        let sources = reordered_by_id(alloc, sources)?;
         let mut looked_up = LookedUp::new(alloc, graph, lines.len())?;
         let mut ranks = Ranks::new(alloc, lines.len())?;
-        ranks.add_ends(&mut looked_up, sources.as_slice(), targets.as_slice())?;
-        ranks.add_edges(&mut looked_up, lines, sources.as_slice())?;
+        ranks.look_up_ends(&mut looked_up, sources.as_slice(), targets)?;
+        ranks.look_up_edges(&mut looked_up, lines, sources.as_slice())?;
         let (vertices, edges) = looked_up.finish();
         Ok(Mentioned {
             vertices,
@@ -47,8 +48,8 @@ impl Mentioned {
     }
 }
 
-/// The targets of lines with the places of these.
-fn targets_of(alloc: Global, lines: &[Line]) -> Result<Vec<(usize, VertexId)>, Memory>
+/// The targets of lines, with the places of these.
+fn numbered_targets(alloc: Global, lines: &[Line]) -> Result<Vec<(usize, VertexId)>, Memory>
     ensures { IfOk result (λ targets. StandIn (targets_of lines.now) targets.items) }
 {
     let mut targets = Vec::with_capacity(alloc, lines.len())?;
@@ -58,16 +59,16 @@ fn targets_of(alloc: Global, lines: &[Line]) -> Result<Vec<(usize, VertexId)>, M
     Ok(targets)
 }
 
-/// The sources of the lines at these places, with the places.
-fn sources_at(
+/// The sources of lines, with the places of these, in the order of these targets.
+fn numbered_sources(
     alloc: Global,
     lines: &[Line],
-    places: &[(usize, VertexId)],
+    targets: &[(usize, VertexId)],
 ) -> Result<Vec<(usize, VertexId)>, Memory>
     ensures { IfOk result (λ sources. StandIn (sources_of lines.now) sources.items) }
 {
-    let mut sources = Vec::with_capacity(alloc, places.len())?;
-    for (place, _) in places {
+    let mut sources = Vec::with_capacity(alloc, targets.len())?;
+    for (place, _) in targets {
         if let Some(line) = lines.get(*place) {
             sources.push((*place, line.source))?;
         }
@@ -75,15 +76,15 @@ fn sources_at(
     Ok(sources)
 }
 
-/// Where an end of a line stands among the vertices. One that stands nowhere is a vertex that the graph has.
+/// Where an end of a line stands among the vertices, or that it stands nowhere: it is a vertex that the graph has then.
 #[derive(Clone, Copy)]
 pub(crate) struct EndRank {
-    pub(crate) place: Option<u32>,
+    pub(crate) rank: Option<u32>,
 }
 
 impl EndRank {
     /// At the beginning.
-    const FIRST: EndRank = EndRank { place: Some(0) };
+    const FIRST: EndRank = EndRank { rank: Some(0) };
 }
 
 /// Where the ends of a line stand among the vertices, and its edge among the edges.
@@ -139,8 +140,9 @@ impl EndRanks {
         }
     }
 
-    /// Looks up those of these ids whose numbers aren't above this one, sets where they stand, and hands back the others.
-    fn add<'a>(
+    /// Looks up the first of these ids, which rise, as far as their numbers aren't above this one, sets where they stand,
+    /// and hands back the others.
+    fn look_up_to<'a>(
         &mut self,
         looked_up: &mut LookedUp<'_>,
         entries: &'a [(usize, VertexId)],
@@ -157,7 +159,7 @@ impl EndRanks {
                 return Ok(others);
             }
             let rank = EndRank {
-                place: looked_up.add_vertex(*id)?,
+                rank: looked_up.add_vertex(*id)?,
             };
             self.set(*place, rank);
         }
@@ -197,32 +199,33 @@ impl Ranks {
         }
     }
 
-    /// Adds the sources and the targets of lines, with the places of these, each by rising id. A source is looked up when the
-    /// targets that don't come after it are.
-    fn add_ends(
+    /// Looks up the sources and the targets of lines, with the places of these, each by rising id, and sets where they
+    /// stand. The targets that don't come after a source are looked up before it; their list is let go of in the end.
+    fn look_up_ends(
         &mut self,
         looked_up: &mut LookedUp<'_>,
         sources: &[(usize, VertexId)],
-        targets: &[(usize, VertexId)],
+        targets: Vec<(usize, VertexId)>,
     ) -> Result<(), Memory>
-        ensures known { OnOk result ((lines : List Line) → StandIn (sources_of lines) sources.now → StandIn (targets_of lines) targets.now
+        ensures known { OnOk result ((lines : List Line) → StandIn (sources_of lines) sources.now → StandIn (targets_of lines) targets.items
             → EndsAreKnown looked_up.old lines self.old → EndsAreKnown looked_up.old lines self.new) }
         ensures same { looked_up.new ≡ looked_up.old }
     {
-        let mut left = targets;
+        let mut left = targets.as_slice();
         for (place, id) in sources {
-            left = self.targets.add(looked_up, left, id.number())?;
+            left = self.targets.look_up_to(looked_up, left, id.number())?;
             let rank = EndRank {
-                place: looked_up.add_source(*id)?,
+                rank: looked_up.add_source(*id)?,
             };
             self.sources.set(*place, rank);
         }
-        self.targets.add(looked_up, left, u64::MAX)?;
+        self.targets.look_up_to(looked_up, left, u64::MAX)?;
         Ok(())
     }
 
-    /// Adds the edges of lines, by their sources with their places, by rising source and target.
-    fn add_edges(
+    /// Looks up the edges of lines, by their sources with their places, by rising source and target, and sets where they
+    /// stand.
+    fn look_up_edges(
         &mut self,
         looked_up: &mut LookedUp<'_>,
         lines: &[Line],

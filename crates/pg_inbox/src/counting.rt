@@ -33,7 +33,7 @@ impl<M: Plain> Bundle<M> {
         }
     }
 
-    /// The same, target by target.
+    /// The same from a list of the targets.
     fn messages_counted(&self, alloc: Global) -> Result<u64, Memory>
         ensures { IfOk result (λ count. count ≡ messages_where (λ _. true) self.now) }
     {
@@ -41,9 +41,9 @@ impl<M: Plain> Bundle<M> {
         messages_listed(parcels.as_slice())
     }
 
-    /// How many messages there are to ids that are no vertices of a graph. Costs a look at each message, and one look-up in
-    /// the graph for each target, each near the one before; and a list of the targets where the bundle isn't as it was made
-    /// of messages that aren't combined.
+    /// How many messages there are to ids that are no vertices of a graph. Costs a look at each message, and one look-up
+    /// in the graph for each target, each near the one before; and a list of the targets where the bundle isn't as it was
+    /// made of messages that aren't combined.
     pub fn astray(&self, alloc: Global, graph: &Graph) -> Result<u64, Memory>
         ensures { IfOk result
             (λ count. count ≡ messages_where (λ id. not (is_some (row_at id graph.now))) self.now) }
@@ -54,7 +54,7 @@ impl<M: Plain> Bundle<M> {
         }
     }
 
-    /// The same, target by target.
+    /// The same from a list of the targets.
     fn astray_counted(&self, alloc: Global, graph: &Graph) -> Result<u64, Memory>
         ensures { IfOk result
             (λ count. count ≡ messages_where (λ id. not (is_some (row_at id graph.now))) self.now) }
@@ -82,29 +82,13 @@ fn astray_sent<M: Plain>(
     Ok(count)
 }
 
-/// A count with so many messages to a target, if that is no vertex.
-fn with_astray(
-    count: u64,
-    rows: &mut Finder<'_, Row>,
-    target: VertexId,
-    messages: usize,
-) -> Result<u64, Memory>
-    ensures count { IfOk result (λ after. after ≡ count + cond (not (is_some (row_at target rows.old))) messages 0) }
-    ensures same { rows.new ≡ rows.old }
-{
-    if rows.get(target).is_some() {
-        return Ok(count);
-    }
-    count.checked_add(messages as u64).ok_or(AllocError)
-}
-
 /// How many messages there are.
 fn messages_listed<M: Plain>(parcels: &[(VertexId, ParcelRef<'_, M>)]) -> Result<u64, Memory>
     ensures { IfOk result (λ count. count ≡ messages_where (λ _. true) parcels.now) }
 {
     let mut count = 0u64;
     for (_, parcel) in parcels {
-        count = with_messages(count, parcel, true)?;
+        count = with_messages(count, parcel)?;
     }
     Ok(count)
 }
@@ -120,22 +104,30 @@ fn astray_listed<M: Plain>(
     let mut rows = graph.finder();
     let mut count = 0u64;
     for (target, parcel) in parcels {
-        let is_astray = rows.get(*target).is_none();
-        count = with_messages(count, parcel, is_astray)?;
+        count = with_astray(count, &mut rows, *target, parcel.len())?;
     }
     Ok(count)
 }
 
-/// A count with the messages to one target, where they are counted. No memory holds more than fit the count.
-fn with_messages<M: Plain>(
+/// A count with so many messages to a target, if that is no vertex. No memory holds more than fit the count.
+fn with_astray(
     count: u64,
-    parcel: &ParcelRef<'_, M>,
-    counts: bool,
+    rows: &mut Finder<'_, Row>,
+    target: VertexId,
+    messages: usize,
 ) -> Result<u64, Memory>
-    ensures { IfOk result (λ after. after ≡ count + cond counts (length parcel.now.letters) 0) }
+    ensures count { IfOk result (λ after. after ≡ count + cond (not (is_some (row_at target rows.old))) messages 0) }
+    ensures same { rows.new ≡ rows.old }
 {
-    if !counts {
+    if rows.get(target).is_some() {
         return Ok(count);
     }
+    count.checked_add(messages as u64).ok_or(AllocError)
+}
+
+/// A count with the messages to one target. No memory holds more than fit the count.
+fn with_messages<M: Plain>(count: u64, parcel: &ParcelRef<'_, M>) -> Result<u64, Memory>
+    ensures { IfOk result (λ after. after ≡ count + length parcel.now.letters) }
+{
     count.checked_add(parcel.len() as u64).ok_or(AllocError)
 }

@@ -110,6 +110,7 @@ impl<M: Drop> Inboxes<M> {
     }
 
     /// These inboxes, and one of the messages from a place on.
+    #[inline(always)]
     fn ended(
         messages: Vec<M>,
         parts: Vec<Delivered>,
@@ -147,6 +148,7 @@ impl<M: Plain> Inboxes<M> {
     }
 
     /// The same with the messages to one target of one bundle, by sender and then in the order sent.
+    #[inline(always)]
     pub(crate) fn with_parcel(
         self,
         alloc: Global,

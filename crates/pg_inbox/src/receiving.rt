@@ -93,6 +93,7 @@ fn messages_by_sender<M: Plain>(alloc: Global, parcel: &ParcelRef<'_, M>) -> Res
 }
 
 /// Adds the messages to one target of one bundle, by sender and then in the order sent.
+#[inline(always)]
 pub(crate) fn add_by_sender<M: Plain>(
     alloc: Global,
     into: &mut Vec<M>,
@@ -176,6 +177,7 @@ fn are_in_order<M: Plain>(parcel: &ParcelRef<'_, M>) -> bool
 }
 
 /// Adds copies of messages without their senders.
+#[inline(always)]
 fn add_messages<M: Plain>(
     alloc: Global,
     into: &mut Vec<M>,

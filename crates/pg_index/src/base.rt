@@ -93,6 +93,7 @@ impl<'a> BaseFinder<'a> {
     }
 
     /// The last run of a vertex before a superstep: as `get` and `last_below` find it, in fewer steps.
+    #[inline(always)]
     pub(crate) fn last_before(&mut self, id: VertexId, superstep: u32) -> Option<Run>
         requires { IsNonDecreasingBy (λ t. t) (steps_in (value_at id self.old)) }
         ensures value { option_map (λ r. r.superstep) result

@@ -26,6 +26,7 @@ pub(crate) struct Chunk<X> {
 const TOO_MANY: usize = 128;
 
 /// The value at an id. It costs what `found` does.
+#[inline(always)]
 pub(crate) fn get<'a, X>(chunks: &'a [Chunk<X>], near: &mut usize, id: VertexId) -> Option<&'a X>
     requires { AreSound chunks.now }
     ensures { option_copied result ≡ value_at id (all_of chunks.now) }
@@ -37,6 +38,7 @@ pub(crate) fn get<'a, X>(chunks: &'a [Chunk<X>], near: &mut usize, id: VertexId)
 /// In which chunk the value at an id stands, and at which place there. `near` becomes how many chunks begin at the id
 /// or below it. Where it was that before, from a look-up near this one, it costs a binary search in one chunk alone;
 /// else two. The one in the chunk is spared where the chunk has each id from its first up to this.
+#[inline(always)]
 pub(crate) fn found<X>(
     chunks: &[Chunk<X>],
     near: &mut usize,

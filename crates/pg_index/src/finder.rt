@@ -73,6 +73,7 @@ impl<'a> IndexFinder<'a> {
 
     /// The last run of a vertex before a superstep. Where that isn't its last of all, it is found by halving among
     /// those of the vertex; in a first run, by a step for each run after it.
+    #[inline(always)]
     pub fn last_before(&mut self, id: VertexId, superstep: u32) -> Option<Run>
         requires { IsNonDecreasingBy (λ t. t) (steps_in (value_at id self.old)) }
         ensures value { option_map (λ r. r.superstep) result

@@ -92,6 +92,7 @@ impl<'a> LogFinder<'a> {
     }
 
     /// The last run of a vertex before a superstep.
+    #[inline(always)]
     pub(crate) fn last_before(&mut self, id: VertexId, superstep: u32) -> Option<Run>
         ensures value { option_map (λ r. r.superstep) result
             ≡ last_of (steps_below superstep (steps_in (value_at id self.old))) }

@@ -76,11 +76,13 @@ impl<V: Drop, M: Drop> Changes<V, M> {
         })
     }
 
-    /// Lets go of the memory that was made room of for messages and wasn't taken.
-    pub(crate) fn cut_room(&mut self)
+    /// Lets go of the room that isn't taken.
+    pub(crate) fn shrink_to_fit(&mut self)
         ensures { self.new ≡ self.old }
     {
+        self.entries.shrink_to_fit();
         self.sent.shrink_to_fit();
+        self.contributed.shrink_to_fit();
     }
 
     /// How many vertices there are.
@@ -111,6 +113,7 @@ impl<V: Drop, M: Drop> Changes<V, M> {
     }
 
     /// The record that a vertex is given, if it is. It is looked for at a place first, and then by halving.
+    #[inline(always)]
     pub(crate) fn given(&self, id: VertexId, near: usize) -> Option<RecordRef<'_, V, M>>
         requires { ChangesRise self.now }
         ensures { result ≡ given_to id self.now }
@@ -122,6 +125,7 @@ impl<V: Drop, M: Drop> Changes<V, M> {
 
     /// Adds the record of a vertex: that it leaves this state, and these messages and contributions, which are moved to those
     /// of the others. Their lists keep their memory.
+    #[inline(always)]
     pub fn add(
         &mut self,
         state: VertexState<V>,
@@ -256,6 +260,7 @@ fn is_at<X>(entries: &[(VertexId, X)], id: VertexId, place: usize) -> bool
 }
 
 /// Moves all items of a list to the end of another. Which part of that they are then.
+#[inline(always)]
 fn moved<X: Drop>(into: &mut Vec<X>, items: &mut Vec<X>) -> Result<Part, Memory>
     ensures list { OnOk result (into.new.items ≡ into.old.items ++ items.old.items) }
     ensures first { IfOk result (λ part. part.first ≡ length into.old.items) }

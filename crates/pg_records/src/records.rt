@@ -48,13 +48,13 @@ impl<V, M> Model for Records<V, M> {
 }
 
 impl<V: Drop, M: Drop> Records<V, M> {
-    /// The records that these changes give.
+    /// The records that these changes give. Room that they don't take is let go of, which may move what is sent.
     pub fn of(alloc: Global, given: Changes<V, M>) -> Result<Records<V, M>, Memory>
         requires { ChangesRise given }
         ensures { IfOk result (λ records. records ≡ with_changes given []) }
     {
         let mut given = given;
-        given.cut_room();
+        given.shrink_to_fit();
         Ok(Records {
             given: Arc::new(alloc, given)?,
             changes: Map::new(),
@@ -73,6 +73,7 @@ impl<V: Drop, M: Drop> Records<V, M> {
 
     /// The record of a vertex, if there is one. Where nothing was changed and it stands at the place where it is looked for
     /// first it costs O(1); else a binary search, or two.
+    #[inline(always)]
     pub fn get(&self, id: VertexId, near: usize) -> Option<RecordRef<'_, V, M>>
         ensures { result ≡ value_at id self.now }
     {
@@ -279,6 +280,8 @@ fn each_of<V: Drop, M: Drop>(
 ) -> Result<Vec<(VertexId, Option<Change<V, M>>)>, Memory>
     ensures { IfOk result (λ each. each.items ≡ map (λ c. (c.0, Some c.1)) changes) }
 {
+    let mut changes = changes;
+    changes.shrink_to_fit();
     let all = Arc::new(alloc, changes)?;
     let mut each = Vec::with_capacity(alloc, all.len())?;
     for place in 0..all.len() {

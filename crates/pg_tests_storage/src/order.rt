@@ -52,23 +52,33 @@ fn rise(ids: &[VertexId], entries: &[(usize, VertexId)], falling: bool) -> bool 
     entries.len() == ids.len()
 }
 
-// Ids with their places, the last one first.
-fn falling(alloc: Global, ids: &[VertexId]) -> Result<Vec<(usize, VertexId)>, Memory> {
+// Ids with their places, in their order, or the last one first.
+fn numbered(
+    alloc: Global,
+    ids: &[VertexId],
+    falling: bool,
+) -> Result<Vec<(usize, VertexId)>, Memory> {
     let mut entries = Vec::with_capacity(alloc, ids.len())?;
-    for (place, id) in ids.iter().enumerate().rev() {
+    for (place, id) in ids.iter().enumerate() {
         entries.push((place, *id))?;
+    }
+    if falling {
+        entries.reverse();
     }
     Ok(entries)
 }
 
-// So many ids are put in order, and again where they are given in another order.
+// So many ids are put in order, from two orders, and where they are only to be sorted.
 fn are_put_in_order(alloc: Global, count: u32, spread: Jumping) -> Result<bool, Memory> {
     let ids = jumping_ids(alloc, count, spread)?;
-    let sorted = sorted_by_id(alloc, ids.as_slice())?;
-    let again = reordered_by_id(alloc, falling(alloc, ids.as_slice())?)?;
+    let ids = ids.as_slice();
+    let sorted = sorted_by_id(alloc, ids)?;
+    let from_rising = reordered_by_id(alloc, numbered(alloc, ids, false)?)?;
+    let from_falling = reordered_by_id(alloc, numbered(alloc, ids, true)?)?;
     Ok(
-        rise(ids.as_slice(), sorted.as_slice(), false)
-            && rise(ids.as_slice(), again.as_slice(), true),
+        rise(ids, sorted.as_slice(), false)
+            && rise(ids, from_rising.as_slice(), false)
+            && rise(ids, from_falling.as_slice(), true),
     )
 }
 

@@ -56,6 +56,7 @@ impl<'a, V: Drop, M: Drop> States<'a, V, M> {
     /// none where it has neither.
     ///
     /// Where the trace holds a run so far, it is the state in that run.
+    #[inline(always)]
     pub fn state_at(&mut self, id: VertexId, superstep: Superstep) -> Option<StateRef<'a, V>>
         ensures value { result ≡ state_at id superstep self.old }
         ensures run { IsOfRun self.old id superstep result }
@@ -89,6 +90,7 @@ impl<'a, V: Drop, M: Drop> States<'a, V, M> {
     }
 
     /// The state of a vertex as a superstep begins.
+    #[inline(always)]
     fn state_before(&mut self, id: VertexId, superstep: u32) -> Option<StateRef<'a, V>>
         ensures value { result ≡ state_at id superstep self.old }
         ensures same { self.new ≡ self.old }
@@ -106,6 +108,7 @@ impl<'a, V: Drop, M: Drop> States<'a, V, M> {
 }
 
 /// The record of a run of a vertex, if there is one.
+#[inline(always)]
 fn record_of<'a, V: Drop, M: Drop>(
     supersteps: &'a [Records<V, M>],
     id: VertexId,

@@ -1,7 +1,7 @@
 use Rattle.std.proofs.Common.{◌≡◌, ℕ, List}
 use Rattle.pg_graph.specs.ById.{StandIn}
 use Rattle.pg_import.specs.Ranks.{AreKnown}
-use Rattle.pg_import.proofs.order.EndRanks.add.Given as goal
+use Rattle.pg_import.proofs.order.EndRanks.look_up_to.Given as goal
 
 abbrev pub invariant-loop-count : goal.invariant-loop-count
 invariant-loop-count l = record {

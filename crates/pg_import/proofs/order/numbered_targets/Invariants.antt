@@ -1,6 +1,6 @@
 use Rattle.pg_graph.specs.ById.{StandIn}
 use Rattle.pg_import.specs.Ranks.{targets_of}
-use Rattle.pg_import.proofs.order.targets_of.Given as goal
+use Rattle.pg_import.proofs.order.numbered_targets.Given as goal
 
 abbrev pub invariant-loop-place : goal.invariant-loop-place
 invariant-loop-place l = StandIn (targets_of l.lines) l.targets.items

@@ -2,7 +2,7 @@ use Rattle.std.proofs.Common.{◌≡◌, List}
 use Rattle.pg_graph.specs.Rows.{Rows}
 use Rattle.pg_import.specs.Ranks.{EndsAreKnown}
 use Rattle.pg_import.specs.declared.line.Line.{Line}
-use Rattle.pg_import.proofs.order.Ranks.add_edges.Given as goal
+use Rattle.pg_import.proofs.order.Ranks.look_up_edges.Given as goal
 
 abbrev pub invariant-loop-place : goal.invariant-loop-place
 invariant-loop-place l = record {
