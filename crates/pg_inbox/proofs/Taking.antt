@@ -2,7 +2,7 @@
 use Rattle.std.proofs.Common.{◌≡◌, ℕ, ◌+◌, IfSome, IsSome, true, false, List, Option, None, Some, [], ◌∷◌, ◌++◌}
 use Rattle.std.proofs.Common.{refl, ap, sym, ◌∙◌, arith, true≢false, Bool, not, ◌||◌, is_some}
 use Rattle.std.specs.List.{fold, sum_by}
-use Rattle.std.specs.Option.{option_map, option_to_list}
+use Rattle.std.specs.Option.{option_to_list}
 use Rattle.std.proofs.lemmas.List.{append-nil}
 use Rattle.std.proofs.lemmas.List.Sums.{fold-append, sum_by-cons}
 use Rattle.std.proofs.Math.Bool.{or-false}
@@ -23,13 +23,6 @@ module _ {X : Type 0} where
 
 abbrev pub is_astray : Rows → ℕ → Bool
 is_astray rows id = not (is_some (row_at id rows))
-
--- what a look-up tells of it
-pub astray_by : {X Y : Type 0} (f : X → Y) (o : Option X) (is_astray : Bool) → is_some o ≡ not is_astray → is_astray ≡ not (is_some (option_map f o))
-astray_by f None true is = refl
-astray_by f None false is = absurd (true≢false (sym is))
-astray_by f (Some x) true is = absurd (true≢false is)
-astray_by f (Some x) false is = refl
 
 pub none_or_any : (any empty : Bool) {b : Bool} → any ≡ not empty → any ≡ b → empty ≡ not b
 none_or_any any true is h = ap not (sym is ∙ h)
