@@ -1,7 +1,7 @@
 //! What the lines of a list mention, by rising id. No answer depends on the order: what it leaves out is
 //! looked up when its line goes by.
 ghost use Rattle.std.specs.Prelude.{◌≡◌, ℕ, List, Some, slice_get, IfOk, OnOk};
-ghost use Rattle.pg_graph.specs.ById.{StandIn};
+ghost use Rattle.pg_graph.specs.ById.{AreEntriesOf};
 ghost use Rattle.pg_graph.specs.Rows.{Rows};
 ghost use Rattle.pg_import.specs.Batch.{has_edge, has_vertex};
 ghost use Rattle.pg_import.specs.NamedEdges.{AreThereAs};
@@ -29,7 +29,8 @@ impl Mentioned {
     /// What these lines mention. Costs O(k log n) for k lines and a graph of n vertices and edges.
     pub(crate) fn of(alloc: Global, lines: &[Line], graph: &Graph) -> Result<Mentioned, Memory>
         ensures vertices { IfOk result (λ mentioned. AreThereAs (λ id _. has_vertex id graph.now) mentioned.vertices) }
-        ensures edges { IfOk result (λ mentioned. AreThereAs (λ source target. has_edge source target graph.now) mentioned.edges) }
+        ensures edges { IfOk result
+            (λ mentioned. AreThereAs (λ source target. has_edge source target graph.now) mentioned.edges) }
         ensures known { IfOk result (λ mentioned. EndsAreKnown graph.now lines.now mentioned.ranks) }
     {
         let targets = reordered_by_id(alloc, numbered_targets(alloc, lines)?)?;
@@ -50,7 +51,7 @@ impl Mentioned {
 
 /// The targets of lines, with the places of these.
 fn numbered_targets(alloc: Global, lines: &[Line]) -> Result<Vec<(usize, VertexId)>, Memory>
-    ensures { IfOk result (λ targets. StandIn (targets_of lines.now) targets.items) }
+    ensures { IfOk result (λ targets. AreEntriesOf (targets_of lines.now) targets.items) }
 {
     let mut targets = Vec::with_capacity(alloc, lines.len())?;
     for (place, line) in lines.iter().enumerate() {
@@ -65,7 +66,7 @@ fn numbered_sources(
     lines: &[Line],
     targets: &[(usize, VertexId)],
 ) -> Result<Vec<(usize, VertexId)>, Memory>
-    ensures { IfOk result (λ sources. StandIn (sources_of lines.now) sources.items) }
+    ensures { IfOk result (λ sources. AreEntriesOf (sources_of lines.now) sources.items) }
 {
     let mut sources = Vec::with_capacity(alloc, targets.len())?;
     for (place, _) in targets {
@@ -122,7 +123,8 @@ impl EndRanks {
 
     /// That of the id at a place.
     fn at(&self, place: usize) -> EndRank
-        ensures { (rows : Rows) (ids : List ℕ) (id : ℕ) → slice_get ids place ≡ Some id → AreKnown rows ids self.now → IsKnown rows id result }
+        ensures { (rows : Rows) (ids : List ℕ) (id : ℕ) → slice_get ids place ≡ Some id
+            → AreKnown rows ids self.now → IsKnown rows id result }
     {
         match self.ranks.get(place) {
             Some(rank) => *rank,
@@ -148,9 +150,10 @@ impl EndRanks {
         entries: &'a [(usize, VertexId)],
         last: u64,
     ) -> Result<&'a [(usize, VertexId)], Memory>
-        ensures known { OnOk result ((ids : List ℕ) → StandIn ids entries.now → AreKnown looked_up.old ids self.old
+        ensures known { OnOk result ((ids : List ℕ) → AreEntriesOf ids entries.now → AreKnown looked_up.old ids self.old
             → AreKnown looked_up.old ids self.new) }
-        ensures others { IfOk result (λ others. (ids : List ℕ) → StandIn ids entries.now → StandIn ids others.now) }
+        ensures others { IfOk result (λ others. (ids : List ℕ) → AreEntriesOf ids entries.now
+            → AreEntriesOf ids others.now) }
         ensures same { looked_up.new ≡ looked_up.old }
     {
         for (count, (place, id)) in entries.iter().enumerate() {
@@ -189,8 +192,8 @@ impl Ranks {
 
     /// Those of the line at a place.
     pub(crate) fn at(&self, place: usize) -> LineRanks
-        ensures { (rows : Rows) (lines : List Line) (line : Line) → slice_get lines place ≡ Some line → EndsAreKnown rows lines self.now
-            → IsKnown rows line.source result.source × IsKnown rows line.target result.target }
+        ensures { (rows : Rows) (lines : List Line) (line : Line) → slice_get lines place ≡ Some line
+            → EndsAreKnown rows lines self.now → IsKnown rows line.source result.source × IsKnown rows line.target result.target }
     {
         LineRanks {
             source: self.sources.at(place),
@@ -207,8 +210,9 @@ impl Ranks {
         sources: &[(usize, VertexId)],
         targets: Vec<(usize, VertexId)>,
     ) -> Result<(), Memory>
-        ensures known { OnOk result ((lines : List Line) → StandIn (sources_of lines) sources.now → StandIn (targets_of lines) targets.items
-            → EndsAreKnown looked_up.old lines self.old → EndsAreKnown looked_up.old lines self.new) }
+        ensures known { OnOk result ((lines : List Line) → AreEntriesOf (sources_of lines) sources.now
+            → AreEntriesOf (targets_of lines) targets.items → EndsAreKnown looked_up.old lines self.old
+            → EndsAreKnown looked_up.old lines self.new) }
         ensures same { looked_up.new ≡ looked_up.old }
     {
         let mut left = targets.as_slice();
@@ -231,7 +235,8 @@ impl Ranks {
         lines: &[Line],
         sources: &[(usize, VertexId)],
     ) -> Result<(), Memory>
-        ensures ends { OnOk result ((rows : Rows) (all : List Line) → EndsAreKnown rows all self.old → EndsAreKnown rows all self.new) }
+        ensures ends { OnOk result ((rows : Rows) (all : List Line) → EndsAreKnown rows all self.old
+            → EndsAreKnown rows all self.new) }
         ensures same { looked_up.new ≡ looked_up.old }
     {
         for (place, source) in sources {

@@ -37,6 +37,7 @@ impl<T> Sequence<T> {
     }
 
     /// The values of a vector, in its memory.
+    #[inline(always)]
     pub fn from_vec(items: Vec<T>) -> Sequence<T>
         ensures { result ≡ items.items }
     {
@@ -44,6 +45,7 @@ impl<T> Sequence<T> {
     }
 
     /// The values as a vector, in the list's memory.
+    #[inline(always)]
     pub fn into_vec(self) -> Vec<T>
         ensures { result.items ≡ self }
     {

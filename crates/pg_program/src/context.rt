@@ -41,6 +41,7 @@ impl<M: Drop> Cx<M> {
 
     /// The same, where what is sent and contributed takes the memory of these lists, whose values are let go
     /// of. So contexts that follow one another need not grow anew.
+    #[inline(always)]
     pub fn with_room(
         view: View,
         declared: Declared,
@@ -63,6 +64,7 @@ impl<M: Drop> Cx<M> {
     }
 
     /// What was seen, what was sent and contributed, in that order, and the meter.
+    #[inline(always)]
     pub fn into_parts(self) -> (View, Sequence<(VertexId, M)>, Sequence<(Place, i64)>, Meter)
         ensures view { result.0 ≡ self.view }
         ensures sent { result.1 ≡ self.sent }

@@ -47,6 +47,7 @@ impl Model for OwnEdges {
 }
 
 impl OwnEdges {
+    #[inline(always)]
     pub(crate) fn new(edges: Edges, room: EdgeRoom) -> Result<OwnEdges, Memory>
         ensures { IfOk result (λ e. e ≡ edges) }
     {
@@ -155,6 +156,7 @@ impl OwnEdges {
     }
 
     /// The edges, shared again, and the room.
+    #[inline(always)]
     pub(crate) fn into_parts(self, alloc: Global) -> Result<(Edges, EdgeRoom), Memory>
         ensures { IfOk result (λ parts. parts.0 ≡ self) }
     {

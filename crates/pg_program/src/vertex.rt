@@ -30,6 +30,7 @@ impl<V> Model for Vertex<V> {
 impl<V> Vertex<V> {
     /// A vertex at the beginning of an execution, which hasn't voted yet. The room grows where the
     /// vertex has more edges than any before it; later changes of edges that are there take no memory.
+    #[inline(always)]
     pub fn new(id: VertexId, value: V, edges: Edges, room: EdgeRoom) -> Result<Vertex<V>, Memory>
     where
         V: Drop,
@@ -157,6 +158,7 @@ impl<V> Vertex<V> {
     }
 
     /// The state that the execution leaves, and the room. Edges that weren't changed stay shared.
+    #[inline(always)]
     pub fn into_parts(self, alloc: Global) -> Result<(VertexState<V>, EdgeRoom), Memory>
     where
         V: Drop,
