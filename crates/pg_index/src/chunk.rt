@@ -112,7 +112,7 @@ fn place_by_distance<X>(entries: &[(VertexId, X)], first: VertexId, id: VertexId
     Some(place)
 }
 
-/// The place of an id among entries, or else where it would be put.
+/// The place of an id among entries, or else where it would be put, which costs O(1) at their end.
 fn place_of<X>(entries: &[(VertexId, X)], id: VertexId) -> Result<usize, usize>
     requires { HasRisingIds entries.now }
     ensures within { IfOk result (λ place. place < length entries.now) }
@@ -121,7 +121,23 @@ fn place_of<X>(entries: &[(VertexId, X)], id: VertexId) -> Result<usize, usize>
     ensures missing { IfErr result
         (IsPartitionPoint (λ e. nat_cmp e.0 id ≡ Less) (λ e. nat_cmp e.0 id ≡ Greater) entries.now) }
 {
+    if are_below(entries, id) {
+        return Err(entries.len());
+    }
     entries.binary_search_by_key(&id, |entry| entry.0)
+}
+
+/// Whether the ids of these entries are all below an id. Of no entries it says no.
+fn are_below<X>(entries: &[(VertexId, X)], id: VertexId) -> bool
+    requires { HasRisingIds entries.now }
+    ensures { IsTrue result → IsPartitionPoint (λ e. nat_cmp e.0 id ≡ Less) (λ e. nat_cmp e.0 id ≡ Greater) entries.now
+        (length entries.now) }
+{
+    let count = entries.len();
+    if count == 0 {
+        return false;
+    }
+    !is_at_most(id, entries[count - 1].0)
 }
 
 /// Puts a value at an id. It costs the binary searches of `found`, and moves what follows in the id's chunk and, where

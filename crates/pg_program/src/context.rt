@@ -81,6 +81,20 @@ impl<M: Drop> Cx<M> {
         (view, sent, contributed, meter)
     }
 
+    /// Hands out what was sent and contributed so far, in exchange for lists whose values are let go of: so what is sent next
+    /// takes their memory.
+    #[inline(always)]
+    pub fn exchange(&mut self, sent: &mut Vec<(VertexId, M)>, contributed: &mut Vec<(Place, i64)>)
+        ensures cx { self.new ≡ record self.old { sent = []; contributed = [] } }
+        ensures sent { sent.new.items ≡ self.old.sent }
+        ensures contributed { contributed.new.items ≡ self.old.contributed }
+    {
+        sent.clear();
+        contributed.clear();
+        self.sent.exchange(sent);
+        self.contributed.exchange(contributed);
+    }
+
     /// The number of the superstep.
     pub fn superstep(&self) -> Superstep
         ensures { result ≡ self.now.view.superstep }
