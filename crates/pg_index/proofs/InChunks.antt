@@ -8,7 +8,7 @@ use Rattle.std.specs.Ordering.{nat_cmp, match_ordering}
 use Rattle.std.specs.declared.cmp.Ordering.TheVariants.{Less, Equal, Greater}
 use Rattle.std.proofs.lemmas.Bool.{leb-true, leb-false}
 use Rattle.std.proofs.lemmas.Bool.Decides.{nat_tests}
-use Rattle.std.proofs.lemmas.List.{append-nil, take-append-drop, take_more}
+use Rattle.std.proofs.lemmas.List.{append-nil, get_or_default, take-append-drop, take_more}
 use Rattle.std.proofs.lemmas.Grind.{flat_map-append}
 use Rattle.std.proofs.lemmas.Map.Lookups.{exact_unsigned}
 use Rattle.pg_map.specs.Chunks.{StartsAt}
@@ -16,7 +16,7 @@ use Rattle.pg_map.specs.Entries.{HasRisingIds}
 use Rattle.pg_map.proofs.Parts.{Below, From, above_first, below_middle, change-left, change-right, find-left, find-right, from_first, from_weaker}
 use Rattle.pg_map.proofs.Parts.{is_equal, none_below, none_from, rises_after, rises_left, rises_right}
 use Rattle.pg_map.proofs.Rising.{find, rises-insert}
-use Rattle.pg_map.proofs.Search.{lookup_found}
+use Rattle.pg_map.proofs.Search.{lookup_found, rises}
 use Rattle.pg_index.specs.Chunks.{AreSound, IsAt, Start, all_of, listed}
 use Rattle.pg_index.specs.declared.chunk.Chunk.{Chunk}
 
@@ -29,6 +29,9 @@ this_way a b h = grind (arith, nat_tests)
 past : (a b : ℕ) → b < a → nat_cmp a b ≡ Greater
 past a b h = grind (arith, nat_tests)
 
+before : (a b : ℕ) → a < b → nat_cmp a b ≡ Less
+before a b h = grind (arith, nat_tests)
+
 module _ {X : Type 0} where
   -- ---- among entries
 
@@ -40,6 +43,18 @@ module _ {X : Type 0} where
   from_at m [] p d from within = absurd (omega arith)
   from_at m (e ∷ es) zero d from within = from.0
   from_at m (e ∷ es) (suc p) d from within = from_at m es p d from.1 (omega arith)
+
+  -- where the last is below an id, all are
+  pub all_below : (es : List (ℕ × X)) (id m : ℕ) (last : ℕ × X) → HasRisingIds es → m + 1 ≡ length es → last ≡ get_or es m last → last.0 < id
+      → IsPartitionPoint (λ e. nat_cmp e.0 id ≡ Less) (λ e. nat_cmp e.0 id ≡ Greater) es (length es)
+  all_below es id m last rise count here low =
+      (λ k x z h. under k x (omega arith), λ k x h g. absurd (omega arith))
+    where
+      under : (k : ℕ) (x : ℕ × X) → k < length es → nat_cmp (get_or es k x).0 id ≡ Less
+      under k x h =
+          let bound = rises es k m x rise (omega arith) (omega arith) in
+          let same : (get_or es m x).0 ≡ last.0 = ap (λ e. e.0) (get_or_default es m x last (omega arith) ∙ sym here) in
+          before (get_or es k x).0 id (omega (arith, bound, same, low))
 
   -- a value put where its id is found
   pub put_found : (id : ℕ) (v : X) (es : List (ℕ × X)) (p : ℕ) → HasRisingIds es → p < length es → HoldsAt (λ e. nat_cmp e.0 id ≡ Equal) es p
