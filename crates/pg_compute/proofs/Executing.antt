@@ -8,10 +8,10 @@ use Rattle.pg_model.specs.declared.record.Record.{Record}
 use Rattle.pg_model.specs.declared.view.View.{View}
 use Rattle.pg_program.specs.Computation.{Executes, step_on}
 use Rattle.pg_program.specs.Context.{Context}
+use Rattle.pg_compute.specs.Scene.{IsUnused}
 
-module _ {V M : Type 0} (program : Program V M) (view : View) (state vertex vertex' left : VertexState V) (inbox : List M) (cx cx' : Context M) (writes calls : ℕ)
-    (vertex_is : vertex ≡ record { id = state.id; value = state.value; edges = state.edges; halted = false })
-    (cx_is : cx ≡ record { view = view; writes = writes; sent = []; contributed = []; calls = calls })
+module _ {V M : Type 0} (program : Program V M) (state vertex vertex' left : VertexState V) (inbox : List M) (cx cx' : Context M)
+    (vertex_is : vertex ≡ record { id = state.id; value = state.value; edges = state.edges; halted = false }) (unused : IsUnused program.declared cx)
     (executes : Executes program vertex vertex' inbox cx cx') (left_is : left ≡ vertex')
     {sent : List (ℕ × M)} {contributed : List (ℕ × ℤ)} (sent_is : sent ≡ cx'.sent) (contributed_is : contributed ≡ cx'.contributed) where
   abbrev made : Record V M
@@ -21,16 +21,16 @@ module _ {V M : Type 0} (program : Program V M) (view : View) (state vertex vert
   state_is = left_is ∙ executes.vertex_is
 
   sends : sent ≡ made.sent
-  sends = sent_is ∙ ap (λ c. c.sent) executes.context_is ∙ ap (λ c. c.sent ++ made.sent) cx_is
+  sends = sent_is ∙ ap (λ c. c.sent) executes.context_is ∙ ap (λ l. l ++ made.sent) unused.sent
 
   contributes : contributed ≡ made.contributed
-  contributes = contributed_is ∙ ap (λ c. c.contributed) executes.context_is ∙ ap (λ c. c.contributed ++ made.contributed) cx_is
+  contributes = contributed_is ∙ ap (λ c. c.contributed) executes.context_is ∙ ap (λ l. l ++ made.contributed) unused.contributed
 
   pub executed : record { value = left.value; edges = left.edges; halted = left.halted; sent = sent; contributed = contributed }
-      ≡ program.step (inputs_of view (record { state = state; inbox = inbox }))
+      ≡ program.step (inputs_of cx.view (record { state = state; inbox = inbox }))
   executed =
       (λ i. record { value = (state_is i).value; edges = (state_is i).edges; halted = (state_is i).halted; sent = sends i; contributed = contributes i })
-      ∙ ap₂ (λ v c. step_on program v inbox c) vertex_is cx_is
+      ∙ ap (λ v. step_on program v inbox cx) vertex_is
 
 module _ {V M : Type 0} (program : Program V M) (view : View) (id : ℕ) (x : Standing V M) where
   abbrev given_by : Option (Record V M) → List (ℕ × Option (Record V M))

@@ -12,7 +12,7 @@ ghost use Rattle.pg_compute.specs.Found.{IsFound, IsTold, change_alone, reads};
 ghost use Rattle.pg_model.specs.Superstep.{capped};
 ghost use Rattle.pg_program.specs.Context.{ShowsDeclared};
 
-use crate::execution::{Played, Stage, ended, play, play_found};
+use crate::execution::{Played, Scene, Stage, ended, play, play_found};
 use crate::found::{Candidate, copied_messages, state_by, tell_same, vertex_at};
 use crate::reading::{inboxes_at, lent_bundles, with_empty};
 use pg_global::MessageCombiner;
@@ -146,7 +146,7 @@ pub fn play_alone<P: Computation, C: MessageCombiner<P::Message>>(
     superstep: Superstep,
     trace: &Trace<P::Value, P::Message>,
     bundles: &[Bundle<P::Message>],
-    stage: Stage<P::Message>,
+    stage: Stage,
 ) -> Result<Played<P::Value, P::Message>, Memory>
     requires shown { ShowsDeclared (P.program program.now).declared stage.view }
     requires fits { stage.meter < 2 ^ 64 }
@@ -173,7 +173,7 @@ fn play_callees<P: Computation>(
     superstep: Superstep,
     trace: &Trace<P::Value, P::Message>,
     callees: &Inboxes<P::Message>,
-    stage: Stage<P::Message>,
+    stage: Stage,
 ) -> Result<Played<P::Value, P::Message>, Memory>
     requires shown { ShowsDeclared (P.program program.now).declared stage.view }
     requires fits { stage.meter < 2 ^ 64 }
@@ -191,21 +191,28 @@ fn play_callees<P: Computation>(
     // As many messages are sent as are received, mostly: a guess, and others grow the list or leave room, which is cut.
     let mut changes = Changes::new(alloc, callees.len(), callees.messages())?;
     let mut turned = Turned::nobody();
-    let mut stage = stage;
+    let mut scene = Scene::of(alloc, program, stage);
     for place in 0..callees.len() {
         let (id, delivered) = callees.at(place);
         looked_at.push(id)?;
         let state = states.state_at(id, superstep);
         let found = state_by(alloc, program, missing, id, &state, delivered)?;
         let before = changes.len();
-        stage = play_found(alloc, program, id, found, delivered, &mut changes, stage)?;
+        play_found(
+            alloc,
+            program,
+            id,
+            found,
+            delivered,
+            &mut changes,
+            &mut scene,
+        )?;
         turned = turned.with(&state, &given_at(&changes, before))?;
     }
-    let Stage { meter, .. } = stage;
     Ok(Played {
         looked_at,
         changes,
-        meter,
+        meter: scene.into_meter(),
         turned: turned_next(trace, superstep, turned),
     })
 }
@@ -251,7 +258,7 @@ pub fn play_beside<P: Computation, C: MessageCombiner<P::Message>>(
     old_bundles: &[Bundle<P::Message>],
     ids: &[VertexId],
     seen: bool,
-    stage: Stage<P::Message>,
+    stage: Stage,
 ) -> Result<Played<P::Value, P::Message>, Memory>
     requires rise { IsStrictlySortedBy nat_cmp ids.now }
     requires shown { ShowsDeclared (P.program program.now).declared stage.view }

@@ -5,34 +5,26 @@ ghost use Rattle.pg_global.specs.Master.{has_places};
 ghost use Rattle.pg_model.specs.Superstep.{capped, inputs_of, view_of};
 ghost use Rattle.pg_compute.specs.Found.{are_at_rest, change_alone, change_of, change_unless, is_run, reads, standing_of};
 ghost use Rattle.pg_program.specs.Context.{ShowsDeclared};
+ghost use Rattle.pg_compute.specs.Scene.{IsUnused};
 
 use crate::found::{Candidate, are_same_reading, is_stopping};
 use pg_global::{Visible, view_of};
 use pg_graph::{Memory, Superstep, VertexId};
-use pg_model::{Place, Sequence, Standing, VertexState, View};
+use pg_model::{Place, Standing, VertexState, View};
 use pg_program::{Computation, Cx, EdgeRoom, Meter, Plain, Vertex};
 use pg_recount::Turned;
 use pg_trace::Changes;
 use std::alloc::Global;
+use std::mem;
 
-/// What the executions of a superstep share: what they see, room for changed edges and for what is sent and contributed, and
-/// the meter.
+/// What the executions of a superstep see, and the meter.
 #[derive(Drop)]
-pub struct Stage<M> {
+pub struct Stage {
     pub view: View,
-    pub room: EdgeRoom,
-    pub(crate) spare: Spare<M>,
     pub meter: Meter,
 }
 
-/// Room for what an execution sends and contributes.
-#[derive(Drop)]
-pub(crate) struct Spare<M> {
-    sent: Vec<(VertexId, M)>,
-    contributed: Vec<(Place, i64)>,
-}
-
-impl<M: Drop> Stage<M> {
+impl Stage {
     /// What the executions of a superstep see, as the master shows it, with a meter that goes on.
     pub fn new<P: Computation>(
         alloc: Global,
@@ -40,7 +32,7 @@ impl<M: Drop> Stage<M> {
         superstep: Superstep,
         visible: &Visible,
         meter: Meter,
-    ) -> Result<Stage<M>, Memory>
+    ) -> Result<Stage, Memory>
         requires few { length visible.now.values ≤ 16 }
         requires declared { has_places (P.program program.now).declared (length visible.now.values) ≡ true }
         ensures view { IfOk result (λ stage. stage.view ≡ view_of (P.program program.now).declared superstep visible.now) }
@@ -51,15 +43,43 @@ impl<M: Drop> Stage<M> {
         // Tells the prover that the count fits.
         meter.count();
         let view = view_of(alloc, program.declared(), superstep, visible)?;
-        Ok(Stage {
-            view,
+        Ok(Stage { view, meter })
+    }
+}
+
+/// A stage on which vertices are executed one after another: what surrounds an execution, in which nothing was sent or
+/// contributed yet as one begins, and room for changed edges and for what is sent and contributed.
+#[derive(Drop)]
+pub(crate) struct Scene<M> {
+    pub cx: Cx<M>,
+    room: EdgeRoom,
+    sent: Vec<(VertexId, M)>,
+    contributed: Vec<(Place, i64)>,
+}
+
+impl<M: Drop> Scene<M> {
+    /// A stage before the first execution of a program.
+    pub(crate) fn of<P: Computation>(alloc: Global, program: &P, stage: Stage) -> Scene<M>
+        ensures view { result.cx.view ≡ stage.view }
+        ensures meter { result.cx.calls ≡ stage.meter }
+        ensures unused { IsUnused (P.program program.now).declared result.cx }
+    {
+        let Stage { view, meter } = stage;
+        Scene {
+            cx: Cx::new(alloc, view, program.declared(), meter),
             room: EdgeRoom::new(alloc),
-            spare: Spare {
-                sent: Vec::new(alloc),
-                contributed: Vec::new(alloc),
-            },
-            meter,
-        })
+            sent: Vec::new(alloc),
+            contributed: Vec::new(alloc),
+        }
+    }
+
+    /// The meter after the last execution.
+    pub(crate) fn into_meter(self) -> Meter
+        ensures { result ≡ self.cx.calls }
+    {
+        let Scene { cx, .. } = self;
+        let (_view, _sent, _contributed, meter) = cx.into_parts();
+        meter
     }
 }
 
@@ -78,26 +98,25 @@ pub struct Played<V, M> {
 pub(crate) struct Playing<V, M> {
     pub looked_at: Vec<VertexId>,
     pub changes: Changes<V, M>,
-    pub stage: Stage<M>,
+    pub scene: Scene<M>,
 }
 
 /// What a step has made of its vertices once all are executed.
 pub(crate) fn ended<V: Drop, M: Drop>(playing: Playing<V, M>) -> Played<V, M>
     ensures looked_at { result.looked_at.items ≡ playing.looked_at.items }
     ensures changes { result.changes ≡ playing.changes }
-    ensures meter { result.meter ≡ playing.stage.meter }
+    ensures meter { result.meter ≡ playing.scene.cx.calls }
     ensures turned { result.turned ≡ None }
 {
     let Playing {
         looked_at,
         changes,
-        stage,
+        scene,
     } = playing;
-    let Stage { meter, .. } = stage;
     Played {
         looked_at,
         changes,
-        meter,
+        meter: scene.into_meter(),
         turned: None,
     }
 }
@@ -109,23 +128,23 @@ pub(crate) fn play<P: Computation>(
     program: &P,
     candidates: Vec<Candidate<P::Value, P::Message>>,
     seen: bool,
-    stage: Stage<P::Message>,
+    stage: Stage,
 ) -> Result<Playing<P::Value, P::Message>, Memory>
     requires shown { ShowsDeclared (P.program program.now).declared stage.view }
     requires fits { stage.meter < 2 ^ 64 }
     ensures looked_at { IfOk result (λ p. p.looked_at.items ≡ map (λ c. c.id) candidates.items) }
     ensures changes { IfOk result (λ p. p.changes
         ≡ flat_map (change_of P.Value.PartialEq.eq P.Message.PartialEq.eq (P.program program.now) stage.view seen) candidates.items) }
-    ensures view { IfOk result (λ p. p.stage.view ≡ stage.view) }
-    ensures meter { IfOk result (λ p. p.stage.meter
+    ensures meter { IfOk result (λ p. p.scene.cx.calls
         ≡ capped (stage.meter + count_by (is_run P.Value.PartialEq.eq P.Message.PartialEq.eq (P.program program.now) stage.view seen) candidates.items)) }
 {
     let looked_at = Vec::with_capacity(alloc, candidates.len())?;
     let changes = Changes::new(alloc, 0, 0)?;
+    let scene = Scene::of(alloc, program, stage);
     let mut played = Playing {
         looked_at,
         changes,
-        stage,
+        scene,
     };
     for candidate in candidates {
         played = play_one(alloc, program, candidate, seen, played)?;
@@ -141,15 +160,17 @@ fn play_one<P: Computation>(
     seen: bool,
     played: Playing<P::Value, P::Message>,
 ) -> Result<Playing<P::Value, P::Message>, Memory>
-    requires shown { ShowsDeclared (P.program program.now).declared played.stage.view }
-    requires fits { played.stage.meter < 2 ^ 64 }
+    requires shown { ShowsDeclared (P.program program.now).declared played.scene.cx.view }
+    requires fits { played.scene.cx.calls < 2 ^ 64 }
+    requires unused { IsUnused (P.program program.now).declared played.scene.cx }
     ensures looked_at { IfOk result (λ p. p.looked_at.items ≡ played.looked_at.items ++ candidate.id ∷ []) }
     ensures changes { IfOk result (λ p. p.changes
-        ≡ played.changes ++ change_of P.Value.PartialEq.eq P.Message.PartialEq.eq (P.program program.now) played.stage.view seen candidate) }
-    ensures view { IfOk result (λ p. p.stage.view ≡ played.stage.view) }
-    ensures meter { IfOk result (λ p. p.stage.meter
-        ≡ capped (played.stage.meter + cond (is_run P.Value.PartialEq.eq P.Message.PartialEq.eq (P.program program.now)
-        played.stage.view seen candidate) 1 0)) }
+        ≡ played.changes ++ change_of P.Value.PartialEq.eq P.Message.PartialEq.eq (P.program program.now) played.scene.cx.view seen candidate) }
+    ensures view { IfOk result (λ p. p.scene.cx.view ≡ played.scene.cx.view) }
+    ensures unused { IfOk result (λ p. IsUnused (P.program program.now).declared p.scene.cx) }
+    ensures meter { IfOk result (λ p. p.scene.cx.calls
+        ≡ capped (played.scene.cx.calls + cond (is_run P.Value.PartialEq.eq P.Message.PartialEq.eq (P.program program.now)
+        played.scene.cx.view seen candidate) 1 0)) }
 {
     let mut played = played;
     played.looked_at.push(candidate.id)?;
@@ -166,28 +187,30 @@ fn play_other<P: Computation>(
     candidate: Candidate<P::Value, P::Message>,
     played: Playing<P::Value, P::Message>,
 ) -> Result<Playing<P::Value, P::Message>, Memory>
-    requires shown { ShowsDeclared (P.program program.now).declared played.stage.view }
-    requires fits { played.stage.meter < 2 ^ 64 }
+    requires shown { ShowsDeclared (P.program program.now).declared played.scene.cx.view }
+    requires fits { played.scene.cx.calls < 2 ^ 64 }
+    requires unused { IsUnused (P.program program.now).declared played.scene.cx }
     ensures looked_at { IfOk result (λ p. p.looked_at.items ≡ played.looked_at.items) }
     ensures changes { IfOk result (λ p. p.changes
-        ≡ played.changes ++ change_unless (P.program program.now) played.stage.view (are_at_rest candidate.old candidate.new) candidate) }
-    ensures view { IfOk result (λ p. p.stage.view ≡ played.stage.view) }
-    ensures meter { IfOk result (λ p. p.stage.meter
-        ≡ capped (played.stage.meter + cond (is_some (reads played.stage.view candidate.new)) 1 0)) }
+        ≡ played.changes ++ change_unless (P.program program.now) played.scene.cx.view (are_at_rest candidate.old candidate.new) candidate) }
+    ensures view { IfOk result (λ p. p.scene.cx.view ≡ played.scene.cx.view) }
+    ensures unused { IfOk result (λ p. IsUnused (P.program program.now).declared p.scene.cx) }
+    ensures meter { IfOk result (λ p. p.scene.cx.calls
+        ≡ capped (played.scene.cx.calls + cond (is_some (reads played.scene.cx.view candidate.new)) 1 0)) }
 {
     let Candidate { id, old, new } = candidate;
     let Playing {
         looked_at,
         mut changes,
-        stage,
+        mut scene,
     } = played;
     let stops = is_stopping(&old, &new);
     push_if_stopping(&mut changes, stops, id)?;
-    let stage = play_standing(alloc, program, id, new, &mut changes, stage)?;
+    play_standing(alloc, program, id, new, &mut changes, &mut scene)?;
     Ok(Playing {
         looked_at,
         changes,
-        stage,
+        scene,
     })
 }
 
@@ -212,15 +235,17 @@ fn play_standing<P: Computation>(
     id: VertexId,
     vertex: Option<Standing<P::Value, P::Message>>,
     changes: &mut Changes<P::Value, P::Message>,
-    stage: Stage<P::Message>,
-) -> Result<Stage<P::Message>, Memory>
-    requires shown { ShowsDeclared (P.program program.now).declared stage.view }
-    requires fits { stage.meter < 2 ^ 64 }
-    ensures changes { IfOk result (λ _. changes.new
-        ≡ changes.old ++ change_alone (P.program program.now) stage.view (record { id = id; old = None; new = vertex })) }
-    ensures view { IfOk result (λ after. after.view ≡ stage.view) }
-    ensures meter { IfOk result
-        (λ after. after.meter ≡ capped (stage.meter + cond (is_some (reads stage.view vertex)) 1 0)) }
+    scene: &mut Scene<P::Message>,
+) -> Result<(), Memory>
+    requires shown { ShowsDeclared (P.program program.now).declared scene.old.cx.view }
+    requires fits { scene.old.cx.calls < 2 ^ 64 }
+    requires unused { IsUnused (P.program program.now).declared scene.old.cx }
+    ensures changes { OnOk result (changes.new
+        ≡ changes.old ++ change_alone (P.program program.now) scene.old.cx.view (record { id = id; old = None; new = vertex })) }
+    ensures view { OnOk result (scene.new.cx.view ≡ scene.old.cx.view) }
+    ensures unused { OnOk result (IsUnused (P.program program.now).declared scene.new.cx) }
+    ensures meter { OnOk result
+        (scene.new.cx.calls ≡ capped (scene.old.cx.calls + cond (is_some (reads scene.old.cx.view vertex)) 1 0)) }
 {
     match vertex {
         Some(Standing { state, inbox }) => {
@@ -231,10 +256,10 @@ fn play_standing<P: Computation>(
                 Some(state),
                 inbox.as_slice(),
                 changes,
-                stage,
+                scene,
             )
         }
-        None => Ok(stage),
+        None => Ok(()),
     }
 }
 
@@ -247,24 +272,26 @@ pub(crate) fn play_found<P: Computation>(
     state: Option<VertexState<P::Value>>,
     delivered: &[P::Message],
     changes: &mut Changes<P::Value, P::Message>,
-    stage: Stage<P::Message>,
-) -> Result<Stage<P::Message>, Memory>
-    requires shown { ShowsDeclared (P.program program.now).declared stage.view }
-    requires fits { stage.meter < 2 ^ 64 }
-    ensures changes { IfOk result (λ _. changes.new ≡ changes.old
-        ++ change_alone (P.program program.now) stage.view (record { id = id; old = None; new = standing_of state delivered.now })) }
-    ensures view { IfOk result (λ after. after.view ≡ stage.view) }
-    ensures meter { IfOk result
-        (λ after. after.meter ≡ capped (stage.meter + cond (is_some (reads stage.view (standing_of state delivered.now))) 1 0)) }
+    scene: &mut Scene<P::Message>,
+) -> Result<(), Memory>
+    requires shown { ShowsDeclared (P.program program.now).declared scene.old.cx.view }
+    requires fits { scene.old.cx.calls < 2 ^ 64 }
+    requires unused { IsUnused (P.program program.now).declared scene.old.cx }
+    ensures changes { OnOk result (changes.new ≡ changes.old
+        ++ change_alone (P.program program.now) scene.old.cx.view (record { id = id; old = None; new = standing_of state delivered.now })) }
+    ensures view { OnOk result (scene.new.cx.view ≡ scene.old.cx.view) }
+    ensures unused { OnOk result (IsUnused (P.program program.now).declared scene.new.cx) }
+    ensures meter { OnOk result
+        (scene.new.cx.calls ≡ capped (scene.old.cx.calls + cond (is_some (reads scene.old.cx.view (standing_of state delivered.now))) 1 0)) }
 {
     match state {
         Some(state) => {
             if state.halted && delivered.is_empty() {
-                return Ok(stage);
+                return Ok(());
             }
-            execute(alloc, program, id, state, delivered, changes, stage)
+            execute(alloc, program, id, state, delivered, changes, scene)
         }
-        None => Ok(stage),
+        None => Ok(()),
     }
 }
 
@@ -277,43 +304,26 @@ fn execute<P: Computation>(
     state: VertexState<P::Value>,
     delivered: &[P::Message],
     changes: &mut Changes<P::Value, P::Message>,
-    stage: Stage<P::Message>,
-) -> Result<Stage<P::Message>, Memory>
-    requires shown { ShowsDeclared (P.program program.now).declared stage.view }
-    ensures given { IfOk result (λ _. changes.new ≡ changes.old ++ (
+    scene: &mut Scene<P::Message>,
+) -> Result<(), Memory>
+    requires shown { ShowsDeclared (P.program program.now).declared scene.old.cx.view }
+    requires unused { IsUnused (P.program program.now).declared scene.old.cx }
+    ensures given { OnOk result (changes.new ≡ changes.old ++ (
       id,
       Some ((P.program program.now).step
-          (inputs_of stage.view (record { state = state; inbox = delivered.now }))),
+          (inputs_of scene.old.cx.view (record { state = state; inbox = delivered.now }))),
     ) ∷ []) }
-    ensures view { IfOk result (λ after. after.view ≡ stage.view) }
-    ensures meter { IfOk result (λ after. after.meter ≡ capped (stage.meter + 1)) }
+    ensures view { OnOk result (scene.new.cx.view ≡ scene.old.cx.view) }
+    ensures unused { OnOk result (IsUnused (P.program program.now).declared scene.new.cx) }
+    ensures meter { OnOk result (scene.new.cx.calls ≡ capped (scene.old.cx.calls + 1)) }
 {
-    let Stage {
-        view,
-        room,
-        spare,
-        meter,
-    } = stage;
-    let Spare { sent, contributed } = spare;
-    let mut cx = Cx::with_room(
-        view,
-        program.declared(),
-        meter,
-        Sequence::from_vec(sent),
-        Sequence::from_vec(contributed),
-    );
+    let room = mem::replace(&mut scene.room, EdgeRoom::new(alloc));
     let mut vertex = Vertex::new(state.id, state.value, state.edges, room)?;
-    program.compute(alloc, &mut vertex, delivered, &mut cx)?;
+    program.compute(alloc, &mut vertex, delivered, &mut scene.cx)?;
     let (state, room) = vertex.into_parts(alloc)?;
-    let (view, sent, contributed, meter) = cx.into_parts();
+    scene.room = room;
     let left = VertexState { id, ..state };
-    let mut sent = sent.into_vec();
-    let mut contributed = contributed.into_vec();
-    changes.add(left, &mut sent, &mut contributed)?;
-    Ok(Stage {
-        view,
-        room,
-        spare: Spare { sent, contributed },
-        meter,
-    })
+    scene.cx.exchange(&mut scene.sent, &mut scene.contributed);
+    changes.add(left, &mut scene.sent, &mut scene.contributed)?;
+    Ok(())
 }

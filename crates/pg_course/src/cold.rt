@@ -25,7 +25,7 @@ pub(crate) fn played<P: Computation, C: MessageCombiner<P::Message>>(
     bundles: &[Bundle<P::Message>],
     program: &P,
     combiner: &C,
-    stage: Stage<P::Message>,
+    stage: Stage,
 ) -> Result<Played<P::Value, P::Message>, Memory>
     requires shown { ShowsDeclared (P.program program.now).declared stage.view }
     requires fits { stage.meter < 2 ^ 64 }

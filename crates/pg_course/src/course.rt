@@ -87,7 +87,7 @@ pub(crate) struct Stepped<V, M: Plain> {
 /// What a step reads: what its executions share, what the old run saw where that is lent, and the bundles that it receives.
 #[derive(Drop)]
 struct Lent<M: Plain> {
-    stage: Stage<M>,
+    stage: Stage,
     old_view: Option<View>,
     bundles: Vec<Bundle<M>>,
 }
@@ -446,7 +446,7 @@ impl<V: Plain, M: Plain> Course<V, M> {
         old_view: &View,
         program: &P,
         combiner: &C,
-        stage: Stage<M>,
+        stage: Stage,
     ) -> Result<Stepped<V, M>, Memory>
         requires shown { ShowsDeclared (P.program program.now).declared stage.view }
         requires fits { stage.meter < 2 ^ 64 }
@@ -482,7 +482,7 @@ impl<V: Plain, M: Plain> Course<V, M> {
         bundles: &[Bundle<M>],
         program: &P,
         combiner: &C,
-        stage: Stage<M>,
+        stage: Stage,
     ) -> Result<Stepped<V, M>, Memory>
         requires shown { ShowsDeclared (P.program program.now).declared stage.view }
         requires fits { stage.meter < 2 ^ 64 }

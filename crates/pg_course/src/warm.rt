@@ -29,7 +29,7 @@ pub(crate) fn replayed<P: Computation, C: MessageCombiner<P::Message>>(
     old_view: &View,
     program: &P,
     combiner: &C,
-    stage: Stage<P::Message>,
+    stage: Stage,
 ) -> Result<Played<P::Value, P::Message>, Memory>
     requires shown { ShowsDeclared (P.program program.now).declared stage.view }
     requires fits { stage.meter < 2 ^ 64 }

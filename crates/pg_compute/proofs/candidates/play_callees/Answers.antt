@@ -36,8 +36,8 @@ loop-place-preserved g c =
     let more : map (alone program c.args.missing s trace) (before ++ one ∷ []) ≡ found ++ alone program c.args.missing s trace one ∷ [] =
     map-append (alone program c.args.missing s trace) before (one ∷ []) in
     let given = c.given_at.ensures
-    ∙ ap₂ given_at c.in_ok-stage.ensures.changes c.len-before.ensures
-    ∙ given_is program c.loop-place.stage.view (record { id = one.0; old = None; new = vertex }) c.loop-place.changes
+    ∙ ap₂ given_at c.in_ok-play_found.ensures.changes c.len-before.ensures
+    ∙ given_is program c.loop-place.scene.cx.view (record { id = one.0; old = None; new = vertex }) c.loop-place.changes
     ∙ ap₂ (λ v x. option_map program.step (reads v x)) now.view here in
     let runs : View → Candidate g.row.P-Value.Denot g.row.P-Message.Denot → _ = λ v c. is_some (reads v c.new) in
     let view = c.args.stage.view in
@@ -45,12 +45,13 @@ loop-place-preserved g c =
     let left = λ (w : ℕ × List g.row.P-Message.Denot). option_to_list (left_alone program view c.args.missing s trace w) in
     record {
       looked_at = c.in_ok-push.ensures.items ∙ (ap (λ l. l ++ one.0 ∷ []) now.looked_at ∙ sym (map-append (λ x. x.0) before (one ∷ [])) ∙ ap keys_of next);
-      changes = c.in_ok-stage.ensures.changes
+      changes = c.in_ok-play_found.ensures.changes
           ∙ ap₂ ◌++◌ now.changes (ap₂ (λ v x. change_alone program v (record { id = one.0; old = None; new = x })) now.view here)
           ∙ sym (ap (flat_map (change_alone program view)) more ∙ flat_map-push (change_alone program view) found (alone program c.args.missing s trace one))
           ∙ ap (λ l. flat_map (change_alone program view) (map (alone program c.args.missing s trace) l)) next;
-      view = c.in_ok-stage.ensures.view ∙ now.view;
-      meter = c.in_ok-stage.ensures.meter
+      view = c.in_ok-play_found.ensures.view ∙ now.view;
+      unused = c.in_ok-play_found.ensures.unused;
+      meter = c.in_ok-play_found.ensures.meter
           ∙ ap₂ (λ m x. capped (m + cond (is_some x) 1 0)) now.meter (ap₂ reads now.view here)
           ∙ more_calls meter (count_by (runs view) found) (cond (is_some (reads view (found_at program c.args.missing s trace one))) 1 0)
           ∙ ap (λ n. capped (meter + n))
@@ -78,7 +79,8 @@ pub returns-clause-meter : goal.returns-clause-meter
 returns-clause-meter g c =
     let program = g.P.Computation.program c.args.program.now in
     let view = c.args.stage.view in
-    c.loop-place.invariant.meter
+    c.into_meter.ensures
+    ∙ c.loop-place.invariant.meter
     ∙ ap (λ l. capped (c.args.stage.meter + count_by (λ (x : Candidate g.row.P-Value.Denot g.row.P-Message.Denot). is_some (reads view x.new))
     (map (alone program c.args.missing c.args.superstep c.args.trace.now) l)))
     (take_all c.loop-place.place c.args.callees.now (subst (λ n. n ≤ c.loop-place.place) c.len-place-end.ensures c.loop-place-test.false))

@@ -26,6 +26,7 @@ loop-candidate-preserved g c =
           ∙ ap₂ ◌++◌ c.loop-candidate.invariant.changes (ap (λ v. changes v one) same)
           ∙ sym (flat_map-push (changes c.args.stage.view) before one);
       view = c.in_ok-played.ensures.view ∙ same;
+      unused = c.in_ok-played.ensures.unused;
       meter = c.in_ok-played.ensures.meter
           ∙ ap₂ (λ m v. capped (m + cond (runs v one) 1 0)) c.loop-candidate.invariant.meter same
           ∙ more_calls c.args.stage.meter (count_by (runs c.args.stage.view) before) (cond (runs c.args.stage.view one) 1 0)
@@ -46,7 +47,6 @@ returns g c =
     record {
       looked_at = c.loop-candidate.invariant.looked_at ∙ ap (map (λ c. c.id)) all;
       changes = c.loop-candidate.invariant.changes ∙ ap (flat_map (change_of value_eq message_eq program c.args.stage.view c.args.seen)) all;
-      view = c.loop-candidate.invariant.view;
       meter = c.loop-candidate.invariant.meter
           ∙ ap (λ l. capped (c.args.stage.meter + count_by (is_run value_eq message_eq program c.args.stage.view c.args.seen) l)) all;
     }
@@ -55,20 +55,21 @@ pub returns-in_err-looked_at : goal.returns-in_err-looked_at
 returns-in_err-looked_at g c =
     let none = c.from_residual.ensures.0 in
     let at = c.from_residual.result in
-    record { looked_at = IfOk-from_err at _ none; changes = IfOk-from_err at _ none; view = IfOk-from_err at _ none; meter = IfOk-from_err at _ none }
+    record { looked_at = IfOk-from_err at _ none; changes = IfOk-from_err at _ none; meter = IfOk-from_err at _ none }
 
 pub returns-in_err-played : goal.returns-in_err-played
 returns-in_err-played g c =
     let none = c.from_residual-in_err-played.ensures.0 in
     let at = c.from_residual-in_err-played.result in
-    record { looked_at = IfOk-from_err at _ none; changes = IfOk-from_err at _ none; view = IfOk-from_err at _ none; meter = IfOk-from_err at _ none }
+    record { looked_at = IfOk-from_err at _ none; changes = IfOk-from_err at _ none; meter = IfOk-from_err at _ none }
 
 pub loop-candidate-init : goal.loop-candidate-init
 loop-candidate-init g c = record {
   looked_at = c.in_ok-looked_at.ensures.items;
   changes = c.in_ok-changes.ensures;
-  view = refl;
-  meter = capped_same c.args.stage.meter c.requires.fits;
+  view = c.of-scene.ensures.view;
+  unused = c.of-scene.ensures.unused;
+  meter = c.of-scene.ensures.meter ∙ capped_same c.args.stage.meter c.requires.fits;
   whole = c.into_iter-candidate-iterator.ensures.into_iter_gives.0;
 }
 

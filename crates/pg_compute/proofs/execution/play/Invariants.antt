@@ -2,6 +2,7 @@ use Rattle.std.proofs.Common.{◌≡◌, ◌+◌, ◌++◌, map}
 use Rattle.std.specs.List.{count_by, flat_map}
 use Rattle.pg_model.specs.Superstep.{capped}
 use Rattle.pg_compute.specs.Found.{change_of, is_run}
+use Rattle.pg_compute.specs.Scene.{IsUnused}
 use Rattle.pg_compute.proofs.execution.play.Given as goal
 
 abbrev pub invariant-loop-candidate : goal.invariant-loop-candidate
@@ -10,8 +11,9 @@ invariant-loop-candidate g l =
     record {
       looked_at : l.played.looked_at.items ≡ map (λ c. c.id) l.yielded;
       changes : l.played.changes ≡ flat_map (change_of g.P.Value.PartialEq.eq g.P.Message.PartialEq.eq program l.fn.stage.view l.seen) l.yielded;
-      view : l.played.stage.view ≡ l.fn.stage.view;
-      meter : l.played.stage.meter ≡ capped (l.fn.stage.meter + count_by
+      view : l.played.scene.cx.view ≡ l.fn.stage.view;
+      unused : IsUnused program.declared l.played.scene.cx;
+      meter : l.played.scene.cx.calls ≡ capped (l.fn.stage.meter + count_by
           (is_run g.P.Value.PartialEq.eq g.P.Message.PartialEq.eq program l.fn.stage.view l.seen) l.yielded);
       whole : l.yielded ++ l.candidate-iterator.rest.items ≡ l.fn.candidates.items;
     }

@@ -11,7 +11,7 @@ pub returns : goal.returns
 returns g c =
     let program = g.P.Computation.program c.args.program.now in
     let before = c.args.played in
-    let view = before.stage.view in
+    let view = before.scene.cx.view in
     let one = c.args.candidate in
     let same = are_same_reading g.P.Value.PartialEq.eq g.P.Message.PartialEq.eq one.old one.new in
     let apart : (c.args.seen && same) ≡ false = elim c.else-seen.branch [
@@ -24,8 +24,9 @@ returns g c =
           ≡ before.changes ++ change_unless program view (b || are_at_rest one.old one.new) one))
           (sym apart) c.play_other.ensures.changes;
       view = c.play_other.ensures.view;
-      meter = subst (λ (b : Bool). IfOk c.play_other.result (λ p. p.stage.meter
-          ≡ capped (before.stage.meter + cond (not b && is_some (reads view one.new)) 1 0)))
+      unused = c.play_other.ensures.unused;
+      meter = subst (λ (b : Bool). IfOk c.play_other.result (λ p. p.scene.cx.calls
+          ≡ capped (before.scene.cx.calls + cond (not b && is_some (reads view one.new)) 1 0)))
           (sym apart) c.play_other.ensures.meter;
     }
 
@@ -33,14 +34,14 @@ pub returns-in_err-push : goal.returns-in_err-push
 returns-in_err-push g c =
     let none = c.from_residual.ensures.0 in
     let at = c.from_residual.result in
-    record { looked_at = IfOk-from_err at _ none; changes = IfOk-from_err at _ none; view = IfOk-from_err at _ none; meter = IfOk-from_err at _ none }
+    record { looked_at = IfOk-from_err at _ none; changes = IfOk-from_err at _ none; view = IfOk-from_err at _ none; unused = IfOk-from_err at _ none; meter = IfOk-from_err at _ none }
 
 pub returns-then-are_same_reading : goal.returns-then-are_same_reading
 returns-then-are_same_reading g c =
     let program = g.P.Computation.program c.args.program.now in
     let before = c.args.played in
-    let view = before.stage.view in
-    let meter = before.stage.meter in
+    let view = before.scene.cx.view in
+    let meter = before.scene.cx.calls in
     let one = c.args.candidate in
     let same : (c.args.seen && are_same_reading g.P.Value.PartialEq.eq g.P.Message.PartialEq.eq one.old one.new) ≡ true =
     ap₂ ◌&&◌ c.if-seen.true (sym c.are_same_reading.ensures.value ∙ c.if-are_same_reading.true) in
@@ -49,5 +50,6 @@ returns-then-are_same_reading g c =
       changes = sym (append-nil before.changes)
           ∙ ap (λ (b : Bool). before.changes ++ change_unless program view (b || are_at_rest one.old one.new) one) (sym same);
       view = refl;
+      unused = c.requires.unused;
       meter = capped_same meter c.requires.fits ∙ ap (λ (b : Bool). capped (meter + cond (not b && is_some (reads view one.new)) 1 0)) (sym same);
     }

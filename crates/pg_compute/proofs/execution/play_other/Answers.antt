@@ -40,8 +40,8 @@ returns g c =
     let program = g.P.Computation.program c.args.program.now in
     let one = c.args.candidate in
     let before = c.args.played.changes in
-    let view = c.args.played.stage.view in
-    let found = c.in_ok-stage.ensures in
+    let view = c.args.played.scene.cx.view in
+    let found = c.in_ok-play_standing.ensures in
     let alone = cond (not (is_running one.new)) [] (change program view one.id one.new) in
     record {
       looked_at = refl;
@@ -51,17 +51,18 @@ returns g c =
           ∙ append_assoc before (cond (is_running one.old && not (is_running one.new)) (stopped program view one.id) []) alone
           ∙ ap (λ l. before ++ l) (both_changes program view one.id one.old one.new);
       view = found.view;
+      unused = found.unused;
       meter = found.meter;
     }
 
-pub returns-in_err-stage : goal.returns-in_err-stage
-returns-in_err-stage g c =
-    let none = c.from_residual-in_err-stage.ensures.0 in
-    let at = c.from_residual-in_err-stage.result in
-    record { looked_at = IfOk-from_err at _ none; changes = IfOk-from_err at _ none; view = IfOk-from_err at _ none; meter = IfOk-from_err at _ none }
+pub returns-in_err-play_standing : goal.returns-in_err-play_standing
+returns-in_err-play_standing g c =
+    let none = c.from_residual-in_err-play_standing.ensures.0 in
+    let at = c.from_residual-in_err-play_standing.result in
+    record { looked_at = IfOk-from_err at _ none; changes = IfOk-from_err at _ none; view = IfOk-from_err at _ none; unused = IfOk-from_err at _ none; meter = IfOk-from_err at _ none }
 
 pub returns-in_err-push_if_stopping : goal.returns-in_err-push_if_stopping
 returns-in_err-push_if_stopping g c =
     let none = c.from_residual.ensures.0 in
     let at = c.from_residual.result in
-    record { looked_at = IfOk-from_err at _ none; changes = IfOk-from_err at _ none; view = IfOk-from_err at _ none; meter = IfOk-from_err at _ none }
+    record { looked_at = IfOk-from_err at _ none; changes = IfOk-from_err at _ none; view = IfOk-from_err at _ none; unused = IfOk-from_err at _ none; meter = IfOk-from_err at _ none }
