@@ -31,6 +31,9 @@ const TURNS: u64 = 20;
 /// How many vertices have changed.
 const CHANGED: [u64; 3] = [1, 10, 100];
 
+/// How many bytes the piece has that is taken once, as by `pregeld`.
+const LARGE_PIECE: usize = 16 << 20;
+
 /// So many vertices are put into a graph at once.
 const BLOCK: u64 = 10_000;
 
@@ -486,8 +489,15 @@ fn report<R: Clock, O: Write>(
     )
 }
 
+/// Has the GNU C library keep what is let go of, as `pregeld` does: one large piece is taken and let go of.
+fn keep_freed_memory(alloc: Global) {
+    let piece: Result<Vec<u8>, AllocError> = Vec::with_capacity(alloc, LARGE_PIECE);
+    drop(piece);
+}
+
 fn main(rt: HostRuntime) -> io::Result<()> {
     let alloc = rt.alloc();
+    keep_freed_memory(alloc);
     let mut errors = rt.stderr();
     let mut count = VERTICES;
     for word in env::args(&rt)?.skip(1) {
