@@ -47,8 +47,8 @@ impl Stage {
     }
 }
 
-/// A stage on which vertices are executed one after another: what surrounds an execution, in which nothing was sent or
-/// contributed yet as one begins, and room for changed edges and for what is sent and contributed.
+/// What surrounds the executions of a superstep, one after another: a context, in which nothing was sent or contributed as
+/// one begins, and room for changed edges and for what is sent and contributed.
 #[derive(Drop)]
 pub(crate) struct Scene<M> {
     pub cx: Cx<M>,
@@ -58,7 +58,7 @@ pub(crate) struct Scene<M> {
 }
 
 impl<M: Drop> Scene<M> {
-    /// A stage before the first execution of a program.
+    /// What surrounds the first execution of a program.
     pub(crate) fn of<P: Computation>(alloc: Global, program: &P, stage: Stage) -> Scene<M>
         ensures view { result.cx.view ≡ stage.view }
         ensures meter { result.cx.calls ≡ stage.meter }
@@ -93,7 +93,7 @@ pub struct Played<V, M> {
     pub turned: Option<Turned>,
 }
 
-/// The same while vertices are executed, with what the executions share.
+/// The same while vertices are executed, with what surrounds them.
 #[derive(Drop)]
 pub(crate) struct Playing<V, M> {
     pub looked_at: Vec<VertexId>,

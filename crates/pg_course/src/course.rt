@@ -84,7 +84,7 @@ pub(crate) struct Stepped<V, M: Plain> {
     pub meter: Meter,
 }
 
-/// What a step reads: what its executions share, what the old run saw where that is lent, and the bundles that it receives.
+/// What a step reads: what its executions see, with the meter, what the old run saw where that is lent, and the bundles that it receives.
 #[derive(Drop)]
 struct Lent<M: Plain> {
     stage: Stage,

@@ -37,7 +37,7 @@ pub(crate) fn get<'a, X>(chunks: &'a [Chunk<X>], near: &mut usize, id: VertexId)
 
 /// In which chunk the value at an id stands, and at which place there. `near` becomes how many chunks begin at the id
 /// or below it. Where it was that before, from a look-up near this one, it costs a binary search in one chunk alone;
-/// else two. The one in the chunk is spared where the chunk has each id from its first up to this.
+/// else two. The one in the chunk is spared where the chunk has each id from its first up to this, or none from this on.
 #[inline(always)]
 pub(crate) fn found<X>(
     chunks: &[Chunk<X>],
@@ -127,7 +127,7 @@ fn place_of<X>(entries: &[(VertexId, X)], id: VertexId) -> Result<usize, usize>
     entries.binary_search_by_key(&id, |entry| entry.0)
 }
 
-/// Whether the ids of these entries are all below an id. Of no entries it says no.
+/// Whether the ids of these entries are all below an id. It may say no where they are: of no entries it does.
 fn are_below<X>(entries: &[(VertexId, X)], id: VertexId) -> bool
     requires { HasRisingIds entries.now }
     ensures { IsTrue result → IsPartitionPoint (λ e. nat_cmp e.0 id ≡ Less) (λ e. nat_cmp e.0 id ≡ Greater) entries.now
@@ -140,7 +140,7 @@ fn are_below<X>(entries: &[(VertexId, X)], id: VertexId) -> bool
     !is_at_most(id, entries[count - 1].0)
 }
 
-/// Puts a value at an id. It costs the binary searches of `found`, and moves what follows in the id's chunk and, where
+/// Puts a value at an id. It costs the look-ups of `found`, and moves what follows in the id's chunk and, where
 /// that is cut in two, the chunks that follow. Where memory is refused some of the values may be lost.
 pub(crate) fn put<X: Drop>(
     alloc: Global,

@@ -3,7 +3,8 @@
 //! Each vertex sends its input along its three edges. Of one run of a single superstep after another some inputs are
 //! others than in the run before, and only these vertices are called; a first step calls all vertices, as a run of the
 //! plain runner does. A line for each number of changed vertices goes to standard error, with the nanoseconds of the fastest
-//! of several steps. The program's argument is how many vertices there are; without one there are a few.
+//! of several steps. Memory that is let go of is kept, as in `pregeld`. The program's argument is how many vertices there are;
+//! without one there are a few.
 #![tactic(auto)]
 
 ghost use Rattle.std.specs.Prelude.{◌≡◌, length, true, IfSome};

@@ -81,8 +81,8 @@ impl<M: Drop> Cx<M> {
         (view, sent, contributed, meter)
     }
 
-    /// Hands out what was sent and contributed so far, in exchange for lists whose values are let go of: so what is sent next
-    /// takes their memory.
+    /// Hands out what was sent and contributed so far, in exchange for lists whose values are let go of. What is sent and
+    /// contributed next takes their memory.
     #[inline(always)]
     pub fn exchange(&mut self, sent: &mut Vec<(VertexId, M)>, contributed: &mut Vec<(Place, i64)>)
         ensures cx { self.new ≡ record self.old { sent = []; contributed = [] } }

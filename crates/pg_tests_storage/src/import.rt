@@ -125,7 +125,7 @@ fn lines_at_ends(alloc: Global) -> Result<Vec<Line>, Memory> {
     Ok(lines)
 }
 
-// Fewer than 256 lines are put in order by comparing, more by at most 8 bits at a time, and many by at most 13. The second
+// Fewer than 256 lines are put in order by comparing, more by at most 8 bits at a time, and many by at most 14. The second
 // list finds more edges at each source than the first one.
 #[test]
 fn lists_in_no_order(rt: HostRuntime) -> Result<(), EditFault> {

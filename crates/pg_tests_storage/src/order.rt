@@ -9,8 +9,8 @@ struct Jumping {
     span: u64,
 }
 
-// Among the low ones and among high ones, always the same one, and among all.
-const SPREADS: [Jumping; 4] = [
+// Among the low ones and among high ones, always the same one, among all, and with one digit and two of 14 bits.
+const SPREADS: [Jumping; 6] = [
     Jumping {
         least: 0,
         span: (1 << 26) - 1,
@@ -23,6 +23,14 @@ const SPREADS: [Jumping; 4] = [
     Jumping {
         least: 0,
         span: (1 << 63) - 1,
+    },
+    Jumping {
+        least: 7,
+        span: (1 << 14) - 1,
+    },
+    Jumping {
+        least: 7,
+        span: (1 << 28) - 1,
     },
 ];
 
@@ -82,7 +90,7 @@ fn are_put_in_order(alloc: Global, count: u32, spread: Jumping) -> Result<bool, 
     )
 }
 
-// Few ids are compared, more are told apart by at most 8 bits at a time, and many by at most 13.
+// Few ids are compared, more are told apart by at most 8 bits at a time, and many by at most 14.
 #[test]
 fn ids_are_put_in_order(rt: HostRuntime) -> Result<(), Memory> {
     let alloc = rt.alloc();
