@@ -4,15 +4,14 @@ ghost use Rattle.std.specs.List.Sorted.{IsStrictlySortedBy};
 ghost use Rattle.std.specs.Ordering.{nat_cmp};
 ghost use Rattle.std.specs.List.{AllByRecursion, count_by, flat_map};
 ghost use Rattle.std.specs.Map.{keys_of};
-ghost use Rattle.std.specs.Option.{option_copied};
 ghost use Rattle.pg_compute.specs.Candidates.{AreCallees, AreFound, IsPlayed, alone, awake_ids, found_at};
 ghost use Rattle.pg_routing.specs.Starting.{own};
-ghost use Rattle.pg_compute.specs.Turning.{AreTurned, IsTurned, given_at};
+ghost use Rattle.pg_compute.specs.Turning.{AreTurned, IsTurned};
 ghost use Rattle.pg_compute.specs.Found.{IsFound, IsTold, change_alone, reads};
 ghost use Rattle.pg_model.specs.Superstep.{capped};
 ghost use Rattle.pg_program.specs.Context.{ShowsDeclared};
 
-use crate::execution::{Played, Scene, Stage, ended, play, play_found};
+use crate::execution::{Played, Scene, Stage, play, play_found};
 use crate::found::{Candidate, copied_messages, state_by, tell_same, vertex_at};
 use crate::reading::{inboxes_at, lent_bundles, with_empty};
 use pg_global::MessageCombiner;
@@ -22,7 +21,7 @@ use pg_model::{Sequence, Standing};
 use pg_program::{Computation, Plain};
 use pg_recount::Turned;
 use pg_routing::Share;
-use pg_trace::{Changes, RecordRef, States, Trace};
+use pg_trace::{States, Trace};
 use std::alloc::Global;
 
 /// The vertices that aren't halted as a superstep begins, by rising id. Costs a walk over the records of the superstep
@@ -188,33 +187,25 @@ fn play_callees<P: Computation>(
 {
     let mut states = trace.states();
     let mut looked_at = Vec::with_capacity(alloc, callees.len())?;
-    // As many messages are sent as are received, mostly: a guess, and others grow the list or leave room, which is cut.
-    let mut changes = Changes::new(alloc, callees.len(), callees.messages())?;
+    let messages = room_for_messages(callees.messages());
+    let mut scene = Scene::of(alloc, program, stage, callees.len(), messages)?;
     let mut turned = Turned::nobody();
-    let mut scene = Scene::of(alloc, program, stage);
     for place in 0..callees.len() {
         let (id, delivered) = callees.at(place);
         looked_at.push(id)?;
         let state = states.state_at(id, superstep);
         let found = state_by(alloc, program, missing, id, &state, delivered)?;
-        let before = changes.len();
-        play_found(
-            alloc,
-            program,
-            id,
-            found,
-            delivered,
-            &mut changes,
-            &mut scene,
-        )?;
-        turned = turned.with(&state, &given_at(&changes, before))?;
+        let before = scene.len();
+        play_found(alloc, program, id, found, delivered, &mut scene)?;
+        turned = turned.with(&state, &scene.given_at(before))?;
     }
-    Ok(Played {
-        looked_at,
-        changes,
-        meter: scene.into_meter(),
-        turned: turned_next(trace, superstep, turned),
-    })
+    Ok(scene.into_played(looked_at, turned_next(trace, superstep, turned)))
+}
+
+/// For how many messages to make room where so many are received. Mostly about as many are sent. It is a guess: more of them
+/// grow the list, which costs a copy of it, and fewer leave room, which is cut.
+fn room_for_messages(received: usize) -> usize {
+    received.saturating_add(received / 4)
 }
 
 /// Censuses before and after a superstep, where it comes next in a trace.
@@ -229,17 +220,6 @@ fn turned_next<V: Drop, M: Drop>(
         return Some(turned);
     }
     None
-}
-
-/// The record that the change at a place gives, if there is one.
-fn given_at<V: Drop, M: Drop>(changes: &Changes<V, M>, place: usize) -> Option<RecordRef<'_, V, M>>
-    ensures { result ≡ given_at changes.now place }
-{
-    if place >= changes.len() {
-        return None;
-    }
-    let (_, given) = changes.at(place);
-    given
 }
 
 /// Looks at these vertices, in the new run and in the old one, and executes those that are active and don't read
@@ -282,8 +262,7 @@ pub fn play_beside<P: Computation, C: MessageCombiner<P::Message>>(
         ids,
         seen,
     )?;
-    let playing = play(alloc, program, candidates, seen, stage)?;
-    Ok(ended(playing))
+    play(alloc, program, candidates, seen, stage)
 }
 
 /// These vertices, in the new run and in the old one; and where the old run saw something else, all that receive

@@ -165,6 +165,7 @@ fn combine_folded<M: Plain, C: MessageCombiner<M>>(
 }
 
 /// Whether messages stand by rising sender.
+#[inline(always)]
 fn are_in_order<M: Plain>(parcel: &ParcelRef<'_, M>) -> bool
     ensures { result ≡ true → in_order parcel.now.letters ≡ parcel.now.letters }
 {
@@ -206,6 +207,7 @@ fn letters_in<M: Plain>(
 }
 
 /// Adds copies of messages with their senders.
+#[inline(always)]
 fn copy_letters<M: Plain>(
     alloc: Global,
     letters: &mut Vec<(VertexId, M)>,

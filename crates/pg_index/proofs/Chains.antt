@@ -1,6 +1,6 @@
 -- The runs of vertices in a log, as it grows and as they are gone through from the last one back.
 use Rattle.std.proofs.Common.{◌≡◌, ◌≢◌, ◌⊎◌, inl, inr, ℕ, zero, suc, ◌-◌, ◌<◌, ◌≤◌, ◌==◌, Bool, true, false, cond, List, [], ◌∷◌, ◌++◌, length, get_or}
-use Rattle.std.proofs.Common.{map, reverse, ltb, Option, None, Some, option_map, refl, sym, ap, ◌∙◌, subst, ⊎_elim, arith}
+use Rattle.std.proofs.Common.{map, reverse, ltb, None, Some, option_map, refl, sym, ap, ◌∙◌, subst, ⊎_elim, arith}
 use Rattle.std.specs.BTreeMap.{insert_entry, is_at}
 use Rattle.std.specs.List.{filter}
 use Rattle.std.specs.List.Sorted.{IsNonDecreasingBy, IsStrictlySortedBy}
@@ -12,7 +12,7 @@ use Rattle.std.proofs.lemmas.Bool.Decides.{eqb_tells, nat_tests}
 use Rattle.std.proofs.lemmas.List.{append-nil, get_or_append_left, get_or_default, length-append, map-append, reverse-append}
 use Rattle.std.proofs.lemmas.List.Elements.{filter-append}
 use Rattle.std.proofs.lemmas.Map.Made.{keys_of-map_values, lookup-map_values}
-use Rattle.pg_map.specs.Entries.{HasRisingIds, value_at, with_changes}
+use Rattle.pg_map.specs.Entries.{HasRisingIds, value_at}
 use Rattle.pg_map.proofs.Rising.{at_other, at_same, find-insert_other, find-insert_same}
 use Rattle.pg_index.specs.Logged.{AreWithin, back, chain, chains, first_below, no_run}
 use Rattle.pg_index.specs.Ran.{IsNotedOf, last_of, steps_below, steps_in, with_ran}

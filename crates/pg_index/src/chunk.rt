@@ -36,8 +36,8 @@ pub(crate) fn get<'a, X>(chunks: &'a [Chunk<X>], near: &mut usize, id: VertexId)
 }
 
 /// In which chunk the value at an id stands, and at which place there. `near` becomes how many chunks begin at the id
-/// or below it. Where it was that before, from a look-up near this one, it costs a binary search in one chunk alone;
-/// else two. The one in the chunk is spared where the chunk has each id from its first up to this, or none from this on.
+/// or below it. Where it was that before, or one fewer, from a look-up near this one, it costs a binary search in one chunk
+/// alone; else two. The one in the chunk is spared where the chunk has each id from its first up to this, or none from this on.
 #[inline(always)]
 pub(crate) fn found<X>(
     chunks: &[Chunk<X>],
@@ -64,7 +64,7 @@ pub(crate) fn found<X>(
     }
 }
 
-/// How many chunks begin at an id or below it, which may be as many as before.
+/// How many chunks begin at an id or below it, which may be as many as before, or one more.
 fn begun<X>(chunks: &[Chunk<X>], before: usize, id: VertexId) -> usize
     requires { AreSound chunks.now }
     ensures bound { result ≤ length chunks.now }
@@ -72,6 +72,10 @@ fn begun<X>(chunks: &[Chunk<X>], before: usize, id: VertexId) -> usize
 {
     if have_begun(chunks, before, id) {
         return before;
+    }
+    let next = before.saturating_add(1);
+    if have_begun(chunks, next, id) {
+        return next;
     }
     chunks.partition_point(|chunk| is_at_most(chunk.first, id))
 }

@@ -5,7 +5,6 @@ ghost use Rattle.std.specs.Option.{option_to_list};
 use pg_graph::Memory;
 use std::alloc::Global;
 use std::marker::Model;
-use std::mem;
 
 /// A list of values, which a contract sees as the list.
 pub struct Sequence<T> {
@@ -46,21 +45,11 @@ impl<T> Sequence<T> {
     }
 
     /// The values as a vector, in the list's memory.
-    #[inline(always)]
     pub fn into_vec(self) -> Vec<T>
         ensures { result.items ≡ self }
     {
         let Sequence { items } = self;
         items
-    }
-
-    /// Takes the values of a vector with their memory, in exchange for those that it has.
-    #[inline(always)]
-    pub fn exchange(&mut self, items: &mut Vec<T>)
-        ensures list { self.new ≡ items.old.items }
-        ensures items { items.new.items ≡ self.old }
-    {
-        mem::swap(&mut self.items, items);
     }
 
     /// Adds a value at the end.

@@ -25,7 +25,8 @@ use Rattle.pg_model.specs.Superstep.{has_id}
 use Rattle.pg_model.specs.declared.record.Record.{Record}
 use Rattle.pg_part.specs.Reckoned.{IsReckoned, IsReckonedBeside}
 use Rattle.pg_part.proofs.Shares.{all_among, census_beside_is, census_is, found, states_in}
-use Rattle.pg_recount.specs.Contributed.{contributed_by, contributes_alike, contributions_of}
+use Rattle.pg_records.specs.Records.{contributions_of}
+use Rattle.pg_recount.specs.Contributed.{contributed_by, contributes_alike}
 use Rattle.pg_recount.specs.Traffic.{AreMoved, IsRetold, IsTold, traffic_of}
 use Rattle.pg_recount.proofs.LawsOfRun.{bundle_to, contribute_the_same, gathered_of_run, same_contributions, traffic_of_run}
 use Rattle.pg_recount.proofs.LawsTraffic.{traffic_is}

@@ -7,8 +7,9 @@ use Rattle.pg_graph.specs.Rows.{Rows}
 use Rattle.pg_part.specs.declared.reckoning.Reckoning.{Reckoning}
 use Rattle.pg_inbox.specs.Logged.{Slots}
 use Rattle.pg_inbox.specs.declared.logs.Logged.{Logged}
+use Rattle.pg_records.specs.Records.{contributions_of}
 use Rattle.pg_recount.specs.Census.{IsRecounted, states_among}
-use Rattle.pg_recount.specs.Contributed.{contributes_alike, contributions_of}
+use Rattle.pg_recount.specs.Contributed.{contributes_alike}
 use Rattle.pg_recount.specs.Traffic.{IsRetold, traffic_of}
 use Rattle.pg_stats.specs.GlobalStats.{aggregators_of}
 use Rattle.pg_stats.specs.Stats.{census_of, gathered_afresh}

@@ -14,8 +14,7 @@ use pg_inbox::{Logged, Logs};
 use pg_model::Sequence;
 use pg_program::Plain;
 use pg_recount::{
-    census_among, contribute_alike, contributions, gathered, recounted, traffic, traffic_beside,
-    turned_among,
+    census_among, contribute_alike, gathered, recounted, traffic, traffic_beside, turned_among,
 };
 use pg_stats::{Census, PartitionStats, Traffic};
 use pg_trace::Trace;
@@ -217,7 +216,7 @@ fn gathered_in<V: Plain, M: Plain>(
     if registry.len() == 0 {
         return Ok(Sequence::new(alloc));
     }
-    let contributions = contributions(alloc, trace, superstep)?;
+    let contributions = trace.contributions(alloc, superstep)?;
     gathered(alloc, registry, contributions.as_slice())
 }
 

@@ -41,7 +41,6 @@ impl<M: Drop> Cx<M> {
 
     /// The same, where what is sent and contributed takes the memory of these lists, whose values are let go
     /// of. So contexts that follow one another need not grow anew.
-    #[inline(always)]
     pub fn with_room(
         view: View,
         declared: Declared,
@@ -64,7 +63,6 @@ impl<M: Drop> Cx<M> {
     }
 
     /// What was seen, what was sent and contributed, in that order, and the meter.
-    #[inline(always)]
     pub fn into_parts(self) -> (View, Sequence<(VertexId, M)>, Sequence<(Place, i64)>, Meter)
         ensures view { result.0 ≡ self.view }
         ensures sent { result.1 ≡ self.sent }
@@ -81,18 +79,20 @@ impl<M: Drop> Cx<M> {
         (view, sent, contributed, meter)
     }
 
-    /// Hands out what was sent and contributed so far, in exchange for lists whose values are let go of. What is sent and
-    /// contributed next takes their memory.
+    /// What was sent so far by all executions that the context has served, each message beside its target.
     #[inline(always)]
-    pub fn exchange(&mut self, sent: &mut Vec<(VertexId, M)>, contributed: &mut Vec<(Place, i64)>)
-        ensures cx { self.new ≡ record self.old { sent = []; contributed = [] } }
-        ensures sent { sent.new.items ≡ self.old.sent }
-        ensures contributed { contributed.new.items ≡ self.old.contributed }
+    pub fn sent(&self) -> &[(VertexId, M)]
+        ensures { result.now ≡ self.now.sent }
     {
-        sent.clear();
-        contributed.clear();
-        self.sent.exchange(sent);
-        self.contributed.exchange(contributed);
+        self.sent.as_slice()
+    }
+
+    /// What was contributed so far by all of them, each value beside the place of its aggregator.
+    #[inline(always)]
+    pub fn contributed(&self) -> &[(Place, i64)]
+        ensures { result.now ≡ self.now.contributed }
+    {
+        self.contributed.as_slice()
     }
 
     /// The number of the superstep.

@@ -17,6 +17,7 @@ pub struct EdgeRoom {
 
 impl EdgeRoom {
     /// Room for no edges yet. It grows as vertices with more edges come.
+    #[inline(always)]
     pub fn new(alloc: Global) -> EdgeRoom {
         EdgeRoom {
             items: Vec::new(alloc),

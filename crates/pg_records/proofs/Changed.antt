@@ -9,6 +9,7 @@ use Rattle.std.specs.Ordering.{nat_cmp}
 use Rattle.std.proofs.lemmas.Bool.Decides.{nat_tests}
 use Rattle.std.proofs.lemmas.List.{map-append}
 use Rattle.std.proofs.lemmas.Option.{slice_get-get_or}
+use Rattle.std.proofs.lemmas.List.Concat.{flat_map-append}
 use Rattle.std.proofs.lemmas.List.Elements.{filter-append}
 use Rattle.pg_map.specs.Entries.{ChangesRise, HasRisingIds, value_at, with_changes}
 use Rattle.pg_map.proofs.Changing.{rises-changes, value_at-with_changes}
@@ -16,7 +17,7 @@ use Rattle.pg_map.proofs.Rising.{same_entries}
 use Rattle.pg_model.specs.Superstep.{has_id}
 use Rattle.pg_model.specs.declared.record.Record.{Record}
 use Rattle.pg_records.specs.Changes.{given_at, given_to, somes, told}
-use Rattle.pg_records.specs.Records.{awake_after}
+use Rattle.pg_records.specs.Records.{awake_after, contributions_of}
 use Rattle.pg_records.proofs.Somes.{nothing_rises, somes-append, somes_rise, value_at-somes}
 
 at_test : (q k : ℕ) → is_at (nat_cmp q) k ≡ (k == q)
@@ -185,3 +186,7 @@ module _ {V M : Type 0} where
 
   pub awake-append : (xs ys : List (ℕ × Option (Record V M))) → awake_after (somes (xs ++ ys)) ≡ awake_after (somes xs) ++ awake_after (somes ys)
   awake-append xs ys = ap awake_after (somes-append xs ys) ∙ awake_after-append (somes xs) (somes ys)
+
+  pub contributions-append : (xs ys : List (ℕ × Option (Record V M)))
+      → contributions_of (somes (xs ++ ys)) ≡ contributions_of (somes xs) ++ contributions_of (somes ys)
+  contributions-append xs ys = ap contributions_of (somes-append xs ys) ∙ flat_map-append (λ r. r.1.contributed) (somes xs) (somes ys)

@@ -15,10 +15,10 @@ use Rattle.pg_map.proofs.Search.{lookup_found}
 use Rattle.pg_model.specs.declared.record.Record.{Record}
 use Rattle.pg_records.specs.Changes.{given_to, told}
 use Rattle.pg_records.specs.Parts.{AreWithin, IsPart, IsWithin, changes_in, part_of, record_in}
-use Rattle.pg_records.specs.declared.changes.Left.{Left}
-use Rattle.pg_records.specs.declared.changes.Part.{Part}
+use Rattle.pg_records.specs.declared.changes.Executed.{Executed}
+use Rattle.pg_records.specs.declared.changes.Extent.{Extent}
 
-module _ {X : Type 0} (xs ys : List X) (part : Part) where
+module _ {X : Type 0} (xs ys : List X) (part : Extent) where
   -- a part of a list is the same part of a longer one
   part_stays : IsPart part xs → part_of part (xs ++ ys) ≡ part_of part xs
   part_stays within =
@@ -37,10 +37,10 @@ module _ {X : Type 0} (xs ys : List X) (part : Part) where
     is_added = omega (arith, first, count, length-append xs ys)
 
 module _ {V M : Type 0} (sent more : List (ℕ × M)) (contributed extra : List (ℕ × ℤ)) where
-  abbrev made : Left V → List (ℕ × M) → List (ℕ × ℤ) → Record V M
+  abbrev made : Executed V → List (ℕ × M) → List (ℕ × ℤ) → Record V M
   made left a b = record { value = left.value; edges = left.edges; halted = left.halted; sent = a; contributed = b }
 
-  longer : (entries : List (ℕ × Option (Left V))) → AreWithin sent contributed entries
+  longer : (entries : List (ℕ × Option (Executed V))) → AreWithin sent contributed entries
       → changes_in (sent ++ more) (contributed ++ extra) entries ≡ changes_in sent contributed entries
   longer [] within = refl
   longer ((id, None) ∷ entries) within = ap (λ l. (id, None) ∷ l) (longer entries within.1)
@@ -48,26 +48,26 @@ module _ {V M : Type 0} (sent more : List (ℕ × M)) (contributed extra : List 
       ap₂ (λ r l. (id, Some r) ∷ l)
       (ap₂ (made left) (part_stays sent more left.sent within.0.0) (part_stays contributed extra left.contributed within.0.1)) (longer entries within.1)
 
-  within_one : (left : Option (Left V)) → IsWithin sent contributed left → IsWithin (sent ++ more) (contributed ++ extra) left
+  within_one : (left : Option (Executed V)) → IsWithin sent contributed left → IsWithin (sent ++ more) (contributed ++ extra) left
   within_one None within = tt
   within_one (Some left) within =
       (part_longer sent more left.sent within.0, part_longer contributed extra left.contributed within.1)
 
-  within_all : (entries : List (ℕ × Option (Left V))) → AreWithin sent contributed entries → AreWithin (sent ++ more) (contributed ++ extra) entries
+  within_all : (entries : List (ℕ × Option (Executed V))) → AreWithin sent contributed entries → AreWithin (sent ++ more) (contributed ++ extra) entries
   within_all [] within = tt
   within_all (e ∷ entries) within = (within_one e.1 within.0, within_all entries within.1)
 
-  module _ (entries : List (ℕ × Option (Left V))) {sent' : List (ℕ × M)} {contributed' : List (ℕ × ℤ)}
+  module _ (entries : List (ℕ × Option (Executed V))) {sent' : List (ℕ × M)} {contributed' : List (ℕ × ℤ)}
       (within : AreWithin sent contributed entries) (sends : sent' ≡ (sent ++ more)) (contributes : contributed' ≡ (contributed ++ extra)) where
     grown : AreWithin sent' contributed' entries
     grown = subst₂ (λ a b. AreWithin a b entries) (sym sends) (sym contributes) (within_all entries within)
 
     -- the lists have grown, and the entries stay
-    pub within_grown : {entries' : List (ℕ × Option (Left V))} → entries' ≡ entries → AreWithin sent' contributed' entries'
+    pub within_grown : {entries' : List (ℕ × Option (Executed V))} → entries' ≡ entries → AreWithin sent' contributed' entries'
     within_grown same = subst (AreWithin sent' contributed') (sym same) grown
 
     -- and with what one more has left
-    module _ (id : ℕ) (left : Left V) {entries' : List (ℕ × Option (Left V))} (pushed : entries' ≡ entries ++ (id, Some left) ∷ [])
+    module _ (id : ℕ) (left : Executed V) {entries' : List (ℕ × Option (Executed V))} (pushed : entries' ≡ entries ++ (id, Some left) ∷ [])
         (sent_first : left.sent.first ≡ length sent) (sent_count : left.sent.count ≡ length more)
         (contributed_first : left.contributed.first ≡ length contributed) (contributed_count : left.contributed.count ≡ length extra) where
       is_one : IsWithin sent' contributed' (Some left)
@@ -89,29 +89,29 @@ module _ {V M : Type 0} (sent more : List (ℕ × M)) (contributed extra : List 
 module _ {V M : Type 0} (sent : List (ℕ × M)) (contributed : List (ℕ × ℤ)) where
   -- ---- the ids of changes are those of the entries
 
-  keys_in : (entries : List (ℕ × Option (Left V))) → keys_of (changes_in sent contributed entries) ≡ keys_of entries
+  keys_in : (entries : List (ℕ × Option (Executed V))) → keys_of (changes_in sent contributed entries) ≡ keys_of entries
   keys_in [] = refl
   keys_in (e ∷ entries) = ap (λ l. e.0 ∷ l) (keys_in entries)
 
-  told_left : (left : Option (Left V)) → is_some left ≡ is_some (option_map (record_in sent contributed) left)
+  told_left : (left : Option (Executed V)) → is_some left ≡ is_some (option_map (record_in sent contributed) left)
   told_left None = refl
   told_left (Some left) = refl
 
-  pub told_in : (entries : List (ℕ × Option (Left V))) → told entries ≡ told (changes_in sent contributed entries)
+  pub told_in : (entries : List (ℕ × Option (Executed V))) → told entries ≡ told (changes_in sent contributed entries)
   told_in [] = refl
   told_in (e ∷ entries) = ap₂ (λ b l. (e.0, b) ∷ l) (told_left e.1) (told_in entries)
 
-  key_at : (entries : List (ℕ × Option (Left V))) (place : ℕ) (d : ℕ × Option (Record V M)) (e : ℕ × Option (Left V)) → place < length entries
+  key_at : (entries : List (ℕ × Option (Executed V))) (place : ℕ) (d : ℕ × Option (Record V M)) (e : ℕ × Option (Executed V)) → place < length entries
       → (get_or (changes_in sent contributed entries) place d).0 ≡ (get_or entries place e).0
   key_at [] place d e within = absurd (omega (arith, within))
   key_at (x ∷ entries) zero d e within = refl
   key_at (x ∷ entries) (suc place) d e within = key_at entries place d e (omega (arith, within))
 
-  length_in : (entries : List (ℕ × Option (Left V))) → length (changes_in sent contributed entries) ≡ length entries
+  pub length_in : (entries : List (ℕ × Option (Executed V))) → length (changes_in sent contributed entries) ≡ length entries
   length_in [] = refl
   length_in (e ∷ entries) = ap suc (length_in entries)
 
-  found_in : (entries : List (ℕ × Option (Left V))) (id : ℕ) → value_at id entries ≡ None → value_at id (changes_in sent contributed entries) ≡ None
+  found_in : (entries : List (ℕ × Option (Executed V))) (id : ℕ) → value_at id entries ≡ None → value_at id (changes_in sent contributed entries) ≡ None
   found_in [] id none = refl
   found_in (e ∷ entries) id none = by (is_at (nat_cmp id) e.0) none (found_in entries id)
     where
@@ -121,7 +121,7 @@ module _ {V M : Type 0} (sent : List (ℕ × M)) (contributed : List (ℕ × ℤ
       by Bool.true h later = absurd cc
       by Bool.false h later = later h
 
-  module _ (entries : List (ℕ × Option (Left V))) {now : List (ℕ × Option (Record V M))} (are : changes_in sent contributed entries ≡ now) where
+  module _ (entries : List (ℕ × Option (Executed V))) {now : List (ℕ × Option (Record V M))} (are : changes_in sent contributed entries ≡ now) where
     pub entries_rise : ChangesRise now → ChangesRise entries
     entries_rise rise = subst (IsStrictlySortedBy nat_cmp) (ap keys_of (sym are) ∙ keys_in entries) rise
 

@@ -3,8 +3,8 @@ use Rattle.std.specs.Prelude.{◌≡◌, ℕ, ℤ, pos, true, false, List, [], �
 use Rattle.pg_model.specs.declared.record.Record.{Record}
 use Rattle.pg_records.specs.Changes.{given_at, given_to, told}
 use Rattle.pg_records.specs.Parts.{changes_in}
-use Rattle.pg_records.specs.Records.{awake_after}
-use Rattle.pg_records.specs.declared.changes.Left.{Left}
+use Rattle.pg_records.specs.Records.{awake_after, contributions_of}
+use Rattle.pg_records.specs.declared.changes.Executed.{Executed}
 
 abbrev gave : ℤ → Record ℤ ℤ
 gave value = record { value = value; edges = []; halted = true; sent = (7, value) ∷ []; contributed = [] }
@@ -28,7 +28,7 @@ given_at_a_place = refl
 who_is_given : told two ≡ (3, true) ∷ (5, false) ∷ []
 who_is_given = refl
 
-abbrev left : ℕ → ℤ → Left ℤ
+abbrev left : ℕ → ℤ → Executed ℤ
 left first value = record {
   value = value;
   edges = [];
@@ -44,3 +44,11 @@ side_by_side = refl
 
 awake_ones : awake_after ((3, gave (pos 1)) ∷ (4, record (gave (pos 2)) { halted = false }) ∷ []) ≡ 4 ∷ []
 awake_ones = refl
+
+abbrev adds : ℤ → Record ℤ ℤ
+adds value = record (gave value) { contributed = (0, value) ∷ (2, pos 1) ∷ [] }
+
+-- what each contributes stands in its order
+all_contributions : contributions_of ((3, adds (pos 7)) ∷ (4, gave (pos 2)) ∷ (5, adds (pos 8)) ∷ [])
+    ≡ (0, pos 7) ∷ (2, pos 1) ∷ (0, pos 8) ∷ (2, pos 1) ∷ []
+all_contributions = refl

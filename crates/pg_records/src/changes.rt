@@ -1,5 +1,5 @@
 //! What a superstep makes of the records of vertices, side by side.
-ghost use Rattle.std.specs.Prelude.{◌≡◌, ◌++◌, ◌∷◌, ◌<◌, ℕ, [], Option, None, Some, is_some, length, slice_index_or};
+ghost use Rattle.std.specs.Prelude.{◌≡◌, ◌++◌, ◌∷◌, ◌+◌, ◌<◌, ◌≤◌, ℕ, [], Option, None, Some, is_some, length, slice_index_or};
 ghost use Rattle.std.specs.Prelude.{IfOk, IfErr, IfSome, IfNone, IsTrue, OnErr, OnOk};
 ghost use Rattle.std.specs.List.{HoldsAt};
 ghost use Rattle.std.specs.List.Sorted.{IsPartitionPoint};
@@ -8,7 +8,7 @@ ghost use Rattle.std.specs.declared.cmp.Ordering.TheVariants.{Less, Equal, Great
 ghost use Rattle.pg_map.specs.Entries.{ChangesRise, HasRisingIds, value_at};
 ghost use Rattle.pg_model.specs.declared.record.Record.{Record};
 ghost use Rattle.pg_records.specs.Changes.{given_to, told};
-ghost use Rattle.pg_records.specs.Parts.{IsPart, part_of, record_in};
+ghost use Rattle.pg_records.specs.Parts.{AreWithin, IsPart, changes_in, part_of, record_in};
 
 use crate::record::RecordRef;
 use pg_graph::{Edges, Memory, VertexId};
@@ -16,27 +16,45 @@ use pg_model::{Place, VertexState};
 use std::alloc::{AllocError, Global};
 use std::marker::Model;
 
-/// Which part of a list: so many items from a place on.
+/// Which part of a list is meant: so many items from a place on.
 #[derive(Clone, Copy)]
-pub(crate) struct Part {
-    pub(crate) first: u32,
-    pub(crate) count: u32,
+pub struct Extent {
+    pub first: u32,
+    pub count: u32,
+}
+
+impl Extent {
+    /// The items from a place on, up to another. Refused as want of memory is where that takes more than 32 bits.
+    #[inline(always)]
+    pub fn between(first: usize, end: usize) -> Result<Extent, Memory>
+        requires { first ≤ end }
+        ensures first { IfOk result (λ part. part.first ≡ first) }
+        ensures end { IfOk result (λ part. part.first + part.count ≡ end) }
+    {
+        if end > u32::MAX as usize {
+            return Err(AllocError);
+        }
+        Ok(Extent {
+            first: first as u32,
+            count: (end - first) as u32,
+        })
+    }
 }
 
 /// What an execution left, and which parts of the lists of its superstep it sent and contributed.
 #[derive(Drop)]
-pub(crate) struct Left<V> {
-    pub(crate) value: V,
-    pub(crate) edges: Edges,
-    pub(crate) halted: bool,
-    pub(crate) sent: Part,
-    pub(crate) contributed: Part,
+pub struct Executed<V> {
+    pub value: V,
+    pub edges: Edges,
+    pub halted: bool,
+    pub sent: Extent,
+    pub contributed: Extent,
 }
 
 /// What a superstep makes of the records of vertices: each of them has a new one, or none any more. What they left lies in
 /// one list, what they sent in another, and what they contributed in a third. A contract sees the list of (id, record).
 pub struct Changes<V, M> {
-    entries: Vec<(VertexId, Option<Left<V>>)>,
+    entries: Vec<(VertexId, Option<Executed<V>>)>,
     sent: Vec<(VertexId, M)>,
     contributed: Vec<(Place, i64)>,
 }
@@ -65,15 +83,32 @@ impl<V, M> Model for Changes<V, M> {
 }
 
 impl<V: Drop, M: Drop> Changes<V, M> {
-    /// No changes, with room for those of so many vertices and for so many messages.
-    pub fn new(alloc: Global, vertices: usize, messages: usize) -> Result<Changes<V, M>, Memory>
+    /// No changes, with room for those of so many vertices.
+    pub fn new(alloc: Global, vertices: usize) -> Result<Changes<V, M>, Memory>
         ensures { IfOk result (λ changes. changes ≡ []) }
     {
         Ok(Changes {
             entries: Vec::with_capacity(alloc, vertices)?,
-            sent: Vec::with_capacity(alloc, messages)?,
+            sent: Vec::new(alloc),
             contributed: Vec::new(alloc),
         })
+    }
+
+    /// What these vertices left, or that they have no record any more, with all that was sent and contributed, in their
+    /// memory.
+    pub fn of(
+        left: Vec<(VertexId, Option<Executed<V>>)>,
+        sent: Vec<(VertexId, M)>,
+        contributed: Vec<(Place, i64)>,
+    ) -> Changes<V, M>
+        requires { AreWithin sent.items contributed.items left.items }
+        ensures { result ≡ changes_in sent.items contributed.items left.items }
+    {
+        Changes {
+            entries: left,
+            sent,
+            contributed,
+        }
     }
 
     /// Lets go of the room that isn't taken.
@@ -95,6 +130,11 @@ impl<V: Drop, M: Drop> Changes<V, M> {
     /// How many messages they send: for how many to make room, so no contract tells it.
     pub fn messages(&self) -> usize {
         self.sent.len()
+    }
+
+    /// How many contributions there are: for how many to make room, so no contract tells it.
+    pub(crate) fn contribution_count(&self) -> usize {
+        self.contributed.len()
     }
 
     /// The vertex at a place, and its record, if it has one. Costs O(1).
@@ -124,13 +164,12 @@ impl<V: Drop, M: Drop> Changes<V, M> {
     }
 
     /// Adds the record of a vertex: that it leaves this state, and these messages and contributions, which are moved to those
-    /// of the others. Their lists keep their memory.
-    #[inline(always)]
+    /// of the others.
     pub fn add(
         &mut self,
         state: VertexState<V>,
-        sent: &mut Vec<(VertexId, M)>,
-        contributed: &mut Vec<(Place, i64)>,
+        sent: Vec<(VertexId, M)>,
+        contributed: Vec<(Place, i64)>,
     ) -> Result<(), Memory>
         ensures { OnOk result (self.new ≡ self.old ++ (
           state.id,
@@ -138,8 +177,8 @@ impl<V: Drop, M: Drop> Changes<V, M> {
             value = state.value;
             edges = state.edges;
             halted = state.halted;
-            sent = sent.old.items;
-            contributed = contributed.old.items;
+            sent = sent.items;
+            contributed = contributed.items;
           }),
         ) ∷ []) }
     {
@@ -151,7 +190,7 @@ impl<V: Drop, M: Drop> Changes<V, M> {
             edges,
             halted,
         } = state;
-        let left = Left {
+        let left = Executed {
             value,
             edges,
             halted,
@@ -193,11 +232,12 @@ fn place_if(is_asked: bool, place: usize) -> Option<u32>
     None
 }
 
-/// The record of a vertex that left this.
-fn record_of<'a, V, M>(
+/// The record of an execution that left this, by all that was sent and contributed. Costs O(1).
+#[inline(always)]
+pub fn record_of<'a, V, M>(
     sent: &'a [(VertexId, M)],
     contributed: &'a [(Place, i64)],
-    left: &'a Left<V>,
+    left: &'a Executed<V>,
 ) -> RecordRef<'a, V, M>
     requires sent { IsPart left.now.sent sent.now }
     requires contributed { IsPart left.now.contributed contributed.now }
@@ -213,7 +253,7 @@ fn record_of<'a, V, M>(
 }
 
 /// A part of a list.
-fn part_of<X>(items: &[X], part: Part) -> &[X]
+fn part_of<X>(items: &[X], part: Extent) -> &[X]
     requires { IsPart part items.now }
     ensures { result.now ≡ part_of part items.now }
 {
@@ -260,17 +300,17 @@ fn is_at<X>(entries: &[(VertexId, X)], id: VertexId, place: usize) -> bool
 }
 
 /// Moves all items of a list to the end of another. Which part of that they are then.
-#[inline(always)]
-fn moved<X: Drop>(into: &mut Vec<X>, items: &mut Vec<X>) -> Result<Part, Memory>
-    ensures list { OnOk result (into.new.items ≡ into.old.items ++ items.old.items) }
+fn moved<X: Drop>(into: &mut Vec<X>, items: Vec<X>) -> Result<Extent, Memory>
+    ensures list { OnOk result (into.new.items ≡ into.old.items ++ items.items) }
     ensures first { IfOk result (λ part. part.first ≡ length into.old.items) }
-    ensures count { IfOk result (λ part. part.count ≡ length items.old.items) }
+    ensures count { IfOk result (λ part. part.count ≡ length items.items) }
     ensures err { OnErr result (into.new.items ≡ into.old.items) }
 {
     let first = narrow(into.len())?;
     let count = narrow(items.len())?;
-    into.append(items)?;
-    Ok(Part { first, count })
+    let mut items = items;
+    into.append(&mut items)?;
+    Ok(Extent { first, count })
 }
 
 /// A number in 32 bits. No list is so long that it doesn't fit.

@@ -6,13 +6,14 @@ ghost use Rattle.std.specs.Ordering.{nat_cmp};
 ghost use Rattle.pg_map.specs.Entries.{ChangesRise, HasRisingIds, value_at, with_changes};
 ghost use Rattle.pg_model.specs.Superstep.{has_id};
 ghost use Rattle.pg_records.specs.Changes.{somes};
-ghost use Rattle.pg_records.specs.Records.{awake_after};
+ghost use Rattle.pg_records.specs.Records.{awake_after, contributions_of};
 
 use crate::change::Change;
 use crate::changes::Changes;
 use crate::record::RecordRef;
 use pg_graph::{Memory, VertexId};
 use pg_map::Map;
+use pg_model::Place;
 use std::alloc::Global;
 use std::marker::Model;
 use std::sync::Arc;
@@ -135,6 +136,19 @@ impl<V: Drop, M: Drop> Records<V, M> {
         Ok(all)
     }
 
+    /// What all of them contributed, by rising id and of each in the order given. Costs a look at each record, and where
+    /// something was changed what `listed` does.
+    pub fn contributions(&self, alloc: Global) -> Result<Vec<(Place, i64)>, Memory>
+        ensures { IfOk result (λ all. all.items ≡ contributions_of self.now) }
+    {
+        tell_rising(&self.changes);
+        if self.changes.len() == 0 {
+            return contributions_by(alloc, &self.given);
+        }
+        let records = self.listed(alloc)?;
+        contributions_among(alloc, records.as_slice())
+    }
+
     /// The ids of those that weren't halted by what they gave. Where nothing was changed it costs a look at each record.
     pub fn awake(&self, alloc: Global) -> Result<Vec<VertexId>, Memory>
         ensures ids { IfOk result (λ ids. ids.items ≡ awake_after self.now) }
@@ -182,6 +196,60 @@ fn add_if_any<'a, V: Drop, M: Drop>(
 {
     if let Some(record) = given {
         all.push((id, record))?;
+    }
+    Ok(())
+}
+
+/// What is contributed by the records that changes give.
+fn contributions_by<V: Drop, M: Drop>(
+    alloc: Global,
+    given: &Changes<V, M>,
+) -> Result<Vec<(Place, i64)>, Memory>
+    requires { ChangesRise given.now }
+    ensures { IfOk result (λ all. all.items ≡ contributions_of (with_changes given.now [])) }
+{
+    let mut all = Vec::with_capacity(alloc, given.contribution_count())?;
+    for place in 0..given.len() {
+        let (id, record) = given.at(place);
+        add_contributed(&mut all, id, &record)?;
+    }
+    Ok(all)
+}
+
+/// What is contributed by these records.
+fn contributions_among<V: Drop, M: Drop>(
+    alloc: Global,
+    records: &[(VertexId, RecordRef<'_, V, M>)],
+) -> Result<Vec<(Place, i64)>, Memory>
+    ensures { IfOk result (λ all. all.items ≡ contributions_of records.now) }
+{
+    let mut all = Vec::new(alloc);
+    for (_, record) in records {
+        add_all(&mut all, record.contributed())?;
+    }
+    Ok(all)
+}
+
+/// Adds what a vertex contributes by its record, if it has one.
+fn add_contributed<V: Drop, M: Drop>(
+    all: &mut Vec<(Place, i64)>,
+    id: VertexId,
+    given: &Option<RecordRef<'_, V, M>>,
+) -> Result<(), Memory>
+    ensures { OnOk result (all.new.items ≡ all.old.items ++ contributions_of (somes ((id, given.now) ∷ []))) }
+{
+    if let Some(record) = given {
+        add_all(all, record.contributed())?;
+    }
+    Ok(())
+}
+
+/// Adds contributions one by one, since mostly there is one or none.
+fn add_all(all: &mut Vec<(Place, i64)>, more: &[(Place, i64)]) -> Result<(), Memory>
+    ensures { OnOk result (all.new.items ≡ all.old.items ++ more.now) }
+{
+    for contribution in more {
+        all.push(*contribution)?;
     }
     Ok(())
 }

@@ -33,7 +33,8 @@ use Rattle.pg_model.proofs.LawsLists.{count-classes, count_by-map, same_count}
 use Rattle.pg_model.proofs.LawsPresent.{at_key}
 use Rattle.pg_model.proofs.LawsRising.{flat_map-rising}
 use Rattle.pg_model.proofs.LawsShares.{contributions-active, sendings-records_in}
-use Rattle.pg_recount.specs.Contributed.{are_same, contributed_by, contributions_of}
+use Rattle.pg_records.specs.Records.{contributions_of}
+use Rattle.pg_recount.specs.Contributed.{are_same, contributed_by}
 use Rattle.pg_recount.specs.Traffic.{dropped_of, is_any, is_nobody, traffic_of}
 use Rattle.pg_recount.proofs.LawsTraffic.{at_parcels, sum_map, weight}
 use Rattle.pg_recount.proofs.Sums.{at, same_but_at, same_sums}

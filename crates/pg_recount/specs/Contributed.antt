@@ -1,7 +1,6 @@
--- What the records of a superstep contribute.
+-- What a vertex contributes in a superstep, and whether it does so in two runs.
 use Rattle.std.specs.Prelude.{ℕ, List, [], ℤ, Bool, Option, None, Some, ◌==◌, ◌&&◌}
 use Rattle.std.specs.Cmp.Lexicographic.{pointwise}
-use Rattle.std.specs.List.{flat_map}
 use Rattle.std.specs.Ordering.{int_eq}
 use Rattle.pg_model.specs.declared.record.Record.{Record}
 use Rattle.pg_trace.specs.Trace.{Trace, record_at}
@@ -11,10 +10,6 @@ abbrev pub are_same : List (ℕ × ℤ) → List (ℕ × ℤ) → Bool
 are_same xs ys = pointwise (λ a b. (a.0 == b.0) && int_eq a.1 b.1) xs ys
 
 module _ {V M : Type 0} where
-  -- all contributions, by rising id and each vertex's in the order given
-  abbrev pub contributions_of : List (ℕ × Record V M) → List (ℕ × ℤ)
-  contributions_of records = flat_map (λ r. r.1.contributed) records
-
   -- what a vertex contributed, where it ran
   abbrev pub contributed_by : Option (Record V M) → List (ℕ × ℤ)
   contributed_by None = []

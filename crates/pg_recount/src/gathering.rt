@@ -5,9 +5,8 @@ ghost use Rattle.std.specs.Option.{option_copied};
 ghost use Rattle.pg_global.specs.AnyAggregator.{initial_of, operation_of};
 ghost use Rattle.pg_global.specs.Registry.{aggregating_of};
 ghost use Rattle.pg_model.specs.Superstep.{at_place};
-ghost use Rattle.pg_recount.specs.Contributed.{contributed_by, contributes_alike, contributions_of};
+ghost use Rattle.pg_recount.specs.Contributed.{contributed_by, contributes_alike};
 ghost use Rattle.pg_stats.specs.Stats.{gathered_afresh};
-ghost use Rattle.pg_trace.specs.Trace.{records_of};
 
 use pg_global::{Aggregator, AnyAggregator, Registry, gather};
 use pg_graph::{Memory, Superstep, VertexId};
@@ -15,32 +14,6 @@ use pg_model::{Place, Sequence};
 use pg_program::Plain;
 use pg_trace::{RecordRef, Trace};
 use std::alloc::Global;
-
-/// What the vertices of a superstep contribute, by rising id and each vertex's in the order given. Costs a look at
-/// each record.
-pub fn contributions<V: Plain, M: Plain>(
-    alloc: Global,
-    trace: &Trace<V, M>,
-    superstep: Superstep,
-) -> Result<Vec<(Place, i64)>, Memory>
-    ensures { IfOk result (λ all. all.items ≡ contributions_of (records_of superstep trace.now)) }
-{
-    let records = trace.records(alloc, superstep)?;
-    let mut all = Vec::new(alloc);
-    for (_, record) in records.as_slice() {
-        push_all(&mut all, record.contributed())?;
-    }
-    Ok(all)
-}
-
-fn push_all(all: &mut Vec<(Place, i64)>, more: &[(Place, i64)]) -> Result<(), Memory>
-    ensures { OnOk result (all.new.items ≡ all.old.items ++ more.now) }
-{
-    for contribution in more {
-        all.push(*contribution)?;
-    }
-    Ok(())
-}
 
 /// What contributions come to, by place, each from its aggregator's initial value on. Costs a walk over them for each
 /// place.
@@ -74,7 +47,7 @@ fn gathered_at(
     Ok(gather(&kind, kind.initial_value(), values.as_slice()))
 }
 
-/// The contributions to a place, in order.
+/// The contributions to a place, in order, with room for as many as there are in all.
 fn values_at(
     alloc: Global,
     place: usize,
@@ -82,7 +55,7 @@ fn values_at(
 ) -> Result<Vec<i64>, Memory>
     ensures { IfOk result (λ values. values.items ≡ at_place place contributions.now) }
 {
-    let mut values = Vec::new(alloc);
+    let mut values = Vec::with_capacity(alloc, contributions.len())?;
     for contribution in contributions {
         push_if_at(&mut values, place, contribution)?;
     }

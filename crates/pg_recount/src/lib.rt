@@ -5,7 +5,7 @@ mod gathering;
 mod messages;
 mod vertices;
 
-pub use gathering::{contribute_alike, contributions, gathered};
+pub use gathering::{contribute_alike, gathered};
 pub use messages::{traffic, traffic_beside};
 pub use pg_graph::Memory;
 pub use vertices::{Turned, census, census_among, recounted, turned_among};

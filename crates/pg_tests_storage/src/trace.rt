@@ -1,7 +1,7 @@
 ghost use Rattle.std.specs.Prelude.{◌≡◌, ◌<◌};
 
 use pg_graph::{Edges, Memory, Superstep, VertexId};
-use pg_model::{Sequence, VertexState};
+use pg_model::{Place, Sequence, VertexState};
 use pg_trace::{Record, Trace};
 use std::alloc::Global;
 use std::fmt::Write;
@@ -25,14 +25,17 @@ fn begun(id: VertexId, value: i64) -> VertexState<i64>
     }
 }
 
-fn gave(alloc: Global, value: i64) -> Record<i64, i64> {
-    Record {
+// A record that contributes its value.
+fn gave(alloc: Global, value: i64) -> Result<Record<i64, i64>, Memory> {
+    let mut contributed = Sequence::new(alloc);
+    contributed.push((Place::new(0), value))?;
+    Ok(Record {
         value,
         edges: Edges::new(),
         halted: true,
         sent: Sequence::new(alloc),
-        contributed: Sequence::new(alloc),
-    }
+        contributed,
+    })
 }
 
 // A trace that begins with two vertices.
@@ -52,8 +55,8 @@ fn push_two(
 ) -> Result<(), Memory>
     requires { low < high }
 {
-    let first = (low, gave(alloc, value));
-    let second = (high, gave(alloc, value.wrapping_add(1)));
+    let first = (low, gave(alloc, value)?);
+    let second = (high, gave(alloc, value.wrapping_add(1))?);
     let records = vec![in alloc; first, second]?;
     trace.push_superstep(alloc, records)
 }
@@ -185,6 +188,43 @@ fn cuts(rt: HostRuntime) -> Result<(), Memory> {
         text.as_str(),
         "1 0:1000,5,5,5,1:2000,6,6,6,3:-,-,-,-,5:-,-,-,-,7:-,-,-,-,"
     );
+    Ok(())
+}
+
+// What is contributed in a superstep, by place.
+fn write_contributions(
+    alloc: Global,
+    text: &mut String,
+    trace: &Numbers,
+    superstep: u32,
+) -> Result<(), Memory> {
+    let contributions = trace.contributions(alloc, Superstep::new(superstep))?;
+    for (at, value) in contributions.as_slice() {
+        let number = at.number();
+        write!(text, "{number}={value},")?;
+    }
+    write!(text, ";")?;
+    Ok(())
+}
+
+// What is contributed in supersteps 0 to 3.
+fn contributions_in(alloc: Global, trace: &Numbers) -> Result<String, Memory> {
+    let mut text = String::new(alloc);
+    for place in 0..4u32 {
+        write_contributions(alloc, &mut text, trace, place)?;
+    }
+    Ok(text)
+}
+
+fn contributions_of_three(alloc: Global) -> Result<String, Memory> {
+    let trace = three_supersteps(alloc)?;
+    contributions_in(alloc, &trace)
+}
+
+#[test]
+fn lists_contributions(rt: HostRuntime) -> Result<(), Memory> {
+    let text = contributions_of_three(rt.alloc())?;
+    assert_eq!(rt; text.as_str(), "0=5,0=6,;0=8,0=9,;0=11,0=12,;;");
     Ok(())
 }
 

@@ -111,7 +111,7 @@ pub(crate) fn all_given<V: Drop, M: Drop>(
 ) -> Result<Changes<V, M>, Memory>
     ensures { IfOk result (λ changes. changes ≡ map (λ e. (e.0, Some e.1)) records.items) }
 {
-    let mut changes = Changes::new(alloc, records.len(), 0)?;
+    let mut changes = Changes::new(alloc, records.len())?;
     for (id, record) in records {
         add_record(&mut changes, id, record)?;
     }
@@ -125,7 +125,7 @@ pub(crate) fn all_changed<V: Drop, M: Drop>(
 ) -> Result<Changes<V, M>, Memory>
     ensures { IfOk result (λ changes. changes ≡ replaced.items) }
 {
-    let mut changes = Changes::new(alloc, replaced.len(), 0)?;
+    let mut changes = Changes::new(alloc, replaced.len())?;
     for (id, given) in replaced {
         add_change(&mut changes, id, given)?;
     }
@@ -167,7 +167,5 @@ fn add_record<V: Drop, M: Drop>(
         edges,
         halted,
     };
-    let mut sent = sent.into_vec();
-    let mut contributed = contributed.into_vec();
-    changes.add(state, &mut sent, &mut contributed)
+    changes.add(state, sent.into_vec(), contributed.into_vec())
 }

@@ -3,7 +3,7 @@ ghost use Rattle.std.specs.Prelude.{◌≡◌, length, map, ◌<◌, ◌≤◌, 
 ghost use Rattle.pg_map.specs.Entries.{ChangesRise, HasRisingIds};
 ghost use Rattle.pg_trace.specs.Beginning.{ChangesById, with_first};
 ghost use Rattle.pg_trace.specs.OfRun.{IsOfRun};
-ghost use Rattle.pg_records.specs.Records.{awake_after};
+ghost use Rattle.pg_records.specs.Records.{awake_after, contributions_of};
 ghost use Rattle.pg_trace.specs.Trace.{StatesRise, begun, record_at, records_of, state_at, reaching, with_superstep, first_supersteps, with_replaced};
 
 use crate::StateRef;
@@ -12,7 +12,7 @@ use crate::records::{all_changed, all_given, cut_index, narrow, put_records, sha
 use crate::states::States;
 use pg_graph::{Memory, Superstep, VertexId};
 use pg_index::Index;
-use pg_model::{Record, VertexState};
+use pg_model::{Place, Record, VertexState};
 use pg_records::{Changes, RecordRef, Records};
 use std::alloc::Global;
 use std::marker::Model;
@@ -220,6 +220,22 @@ impl<V: Drop, M: Drop> Trace<V, M> {
     {
         match self.supersteps.get(superstep.number() as usize) {
             Some(records) => records.listed(alloc),
+            None => Ok(Vec::new(alloc)),
+        }
+    }
+
+    /// What the vertices contribute in a superstep, by rising id and of each in the order given; nothing where it hasn't
+    /// that superstep. Costs a look at each record; where the superstep was changed, a sort of their ids and a look-up of each
+    /// besides.
+    pub fn contributions(
+        &self,
+        alloc: Global,
+        superstep: Superstep,
+    ) -> Result<Vec<(Place, i64)>, Memory>
+        ensures { IfOk result (λ all. all.items ≡ contributions_of (records_of superstep self.now)) }
+    {
+        match self.supersteps.get(superstep.number() as usize) {
+            Some(records) => records.contributions(alloc),
             None => Ok(Vec::new(alloc)),
         }
     }

@@ -1,4 +1,4 @@
-use Rattle.std.proofs.Common.{◌≡◌, ℕ, ◌+◌, ◌<◌, ◌++◌, cond, is_some, [], ◌∷◌, List, None, ◌≤◌, map, take, ap, ap₂, sym, ◌∙◌, subst, subst₂, option_map}
+use Rattle.std.proofs.Common.{◌≡◌, ℕ, ◌+◌, ◌<◌, ◌++◌, cond, is_some, [], ◌∷◌, List, None, ◌≤◌, map, take, ap, ap₂, sym, ◌∙◌, subst, subst₂, option_map, IfSome}
 use Rattle.std.specs.List.{count_by, flat_map}
 use Rattle.std.specs.Map.{keys_of}
 use Rattle.std.specs.Option.{option_to_list}
@@ -8,7 +8,8 @@ use Rattle.pg_model.specs.declared.view.View.{View}
 use Rattle.pg_routing.proofs.Listing.{one_taken, count_by-push, flat_map-push, more_calls}
 use Rattle.pg_compute.specs.Candidates.{alone, found_at}
 use Rattle.pg_compute.specs.Found.{change_alone, reads, standing_of, vertex_of}
-use Rattle.pg_compute.specs.Turning.{given_at, left_alone}
+use Rattle.pg_compute.specs.Scene.{changes_of}
+use Rattle.pg_compute.specs.Turning.{AreTurned, given_at, left_alone}
 use Rattle.pg_compute.proofs.Turning.{counted_push, given_is, if_some}
 use Rattle.pg_recount.specs.Census.{IsSum, state_after, states_among}
 use Rattle.pg_recount.proofs.Counting.{with_push}
@@ -35,9 +36,11 @@ loop-place-preserved g c =
     c.in_ok-found.ensures ∙ ap (λ o. vertex_of program c.args.missing one.0 o one.1) state in
     let more : map (alone program c.args.missing s trace) (before ++ one ∷ []) ≡ found ++ alone program c.args.missing s trace one ∷ [] =
     map-append (alone program c.args.missing s trace) before (one ∷ []) in
+    let was = changes_of c.loop-place.scene in
     let given = c.given_at.ensures
-    ∙ ap₂ given_at c.in_ok-play_found.ensures.changes c.len-before.ensures
-    ∙ given_is program c.loop-place.scene.cx.view (record { id = one.0; old = None; new = vertex }) c.loop-place.changes
+    ∙ ap₂ given_at c.in_ok-play_found.ensures.changes
+    c.len-before.ensures
+    ∙ given_is program c.loop-place.scene.cx.view (record { id = one.0; old = None; new = vertex }) was
     ∙ ap₂ (λ v x. option_map program.step (reads v x)) now.view here in
     let runs : View → Candidate g.row.P-Value.Denot g.row.P-Message.Denot → _ = λ v c. is_some (reads v c.new) in
     let view = c.args.stage.view in
@@ -50,7 +53,7 @@ loop-place-preserved g c =
           ∙ sym (ap (flat_map (change_alone program view)) more ∙ flat_map-push (change_alone program view) found (alone program c.args.missing s trace one))
           ∙ ap (λ l. flat_map (change_alone program view) (map (alone program c.args.missing s trace) l)) next;
       view = c.in_ok-play_found.ensures.view ∙ now.view;
-      unused = c.in_ok-play_found.ensures.unused;
+      ready = c.in_ok-play_found.ensures.ready;
       meter = c.in_ok-play_found.ensures.meter
           ∙ ap₂ (λ m x. capped (m + cond (is_some x) 1 0)) now.meter (ap₂ reads now.view here)
           ∙ more_calls meter (count_by (runs view) found) (cond (is_some (reads view (found_at program c.args.missing s trace one))) 1 0)
@@ -71,7 +74,8 @@ loop-place-preserved g c =
 pub returns-clause-changes : goal.returns-clause-changes
 returns-clause-changes g c =
     let program = g.P.Computation.program c.args.program.now in
-    c.loop-place.invariant.changes
+    c.into_played.ensures.changes
+    ∙ c.loop-place.invariant.changes
     ∙ ap (λ l. flat_map (change_alone program c.args.stage.view) (map (alone program c.args.missing c.args.superstep c.args.trace.now) l))
     (take_all c.loop-place.place c.args.callees.now (subst (λ n. n ≤ c.loop-place.place) c.len-place-end.ensures c.loop-place-test.false))
 
@@ -79,7 +83,7 @@ pub returns-clause-meter : goal.returns-clause-meter
 returns-clause-meter g c =
     let program = g.P.Computation.program c.args.program.now in
     let view = c.args.stage.view in
-    c.into_meter.ensures
+    c.into_played.ensures.meter
     ∙ c.loop-place.invariant.meter
     ∙ ap (λ l. capped (c.args.stage.meter + count_by (λ (x : Candidate g.row.P-Value.Denot g.row.P-Message.Denot). is_some (reads view x.new))
     (map (alone program c.args.missing c.args.superstep c.args.trace.now) l)))
@@ -91,9 +95,10 @@ returns-clause-turned g c =
     let view = c.args.stage.view in
     let all =
     take_all c.loop-place.place c.args.callees.now (subst (λ n. n ≤ c.loop-place.place) c.len-place-end.ensures c.loop-place-test.false) in
-    if_some c.turned_next.result (λ t h. record {
+    subst (λ o. IfSome o (AreTurned program view c.args.missing c.args.superstep c.args.trace.now c.args.callees.now)) (sym c.into_played.ensures.turned)
+    (if_some c.turned_next.result (λ t h. record {
       next = h.1;
       gone = ap (λ t. t.gone) h.0 ∙ c.loop-place.invariant.gone ∙ ap (λ l. census_of (states_among c.args.superstep (keys_of l) c.args.trace.now)) all;
       come = ap (λ t. t.come) h.0 ∙ c.loop-place.invariant.come
           ∙ ap (λ l. census_of (flat_map (λ w. option_to_list (left_alone program view c.args.missing c.args.superstep c.args.trace.now w)) l)) all;
-    }) c.turned_next.ensures
+    }) c.turned_next.ensures)

@@ -5,7 +5,7 @@ use Rattle.std.specs.Option.{option_to_list}
 use Rattle.pg_model.specs.Superstep.{capped}
 use Rattle.pg_compute.specs.Candidates.{alone}
 use Rattle.pg_compute.specs.Found.{change_alone, reads}
-use Rattle.pg_compute.specs.Scene.{IsUnused}
+use Rattle.pg_compute.specs.Scene.{IsReady, changes_of}
 use Rattle.pg_compute.specs.Turning.{left_alone}
 use Rattle.pg_recount.specs.Census.{states_among}
 use Rattle.pg_stats.specs.Stats.{census_of}
@@ -18,9 +18,9 @@ invariant-loop-place g l =
     let found = map (alone program l.missing l.superstep l.trace) before in
     record {
       looked_at : l.looked_at.items ≡ keys_of before;
-      changes : l.changes ≡ flat_map (change_alone program l.fn.stage.view) found;
+      changes : changes_of l.scene ≡ flat_map (change_alone program l.fn.stage.view) found;
       view : l.scene.cx.view ≡ l.fn.stage.view;
-      unused : IsUnused program.declared l.scene.cx;
+      ready : IsReady program.declared l.scene;
       meter : l.scene.cx.calls ≡ capped (l.fn.stage.meter + count_by (λ c. is_some (reads l.fn.stage.view c.new)) found);
       gone : l.turned.gone ≡ census_of (states_among l.superstep (keys_of before) l.trace);
       come : l.turned.come ≡ census_of (flat_map (λ w. option_to_list (left_alone program l.fn.stage.view l.missing l.superstep l.trace w)) before);

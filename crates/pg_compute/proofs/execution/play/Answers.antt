@@ -1,6 +1,5 @@
-use Rattle.std.proofs.Common.{◌≡◌, ℕ, ◌+◌, ◌<◌, ◌^◌, ◌++◌, cond, [], ◌∷◌, append_assoc, map, ap, ap₂, refl, sym, ◌∙◌, subst, arith}
+use Rattle.std.proofs.Common.{◌≡◌, ℕ, ◌+◌, ◌<◌, ◌^◌, ◌++◌, cond, [], ◌∷◌, append_assoc, map, ap, ap₂, sym, ◌∙◌, subst, arith}
 use Rattle.std.specs.List.{count_by, flat_map}
-use Rattle.std.proofs.lemmas.Result.{IfOk-from_err}
 use Rattle.pg_model.specs.Superstep.{capped}
 use Rattle.pg_model.specs.declared.view.View.{View}
 use Rattle.pg_compute.specs.Found.{change_of, is_run}
@@ -17,23 +16,20 @@ loop-candidate-preserved g c =
     let runs : View → _ = λ v. is_run g.P.Value.PartialEq.eq g.P.Message.PartialEq.eq program v c.args.seen in
     let before = c.loop-candidate.yielded in
     let one = c.in-Some.candidate in
-    let same = c.loop-candidate.invariant.view in
+    let now = c.loop-candidate.invariant in
+    let played = c.in_ok-play_one.ensures in
     record {
-      looked_at = c.in_ok-played.ensures.looked_at
-          ∙ ap (λ l. l ++ one.id ∷ []) c.loop-candidate.invariant.looked_at
-          ∙ sym (map-append (λ c. c.id) before (one ∷ []));
-      changes = c.in_ok-played.ensures.changes
-          ∙ ap₂ ◌++◌ c.loop-candidate.invariant.changes (ap (λ v. changes v one) same)
-          ∙ sym (flat_map-push (changes c.args.stage.view) before one);
-      view = c.in_ok-played.ensures.view ∙ same;
-      unused = c.in_ok-played.ensures.unused;
-      meter = c.in_ok-played.ensures.meter
-          ∙ ap₂ (λ m v. capped (m + cond (runs v one) 1 0)) c.loop-candidate.invariant.meter same
+      looked_at = c.in_ok-push.ensures.items ∙ ap (λ l. l ++ one.id ∷ []) now.looked_at ∙ sym (map-append (λ c. c.id) before (one ∷ []));
+      changes = played.changes ∙ ap₂ ◌++◌ now.changes (ap (λ v. changes v one) now.view) ∙ sym (flat_map-push (changes c.args.stage.view) before one);
+      view = played.view ∙ now.view;
+      ready = played.ready;
+      meter = played.meter
+          ∙ ap₂ (λ m v. capped (m + cond (runs v one) 1 0)) now.meter now.view
           ∙ more_calls c.args.stage.meter (count_by (runs c.args.stage.view) before) (cond (runs c.args.stage.view one) 1 0)
           ∙ ap (λ n. capped (c.args.stage.meter + n)) (sym (count_by-push (runs c.args.stage.view) before one));
       whole =
           append_assoc before (one ∷ []) c.next.new.self.rest.items
-          ∙ (ap (λ l. before ++ l) (sym c.in-Some.ensures.steps.0) ∙ c.loop-candidate.invariant.whole);
+          ∙ (ap (λ l. before ++ l) (sym c.in-Some.ensures.steps.0) ∙ now.whole);
     }
 
 pub returns : goal.returns
@@ -45,31 +41,20 @@ returns g c =
     let none : rest.items ≡ [] = nil_from_length rest.items (omega (arith, rest.ok.0, c.in-None.ensures.steps.0)) in
     let all = all_yielded c.loop-candidate.yielded rest.items c.args.candidates.items c.loop-candidate.invariant.whole none in
     record {
-      looked_at = c.loop-candidate.invariant.looked_at ∙ ap (map (λ c. c.id)) all;
-      changes = c.loop-candidate.invariant.changes ∙ ap (flat_map (change_of value_eq message_eq program c.args.stage.view c.args.seen)) all;
-      meter = c.loop-candidate.invariant.meter
+      looked_at = c.into_played.ensures.looked_at ∙ c.loop-candidate.invariant.looked_at ∙ ap (map (λ c. c.id)) all;
+      changes = c.into_played.ensures.changes ∙ c.loop-candidate.invariant.changes
+          ∙ ap (flat_map (change_of value_eq message_eq program c.args.stage.view c.args.seen)) all;
+      meter = c.into_played.ensures.meter ∙ c.loop-candidate.invariant.meter
           ∙ ap (λ l. capped (c.args.stage.meter + count_by (is_run value_eq message_eq program c.args.stage.view c.args.seen) l)) all;
     }
-
-pub returns-in_err-looked_at : goal.returns-in_err-looked_at
-returns-in_err-looked_at g c =
-    let none = c.from_residual.ensures.0 in
-    let at = c.from_residual.result in
-    record { looked_at = IfOk-from_err at _ none; changes = IfOk-from_err at _ none; meter = IfOk-from_err at _ none }
-
-pub returns-in_err-played : goal.returns-in_err-played
-returns-in_err-played g c =
-    let none = c.from_residual-in_err-played.ensures.0 in
-    let at = c.from_residual-in_err-played.result in
-    record { looked_at = IfOk-from_err at _ none; changes = IfOk-from_err at _ none; meter = IfOk-from_err at _ none }
 
 pub loop-candidate-init : goal.loop-candidate-init
 loop-candidate-init g c = record {
   looked_at = c.in_ok-looked_at.ensures.items;
-  changes = c.in_ok-changes.ensures;
-  view = c.of-scene.ensures.view;
-  unused = c.of-scene.ensures.unused;
-  meter = c.of-scene.ensures.meter ∙ capped_same c.args.stage.meter c.requires.fits;
+  changes = c.in_ok-scene.ensures.changes;
+  view = c.in_ok-scene.ensures.view;
+  ready = c.in_ok-scene.ensures.ready;
+  meter = c.in_ok-scene.ensures.meter ∙ capped_same c.args.stage.meter c.requires.fits;
   whole = c.into_iter-candidate-iterator.ensures.into_iter_gives.0;
 }
 

@@ -1,7 +1,7 @@
 use Rattle.std.proofs.Common.{ap, refl, ◌++◌, ◌∙◌}
 use Rattle.std.proofs.lemmas.List.{take_all}
 use Rattle.pg_map.proofs.Filling.{joined_after}
-use Rattle.pg_recount.proofs.gathering.push_all.Goals as goal
+use Rattle.pg_records.proofs.records.add_all.Goals as goal
 
 pub loop-contribution-preserved : goal.loop-contribution-preserved
 loop-contribution-preserved c =
