@@ -1,5 +1,4 @@
-//! Tests of the libraries that store vertices and messages, by their public calls: what no contract
-//! says.
+//! Tests of the libraries that store vertices and edges, by their public calls: what no contract says.
 //!
 //! They stand in a crate of their own because a crate with tests is proved twice, once with them.
 #![tactic(auto)]
@@ -11,12 +10,8 @@ mod graph;
 #[cfg(test)]
 mod import;
 #[cfg(test)]
-mod inbox;
-#[cfg(test)]
 mod map;
 #[cfg(test)]
 mod order;
 #[cfg(test)]
 mod plain;
-#[cfg(test)]
-mod trace;
