@@ -7,4 +7,5 @@ pub mod Laws
 pub mod RowLaw
 pub mod RowsMade
 pub mod Search
+pub mod Stretch
 pub mod Taken

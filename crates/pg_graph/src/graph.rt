@@ -1,5 +1,5 @@
 //! The graph: rows by rising id.
-ghost use Rattle.std.specs.Prelude.{◌≡◌, [], ℕ, ◌^◌, ◌≤◌, IfOk};
+ghost use Rattle.std.specs.Prelude.{◌≡◌, [], ℕ, ◌^◌, ◌≤◌, IfOk, IfSome, IsSome, IsTrue};
 ghost use Rattle.std.specs.Option.{option_copied};
 ghost use Rattle.std.specs.Map.{keys_of};
 ghost use Rattle.std.specs.Map.Iter.{ShowsInOrder, deref, deref_pair};
@@ -69,6 +69,32 @@ impl Graph {
         ensures { result ≡ self.now }
     {
         self.rows.finder()
+    }
+
+    /// Whether each id from one to another is a vertex. It may say no where they are: where an id is left out from the first
+    /// of all to the last. Costs a few binary searches.
+    pub fn has_all(&self, first: VertexId, last: VertexId) -> bool
+        ensures { IsTrue result → (id : ℕ) → first ≤ id → id ≤ last → IsSome (row_at id self.now) }
+    {
+        match self.stretch() {
+            Some((least, greatest)) => least <= first && last <= greatest,
+            None => false,
+        }
+    }
+
+    /// The first id and the last, if none between them is left out.
+    fn stretch(&self) -> Option<(VertexId, VertexId)>
+        ensures { IfSome result (λ s. (id : ℕ) → s.0 ≤ id → id ≤ s.1 → IsSome (row_at id self.now)) }
+    {
+        let (first, _) = self.rows.iter().next()?;
+        let later = self.vertices().checked_sub(1)?;
+        let last = VertexId::new(first.number().checked_add(later)?)?;
+        let mut from = self.rows.iter_from(last);
+        let (id, _) = from.next()?;
+        if *id != last || from.next().is_some() {
+            return None;
+        }
+        Some((*first, last))
     }
 
     /// How many vertices there are, at most 2^20.

@@ -46,20 +46,8 @@ fn by_vertex(alloc: Global, batch: &Batch) -> Result<Vec<(u64, Edit)>, Memory>
     ensures { IfOk result (λ edits. AreGrouped batch.now edits.items) }
 {
     let edits = batch.as_slice();
-    let sources = sources_of(alloc, edits)?;
-    let order = sorted_by_id(alloc, sources.as_slice())?;
+    let order = sorted_by_id(alloc, edits)?;
     placed_at(alloc, edits, order.as_slice())
-}
-
-/// The vertices whose rows edits change.
-fn sources_of(alloc: Global, edits: &[Edit]) -> Result<Vec<VertexId>, Memory>
-    ensures { IfOk result (λ sources. sources.items ≡ map source_of edits.now) }
-{
-    let mut sources = Vec::with_capacity(alloc, edits.len())?;
-    for edit in edits {
-        sources.push(edit.source())?;
-    }
-    Ok(sources)
 }
 
 /// The edits that stand at these places, with their places from 1.

@@ -11,7 +11,7 @@ mod missing;
 mod order;
 
 pub use batch::Batch;
-pub use by_id::sorted_by_id;
+pub use by_id::{HasId, sorted_by_id};
 pub use graph::Graph;
 pub use missing::Missing;
 pub use order::reordered_by_id;
