@@ -25,6 +25,9 @@ pub(crate) struct Chunk<X> {
 /// So many values are too many for a chunk: it is cut in two, so that one more moves few of them.
 const TOO_MANY: usize = 128;
 
+/// So many are too many where the last was put behind the others, which moves none of them.
+const TOO_MANY_IN_ORDER: usize = 1024;
+
 /// The value at an id. It costs what `found` does.
 #[inline(always)]
 pub(crate) fn get<'a, X>(chunks: &'a [Chunk<X>], near: &mut usize, id: VertexId) -> Option<&'a X>
@@ -165,8 +168,21 @@ pub(crate) fn put<X: Drop>(
     }
     let place = begun(chunks.as_slice(), near, id).saturating_sub(1);
     put_in(&mut chunks[place], id, value)?;
-    cut(chunks, place)?;
+    let limit = if is_last(&chunks[place], id) {
+        TOO_MANY_IN_ORDER
+    } else {
+        TOO_MANY
+    };
+    cut(chunks, place, limit)?;
     Ok(())
+}
+
+/// Whether an id is the last of a chunk.
+fn is_last<X>(chunk: &Chunk<X>, id: VertexId) -> bool {
+    match chunk.entries.last() {
+        Some(last) => last.0 == id,
+        None => false,
+    }
 }
 
 /// Puts a value at an id into a chunk.
@@ -202,15 +218,16 @@ fn put_among<X: Drop>(
     }
 }
 
-/// Makes two of a chunk that has too many entries.
-fn cut<X: Drop>(chunks: &mut Vec<Chunk<X>>, place: usize) -> Result<(), Memory>
+/// Makes two of a chunk that has so many entries.
+fn cut<X: Drop>(chunks: &mut Vec<Chunk<X>>, place: usize, limit: usize) -> Result<(), Memory>
     requires sound { AreSound chunks.old.items }
     requires within { place < length chunks.old.items }
+    requires some { 1 < limit }
     ensures all { OnOk result (all_of chunks.new.items ≡ all_of chunks.old.items) }
     ensures sound { OnOk result (AreSound chunks.new.items) }
 {
     let count = chunks[place].entries.len();
-    if count < TOO_MANY {
+    if count < limit {
         return Ok(());
     }
     let entries = chunks[place].entries.split_off(count / 2)?;

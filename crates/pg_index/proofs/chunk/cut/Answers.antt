@@ -11,12 +11,12 @@ pub returns : goal.returns
 returns g c =
     let cs = c.args.chunks.now.items in
     let half = c.len-count.result / 2 in
-    let some : 0 < half = omega (arith, c.if-count-lt-TOO_MANY.false) in
+    let some : 0 < half = omega (arith, c.if-count-limit.false, c.requires.some) in
     let chunk = c.index_mut.result.now in
     let later = c.in_ok-entries.entries.items in
     let same = c.index.ensures ∙ get_or_default cs c.args.place c.index.result.now chunk c.requires.within ∙ sym c.index_mut.ensures.value in
     let count = c.len-count.ensures ∙ ap (λ d. vec_len d.entries) same in
-    let more : 0 < length later = omega (arith, c.if-count-lt-TOO_MANY.false, count, c.in_ok-entries.ensures.tail_len) in
+    let more : 0 < length later = omega (arith, c.if-count-limit.false, c.requires.some, count, c.in_ok-entries.ensures.tail_len) in
     let first : Chunk g.row.X.Denot = record { first = chunk.first; entries = c.split_off.new.self } in
     let second : Chunk g.row.X.Denot = record { first = c.index-2.result.now.0; entries = c.in_ok-entries.entries } in
     let starts : StartsAt second.first later = subst (λ e. StartsAt e.0 later) (sym c.index-2.ensures) (starts_here later c.index-2.result.now more) in
