@@ -1,3 +1,4 @@
 pub mod Changed
 pub mod Parting
+pub mod Senders
 pub mod Somes

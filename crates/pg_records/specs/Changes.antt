@@ -2,6 +2,7 @@
 use Rattle.std.specs.Prelude.{ℕ, Bool, List, [], ◌∷◌, map, Option, None, Some, is_some, unwrap_or}
 use Rattle.std.specs.List.{slice_get}
 use Rattle.pg_map.specs.Entries.{value_at}
+use Rattle.pg_model.specs.declared.record.Record.{Record}
 
 module _ {X : Type 0} where
   -- what an id is given, if it is given anything
@@ -21,3 +22,9 @@ module _ {X : Type 0} where
   somes [] = []
   somes ((id, None) ∷ changes) = somes changes
   somes ((id, Some x) ∷ changes) = (id, x) ∷ somes changes
+
+module _ {V M : Type 0} where
+  -- what a vertex sends by its record, if it has one: beside its id each target and message
+  abbrev pub sent_by : ℕ × Option (Record V M) → List (ℕ × (ℕ × M))
+  sent_by (id, None) = []
+  sent_by (id, Some r) = map (λ m. (id, m)) r.sent

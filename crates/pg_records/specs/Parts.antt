@@ -1,5 +1,5 @@
 -- Records of which what was sent lies in one list, and what was contributed in another.
-use Rattle.std.specs.Prelude.{ℕ, ℤ, ◌+◌, ◌≤◌, List, length, take, drop, map, Option, None, Some}
+use Rattle.std.specs.Prelude.{◌≡◌, ℕ, ℤ, ◌+◌, ◌++◌, ◌≤◌, replicate, List, length, take, drop, map, Option, None, Some}
 use Rattle.std.specs.List.{AllByRecursion}
 use Rattle.std.specs.Option.{option_map}
 use Rattle.pg_model.specs.declared.record.Record.{Record}
@@ -35,3 +35,8 @@ module _ {V M : Type 0} (sent : List (ℕ × M)) (contributed : List (ℕ × ℤ
 
   abbrev pub AreWithin : List (ℕ × Option (Executed V)) → Type 0
   AreWithin entries = AllByRecursion (λ e. IsWithin e.1) entries
+
+-- so many senders more as an execution sent messages, which are the next ones
+abbrev pub HasSenders : {V : Type 0} → ℕ → Option (Executed V) → List ℕ → List ℕ → Type 0
+HasSenders id None before after = after ≡ before
+HasSenders id (Some left) before after = (left.sent.first ≡ length before) × (after ≡ before ++ replicate left.sent.count id)

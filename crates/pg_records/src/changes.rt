@@ -1,14 +1,14 @@
 //! What a superstep makes of the records of vertices, side by side.
 ghost use Rattle.std.specs.Prelude.{◌≡◌, ◌++◌, ◌∷◌, ◌+◌, ◌<◌, ◌≤◌, ℕ, [], Option, None, Some, is_some, length, slice_index_or};
 ghost use Rattle.std.specs.Prelude.{IfOk, IfErr, IfSome, IfNone, IsTrue, OnErr, OnOk};
-ghost use Rattle.std.specs.List.{HoldsAt};
+ghost use Rattle.std.specs.List.{HoldsAt, flat_map, zip};
 ghost use Rattle.std.specs.List.Sorted.{IsPartitionPoint};
 ghost use Rattle.std.specs.Ordering.{nat_cmp};
 ghost use Rattle.std.specs.declared.cmp.Ordering.TheVariants.{Less, Equal, Greater};
 ghost use Rattle.pg_map.specs.Entries.{ChangesRise, HasRisingIds, value_at};
 ghost use Rattle.pg_model.specs.declared.record.Record.{Record};
-ghost use Rattle.pg_records.specs.Changes.{given_to, told};
-ghost use Rattle.pg_records.specs.Parts.{AreWithin, IsPart, changes_in, part_of, record_in};
+ghost use Rattle.pg_records.specs.Changes.{given_to, sent_by, told};
+ghost use Rattle.pg_records.specs.Parts.{AreWithin, HasSenders, IsPart, changes_in, part_of, record_in};
 
 use crate::record::RecordRef;
 use pg_graph::{Edges, Memory, VertexId};
@@ -132,6 +132,28 @@ impl<V: Drop, M: Drop> Changes<V, M> {
         self.sent.len()
     }
 
+    /// Who sent each message, and all messages, where those of a vertex follow those of the one before it and there are no
+    /// others. Costs a look at each vertex, and a number for each message.
+    pub fn all_sent(
+        &self,
+        alloc: Global,
+    ) -> Result<Option<(Vec<VertexId>, &[(VertexId, M)])>, Memory>
+        ensures len { IfOk result (λ all. IfSome all (λ a. length a.0.items ≡ length a.1.now)) }
+        ensures sent { IfOk result (λ all. IfSome all (λ a. zip a.0.items a.1.now ≡ flat_map sent_by self.now)) }
+    {
+        let mut senders = Vec::with_capacity(alloc, self.sent.len())?;
+        for place in 0..self.entries.len() {
+            let (id, left) = &self.entries[place];
+            if !add_senders(&mut senders, *id, left)? {
+                return Ok(None);
+            }
+        }
+        if senders.len() != self.sent.len() {
+            return Ok(None);
+        }
+        Ok(Some((senders, self.sent.as_slice())))
+    }
+
     /// How many contributions there are: for how many to make room, so no contract tells it.
     pub(crate) fn contribution_count(&self) -> usize {
         self.contributed.len()
@@ -219,6 +241,26 @@ impl<V: Drop, M: Drop> Changes<V, M> {
             places.push((*id, place_if(left.is_some(), place)))?;
         }
         Ok(places)
+    }
+}
+
+/// Adds the sender of each message that an execution sent, where these are the next messages. Else it says that they aren't.
+fn add_senders<V>(
+    senders: &mut Vec<VertexId>,
+    id: VertexId,
+    left: &Option<Executed<V>>,
+) -> Result<bool, Memory>
+    ensures { IfOk result (λ added. IsTrue added → HasSenders id left.now senders.old.items senders.new.items) }
+{
+    match left {
+        Some(left) => {
+            if left.sent.first as usize != senders.len() {
+                return Ok(false);
+            }
+            senders.resize(senders.len() + left.sent.count as usize, id)?;
+            Ok(true)
+        }
+        None => Ok(true),
     }
 }
 
