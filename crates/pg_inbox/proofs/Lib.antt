@@ -6,5 +6,6 @@ pub mod Parting
 pub mod Replacing
 pub mod SameDelivery
 pub mod Senders
+pub mod Sending
 pub mod Sent
 pub mod Taking

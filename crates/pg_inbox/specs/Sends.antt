@@ -1,6 +1,6 @@
 -- Messages with who sent them, and to whom.
 use Rattle.std.specs.Prelude.{◌≡◌, ℕ, ◌==◌, List, map}
-use Rattle.std.specs.List.{filter, flat_map}
+use Rattle.std.specs.List.{filter, flat_map, zip}
 use Rattle.std.specs.List.Sorted.{IsNonDecreasingBy}
 
 -- sender, target and message of each
@@ -8,6 +8,10 @@ abbrev pub Sends : Type 0 → Type 0
 Sends M = List (ℕ × ℕ × M)
 
 module _ {M : Type 0} where
+  -- messages beside their targets, and the senders at the same places
+  abbrev pub sends_in : List ℕ → List (ℕ × M) → Sends M
+  sends_in senders sent = map (λ p. (p.0, p.1.0, p.1.1)) (zip senders sent)
+
   -- what goes to one target, in the order of the sends: by whom, and what
   abbrev pub letters_to : ℕ → Sends M → List (ℕ × M)
   letters_to target sent = map (λ s. (s.0, s.2)) (filter (λ s. s.1 == target) sent)

@@ -89,7 +89,8 @@ impl<M: Plain> Bundle<M> {
 
     /// The letters, where nothing is changed of them.
     pub(crate) fn unchanged(&self) -> Option<&[(VertexId, (VertexId, M))]>
-        ensures { IfSome result (λ letters. self.now ≡ sent_parcels letters.now) }
+        ensures parcels { IfSome result (λ letters. self.now ≡ sent_parcels letters.now) }
+        ensures rise { IfSome result (λ letters. IsNonDecreasingBy (λ l. l.0) letters.now) }
     {
         if self.changes.len() > 0 {
             return None;

@@ -1,5 +1,7 @@
 //! How many messages a bundle has.
-ghost use Rattle.std.specs.Prelude.{◌≡◌, ◌+◌, cond, length, not, is_some, true, IfOk};
+ghost use Rattle.std.specs.Prelude.{◌≡◌, ◌+◌, cond, length, not, is_some, true, IfOk, IsSome, IsTrue};
+ghost use Rattle.std.specs.List.{AllByRecursion};
+ghost use Rattle.std.specs.List.Sorted.{IsNonDecreasingBy};
 ghost use Rattle.pg_graph.specs.Rows.{row_at};
 ghost use Rattle.pg_inbox.specs.Counting.{messages_where};
 ghost use Rattle.pg_inbox.specs.Inboxes.{letters_at};
@@ -41,8 +43,9 @@ impl<M: Plain> Bundle<M> {
         messages_listed(parcels.as_slice())
     }
 
-    /// How many messages there are to ids that are no vertices of a graph. Costs a look at each message, and one look-up
-    /// in the graph for each target, each near the one before; and a list of the targets where the bundle isn't as it was
+    /// How many messages there are to ids that are no vertices of a graph. Where that leaves out no id from its first to its
+    /// last, and the bundle is as it was made of messages that aren't combined, it costs a few binary searches if there are
+    /// none. Else a look at each message, and one look-up in the graph for each target, each near the one before; and a list of the targets where the bundle isn't as it was
     /// made of messages that aren't combined.
     pub fn astray(&self, alloc: Global, graph: &Graph) -> Result<u64, Memory>
         ensures { IfOk result
@@ -69,9 +72,13 @@ fn astray_sent<M: Plain>(
     letters: &[(VertexId, (VertexId, M))],
     graph: &Graph,
 ) -> Result<u64, Memory>
+    requires { IsNonDecreasingBy (λ l. l.0) letters.now }
     ensures { IfOk result
         (λ count. count ≡ messages_where (λ id. not (is_some (row_at id graph.now))) (sent_parcels letters.now)) }
 {
+    if are_to_vertices(letters, graph) {
+        return Ok(0);
+    }
     let mut rows = graph.finder();
     let mut count = 0u64;
     let mut left = letters;
@@ -80,6 +87,17 @@ fn astray_sent<M: Plain>(
         left = later;
     }
     Ok(count)
+}
+
+/// Whether all letters, by rising target, are to vertices of a graph. It may say no where they are.
+fn are_to_vertices<M>(letters: &[(VertexId, (VertexId, M))], graph: &Graph) -> bool
+    requires { IsNonDecreasingBy (λ l. l.0) letters.now }
+    ensures { IsTrue result → AllByRecursion (λ l. IsSome (row_at l.0 graph.now)) letters.now }
+{
+    match (letters.first(), letters.last()) {
+        (Some(first), Some(last)) => graph.has_all(first.0, last.0),
+        _ => false,
+    }
 }
 
 /// How many messages there are.

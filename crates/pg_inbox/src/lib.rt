@@ -14,6 +14,7 @@ mod patching;
 mod places;
 mod receivers;
 mod receiving;
+mod sends;
 
 pub use alike::tell_alike;
 pub use bundles::Bundle;
@@ -24,3 +25,4 @@ pub use making::bundle;
 pub use patching::patch;
 pub use receivers::inboxes;
 pub use receiving::inbox;
+pub use sends::{Sends, SentBy};

@@ -9,8 +9,8 @@ ghost use Rattle.pg_inbox.specs.Bundles.{bundle_of};
 ghost use Rattle.pg_inbox.specs.Sends.{as_item};
 ghost use Rattle.pg_inbox.specs.Sound.{sent_parcels};
 
-use crate::Bundle;
 use crate::letters::Letters;
+use crate::{Bundle, SentBy};
 use pg_global::MessageCombiner;
 use pg_graph::{Memory, VertexId, sorted_by_id};
 use pg_map::Map;
@@ -18,13 +18,13 @@ use pg_parcel::parcels_of;
 use pg_program::Plain;
 use std::alloc::Global;
 
-/// The bundle of sends, as (sender, target, message) in the order in which they are to arrive.
+/// The bundle of sends.
 ///
 /// Costs what it takes to put the targets in order (`sorted_by_id`) and a copy of each message in that order; where the
 /// combiner combines, one more copy and one look at it.
 pub fn bundle<M: Plain, C: MessageCombiner<M>>(
     alloc: Global,
-    sent: &[(VertexId, VertexId, M)],
+    sent: &SentBy<'_, M>,
     combiner: &C,
 ) -> Result<Bundle<M>, Memory>
     ensures { IfOk result (λ bundle. bundle ≡ bundle_of (C.combining combiner.now) sent.now) }
@@ -72,35 +72,20 @@ fn combined_bundle<M: Plain, C: MessageCombiner<M>>(
 /// Each message with its sender, beside its target, by rising target; those to one target in their order.
 fn letters_by_target<M: Plain>(
     alloc: Global,
-    sent: &[(VertexId, VertexId, M)],
+    sent: &SentBy<'_, M>,
 ) -> Result<Vec<(VertexId, (VertexId, M))>, Memory>
     ensures groups { IfOk result (λ letters. AreGroups (map as_item sent.now) (groups_of letters.items)) }
     ensures rise { IfOk result (λ letters. IsNonDecreasingBy (λ l. l.0) letters.items) }
     ensures values { IfOk result (λ letters. AllByRecursion (λ l. M.is_value l.1.1) letters.items) }
 {
-    let targets = targets_of(alloc, sent)?;
-    let order = sorted_by_id(alloc, targets.as_slice())?;
+    let order = sorted_by_id(alloc, sent.beside_targets())?;
     letters_in_order(alloc, sent, order.as_slice())
-}
-
-/// The targets of sends.
-fn targets_of<M: Plain>(
-    alloc: Global,
-    sent: &[(VertexId, VertexId, M)],
-) -> Result<Vec<VertexId>, Memory>
-    ensures { IfOk result (λ targets. targets.items ≡ map (λ s. s.1) sent.now) }
-{
-    let mut targets = Vec::with_capacity(alloc, sent.len())?;
-    for (_, target, _) in sent {
-        targets.push(*target)?;
-    }
-    Ok(targets)
 }
 
 /// Copies of the messages of the sends at these places, each with its sender, beside its target.
 fn letters_in_order<M: Plain>(
     alloc: Global,
-    sent: &[(VertexId, VertexId, M)],
+    sent: &SentBy<'_, M>,
     order: &[(usize, VertexId)],
 ) -> Result<Vec<(VertexId, (VertexId, M))>, Memory>
     requires { AreById (map (λ s. s.1) sent.now) order.now }
@@ -109,8 +94,8 @@ fn letters_in_order<M: Plain>(
 {
     let mut letters = Vec::with_capacity(alloc, order.len())?;
     for (place, _) in order {
-        let (sender, target, message) = &sent[*place];
-        letters.push((*target, (*sender, copied(alloc, message)?)))?;
+        let (sender, target, message) = sent.at(*place);
+        letters.push((target, (sender, copied(alloc, message)?)))?;
     }
     Ok(letters)
 }

@@ -7,4 +7,4 @@ use Rattle.pg_inbox.proofs.bundles.Bundle.astray.Goals as goal
 pub returns-in-Some : goal.returns-in-Some
 returns-in-Some g c =
     IfOk-weaker c.astray_sent.result _ _
-    (λ count is. is ∙ ap (messages_where (λ id. not (is_some (row_at id c.args.graph.now)))) (sym c.in-Some.ensures)) c.astray_sent.ensures
+    (λ count is. is ∙ ap (messages_where (λ id. not (is_some (row_at id c.args.graph.now)))) (sym c.in-Some.ensures.parcels)) c.astray_sent.ensures
