@@ -1,13 +1,27 @@
 -- What changes of records send is what the run's records send.
-use Rattle.std.proofs.Common.{◌≡◌, ℕ, ◌+◌, Bool, true, false, cond, List, [], ◌∷◌, ◌++◌, map, Option, None, Some, refl, sym, ap, ap₂, ◌∙◌, filter, flat_map}
+use Rattle.std.proofs.Common.{◌≡◌, ℕ, ◌+◌, ◌<◌, ◌%◌, arith, eq-eqb, Bool, true, false, cond, List, [], ◌∷◌, ◌++◌, map, Option, None, Some, refl, sym, ap, ap₂, ◌∙◌, subst₂, filter, flat_map}
+use Rattle.std.specs.List.{AllByRecursion, slice_get}
 use Rattle.std.proofs.lemmas.List.{map-append}
 use Rattle.std.proofs.lemmas.List.Elements.{filter-append}
+use Rattle.pg_inbox.specs.declared.logs.Logged.{Logged}
+use Rattle.pg_model.specs.Job.{Combining}
 use Rattle.pg_model.specs.Order.{Sending, sendings_from}
 use Rattle.pg_model.specs.Share.{belongs, sendings_of}
 use Rattle.pg_model.specs.declared.record.Record.{Record}
+use Rattle.pg_records.specs.Changes.{sent_by}
 use Rattle.pg_routing.specs.Routes.{as_sends}
-use Rattle.pg_routing.specs.Sending.{items_to, sends_by, sends_of}
+use Rattle.pg_routing.specs.Sending.{IsFresh, items_to, sends_by, sends_of}
 use Rattle.pg_index.proofs.Somes.{somes}
+use Rattle.pg_routing.proofs.Listing.{all_picked}
+
+module _ {M : Type 0} where
+  abbrev pub as_send : ℕ × (ℕ × M) → ℕ × ℕ × M
+  as_send p = (p.0, p.1.0, p.1.1)
+
+  one_sends : (id : ℕ) (sent : List (ℕ × M))
+      → map as_send (map (λ m. (id, m)) sent) ≡ map {A = ℕ × (ℕ × ℕ × M)} (λ i. i.1) (map (λ m. (m.0, (id, m.0, m.1))) sent)
+  one_sends id [] = refl
+  one_sends id (m ∷ sent) = ap (λ l. (id, m.0, m.1) ∷ l) (one_sends id sent)
 
 module _ {V M : Type 0} where
   -- what records send, with the targets
@@ -18,6 +32,31 @@ module _ {V M : Type 0} where
   sends-somes [] = refl
   sends-somes ((id, None) ∷ changes) = sends-somes changes
   sends-somes ((id, Some r) ∷ changes) = ap (λ l. map (λ m. (m.0, (id, m.0, m.1))) r.sent ++ l) (sends-somes changes)
+
+  -- all that changes send, whoever receives it
+  pub all_sends : (changes : List (ℕ × Option (Record V M)))
+      → map as_send (flat_map sent_by changes) ≡ map {A = ℕ × (ℕ × ℕ × M)} (λ i. i.1) (flat_map sends_of changes)
+  all_sends [] = refl
+  all_sends ((id, None) ∷ changes) = all_sends changes
+  all_sends ((id, Some r) ∷ changes) =
+      map-append as_send (map (λ m. (id, m)) r.sent) (flat_map sent_by changes) ∙ ap₂ ◌++◌ (one_sends id r.sent) (all_sends changes)
+      ∙ sym (map-append {A = ℕ × (ℕ × ℕ × M)} (λ i. i.1) (map (λ m. (m.0, (id, m.0, m.1))) r.sent) (flat_map sends_of changes))
+
+-- one partition receives all
+pub all_to_one : {X : Type 0} (q : ℕ) (items : List (ℕ × X)) → q < 1 → items_to 1 q items ≡ map (λ i. i.1) items
+all_to_one {X} q items below = ap (map (λ (i : ℕ × X). i.1)) (all_picked (λ i. belongs 1 q i.0) items (all items))
+  where
+    all : (items : List (ℕ × X)) → AllByRecursion (λ i. belongs 1 q i.0 ≡ true) items
+    all [] = tt
+    all (i ∷ items) = ((let same : i.0 % 1 ≡ q = omega (arith, below) in eq-eqb (i.0 % 1) q same), all items)
+
+-- and its bundle is the only one
+pub fresh_alone : {M : Type 0} (combining : Option (Combining M)) (n q : ℕ) → n ≡ 1 → q < n → (items : List (ℕ × (ℕ × ℕ × M))) (logged : Logged M)
+    (bundles : List (Logged M)) → bundles ≡ logged ∷ [] → IsFresh combining (map (λ i. i.1) items) (Some logged)
+    → IsFresh combining (items_to n q items) (slice_get bundles q)
+fresh_alone combining n q one below items logged bundles is fresh =
+    let first : q ≡ 0 = omega (arith, one, below) in
+    subst₂ (IsFresh combining) (sym (ap (λ k. items_to k q items) one ∙ all_to_one q items (omega (arith, one, below)))) (sym (ap₂ slice_get is first)) fresh
 
 pub items-append : {X : Type 0} (n q : ℕ) (a b : List (ℕ × X)) → items_to n q (a ++ b) ≡ items_to n q a ++ items_to n q b
 items-append {X} n q a b =

@@ -6,21 +6,22 @@ ghost use Rattle.pg_routing.specs.Sending.{AreParts, HaveMore, pairs_by, pairs_o
 
 use crate::Partitioner;
 use pg_graph::{Memory, Superstep, VertexId};
+use pg_inbox::Sends;
 use pg_model::Sequence;
 use pg_program::Plain;
 use pg_trace::{Changes, RecordRef, Trace};
 use std::alloc::Global;
 
-/// What is sent by these changes of records, as (sender, target, message), by the partition of the target.
+/// What is sent by these changes of records, by the partition of the target.
 pub(crate) fn sends_of<V: Plain, M: Plain>(
     alloc: Global,
     partitions: Partitioner,
     changes: &Changes<V, M>,
-) -> Result<Vec<Sequence<(VertexId, VertexId, M)>>, Memory>
+) -> Result<Vec<Sends<M>>, Memory>
     ensures len { IfOk result (λ parts. length parts.items ≡ partitions) }
     ensures parts { IfOk result (λ parts. AreParts partitions (flat_map sends_of changes.now) parts.items) }
 {
-    let mut parts = nothing_each(alloc, partitions, changes.messages())?;
+    let mut parts = no_sends_each(alloc, partitions, changes.messages())?;
     for place in 0..changes.len() {
         let (sender, given) = changes.at(place);
         add_sends(alloc, partitions, &mut parts, sender, &given)?;
@@ -31,7 +32,7 @@ pub(crate) fn sends_of<V: Plain, M: Plain>(
 fn add_sends<V: Plain, M: Plain>(
     alloc: Global,
     partitions: Partitioner,
-    parts: &mut Vec<Sequence<(VertexId, VertexId, M)>>,
+    parts: &mut Vec<Sends<M>>,
     sender: VertexId,
     by: &Option<RecordRef<'_, V, M>>,
 ) -> Result<(), Memory>
@@ -48,7 +49,7 @@ fn add_sends<V: Plain, M: Plain>(
 fn push_sends<M: Plain>(
     alloc: Global,
     partitions: Partitioner,
-    parts: &mut Vec<Sequence<(VertexId, VertexId, M)>>,
+    parts: &mut Vec<Sends<M>>,
     sender: VertexId,
     sent: &[(VertexId, M)],
 ) -> Result<(), Memory>
@@ -59,9 +60,45 @@ fn push_sends<M: Plain>(
 {
     for (target, message) in sent {
         let message = message.copy(alloc)?;
-        put(partitions, parts, *target, (sender, *target, message))?;
+        put_send(partitions, parts, sender, *target, message)?;
     }
     Ok(())
+}
+
+/// Puts a message with the partition of its target.
+fn put_send<M: Drop>(
+    partitions: Partitioner,
+    parts: &mut Vec<Sends<M>>,
+    sender: VertexId,
+    target: VertexId,
+    message: M,
+) -> Result<(), Memory>
+    requires { length parts.old.items ≡ partitions }
+    ensures len { OnOk result (length parts.new.items ≡ partitions) }
+    ensures more { OnOk result
+        (HaveMore partitions ((target, (sender, target, message)) ∷ []) parts.old.items parts.new.items) }
+{
+    let place = partitions.partition(target).number() as usize;
+    parts[place].push(sender, target, message)?;
+    Ok(())
+}
+
+/// No message for each partition, with room for an even share of so many.
+fn no_sends_each<M: Drop>(
+    alloc: Global,
+    partitions: Partitioner,
+    messages: usize,
+) -> Result<Vec<Sends<M>>, Memory>
+    ensures len { IfOk result (λ none. length none.items ≡ partitions) }
+    ensures none { IfOk result (λ none. AreParts partitions [] none.items) }
+{
+    let share = messages / partitions.partitions() as usize;
+    let mut none = Vec::new(alloc);
+    for place in 0..partitions.partitions() {
+        let _ = place;
+        none.push(Sends::with_room(alloc, share)?)?;
+    }
+    Ok(none)
 }
 
 /// What the old run has sent by the vertices of these changes, as (sender, target), by the partition of the target.
@@ -75,7 +112,7 @@ pub(crate) fn withdrawn_of<V: Plain, M: Plain>(
     ensures len { IfOk result (λ parts. length parts.items ≡ partitions) }
     ensures parts { IfOk result (λ parts. AreParts partitions (flat_map (pairs_of old.now superstep) changes.now) parts.items) }
 {
-    let mut parts = nothing_each(alloc, partitions, 0)?;
+    let mut parts = nothing_each(alloc, partitions)?;
     for place in 0..changes.len() {
         let (sender, _) = changes.at(place);
         let before = old.record_at(sender, superstep);
@@ -133,20 +170,15 @@ fn put<X: Drop>(
     Ok(())
 }
 
-/// Nothing for each partition, with room for an even share of so many.
-fn nothing_each<X: Drop>(
-    alloc: Global,
-    partitions: Partitioner,
-    items: usize,
-) -> Result<Vec<Sequence<X>>, Memory>
+/// Nothing for each partition.
+fn nothing_each<X: Drop>(alloc: Global, partitions: Partitioner) -> Result<Vec<Sequence<X>>, Memory>
     ensures len { IfOk result (λ none. length none.items ≡ partitions) }
     ensures none { IfOk result (λ none. AreParts partitions [] none.items) }
 {
-    let share = items / partitions.partitions() as usize;
     let mut none = Vec::new(alloc);
     for place in 0..partitions.partitions() {
         let _ = place;
-        none.push(Sequence::from_vec(Vec::with_capacity(alloc, share)?))?;
+        none.push(Sequence::new(alloc))?;
     }
     Ok(none)
 }

@@ -1,5 +1,5 @@
 //! The bundles that a step sends.
-ghost use Rattle.std.specs.Prelude.{◌≡◌, ℕ, ◌<◌, [], length, slice_get, slice_index_or, Some, IfOk};
+ghost use Rattle.std.specs.Prelude.{◌≡◌, ℕ, ◌<◌, [], length, map, slice_get, slice_index_or, Some, IfOk, IfSome};
 ghost use Rattle.std.specs.List.{flat_map};
 ghost use Rattle.std.specs.Option.{option_copied};
 ghost use Rattle.pg_inbox.specs.Logged.{slot_at};
@@ -9,7 +9,7 @@ use crate::Partitioner;
 use crate::sending::{sends_of, withdrawn_of};
 use pg_global::MessageCombiner;
 use pg_graph::{Memory, PartitionId, Superstep, VertexId};
-use pg_inbox::{Logged, Logs, bundle, patch};
+use pg_inbox::{Logged, Logs, Sends, SentBy, bundle, patch};
 use pg_model::Sequence;
 use pg_program::Plain;
 use pg_trace::{Changes, Trace};
@@ -61,7 +61,8 @@ impl<M: Plain> Sent<M> {
     }
 }
 
-/// The bundles of what these changes of records send, to each partition. Costs a sort of what is sent.
+/// The bundles of what these changes of records send, to each partition. Costs a sort of what is sent, which for one
+/// partition is read from where it lies.
 pub fn fresh_bundles<V: Plain, M: Plain, C: MessageCombiner<M>>(
     alloc: Global,
     partitions: Partitioner,
@@ -72,15 +73,40 @@ pub fn fresh_bundles<V: Plain, M: Plain, C: MessageCombiner<M>>(
     ensures sends { IfOk result (λ sent. (q : ℕ) → q < partitions
         → IsFresh (C.combining combiner.now) (items_to partitions q (flat_map sends_of changes.now)) (slice_get sent q)) }
 {
+    if partitions.partitions() == 1 {
+        if let Some(logged) = fresh_of_all(alloc, changes, combiner)? {
+            let mut bundles = Vec::with_capacity(alloc, 1)?;
+            bundles.push(logged)?;
+            return Ok(Sent::of(bundles));
+        }
+    }
     let parts = sends_of(alloc, partitions, changes)?;
     let bundles = each_fresh(alloc, parts.as_slice(), combiner)?;
     Ok(Sent::of(bundles))
 }
 
+/// The bundle of all that these changes of records send, if that lies in one list.
+fn fresh_of_all<V: Plain, M: Plain, C: MessageCombiner<M>>(
+    alloc: Global,
+    changes: &Changes<V, M>,
+    combiner: &C,
+) -> Result<Option<Logged<M>>, Memory>
+    ensures { IfOk result (λ made. IfSome made (λ logged.
+        IsFresh (C.combining combiner.now) (map (λ i. i.1) (flat_map sends_of changes.now)) (Some logged))) }
+{
+    match changes.all_sent(alloc)? {
+        Some((senders, sent)) => {
+            let sends = SentBy::of(senders.as_slice(), sent);
+            Ok(Some(fresh(alloc, &sends, combiner)?))
+        }
+        None => Ok(None),
+    }
+}
+
 /// The bundles of the sends to each partition.
 fn each_fresh<M: Plain, C: MessageCombiner<M>>(
     alloc: Global,
-    parts: &[Sequence<(VertexId, VertexId, M)>],
+    parts: &[Sends<M>],
     combiner: &C,
 ) -> Result<Vec<Logged<M>>, Memory>
     ensures len { IfOk result (λ bundles. length bundles.items ≡ length parts.now) }
@@ -89,7 +115,7 @@ fn each_fresh<M: Plain, C: MessageCombiner<M>>(
 {
     let mut bundles = Vec::with_capacity(alloc, parts.len())?;
     for sends in parts {
-        bundles.push(fresh(alloc, sends.as_slice(), combiner)?)?;
+        bundles.push(fresh(alloc, &sends.lend(), combiner)?)?;
     }
     Ok(bundles)
 }
@@ -97,7 +123,7 @@ fn each_fresh<M: Plain, C: MessageCombiner<M>>(
 /// A bundle of which nothing is known but what is in it.
 fn fresh<M: Plain, C: MessageCombiner<M>>(
     alloc: Global,
-    sends: &[(VertexId, VertexId, M)],
+    sends: &SentBy<'_, M>,
     combiner: &C,
 ) -> Result<Logged<M>, Memory>
     ensures { IfOk result (λ logged. IsFresh (C.combining combiner.now) sends.now (Some logged)) }
@@ -147,7 +173,7 @@ fn each_mended<M: Plain, C: MessageCombiner<M>>(
     from: PartitionId,
     superstep: Superstep,
     withdrawn: &[Sequence<(VertexId, VertexId)>],
-    added: &[Sequence<(VertexId, VertexId, M)>],
+    added: &[Sends<M>],
     logs: &Logs<M>,
     combiner: &C,
 ) -> Result<Vec<Logged<M>>, Memory>
@@ -162,8 +188,8 @@ fn each_mended<M: Plain, C: MessageCombiner<M>>(
     for to in 0..partitions.partitions() {
         let before = logs.get(superstep, from, PartitionId::new(to));
         let withdrawn = withdrawn[to as usize].as_slice();
-        let added = added[to as usize].as_slice();
-        bundles.push(mended(alloc, before, withdrawn, added, combiner)?)?;
+        let added = added[to as usize].lend();
+        bundles.push(mended(alloc, before, withdrawn, &added, combiner)?)?;
     }
     Ok(bundles)
 }
@@ -173,7 +199,7 @@ fn mended<M: Plain, C: MessageCombiner<M>>(
     alloc: Global,
     before: Option<&Logged<M>>,
     withdrawn: &[(VertexId, VertexId)],
-    added: &[(VertexId, VertexId, M)],
+    added: &SentBy<'_, M>,
     combiner: &C,
 ) -> Result<Logged<M>, Memory>
     ensures { IfOk result (λ logged. IsMended (C.combining combiner.now) withdrawn.now added.now (option_copied before.entry) (Some logged)) }

@@ -2,7 +2,7 @@ ghost use Rattle.std.specs.Prelude.{◌≡◌};
 
 use pg_global::AnyCombiner;
 use pg_graph::{Memory, PartitionId, Superstep, VertexId};
-use pg_inbox::{Bundle, Logged, Logs, bundle, changed_targets, inbox, patch};
+use pg_inbox::{Bundle, Logged, Logs, Sends, SentBy, bundle, changed_targets, inbox, patch};
 use std::alloc::Global;
 use std::fmt::Write;
 
@@ -18,11 +18,11 @@ fn bundle_of(
     sent: &[(u32, u32, i64)],
     combiner: AnyCombiner,
 ) -> Result<Bundle<i64>, Memory> {
-    let mut list = Vec::new(alloc);
+    let mut sends = Sends::with_room(alloc, sent.len())?;
     for (sender, target, message) in sent {
-        list.push((id(*sender), id(*target), *message))?;
+        sends.push(id(*sender), id(*target), *message)?;
     }
-    bundle(alloc, list.as_slice(), &combiner)
+    bundle(alloc, &sends.lend(), &combiner)
 }
 
 fn three(alloc: Global, combiner: AnyCombiner) -> Result<Bundle<i64>, Memory> {
@@ -228,7 +228,13 @@ fn logs_forget(rt: HostRuntime) -> Result<(), Memory> {
 fn withdrawn(alloc: Global) -> Result<Logged<i64>, Memory> {
     let old = three(alloc, AnyCombiner::Min)?;
     let withdrawn = [(id(1), id(4)), (id(3), id(5))];
-    patch(alloc, &old, &withdrawn, &[], &AnyCombiner::Min)
+    patch(
+        alloc,
+        &old,
+        &withdrawn,
+        &SentBy::of(&[], &[]),
+        &AnyCombiner::Min,
+    )
 }
 
 fn write_logged(alloc: Global, text: &mut String, logged: &Logged<i64>) -> Result<(), Memory> {

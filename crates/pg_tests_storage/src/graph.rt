@@ -230,6 +230,28 @@ fn looks_up_rows(rt: HostRuntime) -> Result<(), EditFault> {
     Ok(())
 }
 
+// A graph of vertices with these ids.
+fn graph_of(alloc: Global, numbers: &[u32]) -> Result<Graph, EditFault> {
+    let mut batch = Batch::new(alloc);
+    for number in numbers {
+        batch.push(Edit::AddVertex(id(*number), 0))?;
+    }
+    let mut graph = Graph::new(alloc);
+    graph.apply(alloc, &batch)?;
+    Ok(graph)
+}
+
+#[test]
+fn has_all_where_no_id_is_left_out(rt: HostRuntime) -> Result<(), EditFault> {
+    let graph = graph_of(rt.alloc(), &[5, 3, 4, 6])?;
+    assert!(rt; graph.has_all(id(3), id(6)) && graph.has_all(id(4), id(4)));
+    assert!(rt; !graph.has_all(id(2), id(4)) && !graph.has_all(id(4), id(7)));
+    let graph = graph_of(rt.alloc(), &[3, 5])?;
+    assert!(rt; !graph.has_all(id(3), id(5)) && !graph.has_all(id(4), id(4)));
+    assert!(rt; !Graph::new(rt.alloc()).has_all(id(0), id(0)));
+    Ok(())
+}
+
 #[test]
 fn copies_edges(rt: HostRuntime) -> Result<(), Memory> {
     let edges = two_edges(rt.alloc(), id(1), id(9))?.copy()?;

@@ -10,11 +10,11 @@ loop-target-preserved g c =
     let sender = c.args.sender in
     let one = c.loop-target-item.result in
     record {
-      len = c.in_ok-put.ensures.len;
+      len = c.in_ok-put_send.ensures.len;
       more = have_pushed n (λ m. (m.0, (sender, m.0, m.1))) c.args.sent.now c.loop-target.target-index _ _ _ c.loop-target-test.true c.loop-target-item.is
           c.loop-target.invariant.more
-          (subst (λ m. HaveMore n ((one.0, (sender, one.0, m)) ∷ []) c.loop-target.parts.items c.put.new.parts.items) c.in_ok-message.ensures
-          c.in_ok-put.ensures.more);
+          (subst (λ m. HaveMore n ((one.0, (sender, one.0, m)) ∷ []) c.loop-target.parts.items c.put_send.new.parts.items) c.in_ok-message.ensures
+          c.in_ok-put_send.ensures.more);
     }
 
 pub returns-clause-more : goal.returns-clause-more

@@ -25,7 +25,7 @@ loop-to-preserved g c =
           (same_mended combining
           (c.as_slice-withdrawn.ensures ∙ (c.index-withdrawn-to.is ∙ get_or_default c.args.withdrawn.now to c.index-withdrawn-to.result []
           (omega (arith, c.requires.withdrawn, c.loop-to-test.true))))
-          (c.as_slice-added.ensures ∙
+          (c.lend-added.ensures ∙
           (c.index-added-to.is ∙ get_or_default c.args.added.now to c.index-added-to.result [] (omega (arith, c.requires.added, c.loop-to-test.true))))
           (c.get-before.ensures ∙ ap (λ q. slot_at c.args.logs.now c.args.superstep c.args.from q) c.new.ensures)
           (sym (ap (slice_get c.push.new.self.items) (sym len) ∙ (ap (λ l. slice_get l (length have)) pushed ∙ slice_get-last have one)))
