@@ -71,8 +71,8 @@ impl Graph {
         self.rows.finder()
     }
 
-    /// Whether each id from one to another is a vertex. It may say no where they are: where an id is left out from the first
-    /// of all to the last. Costs a few binary searches.
+    /// Whether each id from one to another is a vertex. It says no, too, wherever the graph leaves out an id between its
+    /// first and its last. Costs a few binary searches.
     pub fn has_all(&self, first: VertexId, last: VertexId) -> bool
         ensures { IsTrue result → (id : ℕ) → first ≤ id → id ≤ last → IsSome (row_at id self.now) }
     {
@@ -82,7 +82,7 @@ impl Graph {
         }
     }
 
-    /// The first id and the last, if none between them is left out.
+    /// The first id and the last of the graph, if none between them is left out.
     fn stretch(&self) -> Option<(VertexId, VertexId)>
         ensures { IfSome result (λ s. (id : ℕ) → s.0 ≤ id → id ≤ s.1 → IsSome (row_at id self.now)) }
     {

@@ -8,9 +8,13 @@ abbrev pub Sends : Type 0 → Type 0
 Sends M = List (ℕ × ℕ × M)
 
 module _ {M : Type 0} where
+  -- a message with its target, beside its sender
+  abbrev pub as_send : ℕ × (ℕ × M) → ℕ × ℕ × M
+  as_send p = (p.0, p.1.0, p.1.1)
+
   -- messages beside their targets, and the senders at the same places
   abbrev pub sends_in : List ℕ → List (ℕ × M) → Sends M
-  sends_in senders sent = map (λ p. (p.0, p.1.0, p.1.1)) (zip senders sent)
+  sends_in senders sent = map as_send (zip senders sent)
 
   -- what goes to one target, in the order of the sends: by whom, and what
   abbrev pub letters_to : ℕ → Sends M → List (ℕ × M)

@@ -43,10 +43,10 @@ impl<M: Plain> Bundle<M> {
         messages_listed(parcels.as_slice())
     }
 
-    /// How many messages there are to ids that are no vertices of a graph. Where that leaves out no id from its first to its
-    /// last, and the bundle is as it was made of messages that aren't combined, it costs a few binary searches if there are
-    /// none. Else a look at each message, and one look-up in the graph for each target, each near the one before; and a list of the targets where the bundle isn't as it was
-    /// made of messages that aren't combined.
+    /// How many messages there are to ids that are no vertices of a graph. Costs a few binary searches where the bundle is
+    /// as it was made of messages that aren't combined, the graph leaves out no id from its first to its last, and there are
+    /// none. Else a look at each message, and one look-up in the graph for each target, each near the one before; and a list
+    /// of the targets where the bundle isn't as it was made of messages that aren't combined.
     pub fn astray(&self, alloc: Global, graph: &Graph) -> Result<u64, Memory>
         ensures { IfOk result
             (λ count. count ≡ messages_where (λ id. not (is_some (row_at id graph.now))) self.now) }

@@ -25,4 +25,4 @@ pub use making::bundle;
 pub use patching::patch;
 pub use receivers::inboxes;
 pub use receiving::inbox;
-pub use sends::{Sends, SentBy};
+pub use sends::{Sends, SendsRef};

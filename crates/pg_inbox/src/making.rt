@@ -10,7 +10,7 @@ ghost use Rattle.pg_inbox.specs.Sends.{as_item};
 ghost use Rattle.pg_inbox.specs.Sound.{sent_parcels};
 
 use crate::letters::Letters;
-use crate::{Bundle, SentBy};
+use crate::{Bundle, SendsRef};
 use pg_global::MessageCombiner;
 use pg_graph::{Memory, VertexId, sorted_by_id};
 use pg_map::Map;
@@ -24,7 +24,7 @@ use std::alloc::Global;
 /// combiner combines, one more copy and one look at it.
 pub fn bundle<M: Plain, C: MessageCombiner<M>>(
     alloc: Global,
-    sent: &SentBy<'_, M>,
+    sent: &SendsRef<'_, M>,
     combiner: &C,
 ) -> Result<Bundle<M>, Memory>
     ensures { IfOk result (λ bundle. bundle ≡ bundle_of (C.combining combiner.now) sent.now) }
@@ -72,7 +72,7 @@ fn combined_bundle<M: Plain, C: MessageCombiner<M>>(
 /// Each message with its sender, beside its target, by rising target; those to one target in their order.
 fn letters_by_target<M: Plain>(
     alloc: Global,
-    sent: &SentBy<'_, M>,
+    sent: &SendsRef<'_, M>,
 ) -> Result<Vec<(VertexId, (VertexId, M))>, Memory>
     ensures groups { IfOk result (λ letters. AreGroups (map as_item sent.now) (groups_of letters.items)) }
     ensures rise { IfOk result (λ letters. IsNonDecreasingBy (λ l. l.0) letters.items) }
@@ -85,7 +85,7 @@ fn letters_by_target<M: Plain>(
 /// Copies of the messages of the sends at these places, each with its sender, beside its target.
 fn letters_in_order<M: Plain>(
     alloc: Global,
-    sent: &SentBy<'_, M>,
+    sent: &SendsRef<'_, M>,
     order: &[(usize, VertexId)],
 ) -> Result<Vec<(VertexId, (VertexId, M))>, Memory>
     requires { AreById (map (λ s. s.1) sent.now) order.now }

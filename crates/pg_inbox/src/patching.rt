@@ -16,7 +16,7 @@ ghost use Rattle.pg_inbox.specs.Patched.{IsPatched, TellsChanges};
 ghost use Rattle.pg_inbox.specs.Sound.{needed};
 
 use crate::changing::add_if_changed;
-use crate::{Bundle, Logged, SentBy};
+use crate::{Bundle, Logged, SendsRef};
 use pg_global::MessageCombiner;
 use pg_graph::{Memory, VertexId};
 use pg_model::Sequence;
@@ -42,8 +42,8 @@ struct After<M: Plain> {
 }
 
 /// The bundle with what some senders sent to some targets, as (sender, target), withdrawn, and other messages added:
-/// each after what stays of its sender. It comes with the targets at which it
-/// differs from the old one, and shares with that all else.
+/// each after what stays of its sender. It comes with the targets at which it differs from the old one, and shares with
+/// that all else.
 ///
 /// With k of both it costs a sort of them by target, what is sent to their targets, and a copy of the chunks of the
 /// changes of the old bundle that these targets lie in.
@@ -51,7 +51,7 @@ pub fn patch<M: Plain, C: MessageCombiner<M>>(
     alloc: Global,
     old: &Bundle<M>,
     withdrawn: &[(VertexId, VertexId)],
-    added: &SentBy<'_, M>,
+    added: &SendsRef<'_, M>,
     combiner: &C,
 ) -> Result<Logged<M>, Memory>
     ensures bundle { IfOk result (λ logged. IsPatched (C.combining combiner.now) withdrawn.now added.now old.now logged.bundle) }
@@ -72,7 +72,7 @@ pub fn patch<M: Plain, C: MessageCombiner<M>>(
 fn mends_by_target<M: Plain>(
     alloc: Global,
     withdrawn: &[(VertexId, VertexId)],
-    added: &SentBy<'_, M>,
+    added: &SendsRef<'_, M>,
 ) -> Result<Vec<(VertexId, Mend<M>)>, Memory>
     ensures { IfOk result (λ mends. mends.items ≡ mends_of withdrawn.now added.now) }
 {
@@ -97,7 +97,7 @@ fn add_withdrawals<M: Plain>(
 fn add_additions<M: Plain>(
     alloc: Global,
     mends: &mut Vec<(VertexId, Mend<M>)>,
-    added: &SentBy<'_, M>,
+    added: &SendsRef<'_, M>,
 ) -> Result<(), Memory>
     ensures { OnOk result (mends.new.items ≡ mends.old.items ++ map as_addition added.now) }
 {

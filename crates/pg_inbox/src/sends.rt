@@ -48,10 +48,10 @@ impl<M: Drop> Sends<M> {
     }
 
     /// All of them, lent.
-    pub fn lend(&self) -> SentBy<'_, M>
+    pub fn lend(&self) -> SendsRef<'_, M>
         ensures { result ≡ self.now }
     {
-        SentBy {
+        SendsRef {
             senders: self.senders.as_slice(),
             sent: self.sent.as_slice(),
         }
@@ -60,12 +60,12 @@ impl<M: Drop> Sends<M> {
 
 /// Messages and who sent each, lent from where they lie. A contract sees the list of (sender, target, message).
 #[derive(Drop)]
-pub struct SentBy<'a, M> {
+pub struct SendsRef<'a, M> {
     senders: &'a [VertexId],
     sent: &'a [(VertexId, M)],
 }
 
-impl<'a, M> Model for SentBy<'a, M> {
+impl<'a, M> Model for SendsRef<'a, M> {
     ghost use Rattle.std.specs.Prelude.{◌≡◌, length};
     ghost use Rattle.pg_inbox.specs.Sends.{Sends, sends_in};
 
@@ -76,13 +76,13 @@ impl<'a, M> Model for SentBy<'a, M> {
     ghost invariant = { λ s. length s.senders.now ≡ length s.sent.now };
 }
 
-impl<'a, M> SentBy<'a, M> {
+impl<'a, M> SendsRef<'a, M> {
     /// These messages, each beside its target, of the senders at the same places.
-    pub fn of(senders: &'a [VertexId], sent: &'a [(VertexId, M)]) -> SentBy<'a, M>
+    pub fn of(senders: &'a [VertexId], sent: &'a [(VertexId, M)]) -> SendsRef<'a, M>
         requires { length senders.now ≡ length sent.now }
         ensures { result ≡ sends_in senders.now sent.now }
     {
-        SentBy { senders, sent }
+        SendsRef { senders, sent }
     }
 
     /// How many there are.

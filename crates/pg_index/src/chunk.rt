@@ -218,7 +218,7 @@ fn put_among<X: Drop>(
     }
 }
 
-/// Makes two of a chunk that has so many entries.
+/// Makes two of a chunk that has so many entries or more.
 fn cut<X: Drop>(chunks: &mut Vec<Chunk<X>>, place: usize, limit: usize) -> Result<(), Memory>
     requires sound { AreSound chunks.old.items }
     requires within { place < length chunks.old.items }

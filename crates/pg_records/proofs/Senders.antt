@@ -7,12 +7,12 @@ use Rattle.std.proofs.lemmas.List.{append-nil, length-replicate, length-take-le}
 use Rattle.std.proofs.lemmas.List.Elements.{All-from_recursion}
 use Rattle.pg_map.proofs.Filling.{gathered_more}
 use Rattle.pg_model.specs.declared.record.Record.{Record}
-use Rattle.pg_records.specs.Changes.{sent_by}
-use Rattle.pg_records.specs.Parts.{AreWithin, HasSenders, IsWithin, changes_in, record_in}
+use Rattle.pg_records.specs.Changes.{messages_by}
+use Rattle.pg_records.specs.Parts.{AreWithin, AddsSenders, IsWithin, changes_in, record_in}
 use Rattle.pg_records.specs.declared.changes.Executed.{Executed}
 
 module _ {K X : Type 0} where
-  pub zip-append : (ks ls : List K) (xs ys : List X) → length ks ≡ length xs → zip (ks ++ ls) (xs ++ ys) ≡ zip ks xs ++ zip ls ys
+  zip-append : (ks ls : List K) (xs ys : List X) → length ks ≡ length xs → zip (ks ++ ls) (xs ++ ys) ≡ zip ks xs ++ zip ls ys
   zip-append [] ls [] ys long = refl
   zip-append [] ls (x ∷ xs) ys long = absurd (omega (arith, long))
   zip-append (k ∷ ks) ls [] ys long = absurd (omega (arith, long))
@@ -27,7 +27,7 @@ module _ {K X : Type 0} where
 module _ {V M : Type 0} (sent : List (ℕ × M)) (contributed : List (ℕ × ℤ)) where
   -- what an execution that left this has sent, beside the id
   abbrev pub sent_in : ℕ × Option (Executed V) → List (ℕ × (ℕ × M))
-  sent_in e = sent_by (e.0, option_map (record_in sent contributed) e.1)
+  sent_in e = messages_by (e.0, option_map (record_in sent contributed) e.1)
 
   -- the messages that were gone through stand beside their senders, and so they do with those of one more
   pub record AreBeside (done : List (ℕ × Option (Executed V))) (senders : List ℕ) : Type 0 where
@@ -35,7 +35,7 @@ module _ {V M : Type 0} (sent : List (ℕ × M)) (contributed : List (ℕ × ℤ
     pub within : length senders ≤ length sent
 
   one_more : (id : ℕ) (left : Option (Executed V)) (before after : List ℕ) → IsWithin sent contributed left → length before ≤ length sent
-      → HasSenders id left before after
+      → AddsSenders id left before after
       → (zip after (take (length after) sent) ≡ zip before (take (length before) sent) ++ sent_in (id, left)) × (length after ≤ length sent)
   one_more id None before after within fits is =
       (ap (λ l. zip l (take (length l) sent)) is ∙ sym (append-nil (zip before (take (length before) sent))), omega (arith, fits, ap length is))
@@ -58,7 +58,7 @@ module _ {V M : Type 0} (sent : List (ℕ × M)) (contributed : List (ℕ × ℤ
   none_beside {senders} none = record { told = ap (λ l. zip l (take (length senders) sent)) none; within = omega (arith, ap length none) }
 
   pub one_beside : (entries : List (ℕ × Option (Executed V))) (i : ℕ) (e : ℕ × Option (Executed V)) (before after : List ℕ) → i < length entries
-      → e ≡ get_or entries i e → AreWithin sent contributed entries → AreBeside (take i entries) before → HasSenders e.0 e.1 before after
+      → e ≡ get_or entries i e → AreWithin sent contributed entries → AreBeside (take i entries) before → AddsSenders e.0 e.1 before after
       → AreBeside (take (i + 1) entries) after
   one_beside entries i e before after here is within beside has =
       let one = one_more e.0 e.1 before after
@@ -66,12 +66,12 @@ module _ {V M : Type 0} (sent : List (ℕ × M)) (contributed : List (ℕ × ℤ
       beside.within has in
       record { told = gathered_more sent_in entries i here is beside.told one.0; within = one.1 }
 
-  sent_as : (entries : List (ℕ × Option (Executed V))) → flat_map sent_in entries ≡ flat_map sent_by (changes_in sent contributed entries)
+  sent_as : (entries : List (ℕ × Option (Executed V))) → flat_map sent_in entries ≡ flat_map messages_by (changes_in sent contributed entries)
   sent_as [] = refl
   sent_as (e ∷ entries) = ap (λ l. sent_in e ++ l) (sent_as entries)
 
   -- all of them, where no message is left
   pub all_beside : (entries : List (ℕ × Option (Executed V))) (senders : List ℕ) {now : List (ℕ × Option (Record V M))} → AreBeside entries senders
-      → length senders ≡ length sent → changes_in sent contributed entries ≡ now → zip senders sent ≡ flat_map sent_by now
+      → length senders ≡ length sent → changes_in sent contributed entries ≡ now → zip senders sent ≡ flat_map messages_by now
   all_beside entries senders beside long are =
-      ap (zip senders) (sym (take-length sent) ∙ ap (λ k. take k sent) (sym long)) ∙ beside.told ∙ sent_as entries ∙ ap (flat_map sent_by) are
+      ap (zip senders) (sym (take-length sent) ∙ ap (λ k. take k sent) (sym long)) ∙ beside.told ∙ sent_as entries ∙ ap (flat_map messages_by) are

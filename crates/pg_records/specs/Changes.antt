@@ -24,7 +24,7 @@ module _ {X : Type 0} where
   somes ((id, Some x) ∷ changes) = (id, x) ∷ somes changes
 
 module _ {V M : Type 0} where
-  -- what a vertex sends by its record, if it has one: beside its id each target and message
-  abbrev pub sent_by : ℕ × Option (Record V M) → List (ℕ × (ℕ × M))
-  sent_by (id, None) = []
-  sent_by (id, Some r) = map (λ m. (id, m)) r.sent
+  -- the messages that a vertex sends by its record, if it has one, each with its target, and its id beside each
+  abbrev pub messages_by : ℕ × Option (Record V M) → List (ℕ × (ℕ × M))
+  messages_by (id, None) = []
+  messages_by (id, Some r) = map (λ m. (id, m)) r.sent

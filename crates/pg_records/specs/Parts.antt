@@ -36,7 +36,7 @@ module _ {V M : Type 0} (sent : List (ℕ × M)) (contributed : List (ℕ × ℤ
   abbrev pub AreWithin : List (ℕ × Option (Executed V)) → Type 0
   AreWithin entries = AllByRecursion (λ e. IsWithin e.1) entries
 
--- so many senders more as an execution sent messages, which are the next ones
-abbrev pub HasSenders : {V : Type 0} → ℕ → Option (Executed V) → List ℕ → List ℕ → Type 0
-HasSenders id None before after = after ≡ before
-HasSenders id (Some left) before after = (left.sent.first ≡ length before) × (after ≡ before ++ replicate left.sent.count id)
+-- a sender more for each message of an execution, which are the next ones
+abbrev pub AddsSenders : {V : Type 0} → ℕ → Option (Executed V) → List ℕ → List ℕ → Type 0
+AddsSenders id None before after = after ≡ before
+AddsSenders id (Some left) before after = (left.sent.first ≡ length before) × (after ≡ before ++ replicate left.sent.count id)

@@ -7,8 +7,8 @@ ghost use Rattle.std.specs.Ordering.{nat_cmp};
 ghost use Rattle.std.specs.declared.cmp.Ordering.TheVariants.{Less, Equal, Greater};
 ghost use Rattle.pg_map.specs.Entries.{ChangesRise, HasRisingIds, value_at};
 ghost use Rattle.pg_model.specs.declared.record.Record.{Record};
-ghost use Rattle.pg_records.specs.Changes.{given_to, sent_by, told};
-ghost use Rattle.pg_records.specs.Parts.{AreWithin, HasSenders, IsPart, changes_in, part_of, record_in};
+ghost use Rattle.pg_records.specs.Changes.{given_to, messages_by, told};
+ghost use Rattle.pg_records.specs.Parts.{AreWithin, AddsSenders, IsPart, changes_in, part_of, record_in};
 
 use crate::record::RecordRef;
 use pg_graph::{Edges, Memory, VertexId};
@@ -133,13 +133,13 @@ impl<V: Drop, M: Drop> Changes<V, M> {
     }
 
     /// Who sent each message, and all messages, where those of a vertex follow those of the one before it and there are no
-    /// others. Costs a look at each vertex, and a number for each message.
+    /// others. Costs a look at each vertex, and a list with an id for each message.
     pub fn all_sent(
         &self,
         alloc: Global,
     ) -> Result<Option<(Vec<VertexId>, &[(VertexId, M)])>, Memory>
         ensures len { IfOk result (λ all. IfSome all (λ a. length a.0.items ≡ length a.1.now)) }
-        ensures sent { IfOk result (λ all. IfSome all (λ a. zip a.0.items a.1.now ≡ flat_map sent_by self.now)) }
+        ensures sent { IfOk result (λ all. IfSome all (λ a. zip a.0.items a.1.now ≡ flat_map messages_by self.now)) }
     {
         let mut senders = Vec::with_capacity(alloc, self.sent.len())?;
         for place in 0..self.entries.len() {
@@ -250,7 +250,7 @@ fn add_senders<V>(
     id: VertexId,
     left: &Option<Executed<V>>,
 ) -> Result<bool, Memory>
-    ensures { IfOk result (λ added. IsTrue added → HasSenders id left.now senders.old.items senders.new.items) }
+    ensures { IfOk result (λ added. IsTrue added → AddsSenders id left.now senders.old.items senders.new.items) }
 {
     match left {
         Some(left) => {

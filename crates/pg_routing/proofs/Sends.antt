@@ -8,16 +8,14 @@ use Rattle.pg_model.specs.Job.{Combining}
 use Rattle.pg_model.specs.Order.{Sending, sendings_from}
 use Rattle.pg_model.specs.Share.{belongs, sendings_of}
 use Rattle.pg_model.specs.declared.record.Record.{Record}
-use Rattle.pg_records.specs.Changes.{sent_by}
+use Rattle.pg_inbox.specs.Sends.{as_send}
+use Rattle.pg_records.specs.Changes.{messages_by}
 use Rattle.pg_routing.specs.Routes.{as_sends}
 use Rattle.pg_routing.specs.Sending.{IsFresh, items_to, sends_by, sends_of}
 use Rattle.pg_index.proofs.Somes.{somes}
 use Rattle.pg_routing.proofs.Listing.{all_picked}
 
 module _ {M : Type 0} where
-  abbrev pub as_send : ℕ × (ℕ × M) → ℕ × ℕ × M
-  as_send p = (p.0, p.1.0, p.1.1)
-
   one_sends : (id : ℕ) (sent : List (ℕ × M))
       → map as_send (map (λ m. (id, m)) sent) ≡ map {A = ℕ × (ℕ × ℕ × M)} (λ i. i.1) (map (λ m. (m.0, (id, m.0, m.1))) sent)
   one_sends id [] = refl
@@ -35,15 +33,15 @@ module _ {V M : Type 0} where
 
   -- all that changes send, whoever receives it
   pub all_sends : (changes : List (ℕ × Option (Record V M)))
-      → map as_send (flat_map sent_by changes) ≡ map {A = ℕ × (ℕ × ℕ × M)} (λ i. i.1) (flat_map sends_of changes)
+      → map as_send (flat_map messages_by changes) ≡ map {A = ℕ × (ℕ × ℕ × M)} (λ i. i.1) (flat_map sends_of changes)
   all_sends [] = refl
   all_sends ((id, None) ∷ changes) = all_sends changes
   all_sends ((id, Some r) ∷ changes) =
-      map-append as_send (map (λ m. (id, m)) r.sent) (flat_map sent_by changes) ∙ ap₂ ◌++◌ (one_sends id r.sent) (all_sends changes)
+      map-append as_send (map (λ m. (id, m)) r.sent) (flat_map messages_by changes) ∙ ap₂ ◌++◌ (one_sends id r.sent) (all_sends changes)
       ∙ sym (map-append {A = ℕ × (ℕ × ℕ × M)} (λ i. i.1) (map (λ m. (m.0, (id, m.0, m.1))) r.sent) (flat_map sends_of changes))
 
 -- one partition receives all
-pub all_to_one : {X : Type 0} (q : ℕ) (items : List (ℕ × X)) → q < 1 → items_to 1 q items ≡ map (λ i. i.1) items
+all_to_one : {X : Type 0} (q : ℕ) (items : List (ℕ × X)) → q < 1 → items_to 1 q items ≡ map (λ i. i.1) items
 all_to_one {X} q items below = ap (map (λ (i : ℕ × X). i.1)) (all_picked (λ i. belongs 1 q i.0) items (all items))
   where
     all : (items : List (ℕ × X)) → AllByRecursion (λ i. belongs 1 q i.0 ≡ true) items

@@ -9,7 +9,7 @@ use crate::Partitioner;
 use crate::sending::{sends_of, withdrawn_of};
 use pg_global::MessageCombiner;
 use pg_graph::{Memory, PartitionId, Superstep, VertexId};
-use pg_inbox::{Logged, Logs, Sends, SentBy, bundle, patch};
+use pg_inbox::{Logged, Logs, Sends, SendsRef, bundle, patch};
 use pg_model::Sequence;
 use pg_program::Plain;
 use pg_trace::{Changes, Trace};
@@ -61,8 +61,9 @@ impl<M: Plain> Sent<M> {
     }
 }
 
-/// The bundles of what these changes of records send, to each partition. Costs a sort of what is sent, which for one
-/// partition is read from where it lies.
+/// The bundles of what these changes of records send, to each partition. Costs a sort of what is sent and two copies of each
+/// message; for one partition, where what the vertices send lies in their order in one list, one copy, and a list of the
+/// senders.
 pub fn fresh_bundles<V: Plain, M: Plain, C: MessageCombiner<M>>(
     alloc: Global,
     partitions: Partitioner,
@@ -96,7 +97,7 @@ fn fresh_of_all<V: Plain, M: Plain, C: MessageCombiner<M>>(
 {
     match changes.all_sent(alloc)? {
         Some((senders, sent)) => {
-            let sends = SentBy::of(senders.as_slice(), sent);
+            let sends = SendsRef::of(senders.as_slice(), sent);
             Ok(Some(fresh(alloc, &sends, combiner)?))
         }
         None => Ok(None),
@@ -123,7 +124,7 @@ fn each_fresh<M: Plain, C: MessageCombiner<M>>(
 /// A bundle of which nothing is known but what is in it.
 fn fresh<M: Plain, C: MessageCombiner<M>>(
     alloc: Global,
-    sends: &SentBy<'_, M>,
+    sends: &SendsRef<'_, M>,
     combiner: &C,
 ) -> Result<Logged<M>, Memory>
     ensures { IfOk result (λ logged. IsFresh (C.combining combiner.now) sends.now (Some logged)) }
@@ -199,7 +200,7 @@ fn mended<M: Plain, C: MessageCombiner<M>>(
     alloc: Global,
     before: Option<&Logged<M>>,
     withdrawn: &[(VertexId, VertexId)],
-    added: &SentBy<'_, M>,
+    added: &SendsRef<'_, M>,
     combiner: &C,
 ) -> Result<Logged<M>, Memory>
     ensures { IfOk result (λ logged. IsMended (C.combining combiner.now) withdrawn.now added.now (option_copied before.entry) (Some logged)) }

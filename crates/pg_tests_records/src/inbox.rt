@@ -2,7 +2,7 @@ ghost use Rattle.std.specs.Prelude.{◌≡◌};
 
 use pg_global::AnyCombiner;
 use pg_graph::{Memory, PartitionId, Superstep, VertexId};
-use pg_inbox::{Bundle, Logged, Logs, Sends, SentBy, bundle, changed_targets, inbox, patch};
+use pg_inbox::{Bundle, Logged, Logs, Sends, SendsRef, bundle, changed_targets, inbox, patch};
 use std::alloc::Global;
 use std::fmt::Write;
 
@@ -232,7 +232,7 @@ fn withdrawn(alloc: Global) -> Result<Logged<i64>, Memory> {
         alloc,
         &old,
         &withdrawn,
-        &SentBy::of(&[], &[]),
+        &SendsRef::of(&[], &[]),
         &AnyCombiner::Min,
     )
 }

@@ -125,8 +125,8 @@ fn lines_at_ends(alloc: Global) -> Result<Vec<Line>, Memory> {
     Ok(lines)
 }
 
-// Fewer than 256 lines are put in order by comparing, more by at most 8 bits at a time, and many by at most 14. The second
-// list finds more edges at each source than the first one.
+// Fewer than 256 lines are put in order by comparing, more by some bits at a time, the more the more lines there are. The
+// second list finds more edges at each source than the first one.
 #[test]
 fn lists_in_no_order(rt: HostRuntime) -> Result<(), EditFault> {
     for counts in [[100, 101], [256, 257], [1_800, 1_801], [5_000, 5_001]] {

@@ -9,7 +9,7 @@ struct Jumping {
     span: u64,
 }
 
-// Among the low ones and among high ones, always the same one, among all, and with one digit and two of 14 bits.
+// Among the low ones and among high ones, always the same one, among all, and with 14 bits and with 28.
 const SPREADS: [Jumping; 6] = [
     Jumping {
         least: 0,
@@ -90,12 +90,13 @@ fn are_put_in_order(alloc: Global, count: u32, spread: Jumping) -> Result<bool, 
     )
 }
 
-// Few ids are compared, more are told apart by at most 8 bits at a time, and many by at most 14.
+// Few ids are compared, and more are told apart by some bits at a time: at most 11 where there are 300, 15 with 5,000, and
+// 18 with 40,000.
 #[test]
 fn ids_are_put_in_order(rt: HostRuntime) -> Result<(), Memory> {
     let alloc = rt.alloc();
     for spread in SPREADS {
-        for count in [0, 1, 200, 300, 5_000] {
+        for count in [0, 1, 200, 300, 5_000, 40_000] {
             assert!(rt; are_put_in_order(alloc, count, spread)?);
         }
     }

@@ -1,6 +1,6 @@
 use Rattle.std.proofs.Common.{◌≡◌, ◌<◌, ℕ, length, get_or, ap, ap₂, ◌∙◌, arith}
 use Rattle.pg_inbox.proofs.Sending.{length-sends_in, send_at}
-use Rattle.pg_inbox.proofs.sends.SentBy.at.Goals as goal
+use Rattle.pg_inbox.proofs.sends.SendsRef.at.Goals as goal
 
 pub send_at-requires-clause-senders : goal.send_at-requires-clause-senders
 send_at-requires-clause-senders g c =
