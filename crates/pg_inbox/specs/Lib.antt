@@ -11,6 +11,5 @@ pub mod Parts
 pub mod Patched
 pub mod Places
 pub mod Rows
-pub mod Sends
 pub mod Shared
 pub mod Sound

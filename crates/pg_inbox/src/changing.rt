@@ -180,20 +180,27 @@ fn are_same_letters<M: Plain>(old: &ParcelRef<'_, M>, new: &ParcelRef<'_, M>) ->
         return false;
     }
     for place in 0..old.len() {
-        if !is_same_letter(old.letter(place), new.letter(place)) {
+        let (sender, message) = old.letter(place);
+        let (other_sender, other) = new.letter(place);
+        if !is_same_letter(sender, message, other_sender, other) {
             return false;
         }
     }
     true
 }
 
-fn is_same_letter<M: Plain>(old: &(VertexId, M), new: &(VertexId, M)) -> bool
-    ensures { IsTrue result ↔ (old.now ≡ new.now) }
+fn is_same_letter<M: Plain>(
+    sender: VertexId,
+    message: &M,
+    other_sender: VertexId,
+    other: &M,
+) -> bool
+    ensures { IsTrue result ↔ ◌≡◌ {A = ℕ × M} (sender, message.now) (other_sender, other.now) }
 {
-    if old.0 != new.0 {
+    if sender != other_sender {
         return false;
     }
-    is_same_message(&old.1, &new.1)
+    is_same_message(message, other)
 }
 
 fn is_same_message<M: Plain>(old: &M, new: &M) -> bool

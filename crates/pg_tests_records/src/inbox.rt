@@ -2,7 +2,8 @@ ghost use Rattle.std.specs.Prelude.{◌≡◌};
 
 use pg_global::AnyCombiner;
 use pg_graph::{Memory, PartitionId, Superstep, VertexId};
-use pg_inbox::{Bundle, Logged, Logs, Sends, SendsRef, bundle, changed_targets, inbox, patch};
+use pg_inbox::{Bundle, Logged, Logs, bundle, changed_targets, inbox, patch};
+use pg_parcel::{Sends, SendsRef};
 use std::alloc::Global;
 use std::fmt::Write;
 
@@ -58,17 +59,23 @@ fn write_target(
     text: &mut String,
     bundle: &Bundle<i64>,
     target: u32,
+    combiner: AnyCombiner,
 ) -> Result<(), Memory> {
     let count = bundle.messages_to(id(target));
-    let messages = inbox_of(alloc, &[bundle], target, AnyCombiner::Min)?;
+    let messages = inbox_of(alloc, &[bundle], target, combiner)?;
     write!(text, "{target}:{count}[{messages}]")?;
     Ok(())
 }
 
 // The targets 3 to 5 of a bundle.
-fn write_bundle(alloc: Global, text: &mut String, bundle: &Bundle<i64>) -> Result<(), Memory> {
+fn write_bundle(
+    alloc: Global,
+    text: &mut String,
+    bundle: &Bundle<i64>,
+    combiner: AnyCombiner,
+) -> Result<(), Memory> {
     for target in 3..6u32 {
-        write_target(alloc, text, bundle, target)?;
+        write_target(alloc, text, bundle, target, combiner)?;
     }
     Ok(())
 }
@@ -83,7 +90,7 @@ fn write_ids(text: &mut String, ids: &[VertexId]) -> Result<(), Memory> {
 fn text_of_three(alloc: Global) -> Result<String, Memory> {
     let made = three(alloc, AnyCombiner::Min)?;
     let mut text = String::new(alloc);
-    write_bundle(alloc, &mut text, &made)?;
+    write_bundle(alloc, &mut text, &made, AnyCombiner::Min)?;
     Ok(text)
 }
 
@@ -225,20 +232,19 @@ fn logs_forget(rt: HostRuntime) -> Result<(), Memory> {
 }
 
 // The bundle of three without two of its messages.
-fn withdrawn(alloc: Global) -> Result<Logged<i64>, Memory> {
-    let old = three(alloc, AnyCombiner::Min)?;
+fn withdrawn(alloc: Global, combiner: AnyCombiner) -> Result<Logged<i64>, Memory> {
+    let old = three(alloc, combiner)?;
     let withdrawn = [(id(1), id(4)), (id(3), id(5))];
-    patch(
-        alloc,
-        &old,
-        &withdrawn,
-        &SendsRef::of(&[], &[]),
-        &AnyCombiner::Min,
-    )
+    patch(alloc, &old, &withdrawn, &SendsRef::of(&[], &[]), &combiner)
 }
 
-fn write_logged(alloc: Global, text: &mut String, logged: &Logged<i64>) -> Result<(), Memory> {
-    write_bundle(alloc, text, &logged.bundle)?;
+fn write_logged(
+    alloc: Global,
+    text: &mut String,
+    logged: &Logged<i64>,
+    combiner: AnyCombiner,
+) -> Result<(), Memory> {
+    write_bundle(alloc, text, &logged.bundle, combiner)?;
     if let Some(changed) = &logged.changed {
         write!(text, " changed ")?;
         write_ids(text, changed.as_slice())?;
@@ -246,16 +252,44 @@ fn write_logged(alloc: Global, text: &mut String, logged: &Logged<i64>) -> Resul
     Ok(())
 }
 
-fn text_of_withdrawn(alloc: Global) -> Result<String, Memory> {
-    let logged = withdrawn(alloc)?;
+fn text_of_withdrawn(alloc: Global, combiner: AnyCombiner) -> Result<String, Memory> {
+    let logged = withdrawn(alloc, combiner)?;
     let mut text = String::new(alloc);
-    write_logged(alloc, &mut text, &logged)?;
+    write_logged(alloc, &mut text, &logged, combiner)?;
     Ok(text)
 }
 
 #[test]
 fn withdrawn_from_one_target(rt: HostRuntime) -> Result<(), Memory> {
-    let text = text_of_withdrawn(rt.alloc())?;
+    let text = text_of_withdrawn(rt.alloc(), AnyCombiner::Min)?;
     assert_eq!(rt; text.as_str(), "3:0[]4:1[2,]5:0[] changed 4,5,");
+    let text = text_of_withdrawn(rt.alloc(), AnyCombiner::NoCombiner)?;
+    assert_eq!(rt; text.as_str(), "3:0[]4:1[2,]5:0[] changed 4,5,");
+    Ok(())
+}
+
+// How many messages there are in a bundle of which some are changed.
+fn count_of_withdrawn(alloc: Global) -> Result<u64, Memory> {
+    withdrawn(alloc, AnyCombiner::NoCombiner)?
+        .bundle
+        .messages(alloc)
+}
+
+#[test]
+fn counted_beside_changes(rt: HostRuntime) -> Result<(), Memory> {
+    assert!(rt; count_of_withdrawn(rt.alloc())? == 1);
+    Ok(())
+}
+
+// What 4 receives where who sent first doesn't have the lower id.
+fn inbox_of_turned(alloc: Global) -> Result<String, Memory> {
+    let turned = bundle_of(alloc, &[(3, 4, 2), (1, 4, 3)], AnyCombiner::NoCombiner)?;
+    inbox_of(alloc, &[&turned], 4, AnyCombiner::NoCombiner)
+}
+
+#[test]
+fn put_in_order_of_senders(rt: HostRuntime) -> Result<(), Memory> {
+    let text = inbox_of_turned(rt.alloc())?;
+    assert_eq!(rt; text.as_str(), "3,2,");
     Ok(())
 }
