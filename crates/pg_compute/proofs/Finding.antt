@@ -5,7 +5,7 @@ use Rattle.pg_graph.specs.declared.missing.Missing.{Missing}
 use Rattle.pg_graph.specs.declared.missing.Missing.TheVariants.{Drop, Create}
 use Rattle.pg_inbox.specs.Inboxes.{Delivers}
 use Rattle.pg_inbox.specs.Logged.{Slots}
-use Rattle.pg_parcel.specs.Sends.{AreAllOf}
+use Rattle.pg_inbox.specs.Sends.{AreAllOf}
 use Rattle.pg_model.specs.ByIds.{arriving, inbox_at, standing_with, state_at as run_state_at}
 use Rattle.pg_model.specs.Job.{Combining, Job}
 use Rattle.pg_model.specs.Needed.{standing_at}

@@ -199,9 +199,7 @@ fn play_callees<P: Computation>(
         play_found(alloc, program, id, found, delivered, &mut scene)?;
         turned = turned.with(&state, &scene.given_at(before))?;
     }
-    let turned = turned_next(trace, superstep, turned);
-    let played = scene.into_played(alloc, looked_at, turned)?;
-    Ok(played)
+    Ok(scene.into_played(looked_at, turned_next(trace, superstep, turned)))
 }
 
 /// For how many messages to make room where so many are received. Mostly about as many are sent. It is a guess: more of them

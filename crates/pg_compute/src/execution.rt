@@ -106,24 +106,23 @@ impl<V: Drop, M: Drop> Scene<V, M> {
     /// What the executions have made of these vertices.
     pub(crate) fn into_played(
         self,
-        alloc: Global,
         looked_at: Vec<VertexId>,
         turned: Option<Turned>,
-    ) -> Result<Played<V, M>, Memory>
+    ) -> Played<V, M>
         requires { AreWithin self.cx.sent self.cx.contributed self.left.items }
-        ensures looked_at { IfOk result (λ played. played.looked_at.items ≡ looked_at.items) }
-        ensures changes { IfOk result (λ played. played.changes ≡ changes_of self) }
-        ensures meter { IfOk result (λ played. played.meter ≡ self.cx.calls) }
-        ensures turned { IfOk result (λ played. played.turned ≡ turned) }
+        ensures looked_at { result.looked_at.items ≡ looked_at.items }
+        ensures changes { result.changes ≡ changes_of self }
+        ensures meter { result.meter ≡ self.cx.calls }
+        ensures turned { result.turned ≡ turned }
     {
         let Scene { cx, left, .. } = self;
         let (_view, sent, contributed, meter) = cx.into_parts();
-        Ok(Played {
+        Played {
             looked_at,
-            changes: Changes::of(alloc, left, sent.into_vec(), contributed.into_vec())?,
+            changes: Changes::of(left, sent.into_vec(), contributed.into_vec()),
             meter,
             turned,
-        })
+        }
     }
 }
 
@@ -160,8 +159,7 @@ pub(crate) fn play<P: Computation>(
         looked_at.push(candidate.id)?;
         play_one(alloc, program, candidate, seen, &mut scene)?;
     }
-    let played = scene.into_played(alloc, looked_at, None)?;
-    Ok(played)
+    Ok(scene.into_played(looked_at, None))
 }
 
 /// Executes a vertex if it is active and doesn't read what it read in the old run.

@@ -11,7 +11,7 @@ use Rattle.pg_graph.specs.Rows.{HasRisingIds, Rows}
 use Rattle.pg_inbox.specs.Bundles.{Parcels}
 use Rattle.pg_inbox.specs.Logged.{Slots, slot_at}
 use Rattle.pg_inbox.specs.Patched.{TellsChanges, staying}
-use Rattle.pg_parcel.specs.Sends.{AreAllOf, Sends, sent_by}
+use Rattle.pg_inbox.specs.Sends.{AreAllOf, Sends, sent_by}
 use Rattle.pg_inbox.specs.declared.logs.Logged.{Logged}
 use Rattle.pg_map.specs.Entries.{ChangesRise, value_at, with_changes}
 use Rattle.pg_map.proofs.Changing.{unchanged_at, value_at-with_changes}

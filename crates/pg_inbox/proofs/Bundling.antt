@@ -1,5 +1,5 @@
 -- A bundle has at each target what goes to it of the sends.
-use Rattle.std.proofs.Common.{◌≡◌, ℕ, ◌==◌, ◌||◌, not, Bool, true, false, cond, List, [], ◌∷◌, ◌++◌, map, slice_get}
+use Rattle.std.proofs.Common.{◌≡◌, ℕ, ◌==◌, ◌||◌, not, Bool, true, false, cond, List, [], ◌∷◌, map}
 use Rattle.std.proofs.Common.{Option, None, Some, refl, sym, ap, ◌∙◌, subst, arith, ⊎_elim, eqb, eqb-true}
 use Rattle.std.specs.List.{AllByRecursion, filter}
 use Rattle.std.specs.List.Sorted.{IsNonDecreasingBy, IsStrictlySortedBy}
@@ -12,12 +12,6 @@ use Rattle.std.proofs.lemmas.Bool.Decides.{nat_tests}
 use Rattle.std.proofs.lemmas.List.Elements.{filter_agree}
 use Rattle.std.proofs.lemmas.Map.Entries.{lookup_head, lookup_tail}
 use Rattle.std.proofs.lemmas.Simd.{map-map}
-use Rattle.std.specs.Option.{option_to_list}
-use Rattle.std.proofs.lemmas.List.{length-map}
-use Rattle.std.proofs.lemmas.List.Elements.{All-from_recursion}
-use Rattle.std.proofs.lemmas.Option.{get_or_from_slice_get, slice_get-map, slice_get_within}
-use Rattle.pg_parcel.specs.Letters.{AreThere, at_places, letters_from}
-use Rattle.pg_parcel.proofs.LettersAt.{not_none}
 use Rattle.pg_graph.specs.ById.{AreById, StandAt}
 use Rattle.pg_graph.proofs.Taken.{taken_rise, taken_same}
 use Rattle.pg_map.specs.Entries.{HasRisingIds, value_at}
@@ -30,8 +24,8 @@ use Rattle.pg_parcel.specs.Contents.{contents_of}
 use Rattle.pg_parcel.specs.Grouping.{AreGroups, any_of, groups_of, items_to}
 use Rattle.pg_parcel.proofs.Grouping.{groups_of_same, some_not_empty}
 use Rattle.pg_inbox.specs.Bundles.{Parcels, bundle_of}
-use Rattle.pg_parcel.specs.Sends.{as_item}
-use Rattle.pg_parcel.specs.Sends.{Sends, letters_to, without_senders}
+use Rattle.pg_inbox.specs.Sends.{as_item}
+use Rattle.pg_inbox.specs.Sends.{Sends, letters_to, without_senders}
 
 pub at_id : (q id : ℕ) → is_at (nat_cmp q) id ≡ (id == q)
 at_id q id = grind (arith, nat_tests)
@@ -161,39 +155,6 @@ module _ {M : Type 0} (sent : Sends M) (order : List (ℕ × ℕ)) (letters : Li
         (λ q. filter_agree (λ i. i.0 == q) (λ i. eqb q i.0) (λ i. turned i.0 q) letters
         ∙ taken_same (λ i. i.0) (map as_item sent) order letters keyed zip q
         ∙ sym (filter_agree (λ i. i.0 == q) (λ i. eqb q i.0) (λ i. turned i.0 q) (map as_item sent)))
-
--- ---- sends at the places of their targets in order
-
-module _ {M : Type 0} (sent : Sends M) where
-  pub places_there : (order : List (ℕ × ℕ)) → AllByRecursion (λ e. slice_get (map (λ s. s.1) sent) e.0 ≡ Some e.1) order
-      → AreThere (map (λ e. e.0) order) sent
-  places_there [] each = tt
-  places_there (e ∷ order) each =
-      (omega (arith, slice_get_within (map (λ s. s.1) sent) e.0 e.1 each.0, length-map sent (λ s. s.1)), places_there order each.1)
-
-  pub stand_in_order : (order : List (ℕ × ℕ)) → AreThere (map (λ e. e.0) order) sent
-      → StandAt (map as_item sent) order (letters_from (map (λ e. e.0) order) sent)
-  stand_in_order [] there = tt
-  stand_in_order (e ∷ order) there = by (slice_get sent e.0) refl (stand_in_order order there.1)
-    where
-      by : (o : Option (ℕ × ℕ × M)) → slice_get sent e.0 ≡ o → StandAt (map as_item sent) order (letters_from (map (λ e. e.0) order) sent)
-          → StandAt (map as_item sent) (e ∷ order) (map as_item (option_to_list o ++ at_places (map (λ e. e.0) order) sent))
-      by None none later = absurd (not_none sent e.0 there.0 none)
-      by (Some s) is later = (slice_get-map as_item sent e.0 ∙ ap (option_map as_item) is, later)
-
-  -- what holds of all sends holds of those at some places
-  pub values_at : (is_value : M → Type 0) (places : List ℕ) → AreThere places sent → AllByRecursion (λ s. is_value s.2) sent
-      → AllByRecursion (λ l. is_value l.1.1) (letters_from places sent)
-  values_at is_value [] there values = tt
-  values_at is_value (p ∷ places) there values = by (slice_get sent p) refl (values_at is_value places there.1 values)
-    where
-      by : (o : Option (ℕ × ℕ × M)) → slice_get sent p ≡ o → AllByRecursion (λ l. is_value l.1.1) (letters_from places sent)
-          → AllByRecursion (λ l. is_value l.1.1) (map as_item (option_to_list o ++ at_places places sent))
-      by None none later = absurd (not_none sent p there.0 none)
-      by (Some s) is later = (
-        subst (λ x. is_value x.2) (get_or_from_slice_get sent p s s is) (All-from_recursion (λ x. is_value x.2) sent values p s there.0),
-        later,
-      )
 
 -- ---- each entry, from the look-ups
 

@@ -28,7 +28,7 @@ use Rattle.pg_inbox.specs.Bundles.{Parcels, bundle_of}
 use Rattle.pg_inbox.specs.Holding.{HoldsAt}
 use Rattle.pg_inbox.specs.Ordered.{in_order}
 use Rattle.pg_inbox.specs.Inboxes.{AreInboxes, Delivers, contents_to, each_inbox, inboxes_of, letters_at, received_of}
-use Rattle.pg_parcel.specs.Sends.{AreAllOf, RiseBySender, Sends, letters_to, sent_by, without_senders}
+use Rattle.pg_inbox.specs.Sends.{AreAllOf, RiseBySender, Sends, letters_to, sent_by, without_senders}
 use Rattle.pg_inbox.proofs.Bundling.{at_id, rises-values, value_at-bundle_of, value_at-values}
 use Rattle.pg_inbox.proofs.Senders.{from, in_order-from, in_order-up, permutation_by_number, same_by_number}
 

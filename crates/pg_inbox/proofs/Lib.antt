@@ -3,9 +3,9 @@ pub mod Bundling
 pub mod Delivery
 pub mod Differing
 pub mod Parting
-pub mod Posting
 pub mod Replacing
 pub mod SameDelivery
 pub mod Senders
+pub mod Sending
 pub mod Sent
 pub mod Taking

@@ -27,7 +27,7 @@ use Rattle.pg_inbox.specs.Inboxes.{letters_at}
 use Rattle.pg_inbox.specs.Mending.{additions, as_addition, as_withdrawal, changes_of, mended, mended_at, mends_of, senders_of}
 use Rattle.pg_inbox.specs.Ordered.{in_order}
 use Rattle.pg_inbox.specs.Patched.{AreReplaced, IsPatched, is_withdrawn, staying}
-use Rattle.pg_parcel.specs.Sends.{Sends, letters_to}
+use Rattle.pg_inbox.specs.Sends.{Sends, letters_to}
 use Rattle.pg_inbox.specs.declared.patching.Mend.{Mend}
 use Rattle.pg_inbox.proofs.Bundling.{all_from_lookups, at_id, is_bundle_of, rises-bundle_of, value_at-bundle_of}
 use Rattle.pg_inbox.proofs.Differing.{AreTold, changed_all, rises-more, told-more}

@@ -19,7 +19,7 @@ use Rattle.pg_inbox.specs.Bundles.{Entry, Parcels, bundle_of, entries_in, entrie
 use Rattle.pg_inbox.specs.Holding.{HoldAll, HoldsAt}
 use Rattle.pg_inbox.specs.Inboxes.{contents_to, letters_at, received_of}
 use Rattle.pg_inbox.specs.Ordered.{in_order}
-use Rattle.pg_parcel.specs.Sends.{Sends, letters_to}
+use Rattle.pg_inbox.specs.Sends.{Sends, letters_to}
 use Rattle.pg_inbox.proofs.Bundling.{value_at-bundle_of}
 use Rattle.pg_inbox.proofs.Delivery.{delivers_received, folded_at, folded_of_all, letters_at-bundle_of, letters_of_all}
 use Rattle.pg_model.proofs.LawsLists.{all_to_map}

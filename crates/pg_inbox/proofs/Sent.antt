@@ -1,6 +1,6 @@
 -- Bundles as they lie in memory: letters by target, and what is changed of them.
 use Rattle.std.proofs.Common.{◌≡◌, ℕ, ◌+◌, ◌<◌, ◌≤◌, ◌==◌, suc, Bool, true, false, cond, List, [], ◌∷◌, ◌++◌, length, map, take, drop, get_or}
-use Rattle.std.proofs.Common.{Option, None, Some, option_map, unwrap_or, refl, sym, ap, ap₂, ◌∙◌, subst, arith, append_assoc, ltb}
+use Rattle.std.proofs.Common.{Option, None, Some, option_map, unwrap_or, refl, sym, ap, ap₂, ◌∙◌, subst, arith, append_assoc, ltb, leb}
 use Rattle.std.specs.List.{AllByRecursion, sum_by}
 use Rattle.std.specs.List.Sorted.{IsNonDecreasingBy, IsPartitionPoint, IsStrictlySortedBy}
 use Rattle.std.specs.Ordering.{nat_cmp}
@@ -37,6 +37,12 @@ is_below a b h = grind (arith, nat_tests)
 
 is_from : (a b : ℕ) → ltb a b ≡ false → b ≤ a
 is_from a b h = grind (arith, nat_tests)
+
+is_up_to : (a b : ℕ) → leb a b ≡ true → a < b + 1
+is_up_to a b h = grind (arith, nat_tests)
+
+is_past : (a b : ℕ) → leb a b ≡ false → b + 1 ≤ a
+is_past a b h = grind (arith, nat_tests)
 
 one_alone : (a b : ℕ) → b ≤ a → a < b + 1 → a ≡ b
 one_alone a b h k = omega (arith, h, k)
@@ -255,7 +261,7 @@ module _ {M : Type 0} where
       (rise : IsNonDecreasingBy (λ l. l.0) letters) (within : n ≤ length letters)
       (parts : IsPartitionPoint (λ l. ltb l.0 id ≡ true) (λ l. ltb l.0 id ≡ false) letters n)
       (front : here ≡ take n letters) (back : from ≡ drop n letters)
-      (within' : k ≤ length from) (parts' : IsPartitionPoint (λ l. ltb l.0 (id + 1) ≡ true) (λ l. ltb l.0 (id + 1) ≡ false) from k)
+      (within' : k ≤ length from) (parts' : IsPartitionPoint (λ l. leb l.0 id ≡ true) (λ l. leb l.0 id ≡ false) from k)
       (rest : later ≡ drop k from) where
     -- in two searches
     pub parcels_up_to : (before after : Parcels M) → after ≡ (before ++ sent_parcels here) ++ with_change id change []
@@ -266,8 +272,8 @@ module _ {M : Type 0} where
         (λ i d h. is_below (get_or letters i d).0 id (parts.0 i d (omega (arith, h, within)) h))
         (λ i d h g. is_from (get_or letters i d).0 id (parts.1 i d h g)) in
         let high = split_all (λ l. l.0 < id + 1) (λ l. id + 1 ≤ l.0) from k within'
-        (λ i d h. is_below (get_or from i d).0 (id + 1) (parts'.0 i d (omega (arith, h, within')) h))
-        (λ i d h g. is_from (get_or from i d).0 (id + 1) (parts'.1 i d h g)) in
+        (λ i d h. is_up_to (get_or from i d).0 id (parts'.0 i d (omega (arith, h, within')) h))
+        (λ i d h g. is_past (get_or from i d).0 id (parts'.1 i d h g)) in
         let middle = take k from in
         let cut : middle ++ later ≡ from = ap (λ l. middle ++ l) rest ∙ take-append-drop k from in
         let whole : here ++ (middle ++ later) ≡ letters = ap₂ ◌++◌ front (cut ∙ back) ∙ take-append-drop n letters in

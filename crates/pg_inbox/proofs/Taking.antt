@@ -1,9 +1,10 @@
 -- Steps and ends of loops that take a list to pieces: what they took is counted or combined.
-use Rattle.std.proofs.Common.{◌≡◌, ℕ, ◌+◌, ◌-◌, ◌==◌, ◌≤◌, IfSome, IsSome, true, false, cond, List, Option, None, Some, [], ◌∷◌, ◌++◌, length, get_or}
+use Rattle.std.proofs.Common.{◌≡◌, ℕ, ◌+◌, ◌-◌, ◌==◌, ◌≤◌, IfSome, IsSome, true, false, cond, List, Option, None, Some, [], ◌∷◌, ◌++◌, length, get_or, slice_get}
 use Rattle.std.proofs.Common.{refl, ap, ap₂, sym, subst, ◌∙◌, arith, true≢false, Bool, not, ◌||◌, is_some}
 use Rattle.std.specs.List.{AllByRecursion, fold, sum_by}
 use Rattle.std.specs.List.Sorted.{IsNonDecreasingBy}
 use Rattle.std.proofs.lemmas.List.Elements.{recursion_from_All}
+use Rattle.std.proofs.lemmas.Option.{get_or_from_slice_get}
 use Rattle.std.specs.Option.{option_to_list}
 use Rattle.std.proofs.lemmas.List.{append-nil}
 use Rattle.std.proofs.lemmas.List.Sums.{fold-append, sum_by-cons}
@@ -79,13 +80,16 @@ module _ {X : Type 0} (P : ℕ → Type 0) where
       by (g ∷ groups) later = joined (g.0 == i.0) g groups later
 
   -- items by rising target lie between the first and the last
-  pub all_between : (items : List (ℕ × X)) (first last : ℕ) → IsNonDecreasingBy (λ i. i.0) items → ((d : ℕ × X) → first ≡ (get_or items 0 d).0)
-      → ((d : ℕ × X) → last ≡ (get_or items (length items - 1) d).0) → ((id : ℕ) → first ≤ id → id ≤ last → P id) → AllByRecursion (λ i. P i.0) items
+  pub all_between : (items : List (ℕ × X)) (first last : ℕ × X) → IsNonDecreasingBy (λ i. i.0) items → Some first ≡ slice_get items 0
+      → Some last ≡ slice_get items (length items - 1) → ((id : ℕ) → first.0 ≤ id → id ≤ last.0 → P id) → AllByRecursion (λ i. P i.0) items
   all_between items first last rise begins ends between =
       recursion_from_All (λ i. P i.0) items
       (λ k d within. between (get_or items k d).0
-      (subst (λ x. x ≤ (get_or items k d).0) (sym (begins d)) (rise 0 k d (omega arith) within))
-      (subst (λ x. (get_or items k d).0 ≤ x) (sym (ends d)) (rise k (length items - 1) d (omega (arith, within)) (omega (arith, within)))))
+      (subst (λ x. x.0 ≤ (get_or items k d).0) (sym (there first 0 d begins)) (rise 0 k d (omega arith) within))
+      (subst (λ x. (get_or items k d).0 ≤ x.0) (sym (there last (length items - 1) d ends)) (rise k (length items - 1) d (omega (arith, within)) (omega (arith, within)))))
+    where
+      there : (x : ℕ × X) (k : ℕ) (d : ℕ × X) → Some x ≡ slice_get items k → x ≡ get_or items k d
+      there x k d is = sym (get_or_from_slice_get items k x d (sym is))
 
 module _ {M : Type 0} (rows : Rows) where
   none_in : (groups : List (ℕ × List (ℕ × M))) → AllByRecursion (λ g. IsSome (row_at g.0 rows)) groups

@@ -4,7 +4,7 @@ use Rattle.pg_model.specs.Job.{Combining}
 use Rattle.pg_model.specs.Superstep.{delivered}
 use Rattle.pg_inbox.specs.Bundles.{Parcels, bundle_of}
 use Rattle.pg_inbox.specs.Changed.{AreSameAt}
-use Rattle.pg_parcel.specs.Sends.{AreAllOf, Sends, without_senders}
+use Rattle.pg_inbox.specs.Sends.{AreAllOf, Sends, without_senders}
 
 module _ {M : Type 0} where
   -- bundles that are the same at a target, one by one

@@ -6,7 +6,7 @@ use Rattle.pg_model.specs.Job.{Combining}
 use Rattle.pg_model.specs.Superstep.{targets}
 use Rattle.pg_parcel.specs.Contents.{contents_of}
 use Rattle.pg_parcel.specs.declared.parcel.Contents.{Contents}
-use Rattle.pg_parcel.specs.Sends.{Sends, letters_to, without_senders}
+use Rattle.pg_inbox.specs.Sends.{Sends, letters_to, without_senders}
 
 -- the messages to each target, by rising target
 abbrev pub Parcels : Type 0 → Type 0

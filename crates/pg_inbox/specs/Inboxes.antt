@@ -9,7 +9,7 @@ use Rattle.pg_parcel.specs.Contents.{messages}
 use Rattle.pg_parcel.specs.declared.parcel.Contents.{Contents}
 use Rattle.pg_inbox.specs.Bundles.{Parcels, bundle_of}
 use Rattle.pg_inbox.specs.Ordered.{in_order}
-use Rattle.pg_parcel.specs.Sends.{AreAllOf, Sends, without_senders}
+use Rattle.pg_inbox.specs.Sends.{AreAllOf, Sends, without_senders}
 
 module _ {M : Type 0} where
   -- the messages to a target, if there are any

@@ -11,5 +11,6 @@ pub mod Parts
 pub mod Patched
 pub mod Places
 pub mod Rows
+pub mod Sends
 pub mod Shared
 pub mod Sound

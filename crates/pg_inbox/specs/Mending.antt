@@ -13,7 +13,7 @@ use Rattle.pg_parcel.specs.declared.parcel.Contents.{Contents}
 use Rattle.pg_inbox.specs.Bundles.{Parcels}
 use Rattle.pg_inbox.specs.Inboxes.{letters_in}
 use Rattle.pg_inbox.specs.Ordered.{in_order}
-use Rattle.pg_parcel.specs.Sends.{Sends}
+use Rattle.pg_inbox.specs.Sends.{Sends}
 use Rattle.pg_inbox.specs.declared.patching.Mend.{Mend}
 use Rattle.pg_inbox.specs.declared.patching.Mend.TheVariants.{Withdrawn, Added}
 

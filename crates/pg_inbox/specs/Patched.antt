@@ -4,7 +4,7 @@ use Rattle.std.specs.List.{filter, list_any}
 use Rattle.pg_model.specs.Job.{Combining}
 use Rattle.pg_inbox.specs.Bundles.{Parcels, bundle_of}
 use Rattle.pg_inbox.specs.Changed.{AreChanged}
-use Rattle.pg_parcel.specs.Sends.{AreAllOf, RiseBySender, Sends}
+use Rattle.pg_inbox.specs.Sends.{AreAllOf, RiseBySender, Sends}
 use Rattle.pg_inbox.specs.declared.logs.Logged.{Logged}
 
 -- what this sender sent to this target is withdrawn

@@ -3,7 +3,7 @@ use Rattle.std.specs.Prelude.{◌≡◌, ℤ, pos, [], ◌∷◌, None, Some, re
 use Rattle.pg_model.specs.Aggregators.{least_message}
 use Rattle.pg_model.specs.Superstep.{delivered}
 use Rattle.pg_inbox.specs.Bundles.{bundle_of, entries, entries_to}
-use Rattle.pg_parcel.specs.Sends.{Sends, without_senders}
+use Rattle.pg_inbox.specs.Sends.{Sends, without_senders}
 
 abbrev three : Sends ℤ
 three = (1, 4, pos 3) ∷ (3, 4, pos 2) ∷ (3, 5, pos 7) ∷ []

@@ -5,4 +5,4 @@ use Rattle.pg_inbox.specs.declared.letters.Letters.{Letters}
 
 -- each with its target
 abbrev pub letters_of : {M : Type 0} → Letters M → List (ℕ × (ℕ × M))
-letters_of letters = elim letters.shared [ None ↦ [] | Some shared ↦ arc_value shared ]
+letters_of letters = elim letters.shared [ None ↦ [] | Some shared ↦ (arc_value shared).items ]

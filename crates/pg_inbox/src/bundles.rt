@@ -7,21 +7,20 @@ ghost use Rattle.pg_map.specs.Entries.{HasRisingIds, value_at};
 ghost use Rattle.pg_parcel.specs.Contents.{contents_of};
 ghost use Rattle.pg_parcel.specs.Grouping.{any_of, items_to};
 ghost use Rattle.pg_inbox.specs.Holding.{HoldAll, HoldsAt};
-ghost use Rattle.pg_inbox.specs.Shared.{letters_of};
 ghost use Rattle.pg_inbox.specs.Sound.{sent_parcels};
 
 use crate::letters::Letters;
 use pg_graph::{Memory, VertexId};
 use pg_map::Map;
-use pg_parcel::{Change, LettersRef, ParcelRef};
+use pg_parcel::{Change, ParcelRef, items_to};
 use pg_program::Plain;
 use std::marker::Model;
 
 /// What one partition sends to another in a superstep: for each target, by rising id, the messages to it with
 /// their senders, and where the combiner combines what they come to. Copies share their memory.
 ///
-/// Messages that aren't combined lie where they were sent, in that order, in a list that others may share; their places by
-/// rising target stand in another, and beside it what is changed since. Those that are combined are changes of no list.
+/// Messages that aren't combined lie as they were sent, in one list by rising target, beside what is changed of it
+/// since; those that are combined are changes of no list.
 pub struct Bundle<M: Plain> {
     pub(crate) letters: Letters<M>,
     pub(crate) changes: Map<Change<M>>,
@@ -84,29 +83,32 @@ impl<M: Plain> Bundle<M> {
     {
         match self.changes.get(target) {
             Some(change) => change.parcel(),
-            None => sent_to(&self.letters, target),
+            None => sent_to(self.letters.as_slice(), target),
         }
     }
 
     /// The letters, where nothing is changed of them.
-    pub(crate) fn unchanged(&self) -> Option<LettersRef<'_, M>>
-        ensures parcels { IfSome result (λ letters. self.now ≡ sent_parcels letters) }
-        ensures rise { IfSome result (λ letters. IsNonDecreasingBy (λ l. l.0) letters) }
+    pub(crate) fn unchanged(&self) -> Option<&[(VertexId, (VertexId, M))]>
+        ensures parcels { IfSome result (λ letters. self.now ≡ sent_parcels letters.now) }
+        ensures rise { IfSome result (λ letters. IsNonDecreasingBy (λ l. l.0) letters.now) }
     {
         if self.changes.len() > 0 {
             return None;
         }
-        Some(self.letters.lend())
+        Some(self.letters.as_slice())
     }
 }
 
 /// The letters to a target, if there are any.
-fn sent_to<M: Plain>(letters: &Letters<M>, target: VertexId) -> Option<ParcelRef<'_, M>>
-    requires { IsNonDecreasingBy (λ i. i.0) (letters_of letters.now) }
-    ensures { result ≡ option_map (contents_of None) (any_of (items_to target (letters_of letters.now))) }
+fn sent_to<M: Plain>(
+    letters: &[(VertexId, (VertexId, M))],
+    target: VertexId,
+) -> Option<ParcelRef<'_, M>>
+    requires { IsNonDecreasingBy (λ i. i.0) letters.now }
+    ensures { result ≡ option_map (contents_of None) (any_of (items_to target letters.now)) }
 {
-    let here = letters.letters_to(target);
-    if here.len() == 0 {
+    let here = items_to(letters, target);
+    if here.is_empty() {
         return None;
     }
     Some(ParcelRef::of_sent(here))

@@ -180,27 +180,20 @@ fn are_same_letters<M: Plain>(old: &ParcelRef<'_, M>, new: &ParcelRef<'_, M>) ->
         return false;
     }
     for place in 0..old.len() {
-        let (sender, message) = old.letter(place);
-        let (other_sender, other) = new.letter(place);
-        if !is_same_letter(sender, message, other_sender, other) {
+        if !is_same_letter(old.letter(place), new.letter(place)) {
             return false;
         }
     }
     true
 }
 
-fn is_same_letter<M: Plain>(
-    sender: VertexId,
-    message: &M,
-    other_sender: VertexId,
-    other: &M,
-) -> bool
-    ensures { IsTrue result ↔ ◌≡◌ {A = ℕ × M} (sender, message.now) (other_sender, other.now) }
+fn is_same_letter<M: Plain>(old: &(VertexId, M), new: &(VertexId, M)) -> bool
+    ensures { IsTrue result ↔ (old.now ≡ new.now) }
 {
-    if sender != other_sender {
+    if old.0 != new.0 {
         return false;
     }
-    is_same_message(message, other)
+    is_same_message(&old.1, &new.1)
 }
 
 fn is_same_message<M: Plain>(old: &M, new: &M) -> bool

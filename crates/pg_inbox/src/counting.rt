@@ -9,7 +9,7 @@ ghost use Rattle.pg_inbox.specs.Sound.{sent_parcels};
 
 use crate::Bundle;
 use pg_graph::{Finder, Graph, Memory, Row, VertexId};
-use pg_parcel::{LettersRef, ParcelRef};
+use pg_parcel::{ParcelRef, first_group};
 use pg_program::Plain;
 use std::alloc::{AllocError, Global};
 
@@ -68,18 +68,21 @@ impl<M: Plain> Bundle<M> {
 }
 
 /// How many letters, by target, there are to ids that are no vertices of a graph.
-fn astray_sent<M: Plain>(letters: LettersRef<'_, M>, graph: &Graph) -> Result<u64, Memory>
-    requires { IsNonDecreasingBy (λ l. l.0) letters }
+fn astray_sent<M: Plain>(
+    letters: &[(VertexId, (VertexId, M))],
+    graph: &Graph,
+) -> Result<u64, Memory>
+    requires { IsNonDecreasingBy (λ l. l.0) letters.now }
     ensures { IfOk result
-        (λ count. count ≡ messages_where (λ id. not (is_some (row_at id graph.now))) (sent_parcels letters.entry)) }
+        (λ count. count ≡ messages_where (λ id. not (is_some (row_at id graph.now))) (sent_parcels letters.now)) }
 {
-    if are_to_vertices(&letters, graph) {
+    if are_to_vertices(letters, graph) {
         return Ok(0);
     }
     let mut rows = graph.finder();
     let mut count = 0u64;
     let mut left = letters;
-    while let Some((target, here, later)) = left.first_group(0) {
+    while let Some((target, here, later)) = first_group(left) {
         count = with_astray(count, &mut rows, target, here.len())?;
         left = later;
     }
@@ -87,17 +90,14 @@ fn astray_sent<M: Plain>(letters: LettersRef<'_, M>, graph: &Graph) -> Result<u6
 }
 
 /// Whether all letters, by rising target, are to vertices of a graph. It may say no where they are.
-fn are_to_vertices<M>(letters: &LettersRef<'_, M>, graph: &Graph) -> bool
+fn are_to_vertices<M>(letters: &[(VertexId, (VertexId, M))], graph: &Graph) -> bool
     requires { IsNonDecreasingBy (λ l. l.0) letters.now }
     ensures { IsTrue result → AllByRecursion (λ l. IsSome (row_at l.0 graph.now)) letters.now }
 {
-    let count = letters.len();
-    if count == 0 {
-        return false;
+    match (letters.first(), letters.last()) {
+        (Some(first), Some(last)) => graph.has_all(first.0, last.0),
+        _ => false,
     }
-    let (first, _, _) = letters.at(0);
-    let (last, _, _) = letters.at(count - 1);
-    graph.has_all(first, last)
 }
 
 /// How many messages there are.

@@ -14,13 +14,15 @@ mod patching;
 mod places;
 mod receivers;
 mod receiving;
+mod sends;
 
 pub use alike::tell_alike;
 pub use bundles::Bundle;
 pub use changing::changed_targets;
 pub use delivered::Inboxes;
 pub use logs::{Logged, Logs};
-pub use making::{bundle, shared_bundle};
+pub use making::bundle;
 pub use patching::patch;
 pub use receivers::inboxes;
 pub use receiving::inbox;
+pub use sends::{Sends, SendsRef};

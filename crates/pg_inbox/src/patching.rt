@@ -13,16 +13,14 @@ ghost use Rattle.pg_inbox.specs.Inboxes.{letters_in};
 ghost use Rattle.pg_inbox.specs.Mending.{HasJust, HasMore, additions, as_addition, as_withdrawal, changes_of, mended, mended_in, mends_of, others};
 ghost use Rattle.pg_inbox.specs.Mending.{senders_of, withdrawn_by};
 ghost use Rattle.pg_inbox.specs.Patched.{IsPatched, TellsChanges};
-ghost use Rattle.pg_inbox.specs.Shared.{letters_of};
 ghost use Rattle.pg_inbox.specs.Sound.{needed};
 
 use crate::changing::add_if_changed;
-use crate::letters::Letters;
-use crate::{Bundle, Logged};
+use crate::{Bundle, Logged, SendsRef};
 use pg_global::MessageCombiner;
 use pg_graph::{Memory, VertexId};
 use pg_model::Sequence;
-use pg_parcel::{Change, Parcel, ParcelRef, SendsRef, by_target, first_group};
+use pg_parcel::{Change, Parcel, ParcelRef, by_target, first_group, items_to};
 use pg_program::Plain;
 use std::alloc::Global;
 use std::collections::BTreeSet;
@@ -136,7 +134,7 @@ fn changed_bundle<M: Plain>(
     requires hold { AllByRecursion (λ c. HoldsAt M.is_value c.1) changes.items }
     ensures { IfOk result (λ bundle. bundle ≡ with_changes changes.items old.now) }
 {
-    let given = each_given(alloc, &old.letters, changes)?;
+    let given = each_given(alloc, old.letters.as_slice(), changes)?;
     let letters = old.letters.share()?;
     let mut changes = old.changes.share()?;
     changes.change(alloc, given.as_slice())?;
@@ -146,11 +144,11 @@ fn changed_bundle<M: Plain>(
 /// What these changes give the map of a bundle with these letters.
 fn each_given<M: Plain>(
     alloc: Global,
-    letters: &Letters<M>,
+    letters: &[(VertexId, (VertexId, M))],
     changes: Vec<(VertexId, Change<M>)>,
 ) -> Result<Vec<(VertexId, Option<Change<M>>)>, Memory>
-    requires { IsNonDecreasingBy (λ l. l.0) (letters_of letters.now) }
-    ensures { IfOk result (λ given. given.items ≡ map (needed (letters_of letters.now)) changes.items) }
+    requires { IsNonDecreasingBy (λ l. l.0) letters.now }
+    ensures { IfOk result (λ given. given.items ≡ map (needed letters.now) changes.items) }
 {
     let mut given = Vec::with_capacity(alloc, changes.len())?;
     for (id, change) in changes {
@@ -160,11 +158,15 @@ fn each_given<M: Plain>(
 }
 
 /// What a change gives the map: nothing where it leaves its target no messages and the letters have none to it.
-fn needed<M: Plain>(letters: &Letters<M>, id: VertexId, change: Change<M>) -> Option<Change<M>>
-    requires { IsNonDecreasingBy (λ l. l.0) (letters_of letters.now) }
-    ensures { (id, result) ≡ needed (letters_of letters.now) (id, change) }
+fn needed<M: Plain>(
+    letters: &[(VertexId, (VertexId, M))],
+    id: VertexId,
+    change: Change<M>,
+) -> Option<Change<M>>
+    requires { IsNonDecreasingBy (λ l. l.0) letters.now }
+    ensures { (id, result) ≡ needed letters.now (id, change) }
 {
-    if change.parcel().is_some() || letters.letters_to(id).len() > 0 {
+    if change.parcel().is_some() || !items_to(letters, id).is_empty() {
         return Some(change);
     }
     None
@@ -320,8 +322,7 @@ fn staying_letters<M: Plain>(
 {
     let mut after = Vec::new(alloc);
     for place in 0..letters.len() {
-        let (sender, message) = letters.letter(place);
-        add_if_staying(alloc, &mut after, sender, message, withdrawn)?;
+        add_if_staying(alloc, &mut after, letters.letter(place), withdrawn)?;
     }
     Ok(after)
 }
@@ -330,18 +331,17 @@ fn staying_letters<M: Plain>(
 fn add_if_staying<M: Plain>(
     alloc: Global,
     after: &mut Vec<(VertexId, M)>,
-    sender: VertexId,
-    message: &M,
+    letter: &(VertexId, M),
     withdrawn: &BTreeSet<VertexId>,
 ) -> Result<(), Memory>
     requires { AllByRecursion (λ l. M.is_value l.1) after.old.items }
-    ensures items { OnOk result (after.new.items ≡ after.old.items ++ others withdrawn.now ((sender, message.now) ∷ [])) }
+    ensures items { OnOk result (after.new.items ≡ after.old.items ++ others withdrawn.now (letter.now ∷ [])) }
     ensures values { AllByRecursion (λ l. M.is_value l.1) after.new.items }
 {
-    if is_among(withdrawn, sender) {
+    if is_among(withdrawn, letter.0) {
         return Ok(());
     }
-    add_letter(alloc, after, sender, message)
+    add_letter(alloc, after, letter.0, &letter.1)
 }
 
 fn is_among(senders: &BTreeSet<VertexId>, sender: VertexId) -> bool

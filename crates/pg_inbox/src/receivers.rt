@@ -11,7 +11,7 @@ use crate::receiving::received;
 use crate::{Bundle, Inboxes};
 use pg_global::MessageCombiner;
 use pg_graph::{Memory, VertexId};
-use pg_parcel::{LettersRef, ParcelRef, by_target, run_len};
+use pg_parcel::{ParcelRef, by_target, first_group, run_len};
 use pg_program::Plain;
 use std::alloc::Global;
 
@@ -45,28 +45,24 @@ fn inboxes_in<M: Plain>(alloc: Global, bundle: &Bundle<M>) -> Result<Inboxes<M>,
 {
     bundle.holds();
     match bundle.unchanged() {
-        Some(letters) => inboxes_sent(alloc, letters, bundle),
+        Some(letters) => inboxes_sent(alloc, letters),
         None => inboxes_changed(alloc, bundle),
     }
 }
 
-/// The inbox of each target of letters by target: those of a bundle, which knows how many there are to each. Takes memory
-/// for all at once.
+/// The inbox of each target of letters by target. Takes memory for all at once.
 fn inboxes_sent<M: Plain>(
     alloc: Global,
-    letters: LettersRef<'_, M>,
-    bundle: &Bundle<M>,
+    letters: &[(VertexId, (VertexId, M))],
 ) -> Result<Inboxes<M>, Memory>
-    ensures { IfOk result (λ inboxes. inboxes ≡ each_inbox (sent_parcels letters.entry)) }
+    ensures { IfOk result (λ inboxes. inboxes ≡ each_inbox (sent_parcels letters.now)) }
 {
     let mut inboxes = Inboxes::with_room(alloc, letters.len(), letters.len())?;
     let mut left = letters;
-    let mut group = 0usize;
-    while let Some((target, here, later)) = left.first_group(bundle.letters.run_len(group)) {
+    while let Some((target, here, later)) = first_group(left) {
         let parcel = ParcelRef::of_sent(here);
         inboxes = inboxes.with_parcel(alloc, target, &parcel)?;
         left = later;
-        group = group.saturating_add(1);
     }
     Ok(inboxes)
 }

@@ -169,9 +169,6 @@ fn combine_folded<M: Plain, C: MessageCombiner<M>>(
 fn are_in_order<M: Plain>(parcel: &ParcelRef<'_, M>) -> bool
     ensures { result ≡ true → in_order parcel.now.letters ≡ parcel.now.letters }
 {
-    if parcel.is_by_sender() {
-        return true;
-    }
     for place in 1..parcel.len() {
         if parcel.letter(place).0 < parcel.letter(place - 1).0 {
             return false;
@@ -190,8 +187,7 @@ fn add_messages<M: Plain>(
     ensures { OnOk result (into.new.items ≡ into.old.items ++ messages parcel.now.letters) }
 {
     for place in 0..parcel.len() {
-        let (_, message) = parcel.letter(place);
-        into.push(message.copy(alloc)?)?;
+        into.push(parcel.letter(place).1.copy(alloc)?)?;
     }
     Ok(())
 }
@@ -220,8 +216,8 @@ fn copy_letters<M: Plain>(
     ensures { OnOk result (letters.new.items ≡ letters.old.items ++ more.now.letters) }
 {
     for place in 0..more.len() {
-        let (sender, message) = more.letter(place);
-        letters.push((sender, message.copy(alloc)?))?;
+        let letter = more.letter(place);
+        letters.push((letter.0, letter.1.copy(alloc)?))?;
     }
     Ok(())
 }

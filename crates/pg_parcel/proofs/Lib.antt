@@ -1,3 +1,1 @@
 pub mod Grouping
-pub mod LettersAt
-pub mod Sending

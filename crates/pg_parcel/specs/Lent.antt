@@ -8,4 +8,4 @@ use Rattle.pg_parcel.specs.declared.parcel.Contents.{Contents}
 -- those of a parcel, or some that were sent to one target
 abbrev pub contents_lent : {M : Type 0} → Lent M → Contents M
 contents_lent (Kept parcel) = parcel.now
-contents_lent (Sent letters) = contents_of None (map (λ l. l.1) letters)
+contents_lent (Sent letters) = contents_of None (map (λ l. l.1) letters.now)

@@ -1,6 +1,7 @@
 //! Items by target: those to one target side by side, in their order.
-ghost use Rattle.std.specs.Prelude.{◌≡◌, [], IfOk, MatchOption};
-ghost use Rattle.pg_parcel.specs.Grouping.{AreGroups, IsFirstGroup, groups_of, run_len};
+ghost use Rattle.std.specs.Prelude.{◌≡◌, [], map, nat_lt, IfOk, MatchOption};
+ghost use Rattle.std.specs.List.Sorted.{IsNonDecreasingBy};
+ghost use Rattle.pg_parcel.specs.Grouping.{AreGroups, IsFirstGroup, groups_of, items_to, run_len};
 
 use pg_graph::{Memory, VertexId};
 
@@ -24,6 +25,24 @@ pub fn first_group<X>(
     let target = first.0;
     let (here, later) = items.split_at(run_len(items, target));
     Some((target, here, later))
+}
+
+/// The items to a target, of items by rising target. Costs a binary search, and as much as there are.
+pub fn items_to<X>(items: &[(VertexId, X)], target: VertexId) -> &[(VertexId, X)]
+    requires { IsNonDecreasingBy (λ i. i.0) items.now }
+    ensures { map (λ i. i.1) result.now ≡ items_to target items.now }
+{
+    let before = items.partition_point(|item| is_below(item.0, target));
+    let (_, from) = items.split_at(before);
+    let (here, _) = from.split_at(run_len(from, target));
+    here
+}
+
+/// Whether an id is below another.
+fn is_below(id: VertexId, other: VertexId) -> bool
+    ensures { result ≡ nat_lt id other }
+{
+    id < other
 }
 
 /// How many items at the beginning are to a target. Costs as much as there are.

@@ -1,10 +1,8 @@
 //! The messages to one target, as they are lent.
-ghost use Rattle.std.specs.Prelude.{◌≡◌, ◌<◌, ℕ, length, map, slice_index_or, None, IsTrue};
-ghost use Rattle.std.specs.List.Sorted.{IsNonDecreasingBy};
+ghost use Rattle.std.specs.Prelude.{◌≡◌, ◌<◌, length, get_or, map, None};
 ghost use Rattle.std.specs.Option.{option_copied};
 ghost use Rattle.pg_parcel.specs.Contents.{contents_of};
 
-use crate::letters::LettersRef;
 use crate::parcel::Parcel;
 use pg_graph::VertexId;
 use pg_program::Plain;
@@ -14,7 +12,7 @@ use std::marker::Model;
 #[derive(Drop)]
 pub(crate) enum Lent<'a, M: Plain> {
     Kept(&'a Parcel<M>),
-    Sent(LettersRef<'a, M>),
+    Sent(&'a [(VertexId, (VertexId, M))]),
 }
 
 /// The messages to one target, lent from where they lie. A contract sees just what they are.
@@ -43,8 +41,8 @@ impl<'a, M: Plain> ParcelRef<'a, M> {
     }
 
     /// Messages that aren't combined, all to one target.
-    pub fn of_sent(letters: LettersRef<'a, M>) -> ParcelRef<'a, M>
-        ensures { result ≡ contents_of None (map (λ l. l.1) letters.entry) }
+    pub fn of_sent(letters: &'a [(VertexId, (VertexId, M))]) -> ParcelRef<'a, M>
+        ensures { result ≡ contents_of None (map (λ l. l.1) letters.now) }
     {
         ParcelRef {
             lent: Lent::Sent(letters),
@@ -61,27 +59,14 @@ impl<'a, M: Plain> ParcelRef<'a, M> {
         }
     }
 
-    /// The sender of one of the messages, and the message.
-    #[inline(always)]
-    pub fn letter(&self, place: usize) -> (VertexId, &M)
+    /// One of the messages, with its sender.
+    pub fn letter(&self, place: usize) -> &(VertexId, M)
         requires { place < length self.now.letters }
-        ensures { (l : ℕ × M) → (result.0, result.1.now) ≡ slice_index_or self.now.letters place l }
+        ensures { result.now ≡ get_or self.now.letters place result.now }
     {
         match &self.lent {
-            Lent::Kept(parcel) => kept_letter(parcel, place),
+            Lent::Kept(parcel) => parcel.letter(place),
             Lent::Sent(letters) => sent_letter(letters, place),
-        }
-    }
-
-    /// Whether the messages stand by rising sender. It may say no where they do, and does of those of a parcel. Costs a look
-    /// at each place at which they stand.
-    #[inline(always)]
-    pub fn is_by_sender(&self) -> bool
-        ensures { IsTrue result → IsNonDecreasingBy (λ l. l.0) self.now.letters }
-    {
-        match &self.lent {
-            Lent::Kept(_) => false,
-            Lent::Sent(letters) => letters.are_by_sender(),
         }
     }
 
@@ -96,21 +81,11 @@ impl<'a, M: Plain> ParcelRef<'a, M> {
     }
 }
 
-/// The sender of one of the messages of a parcel, and the message.
-fn kept_letter<M: Plain>(parcel: &Parcel<M>, place: usize) -> (VertexId, &M)
-    requires { place < length parcel.now.letters }
-    ensures { (l : ℕ × M) → (result.0, result.1.now) ≡ slice_index_or parcel.now.letters place l }
-{
-    let letter = parcel.letter(place);
-    (letter.0, &letter.1)
-}
-
-/// The sender of one of the messages that were sent to a target, and the message.
-#[inline(always)]
-fn sent_letter<'a, M>(letters: &LettersRef<'a, M>, place: usize) -> (VertexId, &'a M)
+/// One of the messages that were sent to a target, with its sender.
+fn sent_letter<M>(letters: &[(VertexId, (VertexId, M))], place: usize) -> &(VertexId, M)
     requires { place < length letters.now }
-    ensures { (l : ℕ × M) → (result.0, result.1.now) ≡ slice_index_or (map (λ l. l.1) letters.now) place l }
+    ensures { result.now ≡ get_or (map (λ l. l.1) letters.now) place result.now }
 {
-    let (_, sender, message) = letters.at(place);
-    (sender, message)
+    let item = &letters[place];
+    &item.1
 }

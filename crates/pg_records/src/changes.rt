@@ -1,7 +1,6 @@
 //! What a superstep makes of the records of vertices, side by side.
 ghost use Rattle.std.specs.Prelude.{◌≡◌, ◌++◌, ◌∷◌, ◌+◌, ◌<◌, ◌≤◌, ℕ, [], Option, None, Some, is_some, length, slice_index_or};
 ghost use Rattle.std.specs.Prelude.{IfOk, IfErr, IfSome, IfNone, IsTrue, OnErr, OnOk};
-ghost use Rattle.std.specs.Arc.{arc_value};
 ghost use Rattle.std.specs.List.{HoldsAt, flat_map, zip};
 ghost use Rattle.std.specs.List.Sorted.{IsPartitionPoint};
 ghost use Rattle.std.specs.Ordering.{nat_cmp};
@@ -16,7 +15,6 @@ use pg_graph::{Edges, Memory, VertexId};
 use pg_model::{Place, VertexState};
 use std::alloc::{AllocError, Global};
 use std::marker::Model;
-use std::sync::Arc;
 
 /// Which part of a list is meant: so many items from a place on.
 #[derive(Clone, Copy)]
@@ -55,11 +53,9 @@ pub struct Executed<V> {
 
 /// What a superstep makes of the records of vertices: each of them has a new one, or none any more. What they left lies in
 /// one list, what they sent in another, and what they contributed in a third. A contract sees the list of (id, record).
-///
-/// What they sent may be shared with others.
 pub struct Changes<V, M> {
     entries: Vec<(VertexId, Option<Executed<V>>)>,
-    sent: Arc<Vec<(VertexId, M)>>,
+    sent: Vec<(VertexId, M)>,
     contributed: Vec<(Place, i64)>,
 }
 
@@ -76,38 +72,52 @@ impl<V: Drop, M: Drop> Drop for Changes<V, M> {
 
 impl<V, M> Model for Changes<V, M> {
     ghost use Rattle.std.specs.Prelude.{ℕ, List, Option};
-    ghost use Rattle.std.specs.Arc.{arc_value};
     ghost use Rattle.pg_model.specs.declared.record.Record.{Record};
     ghost use Rattle.pg_records.specs.Parts.{AreWithin, changes_in};
 
     ghost Value = { List (ℕ × Option (Record V M)) };
 
-    ghost view = { λ c. changes_in (arc_value c.sent).items c.contributed.items c.entries.items };
+    ghost view = { λ c. changes_in c.sent.items c.contributed.items c.entries.items };
 
-    ghost invariant = { λ c. AreWithin (arc_value c.sent).items c.contributed.items c.entries.items };
+    ghost invariant = { λ c. AreWithin c.sent.items c.contributed.items c.entries.items };
 }
 
 impl<V: Drop, M: Drop> Changes<V, M> {
-    /// What these vertices left, or that they have no record any more, with all that was sent and contributed. The lists
-    /// become those of the changes; room that they don't take is let go of, which may move them.
+    /// No changes, with room for those of so many vertices.
+    pub fn new(alloc: Global, vertices: usize) -> Result<Changes<V, M>, Memory>
+        ensures { IfOk result (λ changes. changes ≡ []) }
+    {
+        Ok(Changes {
+            entries: Vec::with_capacity(alloc, vertices)?,
+            sent: Vec::new(alloc),
+            contributed: Vec::new(alloc),
+        })
+    }
+
+    /// What these vertices left, or that they have no record any more, with all that was sent and contributed, in their
+    /// memory.
     pub fn of(
-        alloc: Global,
         left: Vec<(VertexId, Option<Executed<V>>)>,
         sent: Vec<(VertexId, M)>,
         contributed: Vec<(Place, i64)>,
-    ) -> Result<Changes<V, M>, Memory>
+    ) -> Changes<V, M>
         requires { AreWithin sent.items contributed.items left.items }
-        ensures { IfOk result (λ changes. changes ≡ changes_in sent.items contributed.items left.items) }
+        ensures { result ≡ changes_in sent.items contributed.items left.items }
     {
-        let (mut entries, mut sent, mut contributed) = (left, sent, contributed);
-        entries.shrink_to_fit();
-        sent.shrink_to_fit();
-        contributed.shrink_to_fit();
-        Ok(Changes {
-            entries,
-            sent: Arc::new(alloc, sent)?,
+        Changes {
+            entries: left,
+            sent,
             contributed,
-        })
+        }
+    }
+
+    /// Lets go of the room that isn't taken.
+    pub(crate) fn shrink_to_fit(&mut self)
+        ensures { self.new ≡ self.old }
+    {
+        self.entries.shrink_to_fit();
+        self.sent.shrink_to_fit();
+        self.contributed.shrink_to_fit();
     }
 
     /// How many vertices there are.
@@ -123,14 +133,13 @@ impl<V: Drop, M: Drop> Changes<V, M> {
     }
 
     /// Who sent each message, and all messages, where those of a vertex follow those of the one before it and there are no
-    /// others. The list of messages is that of these changes, which is shared. Costs a look at each vertex, and a list with an
-    /// id for each message.
+    /// others. Costs a look at each vertex, and a list with an id for each message.
     pub fn all_sent(
         &self,
         alloc: Global,
-    ) -> Result<Option<(Vec<VertexId>, Arc<Vec<(VertexId, M)>>)>, Memory>
-        ensures len { IfOk result (λ all. IfSome all (λ a. length a.0.items ≡ length (arc_value a.1).items)) }
-        ensures sent { IfOk result (λ all. IfSome all (λ a. zip a.0.items (arc_value a.1).items ≡ flat_map messages_by self.now)) }
+    ) -> Result<Option<(Vec<VertexId>, &[(VertexId, M)])>, Memory>
+        ensures len { IfOk result (λ all. IfSome all (λ a. length a.0.items ≡ length a.1.now)) }
+        ensures sent { IfOk result (λ all. IfSome all (λ a. zip a.0.items a.1.now ≡ flat_map messages_by self.now)) }
     {
         let mut senders = Vec::with_capacity(alloc, self.sent.len())?;
         for place in 0..self.entries.len() {
@@ -142,7 +151,7 @@ impl<V: Drop, M: Drop> Changes<V, M> {
         if senders.len() != self.sent.len() {
             return Ok(None);
         }
-        Ok(Some((senders, Arc::try_clone(&self.sent)?)))
+        Ok(Some((senders, self.sent.as_slice())))
     }
 
     /// How many contributions there are: for how many to make room, so no contract tells it.
@@ -174,51 +183,6 @@ impl<V: Drop, M: Drop> Changes<V, M> {
         let place = place_of(self.entries.as_slice(), id, near)?;
         let (_, given) = self.at(place);
         given
-    }
-
-    /// The vertices, each with the place of its record among these, if it has one.
-    pub fn places(&self, alloc: Global) -> Result<Vec<(VertexId, Option<u32>)>, Memory>
-        ensures { IfOk result (λ places. told places.items ≡ told self.now) }
-    {
-        let mut places = Vec::with_capacity(alloc, self.entries.len())?;
-        for place in 0..self.entries.len() {
-            let (id, left) = &self.entries[place];
-            places.push((*id, place_if(left.is_some(), place)))?;
-        }
-        Ok(places)
-    }
-}
-
-/// Changes as they are put together, one by one. A contract sees the list of (id, record).
-#[derive(Drop)]
-pub struct ChangesBuilder<V, M> {
-    entries: Vec<(VertexId, Option<Executed<V>>)>,
-    sent: Vec<(VertexId, M)>,
-    contributed: Vec<(Place, i64)>,
-}
-
-impl<V, M> Model for ChangesBuilder<V, M> {
-    ghost use Rattle.std.specs.Prelude.{ℕ, List, Option};
-    ghost use Rattle.pg_model.specs.declared.record.Record.{Record};
-    ghost use Rattle.pg_records.specs.Parts.{AreWithin, changes_in};
-
-    ghost Value = { List (ℕ × Option (Record V M)) };
-
-    ghost view = { λ c. changes_in c.sent.items c.contributed.items c.entries.items };
-
-    ghost invariant = { λ c. AreWithin c.sent.items c.contributed.items c.entries.items };
-}
-
-impl<V: Drop, M: Drop> ChangesBuilder<V, M> {
-    /// No changes, with room for those of so many vertices.
-    pub fn new(alloc: Global, vertices: usize) -> Result<ChangesBuilder<V, M>, Memory>
-        ensures { IfOk result (λ changes. changes ≡ []) }
-    {
-        Ok(ChangesBuilder {
-            entries: Vec::with_capacity(alloc, vertices)?,
-            sent: Vec::new(alloc),
-            contributed: Vec::new(alloc),
-        })
     }
 
     /// Adds the record of a vertex: that it leaves this state, and these messages and contributions, which are moved to those
@@ -267,16 +231,16 @@ impl<V: Drop, M: Drop> ChangesBuilder<V, M> {
         Ok(())
     }
 
-    /// All of them, as `Changes::of` makes them of these lists.
-    pub fn build(self, alloc: Global) -> Result<Changes<V, M>, Memory>
-        ensures { IfOk result (λ changes. changes ≡ self) }
+    /// The vertices, each with the place of its record among these, if it has one.
+    pub fn places(&self, alloc: Global) -> Result<Vec<(VertexId, Option<u32>)>, Memory>
+        ensures { IfOk result (λ places. told places.items ≡ told self.now) }
     {
-        let ChangesBuilder {
-            entries,
-            sent,
-            contributed,
-        } = self;
-        Changes::of(alloc, entries, sent, contributed)
+        let mut places = Vec::with_capacity(alloc, self.entries.len())?;
+        for place in 0..self.entries.len() {
+            let (id, left) = &self.entries[place];
+            places.push((*id, place_if(left.is_some(), place)))?;
+        }
+        Ok(places)
     }
 }
 

@@ -6,7 +6,7 @@ mod changes;
 mod record;
 mod records;
 
-pub use changes::{Changes, ChangesBuilder, Executed, Extent, record_of};
+pub use changes::{Changes, Executed, Extent, record_of};
 pub use pg_graph::Memory;
 pub use record::RecordRef;
 pub use records::Records;

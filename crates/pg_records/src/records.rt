@@ -49,11 +49,13 @@ impl<V, M> Model for Records<V, M> {
 }
 
 impl<V: Drop, M: Drop> Records<V, M> {
-    /// The records that these changes give, in their memory.
+    /// The records that these changes give. Room that they don't take is let go of, which may move what is sent.
     pub fn of(alloc: Global, given: Changes<V, M>) -> Result<Records<V, M>, Memory>
         requires { ChangesRise given }
         ensures { IfOk result (λ records. records ≡ with_changes given []) }
     {
+        let mut given = given;
+        given.shrink_to_fit();
         Ok(Records {
             given: Arc::new(alloc, given)?,
             changes: Map::new(),
@@ -346,6 +348,8 @@ fn each_of<V: Drop, M: Drop>(
 ) -> Result<Vec<(VertexId, Option<Change<V, M>>)>, Memory>
     ensures { IfOk result (λ each. each.items ≡ map (λ c. (c.0, Some c.1)) changes) }
 {
+    let mut changes = changes;
+    changes.shrink_to_fit();
     let all = Arc::new(alloc, changes)?;
     let mut each = Vec::with_capacity(alloc, all.len())?;
     for place in 0..all.len() {

@@ -16,7 +16,7 @@ use Rattle.pg_graph.specs.declared.missing.Missing.TheVariants.{Drop, Create}
 use Rattle.pg_parcel.specs.declared.parcel.Contents.{Contents}
 use Rattle.pg_inbox.specs.Bundles.{Parcels, bundle_of}
 use Rattle.pg_inbox.specs.Counting.{messages_where}
-use Rattle.pg_parcel.specs.Sends.{Sends, letters_to}
+use Rattle.pg_inbox.specs.Sends.{Sends, letters_to}
 use Rattle.pg_inbox.proofs.Bundling.{rises-bundle_of}
 use Rattle.pg_inbox.proofs.Delivery.{letters_at-bundle_of}
 use Rattle.pg_map.specs.Entries.{HasRisingIds, value_at}

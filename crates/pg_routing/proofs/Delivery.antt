@@ -13,7 +13,7 @@ use Rattle.pg_graph.specs.Rows.{HasRisingIds, Rows}
 use Rattle.pg_inbox.specs.Bundles.{bundle_of}
 use Rattle.pg_inbox.specs.Inboxes.{Delivers}
 use Rattle.pg_inbox.specs.Logged.{Slots, slot_at}
-use Rattle.pg_parcel.specs.Sends.{AreAllOf, RiseBySender, Sends, sent_by, without_senders}
+use Rattle.pg_inbox.specs.Sends.{AreAllOf, RiseBySender, Sends, sent_by, without_senders}
 use Rattle.pg_inbox.proofs.Delivery.{flat_map-of_map}
 use Rattle.pg_model.specs.ByIds.{delivered_at}
 use Rattle.pg_model.specs.Job.{Job, Program}

@@ -10,7 +10,7 @@ use Rattle.std.proofs.lemmas.List.{append-nil}
 use Rattle.std.proofs.lemmas.List.Elements.{filter-append}
 use Rattle.std.proofs.lemmas.Option.{none-some}
 use Rattle.pg_inbox.specs.Patched.{is_withdrawn, staying}
-use Rattle.pg_parcel.specs.Sends.{Sends, sent_by}
+use Rattle.pg_inbox.specs.Sends.{Sends, sent_by}
 use Rattle.pg_map.specs.Entries.{ChangesRise, value_at, HasRisingIds as Rises}
 use Rattle.pg_map.proofs.Parts.{rises_after}
 use Rattle.pg_map.proofs.Rising.{none_past}

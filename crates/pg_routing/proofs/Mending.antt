@@ -1,6 +1,6 @@
 -- Bundles with messages replaced.
 use Rattle.std.proofs.Common.{◌≡◌, ℕ, List, Option, subst₂}
-use Rattle.pg_parcel.specs.Sends.{Sends}
+use Rattle.pg_inbox.specs.Sends.{Sends}
 use Rattle.pg_inbox.specs.declared.logs.Logged.{Logged}
 use Rattle.pg_model.specs.Job.{Combining}
 use Rattle.pg_routing.specs.Sending.{IsMended}

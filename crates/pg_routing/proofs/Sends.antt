@@ -8,7 +8,7 @@ use Rattle.pg_model.specs.Job.{Combining}
 use Rattle.pg_model.specs.Order.{Sending, sendings_from}
 use Rattle.pg_model.specs.Share.{belongs, sendings_of}
 use Rattle.pg_model.specs.declared.record.Record.{Record}
-use Rattle.pg_parcel.specs.Sends.{as_send}
+use Rattle.pg_inbox.specs.Sends.{as_send}
 use Rattle.pg_records.specs.Changes.{messages_by}
 use Rattle.pg_routing.specs.Routes.{as_sends}
 use Rattle.pg_routing.specs.Sending.{IsFresh, items_to, sends_by, sends_of}

@@ -6,7 +6,7 @@ use Rattle.pg_graph.specs.Rows.{Rows}
 use Rattle.pg_inbox.specs.Bundles.{Parcels, bundle_of, parcels_in}
 use Rattle.pg_inbox.specs.Changed.{AreChanged, AreSameAt}
 use Rattle.pg_inbox.specs.Logged.{Slots, slot_at}
-use Rattle.pg_parcel.specs.Sends.{Sends}
+use Rattle.pg_inbox.specs.Sends.{Sends}
 use Rattle.pg_inbox.specs.declared.logs.Logged.{Logged}
 use Rattle.pg_model.specs.Job.{Job}
 use Rattle.pg_model.specs.Order.{Sending}

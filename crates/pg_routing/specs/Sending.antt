@@ -3,7 +3,7 @@ use Rattle.std.specs.Prelude.{◌≡◌, ℕ, ◌<◌, List, [], ◌++◌, map, 
 use Rattle.std.specs.List.{filter}
 use Rattle.pg_inbox.specs.Bundles.{bundle_of}
 use Rattle.pg_inbox.specs.Patched.{IsPatched, TellsChanges}
-use Rattle.pg_parcel.specs.Sends.{Sends}
+use Rattle.pg_inbox.specs.Sends.{Sends}
 use Rattle.pg_inbox.specs.declared.logs.Logged.{Logged}
 use Rattle.pg_model.specs.Job.{Combining}
 use Rattle.pg_model.specs.Share.{belongs}

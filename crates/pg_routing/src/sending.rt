@@ -1,12 +1,13 @@
 //! What a step sends, by the partition that receives it.
 ghost use Rattle.std.specs.Prelude.{◌≡◌, [], ◌∷◌, length, map, IfOk, OnOk};
 ghost use Rattle.std.specs.List.{flat_map};
+ghost use Rattle.std.specs.Option.{option_copied};
 ghost use Rattle.pg_routing.specs.Sending.{AreParts, HaveMore, pairs_by, pairs_of, sends_by, sends_of};
 
 use crate::Partitioner;
 use pg_graph::{Memory, Superstep, VertexId};
+use pg_inbox::Sends;
 use pg_model::Sequence;
-use pg_parcel::Sends;
 use pg_program::Plain;
 use pg_trace::{Changes, RecordRef, Trace};
 use std::alloc::Global;

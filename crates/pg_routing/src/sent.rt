@@ -9,9 +9,8 @@ use crate::Partitioner;
 use crate::sending::{sends_of, withdrawn_of};
 use pg_global::MessageCombiner;
 use pg_graph::{Memory, PartitionId, Superstep, VertexId};
-use pg_inbox::{Logged, Logs, bundle, patch, shared_bundle};
+use pg_inbox::{Logged, Logs, Sends, SendsRef, bundle, patch};
 use pg_model::Sequence;
-use pg_parcel::{Sends, SendsRef, SharedSends};
 use pg_program::Plain;
 use pg_trace::{Changes, Trace};
 use std::alloc::Global;
@@ -63,8 +62,8 @@ impl<M: Plain> Sent<M> {
 }
 
 /// The bundles of what these changes of records send, to each partition. Costs a sort of what is sent and two copies of each
-/// message, and one more where they are combined; for one partition, where what the vertices send lies in their order in one
-/// list, no copy where they aren't combined, and a list of the senders.
+/// message; for one partition, where what the vertices send lies in their order in one list, one copy, and a list of the
+/// senders.
 pub fn fresh_bundles<V: Plain, M: Plain, C: MessageCombiner<M>>(
     alloc: Global,
     partitions: Partitioner,
@@ -98,11 +97,8 @@ fn fresh_of_all<V: Plain, M: Plain, C: MessageCombiner<M>>(
 {
     match changes.all_sent(alloc)? {
         Some((senders, sent)) => {
-            let sends = SharedSends::of(senders, sent);
-            Ok(Some(Logged {
-                bundle: shared_bundle(alloc, sends, combiner)?,
-                changed: None,
-            }))
+            let sends = SendsRef::of(senders.as_slice(), sent);
+            Ok(Some(fresh(alloc, &sends, combiner)?))
         }
         None => Ok(None),
     }

@@ -2,10 +2,9 @@ ghost use Rattle.std.specs.Prelude.{◌≡◌, length};
 
 use pg_global::AnyCombiner;
 use pg_graph::{Edges, Memory, VertexId};
-use pg_inbox::{inbox, shared_bundle};
+use pg_inbox::{SendsRef, bundle, inbox};
 use pg_model::VertexState;
-use pg_parcel::SharedSends;
-use pg_records::{Changes, ChangesBuilder};
+use pg_records::Changes;
 use std::alloc::Global;
 use std::fmt::Write;
 
@@ -26,14 +25,14 @@ fn halted(id: VertexId) -> VertexState<i64> {
 
 // Vertex 1 sends two messages, 2 none, 4 has no record any more, and 7 sends one.
 fn four(alloc: Global) -> Result<Changes<i64, i64>, Memory> {
-    let mut changes = ChangesBuilder::new(alloc, 4)?;
+    let mut changes = Changes::new(alloc, 4)?;
     let both = vec![in alloc; (id(5), 70), (id(4), 80)]?;
     changes.add(halted(id(1)), both, Vec::new(alloc))?;
     changes.add(halted(id(2)), Vec::new(alloc), Vec::new(alloc))?;
     changes.add_none(id(4))?;
     let one = vec![in alloc; (id(5), 90)]?;
     changes.add(halted(id(7)), one, Vec::new(alloc))?;
-    changes.build(alloc)
+    Ok(changes)
 }
 
 // Each message as `sender>target:message,`.
@@ -56,7 +55,7 @@ fn text_of(alloc: Global) -> Result<String, Memory> {
     let changes = four(alloc)?;
     let mut text = String::new(alloc);
     if let Some((senders, sent)) = changes.all_sent(alloc)? {
-        write_all(&mut text, senders.as_slice(), sent.as_slice())?;
+        write_all(&mut text, senders.as_slice(), sent)?;
     }
     Ok(text)
 }
@@ -73,8 +72,8 @@ fn inbox_of_five(alloc: Global, combiner: AnyCombiner) -> Result<String, Memory>
     let changes = four(alloc)?;
     let mut text = String::new(alloc);
     if let Some((senders, sent)) = changes.all_sent(alloc)? {
-        let bundle = shared_bundle(alloc, SharedSends::of(senders, sent), &combiner)?;
-        let messages = inbox(alloc, &[&bundle], id(5), &combiner)?;
+        let made = bundle(alloc, &SendsRef::of(senders.as_slice(), sent), &combiner)?;
+        let messages = inbox(alloc, &[&made], id(5), &combiner)?;
         for message in messages.as_slice() {
             write!(text, "{message},")?;
         }

@@ -2,8 +2,7 @@ ghost use Rattle.std.specs.Prelude.{◌≡◌};
 
 use pg_global::AnyCombiner;
 use pg_graph::{Memory, PartitionId, Superstep, VertexId};
-use pg_inbox::{Bundle, Logged, Logs, bundle, changed_targets, inbox, patch};
-use pg_parcel::{Sends, SendsRef};
+use pg_inbox::{Bundle, Logged, Logs, Sends, SendsRef, bundle, changed_targets, inbox, patch};
 use std::alloc::Global;
 use std::fmt::Write;
 

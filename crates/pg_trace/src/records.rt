@@ -7,7 +7,7 @@ ghost use Rattle.pg_index.specs.Records.{put_at};
 use pg_graph::{Memory, VertexId};
 use pg_index::Index;
 use pg_model::{Record, VertexState};
-use pg_records::{Changes, ChangesBuilder, RecordRef, Records};
+use pg_records::{Changes, RecordRef, Records};
 use std::alloc::{AllocError, Global};
 
 /// The same supersteps, in the same memory.
@@ -111,11 +111,11 @@ pub(crate) fn all_given<V: Drop, M: Drop>(
 ) -> Result<Changes<V, M>, Memory>
     ensures { IfOk result (λ changes. changes ≡ map (λ e. (e.0, Some e.1)) records.items) }
 {
-    let mut changes = ChangesBuilder::new(alloc, records.len())?;
+    let mut changes = Changes::new(alloc, records.len())?;
     for (id, record) in records {
         add_record(&mut changes, id, record)?;
     }
-    changes.build(alloc)
+    Ok(changes)
 }
 
 /// These changes, side by side.
@@ -125,16 +125,16 @@ pub(crate) fn all_changed<V: Drop, M: Drop>(
 ) -> Result<Changes<V, M>, Memory>
     ensures { IfOk result (λ changes. changes ≡ replaced.items) }
 {
-    let mut changes = ChangesBuilder::new(alloc, replaced.len())?;
+    let mut changes = Changes::new(alloc, replaced.len())?;
     for (id, given) in replaced {
         add_change(&mut changes, id, given)?;
     }
-    changes.build(alloc)
+    Ok(changes)
 }
 
 /// Adds the record that a vertex is given, or that it has none any more.
 fn add_change<V: Drop, M: Drop>(
-    changes: &mut ChangesBuilder<V, M>,
+    changes: &mut Changes<V, M>,
     id: VertexId,
     given: Option<Record<V, M>>,
 ) -> Result<(), Memory>
@@ -148,7 +148,7 @@ fn add_change<V: Drop, M: Drop>(
 
 /// Adds the record that a vertex is given.
 fn add_record<V: Drop, M: Drop>(
-    changes: &mut ChangesBuilder<V, M>,
+    changes: &mut Changes<V, M>,
     id: VertexId,
     given: Record<V, M>,
 ) -> Result<(), Memory>

@@ -74,7 +74,7 @@ loop-place-preserved g c =
 pub returns-clause-changes : goal.returns-clause-changes
 returns-clause-changes g c =
     let program = g.P.Computation.program c.args.program.now in
-    c.in_ok-played.ensures.changes
+    c.into_played.ensures.changes
     ∙ c.loop-place.invariant.changes
     ∙ ap (λ l. flat_map (change_alone program c.args.stage.view) (map (alone program c.args.missing c.args.superstep c.args.trace.now) l))
     (take_all c.loop-place.place c.args.callees.now (subst (λ n. n ≤ c.loop-place.place) c.len-place-end.ensures c.loop-place-test.false))
@@ -83,7 +83,7 @@ pub returns-clause-meter : goal.returns-clause-meter
 returns-clause-meter g c =
     let program = g.P.Computation.program c.args.program.now in
     let view = c.args.stage.view in
-    c.in_ok-played.ensures.meter
+    c.into_played.ensures.meter
     ∙ c.loop-place.invariant.meter
     ∙ ap (λ l. capped (c.args.stage.meter + count_by (λ (x : Candidate g.row.P-Value.Denot g.row.P-Message.Denot). is_some (reads view x.new))
     (map (alone program c.args.missing c.args.superstep c.args.trace.now) l)))
@@ -95,10 +95,10 @@ returns-clause-turned g c =
     let view = c.args.stage.view in
     let all =
     take_all c.loop-place.place c.args.callees.now (subst (λ n. n ≤ c.loop-place.place) c.len-place-end.ensures c.loop-place-test.false) in
-    subst (λ o. IfSome o (AreTurned program view c.args.missing c.args.superstep c.args.trace.now c.args.callees.now)) (sym c.in_ok-played.ensures.turned)
-    (if_some c.turned_next-turned.result (λ t h. record {
+    subst (λ o. IfSome o (AreTurned program view c.args.missing c.args.superstep c.args.trace.now c.args.callees.now)) (sym c.into_played.ensures.turned)
+    (if_some c.turned_next.result (λ t h. record {
       next = h.1;
       gone = ap (λ t. t.gone) h.0 ∙ c.loop-place.invariant.gone ∙ ap (λ l. census_of (states_among c.args.superstep (keys_of l) c.args.trace.now)) all;
       come = ap (λ t. t.come) h.0 ∙ c.loop-place.invariant.come
           ∙ ap (λ l. census_of (flat_map (λ w. option_to_list (left_alone program view c.args.missing c.args.superstep c.args.trace.now w)) l)) all;
-    }) c.turned_next-turned.ensures)
+    }) c.turned_next.ensures)

@@ -41,10 +41,10 @@ returns g c =
     let none : rest.items ≡ [] = nil_from_length rest.items (omega (arith, rest.ok.0, c.in-None.ensures.steps.0)) in
     let all = all_yielded c.loop-candidate.yielded rest.items c.args.candidates.items c.loop-candidate.invariant.whole none in
     record {
-      looked_at = c.in_ok-played.ensures.looked_at ∙ c.loop-candidate.invariant.looked_at ∙ ap (map (λ c. c.id)) all;
-      changes = c.in_ok-played.ensures.changes ∙ c.loop-candidate.invariant.changes
+      looked_at = c.into_played.ensures.looked_at ∙ c.loop-candidate.invariant.looked_at ∙ ap (map (λ c. c.id)) all;
+      changes = c.into_played.ensures.changes ∙ c.loop-candidate.invariant.changes
           ∙ ap (flat_map (change_of value_eq message_eq program c.args.stage.view c.args.seen)) all;
-      meter = c.in_ok-played.ensures.meter ∙ c.loop-candidate.invariant.meter
+      meter = c.into_played.ensures.meter ∙ c.loop-candidate.invariant.meter
           ∙ ap (λ l. capped (c.args.stage.meter + count_by (is_run value_eq message_eq program c.args.stage.view c.args.seen) l)) all;
     }
 

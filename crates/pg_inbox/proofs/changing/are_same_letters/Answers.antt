@@ -1,4 +1,4 @@
-use Rattle.std.proofs.Common.{[], ◌∷◌, ◌++◌, ◌≤◌, ◌<◌, ℕ, get_or, length, ap, ap₂, refl, rules, subst, sym, ◌∙◌}
+use Rattle.std.proofs.Common.{[], ◌∷◌, ◌++◌, ◌≤◌, ◌<◌, length, ap, ap₂, refl, rules, subst, sym, ◌∙◌}
 use Rattle.std.proofs.lemmas.List.{take_all}
 use Rattle.pg_map.proofs.Filling.{joined_more}
 use Rattle.pg_inbox.proofs.changing.are_same_letters.Goals as goal
@@ -9,20 +9,11 @@ returns-then-len g c = (
   λ same. absurd (c.if-len.true (c.len.ensures ∙ ap length same ∙ sym c.len-2.ensures)),
 )
 
-pub returns-then-not-is_same_letter : goal.returns-then-not-is_same_letter
-returns-then-not-is_same_letter g c =
-    let place = c.loop-place.place in
-    let here = c.letter-sender.result in
-    let letter : ℕ × g.row.M.Denot = (here.0, here.1.now) in (
-      (λ h. absurd (search (rules, h))),
-      λ same. c.if-not-is_same_letter.ensures.1 (c.letter-sender.ensures letter ∙ ap (λ l. get_or l place letter) same ∙ sym (c.letter-other_sender.ensures letter)),
-    )
+pub letter-requires-after_bounds : goal.letter-requires-after_bounds
+letter-requires-after_bounds g c κs within = subst (λ n. c.loop-place.place < n) c.len-place-end.ensures c.loop-place-test.true
 
-pub letter-sender-requires-after_bounds : goal.letter-sender-requires-after_bounds
-letter-sender-requires-after_bounds g c κs within = subst (λ n. c.loop-place.place < n) c.len-place-end.ensures c.loop-place-test.true
-
-pub letter-other_sender-requires-after_bounds : goal.letter-other_sender-requires-after_bounds
-letter-other_sender-requires-after_bounds g c κs within =
+pub letter-requires-in-loop-place-after_bounds : goal.letter-requires-in-loop-place-after_bounds
+letter-requires-in-loop-place-after_bounds g c κs within =
     subst (λ n. c.loop-place.place < n) (c.len-place-end.ensures ∙ c.loop-place.invariant.lengths) c.loop-place-test.true
 
 pub loop-place-preserved : goal.loop-place-preserved
@@ -32,9 +23,9 @@ loop-place-preserved g c =
     let new = c.args.new.now.letters in
     let within = subst (λ n. i < n) c.len-place-end.ensures c.loop-place-test.true in
     record {
-      so_far = sym (joined_more (λ l. l) (λ xs ys. refl) old i within (c.letter-sender.ensures (c.letter-sender.result.0, c.letter-sender.result.1.now)) refl refl)
+      so_far = sym (joined_more (λ l. l) (λ xs ys. refl) old i within c.letter.ensures refl refl)
           ∙ ap₂ (λ l x. l ++ x ∷ []) c.loop-place.invariant.so_far (c.if-not-is_same_letter.ensures.0 refl)
-          ∙ joined_more (λ l. l) (λ xs ys. refl) new i (subst (λ n. i < n) c.loop-place.invariant.lengths within) (c.letter-other_sender.ensures (c.letter-other_sender.result.0, c.letter-other_sender.result.1.now)) refl refl;
+          ∙ joined_more (λ l. l) (λ xs ys. refl) new i (subst (λ n. i < n) c.loop-place.invariant.lengths within) c.letter-in-loop-place.ensures refl refl;
       lengths = c.loop-place.invariant.lengths;
     }
 

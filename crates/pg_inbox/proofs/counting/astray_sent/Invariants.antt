@@ -7,7 +7,7 @@ use Rattle.pg_inbox.proofs.counting.astray_sent.Given as goal
 abbrev pub invariant-loop-target : goal.invariant-loop-target
 invariant-loop-target g l = record {
   rows : l.rows ≡ l.graph;
-  count : l.count + messages_where (is_astray l.graph) (sent_parcels l.left) ≡ messages_where (is_astray l.graph) (sent_parcels l.fn.letters);
+  count : l.count + messages_where (is_astray l.graph) (sent_parcels l.left) ≡ messages_where (is_astray l.graph) (sent_parcels l.letters);
 }
 
 abbrev pub decreases-loop-target : goal.decreases-loop-target

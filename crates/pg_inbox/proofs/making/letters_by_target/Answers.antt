@@ -3,7 +3,7 @@ use Rattle.std.specs.List.Sorted.{IsNonDecreasingBy}
 use Rattle.std.proofs.lemmas.Result.{IfOk-weaker}
 use Rattle.pg_graph.specs.ById.{AreById, StandAt}
 use Rattle.pg_parcel.specs.Grouping.{AreGroups, groups_of}
-use Rattle.pg_parcel.specs.Sends.{as_item}
+use Rattle.pg_inbox.specs.Sends.{as_item}
 use Rattle.pg_inbox.proofs.Bundling.{groups_by_id, rise_by_id}
 use Rattle.pg_inbox.proofs.making.letters_by_target.Goals as goal
 

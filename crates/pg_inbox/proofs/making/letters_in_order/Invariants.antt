@@ -1,7 +1,7 @@
 use Rattle.std.proofs.Common.{map, take}
 use Rattle.std.specs.List.{AllByRecursion}
 use Rattle.pg_graph.specs.ById.{StandAt}
-use Rattle.pg_parcel.specs.Sends.{as_item}
+use Rattle.pg_inbox.specs.Sends.{as_item}
 use Rattle.pg_inbox.proofs.making.letters_in_order.Given as goal
 
 abbrev pub invariant-loop-place : goal.invariant-loop-place

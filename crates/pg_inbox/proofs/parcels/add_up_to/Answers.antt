@@ -1,6 +1,7 @@
-use Rattle.std.proofs.Common.{◌≡◌, ◌+◌, ◌++◌, [], ap, ◌∙◌, ltb, true, false, subst, sym}
-use Rattle.std.specs.List.Sorted.{IsNonDecreasingBy, IsPartitionPoint}
-use Rattle.std.proofs.lemmas.List.Sorted.{IsNonDecreasingBy-drop}
+use Rattle.std.proofs.Common.{◌++◌, [], ap, ◌∙◌, leb, ltb, of_calls, rules, subst, sym}
+use Rattle.std.specs.List.Sorted.{IsNonDecreasingBy}
+use Rattle.std.proofs.lemmas.Fn.{always_returns_same}
+use Rattle.std.proofs.lemmas.List.Sorted.{IsNonDecreasingBy-drop, IsPartitionedBy-leb, IsPartitionedBy-ltb}
 use Rattle.pg_map.specs.Entries.{with_change}
 use Rattle.pg_inbox.proofs.Sent.{parcels_up_to}
 use Rattle.pg_inbox.proofs.parcels.add_up_to.Goals as goal
@@ -8,22 +9,22 @@ use Rattle.pg_inbox.proofs.parcels.add_up_to.Goals as goal
 pub returns-clause-rise : goal.returns-clause-rise
 returns-clause-rise g c =
     let letters = c.args.letters.now in
-    let from = c.split_at-here.result.1 in
-    subst (IsNonDecreasingBy (λ l. l.0)) (sym c.split_at-later.ensures.back)
-    (IsNonDecreasingBy-drop (λ l. l.0) c.count_below-until.result from
-    (subst (IsNonDecreasingBy (λ l. l.0)) (sym c.split_at-here.ensures.back) (IsNonDecreasingBy-drop (λ l. l.0) c.count_below-before.result letters c.requires.rise)))
+    let from = c.split_at.result.1.now in
+    subst (IsNonDecreasingBy (λ l. l.0)) (sym c.split_at-2.ensures.back)
+    (IsNonDecreasingBy-drop (λ l. l.0) c.partition_point-until.result from
+    (subst (IsNonDecreasingBy (λ l. l.0)) (sym c.split_at.ensures.back) (IsNonDecreasingBy-drop (λ l. l.0) c.partition_point-before.result letters c.requires.rise)))
 
 pub returns-clause-parcels : goal.returns-clause-parcels
 returns-clause-parcels g c =
     let letters = c.args.letters.now in
-    let from = c.split_at-here.result.1 in
-    let below = c.count_below-before.ensures in
-    let up_to = c.count_below-until.ensures in
-    let number = c.number-number.ensures.value in
-    parcels_up_to c.args.id c.args.change.now letters c.split_at-here.result.0 from c.split_at-later.result.1 c.count_below-before.result
-    c.count_below-until.result c.requires.rise below.bound
-    (subst (λ n. IsPartitionPoint (λ l. ltb l.0 n ≡ true) (λ l. ltb l.0 n ≡ false) letters c.count_below-before.result) number below.parts)
-    c.split_at-here.ensures.front c.split_at-here.ensures.back up_to.bound
-    (subst (λ n. IsPartitionPoint (λ l. ltb l.0 (n + 1) ≡ true) (λ l. ltb l.0 (n + 1) ≡ false) from c.count_below-until.result) number up_to.parts)
-    c.split_at-later.ensures.back c.args.parcels.now.items c.add_changed.new.parcels.items
+    let from = c.split_at.result.1.now in
+    let rise = subst (IsNonDecreasingBy (λ l. l.0)) (sym c.split_at.ensures.back) (IsNonDecreasingBy-drop (λ l. l.0) c.partition_point-before.result letters c.requires.rise) in
+    parcels_up_to c.args.id c.args.change.now letters c.split_at.result.0.now from c.split_at-2.result.1.now c.partition_point-before.result
+    c.partition_point-until.result c.requires.rise c.partition_point-before.ensures.bound
+    (c.partition_point-before.ensures.partitioned (λ y. ltb y.0 c.args.id) (always_returns_same _ _ _ (λ a r f k. search (rules, of_calls)))
+    (IsPartitionedBy-ltb (λ y. y.0) letters c.args.id c.requires.rise))
+    c.split_at.ensures.front c.split_at.ensures.back c.partition_point-until.ensures.bound
+    (c.partition_point-until.ensures.partitioned (λ y. leb y.0 c.args.id) (always_returns_same _ _ _ (λ a r f k. search (rules, of_calls)))
+    (IsPartitionedBy-leb (λ y. y.0) from c.args.id rise))
+    c.split_at-2.ensures.back c.args.parcels.now.items c.add_changed.new.parcels.items
     (c.in_ok-add_changed.ensures ∙ ap (λ l. l ++ with_change c.args.id c.args.change.now []) c.in_ok-add_sent.ensures)

@@ -9,13 +9,13 @@ use Rattle.pg_inbox.proofs.patching.staying_letters.Goals as goal
 pub loop-place-preserved : goal.loop-place-preserved
 loop-place-preserved g c = record {
   items = kept_more (λ l. not (contains nat_cmp c.args.withdrawn.now l.0)) c.args.letters.now.letters c.loop-place.place
-      (subst (λ n. c.loop-place.place < n) c.len-place-end.ensures c.loop-place-test.true) (c.letter-sender.ensures (c.letter-sender.result.0, c.letter-sender.result.1.now))
+      (subst (λ n. c.loop-place.place < n) c.len-place-end.ensures c.loop-place-test.true) c.letter.ensures
       c.loop-place.invariant.items c.in_ok-add_if_staying.ensures.items;
   values = c.in_ok-add_if_staying.ensures.values;
 }
 
-pub letter-sender-requires-after_bounds : goal.letter-sender-requires-after_bounds
-letter-sender-requires-after_bounds g c κs within = subst (λ n. c.loop-place.place < n) c.len-place-end.ensures c.loop-place-test.true
+pub letter-requires-after_bounds : goal.letter-requires-after_bounds
+letter-requires-after_bounds g c κs within = subst (λ n. c.loop-place.place < n) c.len-place-end.ensures c.loop-place-test.true
 
 pub add_if_staying-requires-after_bounds : goal.add_if_staying-requires-after_bounds
 add_if_staying-requires-after_bounds g c κs within = c.loop-place.invariant.values

@@ -4,7 +4,7 @@ use Rattle.pg_inbox.specs.Sound.{sent_parcels}
 use Rattle.pg_inbox.proofs.receivers.inboxes_sent.Given as goal
 
 abbrev pub invariant-loop-target : goal.invariant-loop-target
-invariant-loop-target g l = l.inboxes ++ each_inbox (sent_parcels l.left) ≡ each_inbox (sent_parcels l.fn.letters)
+invariant-loop-target g l = l.inboxes ++ each_inbox (sent_parcels l.left) ≡ each_inbox (sent_parcels l.letters)
 
 abbrev pub decreases-loop-target : goal.decreases-loop-target
 decreases-loop-target g l = length l.left

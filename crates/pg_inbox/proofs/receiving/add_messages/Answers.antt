@@ -11,7 +11,7 @@ pub loop-place-preserved : goal.loop-place-preserved
 loop-place-preserved g c =
     let before = c.loop-place.into.items in
     mapped_after (λ l. l.1) c.args.into.now.items c.args.parcel.now.letters c.loop-place.place
-    (subst (λ n. c.loop-place.place < n) c.len-place-end.ensures c.loop-place-test.true) (c.letter.ensures (c.letter.result.0, c.letter.result.1.now)) c.loop-place.invariant
+    (subst (λ n. c.loop-place.place < n) c.len-place-end.ensures c.loop-place-test.true) c.letter.ensures c.loop-place.invariant
     (c.in_ok-push.ensures.items ∙ ap (λ m. before ++ m ∷ []) c.in_ok-copy.ensures)
 
 pub returns : goal.returns

@@ -1,12 +1,7 @@
 use Rattle.std.proofs.Common.{◌≡◌, ◌+◌, ◌-◌, ◌<◌, ◌≤◌, drop, arith, subst}
-use Rattle.pg_model.proofs.LawsByNumber.{IsUp, up_from}
+use Rattle.pg_model.proofs.LawsByNumber.{IsUp}
 use Rattle.pg_inbox.proofs.Senders.{up_in_order, up_short, up_step}
 use Rattle.pg_inbox.proofs.receiving.are_in_order.Goals as goal
-
-pub returns-then-is_by_sender : goal.returns-then-is_by_sender
-returns-then-is_by_sender g c =
-    let letters = c.args.parcel.now.letters in
-    λ _. up_in_order letters (up_from (λ x. x.0) letters (c.is_by_sender.ensures c.if-is_by_sender.true))
 
 pub loop-place-preserved : goal.loop-place-preserved
 loop-place-preserved g c =
@@ -14,14 +9,13 @@ loop-place-preserved g c =
     let place = c.loop-place.place in
     let from = c.loop-place.invariant.from in
     let within = subst (λ n. place < n) c.len-place-end.ensures c.loop-place-test.true in
-    let le : c.letter-in-loop-place.result.0 ≤ c.letter.result.0 = grind (arith, c.lt.ensures, c.if-lt.false) in
+    let le : c.letter-in-loop-place.result.now.0 ≤ c.letter.result.now.0 = grind (arith, c.lt.ensures, c.if-lt.false) in
     let next : place - 1 + 1 ≡ place = omega (arith, from) in
     let same : place + 1 - 1 ≡ place = omega arith in
     record {
       from = omega arith;
       up = λ later. c.loop-place.invariant.up
-          (up_step letters (place - 1) place next within (c.letter-in-loop-place.ensures (c.letter-in-loop-place.result.0, c.letter-in-loop-place.result.1.now))
-          (c.letter.ensures (c.letter.result.0, c.letter.result.1.now)) le
+          (up_step letters (place - 1) place next within c.letter-in-loop-place.ensures c.letter.ensures le
           (subst (λ n. IsUp (λ x. x.0) (drop n letters)) same later));
     }
 

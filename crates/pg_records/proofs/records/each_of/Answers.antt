@@ -24,4 +24,4 @@ pub returns : goal.returns
 returns g c =
     c.loop-place.invariant
     ∙ ap each_some (take_all c.loop-place.place (arc_value c.in_ok-all.all)
-    (subst (λ n. n ≤ c.loop-place.place) (c.len-place-end.ensures ∙ ap length c.deref-2.ensures) c.loop-place-test.false) ∙ c.in_ok-all.ensures.ok)
+    (subst (λ n. n ≤ c.loop-place.place) (c.len-place-end.ensures ∙ ap length c.deref-2.ensures) c.loop-place-test.false) ∙ c.in_ok-all.ensures.ok ∙ c.shrink_to_fit.ensures)

@@ -1,18 +1,15 @@
-use Rattle.std.proofs.Common.{◌≡◌, ℕ, IfSome, ap, map, refl, subst, ◌∙◌}
-use Rattle.std.specs.Arc.{arc_value}
-use Rattle.std.specs.Global.{Vec}
+use Rattle.std.proofs.Common.{◌≡◌, Some, IfSome, ap, map, subst, ◌∙◌}
 use Rattle.std.specs.List.{flat_map, zip}
-use Rattle.pg_inbox.specs.Bundles.{bundle_of}
-use Rattle.pg_parcel.specs.Sends.{as_send}
+use Rattle.pg_inbox.specs.Sends.{as_send, sends_in}
 use Rattle.pg_records.specs.Changes.{messages_by}
+use Rattle.pg_routing.specs.Sending.{IsFresh}
 use Rattle.pg_routing.proofs.Sends.{all_sends}
 use Rattle.pg_routing.proofs.sent.fresh_of_all.Goals as goal
 
-pub returns-in_ok-shared_bundle-in-Some : goal.returns-in_ok-shared_bundle-in-Some
-returns-in_ok-shared_bundle-in-Some g c =
+pub returns-in_ok-fresh-in-Some : goal.returns-in_ok-fresh-in-Some
+returns-in_ok-fresh-in-Some g c =
     let changes = c.args.changes.now in
-    let told = subst (λ o. IfSome o (λ a. zip a.0.items (arc_value {X = Vec (ℕ × g.row.M.Denot)} a.1).items ≡ flat_map messages_by changes)) c.in-Some.is c.in_ok-senders.ensures.sent in (
-      c.in_ok-shared_bundle-in-Some.ensures
-          ∙ ap (bundle_of (g.C.MessageCombiner.combining c.args.combiner.now)) (c.of-sends.ensures ∙ ap (map as_send) told ∙ all_sends changes),
-      refl,
-    )
+    let sent = c.in-Some.sent.now in
+    let told = subst (λ o. IfSome o (λ a. zip a.0.items a.1.now ≡ flat_map messages_by changes)) c.in-Some.is c.in_ok-senders.ensures.sent in
+    subst (λ l. IsFresh (g.C.MessageCombiner.combining c.args.combiner.now) l (Some c.in_ok-fresh-in-Some.field-0))
+    (c.of-sends.ensures ∙ ap (λ s. sends_in s sent) c.as_slice.ensures.value ∙ ap (map as_send) told ∙ all_sends changes) c.in_ok-fresh-in-Some.ensures

@@ -1,6 +1,5 @@
 use Rattle.std.proofs.Common.{◌++◌, Some, ap, map, sym, ◌∙◌}
 use Rattle.std.proofs.lemmas.List.{nil_from_length}
-use Rattle.std.proofs.lemmas.Result.{IfOk-weaker}
 use Rattle.pg_map.proofs.Moved.{moved_all, moved_one}
 use Rattle.pg_trace.proofs.records.all_given.Goals as goal
 
@@ -12,8 +11,7 @@ loop-id-preserved g c =
 pub returns : goal.returns
 returns g c =
     let left = c.loop-id.id-iterator.rest in
-    IfOk-weaker c.build.result _ _ (λ made is. is ∙ moved_all c.loop-id.changes (ap (map (λ e. (e.0, Some e.1))) (nil_from_length left.items (sym left.ok.0 ∙ c.in-None.ensures.steps.0))) c.loop-id.invariant)
-    c.build.ensures
+    moved_all c.loop-id.changes (ap (map (λ e. (e.0, Some e.1))) (nil_from_length left.items (sym left.ok.0 ∙ c.in-None.ensures.steps.0))) c.loop-id.invariant
 
 pub loop-id-init : goal.loop-id-init
 loop-id-init g c =

@@ -1,6 +1,8 @@
-use Rattle.std.proofs.Common.{ap, ◌∙◌, subst, sym}
+use Rattle.std.proofs.Common.{None, ap, ◌∙◌, option_map, subst, sym}
 use Rattle.std.specs.Option.{option_copied}
 use Rattle.pg_map.specs.Entries.{value_at}
+use Rattle.pg_parcel.specs.Contents.{contents_of}
+use Rattle.pg_parcel.specs.Grouping.{any_of, items_to}
 use Rattle.pg_inbox.specs.Holding.{HoldsAt}
 use Rattle.pg_inbox.specs.Shared.{letters_of}
 use Rattle.pg_inbox.specs.Sound.{parcels_with}
@@ -23,6 +25,7 @@ returns-in-Some-clause-holds g c =
 pub returns-in-None-clause-value : goal.returns-in-None-clause-value
 returns-in-None-clause-value g c =
     c.sent_to.ensures
+    ∙ ap (λ l. option_map (contents_of None) (any_of (items_to c.args.target l))) c.as_slice.ensures
     ∙ sym (value_sent c.self.inside.changes (letters_of c.self.inside.letters) c.self.invariant.letters_rise c.self.invariant.changes_rise c.args.target
     (sym c.get.ensures ∙ ap option_copied c.in-None.is))
     ∙ ap (value_at c.args.target) c.self.view_is

@@ -1,4 +1,3 @@
-use Rattle.std.specs.Arc.{arc_value}
 use Rattle.std.proofs.Common.{◌≡◌, ◌<◌, length, None, sym, ap, ◌∙◌, subst}
 use Rattle.pg_map.specs.Entries.{HasRisingIds, value_at}
 use Rattle.std.specs.List.{HoldsAt}
@@ -10,12 +9,12 @@ use Rattle.pg_records.proofs.changes.Changes.given.Goals as goal
 pub place_of-requires : goal.place_of-requires
 place_of-requires g c =
     subst (λ l. HasRisingIds l) (sym c.as_slice.ensures.value)
-    (entries_rise (arc_value c.self.inside.sent).items c.self.inside.contributed.items c.self.inside.entries.items c.self.view_is c.requires)
+    (entries_rise c.self.inside.sent.items c.self.inside.contributed.items c.self.inside.entries.items c.self.view_is c.requires)
 
 pub returns-in_err-place : goal.returns-in_err-place
 returns-in_err-place g c =
     c.from_residual.ensures
-    ∙ given_missing (arc_value c.self.inside.sent).items c.self.inside.contributed.items c.self.inside.entries.items c.self.view_is c.args.id
+    ∙ given_missing c.self.inside.sent.items c.self.inside.contributed.items c.self.inside.entries.items c.self.view_is c.args.id
     (ap (value_at c.args.id) (sym c.as_slice.ensures.value) ∙ c.in_err-place.ensures.missing)
 
 pub returns : goal.returns
@@ -23,6 +22,6 @@ returns g c =
     let seen = c.as_slice.ensures.value in
     let place = c.in_ok-place.place in
     ap (λ e. e.1) (c.at-given.ensures (0, None))
-    ∙ given_found (arc_value c.self.inside.sent).items c.self.inside.contributed.items c.self.inside.entries.items c.self.view_is c.args.id place (0, None) c.requires
+    ∙ given_found c.self.inside.sent.items c.self.inside.contributed.items c.self.inside.entries.items c.self.view_is c.args.id place (0, None) c.requires
     (subst (λ l. place < length l) seen c.in_ok-place.ensures.within)
     (subst (λ l. HoldsAt (λ e. nat_cmp e.0 c.args.id ≡ Equal) l place) seen c.in_ok-place.ensures.found)

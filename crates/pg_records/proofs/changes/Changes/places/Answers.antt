@@ -1,4 +1,3 @@
-use Rattle.std.specs.Arc.{arc_value}
 use Rattle.std.proofs.Common.{◌++◌, ◌∷◌, ◌<◌, ◌≤◌, [], is_some, ap, ◌∙◌, subst}
 use Rattle.std.proofs.lemmas.List.{map-append, take_all}
 use Rattle.pg_map.proofs.Filling.{mapped_more}
@@ -23,4 +22,4 @@ returns g c =
     let entries = c.self.inside.entries in
     c.loop-place.invariant
     ∙ ap told (take_all c.loop-place.place entries.items (subst (λ n. n ≤ c.loop-place.place) (c.len-place-end.ensures ∙ entries.ok.0) c.loop-place-test.false))
-    ∙ places_in (arc_value c.self.inside.sent).items c.self.inside.contributed.items entries.items c.self.view_is
+    ∙ places_in c.self.inside.sent.items c.self.inside.contributed.items entries.items c.self.view_is
