@@ -1,8 +1,8 @@
 //! Where a run over partitions stands.
-ghost use Rattle.std.specs.Prelude.{◌≡◌, ◌+◌, ◌%◌, ◌<◌, ◌^◌, map, Some, IfOk};
+ghost use Rattle.std.specs.Prelude.{◌≡◌, ◌+◌, ◌%◌, ◌<◌, ◌==◌, ◌^◌, cond, map, slice_set, None, Some, IfOk};
 ghost use Rattle.std.specs.List.{list_all, range_with_len};
 ghost use Rattle.std.specs.Option.{option_map};
-ghost use Rattle.pg_machine.specs.Machine.{after, first_state, host_of, is_allowed, is_at, is_from as from_test, place_at};
+ghost use Rattle.pg_machine.specs.Machine.{after, first_state, host_of, is_alive, is_allowed, is_at, is_from as from_test, place_at, places_without, saved_at};
 ghost use Rattle.pg_machine.specs.declared.event.Closed.{Closed};
 ghost use Rattle.pg_machine.specs.declared.event.Event.{Event};
 
@@ -139,6 +139,59 @@ impl State {
         !self.ended && all_at(self.places.as_slice(), next)
     }
 
+    /// The superstep of a partition that was saved, if one was; `None` for a number that is none of a partition.
+    pub fn saved_place(&self, partition: PartitionId) -> Option<Superstep>
+        ensures { result ≡ saved_at partition self.now }
+    {
+        let index = partition.number() as usize;
+        if index >= self.saved.len() {
+            return None;
+        }
+        self.saved[index]
+    }
+
+    /// Whether a worker is alive; one that there isn't is not.
+    pub fn is_alive(&self, worker: WorkerId) -> bool
+        ensures { result ≡ is_alive worker self.now }
+    {
+        let index = worker.number() as usize;
+        index < self.alive.len() && self.alive[index]
+    }
+
+    /// Whether a worker may fall: the run hasn't ended, and it is alive.
+    pub fn may_lose(&self, worker: WorkerId) -> bool
+        ensures { result ≡ is_allowed self.now (Event.Lose worker) }
+    {
+        !self.ended && self.is_alive(worker)
+    }
+
+    /// Whether a partition may be given to a worker: the run hasn't ended, there is the partition, and the worker is alive.
+    pub fn may_host(&self, partition: PartitionId, worker: WorkerId) -> bool
+        ensures { result ≡ is_allowed self.now (Event.Host partition worker) }
+    {
+        let there = (partition.number() as usize) < self.places.len();
+        !self.ended && there && self.is_alive(worker)
+    }
+
+    /// Whether a partition may be restored at a superstep: the run hasn't ended, the partition is lost, its host is alive,
+    /// and the superstep is the first or the one that was saved.
+    pub fn may_restore(&self, partition: PartitionId, superstep: Superstep) -> bool
+        ensures { result ≡ is_allowed self.now (Event.Restore partition superstep) }
+    {
+        let there = (partition.number() as usize) < self.places.len();
+        let lost = self.place(partition).is_none();
+        let alive = self.is_alive(self.host(partition));
+        let known = superstep.number() == 0 || self.saved_place(partition) == Some(superstep);
+        !self.ended && there && lost && alive && known
+    }
+
+    /// Whether a partition may be saved: the run hasn't ended, and the partition isn't lost.
+    pub fn may_save(&self, partition: PartitionId) -> bool
+        ensures { result ≡ is_allowed self.now (Event.Save partition) }
+    {
+        !self.ended && self.place(partition).is_some()
+    }
+
     /// As a run begins.
     pub fn first(alloc: Global, partitions: u32, workers: u32) -> Result<State, Memory>
         requires { 0 < workers }
@@ -165,6 +218,48 @@ impl State {
         }
     }
 
+    /// A worker has fallen: the partitions that it hosts are lost.
+    pub fn lose(&mut self, worker: WorkerId)
+        ensures { self.new ≡ after self.old (Event.Lose worker) }
+    {
+        let index = worker.number() as usize;
+        if index < self.alive.len() {
+            self.alive[index] = false;
+        }
+        lose_hosted(worker, self.hosts.as_slice(), &mut self.places);
+    }
+
+    /// A worker hosts a partition from now on.
+    pub fn host_on(&mut self, partition: PartitionId, worker: WorkerId)
+        ensures { self.new ≡ after self.old (Event.Host partition worker) }
+    {
+        let index = partition.number() as usize;
+        if index < self.hosts.len() {
+            self.hosts[index] = worker;
+        }
+    }
+
+    /// A partition is at a superstep again.
+    pub fn restore(&mut self, partition: PartitionId, superstep: Superstep)
+        ensures { self.new ≡ after self.old (Event.Restore partition superstep) }
+    {
+        let index = partition.number() as usize;
+        if index < self.places.len() {
+            self.places[index] = Some(superstep);
+        }
+    }
+
+    /// The superstep of a partition was saved.
+    pub fn save(&mut self, partition: PartitionId)
+        ensures { self.new ≡ after self.old (Event.Save partition) }
+    {
+        let place = self.place(partition);
+        let index = partition.number() as usize;
+        if index < self.saved.len() {
+            self.saved[index] = place;
+        }
+    }
+
     /// The open superstep was closed.
     pub fn close(&mut self, closed: Closed)
         requires { self.old.current + 1 < 2 ^ 32 }
@@ -174,6 +269,29 @@ impl State {
             Closed::Next => self.current = Superstep::new(self.current.number() + 1),
             Closed::Ended => self.ended = true,
         }
+    }
+}
+
+/// The partitions that a worker hosts are lost, by their hosts.
+fn lose_hosted(worker: WorkerId, hosts: &[WorkerId], places: &mut Vec<Option<Superstep>>)
+    ensures { places.new.items ≡ places_without worker hosts.now places.old.items }
+{
+    for index in 0..hosts.len() {
+        lose_if_hosted(worker, hosts[index], index, places);
+    }
+}
+
+/// The partition of this number is lost, if its host is that worker.
+fn lose_if_hosted(
+    worker: WorkerId,
+    host: WorkerId,
+    index: usize,
+    places: &mut Vec<Option<Superstep>>,
+)
+    ensures { places.new.items ≡ cond (host == worker) (slice_set places.old.items index None) places.old.items }
+{
+    if host == worker && index < places.len() {
+        places[index] = None;
     }
 }
 
