@@ -1,2 +1,3 @@
 mod Appended
 mod Cleared
+pub mod InTurn

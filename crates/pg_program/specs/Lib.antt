@@ -1,3 +1,5 @@
+pub mod Coding
+pub mod CodingRows
 pub mod Computation
 pub mod Context
 pub mod OwnEdges

@@ -1,12 +1,11 @@
 -- Plain values: which they are, their texts, and that only identical ones are equal.
-use Rattle.std.specs.Prelude.{◌≡◌, ℕ, ◌<◌, ◌^◌, [], ◌∷◌, ◌++◌, ℤ, Bool, true, false, cond, ◌&&◌, List, IsTrue, FitsSigned, codes, ◌==◌, refl}
+use Rattle.std.specs.Prelude.{◌≡◌, ℕ, ◌<◌, ◌^◌, [], ◌∷◌, ◌++◌, ℤ, Bool, true, false, cond, ◌&&◌, List, length, IsTrue, FitsSigned, codes, ◌==◌, refl}
 use Rattle.std.specs.Int.{w64}
-use Rattle.std.specs.List.{All, join_by}
+use Rattle.std.specs.List.{AllByRecursion, join_by}
 use Rattle.std.specs.Ordering.{int_eq}
 use Rattle.std.specs.Cmp.{signed_Decides, unsigned_Decides}
 use Rattle.std.specs.Cmp.Lexicographic.{pointwise}
 use Rattle.std.proofs.Common.{ap, sym, ◌∙◌, true≢false}
-use Rattle.std.proofs.lemmas.List.Elements.{All-head, All-tail}
 
 -- the numbers of 64 bits without a sign
 abbrev pub is_natural : ℕ → Type 0
@@ -15,6 +14,18 @@ is_natural n = n < 2 ^ 64
 -- a pair of values
 abbrev pub are_both : {A B : Type 0} → (A → Type 0) → (B → Type 0) → A × B → Type 0
 are_both is_first is_second p = is_first p.0 × is_second p.1
+
+-- the numbers of vertices
+abbrev pub is_id : ℕ → Type 0
+is_id n = n < 2 ^ 63
+
+-- the numbers of places
+abbrev pub is_byte : ℕ → Type 0
+is_byte n = n < 2 ^ 8
+
+-- a list of values, which has no more of them than a number of 64 bits says
+abbrev pub are_listed : {A : Type 0} → (A → Type 0) → List A → Type 0
+are_listed is_item xs = (length xs < 2 ^ 64) × AllByRecursion is_item xs
 
 -- `true` or `false`
 abbrev pub bool_text : Bool → List ℕ
@@ -34,6 +45,12 @@ i64_exact x y _ _ equal = (signed_Decides x y).0 equal
 pub u64_exact : (x y : ℕ) → is_natural x → is_natural y → IsTrue (x == y) → x ≡ y
 u64_exact x y _ _ equal = (unsigned_Decides x y).0 equal
 
+pub id_exact : (x y : ℕ) → is_id x → is_id y → IsTrue (x == y) → x ≡ y
+id_exact x y _ _ equal = (unsigned_Decides x y).0 equal
+
+pub byte_exact : (x y : ℕ) → is_byte x → is_byte y → IsTrue (x == y) → x ≡ y
+byte_exact x y _ _ equal = (unsigned_Decides x y).0 equal
+
 both_true : (a b : Bool) → IsTrue (a && b) → IsTrue a × IsTrue b
 both_true true b h = (refl, h)
 both_true false b h = absurd (true≢false (sym h))
@@ -47,11 +64,16 @@ module _ {A : Type 0} {is_value : A → Type 0} {eq : A → A → Bool} (exact :
       let parts : IsTrue (eq x.0 y.0) × IsTrue (eq_second x.1 y.1) = both_true (eq x.0 y.0) (eq_second x.1 y.1) equal in
       ap (λ (a : A). (a, x.1)) (exact x.0 y.0 p.0 q.0 parts.0) ∙ ap (λ (b : B). (y.0, b)) (second x.1 y.1 p.1 q.1 parts.1)
 
-  pub list_exact : (xs ys : List A) → All is_value xs → All is_value ys → IsTrue (pointwise eq xs ys) → xs ≡ ys
-  list_exact [] [] p q equal = refl
-  list_exact [] (y ∷ ys) p q equal = absurd (true≢false (sym equal))
-  list_exact (x ∷ xs) [] p q equal = absurd (true≢false (sym equal))
-  list_exact (x ∷ xs) (y ∷ ys) p q equal =
+  items_exact : (xs ys : List A) → AllByRecursion is_value xs → AllByRecursion is_value ys
+      → IsTrue (pointwise eq xs ys) → xs ≡ ys
+  items_exact [] [] p q equal = refl
+  items_exact [] (y ∷ ys) p q equal = absurd (true≢false (sym equal))
+  items_exact (x ∷ xs) [] p q equal = absurd (true≢false (sym equal))
+  items_exact (x ∷ xs) (y ∷ ys) p q equal =
       let parts : IsTrue (eq x y) × IsTrue (pointwise eq xs ys) = both_true (eq x y) (pointwise eq xs ys) equal in
-      ap (λ (a : A). a ∷ xs) (exact x y (All-head is_value x xs p) (All-head is_value y ys q) parts.0)
-      ∙ ap (λ (l : List A). y ∷ l) (list_exact xs ys (All-tail is_value x xs p) (All-tail is_value y ys q) parts.1)
+      ap (λ (a : A). a ∷ xs) (exact x y p.0 q.0 parts.0)
+      ∙ ap (λ (l : List A). y ∷ l) (items_exact xs ys p.1 q.1 parts.1)
+
+  pub list_exact : (xs ys : List A) → are_listed is_value xs → are_listed is_value ys
+      → IsTrue (pointwise eq xs ys) → xs ≡ ys
+  list_exact xs ys p q equal = items_exact xs ys p.1 q.1 equal

@@ -2,7 +2,6 @@
 ghost use Rattle.std.specs.Prelude.{◌≡◌, ◌++◌, ℕ, List, IsTrue, IfOk, OnOk, OnErr, FitsSigned};
 ghost use Rattle.std.specs.Int.{w64};
 ghost use Rattle.std.specs.Fmt.{decimal, signed_decimal};
-ghost use Rattle.std.specs.List.{All};
 ghost use Rattle.std.specs.String.{string_bytes};
 
 use pg_graph::Memory;
@@ -132,9 +131,9 @@ impl<A: Plain, B: Plain> Plain for (A, B) {
 }
 
 impl<T: Plain> Plain for Sequence<T> {
-    ghost use Rattle.pg_program.specs.Plain.{list_exact, list_text};
+    ghost use Rattle.pg_program.specs.Plain.{are_listed, list_exact, list_text};
 
-    ghost is_value = { All T.is_value };
+    ghost is_value = { are_listed T.is_value };
 
     ghost shown = { list_text T.shown };
 
