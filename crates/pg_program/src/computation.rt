@@ -4,7 +4,7 @@ ghost use Rattle.pg_model.specs.Job.{Program};
 ghost use Rattle.pg_program.specs.Computation.{Executes};
 ghost use Rattle.pg_program.specs.Context.{ShowsDeclared};
 
-use crate::{Cx, Plain, Vertex};
+use crate::{Coded, Cx, Vertex};
 use pg_graph::{Memory, VertexId};
 use pg_model::Declared;
 use std::alloc::Global;
@@ -13,10 +13,10 @@ use std::alloc::Global;
 /// in a superstep in which it is active.
 pub trait Computation: Sync {
     /// The values of vertices.
-    type Value: Plain;
+    type Value: Coded;
 
     /// The messages.
-    type Message: Plain;
+    type Message: Coded;
 
     /// The program as pure functions.
     ghost program: { Self → Program Self.Value Self.Message };

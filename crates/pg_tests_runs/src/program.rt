@@ -5,7 +5,7 @@ ghost use Rattle.pg_program.specs.Context.{ShowsDeclared};
 use crate::graphs::id;
 use pg_graph::{Edges, Memory, Superstep, VertexId};
 use pg_model::{Declared, Place, Sequence, VertexState, View};
-use pg_program::{Computation, Cx, EdgeRoom, Meter, Plain, Tally, Vertex};
+use pg_program::{Coded, Computation, Cx, EdgeRoom, Meter, Plain, Tally, Vertex};
 use std::alloc::Global;
 use std::fmt::Write;
 use std::process::Abort;
@@ -142,6 +142,57 @@ fn lists_are_compared(rt: HostRuntime) -> Result<(), Fail> {
     assert!(rt; is_copied(alloc, &three)?);
     let shorter = Sequence::from_vec(vec![in alloc; 1i64, -2]?);
     assert!(rt; three != shorter);
+    Ok(())
+}
+
+// The bytes of a value, and 1 behind them.
+fn bytes_and_one<T: Coded>(alloc: Global, value: &T) -> Result<Vec<u8>, Memory> {
+    let mut bytes = Vec::new(alloc);
+    value.encode(&mut bytes)?;
+    bytes.push(1)?;
+    Ok(bytes)
+}
+
+// This value stands at the front, in so many bytes.
+fn stands_in<T: Coded>(alloc: Global, bytes: &[u8], value: &T, len: usize) -> Result<bool, Memory> {
+    match T::decode(alloc, bytes)? {
+        Some((found, count)) => Ok(found == *value && count == len),
+        None => Ok(false),
+    }
+}
+
+#[test]
+fn numbers_are_coded(rt: HostRuntime) -> Result<(), Fail> {
+    let alloc = rt.alloc();
+    let seven = bytes_and_one(alloc, &7u64)?;
+    assert_eq!(rt; seven.as_slice(), [7, 0, 0, 0, 0, 0, 0, 0, 1].as_slice());
+    assert!(rt; stands_in(alloc, seven.as_slice(), &7u64, 8)?);
+    assert!(rt; matches!(u64::decode(alloc, &seven[..7]), Ok(None)));
+    let truth = bytes_and_one(alloc, &true)?;
+    assert_eq!(rt; truth.as_slice(), [1, 1].as_slice());
+    assert!(rt; stands_in(alloc, truth.as_slice(), &true, 1)?);
+    assert!(rt; matches!(bool::decode(alloc, &[2]), Ok(None)));
+    assert!(rt; matches!(bool::decode(alloc, &[]), Ok(None)));
+    Ok(())
+}
+
+#[test]
+fn pairs_and_lists_are_coded(rt: HostRuntime) -> Result<(), Fail> {
+    let alloc = rt.alloc();
+    let value = (2i64, Sequence::from_vec(vec![in alloc; 10i64, 20]?));
+    let bytes = bytes_and_one(alloc, &value)?;
+    let wanted = [
+        2, 0, 0, 0, 0, 0, 0, 0, 2, 0, 0, 0, 0, 0, 0, 0, 10, 0, 0, 0, 0, 0, 0, 0, 20, 0, 0, 0, 0, 0,
+        0, 0, 1,
+    ];
+    assert_eq!(rt; bytes.as_slice(), wanted.as_slice());
+    assert!(rt; stands_in(alloc, bytes.as_slice(), &value, 32)?);
+    assert!(rt;
+        matches!(
+            <(i64, Sequence<i64>)>::decode(alloc, &wanted[..31]),
+            Ok(None)
+        )
+    );
     Ok(())
 }
 
