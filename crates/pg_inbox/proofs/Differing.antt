@@ -15,7 +15,7 @@ use Rattle.pg_map.specs.Entries.{value_at}
 use Rattle.pg_model.specs.Superstep.{has_id, is_empty}
 use Rattle.pg_parcel.specs.declared.parcel.Contents.{Contents}
 use Rattle.pg_inbox.specs.Bundles.{Entry, Parcels, each_entry, entries_in, entries_of}
-use Rattle.pg_inbox.specs.Changed.{AreCandidates, AreChanged, AreSameAt, DifferAt, IsAdded}
+use Rattle.pg_inbox.specs.Changed.{AreChanged, AreSameAt, DifferAt, IsAdded}
 use Rattle.pg_inbox.proofs.Bundling.{at_id}
 
 has_id-push : (ids : List ℕ) (id q : ℕ) → has_id (ids ++ id ∷ []) q ≡ (has_id ids q || (id == q))
@@ -35,15 +35,6 @@ unfolding IsStrictlySortedBy
 rises-without [] y ys h = h.1
 rises-without (x ∷ xs) y ys h = (all-without (λ z. nat_cmp x z ≡ Less) xs y ys h.0, rises-without xs y ys h.1)
 
-none_at : {X : Type 0} (es : List (ℕ × X)) (q : ℕ) → has_id (keys_of es) q ≡ false → value_at q es ≡ None
-none_at [] q h = refl
-none_at {X = X} (e ∷ es) q h = ap (λ b. cond b (Some e.1) (value_at q es)) (at_id q e.0) ∙ by (e.0 == q) h (none_at es q)
-  where
-    by : (b : Bool) → (b || has_id (keys_of es) q) ≡ false → (has_id (keys_of es) q ≡ false → value_at q es ≡ None)
-        → cond b (Some e.1) (value_at q es) ≡ None
-    by true k later = absurd (true≢false k)
-    by false k later = later k
-
 pub rises-more : {M : Type 0} (old new : Option (Contents M)) (found found' rest : List ℕ) (id : ℕ)
     → IsStrictlySortedBy nat_cmp (found ++ id ∷ rest) → IsAdded id old new found found' → IsStrictlySortedBy nat_cmp (found' ++ rest)
 rises-more old new found found' rest id rise (inl same) = subst (λ l. IsStrictlySortedBy nat_cmp (l ++ rest)) (sym same.1) (rises-without found id rest rise)
@@ -55,9 +46,6 @@ module _ {M : Type 0} (old new : Parcels M) where
   abbrev pub AreTold : List ℕ → List ℕ → Type 0
   AreTold found seen =
       (q : ℕ) → (has_id found q ≡ true → DifferAt old new q) × (has_id found q ≡ false → has_id seen q ≡ true → AreSameAt old new q)
-
-  pub told-none : (found : List ℕ) → found ≡ [] → AreTold found []
-  told-none found none q = (λ h. let k : false ≡ true = sym (ap (λ l. has_id l q) none) ∙ h in absurd cc, λ h seen. absurd (true≢false (sym seen)))
 
   pub told-more : (found found' seen : List ℕ) (id : ℕ) → AreTold found seen
       → IsAdded id (value_at id old) (value_at id new) found found' → AreTold found' (seen ++ id ∷ [])
@@ -86,9 +74,9 @@ module _ {M : Type 0} (old new : Parcels M) where
       back false e other (inl k) = (so_far q).1 e k
       back false e other (inr k) = absurd (true≢false (sym k ∙ other))
 
-  pub changed_all : (ids found : List ℕ) → AreCandidates old new ids → IsStrictlySortedBy nat_cmp (found ++ []) → AreTold found ids
-      → AreChanged old new found
-  changed_all ids found targets rise told = record {
+  pub changed_all : (ids found : List ℕ) → ((id : ℕ) → has_id ids id ≡ false → AreSameAt old new id) → IsStrictlySortedBy nat_cmp (found ++ [])
+      → AreTold found ids → AreChanged old new found
+  changed_all ids found elsewhere rise told = record {
     rise = subst (IsStrictlySortedBy nat_cmp) (append-nil found) rise;
     differ = λ id. (told id).0;
     others = λ id other. by id other (has_id ids id) refl;
@@ -96,7 +84,7 @@ module _ {M : Type 0} (old new : Parcels M) where
     where
       by : (id : ℕ) → has_id found id ≡ false → (b : Bool) → has_id ids id ≡ b → AreSameAt old new id
       by id other true e = (told id).1 other e
-      by id other false e = targets.others id e
+      by id other false e = elsewhere id e
 
 -- ---- entries tell what they are made of
 
@@ -137,20 +125,3 @@ module _ {M : Type 0} (target : ℕ) where
       → entries_of target a ≡ entries_of target b → ⊥
   fold_apart a b x p q some h =
       not_folded x (length a.letters) b.letters some (sym (ap (λ f. seen_in f a.letters) p) ∙ (h ∙ ap (λ f. seen_in f b.letters) q))
-
--- ---- the ids of both, in order and each once
-
-pub targets_in_order : {M : Type 0} (old new : Parcels M) (ids sorted ordered : List ℕ) → ids ≡ keys_of old ++ keys_of new
-    → IsStrictlySortedBy nat_cmp ordered → ((id : ℕ) → has_id ordered id ≡ has_id ids id) → AreCandidates old new ordered
-targets_in_order old new ids sorted ordered are rise same = record {
-  rise = rise;
-  others = λ id h.
-      let none : (has_id (keys_of old) id || has_id (keys_of new) id) ≡ false = sym (has_id-append (keys_of old) (keys_of new) id)
-      ∙ (sym (ap (λ l. has_id l id) are) ∙ (sym (same id) ∙ h)) in
-      let parts = neither (has_id (keys_of old) id) (has_id (keys_of new) id) none in
-      ap (entries_in id) (none_at old id parts.0) ∙ sym (ap (entries_in id) (none_at new id parts.1));
-}
-  where
-    neither : (a b : Bool) → (a || b) ≡ false → (a ≡ false) × (b ≡ false)
-    neither true b h = absurd (true≢false h)
-    neither false b h = (refl, h)

@@ -2,6 +2,7 @@ pub mod AtPlaces
 pub mod Bundling
 pub mod Delivery
 pub mod Differing
+pub mod Merging
 pub mod Parting
 pub mod Replacing
 pub mod SameDelivery

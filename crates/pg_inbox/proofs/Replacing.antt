@@ -245,10 +245,7 @@ module _ {M : Type 0} (old : Parcels M) where
       → AreChanged old (with_changes changes old) found
   found_all changes found rising are rise =
       let new = with_changes changes old in
-      changed_all old new (keys_of changes) found (record {
-        rise = rise;
-        others = λ id h. ap (entries_in id) (sym (unchanged_at changes old id h));
-      })
+      changed_all old new (keys_of changes) found (λ id h. ap (entries_in id) (sym (unchanged_at changes old id h)))
       (are.rise [] (subst (IsStrictlySortedBy nat_cmp) (sym (append-nil (keys_of changes))) rise))
       (are.told new (all_from_lookups (λ c. value_at c.0 new ≡ c.1) changes rise
       (λ q x h. value_at-with_changes changes old q rise rising ∙ ap (λ o. unwrap_or o (value_at q old)) h)))

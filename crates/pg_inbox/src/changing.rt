@@ -1,12 +1,12 @@
 //! The targets at which two bundles differ.
-ghost use Rattle.std.specs.Prelude.{◌≡◌, ◌++◌, ℕ, ◌↔◌, IsTrue, IfOk, OnOk};
-ghost use Rattle.std.specs.Map.{keys_of};
-ghost use Rattle.std.specs.Option.{option_copied};
-ghost use Rattle.pg_map.specs.Entries.{value_at};
+ghost use Rattle.std.specs.Prelude.{◌≡◌, ◌≤◌, ℕ, drop, slice_get, ◌↔◌, IsTrue, IfOk, OnOk};
+ghost use Rattle.std.specs.List.{AllByRecursion};
+ghost use Rattle.std.specs.Option.{option_copied, option_map};
+ghost use Rattle.pg_map.specs.Entries.{HasRisingIds, value_at};
 ghost use Rattle.pg_parcel.specs.Contents.{Holds};
 ghost use Rattle.pg_inbox.specs.Bundles.{entries_in, entries_of, parcels_in};
-ghost use Rattle.pg_inbox.specs.Changed.{AreCandidates, AreChanged, IsAdded};
-ghost use Rattle.pg_inbox.specs.Holding.{HoldsAt};
+ghost use Rattle.pg_inbox.specs.Changed.{AreChanged, IsAdded, lower};
+ghost use Rattle.pg_inbox.specs.Holding.{HoldAll, HoldsAt};
 
 use crate::Bundle;
 use pg_graph::{Memory, VertexId};
@@ -16,7 +16,8 @@ use std::alloc::Global;
 
 /// The targets at which two bundles differ as others see them, rising, each once. No bundle has no entry.
 ///
-/// Costs a sort of the targets of both, and one look at each message.
+/// Costs a look at each message of both, whose targets are gone through once, side by side, and for each change of a
+/// bundle two binary searches among its letters.
 pub fn changed_targets<M: Plain>(
     alloc: Global,
     old: Option<&Bundle<M>>,
@@ -45,81 +46,69 @@ fn differing<M: Plain>(
 ) -> Result<Vec<VertexId>, Memory>
     ensures { IfOk result (λ ids. AreChanged old.now new.now ids.items) }
 {
-    let ids = targets_of_both(alloc, old, new)?;
-    differing_among(alloc, ids, old, new)
+    old.holds();
+    new.holds();
+    let before = old.parcels(alloc)?;
+    let after = new.parcels(alloc)?;
+    differing_parcels(alloc, before.as_slice(), after.as_slice())
 }
 
-/// Those of these ids at which two bundles differ.
-fn differing_among<M: Plain>(
+/// The targets at which two lists of parcels differ, each by rising target, which are gone through side by side.
+fn differing_parcels<M: Plain>(
     alloc: Global,
-    ids: Vec<VertexId>,
-    old: &Bundle<M>,
-    new: &Bundle<M>,
+    old: &[(VertexId, ParcelRef<'_, M>)],
+    new: &[(VertexId, ParcelRef<'_, M>)],
 ) -> Result<Vec<VertexId>, Memory>
-    requires { AreCandidates old.now new.now ids.items }
-    ensures { IfOk result (λ changed. AreChanged old.now new.now changed.items) }
+    requires old_rise { HasRisingIds old.now }
+    requires old_hold { HoldAll M.is_value old.now }
+    requires new_rise { HasRisingIds new.now }
+    requires new_hold { HoldAll M.is_value new.now }
+    ensures { IfOk result (λ ids. AreChanged old.now new.now ids.items) }
 {
     let mut changed = Vec::new(alloc);
-    for id in ids {
-        add_if_differing(&mut changed, id, old, new)?;
+    let (mut old_place, mut new_place) = (0, 0);
+    while let Some(target) = lower(target_at(old, old_place), target_at(new, new_place)) {
+        let before = parcel_at(old, old_place, target);
+        let after = parcel_at(new, new_place, target);
+        add_if_changed(&mut changed, target, before, after)?;
+        old_place += usize::from(before.is_some());
+        new_place += usize::from(after.is_some());
     }
     Ok(changed)
 }
 
-/// Adds an id at which two bundles differ.
-fn add_if_differing<M: Plain>(
-    ids: &mut Vec<VertexId>,
-    id: VertexId,
-    old: &Bundle<M>,
-    new: &Bundle<M>,
-) -> Result<(), Memory>
-    ensures { OnOk result (IsAdded id (value_at id old.now) (value_at id new.now) ids.old.items ids.new.items) }
+/// The lower of two ids, or the one that there is.
+fn lower(id: Option<VertexId>, other: Option<VertexId>) -> Option<VertexId>
+    ensures { result ≡ lower id other }
 {
-    let before = old.parcel(id);
-    let after = new.parcel(id);
-    add_if_changed(ids, id, before.as_ref(), after.as_ref())
-}
-
-/// The targets of two bundles, rising, each once.
-fn targets_of_both<M: Plain>(
-    alloc: Global,
-    old: &Bundle<M>,
-    new: &Bundle<M>,
-) -> Result<Vec<VertexId>, Memory>
-    ensures { IfOk result (λ ids. AreCandidates old.now new.now ids.items) }
-{
-    let mut ids = Vec::new(alloc);
-    add_targets(alloc, &mut ids, old)?;
-    add_targets(alloc, &mut ids, new)?;
-    ids.sort_unstable();
-    ids.dedup();
-    Ok(ids)
-}
-
-/// Adds the targets of a bundle.
-fn add_targets<M: Plain>(
-    alloc: Global,
-    ids: &mut Vec<VertexId>,
-    bundle: &Bundle<M>,
-) -> Result<(), Memory>
-    ensures { OnOk result (ids.new.items ≡ ids.old.items ++ keys_of bundle.now) }
-{
-    let parcels = bundle.parcels(alloc)?;
-    add_listed(ids, parcels.as_slice())?;
-    Ok(())
-}
-
-/// Adds the targets of parcels.
-fn add_listed<M: Plain>(
-    ids: &mut Vec<VertexId>,
-    parcels: &[(VertexId, ParcelRef<'_, M>)],
-) -> Result<(), Memory>
-    ensures { OnOk result (ids.new.items ≡ ids.old.items ++ keys_of parcels.now) }
-{
-    for (id, _) in parcels {
-        ids.push(*id)?;
+    match (id, other) {
+        (Some(id), Some(other)) => Some(id.min(other)),
+        _ => id.or(other),
     }
-    Ok(())
+}
+
+/// The target of the parcel at a place, if there is one.
+fn target_at<M: Plain>(parcels: &[(VertexId, ParcelRef<'_, M>)], place: usize) -> Option<VertexId>
+    ensures { result ≡ option_map (λ p. p.0) (slice_get parcels.now place) }
+{
+    let (target, _) = parcels.get(place)?;
+    Some(*target)
+}
+
+/// The messages to a target, of the parcels from a place on, which are by rising target and have no lower one.
+fn parcel_at<'a, 'b, M: Plain>(
+    parcels: &'a [(VertexId, ParcelRef<'b, M>)],
+    place: usize,
+    target: VertexId,
+) -> Option<&'a ParcelRef<'b, M>>
+    requires rise { HasRisingIds parcels.now }
+    requires from { AllByRecursion (λ p. target ≤ p.0) (drop place parcels.now) }
+    ensures { option_copied result ≡ value_at target (drop place parcels.now) }
+{
+    match parcels.get(place) {
+        Some((id, parcel)) if *id == target => Some(parcel),
+        _ => None,
+    }
 }
 
 /// Adds a target at which others see something else.
