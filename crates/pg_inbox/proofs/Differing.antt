@@ -1,10 +1,9 @@
 -- The targets at which two bundles differ, found one after another, and what tells entries apart.
-use Rattle.std.proofs.Common.{◌≡◌, ℕ, ◌==◌, ◌||◌, ◌⊎◌, Bool, true, false, cond, List, [], ◌∷◌, ◌++◌, map, length, Option}
+use Rattle.std.proofs.Common.{◌≡◌, ℕ, ◌==◌, ◌||◌, ◌⊎◌, Bool, true, false, List, [], ◌∷◌, ◌++◌, map, length, Option}
 use Rattle.std.proofs.Common.{None, Some, refl, sym, ap, ◌∙◌, subst, inl, inr, append_assoc, true≢false, eqb-true}
 use Rattle.std.specs.Prelude.{◌↔◌}
 use Rattle.std.specs.List.{AllByRecursion}
 use Rattle.std.specs.List.Sorted.{IsStrictlySortedBy}
-use Rattle.std.specs.Map.{keys_of}
 use Rattle.std.specs.Option.{unwrap_or}
 use Rattle.std.specs.Ordering.{nat_cmp}
 use Rattle.std.specs.declared.cmp.Ordering.TheVariants.{Less}
@@ -14,9 +13,8 @@ use Rattle.std.proofs.lemmas.Bool.{or_cases}
 use Rattle.pg_map.specs.Entries.{value_at}
 use Rattle.pg_model.specs.Superstep.{has_id, is_empty}
 use Rattle.pg_parcel.specs.declared.parcel.Contents.{Contents}
-use Rattle.pg_inbox.specs.Bundles.{Entry, Parcels, each_entry, entries_in, entries_of}
+use Rattle.pg_inbox.specs.Bundles.{Entry, Parcels, each_entry, entries_of}
 use Rattle.pg_inbox.specs.Changed.{AreChanged, AreSameAt, DifferAt, IsAdded}
-use Rattle.pg_inbox.proofs.Bundling.{at_id}
 
 has_id-push : (ids : List ℕ) (id q : ℕ) → has_id (ids ++ id ∷ []) q ≡ (has_id ids q || (id == q))
 has_id-push [] id q = or-false (id == q)

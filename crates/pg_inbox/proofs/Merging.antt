@@ -17,7 +17,7 @@ use Rattle.std.proofs.lemmas.Map.Entries.{lookup_head, lookup_tail}
 use Rattle.std.proofs.lemmas.Option.{get_or_from_slice_get, slice_get_within}
 use Rattle.std.proofs.Math.Bool.{or-true}
 use Rattle.pg_map.specs.Entries.{HasRisingIds, value_at}
-use Rattle.pg_map.proofs.Parts.{From, above_first, from_first, from_weaker, is_less, none_from, rises_after, rises_right}
+use Rattle.pg_map.proofs.Parts.{From, above_first, from_first, from_weaker, is_less, none_from, rises_right}
 use Rattle.pg_map.proofs.Rising.{at_other, at_same}
 use Rattle.pg_model.specs.Superstep.{has_id}
 use Rattle.pg_parcel.specs.Contents.{Holds}
@@ -231,21 +231,29 @@ module _ {M : Type 0} (id : ℕ) (old new old_later new_later : Parcels M) (low 
   turn : (found found' ids : List ℕ) → IsAdded id (value_at id old) (value_at id new) found found' → AreChanged old_later new_later ids
       → (more : List ℕ) × (found ++ more ≡ found' ++ ids) × AreChanged old new more
   unfolding IsStrictlySortedBy
-  turn found found' ids (inl same) changed = (ids, ap (λ l. l ++ ids) (sym same.1), record {
-    rise = changed.rise;
-    differ = λ q among here. changed.differ q among (same_past q here);
-    others = λ q other. same_before q (λ at. same.0) (changed.others q other);
-  })
-  turn found found' ids (inr differ) changed = (id ∷ ids, sym (ap (λ l. l ++ ids) differ.1 ∙ append_assoc found (id ∷ []) ids), record {
-    rise = (all_among (λ q. nat_cmp id q ≡ Less) ids (changed_past ids changed), changed.rise);
-    differ = λ q among here. ⊎_elim
-        (λ (at : (id == q) ≡ true). differ.0 (subst (AreSameAt old new) (sym (eqb-true id q at)) here))
-        (λ (past : has_id ids q ≡ true). changed.differ q past (same_past q here))
-        (or_cases (id == q) (has_id ids q) among);
-    others = λ q other.
-        let parts = or_parts (id == q) (has_id ids q) other in
-        same_before q (λ at. absurd (true≢false (let same : (id == q) ≡ true = grind (arith, nat_tests) in sym same ∙ parts.0))) (changed.others q parts.1);
-  })
+  turn found found' ids (inl same) changed = (
+    ids,
+    ap (λ l. l ++ ids) (sym same.1),
+    record {
+      rise = changed.rise;
+      differ = λ q among here. changed.differ q among (same_past q here);
+      others = λ q other. same_before q (λ at. same.0) (changed.others q other);
+    },
+  )
+  turn found found' ids (inr differ) changed = (
+    id ∷ ids,
+    sym (ap (λ l. l ++ ids) differ.1 ∙ append_assoc found (id ∷ []) ids),
+    record {
+      rise = (all_among (λ q. nat_cmp id q ≡ Less) ids (changed_past ids changed), changed.rise);
+      differ = λ q among here. ⊎_elim
+          (λ (at : (id == q) ≡ true). differ.0 (subst (AreSameAt old new) (sym (eqb-true id q at)) here))
+          (λ (past : has_id ids q ≡ true). changed.differ q past (same_past q here))
+          (or_cases (id == q) (has_id ids q) among);
+      others = λ q other.
+          let parts = or_parts (id == q) (has_id ids q) other in
+          same_before q (λ at. absurd (true≢false (let same : (id == q) ≡ true = grind (arith, nat_tests) in sym same ∙ parts.0))) (changed.others q parts.1);
+    },
+  )
 
 module _ {M : Type 0} (is_value : M → Type 0) where
   pub held_from : (id place : ℕ) (parcels : Parcels M) {found : Option (Contents M)} → HoldAll is_value parcels

@@ -140,6 +140,33 @@ fn changed_at_one_target(rt: HostRuntime) -> Result<(), Memory> {
     Ok(())
 }
 
+// The first bundle alone has the targets 2 and 7, the second alone 4 and 9; they agree at 3, and differ at 5.
+fn changed_on_each_side(alloc: Global, combiner: AnyCombiner) -> Result<String, Memory> {
+    let old = bundle_of(
+        alloc,
+        &[(1, 2, 10), (1, 3, 11), (1, 5, 12), (1, 7, 13)],
+        combiner,
+    )?;
+    let new = bundle_of(
+        alloc,
+        &[(1, 3, 11), (1, 4, 14), (1, 5, 15), (1, 9, 16)],
+        combiner,
+    )?;
+    changed(alloc, &old, &new)
+}
+
+fn is_changed_on_each_side(alloc: Global, combiner: AnyCombiner) -> Result<bool, Memory> {
+    let text = changed_on_each_side(alloc, combiner)?;
+    Ok(text.as_str() == "2,4,5,7,9,")
+}
+
+#[test]
+fn changed_in_one_bundle_or_in_both(rt: HostRuntime) -> Result<(), Memory> {
+    assert!(rt; is_changed_on_each_side(rt.alloc(), AnyCombiner::NoCombiner)?);
+    assert!(rt; is_changed_on_each_side(rt.alloc(), AnyCombiner::Min)?);
+    Ok(())
+}
+
 // The superstep, the sender and the receiver of a slot.
 type Place = (u32, u32, u32);
 
