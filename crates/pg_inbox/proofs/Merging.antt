@@ -1,10 +1,11 @@
 -- Parcels of two bundles by rising target, gone through side by side.
 use Rattle.std.proofs.Common.{◌≡◌, ℕ, zero, suc, ◌+◌, ◌<◌, ◌≤◌, ◌==◌, ◌||◌, Bool, true, false, cond, List, [], ◌∷◌, ◌++◌, length, take, drop, slice_get, get_or}
-use Rattle.std.proofs.Common.{Option, None, Some, refl, sym, ap, ap₂, ◌∙◌, subst, eqb, eqb-true, ltb, is_lt, subst₂, inl, inr, arith, is_some, append_assoc, ⊎_elim}
+use Rattle.std.proofs.Common.{Option, None, Some, refl, sym, ap, ap₂, ◌∙◌, subst, subst₂, inl, inr, eqb, eqb-true, ltb, is_lt, is_some, append_assoc}
+use Rattle.std.proofs.Common.{⊎_elim, arith}
 use Rattle.std.specs.Int.{from_bool}
 use Rattle.std.specs.List.{All, AllByRecursion}
-use Rattle.std.specs.Map.{values_of}
 use Rattle.std.specs.List.Sorted.{IsStrictlySortedBy}
+use Rattle.std.specs.Map.{values_of}
 use Rattle.std.specs.Ordering.{nat_cmp, ord_min}
 use Rattle.std.specs.BTreeMap.{is_at}
 use Rattle.std.specs.Option.{option_map}
@@ -30,7 +31,7 @@ use Rattle.pg_inbox.proofs.SameDelivery.{holds_at}
 -- ---- one list
 
 module _ {X : Type 0} where
-  pub rises_from : (place : ℕ) (entries : List (ℕ × X)) → HasRisingIds entries → HasRisingIds (drop place entries)
+  rises_from : (place : ℕ) (entries : List (ℕ × X)) → HasRisingIds entries → HasRisingIds (drop place entries)
   rises_from place entries rise = rises_right (take place entries) (drop place entries) (subst HasRisingIds (sym (take-append-drop place entries)) rise)
 
   -- the entry at a place is the first of those from there on
@@ -40,12 +41,12 @@ module _ {X : Type 0} where
   first_from (suc place) (e ∷ es) = first_from place es
 
   -- what is left of entries, none of them below an id, without what is at it
-  pub record IsPast (id : ℕ) (entries later : List (ℕ × X)) : Type 0 where
-    pub above : From (id + 1) later
-    pub same : (q : ℕ) → id < q → value_at q later ≡ value_at q entries
+  record IsPast (id : ℕ) (entries later : List (ℕ × X)) : Type 0 where
+    above : From (id + 1) later
+    same : (q : ℕ) → id < q → value_at q later ≡ value_at q entries
 
   -- entries without the first, where something is found there
-  abbrev pub left : Option X → List (ℕ × X) → List (ℕ × X)
+  abbrev left : Option X → List (ℕ × X) → List (ℕ × X)
   left found entries = drop (from_bool (is_some found)) entries
 
   module _ (id : ℕ) where
@@ -103,12 +104,12 @@ module _ {X : Type 0} where
       by (Some y) = refl
 
   module _ (id place count : ℕ) (entries : List (ℕ × X)) (is : count ≡ from_bool (is_some (value_at id (drop place entries)))) where
-    pub past_from : HasRisingIds entries → From id (drop place entries) → IsPast id (drop place entries) (drop (place + count) entries)
+    past_from : HasRisingIds entries → From id (drop place entries) → IsPast id (drop place entries) (drop (place + count) entries)
     past_from rise from =
         subst (IsPast id (drop place entries)) (ap (λ n. drop n (drop place entries)) (sym is) ∙ drop-drop count place entries)
         (past id (drop place entries) (rises_from place entries rise) from)
 
-    pub fewer : length (drop (place + count) entries) + count ≡ length (drop place entries)
+    fewer : length (drop (place + count) entries) + count ≡ length (drop place entries)
     fewer = ap (λ l. length l + count) (sym (drop-drop count place entries)) ∙ ap (λ n. length (drop n (drop place entries)) + n) is ∙ by (drop place entries)
       where
         by : (es : List (ℕ × X)) → length (left (value_at id es) es) + from_bool (is_some (value_at id es)) ≡ length es

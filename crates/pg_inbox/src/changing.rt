@@ -53,7 +53,7 @@ fn differing<M: Plain>(
     differing_parcels(alloc, before.as_slice(), after.as_slice())
 }
 
-/// The targets at which two lists of parcels differ, each by rising target, which are gone through side by side.
+/// The targets at which two lists of parcels by rising target differ. Goes through both once, side by side.
 fn differing_parcels<M: Plain>(
     alloc: Global,
     old: &[(VertexId, ParcelRef<'_, M>)],
@@ -95,7 +95,7 @@ fn target_at<M: Plain>(parcels: &[(VertexId, ParcelRef<'_, M>)], place: usize) -
     Some(*target)
 }
 
-/// The messages to a target, of the parcels from a place on, which are by rising target and have no lower one.
+/// The messages to a target, of parcels by rising target from a place on. None of those is to a lower target.
 fn parcel_at<'a, 'b, M: Plain>(
     parcels: &'a [(VertexId, ParcelRef<'b, M>)],
     place: usize,
