@@ -10,6 +10,7 @@ mod trace;
 pub use pg_graph::Memory;
 pub use pg_model::Record;
 pub use pg_records::{Changes, RecordRef};
+pub use records::all_given;
 pub use state::{StateRef, Turn};
 pub use states::States;
 pub use trace::Trace;

@@ -104,8 +104,8 @@ fn none_for<V: Drop, M: Drop>(
     Ok(none)
 }
 
-/// The changes that give these records.
-pub(crate) fn all_given<V: Drop, M: Drop>(
+/// The changes that give these records. What they send and contribute is moved.
+pub fn all_given<V: Drop, M: Drop>(
     alloc: Global,
     records: Vec<(VertexId, Record<V, M>)>,
 ) -> Result<Changes<V, M>, Memory>
