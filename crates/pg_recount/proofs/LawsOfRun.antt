@@ -32,10 +32,10 @@ use Rattle.pg_model.proofs.LawsIds.{ids-configuration, present-drop}
 use Rattle.pg_model.proofs.LawsLists.{count-classes, count_by-map, same_count}
 use Rattle.pg_model.proofs.LawsPresent.{at_key}
 use Rattle.pg_model.proofs.LawsRising.{flat_map-rising}
-use Rattle.pg_model.proofs.LawsShares.{contributions-active, sendings-records_in}
+use Rattle.pg_model.proofs.LawsShares.{contributions-active, sendings-records_in, sends-records_in}
 use Rattle.pg_records.specs.Records.{contributions_of}
 use Rattle.pg_recount.specs.Contributed.{are_same, contributed_by}
-use Rattle.pg_recount.specs.Traffic.{dropped_of, is_any, is_nobody, traffic_of}
+use Rattle.pg_recount.specs.Traffic.{dropped_of, dropped_of_sent, is_any, is_nobody, traffic_of, traffic_of_sent, traffic_recorded}
 use Rattle.pg_recount.proofs.LawsTraffic.{at_parcels, sum_map, weight}
 use Rattle.pg_recount.proofs.Sums.{at, same_but_at, same_sums}
 use Rattle.pg_stats.specs.Stats.{gathered_afresh, gathered_in, sent_in, traffic_in}
@@ -98,6 +98,44 @@ has_row id (e ∷ es) = ap (λ (b : Bool). is_some (cond b (Some e.1) (row_at id
     by true h = refl
     by false h = h
 
+module _ {V M : Type 0} (job : Job V M) (rows : Rows) (n p : ℕ) (s : ℕ) where
+  -- where messages to nobody are dropped, nobody is who has no row
+  nobody : job.missing ≡ Drop → (m : ℕ × M) → is_nobody rows m.0 ≡ not (has_id (ids (present_at job rows s)) m.0)
+  nobody drop m =
+      ap not (has_row m.0 rows ∙ ap (λ l. has_id l m.0) (sym (ap ids (present-drop job rows drop s) ∙ ids-configuration job rows drop s)))
+
+  -- so as many messages are dropped as are sent to nobody
+  dropped_to_nobody : job.missing ≡ Drop
+      → length (astray (ids (present_at job rows s)) (sent_in job rows n p s)) ≡ count_by (λ m. is_nobody rows m.0) (sent_in job rows n p s)
+  dropped_to_nobody drop =
+      length-filter (λ (m : ℕ × M). not (has_id (ids (present_at job rows s)) m.0)) (sent_in job rows n p s)
+      ∙ sym (same_count _ _ (sent_in job rows n p s) (all (sent_in job rows n p s)))
+    where
+      all : (ms : List (ℕ × M)) → AllByRecursion (λ m. is_nobody rows m.0 ≡ not (has_id (ids (present_at job rows s)) m.0)) ms
+      all [] = tt
+      all (m ∷ ms) = (nobody drop m, all ms)
+
+  -- what is sent is what the records send
+  pub traffic_recorded_of_run : traffic_in job rows n p s ≡ traffic_recorded job.missing rows (records_in job rows n p s)
+  traffic_recorded_of_run =
+      let dropped = dropped_is job.missing refl in
+      (λ i. record { sent = length (sent_in job rows n p s); dropped = dropped i })
+      ∙ ap (traffic_of_sent job.missing rows) (sym (sends-records_in job rows n p s))
+    where
+      dropped_is : (missing : Missing) → job.missing ≡ missing
+          → dropped_count missing (astray (ids (present_at job rows s)) (sent_in job rows n p s)) ≡ dropped_of_sent missing rows (sent_in job rows n p s)
+      dropped_is Drop e = dropped_to_nobody e
+      dropped_is Create e = refl
+
+  -- what is gathered is what the records contribute
+  pub gathered_of_run : gathered_in job rows n p s ≡ gathered_afresh 0 job.aggregators (contributions_of (records_in job rows n p s))
+  gathered_of_run =
+      ap (gathered_afresh 0 job.aggregators)
+      (sym (flat_map-map (λ (r : ℕ × Record V M). r.1.contributed)
+      (λ (x : Standing V M). (x.state.id, outcome job.program (view_at job rows s) x))
+      (filter is_active (present_in_share job rows n p s))
+      ∙ contributions-active job.program (view_at job rows s) (present_in_share job rows n p s)))
+
 module _ {V M : Type 0} (job : Job V M) (rows : Rows) (n p : ℕ) (some : 0 < n) (s : ℕ) where
   -- the bundle to each partition
   abbrev pub bundle_to : ℕ → Parcels M
@@ -126,29 +164,10 @@ module _ {V M : Type 0} (job : Job V M) (rows : Rows) (n p : ℕ) (some : 0 < n)
       let dropped = dropped_is job.missing refl in
       λ i. record { sent = sent i; dropped = dropped i }
     where
-      nobody : job.missing ≡ Drop → (m : ℕ × M) → is_nobody rows m.0 ≡ not (has_id (ids (present_at job rows s)) m.0)
-      nobody drop m =
-          ap not (has_row m.0 rows ∙ ap (λ l. has_id l m.0) (sym (ap ids (present-drop job rows drop s) ∙ ids-configuration job rows drop s)))
-
       dropped_is : (missing : Missing) → job.missing ≡ missing
           → dropped_count missing (astray (ids (present_at job rows s)) (sent_in job rows n p s)) ≡ dropped_of missing rows (map bundle_to (range_with_len 0 n))
-      dropped_is Drop e =
-          length-filter (λ (m : ℕ × M). not (has_id (ids (present_at job rows s)) m.0)) (sent_in job rows n p s)
-          ∙ sym (bundles_count (is_nobody rows) ∙ same_count _ _ (sent_in job rows n p s) (all (sent_in job rows n p s)))
-        where
-          all : (ms : List (ℕ × M)) → AllByRecursion (λ m. is_nobody rows m.0 ≡ not (has_id (ids (present_at job rows s)) m.0)) ms
-          all [] = tt
-          all (m ∷ ms) = (nobody e m, all ms)
+      dropped_is Drop e = dropped_to_nobody job rows n p s e ∙ sym (bundles_count (is_nobody rows))
       dropped_is Create e = refl
-
-  -- what is gathered is what the records contribute
-  pub gathered_of_run : gathered_in job rows n p s ≡ gathered_afresh 0 job.aggregators (contributions_of (records_in job rows n p s))
-  gathered_of_run =
-      ap (gathered_afresh 0 job.aggregators)
-      (sym (flat_map-map (λ (r : ℕ × Record V M). r.1.contributed)
-      (λ (x : Standing V M). (x.state.id, outcome job.program (view_at job rows s) x))
-      (filter is_active (present_in_share job rows n p s))
-      ∙ contributions-active job.program (view_at job rows s) (present_in_share job rows n p s)))
 
 -- contributions that are told to be the same are
 pub same_contributions : (xs ys : List (ℕ × ℤ)) → are_same xs ys ≡ true → xs ≡ ys

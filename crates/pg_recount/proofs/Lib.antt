@@ -4,4 +4,5 @@ pub mod LawsCensus
 pub mod LawsOfRun
 pub mod LawsTraffic
 pub mod Passing
+pub mod Recording
 pub mod Sums

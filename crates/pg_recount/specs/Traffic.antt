@@ -1,11 +1,12 @@
--- The messages of a superstep, counted by its bundles.
+-- The messages of a superstep, counted by its bundles or by its records.
 use Rattle.std.specs.Prelude.{◌≡◌, ℕ, ◌+◌, false, not, is_some, true, cond, Bool, List, [], ◌∷◌, length, Option, None, Some}
-use Rattle.std.specs.List.{range_with_len, slice_get, sum_by}
+use Rattle.std.specs.List.{count_by, flat_map, range_with_len, slice_get, sum_by}
 use Rattle.std.specs.List.Sorted.{IsStrictlySortedBy}
 use Rattle.std.specs.Option.{option_map}
 use Rattle.std.specs.Ordering.{nat_cmp}
 use Rattle.pg_inbox.specs.Patched.{TellsChanges}
 use Rattle.pg_model.specs.Superstep.{has_id}
+use Rattle.pg_model.specs.declared.record.Record.{Record}
 use Rattle.pg_graph.specs.Rows.{Rows, row_at}
 use Rattle.pg_graph.specs.declared.missing.Missing.{Missing}
 use Rattle.pg_graph.specs.declared.missing.Missing.TheVariants.{Drop, Create}
@@ -39,6 +40,23 @@ module _ {M : Type 0} where
   pub record IsWithBundle (missing : Missing) (rows : Rows) (bundle : Parcels M) (before after : Traffic) : Type 0 where
     pub sent : after.sent ≡ before.sent + messages_where is_any bundle
     pub dropped : after.dropped ≡ before.dropped + dropped_of missing rows (bundle ∷ [])
+
+  -- how many of these messages are dropped on a graph
+  abbrev pub dropped_of_sent : Missing → Rows → List (ℕ × M) → ℕ
+  dropped_of_sent Drop rows sent = count_by (λ m. is_nobody rows m.0) sent
+  dropped_of_sent Create rows sent = 0
+
+  abbrev pub traffic_of_sent : Missing → Rows → List (ℕ × M) → Traffic
+  traffic_of_sent missing rows sent = record { sent = length sent; dropped = dropped_of_sent missing rows sent }
+
+  -- the traffic of a superstep by its records
+  abbrev pub traffic_recorded : {V : Type 0} → Missing → Rows → List (ℕ × Record V M) → Traffic
+  traffic_recorded missing rows records = traffic_of_sent missing rows (flat_map (λ r. r.1.sent) records)
+
+  -- with these messages more
+  pub record IsWithSent (missing : Missing) (rows : Rows) (sent : List (ℕ × M)) (before after : Traffic) : Type 0 where
+    pub sent_is : after.sent ≡ before.sent + length sent
+    pub dropped_is : after.dropped ≡ before.dropped + dropped_of_sent missing rows sent
 
   -- how many messages a bundle has to those of some ids that a test picks
   abbrev pub messages_among : (ℕ → Bool) → List ℕ → Parcels M → ℕ

@@ -3,9 +3,11 @@
 
 mod gathering;
 mod messages;
+mod recorded;
 mod vertices;
 
 pub use gathering::{contribute_alike, gathered};
 pub use messages::{traffic, traffic_beside};
 pub use pg_graph::Memory;
+pub use recorded::traffic_recorded;
 pub use vertices::{Turned, census, census_among, recounted, turned_among};
