@@ -18,10 +18,10 @@ use Rattle.pg_model.specs.Share.{belongs}
 use Rattle.pg_model.proofs.LawsLists.{all_weaker}
 use Rattle.pg_model.proofs.LawsPresent.{at_key}
 use Rattle.pg_model.specs.declared.record.Record.{Record}
-use Rattle.pg_routing.specs.Sending.{items_to, pairs_by, pairs_of, sends_by, sends_of}
+use Rattle.pg_routing.specs.Sending.{items_to, pairs_by, pairs_of, sends_by, sends_by_records, sends_of}
 use Rattle.pg_routing.proofs.Delivery.{either_order}
 use Rattle.pg_routing.proofs.Listing.{all_picked}
-use Rattle.pg_routing.proofs.Sends.{items-append, sends-somes, sends_by_records}
+use Rattle.pg_routing.proofs.Sends.{items-append, sends-somes}
 use Rattle.pg_index.proofs.Somes.{somes, somes_rise, value_at-somes}
 use Rattle.pg_trace.specs.Trace.{Trace, record_at}
 

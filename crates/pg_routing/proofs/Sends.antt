@@ -11,7 +11,7 @@ use Rattle.pg_model.specs.declared.record.Record.{Record}
 use Rattle.pg_inbox.specs.Sends.{as_send}
 use Rattle.pg_records.specs.Changes.{messages_by}
 use Rattle.pg_routing.specs.Routes.{as_sends}
-use Rattle.pg_routing.specs.Sending.{IsFresh, items_to, sends_by, sends_of}
+use Rattle.pg_routing.specs.Sending.{IsFresh, items_to, sends_by_records, sends_of}
 use Rattle.pg_index.proofs.Somes.{somes}
 use Rattle.pg_routing.proofs.Listing.{all_picked}
 
@@ -22,10 +22,6 @@ module _ {M : Type 0} where
   one_sends id (m ∷ sent) = ap (λ l. (id, m.0, m.1) ∷ l) (one_sends id sent)
 
 module _ {V M : Type 0} where
-  -- what records send, with the targets
-  abbrev pub sends_by_records : List (ℕ × Record V M) → List (ℕ × (ℕ × ℕ × M))
-  sends_by_records records = flat_map (λ r. sends_by r.0 (Some r.1)) records
-
   pub sends-somes : (changes : List (ℕ × Option (Record V M))) → flat_map sends_of changes ≡ sends_by_records (somes changes)
   sends-somes [] = refl
   sends-somes ((id, None) ∷ changes) = sends-somes changes

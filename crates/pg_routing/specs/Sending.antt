@@ -1,6 +1,6 @@
--- What a step sends, and what of the old run it withdraws, by the changes of records.
+-- What a step sends, and what of the old run it withdraws, by the changes of records; and what records send.
 use Rattle.std.specs.Prelude.{◌≡◌, ℕ, ◌<◌, List, [], ◌++◌, map, slice_index_or, Option, None, Some}
-use Rattle.std.specs.List.{filter}
+use Rattle.std.specs.List.{filter, flat_map}
 use Rattle.pg_inbox.specs.Bundles.{bundle_of}
 use Rattle.pg_inbox.specs.Patched.{IsPatched, TellsChanges}
 use Rattle.pg_inbox.specs.Sends.{Sends}
@@ -38,7 +38,11 @@ module _ {V M : Type 0} where
   abbrev pub sends_of : ℕ × Option (Record V M) → List (ℕ × (ℕ × ℕ × M))
   sends_of change = sends_by change.0 change.1
 
-  -- and what the trace of the old run has sent by that vertex
+  -- by records
+  abbrev pub sends_by_records : List (ℕ × Record V M) → List (ℕ × (ℕ × ℕ × M))
+  sends_by_records records = flat_map (λ r. sends_by r.0 (Some r.1)) records
+
+  -- what the trace of the old run has sent by the vertex of a change
   abbrev pub pairs_of : Trace V M → ℕ → ℕ × Option (Record V M) → List (ℕ × (ℕ × ℕ))
   pairs_of old s change = pairs_by change.0 (record_at change.0 s old)
 

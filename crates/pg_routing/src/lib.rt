@@ -11,4 +11,4 @@ pub use begin::first_changes;
 pub use partitioner::{Partitioner, Rows, Share};
 pub use pg_graph::Memory;
 pub use received::bundles_before;
-pub use sent::{Sent, fresh_bundles, mended_bundles};
+pub use sent::{Sent, fresh_bundles, mended_bundles, recorded_bundles};

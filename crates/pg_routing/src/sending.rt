@@ -2,7 +2,7 @@
 ghost use Rattle.std.specs.Prelude.{◌≡◌, [], ◌∷◌, length, map, IfOk, OnOk};
 ghost use Rattle.std.specs.List.{flat_map};
 ghost use Rattle.std.specs.Option.{option_copied};
-ghost use Rattle.pg_routing.specs.Sending.{AreParts, HaveMore, pairs_by, pairs_of, sends_by, sends_of};
+ghost use Rattle.pg_routing.specs.Sending.{AreParts, HaveMore, pairs_by, pairs_of, sends_by, sends_by_records, sends_of};
 
 use crate::Partitioner;
 use pg_graph::{Memory, Superstep, VertexId};
@@ -44,6 +44,22 @@ fn add_sends<V: Plain, M: Plain>(
         Some(given) => push_sends(alloc, partitions, parts, sender, given.sent()),
         None => Ok(()),
     }
+}
+
+/// What is sent by these records, by the partition of the target.
+pub(crate) fn recorded_sends<V: Plain, M: Plain>(
+    alloc: Global,
+    partitions: Partitioner,
+    records: &[(VertexId, RecordRef<'_, V, M>)],
+) -> Result<Vec<Sends<M>>, Memory>
+    ensures len { IfOk result (λ parts. length parts.items ≡ partitions) }
+    ensures parts { IfOk result (λ parts. AreParts partitions (sends_by_records records.now) parts.items) }
+{
+    let mut parts = no_sends_each(alloc, partitions, 0)?;
+    for (sender, given) in records {
+        push_sends(alloc, partitions, &mut parts, *sender, given.sent())?;
+    }
+    Ok(parts)
 }
 
 fn push_sends<M: Plain>(

@@ -1,12 +1,13 @@
-//! The bundles that a step sends.
+//! The bundles that a step sends, or has sent.
 ghost use Rattle.std.specs.Prelude.{◌≡◌, ℕ, ◌<◌, [], length, map, slice_get, slice_index_or, Some, IfOk, IfSome};
 ghost use Rattle.std.specs.List.{flat_map};
 ghost use Rattle.std.specs.Option.{option_copied};
 ghost use Rattle.pg_inbox.specs.Logged.{slot_at};
-ghost use Rattle.pg_routing.specs.Sending.{IsFresh, IsMended, items_to, pairs_of, sends_of};
+ghost use Rattle.pg_routing.specs.Sending.{IsFresh, IsMended, items_to, pairs_of, sends_by_records, sends_of};
+ghost use Rattle.pg_trace.specs.Trace.{records_of};
 
 use crate::Partitioner;
-use crate::sending::{sends_of, withdrawn_of};
+use crate::sending::{recorded_sends, sends_of, withdrawn_of};
 use pg_global::MessageCombiner;
 use pg_graph::{Memory, PartitionId, Superstep, VertexId};
 use pg_inbox::{Logged, Logs, Sends, SendsRef, bundle, patch};
@@ -133,6 +134,26 @@ fn fresh<M: Plain, C: MessageCombiner<M>>(
         bundle: bundle(alloc, sends, combiner)?,
         changed: None,
     })
+}
+
+/// The bundles of what a trace has sent in a superstep, to each partition. Costs a look at each record of it, a sort of what
+/// they sent, and two copies of each message.
+pub fn recorded_bundles<V: Plain, M: Plain, C: MessageCombiner<M>>(
+    alloc: Global,
+    partitions: Partitioner,
+    trace: &Trace<V, M>,
+    superstep: Superstep,
+    combiner: &C,
+) -> Result<Sent<M>, Memory>
+    ensures to_each { IfOk result (λ sent. length sent ≡ partitions) }
+    ensures sends { IfOk result (λ sent. (q : ℕ) → q < partitions
+        → IsFresh (C.combining combiner.now) (items_to partitions q (sends_by_records (records_of superstep trace.now)))
+        (slice_get sent q)) }
+{
+    let records = trace.records(alloc, superstep)?;
+    let sends = recorded_sends(alloc, partitions, records.as_slice())?;
+    let bundles = each_fresh(alloc, sends.as_slice(), combiner)?;
+    Ok(Sent::of(bundles))
 }
 
 /// The old run's bundles with what its vertices sent by their old records replaced by what these changes send. Costs a sort
