@@ -39,7 +39,7 @@ use Rattle.pg_routing.specs.Routes.{HasMessages, as_sends, bundle_in, bundle_sen
 use Rattle.pg_course.specs.Lent.{IsBesideOld, IsLentBeside, LendsLogs}
 use Rattle.pg_trace.specs.Trace.{reaching, Trace, records_of, state_at as trace_state_at, with_replaced, with_superstep}
 use Rattle.pg_course.specs.Course.{AreAllChanged, AreTheOnlyBeside, HasStepped, Holding, Holds, IsSentTo, kept_length}
-use Rattle.pg_routing.specs.Sending.{IsMended, items_to, pairs_of, sends_of}
+use Rattle.pg_routing.specs.Sending.{IsMended, items_to, pairs_of, sends_by_records, sends_of}
 use Rattle.pg_course.specs.Warm.{IsConcluded, IsReplayed}
 use Rattle.pg_compute.specs.declared.execution.Played.{Played}
 use Rattle.pg_compute.specs.declared.found.Candidate.{Candidate}
@@ -54,7 +54,7 @@ use Rattle.pg_routing.proofs.Mended.{sender_mended}
 use Rattle.pg_compute.proofs.ReadVertices.{IsRead, gives_record, reads_inputs}
 use Rattle.pg_compute.proofs.Recording.{IsCounted, IsRight, counted_are, no_other_record, records_are, records_rise}
 use Rattle.pg_compute.proofs.Sames.{at_rest_then, reads_same, runs_if_changed}
-use Rattle.pg_routing.proofs.Sends.{by_records, sends_by_records}
+use Rattle.pg_routing.proofs.Sends.{by_records}
 use Rattle.pg_course.proofs.Stepping.{stepped_holds}
 use Rattle.pg_trace.specs.OfRun.{HoldsRun}
 use Rattle.pg_trace.proofs.RunStates.{state_of_run}

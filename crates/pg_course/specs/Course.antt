@@ -1,7 +1,8 @@
 -- One partition of a run at a superstep, and what a step makes of it.
-use Rattle.std.specs.Prelude.{◌≡◌, ℕ, suc, ◌+◌, ◌<◌, ◌≤◌, ◌⊎◌, max, length, Bool, true, false, List, ◌++◌, Option, None, Some}
+use Rattle.std.specs.Prelude.{◌≡◌, ℕ, suc, ◌+◌, ◌<◌, ◌≤◌, ◌⊎◌, max, length, Bool, true, false, List, [], ◌++◌, Option, None, Some}
 use Rattle.std.specs.List.{slice_get}
 use Rattle.std.specs.List.Sorted.{IsStrictlySortedBy}
+use Rattle.std.specs.Map.{keys_of}
 use Rattle.std.specs.Ordering.{nat_cmp}
 use Rattle.pg_graph.specs.Rows.{Rows, row_at}
 use Rattle.pg_map.specs.Entries.{value_at}
@@ -14,6 +15,7 @@ use Rattle.pg_model.specs.Needed.{needed_in}
 use Rattle.pg_model.specs.Run.{run_length}
 use Rattle.pg_model.specs.Share.{belongs, records_in}
 use Rattle.pg_model.specs.Superstep.{capped, has_id}
+use Rattle.pg_model.specs.declared.record.Record.{Record}
 use Rattle.pg_compute.specs.Differing.{are_resting}
 use Rattle.pg_recount.specs.Census.{states_among}
 use Rattle.pg_recount.specs.declared.vertices.Turned.{Turned}
@@ -21,7 +23,7 @@ use Rattle.pg_routing.specs.Routes.{bundle_sent}
 use Rattle.pg_routing.specs.Starting.{PartRows}
 use Rattle.pg_stats.specs.Stats.{census_of}
 use Rattle.pg_trace.specs.OfRun.{HoldsRun}
-use Rattle.pg_trace.specs.Trace.{Trace, records_of}
+use Rattle.pg_trace.specs.Trace.{Trace, records_of, with_superstep}
 
 -- a partition at a superstep: which it is, and its trace so far; where it is warm also the trace of the old run, and the
 -- ids at which the two may have other states, those that rest in both apart from the others; and the ids that the last step
@@ -151,3 +153,24 @@ pub record IsFurther {V M : Type 0} (before after : Holding V M) : Type 0 where
   pub partitions_stay : after.partitions ≡ before.partitions
   pub missing_stays : after.missing ≡ before.missing
   pub place_is : after.place ≡ before.place + 1
+
+-- a cold course one superstep further by the records of that, which isn't made anew
+abbrev pub with_resumed : {V M : Type 0} → List (ℕ × Record V M) → Holding V M → Holding V M
+with_resumed records course = record course {
+  place = course.place + 1;
+  trace = with_superstep records course.trace;
+  kept = None;
+  restless = [];
+  resting = [];
+  changed = keys_of records;
+  beside_old = false;
+}
+
+-- the same partition after more supersteps, of which these are the records; it has nothing of an old run
+pub record IsResumed {V M : Type 0} (records : List (List (ℕ × Record V M))) (before after : Holding V M) : Type 0 where
+  pub partition_stays : after.partition ≡ before.partition
+  pub partitions_stay : after.partitions ≡ before.partitions
+  pub missing_stays : after.missing ≡ before.missing
+  pub place_is : after.place ≡ before.place + length records
+  pub trace_is : after.trace ≡ record before.trace { records = before.trace.records ++ records }
+  pub cold : after.kept ≡ None

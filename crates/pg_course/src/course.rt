@@ -16,7 +16,7 @@ ghost use Rattle.pg_course.specs.Lent.{IsBesideOld, IsLent, IsLentBeside};
 ghost use Rattle.pg_course.specs.Course.{AreTouched, HasBegun, HasStepped, HasTurned, Holds, IsFurther, IsWhole, differing, kept_length};
 ghost use Rattle.pg_program.specs.Context.{ShowsDeclared};
 ghost use Rattle.pg_routing.specs.Starting.{first_states};
-ghost use Rattle.pg_trace.specs.Trace.{StatesRise, reaching, with_replaced};
+ghost use Rattle.pg_trace.specs.Trace.{StatesRise, begun, reaching, with_replaced};
 
 use crate::cold::{concluded_alone, played};
 use crate::warm::{concluded, replayed};
@@ -185,6 +185,8 @@ impl<V: Plain, M: Plain> Course<V, M> {
     ) -> Result<Course<V, M>, Memory>
         requires rise { StatesRise states.items }
         ensures begins { IfOk result (λ course. HasBegun rows.entry missing course) }
+        ensures cold { IfOk result (λ course. course.kept ≡ None) }
+        ensures trace { IfOk result (λ course. course.trace ≡ begun states.items) }
         ensures holds { IfOk result (λ course. (job : Job V M) → HasRisingIds rows.entry.graph → job.missing ≡ missing
             → states.items ≡ first_states job.program rows.entry.graph rows.entry.partitions rows.entry.partition
             → Holds job None rows.entry.graph rows.entry.partitions rows.entry.partition 0 course) }

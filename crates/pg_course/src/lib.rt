@@ -3,6 +3,7 @@
 
 mod cold;
 mod course;
+mod resumed;
 mod warm;
 
 pub use course::{Course, Lost};

@@ -1,0 +1,66 @@
+//! A partition goes on by records that it doesn't make anew.
+ghost use Rattle.std.specs.Prelude.{◌≡◌, ◌+◌, ◌<◌, ◌^◌, length, IfOk};
+ghost use Rattle.std.specs.Map.{keys_of};
+ghost use Rattle.pg_course.specs.Course.{with_resumed};
+ghost use Rattle.pg_map.specs.Entries.{HasRisingIds};
+
+use crate::Course;
+use crate::course::with_records;
+use pg_compute::Differing;
+use pg_graph::{Memory, Superstep, VertexId};
+use pg_model::Record;
+use pg_program::Plain;
+use pg_trace::all_given;
+use std::alloc::Global;
+
+impl<V: Plain, M: Plain> Course<V, M> {
+    /// A cold course one superstep further, by the records of that: what its vertices gave as they were executed. None is
+    /// executed again. Where memory is refused the course is gone.
+    ///
+    /// Costs O(1) a record, whose messages and contributions are moved.
+    pub fn resumed(
+        self,
+        alloc: Global,
+        records: Vec<(VertexId, Record<V, M>)>,
+    ) -> Result<Course<V, M>, Memory>
+        requires rise { HasRisingIds records.items }
+        requires next { length self.trace.records ≡ self.place }
+        requires counts { self.place + 1 < 2 ^ 32 }
+        ensures { IfOk result (λ after. after ≡ with_resumed records.items self) }
+    {
+        let Course {
+            partition,
+            partitions,
+            missing,
+            place,
+            trace,
+            ..
+        } = self;
+        let changed = ids_of(alloc, records.as_slice())?;
+        let given = all_given(alloc, records)?;
+        let trace = with_records(alloc, trace, place, given)?;
+        Ok(Course {
+            partition,
+            partitions,
+            missing,
+            place: Superstep::new(place.number() + 1),
+            trace,
+            kept: None,
+            differing: Differing::of(alloc, Vec::new(alloc)),
+            changed,
+            beside_old: false,
+            turned: None,
+        })
+    }
+}
+
+/// The ids of entries.
+fn ids_of<X>(alloc: Global, entries: &[(VertexId, X)]) -> Result<Vec<VertexId>, Memory>
+    ensures { IfOk result (λ ids. ids.items ≡ keys_of entries.now) }
+{
+    let mut ids = Vec::with_capacity(alloc, entries.len())?;
+    for (id, _) in entries {
+        ids.push(*id)?;
+    }
+    Ok(ids)
+}
