@@ -23,15 +23,16 @@ use Rattle.pg_model.specs.Order.{Sending}
 use Rattle.pg_model.specs.Share.{belongs, records_in, sent_to}
 use Rattle.pg_model.specs.Superstep.{has_id}
 use Rattle.pg_model.specs.declared.record.Record.{Record}
-use Rattle.pg_part.specs.Reckoned.{IsReckoned, IsReckonedBeside}
+use Rattle.pg_part.specs.Reckoned.{IsRecensus, IsReckoned, IsReckonedBeside, IsReckonedByRecords}
 use Rattle.pg_part.proofs.Shares.{all_among, census_beside_is, census_is, found, states_in}
 use Rattle.pg_records.specs.Records.{contributions_of}
 use Rattle.pg_recount.specs.Contributed.{contributed_by, contributes_alike}
-use Rattle.pg_recount.specs.Traffic.{AreMoved, IsRetold, IsTold, traffic_of}
-use Rattle.pg_recount.proofs.LawsOfRun.{bundle_to, contribute_the_same, gathered_of_run, same_contributions, traffic_of_run}
+use Rattle.pg_recount.specs.Traffic.{AreMoved, IsRetold, IsTold, traffic_of, traffic_recorded}
+use Rattle.pg_recount.proofs.LawsOfRun.{bundle_to, contribute_the_same, gathered_of_run, same_contributions, traffic_of_run, traffic_recorded_of_run}
 use Rattle.pg_recount.proofs.LawsTraffic.{traffic_is}
 use Rattle.pg_stats.specs.GlobalStats.{aggregators_of}
 use Rattle.pg_stats.specs.Stats.{census_at, census_of, gathered_afresh, gathered_in, stats_at, traffic_in}
+use Rattle.pg_stats.specs.declared.stats.Census.{Census}
 use Rattle.pg_stats.specs.declared.stats.PartitionStats.{PartitionStats}
 use Rattle.pg_trace.specs.OfRun.{HoldsRun}
 use Rattle.pg_trace.specs.Trace.{Trace, record_at, records_of}
@@ -101,12 +102,35 @@ module _ {V M : Type 0} (job : Job V M) (rows : Rows) (n p : ℕ) where
       next s stats (c ∙ ap (λ (k : ℕ). census_of (states_in job n p rows k)) (add-one s)) t g ∙ ap (stats_at job rows n p) (sym (add-one s))
 
   -- what is gathered, by the trace
-  gathered_is : 0 < n → (registry : Registered) → job.aggregators ≡ aggregators_of registry → (s : ℕ) (trace : Trace V M) → HoldsRun job rows n p (s + 1) trace
+  gathered_is : (registry : Registered) → job.aggregators ≡ aggregators_of registry → (s : ℕ) (trace : Trace V M) → HoldsRun job rows n p (s + 1) trace
       → gathered_afresh 0 (aggregators_of registry) (contributions_of (records_of s trace)) ≡ gathered_in job rows n p s
-  gathered_is some registry same s trace holds =
+  gathered_is registry same s trace holds =
       ap₂ (λ (aggregators : List Aggregating) (rs : List (ℕ × Record V M)). gathered_afresh 0 aggregators (contributions_of rs)) (sym same)
       (records_held job rows n p trace s (s + 1) holds (omega arith))
-      ∙ sym (gathered_of_run job rows n p some s)
+      ∙ sym (gathered_of_run job rows n p s)
+
+module _ {V M : Type 0} (job : Job V M) (rows : Rows) (n p s : ℕ) (course : Holding V M) (holds : HoldsRun job rows n p (s + 1) course.trace) where
+  -- the census, by that before it
+  census_after : AreTheOnly job rows n p s course.changed → (before : PartitionStats) (after : Census) → before ≡ stats_at job rows n p s
+      → IsRecensus course.trace s course.trace (s + 1) course.changed before.census after → after ≡ census_of (states_in job n p rows (s + 1))
+  census_after only before after b h =
+      let mine : AllByRecursion (λ id. belongs n p id ≡ true) course.changed = all_among (λ id. belongs n p id ≡ true) course.changed only.mine in
+      census_is job n p rows rows holds.rise holds.rise course.trace course.trace s (s + 1) course.changed only.rise
+      (found job n p rows (s + 1) course.trace holds s (omega arith) course.changed mine)
+      (found job n p rows (s + 1) course.trace holds (s + 1) (omega arith) course.changed mine)
+      (λ id belongs others. sym (ap (λ (k : ℕ). state_at job rows k id) (add-one s) ∙ only.states id belongs others))
+      before.census after (ap (λ (x : PartitionStats). x.census) b ∙ census_of_stats job rows n p s) h
+
+  -- the stats, by those before it and by the records
+  pub recorded_is : (registry : Registered) → job.aggregators ≡ aggregators_of registry → course.missing ≡ job.missing
+      → AreTheOnly job rows n p s course.changed → (before after : PartitionStats) → before ≡ stats_at job rows n p s
+      → IsReckonedByRecords registry rows course s before after → after ≡ stats_at job rows n p (s + 1)
+  recorded_is registry same missing only before after b h =
+      stats_are job rows n p s after
+      (census_after only before after.census b h.census)
+      (h.traffic ∙ (ap₂ (λ m (rs : List (ℕ × Record V M)). traffic_recorded m rows rs) missing (records_held job rows n p course.trace s (s + 1) holds (omega arith))
+      ∙ sym (traffic_recorded_of_run job rows n p s)))
+      (h.gathered ∙ gathered_is job rows n p registry same s course.trace holds)
 
 module _ {V M : Type 0} (job : Job V M) (rows : Rows) (n p : ℕ) (some : 0 < n) (registry : Registered) (same : job.aggregators ≡ aggregators_of registry)
     (s : ℕ) (course : Holding V M) (missing : course.missing ≡ job.missing) (holds : HoldsRun job rows n p (s + 1) course.trace)
@@ -121,15 +145,10 @@ module _ {V M : Type 0} (job : Job V M) (rows : Rows) (n p : ℕ) (some : 0 < n)
   pub after_is : AreTheOnly job rows n p s course.changed → (before after : PartitionStats) → before ≡ stats_at job rows n p s
       → IsReckoned registry rows course s sent before after → after ≡ stats_at job rows n p (s + 1)
   after_is only before after b h =
-      let mine : AllByRecursion (λ id. belongs n p id ≡ true) course.changed = all_among (λ id. belongs n p id ≡ true) course.changed only.mine in
       stats_are job rows n p s after
-      (census_is job n p rows rows holds.rise holds.rise course.trace course.trace s (s + 1) course.changed only.rise
-      (found job n p rows (s + 1) course.trace holds s (omega arith) course.changed mine)
-      (found job n p rows (s + 1) course.trace holds (s + 1) (omega arith) course.changed mine)
-      (λ id belongs others. sym (ap (λ (k : ℕ). state_at job rows k id) (add-one s) ∙ only.states id belongs others))
-      before.census after.census (ap (λ (x : PartitionStats). x.census) b ∙ census_of_stats job rows n p s) h.census)
+      (census_after job rows n p s course holds only before after.census b h.census)
       (h.traffic ∙ (ap₂ (λ m (bs : List (Parcels M)). traffic_of m rows bs) missing bundles_are ∙ sym (traffic_of_run job rows n p some s holds.rise)))
-      (h.gathered ∙ gathered_is job rows n p some registry same s course.trace holds)
+      (h.gathered ∙ gathered_is job rows n p registry same s course.trace holds)
 
   module _ (old : Rows) (moved : List ℕ) (are_moved : AreMoved moved old rows) (is_old : kept ≡ Some old) (of : course.partition ≡ p)
       (trace : Trace V M) (whole : HoldsRun job old n p (run_length job old) trace)
@@ -204,9 +223,9 @@ module _ {V M : Type 0} (job : Job V M) (rows : Rows) (n p : ℕ) (some : 0 < n)
 
         by : (t : Bool) → list_all (contributes_alike trace course.trace s) course.changed ≡ t → after.gathered ≡ gathered_in job rows n p s
         by true e =
-            h.alike e ∙ (old_gathered ∙ (gathered_of_run job old n p some s
+            h.alike e ∙ (old_gathered ∙ (gathered_of_run job old n p s
             ∙ (ap (gathered_afresh 0 job.aggregators)
             (contribute_the_same (records_in job old n p s) (records_in job rows n p s) (records_rise job old n p s whole.rise)
             (records_rise job rows n p s holds.rise) (alike_at e))
-            ∙ sym (gathered_of_run job rows n p some s))))
-        by false e = h.otherwise e ∙ gathered_is job rows n p some registry same s course.trace holds
+            ∙ sym (gathered_of_run job rows n p s))))
+        by false e = h.otherwise e ∙ gathered_is job rows n p registry same s course.trace holds

@@ -10,7 +10,7 @@ use Rattle.pg_inbox.specs.declared.logs.Logged.{Logged}
 use Rattle.pg_records.specs.Records.{contributions_of}
 use Rattle.pg_recount.specs.Census.{IsRecounted, states_among}
 use Rattle.pg_recount.specs.Contributed.{contributes_alike}
-use Rattle.pg_recount.specs.Traffic.{IsRetold, traffic_of}
+use Rattle.pg_recount.specs.Traffic.{IsRetold, traffic_of, traffic_recorded}
 use Rattle.pg_stats.specs.GlobalStats.{aggregators_of}
 use Rattle.pg_stats.specs.Stats.{census_of, gathered_afresh}
 use Rattle.pg_stats.specs.declared.stats.Census.{Census}
@@ -53,6 +53,12 @@ module _ {V M : Type 0} where
     pub traffic : after.traffic ≡ traffic_of course.missing rows (map (λ l. l.bundle) bundles)
     pub gathered : after.gathered ≡ gathered_of registry course.trace s
 
+  -- the same by the records of the superstep, where it wasn't made anew
+  pub record IsReckonedByRecords (registry : Registered) (rows : Rows) (course : Holding V M) (s : ℕ) (before after : PartitionStats) : Type 0 where
+    pub census : IsRecensus course.trace s course.trace (s + 1) course.changed before.census after.census
+    pub traffic : after.traffic ≡ traffic_recorded course.missing rows (records_of s course.trace)
+    pub gathered : after.gathered ≡ gathered_of registry course.trace s
+
   -- the same beside the old run, by those that it had before and after it too
   pub record IsReckonedBeside (registry : Registered) (rows : Rows) (moved : List ℕ) (old : Trace V M) (old_logs : Slots M)
       (course : Holding V M) (s : ℕ) (bundles : List (Logged M)) (before old_before old_after after : PartitionStats) : Type 0 where
@@ -78,3 +84,13 @@ module _ {V M : Type 0} where
     pub next : PartitionStats
     pub stats_are : after.stats.items ≡ before.stats.items ++ next ∷ []
     pub is_next : IsNextStats registry before.graph before.moved.items before.stats.items before.old_stats.items old_logs course s bundles next
+
+  -- the same by the records of the superstep
+  pub record HasResumedStats (registry : Registered) (course : Holding V M) (s : ℕ) (before after : Reckoning) : Type 0 where
+    pub graph_is : after.graph ≡ before.graph
+    pub moved_are : after.moved.items ≡ before.moved.items
+    pub old_stats_are : after.old_stats.items ≡ before.old_stats.items
+    pub next : PartitionStats
+    pub stats_are : after.stats.items ≡ before.stats.items ++ next ∷ []
+    pub is_next : (earlier : PartitionStats) → slice_get before.stats.items s ≡ Some earlier
+        → IsReckonedByRecords registry before.graph course s earlier next

@@ -1,16 +1,20 @@
 //! One partition of a run with what it has come to, and its steps.
-ghost use Rattle.std.specs.Prelude.{◌≡◌, ℕ, ◌+◌, ◌<◌, ◌≤◌, ◌^◌, true, length, Option, None, Some, Ok, IfErr, IfOk, IfSome};
+ghost use Rattle.std.specs.Prelude.{◌≡◌, ℕ, ◌+◌, ◌<◌, ◌≤◌, ◌^◌, true, is_some, [], length, map, take, Option, None, Some, Ok, IfErr, IfOk, IfSome};
 ghost use Rattle.std.specs.Option.{option_copied};
-ghost use Rattle.std.specs.List.{slice_get};
-ghost use Rattle.pg_course.specs.Course.{AreTouched, HasBegun, IsFurther, differing};
+ghost use Rattle.std.specs.List.{AllByRecursion, slice_get};
+ghost use Rattle.pg_course.specs.Course.{AreTouched, HasBegun, IsFurther, IsResumed, IsSentTo, differing, with_resumed};
 ghost use Rattle.pg_course.specs.Lent.{IsLent, IsLentBeside};
 ghost use Rattle.pg_global.specs.Master.{has_places};
 ghost use Rattle.pg_graph.specs.Rows.{Rows as GraphRows};
+ghost use Rattle.pg_map.specs.Entries.{HasRisingIds};
 ghost use Rattle.pg_model.specs.Job.{Job};
 ghost use Rattle.pg_model.specs.Run.{run_length};
-ghost use Rattle.pg_part.specs.Part.{HasMadeStep, HoldsShare, IsLeft};
+ghost use Rattle.pg_model.specs.Share.{records_below, records_in};
+ghost use Rattle.pg_part.specs.Part.{HasMadeStep, HoldsShare, IsLeft, PartState};
 ghost use Rattle.pg_recount.specs.Traffic.{AreMoved};
+ghost use Rattle.pg_routing.specs.Sending.{IsFresh, items_to, sends_by_records};
 ghost use Rattle.pg_stats.specs.GlobalStats.{aggregators_of};
+ghost use Rattle.pg_trace.specs.Trace.{records_of};
 
 use crate::reckoning::{Reckoning, first_stats, first_stats_beside};
 use pg_course::{Course, Lost, Rows, Sent};
@@ -19,8 +23,9 @@ use pg_graph::{Memory, Missing, PartitionId, Superstep, VertexId};
 use pg_inbox::Logs;
 use pg_program::{Computation, Meter, Plain};
 use pg_recount::census;
+use pg_routing::recorded_bundles;
 use pg_stats::PartitionStats;
-use pg_trace::Trace;
+use pg_trace::{Record, Trace};
 use std::alloc::Global;
 use std::marker::Model;
 
@@ -118,6 +123,13 @@ impl<V: Plain, M: Plain> Part<V, M> {
         self.course.trace()
     }
 
+    /// Whether it has the trace of an old run.
+    pub fn is_warm(&self) -> bool
+        ensures { result ≡ is_some self.now.course.kept }
+    {
+        self.course.kept().is_some()
+    }
+
     /// The vertices whose states may differ from those of the old run, or past its end from those with which it ended.
     pub fn differing(&self, alloc: Global) -> Result<Vec<VertexId>, Memory>
         ensures { IfOk result (λ ids. ids.items ≡ differing self.now.course) }
@@ -155,6 +167,8 @@ impl<V: Plain, M: Plain> Part<V, M> {
         program: &P,
     ) -> Result<Part<V, M>, Memory>
         ensures begins { IfOk result (λ part. HasBegun rows.entry missing part.course) }
+        ensures cold { IfOk result (λ part. part.course.kept ≡ None) }
+        ensures unrecorded { IfOk result (λ part. part.course.trace.records ≡ []) }
         ensures holds { IfOk result (λ part. (job : Job V M)
             → job.program ≡ P.program program.now → job.missing ≡ missing
             → job.aggregators ≡ aggregators_of registry.now
@@ -256,6 +270,92 @@ impl<V: Plain, M: Plain> Part<V, M> {
         let reckoning = or_lost(reckoning)?;
         *meter = counted;
         Ok((Part { course, reckoning }, sent))
+    }
+
+    /// A part as it began, past supersteps of which these are the records: what its vertices gave as they were executed. None
+    /// is executed again, and nothing is sent or counted. What it came to as each of these supersteps began is reckoned by
+    /// the records. Where memory is refused the part is gone.
+    ///
+    /// The records are the run's where they are those that a part has recorded which held its share, beside an old run or not.
+    ///
+    /// Costs O(1) a record and three look-ups of its vertex; and a look-up of each target where messages to nobody are
+    /// dropped, and a walk over the contributions for each aggregator.
+    pub fn resume(
+        self,
+        alloc: Global,
+        records: Vec<Vec<(VertexId, Record<V, M>)>>,
+        registry: &Registry,
+    ) -> Result<Part<V, M>, Memory>
+        requires first { self.course.place ≡ 0 }
+        requires cold { self.course.kept ≡ None }
+        requires unrecorded { self.course.trace.records ≡ [] }
+        requires rise { AllByRecursion (λ l. HasRisingIds l.items) records.items }
+        requires counts { length records.items < 2 ^ 32 }
+        ensures resumed { IfOk result (λ part. IsResumed (map (λ l. l.items) records.items) self.course part.course) }
+        ensures holds { IfOk result (λ part. (job : Job V M) (rows : GraphRows) (n p : ℕ)
+            → job.aggregators ≡ aggregators_of registry.now
+            → HoldsShare job None rows n p 0 self → length records.items ≤ run_length job rows
+            → map (λ l. l.items) records.items ≡ records_below job rows n p (length records.items)
+            → HoldsShare job None rows n p (length records.items) part) }
+        ensures again { IfOk result
+            (λ part. (job : Job V M) (kept : Option GraphRows) (rows : GraphRows) (n p r : ℕ) (before : PartState V M)
+            → job.aggregators ≡ aggregators_of registry.now
+            → HoldsShare job None rows n p 0 self → r ≤ run_length job rows
+            → HoldsShare job kept rows n p r before → map (λ l. l.items) records.items ≡ take r before.course.trace.records
+            → HoldsShare job None rows n p r part) }
+    {
+        let mut part = self;
+        for superstep in records {
+            part = part.resumed(alloc, superstep, registry)?;
+        }
+        Ok(part)
+    }
+
+    /// One superstep further by the records of that.
+    fn resumed(
+        self,
+        alloc: Global,
+        records: Vec<(VertexId, Record<V, M>)>,
+        registry: &Registry,
+    ) -> Result<Part<V, M>, Memory>
+        requires rise { HasRisingIds records.items }
+        requires next { length self.course.trace.records ≡ self.course.place }
+        requires counts { self.course.place + 1 < 2 ^ 32 }
+        ensures course { IfOk result (λ part. part.course ≡ with_resumed records.items self.course) }
+        ensures holds { IfOk result (λ part. (job : Job V M) (rows : GraphRows) (n p s : ℕ)
+            → job.aggregators ≡ aggregators_of registry.now
+            → HoldsShare job None rows n p s self → s < run_length job rows
+            → records.items ≡ records_in job rows n p s → HoldsShare job None rows n p (s + 1) part) }
+    {
+        let Part { course, reckoning } = self;
+        let superstep = course.place();
+        let course = course.resumed(alloc, records)?;
+        let reckoning = reckoning.resumed(alloc, registry, &course, superstep)?;
+        Ok(Part { course, reckoning })
+    }
+
+    /// The bundles of what it sent in a superstep that it has made, to each partition. They tell nothing of those of an old
+    /// run. Costs a look at each of its records of the superstep, a sort of what they sent, and two copies of each message.
+    pub fn sent_in<C: MessageCombiner<M>>(
+        &self,
+        alloc: Global,
+        superstep: Superstep,
+        combiner: &C,
+    ) -> Result<Sent<M>, Memory>
+        requires { superstep < self.now.course.place }
+        ensures to_each { IfOk result (λ sent. length sent ≡ self.now.course.partitions) }
+        ensures sends { IfOk result (λ sent. (q : ℕ) → q < self.now.course.partitions
+            → IsFresh (C.combining combiner.now)
+            (items_to self.now.course.partitions q (sends_by_records (records_of superstep self.now.course.trace)))
+            (slice_get sent q)) }
+        ensures right { IfOk result (λ sent. (job : Job V M) (kept : Option GraphRows) (rows : GraphRows) (n p r q : ℕ)
+            → job.combining ≡ C.combining combiner.now
+            → HoldsShare job kept rows n p r self.now → superstep < r → q < n
+            → IsSentTo job None rows n p q superstep (slice_get sent q)) }
+    {
+        let partitions = self.course.partitions();
+        let trace = self.course.trace();
+        recorded_bundles(alloc, partitions, trace, superstep, combiner)
     }
 
     /// What it leaves of a run of so many supersteps, at the end of which it stands, and what it has no more use for. Costs

@@ -2,8 +2,8 @@
 ghost use Rattle.std.specs.Prelude.{◌≡◌, ◌+◌, ◌<◌, ◌≤◌, ◌^◌, ◌∷◌, [], true, false, length, IfOk, IsSome, Some};
 ghost use Rattle.std.specs.List.{list_all, slice_get};
 ghost use Rattle.std.specs.Option.{option_copied};
-ghost use Rattle.pg_part.specs.Reckoned.{HasBegunBeside, HasNextStats, IsCountedBeside, IsNextStats, IsReckoned};
-ghost use Rattle.pg_part.specs.Reckoned.{IsReckonedBeside, IsRecensus, begun_with, gathered_of};
+ghost use Rattle.pg_part.specs.Reckoned.{HasBegunBeside, HasNextStats, HasResumedStats, IsCountedBeside, IsNextStats, IsReckoned};
+ghost use Rattle.pg_part.specs.Reckoned.{IsReckonedBeside, IsReckonedByRecords, IsRecensus, begun_with, gathered_of};
 ghost use Rattle.pg_recount.specs.Contributed.{contributes_alike};
 ghost use Rattle.pg_trace.specs.Trace.{Trace as TraceOf};
 
@@ -14,7 +14,8 @@ use pg_inbox::{Logged, Logs};
 use pg_model::Sequence;
 use pg_program::Plain;
 use pg_recount::{
-    census_among, contribute_alike, gathered, recounted, traffic, traffic_beside, turned_among,
+    census_among, contribute_alike, gathered, recounted, traffic, traffic_beside, traffic_recorded,
+    turned_among,
 };
 use pg_stats::{Census, PartitionStats, Traffic};
 use pg_trace::Trace;
@@ -87,6 +88,24 @@ impl Reckoning {
         let mut reckoning = self;
         reckoning.stats.push(next)?;
         Ok(reckoning)
+    }
+
+    /// After a superstep by whose records the partition has gone on: with the stats after it.
+    pub(crate) fn resumed<V: Plain, M: Plain>(
+        self,
+        alloc: Global,
+        registry: &Registry,
+        course: &Course<V, M>,
+        superstep: Superstep,
+    ) -> Result<Reckoning, Memory>
+        requires { superstep < length self.stats.items }
+        ensures { IfOk result (λ after. HasResumedStats registry.now course.now superstep self after) }
+    {
+        let before = &self.stats[superstep.number() as usize];
+        let next = stats_recorded(alloc, registry, &self.graph, course, superstep, before)?;
+        let mut resumed = self;
+        resumed.stats.push(next)?;
+        Ok(resumed)
     }
 
     /// What the partition has come to as each superstep so far began.
@@ -322,6 +341,27 @@ fn copied(alloc: Global, values: &Sequence<i64>) -> Result<Sequence<i64>, Memory
     ensures { IfOk result (λ copy. copy ≡ values.now) }
 {
     Ok(Sequence::from_vec(Vec::from_slice(alloc, values.as_slice())?))
+}
+
+/// The stats after a superstep, by its records and by the stats before it. Costs a walk over the records and look-ups of their
+/// vertices; and a look-up of each target where messages to nobody are dropped.
+fn stats_recorded<V: Plain, M: Plain>(
+    alloc: Global,
+    registry: &Registry,
+    graph: &Graph,
+    course: &Course<V, M>,
+    superstep: Superstep,
+    before: &PartitionStats,
+) -> Result<PartitionStats, Memory>
+    ensures { IfOk result (λ after. IsReckonedByRecords registry.now graph.now course.now superstep before.now after) }
+{
+    let trace = course.trace();
+    let records = trace.records(alloc, superstep)?;
+    Ok(PartitionStats {
+        census: census_next(before.census, course, superstep)?,
+        traffic: traffic_recorded(records.as_slice(), graph, course.missing())?,
+        gathered: gathered_in(alloc, registry, trace, superstep)?,
+    })
 }
 
 /// The stats after a superstep that a partition has made: by those before it, and by those of the old run too where it

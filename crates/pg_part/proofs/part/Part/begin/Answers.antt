@@ -29,28 +29,28 @@ pub returns-in_err-states : goal.returns-in_err-states
 returns-in_err-states g c =
     let none = c.from_residual.ensures.0 in
     let at = c.from_residual.result in
-    record { begins = IfOk-from_err at _ none; holds = IfOk-from_err at _ none }
+    record { begins = IfOk-from_err at _ none; cold = IfOk-from_err at _ none; unrecorded = IfOk-from_err at _ none; holds = IfOk-from_err at _ none }
 
 pub returns-in_err-census : goal.returns-in_err-census
 returns-in_err-census g c =
     let none = c.from_residual-in_err-census.ensures.0 in
     let at = c.from_residual-in_err-census.result in
-    record { begins = IfOk-from_err at _ none; holds = IfOk-from_err at _ none }
+    record { begins = IfOk-from_err at _ none; cold = IfOk-from_err at _ none; unrecorded = IfOk-from_err at _ none; holds = IfOk-from_err at _ none }
 
 pub returns-in_err-first : goal.returns-in_err-first
 returns-in_err-first g c =
     let none = c.from_residual-in_err-first.ensures.0 in
     let at = c.from_residual-in_err-first.result in
-    record { begins = IfOk-from_err at _ none; holds = IfOk-from_err at _ none }
+    record { begins = IfOk-from_err at _ none; cold = IfOk-from_err at _ none; unrecorded = IfOk-from_err at _ none; holds = IfOk-from_err at _ none }
 
 pub returns-in_err-course : goal.returns-in_err-course
 returns-in_err-course g c =
     let none = c.from_residual-in_err-course.ensures.0 in
     let at = c.from_residual-in_err-course.result in
-    record { begins = IfOk-from_err at _ none; holds = IfOk-from_err at _ none }
+    record { begins = IfOk-from_err at _ none; cold = IfOk-from_err at _ none; unrecorded = IfOk-from_err at _ none; holds = IfOk-from_err at _ none }
 
 pub returns-in_err-reckoning : goal.returns-in_err-reckoning
 returns-in_err-reckoning g c =
     let none = c.from_residual-in_err-reckoning.ensures.0 in
     let at = c.from_residual-in_err-reckoning.result in
-    record { begins = IfOk-from_err at _ none; holds = IfOk-from_err at _ none }
+    record { begins = IfOk-from_err at _ none; cold = IfOk-from_err at _ none; unrecorded = IfOk-from_err at _ none; holds = IfOk-from_err at _ none }
