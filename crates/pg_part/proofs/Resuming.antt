@@ -84,7 +84,19 @@ module _ {V M : Type 0} (job : Job V M) (rows : Rows) (n p : ℕ) where
       subst (λ k. HoldsShare job None rows n p k part) as_many
       (holds (omega (arith, as_many, within)) (are ∙ held.course.run.records ∙ ap (records_below job rows n p) (sym as_many)))
 
-  -- the bundles of what it has recorded in a superstep are what the run sends
+  -- a fresh bundle of what it has recorded in a superstep is what the run sends
+  pub fresh_is_sent : (kept : Option Rows) (r q s : ℕ) (part : PartState V M) (slot : Option (Logged M)) → HoldsShare job kept rows n p r part → s < r
+      → IsFresh job.combining (items_to n q (sends_by_records (records_of s part.course.trace))) slot → IsSentTo job None rows n p q s slot
+  fresh_is_sent kept r q s part None held below fresh = fresh
+  fresh_is_sent kept r q s part (Some logged) held below fresh = (
+    fresh.0
+        ∙ (ap (λ (records : List (ℕ × Record V M)). bundle_of job.combining (items_to n q (sends_by_records records)))
+        (records_held job rows n p part.course.trace s r held.course.run below)
+        ∙ ap (bundle_of job.combining) (by_records n q (records_in job rows n p s))),
+    fresh.1,
+  )
+
+  -- so are all of them
   pub sent_again : (kept : Option Rows) (r q s : ℕ) (part : PartState V M) {m : ℕ} {trace : Trace V M} {combining : Option (Combining M)}
       → job.combining ≡ combining → m ≡ part.course.partitions → trace ≡ part.course.trace → HoldsShare job kept rows n p r part → s < r → q < n
       → (sent : List (Logged M))
@@ -92,16 +104,10 @@ module _ {V M : Type 0} (job : Job V M) (rows : Rows) (n p : ℕ) where
       → IsSentTo job None rows n p q s (slice_get sent q)
   sent_again kept r q s part {m} {trace} {combining} same of_all at held below within sent fresh =
       let all : m ≡ n = of_all ∙ held.course.partitions_are in
-      let records_are : records_of s trace ≡ records_in job rows n p s = ap (records_of s) at ∙ records_held job rows n p part.course.trace s r held.course.run below in
-      is_sent (slice_get sent q)
-      (subst (λ (k : Option (Combining M)). IsFresh k (items_to n q (sends_by_records (records_in job rows n p s))) (slice_get sent q)) (sym same)
-      (subst₂ (λ (k : ℕ) (records : List (ℕ × Record V M)). IsFresh combining (items_to k q (sends_by_records records)) (slice_get sent q)) all records_are
+      fresh_is_sent kept r q s part (slice_get sent q) held below
+      (subst (λ (k : Option (Combining M)). IsFresh k (items_to n q (sends_by_records (records_of s part.course.trace))) (slice_get sent q)) (sym same)
+      (subst₂ (λ (k : ℕ) (t : Trace V M). IsFresh combining (items_to k q (sends_by_records (records_of s t))) (slice_get sent q)) all at
       (fresh q (subst (λ k. q < k) (sym all) within))))
-    where
-      is_sent : (slot : Option (Logged M)) → IsFresh job.combining (items_to n q (sends_by_records (records_in job rows n p s))) slot
-          → IsSentTo job None rows n p q s slot
-      is_sent None f = f
-      is_sent (Some logged) f = (f.0 ∙ ap (bundle_of job.combining) (by_records n q (records_in job rows n p s)), f.1)
 
 module _ {V M : Type 0} where
   -- a course that began, and went on by records, has these and no others
