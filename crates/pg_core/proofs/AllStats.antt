@@ -7,7 +7,7 @@ use Rattle.std.proofs.lemmas.Bool.{and_parts, true≢false}
 use Rattle.std.proofs.lemmas.List.{length-map}
 use Rattle.std.proofs.lemmas.List.Sums.{AllPass-from_list_all}
 use Rattle.pg_machine.specs.Machine.{State, is_allowed, is_at, place_at}
-use Rattle.pg_core.specs.Progress.{HoldsAt, IsRight, Progress, part_at}
+use Rattle.pg_core.specs.Progress.{HoldsAt, IsRight, Progress, kept_for, part_at}
 use Rattle.pg_core.specs.Together.{stats_here}
 use Rattle.pg_machine.specs.declared.event.Closed.TheVariants.{Next}
 use Rattle.pg_machine.specs.declared.event.Event.TheVariants.{Close}
@@ -83,6 +83,6 @@ module _ {P C A V M : Type 0} (job : Job V M) (kept : Option Rows) (core : Progr
           by : (part : Option (PartState V M)) → part_at p core ≡ part → IsSome part
               → stats_here part ≡ stats_at job core.graph core.limits.partitions p (core.state.current + 1) ∷ []
           by None at some = absurd (true≢false (sym some))
-          by (Some part) at some = stats_here_are job kept core.graph core.limits.partitions p (core.state.current + 1) part
-              (subst (λ place. HoldsAt job kept core.graph core.limits.partitions p place part)
+          by (Some part) at some = stats_here_are job (kept_for kept core p) core.graph core.limits.partitions p (core.state.current + 1) part
+              (subst (λ place. HoldsAt job core.graph (kept_for kept core p) core.limits.partitions p place part)
               (place_at_close core.state core.limits.partitions many allowed p within) (right.parts p part at))

@@ -1,6 +1,6 @@
 -- What closing a superstep leaves of a run over partitions.
 use Rattle.std.proofs.Common.{◌≡◌, ℕ, ℤ, FitsSigned, w64, ◌+◌, ◌<◌, Bool, true, false, cond, List, [], ◌∷◌}
-use Rattle.std.proofs.Common.{◌++◌, length, map, All, Option, None, Some, ap, sym, ◌∙◌, subst, arith}
+use Rattle.std.proofs.Common.{◌++◌, length, map, All, Option, None, Some, refl, ap, sym, ◌∙◌, subst, arith}
 use Rattle.std.specs.Prelude.{◌==◌}
 use Rattle.std.specs.List.{range_with_len}
 use Rattle.std.proofs.lemmas.Bool.{and_parts, not-true, true≢false}
@@ -9,12 +9,13 @@ use Rattle.std.proofs.lemmas.List.Elements.{All-push}
 use Rattle.std.proofs.lemmas.List.FromFn.{map-range_with_len_more}
 use Rattle.pg_core.specs.Closing.{with_end, with_next}
 use Rattle.pg_machine.specs.Limits.{Limits}
-use Rattle.pg_machine.specs.Machine.{State, after, first_state, is_allowed}
-use Rattle.pg_core.specs.Progress.{IsLawful, IsRight, Progress, tally_at}
+use Rattle.pg_machine.specs.Machine.{Reaches, State, after, first_state, is_allowed}
+use Rattle.pg_core.specs.Progress.{IsLawful, IsRight, Progress, kept_for, tally_at}
 use Rattle.pg_machine.specs.declared.event.Closed.TheVariants.{Next, Ended}
 use Rattle.pg_machine.specs.declared.event.Event.{Event}
 use Rattle.pg_machine.specs.declared.event.Event.TheVariants.{Close}
 use Rattle.pg_core.specs.declared.tally.Tally.{Tally}
+use Rattle.pg_core.proofs.Keeping.{IsRightWith-same, kept_more}
 use Rattle.pg_machine.proofs.LawsMachine.{Reaches-push}
 use Rattle.pg_global.specs.Registry.{Registered}
 use Rattle.pg_graph.specs.Rows.{Rows}
@@ -40,6 +41,7 @@ module _ {V M : Type 0} {limits : Limits} {declared : Declared} {registered regi
   pub IsLawful-shown : (visible : Visible) → length visible.values ≡ length registered
       → IsLawful limits declared registered registry state history parts (shown ++ visible ∷ []) tally
   IsLawful-shown visible places = record {
+    limits_are = lawful.limits_are;
     registry_is = lawful.registry_is;
     few = lawful.few;
     declared_are = lawful.declared_are;
@@ -56,6 +58,7 @@ module _ {V M : Type 0} {limits : Limits} {declared : Declared} {registered regi
   module _ (allowed : is_allowed state (Close Next) ≡ true) (counted : Tally) (places : length counted.gathered ≡ length registered) where
     pub IsLawful-end : IsLawful limits declared registered registry (after state (Close Ended)) (history ++ Close Ended ∷ []) parts shown counted
     IsLawful-end = record {
+      limits_are = lawful.limits_are;
       registry_is = lawful.registry_is;
       few = lawful.few;
       declared_are = lawful.declared_are;
@@ -76,6 +79,7 @@ module _ {V M : Type 0} {limits : Limits} {declared : Declared} {registered regi
     pub IsLawful-next : state.current + 1 < limits.limit → state.current + 1 < length shown
         → IsLawful limits declared registered registry (after state (Close Next)) (history ++ Close Next ∷ []) parts shown counted
     IsLawful-next less more = record {
+      limits_are = lawful.limits_are;
       registry_is = lawful.registry_is;
       few = lawful.few;
       declared_are = lawful.declared_are;
@@ -99,20 +103,22 @@ module _ {V M : Type 0} {limits : Limits} {declared : Declared} {registered regi
 pub not_ended : (state : State) (event : Event) → is_allowed state event ≡ true → state.ended ≡ false
 not_ended state event allowed = not-true _ (and_parts _ _ allowed).0
 
-module _ {P C A V M : Type 0} (job : Job V M) (kept : Option Rows) (core : Progress P C A V M) (right : IsRight job kept core) where
+module _ {P C A V M : Type 0} (job : Job V M) (kept : Option Rows) (core : Progress P C A V M) (right : IsRight job kept core)
+    (events : Reaches (first_state core.limits.partitions core.limits.workers) core.history core.state) where
   pub IsRight-end : (ending : Ending) (tally : Tally) → core.state.current + 1 ≡ run_length job core.graph
       → ending_after job core.graph core.state.current ≡ Some ending → tally ≡ tally_at job core.graph (core.state.current + 1)
       → IsRight job kept (with_end ending tally core)
-  IsRight-end ending tally last ends counts = record {
-    within = right.within;
-    parts = right.parts;
-    logs = right.logs;
-    shown = right.shown;
-    tally = counts;
-    ending = sym ends;
-    at_end = λ ended. last;
-    beside = right.beside;
-  }
+  IsRight-end ending tally last ends counts =
+      IsRightWith-same job kept (kept_for kept core) _ (with_end ending tally core) (λ p. kept_more kept core (Close Ended) p events refl) (record {
+        within = right.within;
+        parts = right.parts;
+        logs = right.logs;
+        shown = right.shown;
+        tally = counts;
+        ending = sym ends;
+        at_end = λ ended. last;
+        beside = right.beside;
+      })
 
   pub IsRight-next : (visible : Visible) (tally : Tally) → core.state.ended ≡ false → core.state.current + 1 < run_length job core.graph
       → visible ≡ visible_at job core.graph (core.state.current + 1) → tally ≡ tally_at job core.graph (core.state.current + 1)
@@ -120,7 +126,7 @@ module _ {P C A V M : Type 0} (job : Job V M) (kept : Option Rows) (core : Progr
   IsRight-next visible tally on within shows counts =
       let s : ℕ = core.state.current + 1 in
       let none : 0 + s ≡ s = omega arith in
-      record {
+      IsRightWith-same job kept (kept_for kept core) _ (with_next visible tally core) (λ p. kept_more kept core (Close Next) p events refl) (record {
         within = within;
         parts = right.parts;
         logs = record { sent = right.logs.sent; no_more = right.logs.no_more };
@@ -134,7 +140,7 @@ module _ {P C A V M : Type 0} (job : Job V M) (kept : Option Rows) (core : Progr
             ∙ (ap (λ b. cond b (ending_after job core.graph core.state.current) None) on ∙ sym (ap (λ b. cond b (ending_after job core.graph s) None) on));
         at_end = λ ended. absurd (true≢false (sym ended ∙ on));
         beside = right.beside;
-      }
+      })
 
 -- ---- what stats say
 

@@ -1,14 +1,15 @@
 -- What a run over partitions gives once it has ended.
-use Rattle.std.proofs.Common.{◌≡◌, ℕ, ◌+◌, ◌-◌, ◌<◌, ◌≤◌, true, cond, List, [], ◌∷◌, ◌++◌, length, get_or, Option, None}
+use Rattle.std.proofs.Common.{◌≡◌, ℕ, ◌+◌, ◌-◌, ◌<◌, ◌≤◌, Bool, true, false, cond, List, [], ◌∷◌, ◌++◌, length, get_or, Option, None}
 use Rattle.std.proofs.Common.{Some, option_map, is_some, refl, ap, sym, ◌∙◌, subst, arith, inl, inr, eq-or-lt_of_le}
-use Rattle.std.specs.List.{slice_get}
+use Rattle.std.specs.List.{list_all, slice_get}
 use Rattle.std.specs.Option.{IsSome, unwrap_or}
 use Rattle.std.proofs.lemmas.Bool.{lt-ltb, true≢false}
 use Rattle.std.proofs.lemmas.List.FromFn.{length-map-range_with_len}
+use Rattle.std.proofs.lemmas.List.Sums.{AllPass-from_list_all}
 use Rattle.pg_machine.specs.Machine.{place_at}
-use Rattle.pg_core.specs.Progress.{HoldsAt, IsRight, Progress, is_past, part_at, tally_at}
+use Rattle.pg_core.specs.Progress.{HoldsAt, IsRight, Progress, has_lost, is_past, kept_for, part_at, tally_at}
 use Rattle.pg_core.specs.Traces.{Common, HasLeft, HaveLeft, IsLeftBy, KeepsCommon, ended_by, shown_below}
-use Rattle.pg_values.specs.Values.{HasEnded, HaveEnded, KeepsEnd}
+use Rattle.pg_values.specs.Values.{HasEnded, HaveEnded, KeepsEnd, is_warm}
 use Rattle.pg_core.specs.declared.tally.Tally.{Tally}
 use Rattle.pg_graph.specs.Rows.{Rows}
 use Rattle.pg_inbox.specs.Logged.{Slots, slot_at}
@@ -63,26 +64,36 @@ module _ {V M : Type 0} (s : ℕ) (parts : List (Option (PartState V M))) where
       → get_or parts k None ≡ Some part → HaveLeft s parts k before → after ≡ before ++ left ∷ []
       → ((job : Job V M) (kept : Option Rows) (rows : Rows) (n p : ℕ) → s ≡ run_length job rows → HoldsShare job kept rows n p s part
       → IsLeft job rows n p left) → HaveLeft s parts (k + 1) after
-  left_more before after left part k many at so_far pushed leaves job kept rows n ends held p within =
+  left_more before after left part k many at so_far pushed leaves job keeps rows n ends held p within =
       subst (λ (l : List (LeftOf V M)). HasLeft job rows n p (slice_get l p)) (sym pushed)
       (elim (eq-or-lt_of_le (let le : p ≤ k = omega (arith, within) in le)) [
         | inl same ↦ subst (λ (q : ℕ). HasLeft job rows n q (slice_get (before ++ left ∷ []) q)) (sym same)
             (subst (HasLeft job rows n k) (sym (ap (slice_get (before ++ left ∷ [])) (sym many) ∙ slice_get_pushed before left))
-            (leaves job kept rows n k ends
-            (subst (λ (r : ℕ). HoldsShare job kept rows n k r part) (sym ends) (subst (HasEnded job kept rows n k) at (held k (omega arith))))))
+            (leaves job (keeps k) rows n k ends
+            (subst (λ (r : ℕ). HoldsShare job (keeps k) rows n k r part) (sym ends) (subst (HasEnded job (keeps k) rows n k) at (held k (omega arith))))))
         | inr less ↦ subst (HasLeft job rows n p) (sym (slice_get_before before left p (omega (arith, less, many))))
-            (so_far job kept rows n ends (λ q inside. held q (omega (arith, inside))) p less)
+            (so_far job keeps rows n ends (λ q inside. held q (omega (arith, inside))) p less)
       ])
 
--- how the kept run ended, of what is kept of it
-pub keeps_end : {V M : Type 0} (job : Job V M) (old : Option Rows) (n : ℕ) (common : Option (Common V M)) → KeepsCommon job old n common
-    → KeepsEnd job old (option_map ended_by common)
-keeps_end job None n common none = ap (option_map ended_by) none
-keeps_end job (Some rows) n None keeps = absurd keeps
-keeps_end job (Some rows) n (Some common) keeps = record {
-  values_are = keeps.values;
-  supersteps_are = ap length keeps.shown ∙ length-map-range_with_len (visible_at job rows) 0 (run_length job rows);
+-- how the kept run ended, of what is kept of it, where that run is kept for each partition
+keeps_end : {V M : Type 0} (job : Job V M) (old : Option Rows) (keeps : ℕ → Option Rows) (n : ℕ) (common : Option (Common V M))
+    → KeepsCommon job old n common → ((p : ℕ) → p < n → keeps p ≡ old) → KeepsEnd job keeps n (option_map ended_by common)
+keeps_end job old keeps n None common all = tt
+keeps_end job None keeps n (Some common) none all = absurd (let k : Some common ≡ None = none in cc)
+keeps_end job (Some rows) keeps n (Some common) is all = record {
+  old = rows;
+  for_all = all;
+  answered = record {
+    values_are = is.values;
+    supersteps_are = ap length is.shown ∙ length-map-range_with_len (visible_at job rows) 0 (run_length job rows);
+  };
 }
+
+-- a part that is beside a run holds no share beside none
+warm_beside : {V M : Type 0} (job : Job V M) (old : Option Rows) (rows : Rows) (n p r : ℕ) (lost : Bool) (part : PartState V M)
+    → HoldsShare job (cond lost None old) rows n p r part → is_some part.course.kept ≡ true → cond lost None old ≡ old
+warm_beside job old rows n p r true part holds warm = absurd (true≢false (sym warm ∙ ap is_some holds.course.beside))
+warm_beside job old rows n p r false part holds warm = refl
 
 -- ---- a core that has ended
 
@@ -103,14 +114,15 @@ module _ {P C A V M : Type 0} (job : Job V M) (kept : Option Rows) (core : Progr
 
   abbrev HoldsLast : ℕ → Option (PartState V M) → Type 0
   HoldsLast p None = ⊥
-  HoldsLast p (Some part) = HoldsShare job kept core.graph core.limits.partitions p end part
+  HoldsLast p (Some part) = HoldsShare job (kept_for kept core p) core.graph core.limits.partitions p end part
 
   held : (p : ℕ) → p < core.limits.partitions → HoldsLast p (part_at p core)
   held p within = by (part_at p core) refl (here p within)
     where
       by : (part : Option (PartState V M)) → part_at p core ≡ part → is_some part ≡ true → HoldsLast p part
       by None at is = absurd (true≢false (sym is))
-      by (Some part) at is = subst (λ place. HoldsAt job kept core.graph core.limits.partitions p place part) (places p within) (right.parts p part at)
+      by (Some part) at is =
+          subst (λ place. HoldsAt job core.graph (kept_for kept core p) core.limits.partitions p place part) (places p within) (right.parts p part at)
 
   pub tally_last : core.tally ≡ tally_at job core.graph end
   tally_last = right.tally ∙ ap (λ b. tally_at job core.graph (cond b end core.state.current)) ended
@@ -119,15 +131,36 @@ module _ {P C A V M : Type 0} (job : Job V M) (kept : Option Rows) (core : Progr
   ending_last = right.ending ∙ ap (λ b. cond b (ending_after job core.graph core.state.current) None) ended
 
   -- all parts have come to the end
-  have_ended : (p : ℕ) → p < core.limits.partitions → HasEnded job kept core.graph core.limits.partitions p (part_at p core)
+  have_ended : (p : ℕ) → p < core.limits.partitions → HasEnded job (kept_for kept core p) core.graph core.limits.partitions p (part_at p core)
   have_ended p within = by (part_at p core) (held p within)
     where
-      by : (part : Option (PartState V M)) → HoldsLast p part → HasEnded job kept core.graph core.limits.partitions p part
+      by : (part : Option (PartState V M)) → HoldsLast p part → HasEnded job (kept_for kept core p) core.graph core.limits.partitions p part
       by None h = absurd h
-      by (Some part) h = subst (λ (r : ℕ). HoldsShare job kept core.graph core.limits.partitions p r part) last h
+      by (Some part) h = subst (λ (r : ℕ). HoldsShare job (kept_for kept core p) core.graph core.limits.partitions p r part) last h
 
-  pub have_all_ended : 0 < core.limits.partitions → HaveEnded job kept core.graph core.limits.partitions end core.parts
+  pub have_all_ended : 0 < core.limits.partitions → HaveEnded job (kept_for kept core) core.graph core.limits.partitions end core.parts
   have_all_ended some = record { parts_are = have_ended; some = some; last = last }
+
+  -- where all of them are beside the kept run, how that ended may be lent
+  end_kept : list_all is_warm core.parts ≡ true → KeepsEnd job (kept_for kept core) core.limits.partitions (option_map ended_by core.kept)
+  end_kept warm = keeps_end job kept (kept_for kept core) core.limits.partitions core.kept right.beside all
+    where
+      all : (p : ℕ) → p < core.limits.partitions → kept_for kept core p ≡ kept
+      all p within = by (part_at p core) (held p within)
+          (AllPass-from_list_all is_warm core.parts warm p None (omega (arith, within, each)))
+        where
+          by : (part : Option (PartState V M)) → HoldsLast p part → is_warm part ≡ true → kept_for kept core p ≡ kept
+          by None h is = absurd h
+          by (Some part) h is = warm_beside job kept core.graph core.limits.partitions p end (has_lost core p) part h is
+
+  -- else nothing is lent
+  pub end_lent : KeepsEnd job (kept_for kept core) core.limits.partitions (cond (list_all is_warm core.parts) (option_map ended_by core.kept) None)
+  end_lent = by (list_all is_warm core.parts) refl
+    where
+      by : (b : Bool) → list_all is_warm core.parts ≡ b
+          → KeepsEnd job (kept_for kept core) core.limits.partitions (cond b (option_map ended_by core.kept) None)
+      by true warm = end_kept warm
+      by false warm = tt
 
   -- so what they left is what the run leaves
   pub left_as : (lefts : List (LeftOf V M)) (graph : Rows) (logs : Slots M) (shown : List Visible) (values : List (ℕ × V))
@@ -137,11 +170,11 @@ module _ {P C A V M : Type 0} (job : Job V M) (kept : Option Rows) (core : Progr
       (record { lefts = lefts; graph = graph; common = record { logs = logs; shown = shown; values = values } })
   left_as lefts graph logs shown values many left graph_is same shows are = record {
     each = many;
-    whole = left job kept core.graph core.limits.partitions last have_ended;
+    whole = left job (kept_for kept core) core.graph core.limits.partitions last have_ended;
     graph_is = graph_is;
     common = record {
       sent = λ s p q before mine theirs.
-          let sent_is = bundle_in-sent job kept core.graph core.limits.partitions p q s (slot_at core.logs s p q)
+          let sent_is = bundle_in-sent job (kept_for kept core p) core.graph core.limits.partitions p q s (slot_at core.logs s p q)
           (right.logs.sent s p q (ap (is_past s) (places p mine) ∙ lt-ltb s end (omega (arith, before, last))) theirs) in
           subst (λ (l : Slots M). bundle_in (slot_at l s p q) ≡ Some (bundle_sent job core.graph core.limits.partitions p q s)) (sym same) sent_is;
       shown = shows ∙ (right.shown ∙ ap (shown_below job core.graph) last);

@@ -1,4 +1,5 @@
 pub mod Ends
+pub mod Keeping
 pub mod Left
 pub mod Needs
 pub mod Onward
@@ -6,5 +7,7 @@ pub mod Opened
 pub mod Opening
 pub mod Parts
 pub mod Putting
+pub mod Recovery
+pub mod Resending
 pub mod Steps
 pub mod AllStats

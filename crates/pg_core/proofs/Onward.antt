@@ -1,5 +1,5 @@
 -- A run that is driven on.
-use Rattle.std.proofs.Common.{◌≡◌, ℕ, ◌+◌, ◌<◌, ◌≤◌, ◌≢◌, Bool, true, false, cond, not, length, get_or, set, Option}
+use Rattle.std.proofs.Common.{◌≡◌, ℕ, ◌+◌, ◌<◌, ◌≤◌, ◌≢◌, Bool, true, false, cond, not, List, [], ◌∷◌, ◌++◌, length, get_or, set, Option}
 use Rattle.std.proofs.Common.{None, Some, is_some, refl, ap, sym, ◌∙◌, subst, subst₂, arith, inl, inr}
 use Rattle.std.specs.Prelude.{◌==◌, nat_lt, nat_le}
 use Rattle.std.specs.Option.{IsSome, option_eq}
@@ -7,15 +7,19 @@ use Rattle.std.proofs.lemmas.Bool.{and_from, cases_eq, cases_lt, eq-eqb, eqb-tru
 use Rattle.std.proofs.lemmas.List.{get_or_default, get_or-set_other, get_or-set_same}
 use Rattle.std.proofs.lemmas.List.Sums.{list_all-from_AllPass}
 use Rattle.pg_core.specs.Closing.{ClosesRight, HasClosed}
-use Rattle.pg_core.specs.Driving.{ArePast, GoesOn, IsSameRun, still_needed}
+use Rattle.pg_core.specs.Driving.{ArePast, GoesOn, IsSameRun, calls_in, needs_of, still_needed}
 use Rattle.pg_machine.specs.Limits.{Limits}
-use Rattle.pg_machine.specs.Machine.{State, after, is_allowed, is_at, is_from, may_step, place_at}
-use Rattle.pg_core.specs.Progress.{HasMadeStep, IsPartAt, IsRight, Progress, is_ready, job_by, part_at}
+use Rattle.pg_machine.specs.Losses.{counts_by}
+use Rattle.pg_machine.specs.Machine.{Reaches, State, after, first_state, is_allowed, is_at, is_from, may_step, place_at}
+use Rattle.pg_core.specs.Progress.{HasMadeStep, IsPartAt, IsRight, Progress, has_lost, is_ready, job_by, kept_for, part_at}
 use Rattle.pg_machine.specs.declared.event.Closed.{Closed}
 use Rattle.pg_machine.specs.declared.event.Closed.TheVariants.{Next, Ended}
+use Rattle.pg_machine.specs.declared.event.Event.{Event}
 use Rattle.pg_machine.specs.declared.event.Event.TheVariants.{Step, Close}
+use Rattle.pg_machine.proofs.LawsLosses.{counts_in-more}
 use Rattle.pg_machine.proofs.LawsNear.{AreNear}
-use Rattle.pg_core.proofs.Needs.{still_all, still_none, still_step}
+use Rattle.pg_core.proofs.Keeping.{kept_for-first, kept_more}
+use Rattle.pg_core.proofs.Needs.{still_all, still_none, still_same, still_step}
 use Rattle.pg_machine.proofs.LawsSteps.{place_after_other, place_after_own}
 use Rattle.pg_global.specs.Master.{Master, job_of}
 use Rattle.pg_graph.specs.Rows.{Rows}
@@ -30,6 +34,9 @@ use Rattle.pg_part.specs.Part.{PartState}
 
 counts_on : (x d t y u : ℕ) → y ≡ capped (x + d) → u ≡ d + t → capped (y + t) ≡ capped (x + u)
 counts_on x d t y u is sums = omega (arith, is, sums)
+
+told_on : (x d y c e : ℕ) → y ≡ capped (x + d) → x ≡ capped c → e ≡ c + d → y ≡ capped e
+told_on x d y c e is so_far more = omega (arith, is, so_far, more)
 
 ends_counted : (x y t u : ℕ) → capped (y + t) ≡ capped (x + u) → t ≡ 0 → y ≡ capped y → y ≡ capped (x + u)
 ends_counted x y t u same none fits = omega (arith, same, none, fits)
@@ -61,7 +68,7 @@ passed s (Some r) h apart =
       | inr other ↦ le-leb (s + 1) r (omega (arith, leb-true s r h, other))
     ]
 
-below_next : (q p : ℕ) → q ≢ p → nat_lt q (p + 1) ≡ nat_lt q p
+pub below_next : (q p : ℕ) → q ≢ p → nat_lt q (p + 1) ≡ nat_lt q p
 below_next q p apart =
     elim (cases_lt q p) [
       | inl less ↦ lt-ltb q (p + 1) (omega (arith, less)) ∙ sym (lt-ltb q p less)
@@ -223,7 +230,10 @@ module _ {P C A V M : Type 0} (program_of : P → Program V M) (combining_of : C
       job_of (program_of (same.program_is i)) (combining_of (same.combiner_is i)) (master_of (same.master_is i)) l.missing l.limit
 
   pub goes_nowhere : (a : Progress P C A V M) (x : ℕ) → Goes a a x x
-  goes_nowhere a x = record { same = IsSameRun-refl a; right = λ kept right. right; counted = λ kept right. refl }
+  goes_nowhere a x = record { same = IsSameRun-refl a; right = λ kept right. right; counted = λ kept right. refl; told = λ kept right so_far. so_far }
+
+  abbrev still_at : Job V M → Progress P C A V M → Option Rows → Progress P C A V M → ℕ
+  still_at job a kept core = still_needed value_eq message_eq job a.graph a.limits.partitions (kept_for kept core) core.state
 
   pub goes_further : {a b c : Progress P C A V M} {x y z : ℕ} → Goes a b x y → Goes b c y z → Goes a c x z
   goes_further {a} {b} {c} {x} {y} {z} first second =
@@ -232,42 +242,79 @@ module _ {P C A V M : Type 0} (program_of : P → Program V M) (combining_of : C
         same = IsSameRun-trans a b c first.same second.same;
         right = λ kept right. next.right kept (first.right kept right);
         counted = λ kept right.
-            subst₂ (λ (rows : Rows) (n : ℕ). capped (z + still_needed value_eq message_eq (job_at a) kept rows n c.state) ≡ capped
-            (y + still_needed value_eq message_eq (job_at a) kept rows n b.state))
+            subst₂ (λ (rows : Rows) (n : ℕ).
+            capped (z + still_needed value_eq message_eq (job_at a) rows n (kept_for kept c) c.state)
+            ≡ capped (y + still_needed value_eq message_eq (job_at a) rows n (kept_for kept b) b.state))
             first.same.graph_is (ap (λ l. l.partitions) first.same.limits_are) (next.counted kept (first.right kept right))
             ∙ first.counted kept right;
+        told = λ kept right so_far. next.told kept (first.right kept right) (first.told kept right so_far);
       }
 
-  pub goes_by_step : {a b : Progress P C A V M} {p r x y : ℕ} → HasMadeStep p a b → p < a.limits.partitions → place_at p a.state ≡ Some r
+  -- what a history tells of with one event more
+  module _ (a : Progress P C A V M) (events : Reaches (first_state a.limits.partitions a.limits.workers) a.history a.state) (kept : Option Rows) where
+    abbrev needs : Bool → ℕ → ℕ → ℕ
+    needs = needs_of value_eq message_eq (job_at a) a.graph a.limits.partitions kept
+
+    calls_more : (event : Event) → calls_in value_eq message_eq (job_at a) kept (record a { history = a.history ++ event ∷ [] })
+        ≡ calls_in value_eq message_eq (job_at a) kept a + counts_by needs (has_lost a) a.state event
+    calls_more event = counts_in-more needs (first_state a.limits.partitions a.limits.workers) a.state a.history event events
+
+    calls_step : (p r : ℕ) → place_at p a.state ≡ Some r
+        → calls_in value_eq message_eq (job_at a) kept (record a { history = a.history ++ Step p ∷ [] })
+        ≡ calls_in value_eq message_eq (job_at a) kept a
+        + needed_in value_eq message_eq (job_at a) (kept_for kept a p) a.graph (belongs a.limits.partitions p) r
+    calls_step p r at =
+        calls_more (Step p)
+        ∙ ap (λ (place : Option ℕ). calls_in value_eq message_eq (job_at a) kept a + (elim place as (λ _. ℕ) [ None ↦ 0 | Some s ↦ needs (has_lost a p) p s ])) at
+
+    calls_close : (closed : Closed) → calls_in value_eq message_eq (job_at a) kept (record a { history = a.history ++ Close closed ∷ [] })
+        ≡ calls_in value_eq message_eq (job_at a) kept a
+    calls_close closed = omega (arith, calls_more (Close closed))
+
+  pub goes_by_step : {a b : Progress P C A V M} {p r x y : ℕ} → Reaches (first_state a.limits.partitions a.limits.workers) a.history a.state
+      → HasMadeStep p a b → p < a.limits.partitions → place_at p a.state ≡ Some r
       → r ≤ a.state.current → ((kept : Option Rows) → IsRight (job_at a) kept a → IsRight (job_at a) kept b)
       → ((kept : Option Rows) (r : ℕ) → IsRight (job_at a) kept a → place_at p a.state ≡ Some r → y ≡ capped
-      (x + needed_in value_eq message_eq (job_at a) kept a.graph (belongs a.limits.partitions p) r)) → Goes a b x y
-  goes_by_step {a} {b} {p} {r} {x} {y} made within at reached right counts = record {
+      (x + needed_in value_eq message_eq (job_at a) (kept_for kept a p) a.graph (belongs a.limits.partitions p) r)) → Goes a b x y
+  goes_by_step {a} {b} {p} {r} {x} {y} events made within at reached right counts = record {
     same = same_by_step p a b made;
     right = right;
     counted = λ kept is_right.
-        ap (λ (s : State). capped (y + still_needed value_eq message_eq (job_at a) kept a.graph a.limits.partitions s)) (ap (λ core. core.state) made.core_is)
-        ∙ counts_on x (needed_in value_eq message_eq (job_at a) kept a.graph (belongs a.limits.partitions p) r)
-        (still_needed value_eq message_eq (job_at a) kept a.graph a.limits.partitions (after a.state (Step p))) y
-        (still_needed value_eq message_eq (job_at a) kept a.graph a.limits.partitions a.state)
+        let now : still_at (job_at a) a kept b ≡ still_needed value_eq message_eq (job_at a) a.graph a.limits.partitions (kept_for kept a) (after a.state (Step p)) =
+        ap (still_at (job_at a) a kept) made.core_is
+        ∙ still_same value_eq message_eq (job_at a) a.graph a.limits.partitions _ (kept_for kept a) (after a.state (Step p))
+        (λ q. sym (kept_more kept a (Step p) q events refl)) in
+        ap (λ (t : ℕ). capped (y + t)) now
+        ∙ counts_on x (needed_in value_eq message_eq (job_at a) (kept_for kept a p) a.graph (belongs a.limits.partitions p) r)
+        (still_needed value_eq message_eq (job_at a) a.graph a.limits.partitions (kept_for kept a) (after a.state (Step p))) y
+        (still_at (job_at a) a kept a)
         (counts kept r is_right at)
-        (still_step value_eq message_eq (job_at a) kept a.graph a.limits.partitions a.state p r within at (omega (arith, reached, is_right.within)));
+        (still_step value_eq message_eq (job_at a) a.graph a.limits.partitions (kept_for kept a) a.state p r within at (omega (arith, reached, is_right.within)));
+    told = λ kept is_right so_far.
+        told_on x (needed_in value_eq message_eq (job_at a) (kept_for kept a p) a.graph (belongs a.limits.partitions p) r) y
+        (calls_in value_eq message_eq (job_at a) kept a) (calls_in value_eq message_eq (job_at a) kept b)
+        (counts kept r is_right at) so_far
+        (ap (calls_in value_eq message_eq (job_at a) kept) made.core_is ∙ calls_step a events kept p r at);
   }
 
-  pub goes_by_close : {closed : Closed} {a b : Progress P C A V M} {x : ℕ} → HasClosed closed a b
-      → ((kept : Option Rows) → IsRight (job_at a) kept a → ClosesRight (job_at a) kept closed a b) → Goes a b x x
-  goes_by_close {closed} {a} {b} {x} has closes = record {
+  pub goes_by_close : {closed : Closed} {a b : Progress P C A V M} {x : ℕ} → Reaches (first_state a.limits.partitions a.limits.workers) a.history a.state
+      → HasClosed closed a b → ((kept : Option Rows) → IsRight (job_at a) kept a → ClosesRight (job_at a) kept closed a b) → Goes a b x x
+  goes_by_close {closed} {a} {b} {x} events has closes = record {
     same = same_by_close closed a b has;
     right = λ kept right. (closes kept right).right;
     counted =
-        λ kept right. ap (λ (s : State). capped (x + still_needed value_eq message_eq (job_at a) kept a.graph a.limits.partitions s))
-        (ap (λ core. core.state) has.core_is)
-        ∙ unmoved closed kept;
+        λ kept right. ap (λ (t : ℕ). capped (x + t))
+        (ap (still_at (job_at a) a kept) has.core_is
+        ∙ (still_same value_eq message_eq (job_at a) a.graph a.limits.partitions _ (kept_for kept a) (after a.state (Close closed))
+        (λ q. sym (kept_more kept a (Close closed) q events refl))
+        ∙ unmoved closed kept));
+    told = λ kept right so_far.
+        so_far ∙ ap (λ (t : ℕ). capped t) (sym (ap (calls_in value_eq message_eq (job_at a) kept) has.core_is ∙ calls_close a events kept closed));
   }
     where
       unmoved : (closed : Closed) (kept : Option Rows)
-          → capped (x + still_needed value_eq message_eq (job_at a) kept a.graph a.limits.partitions (after a.state (Close closed)))
-          ≡ capped (x + still_needed value_eq message_eq (job_at a) kept a.graph a.limits.partitions a.state)
+          → still_needed value_eq message_eq (job_at a) a.graph a.limits.partitions (kept_for kept a) (after a.state (Close closed))
+          ≡ still_needed value_eq message_eq (job_at a) a.graph a.limits.partitions (kept_for kept a) a.state
       unmoved Next kept = refl
       unmoved Ended kept = refl
 
@@ -275,16 +322,19 @@ module _ {P C A V M : Type 0} (program_of : P → Program V M) (combining_of : C
   module _ {a b : Progress P C A V M} {x y : ℕ} (goes : Goes a b x y) (ended : b.state.ended ≡ true)
       (places : (p : ℕ) → p < b.limits.partitions → place_at p b.state ≡ Some (b.state.current + 1)) (fits : y ≡ capped y)
       (kept : Option Rows) (right : IsRight (job_at a) kept a) where
-    pub counted_at_end : y ≡ capped (x + still_needed value_eq message_eq (job_at a) kept a.graph a.limits.partitions a.state)
+    pub counted_at_end : y ≡ capped (x + still_at (job_at a) a kept a)
     counted_at_end =
         let same_many : b.limits.partitions ≡ a.limits.partitions = ap (λ l. l.partitions) goes.same.limits_are in
         let last : b.state.current + 1 ≡ run_length (job_at a) a.graph = (goes.right kept right).at_end ended ∙ ap (run_length (job_at a)) goes.same.graph_is in
         let none =
-        still_none value_eq message_eq (job_at a) kept a.graph a.limits.partitions b.state
+        still_none value_eq message_eq (job_at a) a.graph a.limits.partitions (kept_for kept b) b.state
         (λ p within. places p (omega (arith, within, same_many)) ∙ ap Some last) in
         ends_counted x y _ _ (goes.counted kept right) none fits
 
-    pub counted_from_first : 0 < a.limits.partitions → ((p : ℕ) → p < a.limits.partitions → place_at p a.state ≡ Some 0)
+    pub counted_from_first : 0 < a.limits.partitions → a.history ≡ [] → ((p : ℕ) → p < a.limits.partitions → place_at p a.state ≡ Some 0)
         → y ≡ capped (x + needed_count value_eq message_eq (job_at a) kept a.graph)
-    counted_from_first some first =
-        counted_at_end ∙ ap (λ (k : ℕ). capped (x + k)) (still_all value_eq message_eq (job_at a) kept a.graph a.limits.partitions some a.state first)
+    counted_from_first some nothing first =
+        counted_at_end
+        ∙ ap (λ (k : ℕ). capped (x + k))
+        (still_same value_eq message_eq (job_at a) a.graph a.limits.partitions (kept_for kept a) (λ p. kept) a.state (λ p. kept_for-first kept a p nothing)
+        ∙ still_all value_eq message_eq (job_at a) a.graph a.limits.partitions kept some a.state first)

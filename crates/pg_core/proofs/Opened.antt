@@ -3,7 +3,7 @@ use Rattle.std.proofs.Common.{◌≡◌, ℕ, ◌<◌, true, List, [], length, m
 use Rattle.std.specs.Option.{IsSome}
 use Rattle.std.proofs.lemmas.Bool.{ltb-true, true≢false}
 use Rattle.std.proofs.lemmas.List.{length-map}
-use Rattle.pg_core.specs.Beginning.{HasBegun, HasStarted, HaveBegun, HaveBegunBeside, first_visible}
+use Rattle.pg_core.specs.Beginning.{AreFirst, HasBegun, HasStarted, IsFirst, IsHereFirst, HaveBegun, HaveBegunBeside, first_visible}
 use Rattle.pg_core.specs.declared.beginning.Start.{Start}
 use Rattle.pg_machine.specs.Limits.{AreLimits, Limits}
 use Rattle.pg_machine.specs.Machine.{State, first_state, place_at}
@@ -41,6 +41,58 @@ module _ {V M : Type 0} (job : Job V M) (rows : Rows) where
   unfolding configuration first
   tally_first tally is = is
 
+-- where a run begins
+first_place : (limits : Limits) (p r : ℕ) → place_at p (first_state limits.partitions limits.workers) ≡ Some r → (p < limits.partitions) × (r ≡ 0)
+first_place limits p r at =
+    let within : p < limits.partitions =
+    subst (λ (n : ℕ). p < n) (length-first limits.partitions limits.workers) (some_within (first_state limits.partitions limits.workers).places p r at) in
+    let zero_there : Some r ≡ Some 0 = sym at ∙ starts_at limits.partitions limits.workers p within in
+    (within, cc)
+
+-- parts that are here, at superstep 0
+module _ {V M : Type 0} (program : Program V M) (master : Master) (limits : Limits) (rows : Rows) (parts : List (Option (PartState V M)))
+    (each : length parts ≡ limits.partitions) (first : AreFirst limits.partitions limits.partitions parts) where
+  first_part : (p : ℕ) (part : PartState V M) → get_or parts p None ≡ Some part → IsFirst limits.partitions p part
+  first_part p part is =
+      let within : p < limits.partitions = subst (λ (n : ℕ). p < n) each (some_within parts p part is) in
+      subst (IsHereFirst limits.partitions p) is (first p within)
+
+  pub are_here : (p : ℕ) → p < limits.partitions → IsSome (get_or parts p None)
+  are_here p within = by (get_or parts p None) (first p within)
+    where
+      by : (part : Option (PartState V M)) → IsHereFirst limits.partitions p part → is_some part ≡ true
+      by None h = absurd h
+      by (Some part) h = refl
+
+  pub IsLawful-opened : (start : Start) → HasStarted master rows limits start → is_registered program master ≡ true
+      → IsLawful limits program.declared master.registrations start.registry start.state [] parts start.shown.items start.tally
+  IsLawful-opened start started registered =
+      let n : ℕ = limits.partitions in
+      let start_state : State = first_state n limits.workers in
+      let lawful : IsLawful limits program.declared master.registrations start.registry start_state [] parts start.shown.items start.tally = record {
+        limits_are = started.limits_are;
+        registry_is = started.registry_is;
+        few = started.few;
+        declared_are = registered;
+        events = Reaches-none start_state;
+        each = each;
+        here = λ p part at.
+            let here = first_part p part at in
+            let within : p < n = subst (λ (n : ℕ). p < n) each (some_within parts p part at) in
+            record {
+              partition_is = here.partition_is;
+              partitions_are = here.partitions_are;
+              place_is = starts_at n limits.workers p within ∙ ap Some (sym here.place_is);
+            };
+        stays = λ p r at past. let none = (first_place limits p r at).1 in absurd (omega (arith, none, past));
+        within = started.limits_are.limit_least;
+        shown_so_far = subst (λ (l : List Visible). 0 < length l) (sym started.shown_is) (omega arith);
+        shown_places = started.places;
+        gathered_places = ap (λ (t : Tally). length t.gathered) started.tally_is ∙ (length-map _ _ ∙ length-map _ _);
+      } in
+      subst (λ (s : State). IsLawful limits program.declared master.registrations start.registry s [] parts start.shown.items start.tally)
+      (sym started.state_is) lawful
+
 -- a part that is among those that have begun
 module _ {V M : Type 0} (program : Program V M) (master : Master) (combining : Option (Combining M)) (limits : Limits) (rows : Rows)
     (parts : List (Option (PartState V M))) (each : length parts ≡ limits.partitions) (old : Option Rows)
@@ -52,68 +104,24 @@ module _ {V M : Type 0} (program : Program V M) (master : Master) (combining : O
       let within : p < limits.partitions = subst (λ (n : ℕ). p < n) each (some_within parts p part is) in
       subst (HasBegun (job_of program combining master limits.missing limits.limit) old rows limits.partitions p) is (begun p within)
 
-  -- all of them are here
-  pub begun_are_here : (p : ℕ) → p < limits.partitions → IsSome (get_or parts p None)
-  begun_are_here p within = by (get_or parts p None) (begun p within)
-    where
-      by : (part : Option (PartState V M))
-          → HasBegun (job_of program combining master limits.missing limits.limit) old rows limits.partitions p part → is_some part ≡ true
-      by None h = absurd h
-      by (Some part) h = refl
-
-  first_place : (p r : ℕ) → place_at p (first_state limits.partitions limits.workers) ≡ Some r → (p < limits.partitions) × (r ≡ 0)
-  first_place p r at =
-      let within : p < limits.partitions =
-      subst (λ (n : ℕ). p < n) (length-first limits.partitions limits.workers) (some_within (first_state limits.partitions limits.workers).places p r at) in
-      let zero_there : Some r ≡ Some 0 = sym at ∙ starts_at limits.partitions limits.workers p within in
-      (within, cc)
-
-  pub IsLawful-opened : (start : Start) → HasStarted master rows limits start → is_registered program master ≡ true
-      → IsLawful limits program.declared master.registrations start.registry start.state [] parts start.shown.items start.tally
-  IsLawful-opened start started registered =
-      let n : ℕ = limits.partitions in
-      let first : State = first_state n limits.workers in
-      let lawful : IsLawful limits program.declared master.registrations start.registry first [] parts start.shown.items start.tally = record {
-        registry_is = started.registry_is;
-        few = started.few;
-        declared_are = registered;
-        events = Reaches-none first;
-        each = each;
-        here = λ p part at.
-            let holds = begun_part p part at in
-            let within : p < n = subst (λ (n : ℕ). p < n) each (some_within parts p part at) in
-            record {
-              partition_is = holds.course.partition_is;
-              partitions_are = holds.course.partitions_are;
-              place_is = starts_at n limits.workers p within ∙ ap Some (sym holds.course.place_is);
-            };
-        stays = λ p r at past. let none = (first_place p r at).1 in absurd (omega (arith, none, past));
-        within = started.limits_are.limit_least;
-        shown_so_far = subst (λ (l : List Visible). 0 < length l) (sym started.shown_is) (omega arith);
-        shown_places = started.places;
-        gathered_places = ap (λ (t : Tally). length t.gathered) started.tally_is ∙ (length-map _ _ ∙ length-map _ _);
-      } in
-      subst (λ (s : State). IsLawful limits program.declared master.registrations start.registry s [] parts start.shown.items start.tally)
-      (sym started.state_is) lawful
-
   pub IsRight-opened : {P C A : Type 0} (core : Progress P C A V M) → AreLimits limits → core.graph ≡ rows → core.limits ≡ limits
-      → core.parts ≡ parts → core.state ≡ first_state limits.partitions limits.workers → ((s p q : ℕ) → slot_at core.logs s p q ≡ None)
+      → core.parts ≡ parts → core.state ≡ first_state limits.partitions limits.workers → core.history ≡ [] → ((s p q : ℕ) → slot_at core.logs s p q ≡ None)
       → core.shown ≡ shown_below (job_of program combining master limits.missing limits.limit) rows 1
       → core.tally ≡ tally_at (job_of program combining master limits.missing limits.limit) rows 0 → core.ending ≡ None
       → KeepsCommon (job_of program combining master limits.missing limits.limit) old limits.partitions core.kept
       → IsRight (job_of program combining master limits.missing limits.limit) old core
-  IsRight-opened {P} {C} {A} core are graph_is limits_are parts_are state_is empty shows counts goes_on keeps =
+  IsRight-opened {P} {C} {A} core are graph_is limits_are parts_are state_is history_is empty shows counts goes_on keeps =
       let job : Job V M = job_of program combining master limits.missing limits.limit in
       let n : ℕ = limits.partitions in
       let start : State = first_state n limits.workers in
-      let is : core ≡ record core { graph = rows; limits = limits; parts = parts; state = start } =
-      (λ i. record core { graph = graph_is i; limits = limits_are i; parts = parts_are i; state = state_is i }) in
+      let is : core ≡ record core { graph = rows; limits = limits; parts = parts; state = start; history = [] } =
+      (λ i. record core { graph = graph_is i; limits = limits_are i; parts = parts_are i; state = state_is i; history = history_is i }) in
       let not_past : (s p : ℕ) → is_past s (place_at p start) ≡ true → ⊥ = λ s p past. by_place s p (place_at p start) refl past in
       subst (IsRight job old) (sym is) (record {
         within = run_length_pos job rows are.limit_least;
         parts = λ p part at.
             let within : p < n = subst (λ (n : ℕ). p < n) each (some_within parts p part at) in
-            subst (λ place. HoldsAt job old rows n p place part) (sym (starts_at n limits.workers p within)) (begun_part p part at);
+            subst (λ place. HoldsAt job rows old n p place part) (sym (starts_at n limits.workers p within)) (begun_part p part at);
         logs = record { sent = λ s p q past within. absurd (not_past s p past); no_more = λ s p q not_yet. empty s p q };
         shown = shows;
         tally = counts;
@@ -124,7 +132,7 @@ module _ {V M : Type 0} (program : Program V M) (master : Master) (combining : O
     where
       by_place : (s p : ℕ) (place : Option ℕ) → place_at p (first_state limits.partitions limits.workers) ≡ place → is_past s place ≡ true → ⊥
       by_place s p None at past = true≢false (sym past)
-      by_place s p (Some r) at past = let none = (first_place p r at).1 in let less : s < r = ltb-true s r past in omega (arith, none, less)
+      by_place s p (Some r) at past = let none = (first_place limits p r at).1 in let less : s < r = ltb-true s r past in omega (arith, none, less)
 
 -- a core that has just opened is of the job that it was opened with
 pub job_as_opened : {P C A V M : Type 0} (program_of : P → Program V M) (combining_of : C → Option (Combining M)) (master_of : A → Master)

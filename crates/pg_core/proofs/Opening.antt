@@ -5,13 +5,16 @@ use Rattle.std.specs.List.{slice_get}
 use Rattle.std.specs.Option.{option_map}
 use Rattle.std.proofs.lemmas.List.{get_or_append_left, get_or_push}
 use Rattle.std.proofs.lemmas.List.Sums.{sum_by-cons}
-use Rattle.pg_core.specs.Beginning.{HasBegun}
+use Rattle.pg_core.specs.Beginning.{IsFirst}
+use Rattle.pg_course.specs.Course as courses
 use Rattle.pg_graph.specs.Rows.{Rows, edge_count}
+use Rattle.pg_graph.specs.declared.missing.Missing.{Missing}
 use Rattle.pg_edits.specs.declared.row.Row.{Row}
 use Rattle.pg_model.specs.Job.{Job, Program}
 use Rattle.pg_model.specs.Run.{beginning}
 use Rattle.pg_model.specs.Superstep.{edges_of}
-use Rattle.pg_part.specs.Part.{HoldsShare, PartState}
+use Rattle.pg_part.specs.Part.{PartState}
+use Rattle.pg_routing.specs.Starting.{PartRows}
 
 module _ {E X Y : Type 0} (part : E → X) (made : X → Y) where
   next_taken : (es : List E) (i : ℕ) (x : X) → option_map part (slice_get es i) ≡ Some x
@@ -28,22 +31,30 @@ module _ {E X Y : Type 0} (part : E → X) (made : X → Y) where
       pushed ∙ ap (λ l. l ++ y ∷ []) so_far ∙ ap (λ y. map (λ e. made (part e)) (take i es) ++ y ∷ []) is
       ∙ sym (next_taken es i x at) ∙ ap (λ (n : ℕ). map (λ e. made (part e)) (take n es)) (sym (add-one i))
 
-module _ {V M : Type 0} (job : Job V M) (kept : Option Rows) (rows : Rows) (n : ℕ) where
-  -- one part more has begun
-  pub begun_more : (before after : List (Option (PartState V M))) (part : PartState V M) (k : ℕ) → length before ≡ k
-      → ((p : ℕ) → p < k → HasBegun job kept rows n p (get_or before p None)) → after ≡ before ++ Some part ∷ []
-      → HoldsShare job kept rows n k 0 part → (p : ℕ) → p < k + 1 → HasBegun job kept rows n p (get_or after p None)
-  begun_more before after part k many begun pushed here p within =
-      let none : Option (PartState V M) = None in
-      subst (λ (l : List (Option (PartState V M))). HasBegun job kept rows n p (get_or l p None)) (sym pushed)
-      (elim (eq-or-lt_of_le (let le : p ≤ k = omega arith in le)) [
-        | inl same ↦ subst (λ (k : ℕ). HasBegun job kept rows n k (get_or (before ++ Some part ∷ []) k None)) (sym same)
-            (subst (HasBegun job kept rows n k) (sym (get_or_push before (Some part) none k many)) here)
-        | inr less ↦ (
-            let inside : p < length before = omega (arith, many) in
-            subst (HasBegun job kept rows n p) (sym (get_or_append_left before (Some part ∷ []) none p inside)) (begun p less)
-            )
-      ])
+-- one more of which something is so
+pub one_more : {X : Type 0} (Is : ℕ → Option X → Type 0) (before after : List (Option X)) (x : X) (k : ℕ) → length before ≡ k
+    → ((p : ℕ) → p < k → Is p (get_or before p None)) → after ≡ before ++ Some x ∷ [] → Is k (Some x)
+    → (p : ℕ) → p < k + 1 → Is p (get_or after p None)
+one_more {X} Is before after x k many so_far pushed here p within =
+    let none : Option X = None in
+    subst (λ (l : List (Option X)). Is p (get_or l p None)) (sym pushed)
+    (elim (eq-or-lt_of_le (let le : p ≤ k = omega arith in le)) [
+      | inl same ↦ subst (λ (k : ℕ). Is k (get_or (before ++ Some x ∷ []) k None)) (sym same)
+          (subst (Is k) (sym (get_or_push before (Some x) none k many)) here)
+      | inr less ↦ (
+          let inside : p < length before = omega (arith, many) in
+          subst (Is p) (sym (get_or_append_left before (Some x ∷ []) none p inside)) (so_far p less)
+          )
+    ])
+
+-- a part that has begun is at superstep 0
+pub first_of : {V M : Type 0} (rows : PartRows) (missing : Missing) (n p : ℕ) (part : PartState V M) → courses.HasBegun rows missing part.course
+    → rows.partitions ≡ n → rows.partition ≡ p → IsFirst n p part
+first_of rows missing n p part begun many is = record {
+  partition_is = begun.partition_is ∙ is;
+  partitions_are = begun.partitions_are ∙ many;
+  place_is = begun.place_is;
+}
 
 -- the element between those before it and those after it
 pub slice_get-between : {X : Type 0} (xs ys : List X) (x : X) → slice_get (xs ++ x ∷ ys) (length xs) ≡ Some x

@@ -1,5 +1,5 @@
 -- What taking a part, and taking in its step, leave of a run over partitions.
-use Rattle.std.proofs.Common.{◌≡◌, ℕ, zero, suc, ◌+◌, ◌<◌, ◌≢◌, Bool, true, false, ◌&&◌, List, [], ◌∷◌, ◌++◌, length, take}
+use Rattle.std.proofs.Common.{◌≡◌, ℕ, zero, suc, ◌+◌, ◌<◌, ◌≢◌, Bool, true, false, cond, ◌&&◌, List, [], ◌∷◌, ◌++◌, length, take}
 use Rattle.std.proofs.Common.{get_or, set, Option, None, Some, is_some, refl, ap, sym, ◌∙◌, subst, subst₂, arith, inl, inr}
 use Rattle.std.specs.Prelude.{◌==◌, nat_lt}
 use Rattle.std.specs.List.{slice_get}
@@ -9,19 +9,20 @@ use Rattle.std.proofs.lemmas.List.FromFn.{length-map-range_with_len}
 use Rattle.std.proofs.lemmas.List.{get_or-set_other, get_or-set_same, length-set, take_all}
 use Rattle.std.proofs.lemmas.Option.{same_Some}
 use Rattle.pg_machine.specs.Limits.{Limits}
-use Rattle.pg_machine.specs.Machine.{State, after, first_state, is_allowed, is_from, place_at}
-use Rattle.pg_core.specs.Progress.{HasMadeStep, HasPut, HoldsAt, IsLawful, IsNext, IsPartAt, IsRight, IsStepLent, IsStepOf}
-use Rattle.pg_core.specs.Progress.{LogsHold, Progress, TakesIn, is_past, part_at, with_step, without_part}
+use Rattle.pg_machine.specs.Machine.{Reaches, State, after, first_state, is_allowed, is_from, place_at}
+use Rattle.pg_core.specs.Progress.{HasMadeStep, HasPut, HoldsAt, IsLawful, IsNext, IsPartAt, IsRight, IsStepFrom, IsStepLent, IsStepOf}
+use Rattle.pg_core.specs.Progress.{LogsHold, Progress, TakesIn, has_lost, is_past, kept_for, part_at, with_step, without_part}
 use Rattle.pg_core.specs.Traces.{KeepsCommon, Common, logs_in, visible_in}
 use Rattle.pg_machine.specs.declared.event.Event.{Event}
 use Rattle.pg_machine.specs.declared.event.Event.TheVariants.{Step}
 use Rattle.pg_core.specs.declared.tally.Tally.{Tally}
+use Rattle.pg_core.proofs.Keeping.{IsRightWith-same, kept_more}
 use Rattle.pg_core.proofs.Parts.{slice_get-made}
 use Rattle.pg_machine.proofs.LawsMachine.{Reaches-push, some_within}
 use Rattle.pg_machine.proofs.LawsSteps.{StepsFrom-from_allowed, length-places_lawful, place_after_other, place_after_own}
 use Rattle.pg_global.specs.Registry.{Registered}
 use Rattle.pg_graph.specs.Rows.{Rows}
-use Rattle.pg_inbox.specs.Bundles.{Parcels}
+use Rattle.pg_inbox.specs.Bundles.{Parcels, parcels_in}
 use Rattle.pg_inbox.specs.Changed.{AreChanged}
 use Rattle.pg_inbox.specs.Logged.{Slots, slot_at}
 use Rattle.pg_inbox.specs.declared.logs.Logged.{Logged}
@@ -65,6 +66,7 @@ module _ {V M : Type 0} {limits : Limits} {declared : Declared} {registered regi
       let gone : get_or (set parts p None) p None ≡ None = get_or-set_same parts p None None within in
       let kept : (q : ℕ) → q ≢ p → get_or (set parts p None) q None ≡ get_or parts q None = λ q apart. get_or-set_other parts p q None None apart in
       record {
+        limits_are = lawful.limits_are;
         registry_is = lawful.registry_is;
         few = lawful.few;
         declared_are = lawful.declared_are;
@@ -96,6 +98,7 @@ module _ {V M : Type 0} {limits : Limits} {declared : Declared} {registered regi
       let kept : (q : ℕ) → q ≢ p → get_or (set parts p (Some part)) q None ≡ get_or parts q None =
       λ q apart. get_or-set_other parts p q (Some part) None apart in
       record {
+        limits_are = lawful.limits_are;
         registry_is = lawful.registry_is;
         few = lawful.few;
         declared_are = lawful.declared_are;
@@ -140,25 +143,28 @@ Tells old new changed = elim changed [ None ↦ ⊥ | Some ids ↦ AreChanged ol
 abbrev MayTell : {M : Type 0} → Parcels M → Parcels M → Option (List ℕ) → Type 0
 MayTell old new changed = elim changed [ None ↦ Unit {0} | Some ids ↦ AreChanged old new ids ]
 
--- what is sent beside a kept run tells where it differs from what that sent
-TellsAt-from_sent : {V M : Type 0} (job : Job V M) (old rows : Rows) (n q p s : ℕ) (old_slot slot : Option (Logged M))
-    → s < run_length job old → bundle_in old_slot ≡ Some (bundle_sent job old n q p s) → IsSentTo job (Some old) rows n q p s slot
-    → TellsAt old_slot slot
-TellsAt-from_sent job old rows n q p s old_slot None within had h = absurd h
-TellsAt-from_sent {V} {M} job old rows n q p s old_slot (Some logged) within had h =
+-- what is sent beside a kept run tells where it differs from what that sent; where a loss took the sender, nothing is told
+TellsAt-from_sent : {V M : Type 0} (job : Job V M) (old rows : Rows) (lost : Bool) (n q p s : ℕ) (old_slot slot : Option (Logged M))
+    → s < run_length job old → bundle_in old_slot ≡ Some (bundle_sent job old n q p s)
+    → IsSentTo job (cond lost None (Some old)) rows n q p s slot → TellsAt old_slot slot
+TellsAt-from_sent job old rows lost n q p s old_slot None within had h = absurd h
+TellsAt-from_sent job old rows true n q p s old_slot (Some logged) within had h =
+    subst (MayTell (parcels_in (bundle_in old_slot)) logged.bundle) (sym h.1) tt
+TellsAt-from_sent job old rows false n q p s old_slot (Some logged) within had h =
     subst (λ b. TellsFrom b logged) (sym had) (by logged.changed (h.1 within))
   where
     by : (changed : Option (List ℕ)) → Tells (bundle_sent job old n q p s) logged.bundle changed → MayTell (bundle_sent job old n q p s) logged.bundle changed
     by None h = absurd h
     by (Some ids) h = h
 
--- what a step is lent of the kept run: what it reads there, and its logs tell where they differ
-IsLentBeside-kept : {V M : Type 0} (job : Job V M) (old : Option Rows) (rows : Rows) (n p r : ℕ) (logs : Slots M) (kept : Option (Common V M))
-    → p < n → KeepsCommon job old n kept → ((s q : ℕ) → s + 1 ≡ r → q < n → IsSentTo job old rows n q p s (slot_at logs s q p))
+-- what a step is lent of the kept run: what it reads there, and its logs tell, if anything, where they differ
+IsLentBeside-old : {V M : Type 0} (job : Job V M) (old : Option Rows) (lost : ℕ → Bool) (rows : Rows) (n p r : ℕ) (logs : Slots M)
+    (kept : Option (Common V M)) → p < n → KeepsCommon job old n kept
+    → ((s q : ℕ) → s + 1 ≡ r → q < n → IsSentTo job (cond (lost q) None old) rows n q p s (slot_at logs s q p))
     → IsLentBeside job old n p r logs (logs_in r kept) (visible_in r kept)
-IsLentBeside-kept job None rows n p r logs kept mine keeps sent = tt
-IsLentBeside-kept job (Some old) rows n p r logs None mine keeps sent = absurd keeps
-IsLentBeside-kept {V} {M} job (Some old) rows n p r logs (Some kept) mine keeps sent =
+IsLentBeside-old job None lost rows n p r logs kept mine keeps sent = tt
+IsLentBeside-old job (Some old) lost rows n p r logs None mine keeps sent = absurd keeps
+IsLentBeside-old {V} {M} job (Some old) lost rows n p r logs (Some kept) mine keeps sent =
     elim (cases_lt r (run_length job old)) [
       | inl less ↦ (
           let there : logs_in r (Some kept) ≡ Some kept.logs =
@@ -170,7 +176,7 @@ IsLentBeside-kept {V} {M} job (Some old) rows n p r logs (Some kept) mine keeps 
             received = λ s q before within. keeps.sent s q p (omega (arith, before, less)) within mine;
             sent = λ q within. keeps.sent r p q less mine within;
             told =
-                λ s q before within. TellsAt-from_sent job old rows n q p s (slot_at kept.logs s q p) (slot_at logs s q p)
+                λ s q before within. TellsAt-from_sent job old rows (lost q) n q p s (slot_at kept.logs s q p) (slot_at logs s q p)
                 (omega (arith, before, less)) (keeps.sent s q p (omega (arith, before, less)) within mine) (sent s q before within);
           } in
           subst₂ (IsLentBeside job (Some old) n p r logs) (sym there) (sym shows) (lends, refl)
@@ -185,8 +191,22 @@ IsLentBeside-kept {V} {M} job (Some old) rows n p r logs (Some kept) mine keeps 
     many : length kept.shown ≡ run_length job old
     many = ap length keeps.shown ∙ length-map-range_with_len (visible_at job old) 0 (run_length job old)
 
+-- one that a loss took is cold, and may be lent anything
+IsLentBeside-kept : {V M : Type 0} (job : Job V M) (old : Option Rows) (lost : ℕ → Bool) (rows : Rows) (n p r : ℕ) (logs : Slots M)
+    (kept : Option (Common V M)) → p < n → KeepsCommon job old n kept
+    → ((s q : ℕ) → s + 1 ≡ r → q < n → IsSentTo job (cond (lost q) None old) rows n q p s (slot_at logs s q p))
+    → IsLentBeside job (cond (lost p) None old) n p r logs (logs_in r kept) (visible_in r kept)
+IsLentBeside-kept {V} {M} job old lost rows n p r logs kept mine keeps sent = by (lost p)
+  where
+    by : (b : Bool) → IsLentBeside job (cond b None old) n p r logs (logs_in r kept) (visible_in r kept)
+    by true = tt
+    by false = IsLentBeside-old job old lost rows n p r logs kept mine keeps sent
+
 module _ {V M : Type 0} (job : Job V M) (kept : Option Rows) {P C A : Type 0} (core : Progress P C A V M) (p : ℕ)
     (right : IsRight job kept core) (allowed : is_allowed core.state (Step p) ≡ true) where
+  abbrev keeps : ℕ → Option Rows
+  keeps = kept_for kept core
+
   pub IsRight-take : p < length core.parts → IsRight job kept (without_part p core)
   IsRight-take within =
       let gone : get_or (set core.parts p None) p None ≡ None = get_or-set_same core.parts p None None within in
@@ -210,11 +230,11 @@ module _ {V M : Type 0} (job : Job V M) (kept : Option Rows) {P C A : Type 0} (c
   IsStepLent-taken many part at =
       let steps = StepsFrom-from_allowed core.state p allowed in
       let n : ℕ = core.limits.partitions in
-      let holds : HoldsShare job kept core.graph n p steps.from part =
-      subst (λ place. HoldsAt job kept core.graph n p place part) steps.at (right.parts p part at) in
+      let holds : HoldsShare job (keeps p) core.graph n p steps.from part =
+      subst (λ place. HoldsAt job core.graph (keeps p) n p place part) steps.at (right.parts p part at) in
       let p_within : p < n = subst (λ (k : ℕ). p < k) many (some_within core.state.places p steps.from steps.at) in
       let is : steps.from ≡ part.course.place = sym holds.course.place_is in
-      let sent : (s q : ℕ) → s + 1 ≡ steps.from → q < n → IsSentTo job kept core.graph n q p s (slot_at core.logs s q p) =
+      let sent : (s q : ℕ) → s + 1 ≡ steps.from → q < n → IsSentTo job (keeps q) core.graph n q p s (slot_at core.logs s q p) =
       (λ s q before within. right.logs.sent s q p
       (past s q before (place_at q core.state) (steps.others q (subst (λ (k : ℕ). q < k) (sym many) within))) p_within) in
       let lent : HasMessages job core.graph n p steps.from core.logs =
@@ -222,11 +242,11 @@ module _ {V M : Type 0} (job : Job V M) (kept : Option Rows) {P C A : Type 0} (c
       subst (λ (r : ℕ). IsStepLent job kept core p r part) is (record {
         holds = holds;
         lent = record { within = omega (arith, steps.open_or_before, right.within); messages = lent; sees = refl };
-        beside = IsLentBeside-kept job kept core.graph n p steps.from core.logs core.kept p_within right.beside sent;
+        beside = IsLentBeside-kept job kept (has_lost core) core.graph n p steps.from core.logs core.kept p_within right.beside sent;
         open_or_before = steps.open_or_before;
       })
     where
-      sent_is : (s q : ℕ) (slot : Option (Logged M)) → IsSentTo job kept core.graph core.limits.partitions q p s slot
+      sent_is : (s q : ℕ) (slot : Option (Logged M)) → IsSentTo job (keeps q) core.graph core.limits.partitions q p s slot
           → bundle_in slot ≡ Some (bundle_sent job core.graph core.limits.partitions q p s)
       sent_is s q None h = absurd h
       sent_is s q (Some logged) h = ap Some h.0
@@ -238,12 +258,13 @@ module _ {V M : Type 0} (job : Job V M) (kept : Option Rows) {P C A : Type 0} (c
 
   module _ (part : PartState V M) (sent : List (Logged M)) (new : Progress P C A V M) (is_step : IsStepOf job kept core p part sent)
       (takes : TakesIn p part sent core new) where
-    LogsHold-step : LogsHold job kept core.graph core.limits.partitions (after core.state (Step p)).places new.logs
+    LogsHold-step : LogsHold job core.graph keeps core.limits.partitions (after core.state (Step p)).places new.logs
     LogsHold-step =
         let n : ℕ = core.limits.partitions in
         let steps = StepsFrom-from_allowed core.state p allowed in
         let r : ℕ = steps.from in
-        let all : take n sent ≡ sent = take_all n sent (omega (arith, is_step.to_each)) in
+        let made = is_step r steps.at in
+        let all : take n sent ≡ sent = take_all n sent (omega (arith, made.to_each)) in
         let put : HasPut r p sent core.logs new.logs = subst (λ (l : List (Logged M)). HasPut r p l core.logs new.logs) all (takes.logs_are r steps.at) in
         -- other slots are as they were
         let other : (s u q : ℕ) → ((p == u) && ((r == s) && nat_lt q (length sent))) ≡ false → slot_at new.logs s u q ≡ slot_at core.logs s u q =
@@ -255,26 +276,26 @@ module _ {V M : Type 0} (job : Job V M) (kept : Option Rows) {P C A : Type 0} (c
         let own_place : place_at p (after core.state (Step p)) ≡ Some (r + 1) = place_after_own core.state p r steps.at in
         record {
           sent = λ s u q past within. elim (cases_eq u p) [
-            | inl same ↦ subst (λ (u : ℕ). IsSentTo job kept core.graph n u q s (slot_at new.logs s u q)) (sym same)
+            | inl same ↦ subst (λ (u : ℕ). IsSentTo job (keeps u) core.graph n u q s (slot_at new.logs s u q)) (sym same)
                 (let before : is_past s (Some (r + 1)) ≡ true = sym (ap (is_past s) own_place) ∙
                 (ap (λ (u : ℕ). is_past s (place_at u (after core.state (Step p)))) (sym same) ∙ past) in
                 elim (cases_eq s r) [
                   | inl now ↦ (
                       let here : (p == p) && ((r == r) && nat_lt q (length sent)) ≡ true =
                       ap (λ b. b && ((r == r) && nat_lt q (length sent))) (eq-eqb p p refl)
-                      ∙ (ap (λ b. b && nat_lt q (length sent)) (eq-eqb r r refl) ∙ lt-ltb q (length sent) (omega (arith, is_step.to_each, within))) in
-                      subst (λ (s : ℕ). IsSentTo job kept core.graph n p q s (slot_at new.logs s p q)) (sym now)
-                      (subst (IsSentTo job kept core.graph n p q r)
+                      ∙ (ap (λ b. b && nat_lt q (length sent)) (eq-eqb r r refl) ∙ lt-ltb q (length sent) (omega (arith, made.to_each, within))) in
+                      subst (λ (s : ℕ). IsSentTo job (keeps p) core.graph n p q s (slot_at new.logs s p q)) (sym now)
+                      (subst (IsSentTo job (keeps p) core.graph n p q r)
                       (sym (put r p q ∙ cond-true _ (slice_get sent q) (slot_at core.logs r p q) here))
-                      (is_step.sends r q steps.at within))
+                      (made.sends q within))
                       )
                   | inr apart ↦ (
                       let still : is_past s (place_at p core.state) ≡ true =
                       ap (is_past s) steps.at ∙ lt-ltb s r (omega (arith, ltb-true s (r + 1) before, apart)) in
-                      subst (IsSentTo job kept core.graph n p q s) (sym (earlier s q apart)) (right.logs.sent s p q still within)
+                      subst (IsSentTo job (keeps p) core.graph n p q s) (sym (earlier s q apart)) (right.logs.sent s p q still within)
                       )
                 ])
-            | inr apart ↦ subst (IsSentTo job kept core.graph n u q s) (sym (elsewhere s u q apart))
+            | inr apart ↦ subst (IsSentTo job (keeps u) core.graph n u q s) (sym (elsewhere s u q apart))
                 (right.logs.sent s u q (ap (is_past s) (sym (place_after_other core.state p u apart)) ∙ past) within)
           ];
           no_more = λ s u q not_yet. elim (cases_eq u p) [
@@ -291,7 +312,7 @@ module _ {V M : Type 0} (job : Job V M) (kept : Option Rows) {P C A : Type 0} (c
                       let out : nat_lt q (length sent) ≡ false =
                       (elim (and_cases (nat_lt s (r + 1)) (nat_lt q n) none) [
                         | inl late ↦ absurd (omega (arith, ltb-false s (r + 1) late, now))
-                        | inr out ↦ ap (nat_lt q) is_step.to_each ∙ out
+                        | inr out ↦ ap (nat_lt q) made.to_each ∙ out
                       ]) in
                       other s p q (and_right (p == p) _ (and_right (r == s) _ out)) ∙ right.logs.no_more s p q before
                       )
@@ -302,21 +323,22 @@ module _ {V M : Type 0} (job : Job V M) (kept : Option Rows) {P C A : Type 0} (c
           ];
         }
 
-    pub IsRight-step : p < length core.parts → IsRight job kept new
-    IsRight-step within =
+    pub IsRight-step : p < length core.parts → Reaches (first_state core.limits.partitions core.limits.workers) core.history core.state
+        → IsRight job kept new
+    IsRight-step within events =
         let n : ℕ = core.limits.partitions in
         let steps = StepsFrom-from_allowed core.state p allowed in
         let own : get_or (set core.parts p (Some part)) p None ≡ Some part = get_or-set_same core.parts p (Some part) None within in
-        subst (IsRight job kept) (sym takes.core_is) (record {
+        subst (IsRight job kept) (sym takes.core_is) (IsRightWith-same job kept keeps _ _ (λ q. kept_more kept core (Step p) q events refl) (record {
           within = right.within;
           parts = λ q part' at. elim (cases_eq q p) [
             | inl same ↦ (
                 let is : part ≡ part' = same_Some part part' (sym own ∙ (ap (λ (q : ℕ). get_or (set core.parts p (Some part)) q None) (sym same) ∙ at)) in
-                subst (λ (q : ℕ). HoldsAt job kept core.graph n q (place_at q (after core.state (Step p))) part') (sym same)
-                (subst (λ place. HoldsAt job kept core.graph n p place part') (sym (place_after_own core.state p steps.from steps.at))
-                (subst (HoldsShare job kept core.graph n p (steps.from + 1)) is (is_step.holds steps.from steps.at)))
+                subst (λ (q : ℕ). HoldsAt job core.graph (keeps q) n q (place_at q (after core.state (Step p))) part') (sym same)
+                (subst (λ place. HoldsAt job core.graph (keeps p) n p place part') (sym (place_after_own core.state p steps.from steps.at))
+                (subst (HoldsShare job (keeps p) core.graph n p (steps.from + 1)) is (is_step steps.from steps.at).holds))
                 )
-            | inr apart ↦ subst (λ place. HoldsAt job kept core.graph n q place part') (sym (place_after_other core.state p q apart))
+            | inr apart ↦ subst (λ place. HoldsAt job core.graph (keeps q) n q place part') (sym (place_after_other core.state p q apart))
                 (right.parts q part' (sym (get_or-set_other core.parts p q (Some part) None apart) ∙ at))
           ];
           logs = LogsHold-step;
@@ -325,24 +347,21 @@ module _ {V M : Type 0} (job : Job V M) (kept : Option Rows) {P C A : Type 0} (c
           ending = right.ending;
           at_end = right.at_end;
           beside = right.beside;
-        })
+        }))
 
 -- what a part's step promises is what a step taken in asks for
 pub IsStepOf-from_HasMadeStep : {V M : Type 0} (job : Job V M) (kept : Option Rows) {P C A : Type 0} (core : Progress P C A V M) (p r : ℕ)
     (part : PartState V M) (sent : List (Logged M)) (value_eq : V → V → Bool) (message_eq : M → M → Bool) (calls calls_after : ℕ)
     → place_at p core.state ≡ Some r
-    → parts_of.HasMadeStep job value_eq message_eq kept core.graph core.limits.partitions p r part sent calls calls_after
+    → parts_of.HasMadeStep job value_eq message_eq (kept_for kept core p) core.graph core.limits.partitions p r part sent calls calls_after
     → IsStepOf job kept core p part sent
-IsStepOf-from_HasMadeStep job kept core p r part sent value_eq message_eq calls calls_after at stepped = record {
-  holds =
-      λ s is. let same : r ≡ s = same_Some r s (sym at ∙ is) in
-      subst (λ (s : ℕ). HoldsShare job kept core.graph core.limits.partitions p (s + 1) part) same
-      (record { course = stepped.course.holds; stats = stepped.stats });
-  to_each = stepped.course.to_each;
-  sends =
-      λ s q is within. let same : r ≡ s = same_Some r s (sym at ∙ is) in
-      subst (λ (s : ℕ). IsSentTo job kept core.graph core.limits.partitions p q s (slice_get sent q)) same (stepped.course.sends q within);
-}
+IsStepOf-from_HasMadeStep job kept core p r part sent value_eq message_eq calls calls_after at stepped s is =
+    let made : IsStepFrom job (kept_for kept core p) core.graph core.limits.partitions p r part sent = record {
+      holds = record { course = stepped.course.holds; stats = stepped.stats };
+      to_each = stepped.course.to_each;
+      sends = stepped.course.sends;
+    } in
+    subst (λ (s : ℕ). IsStepFrom job (kept_for kept core p) core.graph core.limits.partitions p s part sent) (same_Some r s (sym at ∙ is)) made
 
 -- what a step is lent doesn't lie in the parts
 pub IsStepLent-without : {V M : Type 0} (job : Job V M) (kept : Option Rows) {P C A : Type 0} (core : Progress P C A V M) (p r : ℕ) (part : PartState V M)
@@ -371,7 +390,7 @@ module _ {V M : Type 0} (job : Job V M) (kept : Option Rows) {P C A : Type 0} (c
   lent_run same shows = subst₂ (IsLent job core.graph core.limits.partitions p r) (sym same) (sym shows) lent.lent
 
   pub lent_beside : logs ≡ core.logs → old_logs ≡ logs_in r core.kept → old_visible ≡ visible_in r core.kept
-      → IsLentBeside job kept core.limits.partitions p r logs old_logs old_visible
+      → IsLentBeside job (kept_for kept core p) core.limits.partitions p r logs old_logs old_visible
   lent_beside same old shows =
-      subst (λ logs. IsLentBeside job kept core.limits.partitions p r logs old_logs old_visible) (sym same)
-      (subst₂ (IsLentBeside job kept core.limits.partitions p r core.logs) (sym old) (sym shows) lent.beside)
+      subst (λ logs. IsLentBeside job (kept_for kept core p) core.limits.partitions p r logs old_logs old_visible) (sym same)
+      (subst₂ (IsLentBeside job (kept_for kept core p) core.limits.partitions p r core.logs) (sym old) (sym shows) lent.beside)

@@ -61,7 +61,17 @@ module _ {V M : Type 0} where
       → ((p : ℕ) → p < m → HasLeft job kept n p (slice_get lefts p))
       → (p : ℕ) → p < m → HasBegun job (Some kept) rows n p (slice_index_or parts p None)
 
-  -- all n parts have begun, beside some run or none
-  pub record AreBegun (job : Job V M) (rows : Rows) (n : ℕ) (parts : List (Option (PartState V M))) : Type 0 where
-    pub beside : Option Rows
-    pub begun : (p : ℕ) → p < n → HasBegun job beside rows n p (slice_index_or parts p None)
+  -- a part is of partition p of n, and at superstep 0
+  pub record IsFirst (n p : ℕ) (part : PartState V M) : Type 0 where
+    pub partition_is : part.course.partition ≡ p
+    pub partitions_are : part.course.partitions ≡ n
+    pub place_is : part.course.place ≡ 0
+
+  -- it is here
+  abbrev pub IsHereFirst : ℕ → ℕ → Option (PartState V M) → Type 0
+  IsHereFirst n p None = ⊥
+  IsHereFirst n p (Some part) = IsFirst n p part
+
+  -- the first m parts are
+  abbrev pub AreFirst : ℕ → ℕ → List (Option (PartState V M)) → Type 0
+  AreFirst n m parts = (p : ℕ) → p < m → IsHereFirst n p (slice_index_or parts p None)

@@ -2,9 +2,9 @@
 use Rattle.std.specs.Prelude.{◌≡◌, ◌==◌, ℕ, ◌+◌, ◌<◌, ◌≤◌, nat_lt, Bool, true, false, cond, ◌&&◌, List, [], ◌∷◌, ◌++◌}
 use Rattle.std.specs.Prelude.{map, length, slice_index_or, slice_set, take, Option, None, Some, IsSome, is_some}
 use Rattle.std.specs.List.{All, filter, range_with_len, slice_get}
-use Rattle.pg_machine.specs.Limits.{Limits}
+use Rattle.pg_machine.specs.Limits.{AreLimits, Limits}
 use Rattle.pg_core.specs.Traces.{KeepsCommon, Common, logs_in, shown_below, visible_in}
-use Rattle.pg_machine.specs.Machine.{State, Reaches, after, first_state, host_of, is_allowed, place_at}
+use Rattle.pg_machine.specs.Machine.{State, Reaches, after, first_state, host_of, is_allowed, place_at, was_lost}
 use Rattle.pg_machine.specs.declared.event.Event.{Event}
 use Rattle.pg_machine.specs.declared.event.Event.TheVariants.{Step}
 use Rattle.pg_core.specs.declared.tally.Tally.{Tally}
@@ -54,10 +54,12 @@ pub record IsNext {V M : Type 0} (partitions : ℕ) (state : State) (p : ℕ) (p
   pub partitions_are : part.course.partitions ≡ partitions
   pub place_is : (r : ℕ) → place_at p state ≡ Some r → part.course.place ≡ r + 1
 
--- what is so of every run over partitions, right or not: its events led to its state, a part that is here is at its
--- partition's place, none is away past the open superstep, and something was shown in each superstep up to it
+-- what is so of every run over partitions, right or not: it has the numbers of one, its events led to its state, a part
+-- that is here is at its partition's place, none is away past the open superstep, and something was shown in each superstep
+-- up to it
 pub record IsLawful {V M : Type 0} (limits : Limits) (declared : Declared) (registered registry : Registered) (state : State)
     (history : List Event) (parts : List (Option (PartState V M))) (shown : List Visible) (tally : Tally) : Type 0 where
+  pub limits_are : AreLimits limits
   pub registry_is : registry ≡ registered
   pub few : length registered ≤ 16
   pub declared_are : has_places declared (length registered) ≡ true
@@ -90,17 +92,17 @@ module _ {V M : Type 0} (job : Job V M) (rows : Rows) where
   abbrev pub ending_in : State → Option Ending
   ending_in state = cond state.ended (ending_after job rows state.current) None
 
-module _ {V M : Type 0} (job : Job V M) (kept : Option Rows) (rows : Rows) where
-  -- the logs have what each partition sent in the supersteps that it has made, beside the kept run, if any, and nothing
-  -- else
-  pub record LogsHold (n : ℕ) (places : List (Option ℕ)) (logs : Slots M) : Type 0 where
-    pub sent : (s p q : ℕ) → is_past s (slice_index_or places p None) ≡ true → q < n → IsSentTo job kept rows n p q s (slot_at logs s p q)
+module _ {V M : Type 0} (job : Job V M) (rows : Rows) where
+  -- the logs have what each partition sent in the supersteps that it has made, beside the run on the rows that are kept for
+  -- it, if any, and nothing else
+  pub record LogsHold (keeps : ℕ → Option Rows) (n : ℕ) (places : List (Option ℕ)) (logs : Slots M) : Type 0 where
+    pub sent : (s p q : ℕ) → is_past s (slice_index_or places p None) ≡ true → q < n → IsSentTo job (keeps p) rows n p q s (slot_at logs s p q)
     pub no_more : (s p q : ℕ) → (is_past s (slice_index_or places p None) && nat_lt q n) ≡ false → slot_at logs s p q ≡ None
 
-  -- partition p holds its share of the run at its place, beside the kept run, if any
-  abbrev pub HoldsAt : ℕ → ℕ → Option ℕ → PartState V M → Type 0
-  HoldsAt n p None part = ⊥
-  HoldsAt n p (Some r) part = HoldsShare job kept rows n p r part
+  -- partition p holds its share of the run at its place, beside the run on the rows that are kept for it, if any
+  abbrev pub HoldsAt : Option Rows → ℕ → ℕ → Option ℕ → PartState V M → Type 0
+  HoldsAt kept n p None part = ⊥
+  HoldsAt kept n p (Some r) part = HoldsShare job kept rows n p r part
 
 module _ {P C A V M : Type 0} where
   -- the job of a run, by what its program, its combiner and its master mean
@@ -112,18 +114,33 @@ module _ {P C A V M : Type 0} where
   abbrev pub part_at : ℕ → Progress P C A V M → Option (PartState V M)
   part_at p core = slice_index_or core.parts p None
 
-  -- what it has is the run's on its graph: each part that is here holds its share at its place, beside parts at other
-  -- places and beside the kept run, if any; the logs hold what the partitions sent on their way there; what was shown and
-  -- counted is the run's, and so is why it ended; what it has of the kept run is that run's
-  pub record IsRight (job : Job V M) (kept : Option Rows) (core : Progress P C A V M) : Type 0 where
+  -- a loss has taken partition p in this run
+  abbrev pub has_lost : Progress P C A V M → ℕ → Bool
+  has_lost core p = was_lost p (first_state core.limits.partitions core.limits.workers) core.history
+
+  -- the rows of the kept run beside which partition p goes on: those that are kept, if any, until a loss takes the
+  -- partition, since its trace of that run is gone then
+  abbrev pub kept_for : Option Rows → Progress P C A V M → ℕ → Option Rows
+  kept_for kept core p = cond (has_lost core p) None kept
+
+  -- what it has is the run's on its graph, where these rows are kept for each partition: each part that is here holds its
+  -- share at its place, beside parts at other places, and beside the run that is kept for its partition, if any; the logs
+  -- hold what the partitions sent on their way there, those that are away too, and nothing of one that is lost; what was
+  -- shown and counted is the run's, and so is why it ended; what it has of the kept run is that run's
+  pub record IsRightWith (job : Job V M) (kept : Option Rows) (keeps : ℕ → Option Rows) (core : Progress P C A V M) : Type 0 where
     pub within : core.state.current < run_length job core.graph
-    pub parts : (p : ℕ) (part : PartState V M) → part_at p core ≡ Some part → HoldsAt job kept core.graph core.limits.partitions p (place_at p core.state) part
-    pub logs : LogsHold job kept core.graph core.limits.partitions core.state.places core.logs
+    pub parts : (p : ℕ) (part : PartState V M) → part_at p core ≡ Some part
+        → HoldsAt job core.graph (keeps p) core.limits.partitions p (place_at p core.state) part
+    pub logs : LogsHold job core.graph keeps core.limits.partitions core.state.places core.logs
     pub shown : core.shown ≡ shown_below job core.graph (core.state.current + 1)
     pub tally : core.tally ≡ tally_at job core.graph (reached core.state)
     pub ending : core.ending ≡ ending_in job core.graph core.state
     pub at_end : core.state.ended ≡ true → core.state.current + 1 ≡ run_length job core.graph
     pub beside : KeepsCommon job kept core.limits.partitions core.kept
+
+  -- it is right beside the kept run, if any: that is kept for each partition that no loss took
+  abbrev pub IsRight : Job V M → Option Rows → Progress P C A V M → Type 0
+  IsRight job kept core = IsRightWith job kept (kept_for kept core) core
 
   -- the part of a partition can be taken for a step
   abbrev pub is_ready : Progress P C A V M → ℕ → Bool
@@ -174,16 +191,22 @@ module _ {P C A V M : Type 0} where
     pub part : PartState V M
     pub core_is : after ≡ record (with_step p part before) { logs = after.logs }
 
-  -- a part and what it sent are those of the run after a step of partition p, beside the kept run, if any
-  pub record IsStepOf (job : Job V M) (kept : Option Rows) (core : Progress P C A V M) (p : ℕ) (part : PartState V M) (sent : List (Logged M)) : Type 0 where
-    pub holds : (r : ℕ) → place_at p core.state ≡ Some r → HoldsShare job kept core.graph core.limits.partitions p (r + 1) part
-    pub to_each : length sent ≡ core.limits.partitions
-    pub sends : (r q : ℕ) → place_at p core.state ≡ Some r → q < core.limits.partitions
-        → IsSentTo job kept core.graph core.limits.partitions p q r (slice_get sent q)
+-- a part and what it sent are those of the run after a step of partition p of n from r, beside the kept run, if any
+pub record IsStepFrom {V M : Type 0} (job : Job V M) (kept : Option Rows) (rows : Rows) (n p r : ℕ) (part : PartState V M) (sent : List (Logged M)) : Type 0 where
+  pub holds : HoldsShare job kept rows n p (r + 1) part
+  pub to_each : length sent ≡ n
+  pub sends : (q : ℕ) → q < n → IsSentTo job kept rows n p q r (slice_get sent q)
 
-  -- what a step of partition p from r is lent of the run, beside the kept run, if any, and the part that makes it
+module _ {P C A V M : Type 0} where
+  -- the same of a core, from the place of the partition there, and beside the run that is kept for it
+  abbrev pub IsStepOf : Job V M → Option Rows → Progress P C A V M → ℕ → PartState V M → List (Logged M) → Type 0
+  IsStepOf job kept core p part sent =
+      (r : ℕ) → place_at p core.state ≡ Some r → IsStepFrom job (kept_for kept core p) core.graph core.limits.partitions p r part sent
+
+  -- what a step of partition p from r is lent of the run, beside the run that is kept for it, if any, and the part that
+  -- makes it
   pub record IsStepLent (job : Job V M) (kept : Option Rows) (core : Progress P C A V M) (p r : ℕ) (part : PartState V M) : Type 0 where
-    pub holds : HoldsShare job kept core.graph core.limits.partitions p r part
+    pub holds : HoldsShare job (kept_for kept core p) core.graph core.limits.partitions p r part
     pub lent : IsLent job core.graph core.limits.partitions p r core.logs (visible_at job core.graph r)
-    pub beside : IsLentBeside job kept core.limits.partitions p r core.logs (logs_in r core.kept) (visible_in r core.kept)
+    pub beside : IsLentBeside job (kept_for kept core p) core.limits.partitions p r core.logs (logs_in r core.kept) (visible_in r core.kept)
     pub open_or_before : r ≤ core.state.current

@@ -7,7 +7,6 @@ use Rattle.pg_model.specs.Job.{Job}
 use Rattle.pg_model.specs.Run.{configuration, run_length, values_of, visible_at}
 use Rattle.pg_model.specs.declared.view.Visible.{Visible}
 use Rattle.pg_routing.specs.Routes.{bundle_in, bundle_sent}
-use Rattle.pg_course.specs.Course.{AreTouched}
 use Rattle.pg_part.specs.Part.{IsLeft, LeftOf, PartState}
 use Rattle.pg_values.specs.Values.{Ended, HasEnded}
 
@@ -67,15 +66,10 @@ module _ {V M : Type 0} (job : Job V M) where
     pub graph_is : left.graph ≡ rows
     pub common : IsCommonOf rows n left.common
 
-  -- this is what some run leaves, on whose graph all rows were those of this one but for the touched ids
-  pub record IsLeftBeside (rows : Rows) (n : ℕ) (touched : List ℕ) (left : Traces V M) : Type 0 where
-    pub kept : Rows
-    pub left_by : IsLeftBy kept n left
-    pub untouched : AreTouched touched kept rows
-
--- parts that have ended a run of s supersteps left this, by partition, as far as m partitions
+-- parts that have ended a run of s supersteps, each beside the run that is kept for it, if any, left this, by partition, as
+-- far as m partitions
 abbrev pub HaveLeft : {V M : Type 0} → ℕ → List (Option (PartState V M)) → ℕ → List (LeftOf V M) → Type 0
 HaveLeft {V} {M} s parts m lefts =
-    (job : Job V M) (kept : Option Rows) (rows : Rows) (n : ℕ) → s ≡ run_length job rows
-    → ((p : ℕ) → p < m → HasEnded job kept rows n p (slice_index_or parts p None))
+    (job : Job V M) (keeps : ℕ → Option Rows) (rows : Rows) (n : ℕ) → s ≡ run_length job rows
+    → ((p : ℕ) → p < m → HasEnded job (keeps p) rows n p (slice_index_or parts p None))
     → (p : ℕ) → p < m → HasLeft job rows n p (slice_get lefts p)

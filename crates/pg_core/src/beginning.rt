@@ -1,6 +1,6 @@
 //! What stands as a run over partitions opens.
 ghost use Rattle.std.specs.Prelude.{◌≡◌, ◌≤◌, length, map, [], ◌∷◌, All, None, IfOk, OnOk};
-ghost use Rattle.pg_core.specs.Beginning.{HasStarted, HaveBegun, HaveBegunBeside, HaveBegunWith, first_visible};
+ghost use Rattle.pg_core.specs.Beginning.{AreFirst, HasStarted, HaveBegun, HaveBegunBeside, HaveBegunWith, first_visible};
 ghost use Rattle.pg_global.specs.Registry.{aggregating_of, first_refusal};
 ghost use Rattle.pg_model.specs.Superstep.{visible_in};
 
@@ -134,6 +134,7 @@ pub(crate) fn begun_parts<P: Computation>(
     program: &P,
 ) -> Result<Vec<Option<Part<P::Value, P::Message>>>, Memory>
     ensures each { IfOk result (λ parts. length parts.items ≡ limits.partitions) }
+    ensures first { IfOk result (λ parts. AreFirst limits.partitions limits.partitions parts.items) }
     ensures begun { IfOk result (λ parts. HaveBegun (P.program program.now) limits.missing registry.now
         graph.now limits.partitions limits.partitions parts.items) }
 {
@@ -166,6 +167,7 @@ pub(crate) fn begun_parts_beside<P: Computation>(
 >
     requires { length old.lefts ≡ limits.partitions }
     ensures each { IfOk result (λ begun. length begun.0.items ≡ limits.partitions) }
+    ensures first { IfOk result (λ begun. AreFirst limits.partitions limits.partitions begun.0.items) }
     ensures begun { IfOk result (λ begun. HaveBegunBeside (P.program program.now) limits.missing registry.now
         graph.now touched.now old.graph old.lefts limits.partitions limits.partitions begun.0.items) }
     ensures common { IfOk result (λ begun. begun.1 ≡ old.common) }
@@ -192,6 +194,7 @@ fn begun_with<P: Computation>(
 ) -> Result<Vec<Option<Part<P::Value, P::Message>>>, Memory>
     requires { length lefts.items ≡ limits.partitions }
     ensures each { IfOk result (λ parts. length parts.items ≡ limits.partitions) }
+    ensures first { IfOk result (λ parts. AreFirst limits.partitions limits.partitions parts.items) }
     ensures begun { IfOk result (λ parts. HaveBegunWith (P.program program.now) limits.missing registry.now
         graph.now touched.now moved.now lefts.items limits.partitions limits.partitions parts.items) }
 {

@@ -1,8 +1,8 @@
 //! Driving a run over partitions to its end.
-ghost use Rattle.std.specs.Prelude.{◌≡◌, ℕ, ◌+◌, ◌<◌, true, false, Option, IsSome, OnOk};
-ghost use Rattle.pg_core.specs.Driving.{ArePast, GoesOn, IsSameRun, still_needed};
+ghost use Rattle.std.specs.Prelude.{◌≡◌, ℕ, ◌+◌, ◌<◌, [], true, false, Option, IsSome, OnOk};
+ghost use Rattle.pg_core.specs.Driving.{ArePast, GoesOn, IsSameRun, calls_in, still_needed};
+ghost use Rattle.pg_core.specs.Progress.{IsRight, job_by, kept_for, part_at};
 ghost use Rattle.pg_machine.specs.Machine.{first_state};
-ghost use Rattle.pg_core.specs.Progress.{IsRight, job_by, part_at};
 ghost use Rattle.pg_graph.specs.Rows.{Rows};
 ghost use Rattle.pg_model.specs.Needed.{needed_count};
 ghost use Rattle.pg_model.specs.Superstep.{capped};
@@ -16,7 +16,8 @@ use std::alloc::Global;
 impl<'a, P: Computation, C: MessageCombiner<P::Message>, M: MasterCompute> Core<'a, P, C, M> {
     /// Drives the run from where it stands to its end: partitions that are behind step up to the open superstep; then,
     /// superstep by superstep, all partitions step, by rising number, and the superstep is closed. The meter rises by
-    /// one for each call of compute. Where memory is refused the core is to be given up.
+    /// one for each call of compute: one for each execution that differs from the kept run's, and one for each of a
+    /// partition that a loss took. Where memory is refused the core is to be given up.
     pub fn run_out(&mut self, alloc: Global, meter: &mut Meter) -> Result<(), Memory>
         requires { (p : ℕ) → p < self.old.limits.partitions → IsSome (part_at p self.old) }
         ensures same { OnOk result (IsSameRun self.old self.new) }
@@ -27,11 +28,15 @@ impl<'a, P: Computation, C: MessageCombiner<P::Message>, M: MasterCompute> Core<
         ensures counted { let job = job_by P.program C.combining M.master self.old in
             OnOk result ((kept : Option Rows) → IsRight job kept self.old
             → meter.new ≡ capped (meter.old
-            + still_needed P.Value.PartialEq.eq P.Message.PartialEq.eq job kept self.old.graph
-            self.old.limits.partitions self.old.state)) }
+            + still_needed P.Value.PartialEq.eq P.Message.PartialEq.eq job self.old.graph
+            self.old.limits.partitions (kept_for kept self.old) self.old.state)) }
+        ensures told { let job = job_by P.program C.combining M.master self.old in
+            OnOk result ((kept : Option Rows) → IsRight job kept self.old
+            → meter.old ≡ capped (calls_in P.Value.PartialEq.eq P.Message.PartialEq.eq job kept self.old)
+            → meter.new ≡ capped (calls_in P.Value.PartialEq.eq P.Message.PartialEq.eq job kept self.new)) }
         ensures counted_all { let job = job_by P.program C.combining M.master self.old in
             OnOk result ((kept : Option Rows) → IsRight job kept self.old
-            → self.old.state ≡ first_state self.old.limits.partitions self.old.limits.workers
+            → self.old.history ≡ []
             → meter.new ≡ capped (meter.old
             + needed_count P.Value.PartialEq.eq P.Message.PartialEq.eq job kept self.old.graph)) }
     {
@@ -43,9 +48,11 @@ impl<'a, P: Computation, C: MessageCombiner<P::Message>, M: MasterCompute> Core<
         Ok(())
     }
 
-    /// The same, step by step.
+    /// The same, step by step. A run in which nothing has happened is driven from its first state.
     fn drive(&mut self, alloc: Global, meter: &mut Meter) -> Result<(), Memory>
         requires { (p : ℕ) → p < self.old.limits.partitions → IsSome (part_at p self.old) }
+        ensures from_first { self.old.history ≡ []
+            → self.old.state ≡ first_state self.old.limits.partitions self.old.limits.workers }
         ensures ended { OnOk result (self.new.state.ended ≡ true) }
         ensures goes { let job = job_by P.program C.combining M.master self.old in
             OnOk result (GoesOn P.Value.PartialEq.eq P.Message.PartialEq.eq job

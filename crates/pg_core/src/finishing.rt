@@ -1,8 +1,10 @@
 //! What a run over partitions gives once it has ended.
-ghost use Rattle.std.specs.Prelude.{◌≡◌, ℕ, ◌+◌, ◌<◌, true, length, Option, None, IsSome, IfOk, slice_index_or};
+ghost use Rattle.std.specs.Prelude.{◌≡◌, ℕ, ◌+◌, ◌<◌, true, cond, length, Option, None, IsSome, IfOk, option_map, slice_index_or};
+ghost use Rattle.std.specs.List.{list_all};
+ghost use Rattle.pg_values.specs.Values.{is_warm};
 ghost use Rattle.pg_core.specs.Closing.{AreGiven, IsFinished, answer_with};
 ghost use Rattle.pg_core.specs.Progress.{IsRight, job_by};
-ghost use Rattle.pg_core.specs.Traces.{HaveLeft};
+ghost use Rattle.pg_core.specs.Traces.{HaveLeft, ended_by};
 ghost use Rattle.pg_graph.specs.Rows.{Rows};
 ghost use Rattle.pg_model.specs.Run.{configuration, values_of};
 
@@ -14,7 +16,7 @@ use pg_graph::{Graph, Memory, Superstep, VertexId};
 use pg_model::{Ending, Run, Sequence};
 use pg_part::{Left, Part, Spent as SpentByPart};
 use pg_program::{Computation, Plain};
-use pg_values::{Values, values_beside};
+use pg_values::{Ended, Values, values_beside};
 use std::alloc::Global;
 
 /// The answer of a run, what it leaves, and what it has no more use for.
@@ -24,10 +26,12 @@ impl<'a, P: Computation, C: MessageCombiner<P::Message>, M: MasterCompute> Core<
     /// The answer of a run that has ended, all that the run leaves for one beside it, and what nobody needs any more.
     ///
     /// Costs a copy of the vertices' values, a look-up for each vertex that may have ended otherwise than in the kept run,
-    /// and what is cut where that was longer. Beside nothing it costs a sort of the vertices' ids and a look-up for each.
+    /// and what is cut where that was longer. Beside nothing, and where a loss took a partition, it costs a sort of the
+    /// vertices' ids and a look-up for each.
     pub fn finish(self, alloc: Global) -> Result<Finished<P::Value, P::Message>, Memory>
         requires { self.state.ended ≡ true }
-        ensures { let job = job_by P.program C.combining M.master self.entry in
+        ensures each { IfOk result (λ done. length done.1.lefts ≡ self.entry.limits.partitions) }
+        ensures finished { let job = job_by P.program C.combining M.master self.entry in
             IfOk result (λ done. (kept : Option Rows) → IsRight job kept self.entry
             → IsFinished job self.entry done.0 done.1) }
     {
@@ -44,8 +48,8 @@ impl<'a, P: Computation, C: MessageCombiner<P::Message>, M: MasterCompute> Core<
             (configuration job self.now.graph (self.now.state.current + 1))) }
     {
         let missing = self.limits.missing();
-        let ended = ended_of(&self.kept);
         let parts = self.parts.as_slice();
+        let ended = end_beside(&self.kept, parts);
         let supersteps = self.next_superstep();
         values_beside(
             alloc,
@@ -56,6 +60,30 @@ impl<'a, P: Computation, C: MessageCombiner<P::Message>, M: MasterCompute> Core<
             supersteps,
         )
     }
+}
+
+/// How the kept run ended, where each of these parts is beside it. One that isn't tells nothing of what ended otherwise.
+fn end_beside<'k, V: Plain, M: Plain>(
+    kept: &'k Option<Common<V, M>>,
+    parts: &[Option<Part<V, M>>],
+) -> Option<Ended<'k, V>>
+    ensures { result ≡ cond (list_all is_warm parts.now) (option_map ended_by kept.now) None }
+{
+    if are_warm(parts) {
+        ended_of(kept)
+    } else {
+        None
+    }
+}
+
+/// Whether each of these parts is here, and beside an old run.
+fn are_warm<V: Plain, M: Plain>(parts: &[Option<Part<V, M>>]) -> bool
+    ensures { result ≡ list_all is_warm parts.now }
+{
+    parts.iter().all(|part| match part {
+        Some(part) => part.is_warm(),
+        None => false,
+    })
 }
 
 /// The answer of a run of so many supersteps on a graph, what it leaves, and what it has no more use for: it leaves what

@@ -5,6 +5,7 @@ mod beginning;
 mod closing;
 mod driving;
 mod finishing;
+mod losing;
 mod running;
 mod stepping;
 mod tally;

@@ -1,17 +1,19 @@
 //! The core: a run over partitions between two events.
-ghost use Rattle.std.specs.Prelude.{◌≡◌, ℕ, ◌+◌, ◌<◌, ◌≤◌, ◌∷◌, ◌++◌, [], true, cond, length, Option, None, Some, IsSome};
+ghost use Rattle.std.specs.Prelude.{◌≡◌, ℕ, ◌+◌, ◌<◌, ◌≤◌, ◌∷◌, ◌++◌, [], true, cond, is_some, length, Option, None, Some, IsSome};
 ghost use Rattle.std.specs.Prelude.{IfErr, IfOk, IfSome, OnOk, slice_get, slice_index_or, slice_set, take};
 ghost use Rattle.pg_machine.specs.Machine.{Reaches, RestoresFollowLosses, StepsTell, first_state, host_of, is_allowed};
 ghost use Rattle.pg_core.specs.Progress.{HasPut, IsNext, IsOpened, IsPartAt, IsRight, IsStepLent, IsStepOf, TakesIn};
 ghost use Rattle.pg_core.specs.Progress.{is_ready as ready_test, job_by, part_at, ready_of, without_part};
-ghost use Rattle.pg_core.specs.Beginning.{AreBegun, HasBegun, HasStarted};
+ghost use Rattle.pg_core.specs.Beginning.{AreFirst, HasBegun, HasStarted};
 ghost use Rattle.pg_core.specs.Closing.{IsFinished};
+ghost use Rattle.pg_core.specs.Driving.{calls_in, losses_of};
 ghost use Rattle.pg_global.specs.Master.{has_places, is_registered, job_of};
 ghost use Rattle.pg_global.specs.Registry.{first_refusal};
-ghost use Rattle.pg_core.specs.Traces.{IsLeftBeside, IsLeftBy, KeepsCommon, logs_in, visible_in};
+ghost use Rattle.pg_core.specs.Traces.{IsLeftBy, KeepsCommon, logs_in, visible_in};
 ghost use Rattle.pg_course.specs.Course.{AreTouched};
 ghost use Rattle.std.specs.Option.{option_copied};
 ghost use Rattle.pg_graph.specs.Rows.{Rows};
+ghost use Rattle.pg_model.specs.Needed.{needed_count};
 ghost use Rattle.pg_model.specs.Run.{configuration, values_of, visible_at};
 
 use crate::beginning::{Start, begun_parts, begun_parts_beside};
@@ -126,9 +128,9 @@ impl<'a, P: Computation, C: MessageCombiner<P::Message>, M: MasterCompute> Core<
         ))
     }
 
-    /// A core to which nothing has happened, beside an old run: with all that it left, and with ids outside of which
-    /// the graph's rows are those of its graph. Its partitions execute only what differs from the old run. Costs a
-    /// sort of k such ids, k look-ups for each partition, and one count a superstep of the old run.
+    /// A core to which nothing has happened, beside an old run over as many partitions: with all that it left, and with
+    /// ids outside of which the graph's rows are those of its graph. Its partitions execute only what differs from the
+    /// old run. Costs a sort of k such ids, k look-ups for each partition, and one count a superstep of the old run.
     pub fn open_beside(
         alloc: Global,
         graph: &'a Graph,
@@ -142,9 +144,7 @@ impl<'a, P: Computation, C: MessageCombiner<P::Message>, M: MasterCompute> Core<
     ) -> Result<Core<'a, P, C, M>, Memory>
         requires lawful { first_refusal [] (M.master master.now).registrations ≡ None }
         requires registered { is_registered (P.program program.now) (M.master master.now) ≡ true }
-        requires left { let job = job_of (P.program program.now) (C.combining combiner.now)
-            (M.master master.now) limits.missing limits.limit in
-            IsLeftBeside job graph.now limits.partitions touched.now old }
+        requires each { length old.lefts ≡ limits.partitions }
         ensures opened { IfOk result
             (λ core. IsOpened core program.now combiner.now master.now graph.now limits run) }
         ensures right { let job = job_of (P.program program.now) (C.combining combiner.now)
@@ -177,7 +177,8 @@ impl<'a, P: Computation, C: MessageCombiner<P::Message>, M: MasterCompute> Core<
     }
 
     /// What has happened. The events led from the first state to the present one; each restored partition was lost
-    /// before, and one that wasn't lost has made as many steps as it is far.
+    /// before, and one that wasn't lost has made as many steps as it is far. Where a right run has ended and no worker
+    /// fell, the calls of compute that its steps count are just the executions that the run needs.
     pub fn history(&self) -> &[Event]
         ensures value { result.now ≡ self.now.history }
         ensures leads { Reaches (first_state self.now.limits.partitions self.now.limits.workers)
@@ -186,6 +187,11 @@ impl<'a, P: Computation, C: MessageCombiner<P::Message>, M: MasterCompute> Core<
             (first_state self.now.limits.partitions self.now.limits.workers) self.now.history }
         ensures steps { StepsTell self.now.limits.partitions
             (first_state self.now.limits.partitions self.now.limits.workers) self.now.history self.now.state }
+        ensures unlost { let job = job_by P.program C.combining M.master self.now in
+            (kept : Option Rows) → IsRight job kept self.now
+            → self.now.state.ended ≡ true → losses_of self.now ≡ []
+            → calls_in P.Value.PartialEq.eq P.Message.PartialEq.eq job kept self.now
+            ≡ needed_count P.Value.PartialEq.eq P.Message.PartialEq.eq job kept self.now.graph }
     {
         self.history.as_slice()
     }
@@ -273,8 +279,15 @@ impl<'a, P: Computation, C: MessageCombiner<P::Message>, M: MasterCompute> Core<
     pub fn is_ready(&self, partition: PartitionId) -> bool
         ensures { result ≡ ready_test self.now partition }
     {
+        self.is_here(partition) && self.state.may_step(partition)
+    }
+
+    /// Whether the part of a partition is here: neither taken nor lost.
+    pub fn is_here(&self, partition: PartitionId) -> bool
+        ensures { result ≡ is_some (part_at partition self.now) }
+    {
         let place = partition.number() as usize;
-        place < self.parts.len() && self.parts[place].is_some() && self.state.may_step(partition)
+        place < self.parts.len() && self.parts[place].is_some()
     }
 
     /// Takes the part of a partition that is ready. A step of it is lent the logs, and what is visible in its superstep.
@@ -295,8 +308,8 @@ impl<'a, P: Computation, C: MessageCombiner<P::Message>, M: MasterCompute> Core<
         self.parts[partition.number() as usize].take().unwrap()
     }
 
-    /// Takes in a step of a partition: its part, which was taken, one superstep further, and what it sent. Bundles to
-    /// partitions that there aren't are left out. Where memory is refused the core is to be given up.
+    /// Takes in a step of a partition: its part, one superstep further, in place of one that is here, and what it sent.
+    /// Bundles to partitions that there aren't are left out. Where memory is refused the core is to be given up.
     pub fn stepped(
         &mut self,
         alloc: Global,
@@ -305,7 +318,6 @@ impl<'a, P: Computation, C: MessageCombiner<P::Message>, M: MasterCompute> Core<
         sent: Sent<P::Message>,
     ) -> Result<(), Memory>
         requires allowed { is_allowed self.old.state (Event.Step partition) ≡ true }
-        requires taken { part_at partition self.old ≡ None }
         requires next { IsNext self.old.limits.partitions self.old.state partition part }
         ensures core { OnOk result (TakesIn partition part sent self.old self.new) }
         ensures right { let job = job_by P.program C.combining M.master self.old in
@@ -377,7 +389,8 @@ impl<'a, P: Computation, C: MessageCombiner<P::Message>, M: MasterCompute> Core<
         values: Values<P::Value>,
     ) -> Result<Finished<P::Value, P::Message>, Memory>
         requires { self.state.ended ≡ true }
-        ensures { let job = job_by P.program C.combining M.master self.entry in
+        ensures each { IfOk result (λ done. length done.1.lefts ≡ self.entry.limits.partitions) }
+        ensures finished { let job = job_by P.program C.combining M.master self.entry in
             IfOk result (λ done. (kept : Option Rows) → IsRight job kept self.entry
             → values ≡ values_of job self.entry.graph
             (configuration job self.entry.graph (self.entry.state.current + 1))
@@ -433,7 +446,7 @@ fn note_step<M: Plain>(
 }
 
 /// Puts the part of a partition in its place, and lets go what was there.
-fn put_part<V: Plain, M: Plain>(
+pub(crate) fn put_part<V: Plain, M: Plain>(
     parts: &mut Vec<Option<Part<V, M>>>,
     partition: PartitionId,
     part: Part<V, M>,
@@ -445,7 +458,7 @@ fn put_part<V: Plain, M: Plain>(
 }
 
 /// Puts the bundles of a partition into the logs, one to each partition from 0 on.
-fn put_all<M: Plain>(
+pub(crate) fn put_all<M: Plain>(
     alloc: Global,
     logs: &mut Logs<M>,
     superstep: Superstep,
@@ -487,9 +500,7 @@ fn open_with<'a, P: Computation, C: MessageCombiner<P::Message>, M: MasterComput
     requires started { HasStarted (M.master master.now) graph.now limits start }
     requires registered { is_registered (P.program program.now) (M.master master.now) ≡ true }
     requires each { length parts.items ≡ limits.partitions }
-    requires begun { let job = job_of (P.program program.now) (C.combining combiner.now)
-        (M.master master.now) limits.missing limits.limit in
-        AreBegun job graph.now limits.partitions parts.items }
+    requires first { AreFirst limits.partitions limits.partitions parts.items }
     ensures opened { IsOpened result program.now combiner.now master.now graph.now limits run }
     ensures right { let job = job_of (P.program program.now) (C.combining combiner.now)
         (M.master master.now) limits.missing limits.limit in

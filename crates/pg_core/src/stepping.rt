@@ -1,7 +1,7 @@
 //! A whole step of a partition: taken, made, and taken in.
 ghost use Rattle.std.specs.Prelude.{◌≡◌, ℕ, ◌+◌, ◌≤◌, ◌<◌, true, Option, Some, IfOk, OnOk};
 ghost use Rattle.pg_machine.specs.Machine.{place_at};
-ghost use Rattle.pg_core.specs.Progress.{HasMadeStep, IsRight, IsStepLent, is_ready as ready_test, job_by};
+ghost use Rattle.pg_core.specs.Progress.{HasMadeStep, IsRight, IsStepLent, is_ready as ready_test, job_by, kept_for};
 ghost use Rattle.pg_course.specs.Course.{IsFurther};
 ghost use Rattle.pg_graph.specs.Rows.{Rows};
 ghost use Rattle.pg_model.specs.Needed.{needed_in};
@@ -17,8 +17,9 @@ use pg_program::{Computation, Meter};
 use std::alloc::{AllocError, Global};
 
 impl<'a, P: Computation, C: MessageCombiner<P::Message>, M: MasterCompute> Core<'a, P, C, M> {
-    /// A step of a partition that is ready, beside the kept run, if there is one: its part is taken, stepped, and taken
-    /// in. The meter rises by one for each call of compute. Where memory is refused the core is to be given up.
+    /// A step of a partition that is ready, beside the kept run, if there is one and no loss took the partition: its part
+    /// is taken, stepped, and taken in. The meter rises by one for each call of compute. Where memory is refused the core
+    /// is to be given up.
     pub fn step_ready(
         &mut self,
         alloc: Global,
@@ -34,8 +35,8 @@ impl<'a, P: Computation, C: MessageCombiner<P::Message>, M: MasterCompute> Core<
             OnOk result ((kept : Option Rows) (r : ℕ) → IsRight job kept self.old
             → place_at partition self.old.state ≡ Some r
             → meter.new ≡ capped (meter.old
-            + needed_in P.Value.PartialEq.eq P.Message.PartialEq.eq job kept self.old.graph
-            (belongs self.old.limits.partitions partition) r)) }
+            + needed_in P.Value.PartialEq.eq P.Message.PartialEq.eq job (kept_for kept self.old partition)
+            self.old.graph (belongs self.old.limits.partitions partition) r)) }
     {
         let part = self.take(partition);
         match self.step_of(alloc, part, meter) {
@@ -57,8 +58,8 @@ impl<'a, P: Computation, C: MessageCombiner<P::Message>, M: MasterCompute> Core<
         ensures stepped { let job = job_by P.program C.combining M.master self.now in
             IfOk result (λ stepped. (kept : Option Rows) (p : ℕ) → IsRight job kept self.now
             → IsStepLent job kept self.now p part.course.place part
-            → PartHasMadeStep job P.Value.PartialEq.eq P.Message.PartialEq.eq kept self.now.graph
-            self.now.limits.partitions p part.course.place stepped.0 stepped.1 meter.old meter.new) }
+            → PartHasMadeStep job P.Value.PartialEq.eq P.Message.PartialEq.eq (kept_for kept self.now p)
+            self.now.graph self.now.limits.partitions p part.course.place stepped.0 stepped.1 meter.old meter.new) }
     {
         let place = part.place();
         part.step(

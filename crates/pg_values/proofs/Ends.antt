@@ -111,7 +111,7 @@ module _ {V M : Type 0} (job : Job V M) (old rows : Rows) (n p id : ℕ) (mine :
 -- ---- all of them
 
 module _ {V M : Type 0} (job : Job V M) (old rows : Rows) (n s : ℕ) (parts : List (Option (PartState V M)))
-    (ended : HaveEnded job (Some old) rows n s parts) where
+    (ended : HaveEnded job (λ p. Some old) rows n s parts) where
   have_shares : HaveShares job rows n s parts
   have_shares =
       record {
@@ -189,16 +189,22 @@ module _ {V M : Type 0} (job : Job V M) (old rows : Rows) (n s : ℕ) (parts : L
           value_of q (configuration job old (run_length job old)).standings
           ∙ (ap (option_map (λ x. x.value)) (state_kept q (sym (same q) ∙ e)) ∙ sym (value_of q (configuration job rows s).standings))
 
--- the same of what is kept
-module _ {V M : Type 0} (job : Job V M) (rows : Rows) (n s : ℕ) (parts : List (Option (PartState V M))) (kept : Ended V) where
-  pub patched_beside : (old : Option Rows) → HaveEnded job old rows n s parts → KeepsEnd job old (Some kept) → (is : List ℕ) → IsStrictlySortedBy nat_cmp is
-      → ((id : ℕ) → has_id is id ≡ has_id (flat_map (apart_in s kept.supersteps) parts) id)
-      → with_changes (new_values n s (traces_of parts) is) kept.values ≡ values_of job rows (configuration job rows s)
-  patched_beside None ended keeps is rise same = absurd (none-some kept (sym keeps))
-  patched_beside (Some old) ended keeps is rise same =
-      ap (with_changes (new_values n s (traces_of parts) is)) keeps.values_are
-      ∙ patched_are job old rows n s parts ended is rise
-      (subst (λ (k : ℕ). (id : ℕ) → has_id is id ≡ has_id (flat_map (apart_in s k) parts) id) keeps.supersteps_are same)
+-- the same of what is lent of the old run's end, where that run is kept for each partition
+module _ {V M : Type 0} (job : Job V M) (rows : Rows) (n s : ℕ) (parts : List (Option (PartState V M))) (lent : Ended V) where
+  pub patched_beside : (keeps : ℕ → Option Rows) → HaveEnded job keeps rows n s parts → KeepsEnd job keeps n (Some lent) → (is : List ℕ)
+      → IsStrictlySortedBy nat_cmp is → ((id : ℕ) → has_id is id ≡ has_id (flat_map (apart_in s lent.supersteps) parts) id)
+      → with_changes (new_values n s (traces_of parts) is) lent.values ≡ values_of job rows (configuration job rows s)
+  patched_beside keeps ended end is rise same =
+      ap (with_changes (new_values n s (traces_of parts) is)) end.answered.values_are
+      ∙ patched_are job end.old rows n s parts ended_beside is rise
+      (subst (λ (k : ℕ). (id : ℕ) → has_id is id ≡ has_id (flat_map (apart_in s k) parts) id) end.answered.supersteps_are same)
+    where
+      ended_beside : HaveEnded job (λ p. Some end.old) rows n s parts
+      ended_beside = record {
+        parts_are = λ p within. subst (λ k. HasEnded job k rows n p (get_or parts p None)) (end.for_all p within) (ended.parts_are p within);
+        some = ended.some;
+        last = ended.last;
+      }
 
 -- ids that rise, with values, rise
 pub new_values_rise : {V M : Type 0} (n s : ℕ) (traces : List (Option (Trace V M))) (is : List ℕ) → IsStrictlySortedBy nat_cmp is

@@ -1,5 +1,5 @@
 -- The values of a run's vertices, as its partitions have them.
-use Rattle.std.specs.Prelude.{◌≡◌, ℕ, ◌<◌, ◌%◌, ◌-◌, List, [], ◌∷◌, ◌++◌, map, slice_index_or, Option, None, Some}
+use Rattle.std.specs.Prelude.{◌≡◌, ℕ, ◌<◌, ◌%◌, ◌-◌, Bool, false, List, [], ◌∷◌, ◌++◌, map, slice_index_or, Option, None, Some, is_some}
 use Rattle.std.specs.List.{flat_map, range_with_len}
 use Rattle.std.specs.Map.{keys_of}
 use Rattle.std.specs.Option.{option_and_then, option_map}
@@ -77,9 +77,9 @@ module _ {V M : Type 0} where
   HasEnded job kept rows n p None = ⊥
   HasEnded job kept rows n p (Some part) = HoldsShare job kept rows n p (run_length job rows) part
 
-  -- all n of them have come to the end s of the run, beside the kept run, if any
-  pub record HaveEnded (job : Job V M) (kept : Option Rows) (rows : Rows) (n s : ℕ) (parts : List (Option (PartState V M))) : Type 0 where
-    pub parts_are : (p : ℕ) → p < n → HasEnded job kept rows n p (slice_index_or parts p None)
+  -- all n of them have come to the end s of the run, each beside the run on the rows that are kept for it, if any
+  pub record HaveEnded (job : Job V M) (keeps : ℕ → Option Rows) (rows : Rows) (n s : ℕ) (parts : List (Option (PartState V M))) : Type 0 where
+    pub parts_are : (p : ℕ) → p < n → HasEnded job (keeps p) rows n p (slice_index_or parts p None)
     pub some : 0 < n
     pub last : s ≡ run_length job rows
 
@@ -88,8 +88,18 @@ module _ {V M : Type 0} where
     pub values_are : ended.values ≡ values_of job rows (configuration job rows (run_length job rows))
     pub supersteps_are : ended.supersteps ≡ run_length job rows
 
-  -- those of the kept run, where there is one
-  abbrev pub KeepsEnd : Job V M → Option Rows → Option (Ended V) → Type 0
-  KeepsEnd job None kept = kept ≡ None
-  KeepsEnd job (Some rows) None = ⊥
-  KeepsEnd job (Some rows) (Some ended) = AreAnswered job rows ended
+  -- this is how a run ended that is kept for each of n partitions
+  pub record IsEndForAll (job : Job V M) (keeps : ℕ → Option Rows) (n : ℕ) (ended : Ended V) : Type 0 where
+    pub old : Rows
+    pub for_all : (p : ℕ) → p < n → keeps p ≡ Some old
+    pub answered : AreAnswered job old ended
+
+  -- what is lent of an old run's end, if anything, is that of one kept for each partition
+  abbrev pub KeepsEnd : Job V M → (ℕ → Option Rows) → ℕ → Option (Ended V) → Type 0
+  KeepsEnd job keeps n None = Unit {0}
+  KeepsEnd job keeps n (Some ended) = IsEndForAll job keeps n ended
+
+  -- a part that is here has the trace of an old run
+  abbrev pub is_warm : Option (PartState V M) → Bool
+  is_warm None = false
+  is_warm (Some part) = is_some part.course.kept

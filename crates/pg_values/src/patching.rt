@@ -1,5 +1,5 @@
 //! The values of a run's vertices, made of those with which the kept run ended.
-ghost use Rattle.std.specs.Prelude.{◌≡◌, ◌++◌, Option, Some, IfOk, OnOk};
+ghost use Rattle.std.specs.Prelude.{◌≡◌, ℕ, ◌++◌, Option, Some, IfOk, OnOk};
 ghost use Rattle.std.specs.List.{flat_map};
 ghost use Rattle.std.specs.Option.{option_map};
 ghost use Rattle.pg_values.specs.Values.{HaveEnded, KeepsEnd, apart_in, new_values, traces_of};
@@ -19,8 +19,9 @@ use std::alloc::{AllocError, Global};
 
 /// The values of the vertices as a run of so many supersteps ends, by rising id.
 ///
-/// Beside a kept run it costs a look-up for each vertex that may have ended otherwise, which the parts tell, and a copy of
-/// those of that run's values that lie near them; the others are shared. Else it costs a sort of the vertices' ids and a
+/// How an old run ended may be lent only where each part is beside that run: a part that isn't tells nothing of what ended
+/// otherwise. Then it costs a look-up for each vertex that may have ended otherwise, which the parts tell, and a copy of
+/// those of the old run's values that lie near them; the others are shared. Else it costs a sort of the vertices' ids and a
 /// look-up for each; where messages make vertices, of the ids of all executions.
 pub fn values_beside<V: Plain, M: Plain>(
     alloc: Global,
@@ -30,9 +31,9 @@ pub fn values_beside<V: Plain, M: Plain>(
     kept: Option<Ended<'_, V>>,
     superstep: Superstep,
 ) -> Result<Values<V>, Memory>
-    ensures { IfOk result (λ values. (job : Job V M) (old : Option Rows) (rows : Rows) → job.missing ≡ missing
-        → HaveEnded job old rows partitioner superstep parts.now
-        → KeepsEnd job old kept.entry
+    ensures { IfOk result (λ values. (job : Job V M) (keeps : ℕ → Option Rows) (rows : Rows) → job.missing ≡ missing
+        → HaveEnded job keeps rows partitioner superstep parts.now
+        → KeepsEnd job keeps partitioner kept.entry
         → values ≡ values_of job rows (configuration job rows superstep)) }
 {
     match kept {
@@ -49,9 +50,9 @@ fn values_patched<V: Plain, M: Plain>(
     kept: Ended<'_, V>,
     superstep: Superstep,
 ) -> Result<Values<V>, Memory>
-    ensures { IfOk result (λ values. (job : Job V M) (old : Option Rows) (rows : Rows)
-        → HaveEnded job old rows partitioner superstep parts.now
-        → KeepsEnd job old (Some kept.entry)
+    ensures { IfOk result (λ values. (job : Job V M) (keeps : ℕ → Option Rows) (rows : Rows)
+        → HaveEnded job keeps rows partitioner superstep parts.now
+        → KeepsEnd job keeps partitioner (Some kept.entry)
         → values ≡ values_of job rows (configuration job rows superstep)) }
 {
     let ids = rising(apart_ids(alloc, parts, superstep, kept.supersteps())?);

@@ -1,6 +1,7 @@
 use Rattle.std.proofs.Common.{◌≡◌, ℕ, ◌+◌, List, [], ◌∷◌, ◌++◌, length, None, ap, sym, ◌∙◌, subst, arith}
 use Rattle.std.proofs.lemmas.List.{length_push}
-use Rattle.pg_core.proofs.Opening.{begun_more}
+use Rattle.pg_core.specs.Beginning.{HasBegun, IsHereFirst}
+use Rattle.pg_core.proofs.Opening.{first_of, one_more}
 use Rattle.pg_routing.specs.Starting.{PartRows}
 use Rattle.pg_part.specs.Part.{HoldsShare}
 use Rattle.pg_core.proofs.beginning.begun_parts.Goals as goal
@@ -12,19 +13,28 @@ pub loop-partition-preserved : goal.loop-partition-preserved
 loop-partition-preserved g c =
     let n = c.args.limits.partitions in
     let part = c.in_ok-begin.field-0 in
+    let rows_are = c.rows-rows.ensures ∙ (λ i. record {
+      graph = c.args.graph.now;
+      partition = c.new.ensures i;
+      partitions = c.partitioner_of-partitioner.ensures.value i;
+    }) in
     record {
       each = pushed_length _ _ _ _ c.in_ok-push.ensures.items c.loop-partition.invariant.each;
+      first = one_more (IsHereFirst n) c.loop-partition.parts.items _ part c.loop-partition.partition c.loop-partition.invariant.each
+          c.loop-partition.invariant.first c.in_ok-push.ensures.items
+          (first_of c.rows-rows.result c.missing.result n c.loop-partition.partition part c.in_ok-begin.ensures.begins
+          (ap (λ r. r.partitions) rows_are) (ap (λ r. r.partition) rows_are));
       begun = λ job e m a.
-          let here = subst (λ (r : PartRows). HoldsShare job None r.graph r.partitions r.partition 0 part)
-          (c.rows-rows.ensures ∙ (λ i. record {
-            graph = c.args.graph.now;
-            partition = c.new.ensures i;
-            partitions = c.partitioner_of-partitioner.ensures.value i;
-          }))
-          (c.in_ok-begin.ensures.holds job e (m ∙ sym c.missing.ensures) a) in
-          begun_more job None c.args.graph.now n c.loop-partition.parts.items _ part c.loop-partition.partition c.loop-partition.invariant.each
-          (c.loop-partition.invariant.begun job e m a) c.in_ok-push.ensures.items here;
+          one_more (HasBegun job None c.args.graph.now n) c.loop-partition.parts.items _ part c.loop-partition.partition c.loop-partition.invariant.each
+          (c.loop-partition.invariant.begun job e m a) c.in_ok-push.ensures.items
+          (subst (λ (r : PartRows). HoldsShare job None r.graph r.partitions r.partition 0 part) rows_are
+          (c.in_ok-begin.ensures.holds job e (m ∙ sym c.missing.ensures) a));
     }
+
+pub returns-clause-first : goal.returns-clause-first
+returns-clause-first g c p within =
+    c.loop-partition.invariant.first p
+    (omega (arith, within, c.loop-partition-test.false, c.partitions-partition-end.ensures.value, c.partitioner_of-partitioner.ensures.value))
 
 pub returns-clause-begun : goal.returns-clause-begun
 returns-clause-begun g c job e m a p within =

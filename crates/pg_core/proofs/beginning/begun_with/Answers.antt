@@ -1,7 +1,8 @@
 use Rattle.std.proofs.Common.{◌≡◌, ℕ, ◌+◌, [], ◌∷◌, ◌++◌, length, Some, ap, sym, ◌∙◌, subst, arith, append_assoc}
 use Rattle.std.specs.List.{slice_get}
 use Rattle.std.proofs.lemmas.List.{length-append, length_push}
-use Rattle.pg_core.proofs.Opening.{begun_more, slice_get-between}
+use Rattle.pg_core.specs.Beginning.{HasBegun, IsHereFirst}
+use Rattle.pg_core.proofs.Opening.{first_of, one_more, slice_get-between}
 use Rattle.pg_core.specs.Traces.{HasLeft}
 use Rattle.pg_course.specs.Course.{AreTouched}
 use Rattle.pg_routing.specs.Starting.{PartRows}
@@ -31,15 +32,32 @@ loop-left-preserved g c =
       partition_is = ap (λ (k : ℕ). k + 1) c.loop-left.invariant.partition_is ∙ sym (length_push before left);
       whole = whole_yet;
       each = ap length c.in_ok-push.ensures.items ∙ (length_push c.loop-left.parts.items (Some part) ∙ ap (λ (k : ℕ). k + 1) c.loop-left.invariant.each);
+      first = one_more (IsHereFirst n) c.loop-left.parts.items _ part k c.loop-left.invariant.each c.loop-left.invariant.first c.in_ok-push.ensures.items
+          (first_of c.rows-rows.result c.missing.result n k part c.in_ok-part.ensures.begins
+          (ap (λ r. r.partitions) rows_are) (ap (λ r. r.partition) rows_are));
       begun = λ job kept e m a untouched moves whole.
           let begins =
           subst (λ (r : PartRows). IsLeft job kept r.partitions r.partition left → AreTouched c.args.touched.now kept r.graph
           → AreMoved c.args.moved.now kept r.graph → HoldsShare job (Some kept) r.graph r.partitions r.partition 0 part) rows_are
           (c.in_ok-part.ensures.holds job kept e (m ∙ sym c.missing.ensures) a) in
-          begun_more job (Some kept) c.args.graph.now n c.loop-left.parts.items _ part k c.loop-left.invariant.each
+          one_more (HasBegun job (Some kept) c.args.graph.now n) c.loop-left.parts.items _ part k c.loop-left.invariant.each
           (c.loop-left.invariant.begun job kept e m a untouched moves (λ p within. whole p (omega (arith, within)))) c.in_ok-push.ensures.items
           (begins (subst (HasLeft job kept n k) here (whole k (omega arith))) untouched moves);
     }
+
+pub returns-clause-first : goal.returns-clause-first
+returns-clause-first g c p within =
+    let counted = sym (length-append c.loop-left.yielded c.loop-left.left-iterator.rest.items) ∙ ap length c.loop-left.invariant.whole in
+    c.loop-left.invariant.first p
+    (omega (
+      arith,
+      within,
+      c.loop-left.left-iterator.rest.ok.0,
+      c.in-None.ensures.steps.0,
+      counted,
+      c.requires,
+      c.loop-left.invariant.partition_is,
+    ))
 
 pub returns-clause-begun : goal.returns-clause-begun
 returns-clause-begun g c job kept e m a untouched moves whole p within =

@@ -1,6 +1,6 @@
 use Rattle.std.proofs.Common.{◌∷◌, [], refl, ap, sym, ◌∙◌, subst}
 use Rattle.pg_core.specs.Progress.{IsLawful}
-use Rattle.pg_core.proofs.Opened.{IsLawful-opened, IsRight-opened, begun_are_here, tally_first, visible_first}
+use Rattle.pg_core.proofs.Opened.{IsLawful-opened, IsRight-opened, are_here, tally_first, visible_first}
 use Rattle.pg_core.proofs.running.open_with.Goals as goal
 use Rattle.pg_global.specs.Master.{job_of}
 
@@ -15,8 +15,7 @@ invariant_of-result g c =
     subst
     (λ events. IsLawful limits program.declared master.registrations start.registry start.state events parts start.shown.items start.tally)
     (sym c.new.ensures.items)
-    (IsLawful-opened program master combining limits c.args.graph.now parts c.requires.each c.requires.begun.beside
-    c.requires.begun.begun start c.requires.started c.requires.registered)
+    (IsLawful-opened program master limits c.args.graph.now parts c.requires.each c.requires.first start c.requires.started c.requires.registered)
 
 pub returns-clause-opened : goal.returns-clause-opened
 returns-clause-opened g c =
@@ -32,8 +31,7 @@ returns-clause-opened g c =
       run_is = refl;
       state_is = c.requires.started.state_is;
       history_is = c.new.ensures.items;
-      parts_are = begun_are_here program master combining c.args.limits c.args.graph.now c.args.parts.items
-          c.requires.each c.requires.begun.beside c.requires.begun.begun;
+      parts_are = are_here program master c.args.limits c.args.graph.now c.args.parts.items c.requires.each c.requires.first;
     }
 
 pub returns-clause-right : goal.returns-clause-right
@@ -48,6 +46,7 @@ returns-clause-right g c old keeps begun =
     let job = job_of program combining master limits.missing limits.limit in
     IsRight-opened program master combining limits rows c.args.parts.items c.requires.each old begun _ started.limits_are refl refl refl
     started.state_is
+    c.new.ensures.items
     c.new-2.ensures
     (started.shown_is ∙ ap (λ v. v ∷ []) (visible_first job rows tally.gathered (ap (λ t. t.gathered) started.tally_is)))
     (tally_first job rows tally started.tally_is)

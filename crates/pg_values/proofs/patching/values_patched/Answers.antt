@@ -14,7 +14,7 @@ changed-requires-clause-changes_rise g c κs within =
     subst ChangesRise (sym changes) (new_values_rise n s traces c.rising-ids.result.items c.rising-ids.ensures.rise)
 
 pub returns : goal.returns
-returns g c job old rows ended keeps =
+returns g c job keeps rows ended end =
     let n = c.args.partitioner in
     let s = c.args.superstep in
     let parts = c.args.parts.now in
@@ -23,5 +23,5 @@ returns g c job old rows ended keeps =
     let listed = c.in_ok-apart_ids.ensures ∙ ap (λ k. flat_map (apart_in s k) parts) c.supersteps.ensures in
     c.in_ok-values.ensures
     ∙ (ap₂ with_changes changes c.values.ensures
-    ∙ patched_beside job rows n s parts c.args.kept old ended keeps ids c.rising-ids.ensures.rise
+    ∙ patched_beside job rows n s parts c.args.kept keeps ended end ids c.rising-ids.ensures.rise
     (λ id. c.rising-ids.ensures.same id ∙ ap (λ l. has_id l id) listed))

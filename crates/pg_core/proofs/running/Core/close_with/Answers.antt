@@ -1,5 +1,6 @@
 use Rattle.std.proofs.Common.{◌≡◌, ℤ, List, ◌+◌, is_some, refl, sym, ap, ◌∙◌, subst, arith, cond}
 use Rattle.pg_core.specs.Progress.{IsRight, job_by, tally_at}
+use Rattle.pg_machine.specs.Machine.{Reaches, first_state}
 use Rattle.pg_machine.specs.declared.event.Closed.TheVariants.{Next, Ended}
 use Rattle.pg_machine.specs.declared.event.Event.TheVariants.{Close}
 use Rattle.pg_core.proofs.Ends.{IsRight-end, IsRight-next, not_ended, tally_next, visible_next}
@@ -22,8 +23,10 @@ returns-in_ok-end-in-Some-clause-right g c kept right are =
     let counts = tally_next job rows s stats are core.tally tally so_far (ap (λ t. t.gathered) c.after-tally.ensures)
     (ap (λ t. t.sent) c.after-tally.ensures ∙ ap (λ core. capped (core.tally.sent + stats.sent)) c.self.view_is)
     (ap (λ t. t.dropped) c.after-tally.ensures ∙ ap (λ core. capped (core.tally.dropped + stats.dropped)) c.self.view_is) in
+    let events =
+    subst (λ core. Reaches (first_state core.limits.partitions core.limits.workers) core.history core.state) c.self.view_is c.self.invariant.events in
     record {
-      right = subst (IsRight job kept) (sym c.in_ok-end-in-Some.ensures) (IsRight-end job kept core right c.in-Some.ending tally (sym last) (sym here) counts);
+      right = subst (IsRight job kept) (sym c.in_ok-end-in-Some.ensures) (IsRight-end job kept core right events c.in-Some.ending tally (sym last) (sym here) counts);
       ends = (λ ended. sym last, λ is. refl);
     }
 
@@ -46,7 +49,9 @@ returns-in_ok-open_next-in-None-clause-right g c kept right are =
       edges = stats.edges;
     }) (s + 1) gathered) (ap (λ t. t.gathered) c.after-tally.ensures)
     ∙ visible_next job rows s stats are in
+    let events =
+    subst (λ core. Reaches (first_state core.limits.partitions core.limits.workers) core.history core.state) c.self.view_is c.self.invariant.events in
     record {
-      right = subst (IsRight job kept) (sym c.in_ok-open_next-in-None.ensures) (IsRight-next job kept core right _ tally on within shows counts);
+      right = subst (IsRight job kept) (sym c.in_ok-open_next-in-None.ensures) (IsRight-next job kept core right events _ tally on within shows counts);
       ends = (λ ended. absurd (let apart : Next ≡ Ended = ended in cc), λ is. absurd (omega (arith, is, within)));
     }

@@ -1,12 +1,13 @@
-use Rattle.std.proofs.Common.{◌≡◌, ℕ, ◌+◌, ◌<◌, Some, option_map, true, length, sym, ap, ◌∙◌, subst, arith}
+use Rattle.std.proofs.Common.{◌≡◌, ℕ, ◌+◌, ◌<◌, None, Some, option_map, true, cond, length, sym, ap, ◌∙◌, subst, subst₂, arith}
 use Rattle.std.proofs.lemmas.Result.{IfOk-weaker}
+use Rattle.std.specs.List.{list_all}
 use Rattle.std.specs.Option.{IsSome}
 use Rattle.pg_machine.specs.Machine.{place_at}
-use Rattle.pg_core.specs.Progress.{job_by, part_at}
+use Rattle.pg_core.specs.Progress.{job_by, kept_for, part_at}
 use Rattle.pg_core.specs.Traces.{ended_by}
-use Rattle.pg_values.specs.Values.{HaveEnded, KeepsEnd}
+use Rattle.pg_values.specs.Values.{HaveEnded, KeepsEnd, is_warm}
 use Rattle.pg_machine.proofs.LawsMachine.{place_at_end}
-use Rattle.pg_core.proofs.Left.{have_all_ended, keeps_end}
+use Rattle.pg_core.proofs.Left.{end_lent, have_all_ended}
 use Rattle.pg_model.specs.Run.{configuration, values_of}
 use Rattle.pg_core.proofs.running.Core.end_values.Goals as goal
 
@@ -34,12 +35,13 @@ returns g c =
     let policy = ap (λ core. core.limits.missing) (sym c.self.view_is) ∙ sym c.missing-missing.ensures in
     IfOk-weaker c.values_beside.result _ _
     (λ values are kept right.
+    let keeps = kept_for kept core in
     let have = have_all_ended job kept core right ended places here each some in
-    let all_ended = subst (λ (n : ℕ). HaveEnded job kept rows n c.next_superstep-supersteps.result c.as_slice-parts.result.now) (sym partitions_are)
-    (subst (λ (s : ℕ). HaveEnded job kept rows n s c.as_slice-parts.result.now) (sym many)
-    (subst (HaveEnded job kept rows n (core.state.current + 1)) (sym parts_are) have)) in
-    let keeps =
-    subst (KeepsEnd job kept) (sym (c.ended_of-ended.ensures ∙ ap (λ core. option_map ended_by core.kept) c.self.view_is))
-    (keeps_end job kept n core.kept right.beside) in
-    are job kept rows policy all_ended keeps ∙ ap (λ (k : ℕ). values_of job rows (configuration job rows k)) many)
+    let all_ended = subst (λ (n : ℕ). HaveEnded job keeps rows n c.next_superstep-supersteps.result c.as_slice-parts.result.now) (sym partitions_are)
+    (subst (λ (s : ℕ). HaveEnded job keeps rows n s c.as_slice-parts.result.now) (sym many)
+    (subst (HaveEnded job keeps rows n (core.state.current + 1)) (sym parts_are) have)) in
+    let lent = c.end_beside-ended.ensures
+    ∙ (λ i. cond (list_all is_warm (parts_are i)) (option_map ended_by (c.self.view_is i).kept) None) in
+    let end = subst₂ (KeepsEnd job keeps) (sym partitions_are) (sym lent) (end_lent job kept core right ended places here each) in
+    are job keeps rows policy all_ended end ∙ ap (λ (k : ℕ). values_of job rows (configuration job rows k)) many)
     c.values_beside.ensures

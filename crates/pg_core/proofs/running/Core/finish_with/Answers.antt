@@ -25,8 +25,14 @@ invariant_of-common g c =
     All-weaker (λ v. length v.values ≡ length registered) (λ v. length v.values ≤ 16) (λ v same. subst (λ (n : ℕ). n ≤ 16) (sym same) c.self.invariant.few)
     c.self.inside.shown.items c.self.invariant.shown_places
 
-pub returns : goal.returns
-returns g c =
+pub returns-clause-each : goal.returns-clause-each
+returns-clause-each g c =
+    IfOk-weaker c.finished.result _ _
+    (λ done given. given.each ∙ (c.self.invariant.each ∙ ap (λ core. core.limits.partitions) c.self.view_is))
+    c.finished.ensures
+
+pub returns-clause-finished : goal.returns-clause-finished
+returns-clause-finished g c =
     let core = c.args.self in
     let inside = c.self.inside in
     let job = job_by g.P.Computation.program g.C.MessageCombiner.combining g.M.MasterCompute.master core in

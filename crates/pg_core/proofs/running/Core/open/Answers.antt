@@ -3,17 +3,6 @@ use Rattle.pg_core.specs.Progress.{IsRight}
 use Rattle.pg_core.proofs.Opened.{have_begun, job_as_opened}
 use Rattle.pg_core.proofs.running.Core.open.Goals as goal
 
-pub open_with-requires-clause-begun : goal.open_with-requires-clause-begun
-open_with-requires-clause-begun g c =
-    let program = g.P.Computation.program c.args.program.now in
-    let combining = g.C.MessageCombiner.combining c.args.combiner.now in
-    let master = g.M.MasterCompute.master c.args.master.now in
-    λ κs lives. record {
-      beside = None;
-      begun = have_begun program combining master c.args.limits c.args.graph.now c.in_ok-start.start.registry
-          c.in_ok-start.ensures.registry_is c.in_ok-parts.parts.items c.in_ok-parts.ensures.begun;
-    }
-
 pub returns-clause-right : goal.returns-clause-right
 returns-clause-right g c =
     let program = g.P.Computation.program c.args.program.now in

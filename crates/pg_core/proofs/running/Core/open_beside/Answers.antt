@@ -5,19 +5,6 @@ use Rattle.pg_core.specs.Progress.{IsRight}
 use Rattle.pg_core.proofs.Opened.{have_begun_beside, job_as_opened}
 use Rattle.pg_core.proofs.running.Core.open_beside.Goals as goal
 
-pub open_with-requires-clause-begun : goal.open_with-requires-clause-begun
-open_with-requires-clause-begun g c =
-    let program = g.P.Computation.program c.args.program.now in
-    let combining = g.C.MessageCombiner.combining c.args.combiner.now in
-    let master = g.M.MasterCompute.master c.args.master.now in
-    let start = c.in_ok-start in
-    let left = c.requires.left in
-    λ κs lives. record {
-      beside = Some left.kept;
-      begun = have_begun_beside program combining master c.args.limits c.args.graph.now start.start.registry start.ensures.registry_is c.in_ok-parts.parts.items
-          c.args.touched.now c.args.old left.kept c.in_ok-parts.ensures.begun left.left_by left.untouched;
-    }
-
 pub returns-clause-right : goal.returns-clause-right
 returns-clause-right g c kept left untouched =
     let program = g.P.Computation.program c.args.program.now in

@@ -28,7 +28,7 @@ returns-in-Ended-clause-goes g c =
     let core = c.step_all.new.self in
     let stepped = goes_further program_of combining_of master_of value_eq message_eq c.loop-number.invariant.goes c.in_ok-step_all.ensures.goes in
     goes_further program_of combining_of master_of value_eq message_eq stepped
-    (goes_by_close program_of combining_of master_of value_eq message_eq c.in_ok-close.ensures.core c.in_ok-close.ensures.right)
+    (goes_by_close program_of combining_of master_of value_eq message_eq c.history.ensures.leads c.in_ok-close.ensures.core c.in_ok-close.ensures.right)
 
 pub loop-number-preserved : goal.loop-number-preserved
 loop-number-preserved g c =
@@ -49,5 +49,5 @@ loop-number-preserved g c =
       there = past_close c.loop-number.number core all c.close.new.self has now;
       stays = ap (λ core. core.state.current) has.core_is ∙ ap (λ (k : ℕ). k + 1) now;
       goes = goes_further program_of combining_of master_of value_eq message_eq stepped
-          (goes_by_close program_of combining_of master_of value_eq message_eq c.in_ok-close.ensures.core c.in_ok-close.ensures.right);
+          (goes_by_close program_of combining_of master_of value_eq message_eq c.history.ensures.leads c.in_ok-close.ensures.core c.in_ok-close.ensures.right);
     }

@@ -14,8 +14,9 @@ returns-clause-counted g c kept right =
     (omega (arith, c.count.ensures.fits)) kept right
 
 pub returns-clause-counted_all : goal.returns-clause-counted_all
-returns-clause-counted_all g c kept right first =
+returns-clause-counted_all g c kept right nothing =
     let old = c.args.self.now in
+    let first = c.drive.ensures.from_first nothing in
     let core = c.drive.new.self in
     let ended = c.in_ok-drive.ensures.ended in
     let some =
@@ -24,5 +25,5 @@ returns-clause-counted_all g c kept right first =
     counted_from_first g.P.Computation.program g.C.MessageCombiner.combining g.M.MasterCompute.master g.P.Value.PartialEq.eq g.P.Message.PartialEq.eq
     c.in_ok-drive.ensures.goes ended
     (place_at_end core.limits.partitions core.limits.workers core.history core.state c.history.ensures.leads ended)
-    (omega (arith, c.count.ensures.fits)) kept right some
+    (omega (arith, c.count.ensures.fits)) kept right some nothing
     (λ p within. ap (place_at p) first ∙ starts_at old.limits.partitions old.limits.workers p within)

@@ -1,5 +1,5 @@
 use Rattle.std.proofs.Common.{◌≡◌, length, sym, ap, ◌∙◌, subst}
-use Rattle.pg_machine.specs.Machine.{place_at}
+use Rattle.pg_machine.specs.Machine.{Reaches, first_state, place_at}
 use Rattle.pg_core.proofs.Onward.{goes_by_step, past_step, ready_there, same_place}
 use Rattle.pg_machine.proofs.LawsSteps.{length-places_lawful}
 use Rattle.pg_core.proofs.running.Core.step_at.Goals as goal
@@ -38,5 +38,7 @@ returns-in_ok-step_ready-clause-goes g c =
     let at =
     sym (c.place.ensures ∙ ap (λ core. place_at p core.state) c.self.view_is)
     ∙ same_place c.place.result c.args.place (sym c.eq.ensures ∙ c.if-eq.true) in
+    let events =
+    subst (λ core. Reaches (first_state core.limits.partitions core.limits.workers) core.history core.state) c.self.view_is c.self.invariant.events in
     goes_by_step g.P.Computation.program g.C.MessageCombiner.combining g.M.MasterCompute.master g.P.Value.PartialEq.eq g.P.Message.PartialEq.eq
-    c.in_ok-step_ready.ensures.made c.requires.there at c.requires.before.open_or_before c.in_ok-step_ready.ensures.right c.in_ok-step_ready.ensures.counted
+    events c.in_ok-step_ready.ensures.made c.requires.there at c.requires.before.open_or_before c.in_ok-step_ready.ensures.right c.in_ok-step_ready.ensures.counted

@@ -1,6 +1,6 @@
 use Rattle.std.proofs.Common.{None, ap, sym, ◌∙◌}
 use Rattle.std.proofs.lemmas.Result.{IfOk-weaker}
-use Rattle.pg_core.specs.Progress.{job_by}
+use Rattle.pg_core.specs.Progress.{job_by, kept_for}
 use Rattle.pg_core.specs.Traces.{logs_in, visible_in}
 use Rattle.pg_core.proofs.Steps.{lent_beside, lent_run}
 use Rattle.pg_model.specs.Run.{visible_at}
@@ -21,7 +21,7 @@ returns-clause-stepped g c =
     IfOk-weaker c.step.result _ _
     (λ made steps kept p right lent.
     let shows = c.visible.ensures.right kept right ∙ ap (visible_at job core.graph) c.place-place.ensures in
-    steps job kept core.graph n p r
+    steps job (kept_for kept core p) core.graph n p r
     (ap program_of (sym c.program.ensures)) (ap combining_of (sym c.combiner.ensures)) (ap aggregators_of (sym c.registry.ensures))
     lent.holds
     (lent_run job kept core p r part lent _ _ None None c.logs.ensures shows)

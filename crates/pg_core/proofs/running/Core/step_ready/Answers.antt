@@ -1,7 +1,7 @@
 use Rattle.std.proofs.Common.{◌≡◌, ℕ, ◌+◌, Option, sym, ◌∙◌, subst, subst₂}
 use Rattle.std.proofs.lemmas.Result.{on_ok_weaker}
 use Rattle.std.proofs.lemmas.Option.{same_Some}
-use Rattle.pg_core.specs.Progress.{IsRight, IsStepLent, IsStepOf, TakesIn, job_by, without_part}
+use Rattle.pg_core.specs.Progress.{IsRight, IsStepLent, IsStepOf, TakesIn, job_by, kept_for, without_part}
 use Rattle.pg_core.proofs.Steps.{HasMadeStep-from_TakesIn, IsStepLent-without, IsStepOf-from_HasMadeStep}
 use Rattle.pg_graph.specs.Rows.{Rows}
 use Rattle.pg_model.specs.Needed.{needed_in}
@@ -16,7 +16,7 @@ stepped : (g : Given.Over) (c : goal.After-stepped g) (kept : Option Rows)
     → let core = c.args.self.now in
     let job = job_by g.P.Computation.program g.C.MessageCombiner.combining g.M.MasterCompute.master core in
     IsRight job kept core
-    → HasMadeStep job g.P.Value.PartialEq.eq g.P.Message.PartialEq.eq kept core.graph core.limits.partitions c.args.partition
+    → HasMadeStep job g.P.Value.PartialEq.eq g.P.Message.PartialEq.eq (kept_for kept core c.args.partition) core.graph core.limits.partitions c.args.partition
     c.take-part.result.course.place c.in-Ok.part c.in-Ok.sent c.args.meter.now c.step_of.new.meter
 stepped g c kept right =
     let program_of = g.P.Computation.program in
@@ -37,9 +37,9 @@ stepped g c kept right =
     let lent_there =
     subst (λ core. IsStepLent (job_by program_of combining_of master_of core) kept core p r part) (sym taken_is)
     (IsStepLent-without job kept core p r part promised.1) in
-    subst (λ core. HasMadeStep (job_by program_of combining_of master_of core) value_eq message_eq kept core.graph core.limits.partitions
+    subst (λ core. HasMadeStep (job_by program_of combining_of master_of core) value_eq message_eq (kept_for kept core p) core.graph core.limits.partitions
     p r c.in-Ok.part c.in-Ok.sent c.args.meter.now c.step_of.new.meter) taken_is
-    (subst₂ (λ part' sent'. HasMadeStep (job_by program_of combining_of master_of taken) value_eq message_eq kept taken.graph
+    (subst₂ (λ part' sent'. HasMadeStep (job_by program_of combining_of master_of taken) value_eq message_eq (kept_for kept taken p) taken.graph
     taken.limits.partitions p r part' sent' c.args.meter.now c.step_of.new.meter)
     (sym c.in-Ok.part-is) (sym c.in-Ok.sent-is)
     (c.in-Ok.ensures.stepped kept p right_there lent_there))
@@ -80,7 +80,7 @@ returns-in-Ok-clause-counted g c =
     (λ takes kept r right at.
     let same = same_Some c.take-part.result.course.place r (sym c.take-part.ensures.at.place_is ∙ at) in
     subst (λ (r : ℕ). c.step_of.new.meter ≡ capped
-    (c.args.meter.now + needed_in g.P.Value.PartialEq.eq g.P.Message.PartialEq.eq job kept core.graph
+    (c.args.meter.now + needed_in g.P.Value.PartialEq.eq g.P.Message.PartialEq.eq job (kept_for kept core c.args.partition) core.graph
     (belongs core.limits.partitions c.args.partition) r)) same
     (stepped g c kept right).course.counted)
     c.stepped.ensures.core

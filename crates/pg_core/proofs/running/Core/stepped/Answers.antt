@@ -1,5 +1,5 @@
 use Rattle.std.proofs.Common.{◌≡◌, ℕ, ◌+◌, ◌++◌, ◌∷◌, [], true, length, take, Some, option_map, ap, sym, ◌∙◌, subst, arith}
-use Rattle.pg_machine.specs.Machine.{after, is_allowed}
+use Rattle.pg_machine.specs.Machine.{Reaches, after, first_state, is_allowed}
 use Rattle.pg_core.specs.Progress.{HasPut, IsLawful, IsNext, job_by, with_step}
 use Rattle.pg_machine.specs.declared.event.Event.TheVariants.{Step}
 use Rattle.pg_core.proofs.Steps.{IsLawful-step, IsRight-step, part_within}
@@ -93,5 +93,7 @@ returns-clause-right g c kept right is_step =
     subst (λ core. length core.state.places ≡ core.limits.partitions) c.self.view_is
     (length-places_lawful inside.limits inside.state inside.history.items c.self.invariant.events) in
     let each = subst (λ core. length core.parts ≡ core.limits.partitions) c.self.view_is c.self.invariant.each in
+    let events =
+    subst (λ core. Reaches (first_state core.limits.partitions core.limits.workers) core.history core.state) c.self.view_is c.self.invariant.events in
     IsRight-step job kept core p right c.requires.allowed c.args.part c.args.sent _ is_step (returns-clause-core g c)
-    (omega (arith, some_within core.state.places p steps.from steps.at, many, each))
+    (omega (arith, some_within core.state.places p steps.from steps.at, many, each)) events
