@@ -1,6 +1,6 @@
 -- Beside which rows each partition goes on as events happen.
 use Rattle.std.proofs.Common.{◌≡◌, ℕ, Bool, true, false, cond, List, [], ◌∷◌, ◌++◌, Option, None, refl, ap, sym, ◌∙◌, subst}
-use Rattle.pg_core.specs.Progress.{HoldsAt, IsRightWith, Progress, has_lost, kept_for, part_at}
+use Rattle.pg_core.specs.Progress.{HoldsAt, IsRightWith, Progress, has_lost, kept_for}
 use Rattle.pg_course.specs.Course.{IsSentTo}
 use Rattle.pg_graph.specs.Rows.{Rows}
 use Rattle.pg_inbox.specs.Logged.{slot_at}

@@ -1,5 +1,5 @@
 -- A run that is driven on.
-use Rattle.std.proofs.Common.{◌≡◌, ℕ, ◌+◌, ◌<◌, ◌≤◌, ◌≢◌, Bool, true, false, cond, not, List, [], ◌∷◌, ◌++◌, length, get_or, set, Option}
+use Rattle.std.proofs.Common.{◌≡◌, ℕ, ◌+◌, ◌<◌, ◌≤◌, ◌≢◌, Bool, true, false, cond, not, [], ◌∷◌, ◌++◌, length, get_or, set, Option}
 use Rattle.std.proofs.Common.{None, Some, is_some, refl, ap, sym, ◌∙◌, subst, subst₂, arith, inl, inr}
 use Rattle.std.specs.Prelude.{◌==◌, nat_lt, nat_le}
 use Rattle.std.specs.Option.{IsSome, option_eq}
@@ -10,7 +10,7 @@ use Rattle.pg_core.specs.Closing.{ClosesRight, HasClosed}
 use Rattle.pg_core.specs.Driving.{ArePast, GoesOn, IsSameRun, calls_in, needs_of, still_needed}
 use Rattle.pg_machine.specs.Limits.{Limits}
 use Rattle.pg_machine.specs.Losses.{counts_by}
-use Rattle.pg_machine.specs.Machine.{Reaches, State, after, first_state, is_allowed, is_at, is_from, may_step, place_at}
+use Rattle.pg_machine.specs.Machine.{Reaches, after, first_state, is_allowed, is_at, is_from, may_step, place_at}
 use Rattle.pg_core.specs.Progress.{HasMadeStep, IsPartAt, IsRight, Progress, has_lost, is_ready, job_by, kept_for, part_at}
 use Rattle.pg_machine.specs.declared.event.Closed.{Closed}
 use Rattle.pg_machine.specs.declared.event.Closed.TheVariants.{Next, Ended}

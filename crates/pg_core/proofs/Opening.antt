@@ -10,7 +10,7 @@ use Rattle.pg_course.specs.Course as courses
 use Rattle.pg_graph.specs.Rows.{Rows, edge_count}
 use Rattle.pg_graph.specs.declared.missing.Missing.{Missing}
 use Rattle.pg_edits.specs.declared.row.Row.{Row}
-use Rattle.pg_model.specs.Job.{Job, Program}
+use Rattle.pg_model.specs.Job.{Program}
 use Rattle.pg_model.specs.Run.{beginning}
 use Rattle.pg_model.specs.Superstep.{edges_of}
 use Rattle.pg_part.specs.Part.{PartState}

@@ -1,7 +1,6 @@
 -- What losses make of a run over partitions, and what is done about them.
 use Rattle.std.specs.Prelude.{◌≡◌, ◌==◌, ℕ, ◌<◌, nat_lt, false, cond, ◌&&◌, List, [], ◌∷◌, ◌++◌, length, slice_index_or, slice_set, Option, None, Some}
-use Rattle.pg_core.specs.Progress.{Progress, part_at}
-use Rattle.pg_graph.specs.Rows.{Rows}
+use Rattle.pg_core.specs.Progress.{Progress}
 use Rattle.pg_inbox.specs.Logged.{Slots, slot_at}
 use Rattle.pg_machine.specs.Machine.{State, after, host_of}
 use Rattle.pg_machine.specs.declared.event.Event.{Event}

@@ -1,4 +1,4 @@
-use Rattle.std.proofs.Common.{◌≡◌, ℕ, IfOk, None, Some, refl, ap, sym, ◌∙◌, subst}
+use Rattle.std.proofs.Common.{ℕ, IfOk, None, Some, refl, ap, sym, ◌∙◌, subst}
 use Rattle.pg_core.specs.Losing.{IsShareFound}
 use Rattle.pg_core.specs.Progress.{job_by}
 use Rattle.pg_core.proofs.Recovery.{IfOk-both}

@@ -1,4 +1,4 @@
-use Rattle.std.proofs.Common.{◌≡◌, ◌++◌, ◌∷◌, [], true, refl, ap, sym, ◌∙◌, subst}
+use Rattle.std.proofs.Common.{◌≡◌, true, refl, ap, sym, ◌∙◌, subst}
 use Rattle.pg_core.specs.Losing.{with_event}
 use Rattle.pg_core.specs.Progress.{IsLawful, IsRight, job_by}
 use Rattle.pg_core.proofs.Recovery.{IsLawful-event, IsRight-host}

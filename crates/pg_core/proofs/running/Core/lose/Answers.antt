@@ -1,4 +1,4 @@
-use Rattle.std.proofs.Common.{◌≡◌, ℕ, ◌++◌, ◌∷◌, [], true, ap, sym, ◌∙◌, subst}
+use Rattle.std.proofs.Common.{◌≡◌, ℕ, true, ap, sym, ◌∙◌, subst}
 use Rattle.pg_core.specs.Losing.{AreLost, IsForgotten, with_event}
 use Rattle.pg_core.specs.Progress.{IsLawful, IsRight, job_by}
 use Rattle.pg_core.proofs.Recovery.{IsLawful-lose, IsRight-lose}

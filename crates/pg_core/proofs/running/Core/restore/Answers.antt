@@ -1,4 +1,4 @@
-use Rattle.std.proofs.Common.{◌≡◌, ℕ, ◌+◌, ◌<◌, ◌++◌, ◌∷◌, [], true, length, set, None, Some, ap, sym, ◌∙◌, subst, subst₂, arith}
+use Rattle.std.proofs.Common.{◌≡◌, ℕ, ◌++◌, ◌∷◌, [], true, length, set, None, Some, ap, sym, ◌∙◌, subst, subst₂, arith}
 use Rattle.pg_core.specs.Losing.{HasSentAgain, IsOf, place_found, with_event}
 use Rattle.pg_core.specs.Progress.{IsLawful, IsRight, job_by}
 use Rattle.pg_core.proofs.Recovery.{IsLawful-restore, IsRight-restore, as_found_place, restored_within}
