@@ -1,4 +1,4 @@
-//! A partition goes on by records that it doesn't make anew.
+//! A partition goes on by the records of a superstep.
 ghost use Rattle.std.specs.Prelude.{◌≡◌, ◌+◌, ◌<◌, ◌^◌, length, IfOk};
 ghost use Rattle.std.specs.Map.{keys_of};
 ghost use Rattle.pg_course.specs.Course.{with_resumed};
@@ -14,10 +14,10 @@ use pg_trace::all_given;
 use std::alloc::Global;
 
 impl<V: Plain, M: Plain> Course<V, M> {
-    /// A cold course one superstep further, by the records of that: what its vertices gave as they were executed. None is
-    /// executed again. Where memory is refused the course is gone.
+    /// A cold course one superstep further, by the records of that: what its vertices gave as they were executed. It
+    /// executes nothing. Where memory is refused the course is gone.
     ///
-    /// Costs O(1) a record, whose messages and contributions are moved.
+    /// Costs a look-up in the trace's index for each record, whose messages and contributions are moved.
     pub fn resumed(
         self,
         alloc: Global,

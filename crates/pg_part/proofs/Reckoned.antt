@@ -128,7 +128,8 @@ module _ {V M : Type 0} (job : Job V M) (rows : Rows) (n p s : ℕ) (course : Ho
   recorded_is registry same missing only before after b h =
       stats_are job rows n p s after
       (census_after only before after.census b h.census)
-      (h.traffic ∙ (ap₂ (λ m (rs : List (ℕ × Record V M)). traffic_recorded m rows rs) missing (records_held job rows n p course.trace s (s + 1) holds (omega arith))
+      (h.traffic ∙ (ap₂ (λ m (rs : List (ℕ × Record V M)). traffic_recorded m rows rs) missing
+      (records_held job rows n p course.trace s (s + 1) holds (omega arith))
       ∙ sym (traffic_recorded_of_run job rows n p s)))
       (h.gathered ∙ gathered_is job rows n p registry same s course.trace holds)
 

@@ -1,5 +1,6 @@
 //! One partition of a run with what it has come to, and its steps.
-ghost use Rattle.std.specs.Prelude.{◌≡◌, ℕ, ◌+◌, ◌<◌, ◌≤◌, ◌^◌, true, is_some, [], length, map, take, Option, None, Some, Ok, IfErr, IfOk, IfSome};
+ghost use Rattle.std.specs.Prelude.{◌≡◌, ℕ, ◌+◌, ◌<◌, ◌≤◌, ◌^◌, true, is_some, [], length, map, take, Option, None, Some};
+ghost use Rattle.std.specs.Prelude.{Ok, IfErr, IfOk, IfSome};
 ghost use Rattle.std.specs.Option.{option_copied};
 ghost use Rattle.std.specs.List.{AllByRecursion, slice_get};
 ghost use Rattle.pg_course.specs.Course.{AreTouched, HasBegun, IsFurther, IsResumed, IsSentTo, differing, with_resumed};
@@ -272,14 +273,15 @@ impl<V: Plain, M: Plain> Part<V, M> {
         Ok((Part { course, reckoning }, sent))
     }
 
-    /// A part as it began, past supersteps of which these are the records: what its vertices gave as they were executed. None
-    /// is executed again, and nothing is sent or counted. What it came to as each of these supersteps began is reckoned by
-    /// the records. Where memory is refused the part is gone.
+    /// Goes on from where it began past as many supersteps as these are the records of: what its vertices gave as they
+    /// were executed. It executes nothing and sends nothing. What it came to as each superstep began is reckoned by the
+    /// records. Where memory is refused the part is gone.
     ///
-    /// The records are the run's where they are those that a part has recorded which held its share, beside an old run or not.
+    /// It holds its share of a run where these are the run's records, as those are that a part has recorded which held
+    /// its share, beside an old run or not.
     ///
-    /// Costs O(1) a record and three look-ups of its vertex; and a look-up of each target where messages to nobody are
-    /// dropped, and a walk over the contributions for each aggregator.
+    /// Costs a few look-ups for each record, whose messages and contributions are moved; a look-up of each target, where
+    /// messages to nobody are dropped; and a walk over the contributions for each aggregator.
     pub fn resume(
         self,
         alloc: Global,
@@ -300,8 +302,8 @@ impl<V: Plain, M: Plain> Part<V, M> {
         ensures again { IfOk result
             (λ part. (job : Job V M) (kept : Option GraphRows) (rows : GraphRows) (n p r : ℕ) (before : PartState V M)
             → job.aggregators ≡ aggregators_of registry.now
-            → HoldsShare job None rows n p 0 self → r ≤ run_length job rows
-            → HoldsShare job kept rows n p r before → map (λ l. l.items) records.items ≡ take r before.course.trace.records
+            → HoldsShare job None rows n p 0 self → r ≤ run_length job rows → HoldsShare job kept rows n p r before
+            → map (λ l. l.items) records.items ≡ take r before.course.trace.records
             → HoldsShare job None rows n p r part) }
     {
         let mut part = self;
@@ -334,8 +336,9 @@ impl<V: Plain, M: Plain> Part<V, M> {
         Ok(Part { course, reckoning })
     }
 
-    /// The bundles of what it sent in a superstep that it has made, to each partition. They tell nothing of those of an old
-    /// run. Costs a look at each of its records of the superstep, a sort of what they sent, and two copies of each message.
+    /// The bundles of what it sent in a superstep that it has made, to each partition. They tell nothing of those of an
+    /// old run. Costs a look at each of its records of the superstep, a sort of what they sent, and two copies of each
+    /// message.
     pub fn sent_in<C: MessageCombiner<M>>(
         &self,
         alloc: Global,

@@ -2,8 +2,8 @@
 ghost use Rattle.std.specs.Prelude.{◌≡◌, ◌+◌, ◌<◌, ◌≤◌, ◌^◌, ◌∷◌, [], true, false, length, IfOk, IsSome, Some};
 ghost use Rattle.std.specs.List.{list_all, slice_get};
 ghost use Rattle.std.specs.Option.{option_copied};
-ghost use Rattle.pg_part.specs.Reckoned.{HasBegunBeside, HasNextStats, HasResumedStats, IsCountedBeside, IsNextStats, IsReckoned};
-ghost use Rattle.pg_part.specs.Reckoned.{IsReckonedBeside, IsReckonedByRecords, IsRecensus, begun_with, gathered_of};
+ghost use Rattle.pg_part.specs.Reckoned.{HasBegunBeside, HasNextStats, HasResumedStats, IsCountedBeside, IsNextStats};
+ghost use Rattle.pg_part.specs.Reckoned.{IsReckoned, IsReckonedBeside, IsReckonedByRecords, IsRecensus, begun_with, gathered_of};
 ghost use Rattle.pg_recount.specs.Contributed.{contributes_alike};
 ghost use Rattle.pg_trace.specs.Trace.{Trace as TraceOf};
 
@@ -343,8 +343,8 @@ fn copied(alloc: Global, values: &Sequence<i64>) -> Result<Sequence<i64>, Memory
     Ok(Sequence::from_vec(Vec::from_slice(alloc, values.as_slice())?))
 }
 
-/// The stats after a superstep, by its records and by the stats before it. Costs a walk over the records and look-ups of their
-/// vertices; and a look-up of each target where messages to nobody are dropped.
+/// The stats after a superstep, by its records and by the stats before it. Costs a walk over the records and look-ups of
+/// their vertices; and a look-up of each target where messages to nobody are dropped.
 fn stats_recorded<V: Plain, M: Plain>(
     alloc: Global,
     registry: &Registry,

@@ -11,4 +11,5 @@ loop-given-preserved g c =
 
 pub returns : goal.returns
 returns g c =
-    c.loop-given.invariant ∙ ap (traffic_recorded c.args.missing c.args.graph.now) (take_all c.loop-given.given-index c.args.records.now c.loop-given-test.false)
+    c.loop-given.invariant
+    ∙ ap (traffic_recorded c.args.missing c.args.graph.now) (take_all c.loop-given.given-index c.args.records.now c.loop-given-test.false)
