@@ -62,7 +62,8 @@ impl<'a, P: Computation, C: MessageCombiner<P::Message>, M: MasterCompute> Core<
     }
 }
 
-/// How the kept run ended, where each of these parts is beside it. One that isn't tells nothing of what ended otherwise.
+/// How the kept run ended, where each of these parts is beside it. One that isn't tells nothing of what ended
+/// otherwise.
 fn end_beside<'k, V: Plain, M: Plain>(
     kept: &'k Option<Common<V, M>>,
     parts: &[Option<Part<V, M>>],

@@ -65,10 +65,10 @@ impl<'a, P: Computation, C: MessageCombiner<P::Message>, M: MasterCompute> Core<
         Ok(())
     }
 
-    /// A lost partition goes on from the part that was found, or from superstep 0 where none was, beside no old run. What
-    /// the part has sent on its way is sent again, to be read by partitions that are behind and by the next run. Costs a
-    /// copy of each message that the part has recorded; from superstep 0 on, one walk over the graph's rows. Where memory
-    /// is refused the core is to be given up.
+    /// A lost partition goes on from the part that was found, or from superstep 0 where none was, beside no old run.
+    /// What the part has sent on its way is sent again, to be read by partitions that are behind and by the next run.
+    /// Costs a copy of each message that the part has recorded; from superstep 0 on, one walk over the graph's rows.
+    /// Where memory is refused the core is to be given up.
     pub fn restore(
         &mut self,
         alloc: Global,

@@ -17,9 +17,9 @@ use pg_program::{Computation, Meter};
 use std::alloc::{AllocError, Global};
 
 impl<'a, P: Computation, C: MessageCombiner<P::Message>, M: MasterCompute> Core<'a, P, C, M> {
-    /// A step of a partition that is ready, beside the kept run, if there is one and no loss took the partition: its part
-    /// is taken, stepped, and taken in. The meter rises by one for each call of compute. Where memory is refused the core
-    /// is to be given up.
+    /// A step of a partition that is ready, beside the kept run, if there is one and no loss took the partition: its
+    /// part is taken, stepped, and taken in. The meter rises by one for each call of compute. Where memory is refused
+    /// the core is to be given up.
     pub fn step_ready(
         &mut self,
         alloc: Global,

@@ -165,7 +165,8 @@ impl State {
         !self.ended && self.is_alive(worker)
     }
 
-    /// Whether a partition may be given to a worker: the run hasn't ended, there is the partition, and the worker is alive.
+    /// Whether a partition may be given to a worker: the run hasn't ended, there is the partition, and the worker is
+    /// alive.
     pub fn may_host(&self, partition: PartitionId, worker: WorkerId) -> bool
         ensures { result ≡ is_allowed self.now (Event.Host partition worker) }
     {
@@ -173,8 +174,8 @@ impl State {
         !self.ended && there && self.is_alive(worker)
     }
 
-    /// Whether a partition may be restored at a superstep: the run hasn't ended, the partition is lost, its host is alive,
-    /// and the superstep is the first or the one that was saved.
+    /// Whether a partition may be restored at a superstep: the run hasn't ended, the partition is lost, its host is
+    /// alive, and the superstep is the first or the one that was saved.
     pub fn may_restore(&self, partition: PartitionId, superstep: Superstep) -> bool
         ensures { result ≡ is_allowed self.now (Event.Restore partition superstep) }
     {

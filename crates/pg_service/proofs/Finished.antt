@@ -1,9 +1,8 @@
 -- What a run that was opened by a service, and driven to its end, gives.
-use Rattle.std.proofs.Common.{◌≡◌, ℕ, ◌+◌, Bool, Option, ap, sym, subst, ◌∙◌, arith}
+use Rattle.std.proofs.Common.{◌≡◌, ℕ, ◌+◌, Bool, [], Option, ap, sym, subst, ◌∙◌, arith}
 use Rattle.pg_core.specs.Closing.{IsFinished}
 use Rattle.pg_core.specs.Driving.{IsSameRun}
 use Rattle.pg_machine.specs.Limits.{Limits}
-use Rattle.pg_machine.specs.Machine.{first_state}
 use Rattle.pg_core.specs.Progress.{IsOpened, IsRight, Progress, job_by}
 use Rattle.pg_core.specs.Traces.{IsLeftBy, Traces}
 use Rattle.pg_core.proofs.Opened.{job_as_opened}
@@ -64,13 +63,13 @@ module _ {P C A V M : Type 0} (program_of : P → Program V M) (combining_of : C
     (opened : IsOpened core job.program job.combiner job.master graph job.limits 0)
     (right : IsRight (job_by program_of combining_of master_of core) kept core)
     (counted : (old : Option Rows) → IsRight (job_by program_of combining_of master_of core) old core
-    → core.state ≡ first_state core.limits.partitions core.limits.workers
+    → core.history ≡ []
     → now ≡ capped (before + needed_count value_eq message_eq (job_by program_of combining_of master_of core) old core.graph)) where
   -- the calls of compute are the executions that are needed
   pub calls_are : now ≡ calls_of (job_meant program_of combining_of master_of job) value_eq message_eq kept graph
   calls_are =
       let own = meant program_of combining_of master_of job graph kept core opened in
-      counted kept right (opened.state_is ∙ ap (λ (l : Limits). first_state l.partitions l.workers) (sym opened.limits_are))
+      counted kept right opened.history_is
       ∙ ap (λ (k : ℕ). capped (k + needed_count value_eq message_eq (job_by program_of combining_of master_of core) kept core.graph)) none
       ∙ ap capped (from_zero (needed_count value_eq message_eq (job_by program_of combining_of master_of core) kept core.graph))
       ∙ ap (λ (r : Rows). capped (needed_count value_eq message_eq (job_by program_of combining_of master_of core) kept r)) opened.graph_is

@@ -10,7 +10,7 @@ pub returns-clause-answer : goal.returns-clause-answer
 returns-clause-answer g c =
     answer_of g.P.Computation.program g.C.MessageCombiner.combining g.M.MasterCompute.master c.args.self.now.job c.args.self.now.graph
     (option_map (λ k. k.traces.graph) c.args.kept) c.in_ok-core.core c.run_out.new.self c.in_ok-run.run' c.in_ok-run.traces
-    c.in_ok-core.ensures.opened c.in_ok-run_out.ensures.same c.in_ok-core.ensures.right c.in_ok-run_out.ensures.right c.in_ok-run.ensures
+    c.in_ok-core.ensures.opened c.in_ok-run_out.ensures.same c.in_ok-core.ensures.right c.in_ok-run_out.ensures.right c.in_ok-run.ensures.finished
 
 pub returns-clause-rising : goal.returns-clause-rising
 returns-clause-rising g c =
@@ -18,14 +18,14 @@ returns-clause-rising g c =
     let rising : HasRisingIds c.args.self.now.graph = subst HasRisingIds (ap (λ s. s.graph) c.self.view_is) c.rises.ensures in
     let is = answer_of g.P.Computation.program g.C.MessageCombiner.combining g.M.MasterCompute.master c.args.self.now.job c.args.self.now.graph
     (option_map (λ k. k.traces.graph) c.args.kept) c.in_ok-core.core c.run_out.new.self c.in_ok-run.run' c.in_ok-run.traces
-    c.in_ok-core.ensures.opened c.in_ok-run_out.ensures.same c.in_ok-core.ensures.right c.in_ok-run_out.ensures.right c.in_ok-run.ensures in
+    c.in_ok-core.ensures.opened c.in_ok-run_out.ensures.same c.in_ok-core.ensures.right c.in_ok-run_out.ensures.right c.in_ok-run.ensures.finished in
     subst (λ r. HaveRisingIds r.values) (sym is) (answer_rises own c.args.self.now.graph rising)
 
 pub returns-clause-leaves : goal.returns-clause-leaves
 returns-clause-leaves g c =
     left_by g.P.Computation.program g.C.MessageCombiner.combining g.M.MasterCompute.master c.args.self.now.job c.args.self.now.graph
     (option_map (λ k. k.traces.graph) c.args.kept) c.in_ok-core.core c.run_out.new.self c.in_ok-run.run' c.in_ok-run.traces
-    c.in_ok-core.ensures.opened c.in_ok-run_out.ensures.same c.in_ok-core.ensures.right c.in_ok-run_out.ensures.right c.in_ok-run.ensures
+    c.in_ok-core.ensures.opened c.in_ok-run_out.ensures.same c.in_ok-core.ensures.right c.in_ok-run_out.ensures.right c.in_ok-run.ensures.finished
 
 pub returns-clause-calls : goal.returns-clause-calls
 returns-clause-calls g c =
