@@ -1,13 +1,15 @@
 -- What losses, and what is done about them, leave of a run over partitions.
-use Rattle.std.proofs.Common.{◌≡◌, ℕ, ◌+◌, ◌<◌, ◌≢◌, Bool, true, false, cond, ◌&&◌, List, [], ◌∷◌, ◌++◌, length, get_or, set}
+use Rattle.std.proofs.Common.{◌≡◌, ℕ, ◌+◌, ◌<◌, ◌≢◌, Bool, true, false, cond, ◌&&◌, List, [], ◌∷◌, ◌++◌, length, map, filter, All, get_or, set}
 use Rattle.std.proofs.Common.{Result, Ok, Err, IfOk, Option, None, Some, is_some, refl, ap, sym, ◌∙◌, subst, arith, inl, inr}
+use Rattle.std.specs.List.{range_with_len}
 use Rattle.std.specs.Prelude.{◌==◌, nat_lt}
 use Rattle.std.proofs.lemmas.Bool.{and_cases, and_left, and_parts, and_right, cases_Bool, cases_eq, cases_lt, cond-false, cond-true, eq-eqb}
 use Rattle.std.proofs.lemmas.Bool.{le-ltb, lt-ltb, ltb-true, ne_eqb, not-true, true≢false}
 use Rattle.std.proofs.lemmas.List.{get_or-set_other, get_or-set_same, get_or_past, length-set}
+use Rattle.std.proofs.lemmas.List.Elements.{All-cons, All-nil}
 use Rattle.std.proofs.lemmas.Option.{none-some, same_Some}
 use Rattle.pg_core.specs.Losing.{AreLost, IsAsFound, IsForgotten, IsOf, place_found, with_event}
-use Rattle.pg_core.specs.Progress.{HoldsAt, IsLawful, IsPartAt, IsRight, Progress, is_past, kept_for, part_at}
+use Rattle.pg_core.specs.Progress.{HoldsAt, IsLawful, IsPartAt, IsRight, Progress, is_past, is_ready, kept_for, part_at, ready_of}
 use Rattle.pg_core.specs.declared.tally.Tally.{Tally}
 use Rattle.pg_core.proofs.Keeping.{IsRightWith-same, kept_more}
 use Rattle.pg_core.proofs.Onward.{below_next}
@@ -16,11 +18,12 @@ use Rattle.pg_global.specs.Registry.{Registered}
 use Rattle.pg_graph.specs.Rows.{Rows}
 use Rattle.pg_inbox.specs.Logged.{Slots, slot_at}
 use Rattle.pg_machine.specs.Limits.{Limits}
-use Rattle.pg_machine.specs.Machine.{Reaches, State, after, first_state, host_of, is_allowed, is_partition, place_at}
+use Rattle.pg_machine.specs.Machine.{Reaches, State, after, first_state, host_of, is_alive, is_allowed, is_partition, place_at}
 use Rattle.pg_machine.specs.declared.event.Event.{Event}
-use Rattle.pg_machine.specs.declared.event.Event.TheVariants.{Lose, Host, Restore, Save}
+use Rattle.pg_machine.specs.declared.event.Event.TheVariants.{Step, Lose, Host, Restore, Save}
+use Rattle.pg_machine.proofs.LawsLosses.{host_is_alive}
 use Rattle.pg_machine.proofs.LawsMachine.{Reaches-push, length-hosts_all, length-hosts_first, lost_where_nowhere, place_after_lose, some_within}
-use Rattle.pg_machine.proofs.LawsSteps.{length-places_lawful}
+use Rattle.pg_machine.proofs.LawsSteps.{StepsFrom-from_allowed, length-places_lawful}
 use Rattle.pg_model.specs.Job.{Job}
 use Rattle.pg_model.specs.declared.view.Declared.{Declared}
 use Rattle.pg_model.specs.declared.view.Visible.{Visible}
@@ -222,6 +225,32 @@ module _ {V M : Type 0} {limits : Limits} {declared : Declared} {registered regi
         shown_places = lawful.shown_places;
         gathered_places = lawful.gathered_places;
       }
+
+-- a partition that is ready has a host that is alive
+module _ {P C A V M : Type 0} (core : Progress P C A V M) (some : 0 < core.limits.workers)
+    (events : Reaches (first_state core.limits.partitions core.limits.workers) core.history core.state) where
+  alive_where_ready : (p : ℕ) → is_ready core p ≡ true → is_alive (host_of p core.state) core.state ≡ true
+  alive_where_ready p ready =
+      let steps = StepsFrom-from_allowed core.state p (and_parts (is_allowed core.state (Step p)) _ ready).0 in
+      host_is_alive core.limits.partitions core.history core.state core.limits.workers events some p steps.from steps.at
+
+  abbrev Lives : ℕ × ℕ → Type 0
+  Lives r = is_alive r.0 core.state ≡ true
+
+  abbrev ready_among : List ℕ → List (ℕ × ℕ)
+  ready_among ps = map (λ p. (host_of p core.state, p)) (filter (is_ready core) ps)
+
+  all_alive : (ps : List ℕ) → All Lives (ready_among ps)
+  all_alive [] = All-nil Lives
+  all_alive (p ∷ ps) = by (is_ready core p) refl (all_alive ps)
+    where
+      by : (b : Bool) → is_ready core p ≡ b → All Lives (ready_among ps)
+          → All Lives (map (λ p. (host_of p core.state, p)) (cond b (p ∷ filter (is_ready core) ps) (filter (is_ready core) ps)))
+      by true is rest = All-cons Lives (host_of p core.state, p) (ready_among ps) (alive_where_ready p is) rest
+      by false is rest = rest
+
+  pub ready_are_alive : All Lives (ready_of core)
+  ready_are_alive = all_alive (range_with_len 0 core.limits.partitions)
 
 -- ---- what is so of a right one
 

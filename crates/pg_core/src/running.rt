@@ -1,7 +1,7 @@
 //! The core: a run over partitions between two events.
-ghost use Rattle.std.specs.Prelude.{◌≡◌, ℕ, ◌+◌, ◌<◌, ◌≤◌, ◌∷◌, ◌++◌, [], true, cond, is_some, length, Option, None, Some, IsSome};
+ghost use Rattle.std.specs.Prelude.{◌≡◌, ℕ, ◌+◌, ◌<◌, ◌≤◌, ◌∷◌, ◌++◌, [], true, cond, is_some, length, All, Option, None, Some, IsSome};
 ghost use Rattle.std.specs.Prelude.{IfErr, IfOk, IfSome, OnOk, slice_get, slice_index_or, slice_set, take};
-ghost use Rattle.pg_machine.specs.Machine.{Reaches, RestoresFollowLosses, StepsTell, first_state, host_of, is_allowed};
+ghost use Rattle.pg_machine.specs.Machine.{Reaches, RestoresFollowLosses, StepsTell, first_state, host_of, is_alive, is_allowed};
 ghost use Rattle.pg_core.specs.Progress.{HasPut, IsNext, IsOpened, IsPartAt, IsRight, IsStepLent, IsStepOf, TakesIn};
 ghost use Rattle.pg_core.specs.Progress.{is_ready as ready_test, job_by, part_at, ready_of, without_part};
 ghost use Rattle.pg_core.specs.Beginning.{AreFirst, HasBegun, HasStarted};
@@ -249,9 +249,10 @@ impl<'a, P: Computation, C: MessageCombiner<P::Message>, M: MasterCompute> Core<
     }
 
     /// The partitions whose parts can be taken for a step, with their hosts, by rising partition. None that is taken is
-    /// among them.
+    /// among them, and no host that has fallen.
     pub fn ready(&self, alloc: Global) -> Result<Vec<(WorkerId, PartitionId)>, Memory>
-        ensures { IfOk result (λ ready. ready.items ≡ ready_of self.now) }
+        ensures ready { IfOk result (λ ready. ready.items ≡ ready_of self.now) }
+        ensures alive { IfOk result (λ ready. All (λ r. is_alive r.0 self.now.state ≡ true) ready.items) }
     {
         let mut ready = Vec::new(alloc);
         for number in 0..self.limits.partitions() {
