@@ -54,3 +54,18 @@ is_memory r is = ap is_device is
 
 pub same_state : (s t : MemShelf) → t.entries.items ≡ s.entries.items → mem_state t ≡ mem_state s
 same_state s t same = ap (λ (es : List Entry). state_of es) same
+
+-- of any shelf: nothing was put, for want of memory
+pub not_put : (key bytes : List ℕ) (s : ShelfState) (r : Result (Unit {0}) ShelfFault) → r ≡ Err Memory → IsPut key bytes s r s
+not_put key bytes s r is =
+    subst (λ (r : Result (Unit {0}) ShelfFault). IsPut key bytes s r s) (sym is) (record {
+      counted = record { honest = refl; failures = refl };
+      kept = λ _. tt;
+      others = λ _ other _. stays (at_key s other);
+    })
+
+-- the same put, told of an equal key and equal bytes
+pub put_as : (key bytes : List ℕ) {other others : List ℕ} {s t : ShelfState} {r : Result (Unit {0}) ShelfFault} → IsPut other others s r t
+    → other ≡ key → others ≡ bytes → IsPut key bytes s r t
+put_as key bytes {other} {others} {s} {t} {r} h k b =
+    subst (λ (l : List ℕ). IsPut key l s r t) b (subst (λ (l : List ℕ). IsPut l others s r t) k h)
