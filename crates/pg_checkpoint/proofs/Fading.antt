@@ -1,16 +1,16 @@
 -- A checkpoint whose bytes have faded is whole, or is none.
-use Rattle.std.proofs.Common.{◌≡◌, ℕ, ◌+◌, ◌-◌, ◌≤◌, ◌<◌, ◌^◌, List, [], ◌∷◌, ◌++◌, length, take, drop, refl, sym, ap, subst, ◌∙◌, append_assoc, arith}
-use Rattle.std.specs.Int.{w64, from_le_bytes, to_le_bytes}
+use Rattle.std.proofs.Common.{◌≡◌, ℕ, ◌+◌, ◌<◌, ◌^◌, List, [], ◌++◌, length, take, drop, refl, sym, ap, ◌∙◌, append_assoc, arith}
+use Rattle.std.specs.Int.{w64, from_le_bytes}
 use Rattle.std.proofs.lemmas.List.{append-nil, nil_from_length, take_at, drop_at, take-append-drop, length-append}
 use Rattle.std.proofs.lemmas.Nat.{from_le_bytes-to_le_bytes_8}
 use Rattle.pg_program.specs.Coding.{natural_coding}
 use Rattle.pg_checkpoint.specs.Bytes.{framed}
 
 pub natural_same : (m n : ℕ) → m < 2 ^ 64 → n < 2 ^ 64 → natural_coding m ≡ natural_coding n → m ≡ n
-pub natural_same m n p q h = sym (from_le_bytes-to_le_bytes_8 m p) ∙ ap (from_le_bytes w64) h ∙ from_le_bytes-to_le_bytes_8 n q
+natural_same m n p q h = sym (from_le_bytes-to_le_bytes_8 m p) ∙ ap (from_le_bytes w64) h ∙ from_le_bytes-to_le_bytes_8 n q
 
 pub framed_length : (magic rest : List ℕ) → length magic ≡ 4 → length (framed magic rest) ≡ 12 + length rest
-pub framed_length magic rest four =
+framed_length magic rest four =
     let inner : length (natural_coding (12 + length rest) ++ rest) ≡ 8 + length rest = length-append (natural_coding (12 + length rest)) rest in
     omega (arith, length-append magic (natural_coding (12 + length rest) ++ rest), four, inner)
 

@@ -1,22 +1,14 @@
--- Which records have bytes, which of them a part may hold, and how many out-edges they leave its vertices.
-use Rattle.std.specs.Prelude.{◌≡◌, ℕ, suc, ◌<◌, ◌^◌, ◌==◌, ◌&&◌, ◌||◌, not, ◌++◌, Bool, true, List, [], ◌∷◌, length, map, is_some, FitsSigned}
+-- Which records have bytes, and how many out-edges they leave the vertices of their part.
+use Rattle.std.specs.Prelude.{ℕ, ◌<◌, ◌^◌, ◌++◌, List, length, map, FitsSigned}
 use Rattle.std.specs.FinMap.{from_entries, keys}
 use Rattle.std.specs.Int.{w64}
 use Rattle.std.specs.List.{AllByRecursion, flat_map, sum_by}
 use Rattle.std.specs.Map.{keys_of}
 use Rattle.std.specs.Option.{option_to_list}
 use Rattle.std.specs.Ordering.{nat_cmp}
-use Rattle.pg_edits.specs.EdgeList.{IsRising}
-use Rattle.pg_graph.specs.Rows.{row_at}
-use Rattle.pg_graph.specs.declared.missing.Missing.{Missing}
-use Rattle.pg_graph.specs.declared.missing.Missing.TheVariants.{Create, Drop}
-use Rattle.pg_map.specs.Entries.{HasRisingIds}
-use Rattle.pg_model.specs.Job.{has_place}
-use Rattle.pg_model.specs.Share.{belongs}
 use Rattle.pg_model.specs.declared.configuration.VertexState.{VertexState}
 use Rattle.pg_model.specs.declared.record.Record.{Record}
 use Rattle.pg_program.specs.Plain.{are_both, are_listed, is_byte, is_id}
-use Rattle.pg_routing.specs.Starting.{PartRows}
 use Rattle.pg_trace.specs.Trace.{state_at}
 
 -- the records of supersteps from 0 on
@@ -35,30 +27,6 @@ module _ {V M : Type 0} (is_value : V → Type 0) (is_message : M → Type 0) wh
   -- such records, and no more supersteps than their count can tell
   abbrev pub AreCodable : Supersteps V M → Type 0
   AreCodable records = (length records < 2 ^ 32) × AllByRecursion (are_listed IsCodable) records
-
--- whether a vertex may run in superstep s: one of the partition that the graph has; or, where messages make vertices, any one
--- of the partition, but in superstep 0
-abbrev pub may_run : Missing → PartRows → ℕ → ℕ → Bool
-may_run Drop rows s id = belongs rows.partitions rows.partition id && is_some (row_at id rows.graph)
-may_run Create rows s id = belongs rows.partitions rows.partition id && (is_some (row_at id rows.graph) || not (s == 0))
-
-module _ {V M : Type 0} (writes : ℕ) (missing : Missing) (rows : PartRows) where
-  -- a record of superstep s that a part of this partition may hold: its out-edges rise by target, and it contributes at places
-  -- that the program has declared
-  pub record MayHold (s : ℕ) (r : ℕ × Record V M) : Type 0 where
-    pub runs : may_run missing rows s r.0 ≡ true
-    pub edges_rise : IsRising r.1.edges
-    pub places : AllByRecursion (λ c. has_place writes c.0 ≡ true) r.1.contributed
-
-  -- the records of superstep s, by rising id
-  pub record MayHoldAll (s : ℕ) (records : List (ℕ × Record V M)) : Type 0 where
-    pub ids_rise : HasRisingIds records
-    pub each : AllByRecursion (MayHold s) records
-
-  -- the records of the supersteps from s on
-  abbrev pub MayHoldFrom : ℕ → Supersteps V M → Type 0
-  MayHoldFrom s [] = Unit {0}
-  MayHoldFrom s (records ∷ later) = MayHoldAll s records × MayHoldFrom (suc s) later
 
 module _ {V M : Type 0} where
   -- the ids of a part's vertices, those with which it began and those that ran, by rising id
