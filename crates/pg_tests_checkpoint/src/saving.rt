@@ -1,5 +1,3 @@
-ghost use Rattle.std.specs.Prelude.{◌≡◌, ◌∷◌, [], IfOk};
-
 use pg_checkpoint::{MemShelf, Shelf, save};
 use pg_global::Registry;
 use pg_graph::{Batch, Edges, Edit, Graph, Memory, Missing, PartitionId, VertexId};
@@ -12,10 +10,11 @@ use std::test::*;
 // Partition 1 of three of the vertices 1, 2 and 3 with the edges 1 to 2 and 2 to 3, past superstep 0 of run 1: vertex 1
 // halted with value 0, sent 5 along its edge of weight 5, and contributed 1 at place 0.
 const SAVED: [u8; 126] = [
-    0x50, 0x47, 0x43, 0x32, 0x7e, 0, 0, 0, 0, 0, 0, 0, 1, 0, 0, 0, 0, 0, 0, 0, 1, 0, 0, 0, 1, 0, 0, 0,
-    1, 0, 0, 0, 0, 0, 0, 0, 1, 0, 0, 0, 0, 0, 0, 0, 1, 0, 0, 0, 0, 0, 0, 0, 1, 0, 0, 0, 0, 0, 0, 0, 0,
-    1, 0, 0, 0, 0, 0, 0, 0, 2, 0, 0, 0, 0, 0, 0, 0, 5, 0, 0, 0, 0, 0, 0, 0, 1, 0, 0, 0, 0, 0, 0, 0, 2,
-    0, 0, 0, 0, 0, 0, 0, 5, 0, 0, 0, 0, 0, 0, 0, 1, 0, 0, 0, 0, 0, 0, 0, 0, 1, 0, 0, 0, 0, 0, 0, 0,
+    0x50, 0x47, 0x43, 0x32, 0x7e, 0, 0, 0, 0, 0, 0, 0, 1, 0, 0, 0, 0, 0, 0, 0, 1, 0, 0, 0, 1, 0, 0,
+    0, 1, 0, 0, 0, 0, 0, 0, 0, 1, 0, 0, 0, 0, 0, 0, 0, 1, 0, 0, 0, 0, 0, 0, 0, 1, 0, 0, 0, 0, 0, 0,
+    0, 0, 1, 0, 0, 0, 0, 0, 0, 0, 2, 0, 0, 0, 0, 0, 0, 0, 5, 0, 0, 0, 0, 0, 0, 0, 1, 0, 0, 0, 0, 0,
+    0, 0, 2, 0, 0, 0, 0, 0, 0, 0, 5, 0, 0, 0, 0, 0, 0, 0, 1, 0, 0, 0, 0, 0, 0, 0, 0, 1, 0, 0, 0, 0,
+    0, 0, 0,
 ];
 
 fn id(number: u64) -> Result<VertexId, Fail> {
@@ -34,17 +33,15 @@ fn graph(alloc: Global) -> Result<Graph, Fail> {
     Ok(graph)
 }
 
-// What vertex 1 gave.
-fn given(alloc: Global, target: VertexId) -> Result<Record<i64, i64>, Memory> {
-    let mut edges = Vec::new(alloc);
-    edges.push((target, 5))?;
+// What vertex 1 gave, with these out-edges.
+fn given(alloc: Global, edges: Edges, target: VertexId) -> Result<Record<i64, i64>, Memory> {
     let mut sent = Sequence::new(alloc);
     sent.push((target, 5))?;
     let mut contributed = Sequence::new(alloc);
     contributed.push((Place::new(0), 1))?;
     Ok(Record {
         value: 0,
-        edges: Edges::from_rising(alloc, edges)?,
+        edges,
         halted: true,
         sent,
         contributed,
@@ -56,9 +53,16 @@ fn stepped(alloc: Global, graph: &Graph) -> Result<Part<i64, i64>, Fail> {
     let partitioner = Partitioner::new(3).ok_or("three partitions")?;
     let rows = partitioner.rows(graph, PartitionId::new(1));
     let registry = Registry::new(alloc);
-    let part = Part::begin(alloc, rows, Missing::Drop, &registry, &Sssp { source: id(1)? })?;
+    let part = Part::begin(
+        alloc,
+        rows,
+        Missing::Drop,
+        &registry,
+        &Sssp { source: id(1)? },
+    )?;
     let mut records = Vec::new(alloc);
-    records.push((id(1)?, given(alloc, id(2)?)?))?;
+    let row = graph.row(id(1)?).ok_or("vertex 1 is there")?;
+    records.push((id(1)?, given(alloc, row.edges.copy()?, id(2)?)?))?;
     let mut supersteps = Vec::new(alloc);
     supersteps.push(records)?;
     Ok(part.resume(alloc, supersteps, &registry)?)
