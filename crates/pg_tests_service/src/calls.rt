@@ -2,12 +2,12 @@
 ghost use Rattle.std.specs.Prelude.{◌≡◌, true};
 ghost use Rattle.pg_global.specs.Master.{has_places};
 
-use crate::course::{SIZES, cold_run, warm_run};
+use crate::course::{SIZES, cold_run, mixed_run, told, warm_run};
 use crate::graphs::{graph_of, id};
 use crate::noting::Noting;
 use pg_course::Partitioner;
 use pg_global::{AnyCombiner, MessageCombiner};
-use pg_graph::{Graph, VertexId};
+use pg_graph::{Graph, PartitionId, VertexId};
 use pg_program::{Computation, Tally};
 use std::alloc::Global;
 use std::fmt::Write;
@@ -175,5 +175,68 @@ fn vertices_that_are_restored_are_not_called(rt: HostRuntime) -> Result<(), Fail
         let told = called_after(alloc, &EDGES, &[1, 2, 3, 4, 5], partitions)?;
         assert_eq!(rt; told.as_str(), "others 0 calls 0");
     }
+    Ok(())
+}
+
+// Which vertices are called on two partitions where one of them has lost its trace of the old run, and the values.
+fn called_mixed(
+    alloc: Global,
+    edges: &[(u64, u64)],
+    touched: &[u64],
+    lost: u32,
+    combiner: AnyCombiner,
+) -> Result<String, Fail> {
+    let before = graph_of(alloc, &INPUTS, &EDGES)?;
+    let after = graph_of(alloc, &INPUTS, edges)?;
+    let mut ids = Vec::new(alloc);
+    for number in touched {
+        ids.push(id(*number)?)?;
+    }
+    let partitioner = Partitioner::new(2).ok_or("no such number of partitions")?;
+    let (first, program) = (Noting::of(alloc, Tally)?, Noting::of(alloc, Tally)?);
+    let old = cold_run(alloc, &before, partitioner, &[0, 0], &first, &combiner)?;
+    let made = mixed_run(
+        alloc,
+        &after,
+        partitioner,
+        old,
+        ids.as_slice(),
+        PartitionId::new(lost),
+        &[0, 0],
+        &program,
+        &combiner,
+    )?;
+    let mut text = noted(alloc, &program, made.meter.count())?;
+    let values = told(alloc, partitioner, &made)?;
+    write!(text, " {values}")?;
+    Ok(text)
+}
+
+#[test]
+fn a_cold_partition_beside_a_warm_one(rt: HostRuntime) -> Result<(), Fail> {
+    let alloc = rt.alloc();
+    let none = AnyCombiner::NoCombiner;
+    let more = [(5, 3), (4, 2), (4, 3), (3, 1), (2, 3), (1, 3)];
+    let less = [(5, 3), (3, 1), (2, 3), (1, 3)];
+    assert_eq!(rt;
+        called_mixed(alloc, &EDGES, &[], 0, none)?.as_str(),
+        "0:2 0:4 others 0 calls 2 1=(1 [30]) 2=(20 []) 3=(4 [10 20 40 50]) 4=(40 []) 5=(50 []) calls 2"
+    );
+    assert_eq!(rt;
+        called_mixed(alloc, &more, &[4, 2], 0, none)?.as_str(),
+        "0:2 0:4 1:2 others 0 calls 3 1=(1 [30]) 2=(1 [40]) 3=(4 [10 20 40 50]) 4=(40 []) 5=(50 []) calls 3"
+    );
+    assert_eq!(rt;
+        called_mixed(alloc, &less, &[4, 3], 0, none)?.as_str(),
+        "0:2 0:4 1:3 others 0 calls 3 1=(1 [30]) 2=(20 []) 3=(3 [10 20 50]) 4=(40 []) 5=(50 []) calls 3"
+    );
+    assert_eq!(rt;
+        called_mixed(alloc, &more, &[4, 2], 1, none)?.as_str(),
+        "0:1 0:3 0:4 0:5 1:1 1:2 1:3 others 0 calls 7 1=(1 [30]) 2=(1 [40]) 3=(4 [10 20 40 50]) 4=(40 []) 5=(50 []) calls 7"
+    );
+    assert_eq!(rt;
+        called_mixed(alloc, &less, &[4, 3], 0, AnyCombiner::Sum)?.as_str(),
+        "0:2 0:4 1:3 others 0 calls 3 1=(1 [30]) 2=(20 []) 3=(1 [80]) 4=(40 []) 5=(50 []) calls 3"
+    );
     Ok(())
 }

@@ -235,6 +235,33 @@ pub(crate) fn warm_run<P: Computation, C: MessageCombiner<P::Message>>(
     run_on(alloc, courses, &logs, true, totals, program, combiner)
 }
 
+// The same where one partition has lost its trace of the old run, and begins from scratch.
+pub(crate) fn mixed_run<P: Computation, C: MessageCombiner<P::Message>>(
+    alloc: Global,
+    graph: &Graph,
+    partitioner: Partitioner,
+    old: Made<P::Value, P::Message>,
+    touched: &[VertexId],
+    lost: PartitionId,
+    totals: &[u64],
+    program: &P,
+    combiner: &C,
+) -> Result<Made<P::Value, P::Message>, Fail>
+    requires { has_places (P.program program.now).declared 0 ≡ true }
+{
+    let Made { courses, logs, .. } = old;
+    let all = begun_beside(alloc, graph, partitioner, courses, touched, program)?;
+    let mut courses = Vec::new(alloc);
+    for course in all {
+        if course.partition() == lost {
+            courses.push(begun(alloc, graph, partitioner, lost, program)?)?;
+        } else {
+            courses.push(course)?;
+        }
+    }
+    run_on(alloc, courses, &logs, true, totals, program, combiner)
+}
+
 // The value of a vertex as a superstep begins, if it is there.
 fn show_value<V: Plain, M: Plain>(
     text: &mut String,
@@ -251,7 +278,7 @@ fn show_value<V: Plain, M: Plain>(
 }
 
 // The values of the ids up to nine as a run ends, and how many executions there were.
-fn told<V: Plain, M: Plain>(
+pub(crate) fn told<V: Plain, M: Plain>(
     alloc: Global,
     partitioner: Partitioner,
     made: &Made<V, M>,

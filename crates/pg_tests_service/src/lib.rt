@@ -13,11 +13,19 @@ mod course;
 #[cfg(test)]
 mod graphs;
 #[cfg(test)]
+mod happenings;
+#[cfg(test)]
 mod hops;
+#[cfg(test)]
+mod losses;
 #[cfg(test)]
 mod noting;
 #[cfg(test)]
 mod orders;
+#[cfg(test)]
+mod recorded;
+#[cfg(test)]
+mod recovery;
 #[cfg(test)]
 mod rows;
 #[cfg(test)]

@@ -1,4 +1,5 @@
 //! A program that notes which vertices are called.
+ghost use Rattle.std.specs.Prelude.{◌≡◌, IfOk};
 
 use pg_graph::{Memory, Superstep, VertexId};
 use pg_model::Declared;
@@ -36,6 +37,7 @@ impl<P> Noting<P> {
     pub(crate) fn of(alloc: Global, inner: P) -> Result<Noting<P>, Memory>
     where
         P: Drop,
+        ensures { IfOk result (λ noting. noting.inner ≡ inner) }
     {
         let mut calls = Vec::new(alloc);
         for _ in 0..SUPERSTEPS {
