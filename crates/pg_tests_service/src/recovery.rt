@@ -1,0 +1,442 @@
+// Runs whose workers fall, event by event. What they answer stands beside runs from scratch; which vertices are called, in
+// which superstep, and how often each partition steps was found by hand.
+ghost use Rattle.std.specs.Prelude.{◌≡◌, [], true, None, length, IfOk};
+ghost use Rattle.pg_global.specs.Master.{is_registered};
+ghost use Rattle.pg_global.specs.Registry.{first_refusal};
+
+use crate::graphs::{graph_of, id};
+use crate::happenings::Happening::{self, Close, Host, Lose, Restore, Save, Step};
+use crate::happenings::play;
+use crate::noting::Noting;
+use pg_core::{Core, Event, Limits, Traces};
+use pg_global::{AnyCombiner, MasterCompute, MessageCombiner, NoMaster};
+use pg_graph::{Graph, Memory, PartitionId, VertexId};
+use pg_model::Run;
+use pg_program::{Computation, Meter, Plain, Shed, Tally};
+use pg_ready::{ReadyMaster, ReadyProgram, Sssp};
+use pg_scratch::run;
+use std::alloc::Global;
+use std::fmt::Write;
+use std::process::Abort;
+use std::test::Fail;
+
+// How many steps each partition made.
+fn tell_steps(text: &mut String, history: &[Event], partitions: u32) -> Result<(), Fail> {
+    write!(text, " steps")?;
+    for number in 0..partitions {
+        let step = Event::Step(PartitionId::new(number));
+        let count = history.iter().filter(|event| **event == step).count();
+        write!(text, " {count}")?;
+    }
+    Ok(())
+}
+
+fn tell_values<V: Plain>(text: &mut String, run: &Run<V>) -> Result<(), Fail> {
+    for (id, value) in run.values.as_slice() {
+        write!(text, " {id}=")?;
+        value.show(text)?;
+    }
+    Ok(())
+}
+
+pub(crate) fn is_same<V: Plain>(first: &Run<V>, second: &Run<V>) -> bool {
+    first.values.as_slice() == second.values.as_slice()
+        && first.aggregates.as_slice() == second.aggregates.as_slice()
+        && first.ending == second.ending
+        && first.supersteps == second.supersteps
+        && first.sent == second.sent
+        && first.dropped == second.dropped
+}
+
+// The answer of a run that has ended, and what it leaves.
+pub(crate) fn finished<P: Computation, C: MessageCombiner<P::Message>, M: MasterCompute>(
+    alloc: Global,
+    core: Core<'_, P, C, M>,
+    limits: Limits,
+) -> Result<(Run<P::Value>, Traces<P::Value, P::Message>), Fail>
+    ensures { IfOk result (λ done. length done.1.lefts ≡ limits.partitions) }
+{
+    if core.limits().partitions() != limits.partitions() {
+        return Err(Fail::from("another number of partitions"));
+    }
+    if !core.state().ended() {
+        return Err(Fail::from("it hasn't ended"));
+    }
+    let (run, left, _) = core.finish(alloc)?;
+    Ok((run, left))
+}
+
+// What a run that ended tells: the calls of compute, the steps of each partition, the values; and whether all of its answer
+// is that of the run from scratch. And what it leaves.
+fn ended<P: Computation, C: MessageCombiner<P::Message>, M: MasterCompute>(
+    alloc: Global,
+    core: Core<'_, Noting<P>, C, M>,
+    limits: Limits,
+    calls: u64,
+    wanted: &Run<P::Value>,
+) -> Result<(String, Traces<P::Value, P::Message>), Fail>
+    ensures { IfOk result (λ told. length told.1.lefts ≡ limits.partitions) }
+{
+    let mut text = core.program().told(alloc)?;
+    write!(text, " calls {calls}")?;
+    tell_steps(&mut text, core.history(), limits.partitions())?;
+    let (run, left) = finished(alloc, core, limits)?;
+    tell_values(&mut text, &run)?;
+    if !is_same(&run, wanted) {
+        text.push_str(" otherwise than from scratch")?;
+    }
+    Ok((text, left))
+}
+
+// The answer of the plain runner.
+pub(crate) fn scratch<P: Computation, C: MessageCombiner<P::Message>, M: MasterCompute>(
+    alloc: Global,
+    graph: &Graph,
+    program: &P,
+    combiner: &C,
+    master: &M,
+    limits: Limits,
+) -> Result<Run<P::Value>, Fail>
+    ensures { IfOk result (λ _. (first_refusal [] (M.master master.now).registrations ≡ None)
+        × (is_registered (P.program program.now) (M.master master.now) ≡ true)) }
+{
+    let mut meter = Meter::new();
+    let (missing, limit) = (limits.missing(), limits.limit());
+    Ok(run(
+        alloc, graph, program, combiner, master, missing, limit, &mut meter,
+    )?)
+}
+
+// What a run from scratch tells in which this happens.
+fn played<P: Computation + Drop, C: MessageCombiner<P::Message>, M: MasterCompute>(
+    alloc: Global,
+    graph: &Graph,
+    program: P,
+    combiner: &C,
+    master: &M,
+    limits: Limits,
+    happenings: &[Happening],
+) -> Result<String, Fail> {
+    let wanted = scratch(alloc, graph, &program, combiner, master, limits)?;
+    let program = Noting::of(alloc, program)?;
+    let mut core = Core::open(alloc, graph, &program, combiner, master, limits, 1)?;
+    let mut meter = Meter::new();
+    play(alloc, &mut core, happenings, &mut meter)?;
+    let (text, _) = ended(alloc, core, limits, meter.count(), &wanted)?;
+    Ok(text)
+}
+
+// What a run leaves in which nothing happens but steps and closes.
+fn left_by<P: Computation, C: MessageCombiner<P::Message>, M: MasterCompute>(
+    alloc: Global,
+    graph: &Graph,
+    program: &P,
+    combiner: &C,
+    master: &M,
+    limits: Limits,
+) -> Result<Traces<P::Value, P::Message>, Fail>
+    ensures { IfOk result (λ left. length left.lefts ≡ limits.partitions) }
+{
+    scratch(alloc, graph, program, combiner, master, limits)?;
+    let mut core = Core::open(alloc, graph, program, combiner, master, limits, 1)?;
+    play(alloc, &mut core, &[], &mut Meter::new())?;
+    let (_, left) = finished(alloc, core, limits)?;
+    Ok(left)
+}
+
+// What a run tells beside what another one left, in which this happens, and what it leaves.
+fn played_beside<P: Computation + Drop + Copy, C: MessageCombiner<P::Message>, M: MasterCompute>(
+    alloc: Global,
+    graph: &Graph,
+    left: Traces<P::Value, P::Message>,
+    touched: &[VertexId],
+    program: P,
+    combiner: &C,
+    master: &M,
+    limits: Limits,
+    happenings: &[Happening],
+) -> Result<(String, Traces<P::Value, P::Message>), Fail>
+    requires { length left.lefts ≡ limits.partitions }
+    ensures { IfOk result (λ told. length told.1.lefts ≡ limits.partitions) }
+{
+    let wanted = scratch(alloc, graph, &program, combiner, master, limits)?;
+    let program = Noting::of(alloc, program)?;
+    let mut core = Core::open_beside(
+        alloc, graph, left, touched, &program, combiner, master, limits, 2,
+    )?;
+    let mut meter = Meter::new();
+    play(alloc, &mut core, happenings, &mut meter)?;
+    ended(alloc, core, limits, meter.count(), &wanted)
+}
+
+fn limits_of(partitions: u32, workers: u32) -> Result<Limits, Fail> {
+    Ok(Limits::new(partitions, workers, 100, 0, 16).ok_or("limits")?)
+}
+
+// The shortest paths from 1 on an edge from 1 to 2 and one from 2 to 3. Vertex 3 is of partition 0 of three.
+fn hops(alloc: Global, workers: u32, acts: &[Happening]) -> Result<String, Fail> {
+    let graph = graph_of(alloc, &[(1, 0), (2, 0), (3, 0)], &[(1, 2), (2, 3)])?;
+    let limits = limits_of(3, workers)?;
+    let program = ReadyProgram::Sssp(Sssp { source: id(1)? });
+    let none = AnyCombiner::NoCombiner;
+    played(
+        alloc,
+        &graph,
+        program,
+        &none,
+        &ReadyMaster { program },
+        limits,
+        acts,
+    )
+}
+
+#[test]
+fn a_lost_partition_begins_anew(rt: HostRuntime) -> Result<(), Fail> {
+    let acts = [
+        Step(0),
+        Step(1),
+        Step(2),
+        Close,
+        Step(0),
+        Step(2),
+        Lose(1),
+        Host(1, 0),
+        Restore(1),
+    ];
+    let told = hops(rt.alloc(), 2, &acts)?;
+    assert_eq!(rt;
+        told.as_str(),
+        "0:1*2 0:2 0:3 1:2 2:3 others 0 calls 6 steps 3 4 3 1=0 2=1 3=2"
+    );
+    Ok(())
+}
+
+// Partition 1 is lost again while it is behind, together with partition 2.
+#[test]
+fn a_partition_is_lost_twice(rt: HostRuntime) -> Result<(), Fail> {
+    let acts = [
+        Step(0),
+        Step(1),
+        Step(2),
+        Close,
+        Save(0),
+        Save(1),
+        Save(2),
+        Step(0),
+        Step(2),
+        Lose(1),
+        Host(1, 2),
+        Restore(1),
+        Lose(2),
+        Host(1, 0),
+        Host(2, 0),
+        Restore(1),
+        Restore(2),
+    ];
+    let told = hops(rt.alloc(), 3, &acts)?;
+    assert_eq!(rt;
+        told.as_str(),
+        "0:1 0:2 0:3 1:2*2 2:3 others 0 calls 6 steps 3 3 4 1=0 2=1 3=2"
+    );
+    Ok(())
+}
+
+// It is found past the superstep that is open, which is closed without another step.
+#[test]
+fn a_partition_is_found_past_the_open_superstep(rt: HostRuntime) -> Result<(), Fail> {
+    let acts = [
+        Step(1),
+        Save(1),
+        Step(0),
+        Step(2),
+        Lose(1),
+        Host(1, 0),
+        Restore(1),
+        Close,
+    ];
+    let told = hops(rt.alloc(), 2, &acts)?;
+    assert_eq!(rt;
+        told.as_str(),
+        "0:1 0:2 0:3 1:2 2:3 others 0 calls 5 steps 3 3 3 1=0 2=1 3=2"
+    );
+    Ok(())
+}
+
+// Each vertex has sent as superstep 0 is lost with its worker, on however many partitions.
+fn senders(alloc: Global, partitions: u32) -> Result<String, Fail> {
+    let graph = graph_of(alloc, &[(1, 10), (2, 20), (3, 0)], &[(1, 3), (2, 3)])?;
+    let mut acts = Vec::new(alloc);
+    for number in 0..partitions {
+        acts.push(Step(number))?;
+    }
+    acts.push(Lose(1))?;
+    for number in 0..partitions {
+        if number & 1 == 1 {
+            acts.push(Host(number, 0))?;
+            acts.push(Restore(number))?;
+        }
+    }
+    let limits = limits_of(partitions, 2)?;
+    let none = AnyCombiner::NoCombiner;
+    played(
+        alloc,
+        &graph,
+        Tally,
+        &none,
+        &NoMaster,
+        limits,
+        acts.as_slice(),
+    )
+}
+
+#[test]
+fn messages_come_by_sender_after_a_loss(rt: HostRuntime) -> Result<(), Fail> {
+    let alloc = rt.alloc();
+    assert_eq!(rt;
+        senders(alloc, 2)?.as_str(),
+        "0:1*2 0:2 0:3*2 1:3 others 0 calls 6 steps 2 3 1=(10 []) 2=(20 []) 3=(2 [10 20])"
+    );
+    assert_eq!(rt;
+        senders(alloc, 3)?.as_str(),
+        "0:1*2 0:2 0:3 1:3 others 0 calls 5 steps 2 3 2 1=(10 []) 2=(20 []) 3=(2 [10 20])"
+    );
+    let most = senders(alloc, 64)?;
+    assert!(rt;
+        most.as_str()
+            .starts_with("0:1*2 0:2 0:3*2 1:3 others 0 calls 6 steps 2 3 2 3 ")
+    );
+    assert!(rt;
+        most.as_str()
+            .ends_with(" 2 3 1=(10 []) 2=(20 []) 3=(2 [10 20])")
+    );
+    Ok(())
+}
+
+// What a restored partition is shown in the supersteps that it goes through again is what was shown then.
+#[test]
+fn totals_are_shown_as_they_were(rt: HostRuntime) -> Result<(), Fail> {
+    let alloc = rt.alloc();
+    let graph = graph_of(alloc, &[(1, 0), (2, 0), (3, 0)], &[(1, 2), (1, 3), (2, 3)])?;
+    let acts = [
+        Step(0),
+        Step(1),
+        Step(2),
+        Close,
+        Step(0),
+        Step(2),
+        Lose(1),
+        Host(1, 0),
+        Restore(1),
+    ];
+    let none = AnyCombiner::NoCombiner;
+    let told = played(
+        alloc,
+        &graph,
+        Shed,
+        &none,
+        &NoMaster,
+        limits_of(3, 2)?,
+        &acts,
+    )?;
+    assert_eq!(rt;
+        told.as_str(),
+        "0:1*2 0:2 0:3 1:1 1:2 1:3 others 0 calls 7 steps 2 3 2 1=1 2=1 3=1"
+    );
+    Ok(())
+}
+
+const INPUTS: [(u64, i64); 5] = [(1, 10), (2, 20), (3, 30), (4, 40), (5, 50)];
+
+const EDGES: [(u64, u64); 5] = [(5, 3), (4, 3), (3, 1), (2, 3), (1, 3)];
+
+// What a run on edited edges tells in which this happens, beside one on those above; and what one does beside that, on the
+// same graph, in which nothing else happens. Vertices 2 and 4 are of partition 0 of two, which worker 0 has.
+fn beside_tally(
+    alloc: Global,
+    edges: &[(u64, u64)],
+    touched: &[u64],
+    happenings: &[Happening],
+) -> Result<(String, String), Fail> {
+    let before = graph_of(alloc, &INPUTS, &EDGES)?;
+    let after = graph_of(alloc, &INPUTS, edges)?;
+    let mut ids = Vec::new(alloc);
+    for number in touched {
+        ids.push(id(*number)?)?;
+    }
+    let (none, limits) = (AnyCombiner::NoCombiner, limits_of(2, 2)?);
+    let left = left_by(alloc, &before, &Tally, &none, &NoMaster, limits)?;
+    let (told, left) = played_beside(
+        alloc,
+        &after,
+        left,
+        ids.as_slice(),
+        Tally,
+        &none,
+        &NoMaster,
+        limits,
+        happenings,
+    )?;
+    let (again, _) = played_beside(
+        alloc,
+        &after,
+        left,
+        &[],
+        Tally,
+        &none,
+        &NoMaster,
+        limits,
+        &[],
+    )?;
+    Ok((told, again))
+}
+
+#[test]
+fn a_cold_sender_beside_a_warm_receiver(rt: HostRuntime) -> Result<(), Fail> {
+    let alloc = rt.alloc();
+    let lost = [Lose(0), Host(0, 1), Restore(0)];
+    let less = [(5, 3), (3, 1), (2, 3), (1, 3)];
+    let (same, after) = beside_tally(alloc, &EDGES, &[], &lost)?;
+    assert_eq!(rt;
+        (same.as_str(), after.as_str()),
+        (
+            "0:2 0:4 others 0 calls 2 steps 2 2 1=(1 [30]) 2=(20 []) 3=(4 [10 20 40 50]) 4=(40 []) 5=(50 [])",
+            "others 0 calls 0 steps 2 2 1=(1 [30]) 2=(20 []) 3=(4 [10 20 40 50]) 4=(40 []) 5=(50 [])"
+        )
+    );
+    let (changed, after) = beside_tally(alloc, &less, &[4, 3], &lost)?;
+    assert_eq!(rt;
+        (changed.as_str(), after.as_str()),
+        (
+            "0:2 0:4 1:3 others 0 calls 3 steps 2 2 1=(1 [30]) 2=(20 []) 3=(3 [10 20 50]) 4=(40 []) 5=(50 [])",
+            "others 0 calls 0 steps 2 2 1=(1 [30]) 2=(20 []) 3=(3 [10 20 50]) 4=(40 []) 5=(50 [])"
+        )
+    );
+    Ok(())
+}
+
+// The partition that goes on warm is called only where something differs; the other one, lost as it had made a step beside
+// the old run, is called from superstep 0 on.
+#[test]
+fn a_partition_is_lost_beside_the_old_run(rt: HostRuntime) -> Result<(), Fail> {
+    let alloc = rt.alloc();
+    let more = [(5, 3), (4, 2), (4, 3), (3, 1), (2, 3), (1, 3)];
+    let lost = [
+        Step(0),
+        Step(1),
+        Close,
+        Step(1),
+        Lose(0),
+        Host(0, 1),
+        Restore(0),
+    ];
+    let (told, after) = beside_tally(alloc, &more, &[4, 2], &lost)?;
+    assert_eq!(rt;
+        told.as_str(),
+        "0:2 0:4*2 1:2 others 0 calls 4 steps 3 2 1=(1 [30]) 2=(1 [40]) 3=(4 [10 20 40 50]) 4=(40 []) 5=(50 [])"
+    );
+    assert_eq!(rt;
+        after.as_str(),
+        "others 0 calls 0 steps 2 2 1=(1 [30]) 2=(1 [40]) 3=(4 [10 20 40 50]) 4=(40 []) 5=(50 [])"
+    );
+    Ok(())
+}
