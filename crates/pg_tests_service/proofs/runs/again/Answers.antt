@@ -3,4 +3,4 @@ use Rattle.pg_tests_service.proofs.runs.again.Goals as goal
 
 pub open_beside-requires-clause-each : goal.open_beside-requires-clause-each
 open_beside-requires-clause-each g c =
-    c.in_ok-left.ensures.each ∙ ap (λ l. l.partitions) (c.in_ok-run_out.ensures.same.limits_are ∙ c.in_ok-first.ensures.opened.limits_are)
+    λ κs lives. c.in_ok-left.ensures.each ∙ ap (λ l. l.partitions) (c.in_ok-run_out.ensures.same.limits_are ∙ c.in_ok-first.ensures.opened.limits_are)
