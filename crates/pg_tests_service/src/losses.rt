@@ -300,8 +300,8 @@ fn tried<P: Computation, C: MessageCombiner<P::Message>, M: MasterCompute>(
     again(alloc, &after, left, program, combiner, master, limits)
 }
 
-// The same of a ready program on so many partitions, for each policy and four beginnings. Whether all answers were right and
-// the last runs called nothing.
+// The same of a ready program on so many partitions, for each policy, on two to five workers. Whether all answers were right
+// and the last runs called nothing.
 fn all_tried(
     alloc: Global,
     program: ReadyProgram,
@@ -309,10 +309,10 @@ fn all_tried(
     partitions: u32,
     random: &mut Random,
 ) -> Result<bool, Fail> {
-    let limits = Limits::new(partitions, 5, 12, 0, 16).ok_or("limits")?;
     let master = ReadyMaster { program };
     for missing in [Missing::Drop, Missing::Create] {
-        for _ in 0..4 {
+        for workers in 2..6 {
+            let limits = Limits::new(partitions, workers, 12, 0, 16).ok_or("limits")?;
             let limits = limits.with_missing(missing);
             let calls = tried(alloc, &program, &combiner, &master, limits, random)?;
             if calls != Some(0) {
@@ -342,7 +342,7 @@ fn losses_change_no_answer(rt: HostRuntime) -> Result<(), Fail> {
     };
     for program in programs {
         for combiner in [AnyCombiner::NoCombiner, AnyCombiner::Min, AnyCombiner::Sum] {
-            for partitions in [1, 2, 5] {
+            for partitions in [1, 2, 3, 5] {
                 assert!(rt; all_tried(alloc, program, combiner, partitions, &mut random)?);
             }
         }
