@@ -64,6 +64,14 @@ not_put key bytes s r is =
       others = λ _ other _. stays (at_key s other);
     })
 
+-- nor was anything got
+pub not_got : {X : Type 0} (s : ShelfState) (r : Result X ShelfFault) → r ≡ Err Memory → IsGot s r s
+not_got {X} s r is =
+    subst (λ (r : Result X ShelfFault). IsGot s r s) (sym is) (record {
+      counted = record { honest = refl; failures = refl };
+      fades = λ _ key. stays (at_key s key);
+    })
+
 -- the same put, told of an equal key and equal bytes
 pub put_as : (key bytes : List ℕ) {other others : List ℕ} {s t : ShelfState} {r : Result (Unit {0}) ShelfFault} → IsPut other others s r t
     → other ≡ key → others ≡ bytes → IsPut key bytes s r t

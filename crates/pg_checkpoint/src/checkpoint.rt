@@ -1,4 +1,4 @@
-//! Saving a part, and loading it.
+//! Saving a part.
 ghost use Rattle.std.specs.Prelude.{◌≡◌, ◌+◌, ◌<◌, ◌^◌, length, take, IfOk, OnOk};
 ghost use Rattle.std.specs.String.{string_bytes};
 ghost use Rattle.pg_checkpoint.specs.Bytes.{second_coding};
@@ -41,7 +41,7 @@ pub fn save<V: Coded, M: Coded, S: Shelf>(
 }
 
 /// The key of a partition: the letter p, and its number in decimal.
-fn key_of(alloc: Global, partition: PartitionId) -> Result<String, Memory>
+pub(crate) fn key_of(alloc: Global, partition: PartitionId) -> Result<String, Memory>
     ensures { IfOk result (λ key. string_bytes key ≡ key_of partition) }
 {
     let mut key = String::from_str(alloc, "p")?;

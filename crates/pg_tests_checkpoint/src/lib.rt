@@ -4,4 +4,6 @@
 #![tactic(auto)]
 
 #[cfg(test)]
+mod loading;
+#[cfg(test)]
 mod saving;

@@ -9,7 +9,7 @@ use std::test::*;
 
 // Partition 1 of three of the vertices 1, 2 and 3 with the edges 1 to 2 and 2 to 3, past superstep 0 of run 1: vertex 1
 // halted with value 0, sent 5 along its edge of weight 5, and contributed 1 at place 0.
-const SAVED: [u8; 126] = [
+pub(crate) const SAVED: [u8; 126] = [
     0x50, 0x47, 0x43, 0x32, 0x7e, 0, 0, 0, 0, 0, 0, 0, 1, 0, 0, 0, 0, 0, 0, 0, 1, 0, 0, 0, 1, 0, 0,
     0, 1, 0, 0, 0, 0, 0, 0, 0, 1, 0, 0, 0, 0, 0, 0, 0, 1, 0, 0, 0, 0, 0, 0, 0, 1, 0, 0, 0, 0, 0, 0,
     0, 0, 1, 0, 0, 0, 0, 0, 0, 0, 2, 0, 0, 0, 0, 0, 0, 0, 5, 0, 0, 0, 0, 0, 0, 0, 1, 0, 0, 0, 0, 0,
@@ -17,11 +17,11 @@ const SAVED: [u8; 126] = [
     0, 0, 0,
 ];
 
-fn id(number: u64) -> Result<VertexId, Fail> {
+pub(crate) fn id(number: u64) -> Result<VertexId, Fail> {
     Ok(VertexId::new(number).ok_or("a number above 2^63 - 1")?)
 }
 
-fn graph(alloc: Global) -> Result<Graph, Fail> {
+pub(crate) fn graph(alloc: Global) -> Result<Graph, Fail> {
     let mut batch = Batch::new(alloc);
     batch.push(Edit::AddVertex(id(1)?, 0))?;
     batch.push(Edit::AddVertex(id(2)?, 0))?;

@@ -1,0 +1,8 @@
+-- What it is to test a number that may be told.
+use Rattle.std.specs.Prelude.{◌≡◌, ℕ, ◌<◌, ◌^◌, Bool, false, true, Option, None, Some}
+
+-- where a number is told, it is this one, which fits eight bytes, or it is not
+abbrev pub IsCount : Option ℕ → ℕ → Bool → Type 0
+IsCount None n is = is ≡ true
+IsCount (Some told) n true = told ≡ n
+IsCount (Some told) n false = (n < 2 ^ 64) × (told ≡ n → ⊥)
