@@ -1,5 +1,6 @@
 -- What the contents of a checkpoint make of a part.
-use Rattle.std.proofs.Common.{◌≡◌, ℕ, ◌≤◌, ◌<◌, ◌^◌, List, [], ◌++◌, length, take, Option, None, Some, Result, Err, true, false, IfSome, refl, sym, ap, subst, ◌∙◌, arith, inl, inr}
+use Rattle.std.proofs.Common.{◌≡◌, ℕ, ◌≤◌, ◌<◌, ◌^◌, List, [], ◌++◌, length, take, Option, None, Some, Result, Err}
+use Rattle.std.proofs.Common.{true, false, IfSome, refl, sym, ap, subst, ◌∙◌, arith, inl, inr}
 use Rattle.std.specs.List.{flat_map}
 use Rattle.pg_checkpoint.specs.Bounds.{Limits, MayHoldFrom, Within}
 use Rattle.pg_checkpoint.specs.Bytes.{framed, half_coding, second_magic, superstep_coding}

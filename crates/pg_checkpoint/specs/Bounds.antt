@@ -1,5 +1,6 @@
 -- What the records of a part are held against.
-use Rattle.std.specs.Prelude.{◌≡◌, ℕ, suc, ◌==◌, ◌&&◌, ◌||◌, not, Bool, false, true, List, [], ◌∷◌, is_some, Result, Ok, Err}
+use Rattle.std.specs.Prelude.{◌≡◌, ℕ, suc, ◌==◌, ◌&&◌, ◌||◌, not, Bool, false, true, List, [], ◌∷◌, is_some}
+use Rattle.std.specs.Prelude.{Result, Ok, Err}
 use Rattle.std.specs.List.{AllByRecursion, list_all}
 use Rattle.pg_checkpoint.specs.Records.{Supersteps}
 use Rattle.pg_checkpoint.specs.declared.reading.Unread.{Unread}
@@ -31,15 +32,16 @@ abbrev pub is_made : Missing → ℕ → Bool
 is_made Drop s = false
 is_made Create s = not (s == 0)
 
--- whether a vertex may run in superstep s: one of the partition that the graph has; or, where messages make vertices, any one
--- of the partition, but in superstep 0
+-- whether a vertex may run in superstep s: one of the partition that the graph has; or, where messages make vertices,
+-- any one of the partition, but in superstep 0
 abbrev pub may_run : Limits → ℕ → ℕ → Bool
 may_run limits s id =
-    belongs limits.rows.partitions limits.rows.partition id && (is_some (row_at id limits.rows.graph) || is_made limits.missing s)
+    belongs limits.rows.partitions limits.rows.partition id
+    && (is_some (row_at id limits.rows.graph) || is_made limits.missing s)
 
 module _ {V M : Type 0} (limits : Limits) where
-  -- a record of superstep s that a part of this partition may hold: its out-edges rise by target, and it contributes at places
-  -- that the program has declared
+  -- a record of superstep s that a part of this partition may hold: its out-edges rise by target, and it contributes at
+  -- places that the program has declared
   pub record MayHold (s : ℕ) (r : ℕ × Record V M) : Type 0 where
     pub runs : may_run limits s r.0 ≡ true
     pub edges_rise : IsRising r.1.edges

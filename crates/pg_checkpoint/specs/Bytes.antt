@@ -35,7 +35,8 @@ module _ {V M : Type 0} (value : V → List ℕ) (message : M → List ℕ) wher
   -- what stands behind the length in format 1: run, partition, how many supersteps, and their records
   abbrev pub first_rest : ℕ → ℕ → List (List (ℕ × Record V M)) → List ℕ
   first_rest run partition records =
-      natural_coding run ++ (half_coding partition ++ (half_coding (length records) ++ flat_map superstep_coding records))
+      natural_coding run ++ (half_coding partition
+      ++ (half_coding (length records) ++ flat_map superstep_coding records))
 
   -- in format 2: the same, with how many out-edges the vertices have before the records
   abbrev pub second_rest : ℕ → ℕ → ℕ → List (List (ℕ × Record V M)) → List ℕ
@@ -59,4 +60,5 @@ module _ {V M : Type 0} (value : V → List ℕ) (message : M → List ℕ) wher
   first_coding run partition records = framed first_magic (first_rest value message run partition records)
 
   abbrev pub second_coding : ℕ → ℕ → ℕ → List (List (ℕ × Record V M)) → List ℕ
-  second_coding run partition edges records = framed second_magic (second_rest value message run partition edges records)
+  second_coding run partition edges records =
+      framed second_magic (second_rest value message run partition edges records)

@@ -15,7 +15,8 @@ use Rattle.pg_program.specs.Plain.{are_listed}
 
 -- the record of which these are the parts
 abbrev pub record_of : {V M : Type 0} → RecordParts V M → ℕ × Record V M
-record_of p = (p.id, record { value = p.value; edges = p.edges; halted = p.halted; sent = p.sent; contributed = p.contributed })
+record_of p =
+    (p.id, record { value = p.value; edges = p.edges; halted = p.halted; sent = p.sent; contributed = p.contributed })
 
 -- those of supersteps
 abbrev pub records_of : {V M : Type 0} → List (List (RecordParts V M)) → Supersteps V M
@@ -29,7 +30,8 @@ edges_coding (Some edges) = natural_coding edges
 module _ {V M : Type 0} (value : V → List ℕ) (message : M → List ℕ) where
   -- what stands behind the opening: in format 2 the number of out-edges, and then the supersteps
   abbrev pub rest_coding : Contents V M → List ℕ
-  rest_coding contents = edges_coding contents.edges ++ flat_map (list_coding (parts_coding value message)) contents.supersteps
+  rest_coding contents =
+      edges_coding contents.edges ++ flat_map (list_coding (parts_coding value message)) contents.supersteps
 
 -- the letters with which the format begins, as a number
 abbrev pub magic_of : Option ℕ → ℕ
@@ -47,16 +49,18 @@ abbrev pub coding_in : {V M : Type 0} → (V → List ℕ) → (M → List ℕ) 
 coding_in value message run partition None records = first_coding value message run partition records
 coding_in value message run partition (Some edges) records = second_coding value message run partition edges records
 
-module _ {V M : Type 0} (is_value : V → Type 0) (value : V → List ℕ) (is_message : M → Type 0) (message : M → List ℕ) (run partition : ℕ) (bytes : List ℕ) where
+module _ {V M : Type 0} (is_value : V → Type 0) (value : V → List ℕ) (is_message : M → Type 0) (message : M → List ℕ)
+    (run partition : ℕ) (bytes : List ℕ) where
   -- the bytes are the coding of these records, and of no others
   pub record IsSaid (contents : Contents V M) : Type 0 where
     pub codable : AreCodable is_value is_message (records_of contents.supersteps)
     pub coded : bytes ≡ coding_in value message run partition contents.edges (records_of contents.supersteps)
-    pub only : (edges : Option ℕ) (records : Supersteps V M) → IfSome edges (λ n. n < 2 ^ 64) → AreCodable is_value is_message records
-        → bytes ≡ coding_in value message run partition edges records → (edges ≡ contents.edges) × (records ≡ records_of contents.supersteps)
+    pub only : (edges : Option ℕ) (records : Supersteps V M) → IfSome edges (λ n. n < 2 ^ 64)
+        → AreCodable is_value is_message records → bytes ≡ coding_in value message run partition edges records
+        → (edges ≡ contents.edges) × (records ≡ records_of contents.supersteps)
 
   abbrev pub Says : Result (Contents V M) Unread → Type 0
   Says (Ok contents) = IsSaid contents
-  Says (Err Damaged) = (edges : Option ℕ) (records : Supersteps V M) → IfSome edges (λ n. n < 2 ^ 64) → AreCodable is_value is_message records
-      → bytes ≡ coding_in value message run partition edges records → ⊥
+  Says (Err Damaged) = (edges : Option ℕ) (records : Supersteps V M) → IfSome edges (λ n. n < 2 ^ 64)
+      → AreCodable is_value is_message records → bytes ≡ coding_in value message run partition edges records → ⊥
   Says (Err Memory) = Unit {0}

@@ -37,15 +37,19 @@ module _ {V M : Type 0} where
   abbrev pub initial_of : Asked V M → List (VertexState V)
   initial_of asked = first_states asked.program asked.rows.graph asked.rows.partitions asked.rows.partition
 
-module _ {V M : Type 0} (is_value : V → Type 0) (value : V → List ℕ) (is_message : M → Type 0) (message : M → List ℕ) (asked : Asked V M) where
-  -- the bytes are the coding of these records, in format 1, or in format 2 with as many out-edges as they leave the vertices
+module _ {V M : Type 0} (is_value : V → Type 0) (value : V → List ℕ) (is_message : M → Type 0) (message : M → List ℕ)
+    (asked : Asked V M) where
+  -- the bytes are the coding of these records, in format 1, or in format 2 with as many out-edges as they leave the
+  -- vertices
   abbrev pub IsCheckpoint : Supersteps V M → List ℕ → Type 0
   IsCheckpoint records bytes =
       (bytes ≡ first_coding value message asked.run asked.rows.partition records)
-      ⊎ (bytes ≡ second_coding value message asked.run asked.rows.partition (edges_behind (initial_of asked) records) records)
+      ⊎ (bytes ≡ second_coding value message asked.run asked.rows.partition
+      (edges_behind (initial_of asked) records) records)
 
-  -- this is the part whose coding the bytes are: its records may be held, and stand there, and no others do; and it holds its
-  -- share of a run, of whatever job, in which a part has recorded them that held its share, beside an old run or not
+  -- this is the part whose coding the bytes are: its records may be held, and stand there, and no others do; and it
+  -- holds its share of a run, of whatever job, in which a part has recorded them that held its share, beside an old run
+  -- or not
   pub record IsFound (bytes : List ℕ) (part : PartState V M) : Type 0 where
     pub partition_is : part.course.partition ≡ asked.rows.partition
     pub partitions_are : part.course.partitions ≡ asked.rows.partitions
@@ -67,8 +71,8 @@ module _ {V M : Type 0} (is_value : V → Type 0) (value : V → List ℕ) (is_m
 
   -- the bytes are the coding of no records that may be held
   abbrev pub IsDamaged : List ℕ → Type 0
-  IsDamaged bytes = (records : Supersteps V M) → AreCodable is_value is_message records → MayHoldFrom (limits_of asked) 0 records
-      → IsCheckpoint records bytes → ⊥
+  IsDamaged bytes = (records : Supersteps V M) → AreCodable is_value is_message records
+      → MayHoldFrom (limits_of asked) 0 records → IsCheckpoint records bytes → ⊥
 
   -- what bytes are taken for
   abbrev pub IsTaken : List ℕ → Result (PartState V M) Unread → Type 0

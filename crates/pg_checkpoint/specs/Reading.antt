@@ -38,5 +38,6 @@ module _ {V M : Type 0} where
 
   abbrev pub parts_coding : (V → List ℕ) → (M → List ℕ) → RecordParts V M → List ℕ
   parts_coding value message parts =
-      natural_coding parts.id ++ (truth_coding parts.halted ++ (value parts.value ++ (list_coding edge_coding parts.edges
+      natural_coding parts.id ++ (truth_coding parts.halted ++ (value parts.value
+      ++ (list_coding edge_coding parts.edges
       ++ (list_coding (sent_coding message) parts.sent ++ list_coding contributed_coding parts.contributed))))

@@ -31,12 +31,15 @@ module _ {V M : Type 0} (is_value : V → Type 0) (is_message : M → Type 0) wh
 module _ {V M : Type 0} where
   -- the ids of a part's vertices, those with which it began and those that ran, by rising id
   abbrev pub ids_behind : List (VertexState V) → Supersteps V M → List ℕ
-  ids_behind initial records = keys (from_entries {R = nat_cmp} (map (λ id. (id, tt {0})) (map (λ x. x.id) initial ++ flat_map keys_of records)))
+  ids_behind initial records =
+      keys (from_entries {R = nat_cmp}
+      (map (λ id. (id, tt {0})) (map (λ x. x.id) initial ++ flat_map keys_of records)))
 
   -- their states behind these supersteps: each that which its last record left, or else that with which it began
   abbrev pub states_behind : List (VertexState V) → Supersteps V M → List (VertexState V)
   states_behind initial records =
-      flat_map (λ id. option_to_list (state_at id (length records) (record { initial = initial; records = records }))) (ids_behind initial records)
+      flat_map (λ id. option_to_list (state_at id (length records) (record { initial = initial; records = records })))
+      (ids_behind initial records)
 
   -- how many out-edges these have
   abbrev pub edges_behind : List (VertexState V) → Supersteps V M → ℕ

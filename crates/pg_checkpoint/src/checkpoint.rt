@@ -18,8 +18,8 @@ use std::alloc::Global;
 
 /// Puts a part under the key of its partition: in format 2, with the records of the supersteps below its place.
 ///
-/// Costs a walk over these records, a sort of the ids of their vertices and of those with which the part began, and a look-up of
-/// the state of each.
+/// Costs a walk over these records, a sort of the ids of their vertices and of those with which the part began, and a
+/// look-up of the state of each.
 pub fn save<V: Coded, M: Coded, S: Shelf>(
     alloc: Global,
     shelf: &mut S,

@@ -28,7 +28,8 @@ fn rest_of<V: Coded, M: Coded>(
     alloc: Global,
     opening: &Opening,
 ) -> Result<Contents<V, M>, Unread>
-    ensures { Reads (IsRest V.is_value M.is_value opening.now) (rest_coding V.coding M.coding) reader.old result reader.new }
+    ensures { Reads (IsRest V.is_value M.is_value opening.now) (rest_coding V.coding M.coding)
+        reader.old result reader.new }
 {
     let edges = match opening.magic {
         FIRST => None,

@@ -32,10 +32,10 @@ pub enum Loaded<V, M> {
     Damaged,
 }
 
-/// The part of a partition that stands under its key, in format 1 or 2: it goes on from where it was saved, and executes
-/// nothing.
+/// The part of a partition that stands under its key, in format 1 or 2, with nothing of an old run. Executes nothing.
 ///
-/// Costs a look at each byte, and what `Part::begin`, `Part::resume` and a count of the out-edges cost.
+/// Costs one pass over the bytes, what `Part::begin` and `Part::resume` cost, and a sort of the ids of the part's
+/// vertices with a look-up of the state of each.
 pub fn load<S: Shelf, V: Coded, M: Coded, P: Computation<Value = V, Message = M>>(
     alloc: Global,
     shelf: &mut S,

@@ -28,7 +28,8 @@ impl From<Memory> for ShelfFault {
     }
 }
 
-/// Bytes under keys, on a device that may fail. An honest shelf keeps what it is given, or a beginning of it, or nothing.
+/// Bytes under keys, on a device that may fail. An honest shelf keeps what it is given, or a beginning of it, or
+/// nothing.
 pub trait Shelf {
     ghost state: { Self → ShelfState };
 

@@ -40,7 +40,8 @@ pub(crate) fn header_room(alloc: Global) -> Result<Vec<u8>, Memory>
 
 /// The bytes of a header.
 pub(crate) fn header_bytes(alloc: Global, header: Header) -> Result<Vec<u8>, Memory>
-    ensures { IfOk result (λ bytes. bytes.items ≡ second_magic ++ (natural_coding header.len ++ (natural_coding header.run
+    ensures { IfOk result (λ bytes. bytes.items ≡ second_magic ++ (natural_coding header.len
+        ++ (natural_coding header.run
         ++ (half_coding header.partition ++ (half_coding header.supersteps ++ natural_coding header.edges))))) }
 {
     let mut bytes = Vec::with_capacity(alloc, HEADER_LEN)?;

@@ -6,4 +6,6 @@
 #[cfg(test)]
 mod loading;
 #[cfg(test)]
+mod mutating;
+#[cfg(test)]
 mod saving;

@@ -93,7 +93,8 @@ returns-then-branch g c =
     let count : IsCount contents.edges (edges_behind part.course.trace.initial part.course.trace.records) true =
     subst₂ (λ (t : Trace g.row.V.Denot g.row.M.Denot) (b : Bool). IsCount contents.edges (edges_behind t.initial t.records) b) c.trace.ensures
     c.if-branch.true c.in_ok-is_count.ensures in
-    is_found g.V.Plain.is_value g.V.Coded.coding g.M.Plain.is_value g.M.Coded.coding asked c.args.bytes.now contents said records c.in_ok-records.ensures.0 held begun part
+    is_found g.V.Plain.is_value g.V.Coded.coding g.M.Plain.is_value g.M.Coded.coding asked c.args.bytes.now contents said records
+    c.in_ok-records.ensures.0 held begun part
     c.in_ok-begun.ensures.begins c.in_ok-begun.ensures.unrecorded c.in_ok-begun.ensures.holds c.in_ok-part.ensures.resumed count
     c.in_ok-part.ensures.again
 
@@ -123,8 +124,10 @@ returns-else-branch g c =
     subst₂ (λ (t : Trace g.row.V.Denot g.row.M.Denot) (b : Bool). IsCount contents.edges (edges_behind t.initial t.records) b) c.trace.ensures
     c.if-branch.false c.in_ok-is_count.ensures in
     not_counted g.V.Plain.is_value g.V.Coded.coding g.M.Plain.is_value g.M.Coded.coding asked c.args.bytes.now contents said
-    (first_is g.V.Plain.is_value g.V.Coded.coding g.M.Plain.is_value g.M.Coded.coding asked c.args.bytes.now contents said records c.in_ok-records.ensures.0 held begun part
+    (first_is g.V.Plain.is_value g.V.Coded.coding g.M.Plain.is_value g.M.Coded.coding asked c.args.bytes.now contents said records
+    c.in_ok-records.ensures.0 held begun part
     c.in_ok-begun.ensures.begins c.in_ok-begun.ensures.unrecorded c.in_ok-begun.ensures.holds c.in_ok-part.ensures.resumed)
-    (records_are g.V.Plain.is_value g.V.Coded.coding g.M.Plain.is_value g.M.Coded.coding asked c.args.bytes.now contents said records c.in_ok-records.ensures.0 held begun part
+    (records_are g.V.Plain.is_value g.V.Coded.coding g.M.Plain.is_value g.M.Coded.coding asked c.args.bytes.now contents said records
+    c.in_ok-records.ensures.0 held begun part
     c.in_ok-begun.ensures.begins c.in_ok-begun.ensures.unrecorded c.in_ok-begun.ensures.holds c.in_ok-part.ensures.resumed)
     count
