@@ -163,3 +163,40 @@ fn wrong_bytes_are_damage(rt: HostRuntime) -> Result<(), Fail> {
     assert_eq!(rt; with_byte(alloc, 117, 1)?, Answer::Damaged);
     Ok(())
 }
+
+// Three stretches of bytes one after another, as long as they say, with another byte in one place.
+fn joined(alloc: Global, stretches: [&[u8]; 3], place: usize, byte: u8) -> Result<Vec<u8>, Fail> {
+    let mut bytes = Vec::new(alloc);
+    for stretch in stretches {
+        bytes.extend_from_slice(stretch)?;
+    }
+    let len = bytes.len();
+    if place < len && 4 < len && len < 256 {
+        bytes[4] = len as u8;
+        bytes[place] = byte;
+    }
+    Ok(bytes)
+}
+
+#[test]
+fn ids_rise(rt: HostRuntime) -> Result<(), Fail> {
+    let alloc = rt.alloc();
+    // The record in two supersteps, and twice in one.
+    let both = joined(alloc, [FIRST.as_slice(), &FIRST[28..], &[]], 24, 2)?;
+    assert_eq!(rt; told(alloc, both.as_slice(), 1)?, Answer::Cold(2));
+    let twice = joined(alloc, [FIRST.as_slice(), &FIRST[36..], &[]], 28, 2)?;
+    assert_eq!(rt; told(alloc, twice.as_slice(), 1)?, Answer::Damaged);
+    Ok(())
+}
+
+#[test]
+fn targets_rise(rt: HostRuntime) -> Result<(), Fail> {
+    let alloc = rt.alloc();
+    // An out-edge to 2 and one to 3, and both to 2.
+    let further = [3, 0, 0, 0, 0, 0, 0, 0, 5, 0, 0, 0, 0, 0, 0, 0];
+    let both = joined(alloc, [&FIRST[..77], &further, &FIRST[77..]], 53, 2)?;
+    assert_eq!(rt; told(alloc, both.as_slice(), 1)?, Answer::Cold(1));
+    let twice = joined(alloc, [&FIRST[..77], &FIRST[61..77], &FIRST[77..]], 53, 2)?;
+    assert_eq!(rt; told(alloc, twice.as_slice(), 1)?, Answer::Damaged);
+    Ok(())
+}

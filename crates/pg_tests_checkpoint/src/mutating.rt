@@ -10,9 +10,10 @@ use std::test::*;
 
 const MUTATIONS: u32 = 10_000;
 
-// Where the edges' number and the first id stand.
+// Where the number of out-edges stands, and the first ids of the two supersteps.
 const EDGES: usize = 28;
 const FIRST_ID: usize = 44;
+const NEXT_ID: usize = 282;
 
 #[derive(Drop)]
 struct Random {
@@ -139,25 +140,27 @@ fn right_length(bytes: &mut Vec<u8>) {
     }
 }
 
-// What the bytes are with this byte in one place.
-fn with_byte(alloc: Global, graph: &Graph, place: usize, byte: u8) -> Result<Outcome, Fail> {
+// What the bytes are with other bytes in some places.
+fn with_bytes(alloc: Global, graph: &Graph, changes: &[(usize, u8)]) -> Result<Outcome, Fail> {
     let mut bytes = checkpoint(alloc)?;
-    if place < bytes.len() {
-        bytes[place] = byte;
+    for (place, byte) in changes {
+        if *place < bytes.len() {
+            bytes[*place] = *byte;
+        }
     }
     outcome_of(alloc, graph, bytes.as_slice())
 }
 
+// Vertex 0, which the graph doesn't have, with an out-edge.
 #[test]
-fn ids_that_dont_rise_are_damage(rt: HostRuntime) -> Result<(), Fail> {
+fn made_vertices_run_from_superstep_1_on(rt: HostRuntime) -> Result<(), Fail> {
     let alloc = rt.alloc();
     let graph = graph(alloc)?;
-    assert!(rt; with_byte(alloc, &graph, FIRST_ID, 1)? == Outcome::Found);
-    assert!(rt; with_byte(alloc, &graph, FIRST_ID, 2)? == Outcome::Damaged);
-    assert!(rt; with_byte(alloc, &graph, FIRST_ID, 3)? == Outcome::Damaged);
-    // A vertex that no message may have made in superstep 0.
-    assert!(rt; with_byte(alloc, &graph, FIRST_ID, 0)? == Outcome::Damaged);
-    assert!(rt; with_byte(alloc, &graph, EDGES, 1)? == Outcome::Damaged);
+    assert!(rt; with_bytes(alloc, &graph, &[(EDGES, 2)])? == Outcome::Found);
+    assert!(rt; with_bytes(alloc, &graph, &[(EDGES, 3)])? == Outcome::Damaged);
+    assert!(rt; with_bytes(alloc, &graph, &[(EDGES, 3), (FIRST_ID, 0)])? == Outcome::Damaged);
+    assert!(rt; with_bytes(alloc, &graph, &[(EDGES, 3), (NEXT_ID, 0)])? == Outcome::Found);
+    assert!(rt; with_bytes(alloc, &graph, &[(EDGES, 2), (NEXT_ID, 0)])? == Outcome::Damaged);
     Ok(())
 }
 
