@@ -12,7 +12,9 @@ const MUTATIONS: u32 = 10_000;
 
 // Where the number of out-edges stands, and the first ids of the two supersteps.
 const EDGES: usize = 28;
+
 const FIRST_ID: usize = 44;
+
 const NEXT_ID: usize = 282;
 
 #[derive(Drop)]
@@ -103,7 +105,15 @@ fn outcome_of(alloc: Global, graph: &Graph, bytes: &[u8]) -> Result<Outcome, Fai
     let rows = partitioner.rows(graph, PartitionId::new(0));
     let registry = Registry::new(alloc);
     let program = Sssp { source: id(1)? };
-    let loaded = load(alloc, &mut shelf, 1, rows, Missing::Create, &registry, &program);
+    let loaded = load(
+        alloc,
+        &mut shelf,
+        1,
+        rows,
+        Missing::Create,
+        &registry,
+        &program,
+    );
     match loaded.ok().ok_or("the shelf is at hand")? {
         Loaded::Damaged => Ok(Outcome::Damaged),
         Loaded::Missing => Ok(Outcome::Wrong),
