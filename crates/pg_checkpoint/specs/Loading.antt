@@ -3,7 +3,7 @@ use Rattle.std.specs.Prelude.{◌≡◌, ℕ, ◌≤◌, ◌⊎◌, List, ◌∷
 use Rattle.std.specs.Fmt.{decimal}
 use Rattle.pg_checkpoint.specs.Bounds.{Limits, MayHoldFrom}
 use Rattle.pg_checkpoint.specs.Bytes.{first_coding, second_coding}
-use Rattle.pg_checkpoint.specs.Records.{AreCodable, Supersteps, edges_behind}
+use Rattle.pg_checkpoint.specs.Records.{AreCodable, Supersteps, edges_behind, own_records}
 use Rattle.pg_checkpoint.specs.declared.loading.Loaded.{Loaded}
 use Rattle.pg_checkpoint.specs.declared.loading.Loaded.TheVariants.{Damaged, Found, Missing}
 use Rattle.pg_checkpoint.specs.declared.reading.Unread.{Unread}
@@ -19,6 +19,11 @@ use Rattle.pg_routing.specs.Starting.{PartRows, first_states}
 -- the letter p, and the number of the partition in decimal
 abbrev pub key_of : ℕ → List ℕ
 key_of partition = 112 ∷ decimal partition
+
+-- the bytes of a part of a run, in format 2
+abbrev pub part_coding : {V M : Type 0} → (V → List ℕ) → (M → List ℕ) → ℕ → PartState V M → List ℕ
+part_coding value message run part =
+    second_coding value message run part.course.partition (edges_behind part.course.trace.initial (own_records part)) (own_records part)
 
 -- the run and the partition of which a part is asked for, and its job as far as records hang on it
 pub record Asked (V M : Type 0) : Type 0 where

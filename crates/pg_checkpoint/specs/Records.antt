@@ -1,5 +1,5 @@
 -- Which records have bytes, and how many out-edges they leave the vertices of their part.
-use Rattle.std.specs.Prelude.{ℕ, ◌<◌, ◌^◌, ◌++◌, List, length, map, FitsSigned}
+use Rattle.std.specs.Prelude.{ℕ, ◌<◌, ◌^◌, ◌++◌, List, length, map, take, FitsSigned}
 use Rattle.std.specs.FinMap.{from_entries, keys}
 use Rattle.std.specs.Int.{w64}
 use Rattle.std.specs.List.{AllByRecursion, flat_map, sum_by}
@@ -8,6 +8,7 @@ use Rattle.std.specs.Option.{option_to_list}
 use Rattle.std.specs.Ordering.{nat_cmp}
 use Rattle.pg_model.specs.declared.configuration.VertexState.{VertexState}
 use Rattle.pg_model.specs.declared.record.Record.{Record}
+use Rattle.pg_part.specs.Part.{PartState}
 use Rattle.pg_program.specs.Plain.{are_both, are_listed, is_byte, is_id}
 use Rattle.pg_trace.specs.Trace.{state_at}
 
@@ -44,3 +45,7 @@ module _ {V M : Type 0} where
   -- how many out-edges these have
   abbrev pub edges_behind : List (VertexState V) → Supersteps V M → ℕ
   edges_behind initial records = sum_by (λ x. length x.edges) (states_behind initial records)
+
+-- what a part has recorded itself: the supersteps below its place
+abbrev pub own_records : {V M : Type 0} → PartState V M → Supersteps V M
+own_records part = take part.course.place part.course.trace.records

@@ -1,9 +1,8 @@
 //! Saving a part.
-ghost use Rattle.std.specs.Prelude.{◌≡◌, ◌+◌, ◌<◌, ◌^◌, length, take, IfOk, OnOk};
+ghost use Rattle.std.specs.Prelude.{◌≡◌, ◌+◌, ◌<◌, ◌^◌, length, IfOk, OnOk};
 ghost use Rattle.std.specs.String.{string_bytes};
-ghost use Rattle.pg_checkpoint.specs.Bytes.{second_coding};
-ghost use Rattle.pg_checkpoint.specs.Loading.{key_of};
-ghost use Rattle.pg_checkpoint.specs.Records.{AreCodable, edges_behind};
+ghost use Rattle.pg_checkpoint.specs.Loading.{key_of, part_coding};
+ghost use Rattle.pg_checkpoint.specs.Records.{AreCodable, own_records};
 ghost use Rattle.pg_checkpoint.specs.Shelf.{IsPut};
 
 use crate::shelf::{Shelf, ShelfFault};
@@ -27,13 +26,10 @@ pub fn save<V: Coded, M: Coded, S: Shelf>(
     run: u64,
 ) -> Result<(), ShelfFault>
     requires counts { (S.state shelf.old).failures + 1 < 2 ^ 64 }
-    ensures put { IsPut (key_of part.now.course.partition)
-        (second_coding V.coding M.coding run part.now.course.partition
-        (edges_behind part.now.course.trace.initial (take part.now.course.place part.now.course.trace.records))
-        (take part.now.course.place part.now.course.trace.records))
+    ensures put { IsPut (key_of part.now.course.partition) (part_coding V.coding M.coding run part.now)
         (S.state shelf.old) result (S.state shelf.new) }
-    ensures codable { OnOk result
-        (AreCodable V.is_value M.is_value (take part.now.course.place part.now.course.trace.records)) }
+    ensures codable { OnOk result (AreCodable V.is_value M.is_value (own_records part.now)) }
+    ensures fits { OnOk result (length (part_coding V.coding M.coding run part.now) < 2 ^ 64) }
 {
     let key = key_of(alloc, part.partition())?;
     let bytes = bytes_of(alloc, part, run)?;
@@ -52,7 +48,7 @@ pub(crate) fn key_of(alloc: Global, partition: PartitionId) -> Result<String, Me
 
 /// How many supersteps of a part's trace are its own: those below its place.
 fn own_supersteps<V: Plain, M: Plain>(part: &Part<V, M>) -> u32
-    ensures { result ≡ length (take part.now.course.place part.now.course.trace.records) }
+    ensures { result ≡ length (own_records part.now) }
 {
     let place = part.place().number();
     let recorded = part.trace().supersteps();
@@ -69,11 +65,8 @@ fn bytes_of<V: Coded, M: Coded>(
     part: &Part<V, M>,
     run: u64,
 ) -> Result<Vec<u8>, Memory>
-    ensures bytes { IfOk result (λ bytes. bytes.items ≡ second_coding V.coding M.coding run part.now.course.partition
-        (edges_behind part.now.course.trace.initial (take part.now.course.place part.now.course.trace.records))
-        (take part.now.course.place part.now.course.trace.records)) }
-    ensures codable { IfOk result (λ bytes.
-        AreCodable V.is_value M.is_value (take part.now.course.place part.now.course.trace.records)) }
+    ensures bytes { IfOk result (λ bytes. bytes.items ≡ part_coding V.coding M.coding run part.now) }
+    ensures codable { IfOk result (λ bytes. AreCodable V.is_value M.is_value (own_records part.now)) }
 {
     let trace = part.trace();
     let supersteps = own_supersteps(part);

@@ -9,7 +9,7 @@ ghost use Rattle.pg_inbox.specs.Logged.{Slots};
 ghost use Rattle.pg_map.specs.Entries.{ChangesRise, HasRisingIds};
 ghost use Rattle.pg_model.specs.Job.{Job};
 ghost use Rattle.pg_model.specs.Run.{run_length, view_at};
-ghost use Rattle.pg_model.specs.Superstep.{has_id, view_of as shown_view};
+ghost use Rattle.pg_model.specs.Superstep.{capped, has_id, view_of as shown_view};
 ghost use Rattle.pg_model.specs.declared.view.Visible.{Visible as Seen};
 ghost use Rattle.pg_routing.specs.Routes.{HasMessages, bundles_before};
 ghost use Rattle.pg_course.specs.Lent.{IsBesideOld, IsLent, IsLentBeside};
@@ -135,6 +135,14 @@ impl<V: Plain, M: Plain> Course<V, M> {
     {
         let restless = copied(alloc, self.differing.restless.as_slice())?;
         with_ids(restless, self.differing.resting.as_slice())
+    }
+
+    /// How many these are, at most 2^64 - 1. Costs no walk over them.
+    pub fn differing_len(&self) -> usize
+        ensures { result ≡ capped (length (differing self.now)) }
+    {
+        let Differing { restless, resting } = &self.differing;
+        restless.len().saturating_add(resting.len())
     }
 
     /// The vertices that its last step may have changed otherwise than the old run did, by rising id; none as a run begins.

@@ -11,6 +11,7 @@ ghost use Rattle.pg_map.specs.Entries.{HasRisingIds};
 ghost use Rattle.pg_model.specs.Job.{Job};
 ghost use Rattle.pg_model.specs.Run.{run_length};
 ghost use Rattle.pg_model.specs.Share.{records_below, records_in};
+ghost use Rattle.pg_model.specs.Superstep.{capped};
 ghost use Rattle.pg_part.specs.Part.{HasMadeStep, HoldsShare, IsLeft, PartState};
 ghost use Rattle.pg_recount.specs.Traffic.{AreMoved};
 ghost use Rattle.pg_routing.specs.Sending.{IsFresh, items_to, sends_by_records};
@@ -136,6 +137,13 @@ impl<V: Plain, M: Plain> Part<V, M> {
         ensures { IfOk result (λ ids. ids.items ≡ differing self.now.course) }
     {
         self.course.differing(alloc)
+    }
+
+    /// How many these are, at most 2^64 - 1. Costs no walk over them.
+    pub fn differing_len(&self) -> usize
+        ensures { result ≡ capped (length (differing self.now.course)) }
+    {
+        self.course.differing_len()
     }
 
     /// What it has come to as its superstep begins.
