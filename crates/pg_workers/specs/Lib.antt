@@ -1,3 +1,8 @@
-pub mod Round
-pub mod Work
-pub mod Outcomes
+pub mod Handed
+pub mod Meaning
+pub mod Losses
+pub mod Driven
+pub mod Refused
+pub mod Running
+pub mod Rounds
+pub mod Recovering

@@ -1,15 +1,7 @@
 //! What is counted of a run on workers.
 use pg_graph::{Superstep, WorkerId};
 use pg_model::Sequence;
-
-/// Why a worker fell.
-#[derive(Clone, Copy, Debug, PartialEq, Eq)]
-pub enum Cause {
-    /// It was to fall.
-    Fate,
-    /// It wanted memory.
-    Memory,
-}
+use pg_workers_rounds::Cause;
 
 /// A worker that fell, the superstep of the round in which it did, and why.
 #[derive(Clone, Copy, Debug, PartialEq, Eq)]

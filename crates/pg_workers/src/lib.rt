@@ -1,17 +1,20 @@
-//! Workers: a round of a run, in which each worker steps its partitions in a thread, and may fall.
+//! Workers: a run whose partitions are stepped by workers in threads. A worker may fall, and what it hosted goes on
+//! elsewhere, from a checkpoint or anew.
 #![tactic(auto)]
 
+mod assigning;
+mod coordinator;
 mod counts;
-mod fate;
-mod gate;
+mod fault;
+mod job;
+mod outcomes;
+mod recovering;
 mod round;
-mod threads;
-mod working;
+mod saving;
 
-pub use counts::{Cause, Counts, Loss};
-pub use fate::{Fate, NoFate};
-pub use gate::{Gate, NoGate};
-pub use pg_part::{Memory, Part, Sent};
-pub use round::Round;
-pub use threads::{Assignment, Outcome, in_threads, in_turn};
-pub use working::{Done, work};
+pub use counts::{Counts, Loss};
+pub use fault::RefreshFault;
+pub use job::run_job;
+pub use pg_checkpoint::{MemShelf, Shelf, ShelfFault};
+pub use pg_core::{Core, Finished, Limits, Spent, Traces};
+pub use pg_workers_rounds::{Cause, Done, Fate, Gate, NoFate, NoGate, Round, work};

@@ -1,158 +1,154 @@
-//! What a worker is lent for one round.
-ghost use Rattle.std.specs.Prelude.{◌≡◌, ◌≤◌, length, IfSome};
-ghost use Rattle.std.specs.Option.{option_copied};
+//! One round of a run on workers.
+ghost use Rattle.std.specs.Prelude.{◌≡◌, ◌≤◌, ◌<◌, ◌+◌, ◌^◌, ℕ, Bool, true, length, All, IfErr, IfOk, OnOk, Option};
+ghost use Rattle.pg_checkpoint.specs.Shelf.{IsCounted, ShelfState};
+ghost use Rattle.pg_core.specs.Progress.{IsNext, IsRight, Progress};
+ghost use Rattle.pg_graph.specs.Rows.{Rows};
+ghost use Rattle.pg_machine.specs.Machine.{is_allowed};
+ghost use Rattle.pg_workers.specs.Losses.{Trusts};
+ghost use Rattle.pg_workers.specs.Meaning.{job_in, meaning};
+ghost use Rattle.pg_workers.specs.Refused.{is_failure};
+ghost use Rattle.pg_workers.specs.Rounds.{AreAssigned, AreNext, AreRecorded, AreReturned, AreStepsRight, IsStepRight};
+ghost use Rattle.pg_workers.specs.Running.{Happens, IsRunning, Keeps, MayEnd};
+ghost use Rattle.pg_workers_rounds.specs.Work.{AreAt};
 
-use pg_global::{Registry, Visible};
-use pg_graph::{Superstep, WorkerId};
-use pg_inbox::Logs;
-use pg_program::Plain;
-use std::marker::Model;
+use crate::RefreshFault;
+use crate::assigning::{assign, is_little, lent};
+use crate::coordinator::Coordinator;
+use crate::outcomes::{RoundResult, collected, taken};
+use pg_checkpoint::Shelf;
+use pg_core::Event;
+use pg_global::{MasterCompute, MessageCombiner};
+use pg_graph::{Memory, PartitionId, Superstep};
+use pg_program::Computation;
+use pg_workers_rounds::{Assignment, Done, Fate, Gate, Outcome, in_threads, in_turn};
+use std::alloc::Global;
+use std::thread::Threads;
 
-/// What a worker is lent for one round: what was sent so far, and what is visible in the superstep at which its parts
-/// stand; the same of the old run, where this has the superstep; the master's aggregators; that superstep, how many
-/// losses were recorded before the round, and which worker it is.
-#[derive(Drop)]
-pub struct Round<'a, M: Plain> {
-    logs: &'a Logs<M>,
-    visible: &'a Visible,
-    old_logs: Option<&'a Logs<M>>,
-    old_visible: Option<&'a Visible>,
-    registry: &'a Registry,
-    superstep: Superstep,
-    attempt: u32,
-    worker: WorkerId,
-}
-
-impl<'a, M: Plain> Model for Round<'a, M> {
-    ghost use Rattle.std.specs.Prelude.{◌≤◌, length, IfSome};
-    ghost use Rattle.std.specs.Option.{option_copied};
-    ghost use Rattle.pg_workers.specs.Round.{RoundOf};
-
-    ghost Value = { RoundOf M };
-
-    ghost view = { λ r. record {
-      logs = r.logs.now;
-      visible = r.visible.now;
-      old_logs = option_copied r.old_logs;
-      old_visible = option_copied r.old_visible;
-      registry = r.registry.now;
-      superstep = r.superstep;
-      attempt = r.attempt;
-      worker = r.worker;
-    } };
-
-    ghost invariant = { λ r. (length r.visible.now.values ≤ 16)
-        × IfSome (option_copied r.old_visible) (λ v. length v.values ≤ 16) };
-}
-
-impl<'a, M: Plain> Round<'a, M> {
-    /// A round of a worker that lends just this.
-    pub fn new(
-        logs: &'a Logs<M>,
-        visible: &'a Visible,
-        old_logs: Option<&'a Logs<M>>,
-        old_visible: Option<&'a Visible>,
-        registry: &'a Registry,
+impl<'a, P: Computation, C: MessageCombiner<P::Message>, M: MasterCompute> Coordinator<
+    'a,
+    P,
+    C,
+    M,
+> {
+    /// One round: the parts that are ready at a superstep are stepped by their workers, the steps that are given back are
+    /// recorded by rising partition, and then the losses by rising worker, and what is lost is recovered.
+    pub(crate) fn round<R: Threads + Sync, S: Shelf, F: Fate, G: Gate>(
+        &mut self,
+        rt: &R,
+        alloc: Global,
         superstep: Superstep,
-        attempt: u32,
-        worker: WorkerId,
-    ) -> Round<'a, M>
-        requires few { length visible.now.values ≤ 16 }
-        requires few_old { IfSome (option_copied old_visible) (λ v. length v.values ≤ 16) }
-        ensures { result ≡ record {
-          logs = logs.entry.now;
-          visible = visible.entry.now;
-          old_logs = option_copied old_logs.entry;
-          old_visible = option_copied old_visible.entry;
-          registry = registry.entry.now;
-          superstep = superstep;
-          attempt = attempt;
-          worker = worker;
-        } }
+        shelf: &mut S,
+        fate: &F,
+        gate: &G,
+    ) -> Result<(), RefreshFault>
+        requires reached { superstep ≤ self.old.core.state.current }
+        requires few { length self.old.losses ≤ self.old.core.limits.max_losses }
+        requires counts { (S.state shelf.old).failures + 1 < 2 ^ 64 }
+        ensures keeps { let own = meaning P.program C.combining M.master P.Value.PartialEq.eq P.Message.PartialEq.eq
+            P.Value.is_value P.Value.coding P.Message.is_value P.Message.coding in
+            OnOk result (Keeps own (F.fated fate.now) (S.state shelf.old) self.old (S.state shelf.new) self.new) }
+        ensures few { OnOk result (length self.new.losses ≤ self.new.core.limits.max_losses) }
+        ensures refused { let own = meaning P.program C.combining M.master P.Value.PartialEq.eq P.Message.PartialEq.eq
+            P.Value.is_value P.Value.coding P.Message.is_value P.Message.coding in
+            IfErr result (MayEnd own (F.fated fate.now) (S.state shelf.old) self.old) }
+        ensures counted { IsCounted (S.state shelf.old) (is_failure result) (S.state shelf.new) }
     {
-        Round {
-            logs,
-            visible,
-            old_logs,
-            old_visible,
-            registry,
-            superstep,
-            attempt,
-            worker,
+        let partitions = self.core.limits().partitions();
+        let assignments = assign(alloc, &mut self.core, superstep)?;
+        let outcomes = self.outcomes(rt, alloc, superstep, assignments, fate, gate)?;
+        let RoundResult { steps, fallen } = collected(alloc, partitions, superstep, outcomes)?;
+        self.take_in(alloc, steps)?;
+        self.recover(alloc, shelf, fallen)
+    }
+
+    /// What the workers make of what they are assigned, in order: in threads, or one after another where there is little
+    /// to do.
+    fn outcomes<R: Threads + Sync, F: Fate, G: Gate>(
+        &self,
+        rt: &R,
+        alloc: Global,
+        superstep: Superstep,
+        assignments: Vec<Assignment<P::Value, P::Message>>,
+        fate: &F,
+        gate: &G,
+    ) -> Result<Vec<Outcome<P::Value, P::Message>>, Memory>
+        requires reached { superstep ≤ self.now.core.state.current }
+        requires few { length self.now.losses ≤ 16 }
+        requires at { All (λ assignment. AreAt superstep assignment.parts.items) assignments.items }
+        ensures { let own = meaning P.program C.combining M.master P.Value.PartialEq.eq P.Message.PartialEq.eq
+            P.Value.is_value P.Value.coding P.Message.is_value P.Message.coding in
+            IfOk result (λ outcomes. (before : Progress P C M P.Value P.Message) (below : ℕ)
+            → AreAssigned own before superstep below self.now.core assignments.items
+            → AreReturned own (F.fated fate.now) superstep (length self.now.losses) before outcomes.items) }
+    {
+        let (program, combiner) = (self.core.program(), self.core.combiner());
+        let round = lent(&self.core, superstep, self.losses.len() as u32);
+        if is_little(&self.core, superstep, assignments.as_slice()) {
+            in_turn(alloc, assignments, &round, program, combiner, fate, gate)
+        } else {
+            in_threads(
+                rt,
+                alloc,
+                assignments,
+                &round,
+                program,
+                combiner,
+                fate,
+                gate,
+            )
         }
     }
 
-    /// The same round, of this worker.
-    pub fn of(&self, worker: WorkerId) -> Round<'a, M>
-        ensures { result ≡ record self.now { worker = worker } }
+    /// Records steps, by rising partition.
+    fn take_in(
+        &mut self,
+        alloc: Global,
+        steps: Vec<Option<Done<P::Value, P::Message>>>,
+    ) -> Result<(), Memory>
+        requires { AreNext self.old.core steps.items }
+        ensures recorded { OnOk result (AreRecorded steps.items self.old.core.state self.new.core.state) }
+        ensures limits { OnOk result (self.new.core.limits ≡ self.old.core.limits) }
+        ensures losses { OnOk result (self.new.losses ≡ self.old.losses) }
+        ensures keeps { let own = meaning P.program C.combining M.master P.Value.PartialEq.eq P.Message.PartialEq.eq
+            P.Value.is_value P.Value.coding P.Message.is_value P.Message.coding in
+            OnOk result ((fated : ℕ → ℕ → ℕ → ℕ → Bool) (first : Progress P C M P.Value P.Message) (shelf : ShelfState)
+            → IsRunning own fated first shelf self.old
+            → ((kept : Option Rows) → IsRight (job_in own first) kept first
+            → Trusts shelf.is_honest self.old.core.history → AreStepsRight own kept self.old.core steps.items)
+            → IsRunning own fated first shelf self.new) }
     {
-        Round {
-            logs: self.logs,
-            visible: self.visible,
-            old_logs: self.old_logs,
-            old_visible: self.old_visible,
-            registry: self.registry,
-            superstep: self.superstep,
-            attempt: self.attempt,
-            worker,
+        let mut steps = steps;
+        for number in 0..self.core.limits().partitions() {
+            let partition = PartitionId::new(number);
+            if let Some(done) = taken(&mut steps, partition) {
+                self.take_in_one(alloc, partition, done)?;
+            }
         }
+        Ok(())
     }
 
-    /// The superstep at which the worker's parts stand.
-    pub fn superstep(&self) -> Superstep
-        ensures { result ≡ self.now.superstep }
+    /// Records a step of a partition.
+    fn take_in_one(
+        &mut self,
+        alloc: Global,
+        partition: PartitionId,
+        done: Done<P::Value, P::Message>,
+    ) -> Result<(), Memory>
+        requires allowed { is_allowed self.old.core.state (Event.Step partition) ≡ true }
+        requires next { IsNext self.old.core.limits.partitions self.old.core.state partition done.part }
+        ensures happens { OnOk result (Happens (Event.Step partition) self.old.core self.new.core) }
+        ensures losses { OnOk result (self.new.losses ≡ self.old.losses) }
+        ensures keeps { let own = meaning P.program C.combining M.master P.Value.PartialEq.eq P.Message.PartialEq.eq
+            P.Value.is_value P.Value.coding P.Message.is_value P.Message.coding in
+            OnOk result ((fated : ℕ → ℕ → ℕ → ℕ → Bool) (first : Progress P C M P.Value P.Message) (shelf : ShelfState)
+            → IsRunning own fated first shelf self.old
+            → ((kept : Option Rows) → IsRight (job_in own first) kept first
+            → Trusts shelf.is_honest self.old.core.history → IsStepRight own kept self.old.core partition done)
+            → IsRunning own fated first shelf self.new) }
     {
-        self.superstep
-    }
-
-    /// How many losses were recorded before the round.
-    pub fn attempt(&self) -> u32
-        ensures { result ≡ self.now.attempt }
-    {
-        self.attempt
-    }
-
-    /// The worker.
-    pub fn worker(&self) -> WorkerId
-        ensures { result ≡ self.now.worker }
-    {
-        self.worker
-    }
-
-    /// What was sent so far.
-    pub fn logs(&self) -> &'a Logs<M>
-        ensures { result.now ≡ self.now.logs }
-    {
-        self.logs
-    }
-
-    /// What is visible in the superstep.
-    pub fn visible(&self) -> &'a Visible
-        ensures value { result.now ≡ self.now.visible }
-        ensures few { length result.now.values ≤ 16 }
-    {
-        self.visible
-    }
-
-    /// What was sent in the old run, where it has the superstep.
-    pub fn old_logs(&self) -> Option<&'a Logs<M>>
-        ensures { option_copied result ≡ self.now.old_logs }
-    {
-        self.old_logs
-    }
-
-    /// What was visible in the old run, where it has the superstep.
-    pub fn old_visible(&self) -> Option<&'a Visible>
-        ensures value { option_copied result ≡ self.now.old_visible }
-        ensures few { IfSome (option_copied result) (λ v. length v.values ≤ 16) }
-    {
-        self.old_visible
-    }
-
-    /// The master's aggregators.
-    pub fn registry(&self) -> &'a Registry
-        ensures { result.now ≡ self.now.registry }
-    {
-        self.registry
+        let Done { part, sent, calls } = done;
+        self.core.stepped(alloc, partition, part, sent)?;
+        self.calls = self.calls.saturating_add(calls);
+        Ok(())
     }
 }

@@ -1,0 +1,4 @@
+pub mod Handed
+pub mod Round
+pub mod Work
+pub mod Outcomes
