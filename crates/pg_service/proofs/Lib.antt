@@ -1,6 +1,6 @@
 pub mod AnswersRise
-pub mod Finished
 pub mod Leading
+pub mod Ran
 pub mod Refreshed
 pub mod ReportTexts
 pub mod Untouched

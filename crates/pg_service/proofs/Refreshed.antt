@@ -1,10 +1,9 @@
 -- What an edit and a refresh leave of a service, and what a refresh reports.
 use Rattle.std.proofs.Common.{◌≡◌, ℕ, ◌+◌, Bool, [], Option, None, Some, Result, Ok, Err, IfErr, IfSome, OnErr, IsErrAnd}
 use Rattle.std.proofs.Common.{refl, ap, sym, subst, ◌∙◌, arith}
-use Rattle.pg_core.specs.Traces.{IsLeftBy, Traces}
+use Rattle.pg_workers.specs.Handed.{IsLeftBy, Limits, Traces}
 use Rattle.pg_global.specs.Master.{Master, job_of}
 use Rattle.pg_graph.specs.Rows.{Rows, row_at}
-use Rattle.pg_machine.specs.Limits.{Limits}
 use Rattle.pg_model.specs.Job.{Combining, Job, Program}
 use Rattle.pg_model.specs.Publications.{Publication}
 use Rattle.pg_model.specs.Run.{answer}
@@ -13,8 +12,9 @@ use Rattle.pg_service.specs.Answers.{Answered}
 use Rattle.pg_service.specs.Job.{ServiceJob, job_meant}
 use Rattle.pg_service.specs.Kept.{IsKept, KeptRun}
 use Rattle.pg_service.specs.Reported.{report_on}
-use Rattle.pg_service.specs.Service.{IsAnswered, MayReport, ServiceState, Stands, calls_of, publication_of, report_of}
+use Rattle.pg_service.specs.Service.{IsAnswered, IsRun, MayCount, MayReport, ServiceState, Stands, publication_of, report_of}
 use Rattle.pg_service.specs.declared.report.Report.{Report}
+use Rattle.pg_workers.specs.declared.counts.Counts.{Counts}
 
 module _ {R F : Type 0} where
   -- a refusal, by its fault
@@ -30,25 +30,27 @@ module _ {V M : Type 0} {program : Program V M} {combining : Option (Combining M
     {edition : ℕ} {published : Option (Answered V)} {kept : Option (KeptRun V M)}
     (stands : Stands program combining master limits graph edition published kept) where
   -- what a service has still fits together where no run is kept
-  pub stands_alone : {none : Option (KeptRun V M)} → none ≡ None → Stands program combining master limits graph edition published none
-  stands_alone none =
-      subst (Stands program combining master limits graph edition published) (sym none)
-      (record { can_run = stands.can_run; answered = stands.answered; beside = tt })
+  pub stands_alone : {none : Option (KeptRun V M)} {same : Rows} → none ≡ None → same ≡ graph
+      → Stands program combining master limits same edition published none
+  stands_alone {none = absent} none same =
+      subst (λ rows. Stands program combining master limits rows edition published absent) (sym same)
+      (subst (Stands program combining master limits graph edition published) (sym none)
+      (record { can_run = stands.can_run; answered = stands.answered; beside = tt }))
 
   abbrev Own : Job V M
   Own = job_of program combining master limits.missing limits.limit
 
   -- and where the answer of its graph is published, and the run that gave it is kept
-  pub stands_refreshed : {run : Run V} {traces : Traces V M} {answers : Answered V} {left : KeptRun V M}
+  pub stands_refreshed : {run : Run V} {traces : Traces V M} {answers : Answered V} {left : KeptRun V M} {same : Rows}
       → answers ≡ record { publication = record { edition = edition; answer = run }; registered = master.registrations }
       → left ≡ record { traces = traces; touched = [] }
-      → run ≡ answer Own graph → IsLeftBy Own graph limits.partitions traces
-      → Stands program combining master limits graph edition (Some answers) (Some left)
-  stands_refreshed {traces = traces} answers left is_answer leaves = record {
+      → run ≡ answer Own same → IsLeftBy Own same limits.partitions traces
+      → Stands program combining master limits same edition (Some answers) (Some left)
+  stands_refreshed {traces = traces} {same = same} answers left is_answer leaves = record {
     can_run = stands.can_run;
-    answered = subst (IsAnswered Own master.registrations graph edition) (sym answers)
+    answered = subst (IsAnswered Own master.registrations same edition) (sym answers)
         (record { published = record { not_later = omega arith; is_answer = λ _. is_answer }; named = refl });
-    beside = subst (IsKept Own limits.partitions graph) (sym left) (record {
+    beside = subst (IsKept Own limits.partitions same) (sym left) (record {
       left = subst (λ rows. IsLeftBy Own rows limits.partitions traces) (sym leaves.graph_is) leaves;
       untouched = λ q _. ap (row_at q) leaves.graph_is;
     });
@@ -87,21 +89,37 @@ module _ {P C A V M : Type 0} (program_of : P → Program V M) (combining_of : C
       ∙ ap (λ (s : ServiceState P C A V). record s { published = Some (publication_of (Meant s.job) s.edition s.graph); kept = Some s.graph }) is
 
   -- what it reports
-  pub reported : (value_eq : V → V → Bool) (message_eq : M → M → Bool) (run : Run V) {n calls : ℕ} {kept : Option Rows} {report : Report}
-      → report ≡ report_on n state.edition run calls → n ≡ state.job.limits.partitions → run ≡ answer (Meant state.job) state.graph
-      → calls ≡ calls_of (Meant state.job) value_eq message_eq kept state.graph → kept ≡ state.kept
-      → MayReport (Meant old.job) value_eq message_eq old.job.limits.partitions old.kept old.edition old.graph report
-  reported value_eq message_eq run {report = report} report_is n_is is_answer calls_are kept_is =
-      let all : report ≡ report_of (Meant state.job) value_eq message_eq state.job.limits.partitions state.kept state.edition state.graph =
-      report_is ∙ (λ i. report_on (n_is i) state.edition (is_answer i)
-      ((calls_are ∙ ap (λ rows. calls_of (Meant state.job) value_eq message_eq rows state.graph) kept_is) i)) in
+  pub reported : (value_eq : V → V → Bool) (message_eq : M → M → Bool) (fated : ℕ → ℕ → ℕ → ℕ → Bool) (run : Run V) {left : Traces V M}
+      {counts : Counts} {kept : Option Rows} {report : Report}
+      → report ≡ report_on state.edition run counts → kept ≡ state.kept
+      → IsRun (Meant state.job) value_eq message_eq fated state.job.limits kept state.graph run left counts
+      → MayReport (Meant old.job) value_eq message_eq fated old.job.limits old.kept old.edition old.graph report
+  reported value_eq message_eq fated run {counts = counts} {kept = kept} {report = report} report_is kept_is ran =
       subst (λ (s : ServiceState P C A V).
-      MayReport (Meant s.job) value_eq message_eq s.job.limits.partitions s.kept s.edition s.graph report) is
-      (subst (MayReport (Meant state.job) value_eq message_eq state.job.limits.partitions state.kept state.edition state.graph) (sym all) (record {
+      MayReport (Meant s.job) value_eq message_eq fated s.job.limits s.kept s.edition s.graph report) is
+      (subst (MayReport (Meant state.job) value_eq message_eq fated state.job.limits state.kept state.edition state.graph) (sym report_is) (record {
         edition_is = refl;
-        supersteps_are = refl;
-        ending_is = refl;
-        sent_are = refl;
-        dropped_are = refl;
-        unlost = λ _. (refl, refl);
+        supersteps_are = ap (λ (r : Run V). r.supersteps) ran.answers;
+        ending_is = ap (λ (r : Run V). r.ending) ran.answers;
+        sent_are = ap (λ (r : Run V). r.sent) ran.answers;
+        dropped_are = ap (λ (r : Run V). r.dropped) ran.answers;
+        counted = subst (λ rows. MayCount (Meant state.job) value_eq message_eq fated state.job.limits rows state.graph counts) kept_is ran.counted;
       }))
+
+-- a report of a refresh in which nobody fell
+pub report_is_of : {V M : Type 0} (job : Job V M) (value_eq : V → V → Bool) (message_eq : M → M → Bool) (fated : ℕ → ℕ → ℕ → ℕ → Bool) (limits : Limits)
+    (kept : Option Rows) (edition : ℕ) (graph : Rows) (report : Report)
+    → MayReport job value_eq message_eq fated limits kept edition graph report → report.losses ≡ []
+    → report ≡ report_of job value_eq message_eq limits.partitions kept edition graph
+report_is_of job value_eq message_eq fated limits kept edition graph report may none =
+    let (calls, steps) = may.counted.unlost none in
+    λ i. record {
+      edition = may.edition_is i;
+      supersteps = may.supersteps_are i;
+      ending = may.ending_is i;
+      sent = may.sent_are i;
+      dropped = may.dropped_are i;
+      calls = calls i;
+      steps = steps i;
+      losses = none i;
+    }

@@ -14,9 +14,8 @@ use Rattle.pg_edits.specs.declared.edit.EditKind.{EditKind}
 use Rattle.pg_edits.specs.declared.edit.EditKind.TheVariants.{EdgeExists, Full, NoEdge, NoVertex, VertexExists}
 use Rattle.pg_graph.proofs.Batches.{Err_not_Ok}
 use Rattle.pg_map.proofs.Changing.{change_other}
-use Rattle.pg_course.specs.Course.{AreTouched}
+use Rattle.pg_workers.specs.Handed.{AreTouched, IsLeftBy, Traces}
 use Rattle.pg_model.specs.Superstep.{has_id}
-use Rattle.pg_core.specs.Traces.{IsLeftBy, Traces}
 use Rattle.pg_model.specs.Job.{Job}
 use Rattle.pg_service.specs.Kept.{IsKept, KeptRun, sources}
 

@@ -1,6 +1,6 @@
 -- What a service runs.
 use Rattle.std.specs.Prelude.{◌≡◌, true, [], Option, None}
-use Rattle.pg_machine.specs.Limits.{Limits}
+use Rattle.pg_workers.specs.Handed.{Limits}
 use Rattle.pg_global.specs.Master.{Master, is_registered, job_of}
 use Rattle.pg_global.specs.Registry.{Registered, first_refusal}
 use Rattle.pg_model.specs.Job.{Combining, Job, Program}

@@ -1,7 +1,6 @@
 -- What a service keeps of its last run, for the next one.
 use Rattle.std.specs.Prelude.{ℕ, List, map}
-use Rattle.pg_core.specs.Traces.{IsLeftBy, Traces}
-use Rattle.pg_course.specs.Course.{AreTouched}
+use Rattle.pg_workers.specs.Handed.{AreTouched, IsLeftBy, Traces}
 use Rattle.pg_edits.specs.RowEdit.{source_of}
 use Rattle.pg_graph.specs.Rows.{Rows}
 use Rattle.pg_edits.specs.declared.edit.Edit.{Edit}

@@ -1,9 +1,9 @@
 pub mod Answers
+pub mod Handed
 pub mod Job
 pub mod Kept
 pub mod Led
 pub mod Printed
-pub mod Refusal
 pub mod ReportJson
 pub mod Reported
 pub mod Service

@@ -1,7 +1,7 @@
 -- What a service keeps, and what an edit and a refresh make of it.
 use Rattle.std.specs.Prelude.{◌≡◌, ◌⊎◌, ℕ, ◌<◌, ◌≤◌, Bool, false, ◌==◌, nat_lt, if◌then◌else◌}
 use Rattle.std.specs.Prelude.{List, [], length, replicate, Option, None, Some, IfSome, Result, Err}
-use Rattle.pg_machine.specs.Limits.{Limits}
+use Rattle.pg_workers.specs.Handed.{Event, IsLeftBy, Limits, Traces}
 use Rattle.pg_global.specs.Master.{Master, job_of}
 use Rattle.pg_graph.specs.Edit.{batch_edited, batch_limit}
 use Rattle.pg_edits.specs.EditFault.{memory_fault}
@@ -15,13 +15,17 @@ use Rattle.pg_model.specs.Needed.{needed_count}
 use Rattle.pg_model.specs.Publications.{Publication}
 use Rattle.pg_model.specs.Run.{answer}
 use Rattle.pg_model.specs.Superstep.{capped}
-use Rattle.pg_service.specs.Answers.{Answered}
+use Rattle.pg_model.specs.declared.run.Run.{Run}
+use Rattle.pg_service.specs.Answers.{Answered, HaveRisingIds}
 use Rattle.pg_service.specs.Job.{CanRun, ServiceJob}
 use Rattle.pg_service.specs.Kept.{IsKept, KeptRun}
-use Rattle.pg_service.specs.Reported.{report_on}
+use Rattle.pg_service.specs.Reported.{counts_in, report_on}
 use Rattle.pg_service.specs.declared.answers.Check.{Check}
 use Rattle.pg_service.specs.declared.answers.Check.TheVariants.{Same, Stale}
 use Rattle.pg_service.specs.declared.report.Report.{Report}
+use Rattle.pg_workers.specs.Driven.{AreCountsOf}
+use Rattle.pg_workers.specs.Losses.{AreFated}
+use Rattle.pg_workers.specs.declared.counts.Counts.{Counts}
 
 -- what it runs, its graph with the number of batches that made it, what was published last, and the graph of the run
 -- that the next one may reuse
@@ -85,21 +89,44 @@ module _ {V M : Type 0} (job : Job V M) where
     abbrev pub calls_of : Option Rows → Rows → ℕ
     calls_of kept graph = capped (needed_count value_eq message_eq job kept graph)
 
-    -- what a refresh may report of a run over n partitions. It depends on what workers were lost how many calls and steps
-    -- there were: where none was, the calls are the needed executions, at most 2^64 - 1, and each partition has made each
-    -- superstep once
-    pub record MayReport (n : ℕ) (kept : Option Rows) (edition : ℕ) (graph : Rows) (report : Report) : Type 0 where
+    -- what may be counted of a run beside a kept one, if any, on workers that fall by a fate: what is told by a history that
+    -- the status machine allows. No more workers fell than may, by the fate those alone that it has fall, and nobody where
+    -- there is one worker. Where nobody fell, the calls are the needed executions, at most 2^64 - 1, and each partition has
+    -- made each superstep once
+    pub record MayCount (fated : ℕ → ℕ → ℕ → ℕ → Bool) (limits : Limits) (kept : Option Rows) (graph : Rows) (counts : Counts) : Type 0 where
+      pub history : List Event
+      pub tells : AreCountsOf value_eq message_eq job kept graph limits.partitions limits.workers history counts
+      pub few : length counts.losses ≤ limits.max_losses
+      pub fated_are : AreFated fated 0 counts.losses
+      pub alone : limits.workers ≡ 1 → counts.losses ≡ []
+      pub unlost : counts.losses ≡ []
+          → (counts.calls ≡ calls_of kept graph) × (counts.steps ≡ replicate limits.partitions (answer job graph).supersteps)
+
+    -- what a refresh may report: the numbers of the run from scratch, and what may be counted
+    pub record MayReport (fated : ℕ → ℕ → ℕ → ℕ → Bool) (limits : Limits) (kept : Option Rows) (edition : ℕ) (graph : Rows)
+        (report : Report) : Type 0 where
       pub edition_is : report.edition ≡ edition
       pub supersteps_are : report.supersteps ≡ (answer job graph).supersteps
       pub ending_is : report.ending ≡ (answer job graph).ending
       pub sent_are : report.sent ≡ (answer job graph).sent
       pub dropped_are : report.dropped ≡ (answer job graph).dropped
-      pub unlost : report.losses ≡ []
-          → (report.calls ≡ calls_of kept graph) × (report.steps ≡ replicate n (answer job graph).supersteps)
+      pub counted : MayCount fated limits kept graph (counts_in report)
 
-    -- the report where no worker was lost
+    -- what is counted over n partitions where nobody fell, and the report then
+    abbrev pub unlost_counts : ℕ → Option Rows → Rows → Counts
+    unlost_counts n kept graph =
+        record { calls = calls_of kept graph; steps = replicate n (answer job graph).supersteps; losses = [] }
+
     abbrev pub report_of : ℕ → Option Rows → ℕ → Rows → Report
-    report_of n kept edition graph = report_on n edition (answer job graph) (calls_of kept graph)
+    report_of n kept edition graph = report_on edition (answer job graph) (unlost_counts n kept graph)
+
+    -- what a run gives: the answer of the run from scratch, what the next one may reuse, and what may be counted
+    pub record IsRun (fated : ℕ → ℕ → ℕ → ℕ → Bool) (limits : Limits) (kept : Option Rows) (graph : Rows) (run : Run V) (left : Traces V M)
+        (counts : Counts) : Type 0 where
+      pub answers : run ≡ answer job graph
+      pub rising : HaveRisingIds run.values
+      pub leaves : IsLeftBy job graph limits.partitions left
+      pub counted : MayCount fated limits kept graph counts
 
     -- what a check finds: what was published is of another edition, or it is the answer of the run
     -- from scratch, which has so many calls

@@ -6,7 +6,7 @@ ghost use Rattle.pg_graph.specs.Rows.{Rows};
 ghost use Rattle.pg_model.specs.Job.{Job};
 ghost use Rattle.pg_service.specs.Kept.{IsKept, sources};
 
-use pg_core::Traces;
+use pg_workers::Traces;
 use pg_graph::{Batch, Edit, Memory, VertexId};
 use pg_program::Plain;
 use std::alloc::Global;

@@ -3,18 +3,20 @@
 #![tactic(auto)]
 
 mod answers;
-mod fault;
 mod kept;
 mod laws;
 mod printed;
+mod refreshing;
 mod registering;
 mod report;
 mod report_json;
 mod service;
 
 pub use answers::{Answers, Check, same};
-pub use fault::RefreshFault;
 pub use laws::publications_are_answers;
-pub use report::{Cause, Loss, Report};
+pub use pg_workers::{
+    Cause, Fate, Gate, Limits, Loss, MemShelf, NoFate, NoGate, RefreshFault, Shelf, ShelfFault,
+};
+pub use report::Report;
 pub use report_json::ending_word;
 pub use service::Service;

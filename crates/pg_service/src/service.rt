@@ -1,53 +1,44 @@
 //! The service: a graph that is kept, the run that is kept beside it, and the answers of the last refresh.
-ghost use Rattle.std.specs.Prelude.{◌≡◌, ◌+◌, false, [], None, Some, IsSome, option_map, Ok};
+ghost use Rattle.std.specs.Prelude.{◌≡◌, ◌+◌, false, [], None, IsSome, option_map, Ok};
 ghost use Rattle.std.specs.Prelude.{IfOk, IfErr, IfSome, OnOk, OnErr, IsErrOf};
 ghost use Rattle.std.specs.Option.{option_copied};
 ghost use Rattle.std.specs.String.{string_bytes};
-ghost use Rattle.pg_core.specs.Progress.{IsOpened, IsRight, job_by};
-ghost use Rattle.pg_core.specs.Traces.{IsLeftBy};
 ghost use Rattle.pg_global.specs.Master.{is_registered};
 ghost use Rattle.pg_global.specs.Registry.{first_refusal};
 ghost use Rattle.pg_graph.specs.Rows.{HasRisingIds};
 ghost use Rattle.pg_model.specs.Run.{answer};
-ghost use Rattle.pg_service.specs.Answers.{HaveRisingIds};
 ghost use Rattle.pg_service.specs.Job.{job_meant, registered_by};
-ghost use Rattle.pg_service.specs.Kept.{IsKept};
-ghost use Rattle.pg_service.specs.Led.{EditLeadsOn, RefreshLeadsOn};
+ghost use Rattle.pg_service.specs.Led.{EditLeadsOn};
 ghost use Rattle.pg_service.specs.Printed.{json_text};
-ghost use Rattle.pg_service.specs.Service.{MayReport, RefusesEdition, calls_of, check_of, fresh, next_graph};
-ghost use Rattle.pg_service.specs.Service.{publication_of};
+ghost use Rattle.pg_service.specs.Service.{RefusesEdition, calls_of, check_of, fresh, next_graph};
 
 use crate::kept::{KeptRun, note};
-use crate::registering::{names, test};
+use crate::registering::test;
 use crate::report_json::value_of_report;
-use crate::{Answers, Check, RefreshFault, Report, same};
-use pg_core::{Core, Limits, Spent, Traces};
+use crate::{Answers, Check, Limits, Report, same};
 use pg_global::{MasterCompute, MessageCombiner};
 use pg_graph::{Batch, EditFault, EditKind, Edition, Graph, Memory};
 use pg_model::Run;
 use pg_program::{Computation, Meter};
 use pg_scratch::{RunFault, run};
+use pg_workers::Spent;
 use std::alloc::{AllocError, Global};
 use std::marker::Model;
 
-/// The number that names a run: all have the same, since none is saved.
-const RUN: u64 = 0;
-
-/// The answer of a run, what it leaves, how often it called compute, and what it has no more use for.
-type RunBeside<V, M> = (Run<V>, Traces<V, M>, u64, Spent<V, M>);
-
 /// A service: a program with its combiner and its master, a graph with its edition, what was published last, what the
-/// last run left, beside which the next one runs, and what it had no more use for.
+/// last run left, beside which the next one runs, and what it had no more use for; and how many runs there were, which
+/// stops at 2^64 - 1.
 pub struct Service<P: Computation, C: MessageCombiner<P::Message>, M: MasterCompute> {
-    program: P,
-    combiner: C,
-    master: M,
-    limits: Limits,
-    graph: Graph,
-    edition: Edition,
-    published: Option<Answers<P::Value>>,
-    kept: Option<KeptRun<P::Value, P::Message>>,
-    spent: Option<Spent<P::Value, P::Message>>,
+    pub(crate) program: P,
+    pub(crate) combiner: C,
+    pub(crate) master: M,
+    pub(crate) limits: Limits,
+    pub(crate) graph: Graph,
+    pub(crate) edition: Edition,
+    pub(crate) published: Option<Answers<P::Value>>,
+    pub(crate) kept: Option<KeptRun<P::Value, P::Message>>,
+    pub(crate) spent: Option<Spent<P::Value, P::Message>>,
+    pub(crate) runs: u64,
 }
 
 // By hand, so that a service is let go by one call wherever that is, and not field by field.
@@ -64,6 +55,7 @@ impl<P: Computation + Drop, C: MessageCombiner<P::Message> + Drop, M: MasterComp
             published: _,
             kept: _,
             spent: _,
+            runs: _,
         } = self;
     }
 }
@@ -127,6 +119,7 @@ impl<P: Computation, C: MessageCombiner<P::Message>, M: MasterCompute> Service<P
             published: None,
             kept: None,
             spent: None,
+            runs: 0,
         })
     }
 
@@ -186,64 +179,8 @@ impl<P: Computation, C: MessageCombiner<P::Message>, M: MasterCompute> Service<P
         Ok(self.edition)
     }
 
-    /// Runs the program on the graph as it stands, beside the last run where that is kept, publishes the answer, and
-    /// keeps what the run leaves. The answer is that of the run from scratch; the calls of compute are as many as the
-    /// vertices and supersteps whose inputs aren't those of the kept run, at most 2^64 - 1.
-    ///
-    /// # Errors
-    ///
-    /// Want of memory; then no run is kept, and the rest stays as it was.
-    ///
-    /// # Cost
-    ///
-    /// Where no run is kept, that of a whole run. Else what is executed, with its edges and messages; a sort of the noted
-    /// ids and a look-up of each for each partition; a count for each superstep and pair of partitions; a walk over the
-    /// records of each superstep in which something else is contributed, and over what is active past the kept run's
-    /// end; and for the answer two copies of the vertices' values, with a look-up for each vertex that may have ended
-    /// otherwise. What the kept run sent otherwise is still there afterwards: `release` lets go of it, or the next refresh
-    /// as it begins. Where many rows were changed, `settle` before it makes it wait less for memory.
-    pub fn refresh(&mut self, alloc: Global) -> Result<Report, RefreshFault>
-        ensures report { let job = job_meant P.program C.combining M.master self.old.job in
-            IfOk result (MayReport job P.Value.PartialEq.eq P.Message.PartialEq.eq
-            self.old.job.limits.partitions self.old.kept self.old.edition self.old.graph) }
-        ensures unlost { IfOk result (λ report. report.losses ≡ []) }
-        ensures published { let job = job_meant P.program C.combining M.master self.old.job in
-            OnOk result (self.new ≡ record self.old {
-              published = Some (publication_of job self.old.edition self.old.graph);
-              kept = Some self.old.graph;
-            }) }
-        ensures refused { IfErr result (λ fault. fault ≡ RefreshFault.Memory) }
-        ensures err { OnErr result (self.new ≡ record self.old { kept = None }) }
-        ensures leads { let job = job_meant P.program C.combining M.master self.old.job in
-            RefreshLeadsOn self.old.job job result self.old self.new }
-    {
-        drop(self.spent.take());
-        let kept = self.kept.take();
-        let registry = names(alloc, &self.master)?;
-        let (run, traces, calls, spent) = self.run_beside(alloc, kept)?;
-        let edition = self.edition;
-        let report = Report::unlost(alloc, edition, self.limits.partitions(), &run, calls)?;
-        self.published = Some(Answers::new(edition, run, registry));
-        self.kept = Some(KeptRun::new(alloc, traces));
-        self.spent = Some(spent);
-        Ok(report)
-    }
-
-    /// Lays rows anew in memory, so that the edges of rows that stand side by side lie side by side: as far as there is
-    /// memory for it and the kept run doesn't share them, and where many rows were changed since the last time. A refresh
-    /// afterwards answers the same, and waits less for memory.
-    ///
-    /// # Cost
-    ///
-    /// A walk over all rows, and a copy of the edges of those that stand beside changed ones; none where few were changed.
-    pub fn settle(&mut self, alloc: Global)
-        ensures { self.new ≡ self.old }
-    {
-        self.graph.settle(alloc);
-    }
-
-    /// Lets go of what the last refresh had no more use for: what the run before it recorded and sent otherwise. Whoever
-    /// waits for a refresh has its answer before that.
+    /// Lets go of what the last refresh had no more use for: what the run before it recorded and sent otherwise. The next
+    /// refresh does so as it begins; whoever calls this before has it done while nobody waits.
     ///
     /// # Cost
     ///
@@ -295,65 +232,6 @@ impl<P: Computation, C: MessageCombiner<P::Message>, M: MasterCompute> Service<P
         value.to_string(alloc)
     }
 
-    /// The run on the graph as it stands, beside one that was kept, with what it leaves, the number of calls of compute,
-    /// and what it has no more use for.
-    fn run_beside(
-        &self,
-        alloc: Global,
-        kept: Option<KeptRun<P::Value, P::Message>>,
-    ) -> Result<RunBeside<P::Value, P::Message>, Memory>
-        requires { IfSome kept (IsKept (job_meant P.program C.combining M.master self.now.job)
-            self.now.job.limits.partitions self.now.graph) }
-        ensures answer { IfOk result
-            (λ r. r.0 ≡ answer (job_meant P.program C.combining M.master self.now.job) self.now.graph) }
-        ensures rising { IfOk result (λ r. HaveRisingIds r.0.values) }
-        ensures leaves { IfOk result
-            (λ r. IsLeftBy (job_meant P.program C.combining M.master self.now.job)
-            self.now.graph self.now.job.limits.partitions r.1) }
-        ensures calls { let job = job_meant P.program C.combining M.master self.now.job in
-            IfOk result (λ r. r.2 ≡ calls_of job P.Value.PartialEq.eq P.Message.PartialEq.eq
-            (option_map (λ k. k.traces.graph) kept) self.now.graph) }
-    {
-        rises(&self.graph);
-        let mut core = self.opened(alloc, kept)?;
-        let mut meter = Meter::new();
-        core.run_out(alloc, &mut meter)?;
-        let (run, traces, spent) = core.finish(alloc)?;
-        Ok((run, traces, meter.count(), spent))
-    }
-
-    /// The run, opened beside one that was kept.
-    fn opened<'a>(
-        &'a self,
-        alloc: Global,
-        kept: Option<KeptRun<P::Value, P::Message>>,
-    ) -> Result<Core<'a, P, C, M>, Memory>
-        requires { IfSome kept (IsKept (job_meant P.program C.combining M.master self.now.job)
-            self.now.job.limits.partitions self.now.graph) }
-        ensures opened { IfOk result (λ core. IsOpened core self.now.job.program self.now.job.combiner
-            self.now.job.master self.now.graph self.now.job.limits 0) }
-        ensures right { IfOk result (λ core. IsRight (job_by P.program C.combining M.master core)
-            (option_map (λ k. k.traces.graph) kept) core) }
-    {
-        let Service {
-            program,
-            combiner,
-            master,
-            limits,
-            graph,
-            ..
-        } = self;
-        match kept {
-            None => Core::open(alloc, graph, program, combiner, master, *limits, RUN),
-            Some(KeptRun { traces, touched }) => {
-                let touched = touched.as_slice();
-                Core::open_beside(
-                    alloc, graph, traces, touched, program, combiner, master, *limits, RUN,
-                )
-            }
-        }
-    }
-
     /// The run from scratch on the graph as it stands, with the number of calls of compute.
     fn run_alone(&self, alloc: Global) -> Result<(Run<P::Value>, u64), Memory>
         ensures answer { IfOk result
@@ -387,7 +265,7 @@ const NO_EDITION_LEFT: EditFault = EditFault {
 };
 
 /// The ids of a graph rise. Costs O(1).
-fn rises(graph: &Graph)
+pub(crate) fn rises(graph: &Graph)
     ensures { HasRisingIds graph.now }
 {
     let _ids = graph.ids();
