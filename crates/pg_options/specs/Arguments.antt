@@ -109,8 +109,17 @@ eps_limit = 1000000000000
 abbrev pub partition_limit : ℕ
 partition_limit = 64
 
+abbrev pub worker_limit : ℕ
+worker_limit = 16
+
 abbrev pub superstep_limit : ℕ
 superstep_limit = 10000
+
+abbrev pub every_limit : ℕ
+every_limit = 1000
+
+abbrev pub loss_limit : ℕ
+loss_limit = 16
 
 abbrev pub rules : OptionWords → List Rule
 rules words =
@@ -121,7 +130,10 @@ rules words =
     ∷ number_rule (codes "eps") 0 eps_limit (codes "0")
     ∷ word_rule (codes "combiner") words.combiners (combiner_word NoCombiner)
     ∷ number_rule (codes "partitions") 1 partition_limit (codes "1")
+    ∷ number_rule (codes "workers") 1 worker_limit (codes "1")
     ∷ number_rule (codes "limit") 1 superstep_limit (codes "1000")
+    ∷ number_rule (codes "every") 0 every_limit (codes "0")
+    ∷ number_rule (codes "losses") 0 loss_limit (codes "16")
     ∷ word_rule (codes "missing") words.policies (missing_word Drop)
     ∷ []
 
@@ -147,8 +159,12 @@ pub record WritesIn (text : Option Text) (least greatest number : ℕ) : Type 0 
 pub record AreInRange (options : Options) : Type 0 where
   pub some_partitions : 1 ≤ options.partitions
   pub few_partitions : options.partitions ≤ partition_limit
+  pub some_workers : 1 ≤ options.workers
+  pub few_workers : options.workers ≤ worker_limit
   pub some_supersteps : 1 ≤ options.limit
   pub few_supersteps : options.limit ≤ superstep_limit
+  pub often_saved : options.every ≤ every_limit
+  pub few_losses : options.losses ≤ loss_limit
 
 -- the texts of the options say these
 pub record Say (text_of : Text → Option Text) (options : Options) : Type 0 where
@@ -161,7 +177,10 @@ pub record Say (text_of : Text → Option Text) (options : Options) : Type 0 whe
   pub eps_in : options.eps ≡ pos eps
   pub combiner_is : text_of (codes "combiner") ≡ Some (combiner_word options.combiner)
   pub partitions_are : WritesIn (text_of (codes "partitions")) 1 partition_limit options.partitions
+  pub workers_are : WritesIn (text_of (codes "workers")) 1 worker_limit options.workers
   pub limit_is : WritesIn (text_of (codes "limit")) 1 superstep_limit options.limit
+  pub every_is : WritesIn (text_of (codes "every")) 0 every_limit options.every
+  pub losses_are : WritesIn (text_of (codes "losses")) 0 loss_limit options.losses
   pub missing_is : text_of (codes "missing") ≡ Some (missing_word options.missing)
 
 module _ (option_words : OptionWords) (words : List Text) where
@@ -207,7 +226,7 @@ pub record AreAtFault (words : List Text) : Type 0 where
 abbrev pub Explains : List Text → NoOptions → Type 0
 Explains words (Help error) = AsksForHelp words
 Explains words Memory = ⊤
-Explains words Arguments = AreAtFault words
+Explains words (Arguments error) = AreAtFault words
 
 -- ---- the program that is asked for
 

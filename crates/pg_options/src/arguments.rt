@@ -17,6 +17,22 @@ use std::alloc::{AllocError, Global};
 /// The name of the program, whatever its file is called.
 const NAME: &str = "pregeld";
 
+/// What help begins with.
+const ABOUT: &str = "Keeps a graph and runs a vertex program on it; after an edit it runs anew only what differs.\n\
+Commands are read from standard input, a line each, and so are edge lists: `import list N`,\n\
+and then N lines.";
+
+/// What help ends with.
+const SESSION: &str = "A session to paste into `pregeld --program sssp`, two edges and the distances from 1:\n\
+\n\
+  import list 2\n\
+  1 2 5\n\
+  2 3\n\
+  refresh\n\
+  dump\n\
+\n\
+All commands and their answers: docs/PROTOCOL.md.";
+
 /// The greatest id.
 pub(crate) const SOURCE_LIMIT: u64 = 9_223_372_036_854_775_807;
 
@@ -32,8 +48,17 @@ pub(crate) const EPS_LIMIT: u64 = 1_000_000_000_000;
 /// The most partitions of a run.
 pub(crate) const PARTITION_LIMIT: u64 = 64;
 
+/// The most workers of a run.
+pub(crate) const WORKER_LIMIT: u64 = 16;
+
 /// The most supersteps of a run.
 pub(crate) const SUPERSTEP_LIMIT: u64 = 10_000;
+
+/// The most supersteps from one save to the next.
+pub(crate) const EVERY_LIMIT: u64 = 1_000;
+
+/// The most workers that a run may bear to lose.
+pub(crate) const LOSS_LIMIT: u64 = 16;
 
 /// What the command line takes.
 pub(crate) fn command<'a>(alloc: Global) -> Result<Command<'a>, AllocError>
@@ -42,6 +67,8 @@ pub(crate) fn command<'a>(alloc: Global) -> Result<Command<'a>, AllocError>
 {
     Command::new(alloc, NAME)
         .bin_name(NAME)?
+        .about(ABOUT)
+        .after_help(SESSION)
         .arg(program_option(alloc))?
         .arg(number_option(
             alloc,
@@ -86,11 +113,35 @@ pub(crate) fn command<'a>(alloc: Global) -> Result<Command<'a>, AllocError>
         ))?
         .arg(number_option(
             alloc,
+            "workers",
+            1,
+            WORKER_LIMIT,
+            "1",
+            "How many workers step the partitions, each in a thread",
+        ))?
+        .arg(number_option(
+            alloc,
             "limit",
             1,
             SUPERSTEP_LIMIT,
             "1000",
             "The most supersteps of a run",
+        ))?
+        .arg(number_option(
+            alloc,
+            "every",
+            0,
+            EVERY_LIMIT,
+            "0",
+            "After how many supersteps partitions are saved, 0 for never",
+        ))?
+        .arg(number_option(
+            alloc,
+            "losses",
+            0,
+            LOSS_LIMIT,
+            "16",
+            "How many workers may fall before a refresh is refused",
         ))?
         .arg(missing_option(alloc))
 }

@@ -6,7 +6,8 @@ ghost use Rattle.pg_options.specs.Arguments.{program_in};
 ghost use Rattle.pg_options.specs.declared.options.Options.{Options};
 
 use crate::arguments::{
-    EPS_LIMIT, K_LIMIT, PARTITION_LIMIT, ROUNDS_LIMIT, SOURCE_LIMIT, SUPERSTEP_LIMIT, command,
+    EPS_LIMIT, EVERY_LIMIT, K_LIMIT, LOSS_LIMIT, PARTITION_LIMIT, ROUNDS_LIMIT, SOURCE_LIMIT,
+    SUPERSTEP_LIMIT, WORKER_LIMIT, command,
 };
 use crate::names::{Combining, Policy, ProgramName};
 use clap::error::ErrorKind;
@@ -34,8 +35,14 @@ pub struct Options {
     pub combiner: AnyCombiner,
     /// How many partitions the vertices are dealt out to.
     pub partitions: u32,
+    /// How many workers step the partitions.
+    pub workers: u32,
     /// The most supersteps of a run.
     pub limit: u32,
+    /// After how many supersteps partitions are saved; 0 for never.
+    pub every: u32,
+    /// How many workers may fall before a refresh is refused.
+    pub losses: u32,
     /// What becomes of messages to ids that have no vertex.
     pub missing: Missing,
 }
@@ -47,8 +54,8 @@ pub enum NoOptions {
     Help(Error),
     /// A growth was refused.
     Memory,
-    /// The words are at fault.
-    Arguments,
+    /// The words are at fault, and what is.
+    Arguments(Option<Error>),
 }
 
 /// The options that the words name, the program's name first. They stand in their ranges; those that the
@@ -64,12 +71,12 @@ pub fn options_of<'a, S: AsStr>(alloc: Global, words: &'a [S]) -> Result<Options
     match command.try_get_matches_from(words) {
         Ok(matches) => match read_from(&matches) {
             Some(options) => Ok(options),
-            None => Err(NoOptions::Arguments),
+            None => Err(NoOptions::Arguments(None)),
         },
         Err(error) => match error.kind() {
             ErrorKind::DisplayHelp => Err(NoOptions::Help(error)),
             ErrorKind::OutOfMemory => Err(NoOptions::Memory),
-            _ => Err(NoOptions::Arguments),
+            _ => Err(NoOptions::Arguments(Some(error))),
         },
     }
 }
@@ -87,7 +94,10 @@ fn read_from(matches: &ArgMatches<'_>) -> Option<Options>
     let eps = number_in(matches, "eps", 0, EPS_LIMIT)?;
     let Combining { combiner } = matches.get_one::<Combining>("combiner")?;
     let partitions = number_in(matches, "partitions", 1, PARTITION_LIMIT)?;
+    let workers = number_in(matches, "workers", 1, WORKER_LIMIT)?;
     let limit = number_in(matches, "limit", 1, SUPERSTEP_LIMIT)?;
+    let every = number_in(matches, "every", 0, EVERY_LIMIT)?;
+    let losses = number_in(matches, "losses", 0, LOSS_LIMIT)?;
     let Policy { missing } = matches.get_one::<Policy>("missing")?;
     Some(Options {
         program,
@@ -97,7 +107,10 @@ fn read_from(matches: &ArgMatches<'_>) -> Option<Options>
         eps: eps as i64,
         combiner,
         partitions: partitions as u32,
+        workers: workers as u32,
         limit: limit as u32,
+        every: every as u32,
+        losses: losses as u32,
         missing,
     })
 }
