@@ -1,18 +1,20 @@
 // Whole runs of the program, by its words and its input.
-use pg_core::Limits;
 use pg_global::AnyCombiner;
 use pg_graph::VertexId;
 use pg_ready::{ReadyMaster, ReadyProgram, Sssp};
-use pregeld::{ReadyService, ServeFault, Service, serve, start_leaving};
+use pregeld::{Limits, ReadyService, ServeFault, Service, serve, start_leaving};
 use std::alloc::Global;
 use std::io::{BufRead, Write};
 use std::process::Abort;
+use std::sync::Wait;
 use std::test::Fail;
+use std::thread::Threads;
 
 const TWO_HOPS: &[u8] = b"import list 2\n1 2 5\n2 3\nrefresh\ndump\n";
 
 // The program, by any streams: so the prover doesn't go through what it promises of the bytes of these.
-pub(crate) fn started<R: BufRead, W: Write, E: Write>(
+pub(crate) fn started<H: Threads + Wait + Sync, R: BufRead, W: Write, E: Write>(
+    rt: &H,
     alloc: Global,
     words: &[&str],
     reader: &mut R,
@@ -20,17 +22,18 @@ pub(crate) fn started<R: BufRead, W: Write, E: Write>(
     errors: &mut E,
     service_left: &mut Option<ReadyService>,
 ) -> u8 {
-    start_leaving(alloc, words, reader, writer, errors, service_left)
+    start_leaving(rt, alloc, words, reader, writer, errors, service_left)
 }
 
 // The same of a session.
-pub(crate) fn served<R: BufRead, W: Write>(
+pub(crate) fn served<H: Threads + Wait + Sync, R: BufRead, W: Write>(
+    rt: &H,
     alloc: Global,
     reader: &mut R,
     writer: &mut W,
     service: &mut ReadyService,
 ) -> Result<(), ServeFault> {
-    serve(alloc, reader, writer, service)
+    serve(rt, alloc, reader, writer, service)
 }
 
 // What a run of the program came to.
@@ -44,12 +47,13 @@ struct Ended {
 }
 
 // The program with these words on this input.
-fn run(alloc: Global, words: &[&str], input: &[u8]) -> Ended {
+fn run<H: Threads + Wait + Sync>(rt: &H, alloc: Global, words: &[&str], input: &[u8]) -> Ended {
     let mut reader = input;
     let mut output = Vec::new(alloc);
     let mut errors = Vec::new(alloc);
     let mut service = None;
     let status = started(
+        rt,
         alloc,
         words,
         &mut reader,
@@ -66,8 +70,13 @@ fn run(alloc: Global, words: &[&str], input: &[u8]) -> Ended {
 }
 
 // Shortest paths from 1 on these lines print this.
-pub(crate) fn prints(rt: &impl Abort, alloc: Global, input: &[u8], output: &[u8]) {
-    let ended = run(alloc, &["pregeld", "--program", "sssp"], input);
+pub(crate) fn prints<H: Threads + Wait + Sync + Abort>(
+    rt: &H,
+    alloc: Global,
+    input: &[u8],
+    output: &[u8],
+) {
+    let ended = run(rt, alloc, &["pregeld", "--program", "sssp"], input);
     assert!(rt; ended.status == 0 && ended.errors.is_empty() && ended.reached.is_some());
     assert_eq!(rt; ended.output.as_slice(), output);
 }
@@ -118,8 +127,8 @@ fn a_number_of_a_megabyte(rt: HostRuntime) -> Result<(), Fail> {
 }
 
 // The text of help, with the name under which the program was started.
-fn help_of(rt: &impl Abort, alloc: Global, name: &str) -> Vec<u8> {
-    let ended = run(alloc, &[name, "--help"], TWO_HOPS);
+fn help_of<H: Threads + Wait + Sync + Abort>(rt: &H, alloc: Global, name: &str) -> Vec<u8> {
+    let ended = run(rt, alloc, &[name, "--help"], TWO_HOPS);
     assert!(rt; ended.status == 0 && ended.errors.is_empty() && ended.reached.is_none());
     ended.output
 }
@@ -176,18 +185,21 @@ pub(crate) fn reached_by(service: &ReadyService) -> Reached {
 }
 
 // How shortest paths end whose writer has room for four bytes, and how far they have come.
-fn with_four_bytes(alloc: Global) -> Result<(Result<(), ServeFault>, Reached), Fail> {
+fn with_four_bytes<H: Threads + Wait + Sync>(
+    rt: &H,
+    alloc: Global,
+) -> Result<(Result<(), ServeFault>, Reached), Fail> {
     let mut service = shortest_paths(alloc)?;
     let mut reader: &[u8] = TWO_HOPS;
     let mut room = [0_u8; 4];
     let mut writer = room.as_mut_slice();
-    let served = served(alloc, &mut reader, &mut writer, &mut service);
+    let served = served(rt, alloc, &mut reader, &mut writer, &mut service);
     Ok((served, reached_by(&service)))
 }
 
 #[test]
 fn a_writer_that_is_full(rt: HostRuntime) -> Result<(), Fail> {
-    let (served, reached) = with_four_bytes(rt.alloc())?;
+    let (served, reached) = with_four_bytes(&rt, rt.alloc())?;
     assert_eq!(&rt; served, Err(ServeFault::Write));
     assert!(&rt; reached.graph == 1 && reached.published.is_none());
     Ok(())

@@ -4,8 +4,9 @@ use pregeld::ServeFault;
 use std::alloc::Global;
 use std::io;
 use std::io::{BufReader, Read, Write};
-use std::process::Abort;
+use std::sync::Wait;
 use std::test::Fail;
+use std::thread::Threads;
 
 // A comment, a block of each form, refreshes, a fault of a line, an edit with its commit, each of the
 // questions, and the check.
@@ -105,11 +106,15 @@ fn reached_after(lines: usize) -> Reached {
 }
 
 // A session that is read by this reader.
-fn read_by<R: Read + Drop>(alloc: Global, inner: R) -> Result<Session, Fail> {
+fn read_by<H: Threads + Wait + Sync, R: Read + Drop>(
+    rt: &H,
+    alloc: Global,
+    inner: R,
+) -> Result<Session, Fail> {
     let mut service = shortest_paths(alloc)?;
     let mut reader = BufReader::with_capacity(alloc, 16, inner)?;
     let mut written = Vec::new(alloc);
-    let served = served(alloc, &mut reader, &mut written, &mut service);
+    let served = served(rt, alloc, &mut reader, &mut written, &mut service);
     Ok(Session {
         served,
         written,
@@ -118,12 +123,16 @@ fn read_by<R: Read + Drop>(alloc: Global, inner: R) -> Result<Session, Fail> {
 }
 
 // A session whose nth read fails.
-fn with_broken_reader(alloc: Global, calls: usize) -> Result<Session, Fail> {
+fn with_broken_reader<H: Threads + Wait + Sync>(
+    rt: &H,
+    alloc: Global,
+    calls: usize,
+) -> Result<Session, Fail> {
     let broken = NthReader {
         text: INPUT,
         calls_left: calls,
     };
-    read_by(alloc, broken)
+    read_by(rt, alloc, broken)
 }
 
 // How many lines answer what is read in so many calls.
@@ -155,7 +164,7 @@ fn each_read_fails_in_turn(rt: HostRuntime) -> Result<(), Fail> {
     let alloc = rt.alloc();
     let mut whole = 0_usize;
     for calls in 0..INPUT.len() + 2 {
-        let session = with_broken_reader(alloc, calls)?;
+        let session = with_broken_reader(&rt, alloc, calls)?;
         assert!(&rt; has_answered_all_read(&session, calls));
         assert!(&rt; ends_by_read(&session));
         whole = whole.saturating_add(usize::from(session.served.is_ok()));
@@ -170,21 +179,25 @@ fn an_interrupted_reader_is_read_on(rt: HostRuntime) -> Result<(), Fail> {
         text: INPUT,
         ready: false,
     };
-    let session = read_by(rt.alloc(), interrupted)?;
+    let session = read_by(&rt, rt.alloc(), interrupted)?;
     assert!(&rt; session.served.is_ok());
     assert!(&rt; session.written.as_slice() == OUTPUT);
     Ok(())
 }
 
 // A session whose nth write fails.
-fn with_broken_writer(alloc: Global, calls: usize) -> Result<Session, Fail> {
+fn with_broken_writer<H: Threads + Wait + Sync>(
+    rt: &H,
+    alloc: Global,
+    calls: usize,
+) -> Result<Session, Fail> {
     let mut service = shortest_paths(alloc)?;
     let mut reader = INPUT;
     let mut writer = NthWriter {
         written: Vec::new(alloc),
         calls_left: calls,
     };
-    let served = served(alloc, &mut reader, &mut writer, &mut service);
+    let served = served(rt, alloc, &mut reader, &mut writer, &mut service);
     Ok(Session {
         served,
         written: writer.written,
@@ -213,7 +226,7 @@ fn each_write_fails_in_turn(rt: HostRuntime) -> Result<(), Fail> {
     let alloc = rt.alloc();
     let mut failed = 0_usize;
     for calls in 0..1000 {
-        let session = with_broken_writer(alloc, calls)?;
+        let session = with_broken_writer(&rt, alloc, calls)?;
         assert!(&rt; has_carried_out_one_more(&session));
         if session.served.is_ok() {
             break;

@@ -5,7 +5,9 @@ use std::alloc::Global;
 use std::cell::Cell;
 use std::io;
 use std::io::{BufReader, Read, Write};
+use std::sync::Wait;
 use std::test::Fail;
+use std::thread::Threads;
 
 // Lines, and how many lines of answers have to be handed on before each is read.
 const TURNS: [(usize, &str); 19] = [
@@ -78,7 +80,11 @@ impl<'a> Write for TurnWriter<'a> {
 }
 
 // Serves the turns, and gives how many answers were handed on.
-fn served_in_turns(alloc: Global, flushes: bool) -> Result<(Result<(), ServeFault>, usize), Fail> {
+fn served_in_turns<H: Threads + Wait + Sync>(
+    rt: &H,
+    alloc: Global,
+    flushes: bool,
+) -> Result<(Result<(), ServeFault>, usize), Fail> {
     let mut service = shortest_paths(alloc)?;
     let handed_on = Cell::new(0);
     let turns = TurnReader {
@@ -91,13 +97,13 @@ fn served_in_turns(alloc: Global, flushes: bool) -> Result<(Result<(), ServeFaul
         handed_on: &handed_on,
         flushes,
     };
-    let ended = served(alloc, &mut reader, &mut writer, &mut service);
+    let ended = served(rt, alloc, &mut reader, &mut writer, &mut service);
     Ok((ended, handed_on.get()))
 }
 
 #[test]
 fn each_answer_comes_before_the_next_line(rt: HostRuntime) -> Result<(), Fail> {
-    let answered = served_in_turns(rt.alloc(), true)?;
+    let answered = served_in_turns(&rt, rt.alloc(), true)?;
     assert_eq!(&rt; answered, (Ok(()), ANSWERS));
     Ok(())
 }
@@ -105,7 +111,7 @@ fn each_answer_comes_before_the_next_line(rt: HostRuntime) -> Result<(), Fail> {
 // The reader does look: where nothing is handed on, it fails once an answer is due.
 #[test]
 fn an_answer_that_is_kept_is_missed(rt: HostRuntime) -> Result<(), Fail> {
-    let missed = served_in_turns(rt.alloc(), false)?;
+    let missed = served_in_turns(&rt, rt.alloc(), false)?;
     assert_eq!(&rt; missed, (Err(ServeFault::Read), 0));
     Ok(())
 }

@@ -6,7 +6,7 @@ use Rattle.std.specs.Prelude.{Some, codes}
 use Rattle.std.specs.Int.{int_min}
 use Rattle.std.specs.List.{slice_get}
 use Rattle.std.specs.Option.{unwrap_or}
-use Rattle.pg_machine.specs.Limits.{Limits}
+use Rattle.pg_service.specs.Handed.{Limits}
 use Rattle.pg_global.specs.Combiner.{greatest_message}
 use Rattle.pg_global.specs.Master.{Master, job_of}
 use Rattle.pg_global.specs.Registry.{Registered}

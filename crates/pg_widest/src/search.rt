@@ -1,7 +1,7 @@
 //! A service that searches the graph that it keeps.
-ghost use Rattle.std.specs.Prelude.{◌≡◌, None, Some, IfOk, IfErr, OnOk, OnErr};
+ghost use Rattle.std.specs.Prelude.{◌≡◌, [], None, Some, IfOk, IfErr, OnOk, OnErr};
 ghost use Rattle.std.specs.Ordering.{int_eq};
-ghost use Rattle.pg_machine.specs.Limits.{Limits};
+ghost use Rattle.pg_service.specs.Handed.{Limits};
 ghost use Rattle.pg_model.specs.Needed.{needed_count};
 ghost use Rattle.pg_model.specs.Run.{answer};
 ghost use Rattle.pg_model.specs.Superstep.{capped};
@@ -10,12 +10,13 @@ ghost use Rattle.pg_widest.specs.Widest.{searched, widest_job};
 ghost use Rattle.pg_widest.specs.declared.search.Search.{Search};
 
 use crate::{Widest, WidestMaster};
-use pg_core::Limits;
 use pg_global::AnyCombiner;
 use pg_graph::VertexId;
 use pg_scratch::RunFault;
-use pg_service::{RefreshFault, Report, Service};
+use pg_service::{Limits, MemShelf, NoFate, NoGate, RefreshFault, Report, Service};
 use std::alloc::Global;
+use std::sync::Wait;
+use std::thread::Threads;
 
 /// What is searched: the widest paths from a source, until one to the target is wide enough.
 #[derive(Clone, Copy, Debug, PartialEq, Eq)]
@@ -49,16 +50,21 @@ pub fn searching(alloc: Global, search: &Search, limits: Limits) -> Result<Searc
 }
 
 /// Searches the graph as it stands, beside the last search where that is kept. What is published is the answer of the
-/// search from scratch; compute is called for what differs from the last search.
+/// search from scratch; where no worker fell, compute is called for what differs from the last search. No worker is made
+/// to fall; one falls that has no memory left.
 ///
 /// # Errors
 ///
-/// Want of memory. What was published stays.
+/// Those of [`Service::refresh`]. What was published stays.
 ///
 /// # Cost
 ///
 /// That of [`Service::refresh`].
-pub fn widest_paths(alloc: Global, service: &mut Searching) -> Result<Report, RefreshFault>
+pub fn widest_paths<R: Threads + Wait + Sync>(
+    rt: &R,
+    alloc: Global,
+    service: &mut Searching,
+) -> Result<Report, RefreshFault>
     ensures answer { OnOk result ((search : Search) (limits : Limits)
         → service.old.job ≡ searched search limits
         → service.new.published ≡ Some (record {
@@ -66,7 +72,7 @@ pub fn widest_paths(alloc: Global, service: &mut Searching) -> Result<Report, Re
           answer = answer (widest_job search limits) service.old.graph;
         })) }
     ensures calls { IfOk result (λ report. (search : Search) (limits : Limits)
-        → service.old.job ≡ searched search limits
+        → service.old.job ≡ searched search limits → report.losses ≡ []
         → report.calls ≡ capped (needed_count int_eq int_eq (widest_job search limits)
         service.old.kept service.old.graph)) }
     ensures rest { OnOk result (service.new ≡ record service.old {
@@ -75,5 +81,7 @@ pub fn widest_paths(alloc: Global, service: &mut Searching) -> Result<Report, Re
     }) }
     ensures err { OnErr result (service.new ≡ record service.old { kept = None }) }
 {
-    service.refresh(alloc)
+    let mut shelf = MemShelf::new(alloc);
+    let (fate, gate) = (NoFate, NoGate);
+    service.refresh(rt, alloc, &mut shelf, &fate, &gate)
 }

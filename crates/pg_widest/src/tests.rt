@@ -1,12 +1,13 @@
 // A session by calls: a graph, a search, an edit, and the search beside the first one.
 use crate::{Search, Searching, searching, widest_paths};
-use pg_core::Limits;
 use pg_graph::{Batch, Edit, VertexId};
 use pg_model::Ending;
-use pg_service::Answers;
+use pg_service::{Answers, Limits};
 use std::alloc::Global;
 use std::process::Abort;
+use std::sync::Wait;
 use std::test::Fail;
+use std::thread::Threads;
 
 fn id(rt: &impl Abort, number: u64) -> VertexId {
     VertexId::new(number).expect(rt, "an id")
@@ -54,8 +55,12 @@ struct Wanted<'a> {
 }
 
 // The service searches its graph: the ending, the supersteps and the calls.
-fn searched(alloc: Global, service: &mut Searching) -> Result<(Ending, u32, u64), Fail> {
-    let report = widest_paths(alloc, service)?;
+fn searched<R: Threads + Wait + Sync>(
+    rt: &R,
+    alloc: Global,
+    service: &mut Searching,
+) -> Result<(Ending, u32, u64), Fail> {
+    let report = widest_paths(rt, alloc, service)?;
     Ok((report.ending, report.supersteps, report.calls))
 }
 
@@ -73,13 +78,13 @@ fn are_published(answers: &Answers<i64>, wanted: &Wanted<'_>) -> bool {
 }
 
 // The service searches its graph, and finds this.
-fn finds(
-    rt: &impl Abort,
+fn finds<R: Threads + Wait + Sync + Abort>(
+    rt: &R,
     alloc: Global,
     service: &mut Searching,
     wanted: &Wanted<'_>,
 ) -> Result<(), Fail> {
-    let told = searched(alloc, service)?;
+    let told = searched(rt, alloc, service)?;
     assert_eq!(rt; told, (wanted.ending, wanted.supersteps, wanted.calls));
     let answers = service.answers().ok_or("answers")?;
     assert!(rt; are_published(answers, wanted));
@@ -88,7 +93,11 @@ fn finds(
 
 // All paths; then the road from 1 to 3 is made wider. Of the second search's eight executions four have other inputs:
 // vertex 1 in superstep 0, 3 in supersteps 1 and 2, and 4 in superstep 2.
-fn finds_wider(rt: &impl Abort, alloc: Global, service: &mut Searching) -> Result<(), Fail> {
+fn finds_wider<R: Threads + Wait + Sync + Abort>(
+    rt: &R,
+    alloc: Global,
+    service: &mut Searching,
+) -> Result<(), Fail> {
     let first = Wanted {
         values: &[(1, i64::MAX), (2, 8), (3, 5), (4, 5)],
         found: 5,
@@ -118,7 +127,11 @@ fn after_an_edit(rt: HostRuntime) -> Result<(), Fail> {
 }
 
 // The narrow road from 1 to 3 is enough: 4 hears of no better one.
-fn finds_enough(rt: &impl Abort, alloc: Global, service: &mut Searching) -> Result<(), Fail> {
+fn finds_enough<R: Threads + Wait + Sync + Abort>(
+    rt: &R,
+    alloc: Global,
+    service: &mut Searching,
+) -> Result<(), Fail> {
     let wanted = Wanted {
         values: &[(1, i64::MAX), (2, 8), (3, 5), (4, 3)],
         found: 5,

@@ -11,7 +11,12 @@ use Rattle.pregeld.specs.Reading.{SkipsLines, TakesLines}
 use Rattle.pregeld.specs.Keeping.{AreNotes, Checks, Edits, Imports, ImportsLines, Keeps, Refreshes, RepliesTo}
 use Rattle.pg_service.specs.Service.{next_graph, publication_of}
 use Rattle.pregeld.specs.Session.{Imported, Place, State, after, action_answer, answer_to, answered, edges_of, edited, emptied, import_answer}
-use Rattle.pregeld.specs.Session.{imported, past, refresh_answer}
+use Rattle.pregeld.specs.Session.{Answers, MayReportAt, imported, nobody, past, refresh_answer}
+use Rattle.pregeld.specs.Reply.{told_of}
+use Rattle.pg_service.specs.declared.report.Report.{Report}
+use Rattle.pg_service.proofs.Refreshed.{report_is_of}
+use Rattle.pg_service.specs.Handed.{Loss}
+use Rattle.std.specs.Ordering.{int_eq}
 use Rattle.pregeld.specs.declared.block.Block.{Block}
 use Rattle.pregeld.specs.declared.block.Block.TheVariants.{Whole, CutShort, NoMemory}
 use Rattle.pg_command.specs.declared.command.Action.TheVariants.{Commit, Import, Refresh, Recompute}
@@ -19,7 +24,7 @@ use Rattle.pg_command.specs.declared.command.Command.TheVariants.{Act}
 use Rattle.pg_command.specs.declared.command.Form.{Form}
 use Rattle.pg_command.specs.declared.command.LineFault.TheVariants as fault
 use Rattle.pregeld.specs.declared.reply.Reply.{Reply}
-use Rattle.pregeld.specs.declared.reply.Reply.TheVariants.{Fault}
+use Rattle.pregeld.specs.declared.reply.Reply.TheVariants.{Fault, Refreshed}
 use Rattle.pregeld.proofs.Pending.{next_of_stored, none_pending, stored_none, tried_of_stored}
 
 -- ---- refreshes
@@ -28,33 +33,42 @@ last-append : {A : Type 0} (o : Option A) (xs : List A) (x : A) → last_or o (x
 last-append o [] x = refl
 last-append o (y ∷ xs) x = last-append (Some y) xs x
 
+-- a refresh is answered as where nobody fell, or as where somebody did
+reported_at : (s : ReadyState) (here : Place) (reply : Reply) (report : Report) (losses : List Loss) → report.losses ≡ losses
+    → MayReportAt s.job here.state report → reply ≡ Refreshed (told_of report)
+    → Answers s.job (Ok (Act Refresh)) here (answered reply (refresh_answer s.job report here).next)
+unfolding answer_to action_answer
+reported_at s here reply report [] none may replies =
+    let alike = report_is_of (ready_job s.job) int_eq int_eq nobody s.job.limits here.state.kept here.state.edition here.state.graph report may none in
+    inl (ap (λ r. answered r (refresh_answer s.job report here).next) replies ∙ ap (λ (r : Report). refresh_answer s.job r here) alike)
+reported_at s here reply report (loss ∷ losses) some may replies =
+    inr (inl (report, may, λ none. cc (none, some), ap (λ r. answered r (refresh_answer s.job report here).next) replies))
+
 refreshes_at : (s : ReadyState) (notes : Noted) (here : Place) (reply : Reply) (new : Held) (left : Option (List (List ℕ)))
     → AreNotes notes here.state → left ≡ Some here.lines
     → Refreshes (record { service = after s here.state; notes = notes }) reply new → RepliesTo (Ok (Act Refresh)) here (after s here.state) reply
     here.number new left
-unfolding answer_to action_answer
-refreshes_at s notes here reply new left are left_is (inl done) =
+refreshes_at s notes here reply new left are left_is (inl (report, may, replies, is, noted)) =
     let own = ready_job s.job in
-    let next : Place = (refresh_answer s.job here).next in
     record {
-      next = next;
-      answers = inl (ap (λ r. answered r next) done.0);
-      service_is = done.1 ∙ ap (λ p. record (after s here.state) { published = p; kept = Some here.state.graph })
+      next = (refresh_answer s.job report here).next;
+      answers = reported_at s here reply report report.losses refl may replies;
+      service_is = is ∙ ap (λ p. record (after s here.state) { published = p; kept = Some here.state.graph })
           (sym (last-append None here.state.publications (publication_of own here.state.edition here.state.graph)));
       notes_are = record {
-        pending_is = ap (λ (n : Noted). n.pending) done.2 ∙ are.pending_is;
-        report_is = ap (λ (n : Noted). n.report) done.2;
+        pending_is = ap (λ (n : Noted). n.pending) noted ∙ are.pending_is;
+        report_is = ap (λ (n : Noted). n.report) noted;
       };
       number_is = refl;
       left_is = left_is;
     }
-refreshes_at s notes here reply new left are left_is (inr refused) = record {
+refreshes_at s notes here reply new left are left_is (inr (fault, may, replies, is)) = record {
   next = record here { state = record here.state { kept = None } };
-  answers = inr (ap (λ r. answered r (record here { state = record here.state { kept = None } })) refused.0);
-  service_is = ap (λ (h : Held). h.service) refused.1;
+  answers = inr (inr (fault, may, ap (λ r. answered r (record here { state = record here.state { kept = None } })) replies));
+  service_is = ap (λ (h : Held). h.service) is;
   notes_are = record {
-    pending_is = ap (λ (h : Held). h.notes.pending) refused.1 ∙ are.pending_is;
-    report_is = ap (λ (h : Held). h.notes.report) refused.1 ∙ are.report_is;
+    pending_is = ap (λ (h : Held). h.notes.pending) is ∙ are.pending_is;
+    report_is = ap (λ (h : Held). h.notes.report) is ∙ are.report_is;
   };
   number_is = refl;
   left_is = left_is;

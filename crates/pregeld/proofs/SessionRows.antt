@@ -67,7 +67,10 @@ defaults program = record {
   eps = pos 0;
   combiner = NoCombiner;
   partitions = 1;
+  workers = 1;
   limit = 1000;
+  every = 0;
+  losses = 16;
   missing = Drop;
 }
 

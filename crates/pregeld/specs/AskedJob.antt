@@ -1,17 +1,17 @@
 -- The job that the options of the command line ask for.
-use Rattle.pg_machine.specs.Limits.{Limits}
+use Rattle.pg_service.specs.Handed.{Limits}
 use Rattle.pg_options.specs.Arguments.{program_in}
 use Rattle.pg_options.specs.declared.options.Options.{Options}
 use Rattle.pregeld.specs.Job.{ReadyJob}
 
--- the numbers of its runs: one worker, nothing saved, and as many losses borne as may be
+-- the numbers of its runs
 abbrev pub limits_in : Options → Limits
 limits_in options = record {
   partitions = options.partitions;
-  workers = 1;
+  workers = options.workers;
   limit = options.limit;
-  every = 0;
-  max_losses = 16;
+  every = options.every;
+  max_losses = options.losses;
   missing = options.missing;
 }
 

@@ -14,9 +14,11 @@ use Rattle.pg_command.specs.Command.{command_of}
 use Rattle.pregeld.specs.Notes.{Held, Noted, stored}
 use Rattle.pregeld.specs.Reply.{told_of}
 use Rattle.pg_service.specs.Service.{IsTried, check_of, next_graph, publication_of}
-use Rattle.pg_service.specs.Service.{report_of}
+use Rattle.pg_service.specs.Service.{MayReport}
+use Rattle.pg_service.specs.declared.report.Report.{Report}
+use Rattle.pg_service.specs.Handed.{MayRefuse, RefreshFault, refusal_number}
 use Rattle.pregeld.specs.Session.{Answer, Answers, IsTriedOf, Place, State, after, answered}
-use Rattle.pregeld.specs.Session.{edges_of, edited, imported}
+use Rattle.pregeld.specs.Session.{edges_of, edited, imported, nobody}
 use Rattle.pg_command.specs.declared.command.Command.{Command}
 use Rattle.pg_command.specs.declared.command.Form.{Form}
 use Rattle.pg_command.specs.declared.command.LineFault.{LineFault}
@@ -51,17 +53,19 @@ ImportsLines form n lines old (Some reply) new left =
     × Imports (edges_of form (concat (take n lines))) old reply new
     × (left ≡ Some (drop n lines))
 
--- a refresh may be answered so and reported, or for want of memory, and then no run is kept
+-- a refresh may be answered so and reported, or refused, and then no run is kept
 abbrev pub Refreshes : Held → Reply → Held → Type 0
 Refreshes old reply new =
     let service = old.service in
     let own = ready_job service.job in
-    let report = report_of own int_eq int_eq service.job.limits.partitions service.kept service.edition service.graph in
     let publication = publication_of own service.edition service.graph in
-    ((reply ≡ Refreshed (told_of report))
+    ((report : Report)
+    × MayReport own int_eq int_eq nobody service.job.limits service.kept service.edition service.graph report
+    × (reply ≡ Refreshed (told_of report))
     × (new.service ≡ record service { published = Some publication; kept = Some service.graph })
     × (new.notes ≡ record old.notes { report = Some report }))
-    ⊎ ((reply ≡ RunRefused 1)
+    ⊎ ((fault : RefreshFault) × MayRefuse nobody service.job.limits fault
+    × (reply ≡ RunRefused (refusal_number fault))
     × (new ≡ record old { service = record service { kept = None } }))
 
 -- a check may be answered so, or for want of memory

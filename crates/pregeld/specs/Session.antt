@@ -1,5 +1,5 @@
 -- A session: what is answered to lines, one command after another.
-use Rattle.std.specs.Prelude.{◌≡◌, ◌≢◌, ◌⊎◌, ℕ, ℤ, ◌+◌, ◌≤◌, nat_lt, if◌then◌else◌, List, [], ◌∷◌}
+use Rattle.std.specs.Prelude.{◌≡◌, ◌≢◌, ◌⊎◌, ℕ, ℤ, ◌+◌, ◌≤◌, nat_lt, Bool, false, if◌then◌else◌, List, [], ◌∷◌}
 use Rattle.std.specs.Prelude.{◌++◌, length, take, drop, Option, None, Some, option_to_list, Result}
 use Rattle.std.specs.Prelude.{Ok, Err}
 use Rattle.std.specs.Io.KnownBytes.{Appends}
@@ -23,7 +23,7 @@ use Rattle.pg_command.specs.Command.{command_of}
 use Rattle.pregeld.specs.Reply.{line_of_aggregate, line_of_reply, told_of, values_text}
 use Rattle.pg_service.specs.Printed.{json_text}
 use Rattle.pg_service.specs.Service.{IsTried, check_of, next_graph, publication_of}
-use Rattle.pg_service.specs.Service.{report_of}
+use Rattle.pg_service.specs.Service.{MayReport, report_of}
 use Rattle.pg_command.specs.declared.command.Command.{Command}
 use Rattle.pg_command.specs.declared.command.Command.TheVariants.{Nothing, Edit, Act, Ask}
 use Rattle.pg_command.specs.declared.command.Action.{Action}
@@ -39,6 +39,7 @@ use Rattle.pregeld.specs.declared.reply.Reply.TheVariants.{Edition, ImportRefuse
 use Rattle.pregeld.specs.declared.reply.Reply.TheVariants.{Refreshed, RunRefused, Checked}
 use Rattle.pregeld.specs.declared.reply.Reply.TheVariants.{Unpublished, Value, NoValue, Fault}
 use Rattle.pg_service.specs.declared.report.Report.{Report}
+use Rattle.pg_service.specs.Handed.{MayRefuse, RefreshFault, refusal_number}
 use Rattle.pregeld.specs.declared.session.ServeFault.{ServeFault}
 use Rattle.pregeld.specs.declared.session.ServeFault.TheVariants.{Write}
 
@@ -190,12 +191,15 @@ query_text own (Aggregate name) published report =
     aggregate_text name (ready_names own) published
 query_text own Reported published report = report_line report
 
+-- nobody falls
+abbrev pub nobody : ℕ → ℕ → ℕ → ℕ → Bool
+nobody superstep attempt worker partition = false
+
 module _ (own : ReadyJob) where
-  -- the run on the graph as it stands is published and reported, and is the one that the next may reuse
-  abbrev pub refresh_answer : Place → Answer
-  refresh_answer place =
+  -- the run on the graph as it stands is published and reported so, and is the one that the next may reuse
+  abbrev pub refresh_answer : Report → Place → Answer
+  refresh_answer report place =
       let state = place.state in
-      let report = report_of (ready_job own) int_eq int_eq own.limits.partitions state.kept state.edition state.graph in
       let publication = publication_of (ready_job own) state.edition state.graph in
       answered (Refreshed (told_of report)) (record place {
         state = record state {
@@ -205,11 +209,20 @@ module _ (own : ReadyJob) where
         };
       })
 
+  -- the report of a refresh in which nobody fell
+  abbrev pub report_at : State → Report
+  report_at state = report_of (ready_job own) int_eq int_eq own.limits.partitions state.kept state.edition state.graph
+
+  -- the reports that a refresh may give: by no fate anybody falls
+  abbrev pub MayReportAt : State → Report → Type 0
+  MayReportAt state report =
+      MayReport (ready_job own) int_eq int_eq nobody own.limits state.kept state.edition state.graph report
+
   -- what is done, and what it is answered
   unfoldable pub action_answer : Action → Place → Answer
   action_answer Commit place = commit_answer place
   action_answer (Import form n) place = import_answer place.state.pending form n place
-  action_answer Refresh place = refresh_answer place
+  action_answer Refresh place = refresh_answer (report_at place.state) place
   action_answer Recompute place =
       let state = place.state in
       let published = last_or None state.publications in
@@ -228,8 +241,16 @@ module _ (own : ReadyJob) where
         next = place;
       }
 
-  -- an action for which there is no memory: graph, edition and publications stay, no run is kept
-  -- after a refresh, and no edit is pending after a commit
+  -- a refresh for which a worker, or more, had no memory: it is answered all the same, or refused, and then no run is kept
+  abbrev pub LosesWorkers : Place → Answer → Type 0
+  LosesWorkers place answer =
+      ((report : Report) × MayReportAt place.state report × (report.losses ≢ []) × (answer ≡ refresh_answer report place))
+      ⊎ ((fault : RefreshFault) × MayRefuse nobody own.limits fault
+      × (answer
+      ≡ answered (RunRefused (refusal_number fault)) (record place { state = record place.state { kept = None } })))
+
+  -- an action for which there is no memory: graph, edition and publications stay, but for a refresh that is answered, and
+  -- no edit is pending after a commit
   abbrev pub WantsMemory : Action → Place → Answer → Type 0
   WantsMemory Commit place answer =
       IsTried place.state.edition place.state.pending
@@ -238,9 +259,7 @@ module _ (own : ReadyJob) where
   WantsMemory (Import form n) place answer =
       (reply : Reply) × ImportWantsMemory form n place reply
       × (answer ≡ answered reply (past n place))
-  WantsMemory Refresh place answer =
-      answer
-      ≡ answered (RunRefused 1) (record place { state = record place.state { kept = None } })
+  WantsMemory Refresh place answer = LosesWorkers place answer
   WantsMemory Recompute place answer = answer ≡ answered (RunRefused 1) place
 
   -- the answers for want of memory

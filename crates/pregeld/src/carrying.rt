@@ -15,8 +15,11 @@ use crate::{ReadyService, ServeFault};
 use pg_command::{Action, Command, Form, LineFault};
 use pg_graph::Batch;
 use pg_import::{ImportFault, Line, into_batch, read_csv, read_list};
+use pg_service::{MemShelf, NoFate, NoGate};
 use std::alloc::Global;
 use std::io::BufRead;
+use std::sync::Wait;
+use std::thread::Threads;
 
 /// The number of a check that is refused for want of memory.
 const NO_MEMORY: u8 = 1;
@@ -26,7 +29,8 @@ const NO_MEMORY: u8 = 1;
 /// # Errors
 ///
 /// A reader that fails, or has 2^64 lines; then nothing was done.
-pub(crate) fn carry_out<R: BufRead>(
+pub(crate) fn carry_out<H: Threads + Wait + Sync, R: BufRead>(
+    rt: &H,
     alloc: Global,
     number: u64,
     action: Action,
@@ -42,7 +46,7 @@ pub(crate) fn carry_out<R: BufRead>(
 {
     match action {
         Action::Commit => Ok((commit(alloc, service, notes), number)),
-        Action::Refresh => Ok((refresh(alloc, service, notes), number)),
+        Action::Refresh => Ok((refresh(rt, alloc, service, notes), number)),
         Action::Recompute => Ok((check(alloc, service), number)),
         Action::Import(form, lines) => {
             import(alloc, number, form, lines, reader, service, notes)
@@ -70,13 +74,20 @@ fn apply(alloc: Global, batch: &Batch, service: &mut ReadyService) -> Reply
     }
 }
 
-/// Has rows laid anew where many were changed, runs the program, publishes the answer and keeps the report.
-fn refresh(alloc: Global, service: &mut ReadyService, notes: &mut Notes) -> Reply
+/// Runs the program, publishes the answer and keeps the report. Nobody falls by a fate, and checkpoints are kept in memory
+/// until the refresh is done.
+fn refresh<H: Threads + Wait + Sync>(
+    rt: &H,
+    alloc: Global,
+    service: &mut ReadyService,
+    notes: &mut Notes,
+) -> Reply
     ensures { Refreshes (with_notes service.old notes.old) result
         (with_notes service.new notes.new) }
 {
-    service.settle(alloc);
-    match service.refresh(alloc) {
+    let mut shelf = MemShelf::new(alloc);
+    let (fate, gate) = (NoFate, NoGate);
+    match service.refresh(rt, alloc, &mut shelf, &fate, &gate) {
         Ok(report) => {
             let told = Told::of(&report);
             notes.keep_report(report);

@@ -11,8 +11,10 @@ mod session;
 mod writing;
 
 use pg_global::AnyCombiner;
-use pg_ready::{ReadyMaster, ReadyProgram};
-pub use pg_service::{Answers, Cause, Check, Loss, RefreshFault, Report, Service, same};
+pub use pg_ready::{
+    Cc, Indegree, MaxValue, Pagerank, Peel, ReadyMaster, ReadyProgram, Sssp,
+};
+pub use pg_service::{Answers, Cause, Check, Limits, Loss, RefreshFault, Report, Service, same};
 pub use program::{start, start_leaving};
 pub use session::{ServeFault, serve};
 

@@ -4,8 +4,7 @@ ghost use Rattle.pg_options.specs.Arguments.{AreInRange, program_in};
 ghost use Rattle.pg_service.specs.Service.{fresh};
 ghost use Rattle.pregeld.specs.AskedJob.{job_in, limits_in};
 
-use crate::{ReadyService, Service};
-use pg_core::Limits;
+use crate::{Limits, ReadyService, Service};
 use pg_graph::Memory;
 use pg_options::{Options, program_of};
 use pg_ready::ReadyMaster;
@@ -50,6 +49,12 @@ fn limits_of(options: &Options) -> Limits
     requires { AreInRange options.now }
     ensures { result ≡ limits_in options.now }
 {
-    let limits = Limits::new(options.partitions, 1, options.limit, 0, 16);
+    let limits = Limits::new(
+        options.partitions,
+        options.workers,
+        options.limit,
+        options.every,
+        options.losses,
+    );
     limits.unwrap().with_missing(options.missing)
 }

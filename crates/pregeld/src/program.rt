@@ -10,16 +10,24 @@ ghost use Rattle.pregeld.specs.Session.{BreaksOff, Serves};
 use crate::making::service_of;
 use crate::{ReadyService, ServeFault, serve};
 use clap::Error;
+use clap::error::ErrorKind;
 use pg_options::{NoOptions, Options, options_of};
 use std::alloc::Global;
 use std::convert::AsStr;
 use std::io::{BufRead, Write};
+use std::sync::Wait;
+use std::thread::Threads;
 
-/// Runs the program on its words, the program's name first, and gives its exit status: 0 at the
+/// What is said where a word is no option.
+const NO_FILES: &str =
+    "No files are read: edge lists come on standard input, as `import list N` and then N lines.";
+
+/// Runs the program on its words, the program's name first, with `rt` to start threads by, and gives its exit status: 0 at the
 /// end of the input or after help; 1 where memory, the input or the output failed; 2 where the
 /// words are at fault, and then nothing was read or written. With 1 and 2 `errors` is told why, if
 /// it can be written.
-pub fn start<S: AsStr, R: BufRead, W: Write, E: Write>(
+pub fn start<H: Threads + Wait + Sync, S: AsStr, R: BufRead, W: Write, E: Write>(
+    rt: &H,
     alloc: Global,
     words: &[S],
     reader: &mut R,
@@ -35,12 +43,13 @@ pub fn start<S: AsStr, R: BufRead, W: Write, E: Write>(
         (map S.text words.now) reader.old reader.new writer.old writer.new }
 {
     let mut service = None;
-    start_leaving(alloc, words, reader, writer, errors, &mut service)
+    start_leaving(rt, alloc, words, reader, writer, errors, &mut service)
 }
 
 /// Does what `start` does, and leaves the service of the session in `service_left`, if one was begun. To let go of all that
 /// a long session holds takes time, which a process that ends can save.
-pub fn start_leaving<S: AsStr, R: BufRead, W: Write, E: Write>(
+pub fn start_leaving<H: Threads + Wait + Sync, S: AsStr, R: BufRead, W: Write, E: Write>(
+    rt: &H,
     alloc: Global,
     words: &[S],
     reader: &mut R,
@@ -65,16 +74,21 @@ pub fn start_leaving<S: AsStr, R: BufRead, W: Write, E: Write>(
             };
         }
         Err(NoOptions::Memory) => return fail(errors, "memory", 1),
-        Err(NoOptions::Arguments) => return fail(errors, "arguments", 2),
+        Err(NoOptions::Arguments(error)) => {
+            let status = fail(errors, "arguments", 2);
+            explain(errors, error);
+            return status;
+        }
     };
-    match serve_asked(alloc, &options, reader, writer, service_left) {
+    match serve_asked(rt, alloc, &options, reader, writer, service_left) {
         Ok(()) => 0,
         Err(fault) => fail(errors, name_of(fault), 1),
     }
 }
 
 /// Serves a session of the job that the options ask for, and leaves the service in `service_left`.
-fn serve_asked<R: BufRead, W: Write>(
+fn serve_asked<H: Threads + Wait + Sync, R: BufRead, W: Write>(
+    rt: &H,
     alloc: Global,
     options: &Options,
     reader: &mut R,
@@ -91,9 +105,21 @@ fn serve_asked<R: BufRead, W: Write>(
     let Ok(mut service) = service_of(alloc, options) else {
         return Err(ServeFault::Memory);
     };
-    let served = serve(alloc, reader, writer, &mut service);
+    let served = serve(rt, alloc, reader, writer, &mut service);
     *service_left = Some(service);
     served
+}
+
+/// Says what is at fault with the words of the command line, and where a word may have been meant as the name of a file,
+/// that edge lists are read from standard input.
+fn explain<E: Write>(errors: &mut E, error: Option<Error>) {
+    let Some(error) = error else {
+        return;
+    };
+    let _said = write!(errors, "{error}");
+    if error.kind() == ErrorKind::UnknownArgument {
+        let _said = writeln!(errors, "{NO_FILES}");
+    }
 }
 
 /// Writes a text of help.

@@ -14,6 +14,8 @@ use crate::writing::{say, tell};
 use pg_command::{Command, command_of};
 use std::alloc::Global;
 use std::io::{self, BufRead, Write};
+use std::sync::Wait;
+use std::thread::Threads;
 use thiserror::Error;
 
 /// Why a session broke off.
@@ -43,7 +45,7 @@ impl ServeFault {
 }
 
 /// Answers the commands that `reader` has, one line each, until its end. Each answer is written
-/// before the next line is read.
+/// before the next line is read. `rt` is where a refresh starts the threads of its workers.
 ///
 /// # Errors
 ///
@@ -54,7 +56,8 @@ impl ServeFault {
 /// # Cost
 ///
 /// Memory for the longest line and for the edge list that is being read, beside the service's own.
-pub fn serve<R: BufRead, W: Write>(
+pub fn serve<H: Threads + Wait + Sync, R: BufRead, W: Write>(
+    rt: &H,
     alloc: Global,
     reader: &mut R,
     writer: &mut W,
@@ -75,15 +78,11 @@ pub fn serve<R: BufRead, W: Write>(
         let Some(here) = number.checked_add(1) else {
             return Err(ServeFault::Read);
         };
-        number = match answer_line(
-            alloc,
-            here,
-            line.as_slice(),
-            reader,
-            writer,
-            service,
-            &mut notes,
-        ) {
+        let line = NumberedLine {
+            number: here,
+            text: line.as_slice(),
+        };
+        number = match answer_line(rt, alloc, line, reader, writer, service, &mut notes) {
             Ok(reached) => reached,
             Err(fault) => return Err(fault),
         };
@@ -91,11 +90,18 @@ pub fn serve<R: BufRead, W: Write>(
     Err(ServeFault::Read)
 }
 
-/// Answers the line of this number, and gives the number of the last line that it has taken.
-fn answer_line<R: BufRead, W: Write>(
-    alloc: Global,
+/// A line, with its number.
+#[derive(Clone, Copy)]
+struct NumberedLine<'a> {
     number: u64,
-    line: &[u8],
+    text: &'a [u8],
+}
+
+/// Answers a line, and gives the number of the last line that it has taken.
+fn answer_line<H: Threads + Wait + Sync, R: BufRead, W: Write>(
+    rt: &H,
+    alloc: Global,
+    line: NumberedLine<'_>,
     reader: &mut R,
     writer: &mut W,
     service: &mut ReadyService,
@@ -104,16 +110,17 @@ fn answer_line<R: BufRead, W: Write>(
     ensures ok { IfOk result (λ reached. (state : State)
         → Keeps (with_notes service.old notes.old) state
         → IfLines (R.remaining reader.old) (λ lines.
-        AnswersLine line.now (place_at number state lines) service.old
+        AnswersLine line.entry.text.now (place_at line.entry.number state lines) service.old
         (with_notes service.new notes.new) reached (lines_left (R.remaining reader.new))
         (W.contents writer.old) (W.contents writer.new))) }
     ensures err { IfErr result (λ fault. (state : State)
         → Keeps (with_notes service.old notes.old) state
         → IfLines (R.remaining reader.old) (λ lines.
-        FailsLine fault line.now (place_at number state lines) service.old service.new
+        FailsLine fault line.entry.text.now (place_at line.entry.number state lines) service.old service.new
         (W.contents writer.old) (W.contents writer.new))) }
 {
-    match command_of(line) {
+    let NumberedLine { number, text } = line;
+    match command_of(text) {
         Ok(Command::Nothing) => Ok(number),
         Ok(Command::Edit(edit)) => match notes.note(edit) {
             Ok(()) => Ok(number),
@@ -124,7 +131,7 @@ fn answer_line<R: BufRead, W: Write>(
             Err(fault) => Err(fault),
         },
         Ok(Command::Act(action)) => {
-            let (reply, reached) = carry_out(alloc, number, action, reader, service, notes)?;
+            let (reply, reached) = carry_out(rt, alloc, number, action, reader, service, notes)?;
             match say(writer, reply) {
                 Ok(()) => {
                     service.release();

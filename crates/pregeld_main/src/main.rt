@@ -7,6 +7,8 @@ use pregeld::start_leaving;
 use std::alloc::{AllocError, Global};
 use std::io::{self, BufReader, BufWriter, Write};
 use std::process::ExitCode;
+use std::sync::Wait;
+use std::thread::Threads;
 use std::{env, mem};
 
 /// How many bytes the piece has that is taken once. Up to twice as many stay when they are let go of.
@@ -14,19 +16,23 @@ const LARGE_PIECE: usize = 16 << 20;
 
 fn main(rt: HostRuntime) -> ExitCode {
     let mut errors = rt.stderr();
-    match run(&rt, &mut errors) {
+    match run(&rt, &rt, &mut errors) {
         Ok(status) => ExitCode::from(status),
         Err(error) => ExitCode::from(refuse(&mut errors, &error)),
     }
 }
 
-/// Runs the program on its words and its standard streams, and gives its exit status.
+/// Runs the program on its words and its standard streams, with threads by `threads`, and gives its exit status.
 ///
 /// # Errors
 ///
 /// Want of memory before the first command, words that aren't UTF-8, or output that can't be written
 /// after the last one.
-fn run<E: Write>(rt: &HostRuntime, errors: &mut E) -> io::Result<u8> {
+fn run<H: Threads + Wait + Sync, E: Write>(
+    rt: &HostRuntime,
+    threads: &H,
+    errors: &mut E,
+) -> io::Result<u8> {
     keep_freed_memory(rt.alloc());
     let mut words = Vec::new(rt.alloc());
     for word in env::args(rt)? {
@@ -36,6 +42,7 @@ fn run<E: Write>(rt: &HostRuntime, errors: &mut E) -> io::Result<u8> {
     let mut writer = BufWriter::new(rt.alloc(), rt.stdout())?;
     let mut service = None;
     let status = start_leaving(
+        threads,
         rt.alloc(),
         words.as_slice(),
         &mut reader,
@@ -45,8 +52,9 @@ fn run<E: Write>(rt: &HostRuntime, errors: &mut E) -> io::Result<u8> {
     );
     // The process ends before long, and its memory goes with it.
     mem::forget(service);
-    if status == 0 {
-        writer.flush()?;
+    if status == 0 && writer.flush().is_err() {
+        // Whatever kind of error it is, it is the output that failed.
+        return Err(io::Error::from(io::ErrorKind::Other));
     }
     Ok(status)
 }
