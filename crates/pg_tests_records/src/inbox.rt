@@ -114,6 +114,13 @@ fn ordered_by_sender(rt: HostRuntime) -> Result<(), Memory> {
     Ok(())
 }
 
+#[test]
+fn combined_over_bundles(rt: HostRuntime) -> Result<(), Memory> {
+    let text = inbox_of_both(rt.alloc(), AnyCombiner::Min)?;
+    assert_eq!(rt; text.as_str(), "2,");
+    Ok(())
+}
+
 // The targets at which bundles differ, each with a comma.
 fn changed(alloc: Global, old: &Bundle<i64>, new: &Bundle<i64>) -> Result<String, Memory> {
     let ids = changed_targets(alloc, Some(old), Some(new))?;

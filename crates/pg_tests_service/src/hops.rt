@@ -1,16 +1,20 @@
 // A service of shortest paths from 1, and the calls of a service, with what they tell as plain values.
 //
 // A function round a call is of any service, so that the prover doesn't unfold what the program means.
-use pg_core::Limits;
+ghost use Rattle.std.specs.Prelude.{◌≡◌, true};
+
 use pg_global::{AnyCombiner, MasterCompute, MessageCombiner};
-use pg_graph::{Batch, Edit, EditKind, Graph, Missing, VertexId};
+use pg_graph::{Batch, Edit, EditKind, Graph, Memory, Missing, VertexId};
 use pg_program::{Computation, Meter, Plain};
 use pg_ready::{ReadyMaster, ReadyProgram, Sssp};
 use pg_scratch::run;
-use pg_service::{Report, Service, same};
+use pg_service::{Cause, Fate, Limits, Loss, MemShelf, NoFate, NoGate, RefreshFault, Report, Service};
+use pg_service::{Shelf, same};
 use std::alloc::Global;
 use std::fmt::Write;
+use std::sync::Wait;
 use std::test::Fail;
+use std::thread::Threads;
 
 pub(crate) type Paths = Service<ReadyProgram, AnyCombiner, ReadyMaster>;
 
@@ -18,21 +22,26 @@ pub(crate) fn id(number: u64) -> Result<VertexId, Fail> {
     Ok(VertexId::new(number).ok_or("a number above 2^63 - 1")?)
 }
 
-fn program() -> Result<ReadyProgram, Fail> {
+pub(crate) fn program() -> Result<ReadyProgram, Fail> {
     Ok(ReadyProgram::Sssp(Sssp { source: id(1)? }))
 }
 
-fn master() -> Result<ReadyMaster, Fail> {
+pub(crate) fn master() -> Result<ReadyMaster, Fail> {
     let program = program()?;
     Ok(ReadyMaster { program })
 }
 
-fn limits_of(partitions: u32, missing: Missing) -> Result<Limits, Fail> {
-    let limits = Limits::new(partitions, 1, 1000, 0, 0).ok_or("limits")?;
-    Ok(limits.with_missing(missing))
+// So many partitions and workers; each partition is saved after so many supersteps, and so many losses are borne.
+pub(crate) fn limits_of(
+    partitions: u32,
+    workers: u32,
+    every: u32,
+    max_losses: u32,
+) -> Result<Limits, Fail> {
+    Ok(Limits::new(partitions, workers, 1_000, every, max_losses).ok_or("limits")?)
 }
 
-fn service_of<
+pub(crate) fn service_of<
     P: Computation + Drop,
     C: MessageCombiner<P::Message> + Drop,
     M: MasterCompute + Drop,
@@ -46,9 +55,8 @@ fn service_of<
     Ok(Service::new(alloc, limits, program, combiner, master)?)
 }
 
-// A service on so many partitions, with nothing in its graph.
-pub(crate) fn empty(alloc: Global, partitions: u32, missing: Missing) -> Result<Paths, Fail> {
-    let limits = limits_of(partitions, missing)?;
+// A service with these limits, with nothing in its graph.
+pub(crate) fn empty(alloc: Global, limits: Limits) -> Result<Paths, Fail> {
     service_of(
         alloc,
         limits,
@@ -78,7 +86,7 @@ fn edit_of(line: Line) -> Result<Edit, Fail> {
     }
 }
 
-fn batch_of(alloc: Global, lines: &[Line]) -> Result<Batch, Fail> {
+pub(crate) fn batch_of(alloc: Global, lines: &[Line]) -> Result<Batch, Fail> {
     let mut batch = Batch::new(alloc);
     for line in lines {
         batch.push(edit_of(*line)?)?;
@@ -116,80 +124,95 @@ pub(crate) const TWO_HOPS: [Line; 5] = [
 ];
 
 // A service with the edges from 1 to 2, of weight 5, and from 2 to 3, of weight 1.
-pub(crate) fn two_hops(alloc: Global, partitions: u32, missing: Missing) -> Result<Paths, Fail> {
-    let mut service = empty(alloc, partitions, missing)?;
+pub(crate) fn two_hops(alloc: Global, limits: Limits) -> Result<Paths, Fail> {
+    let mut service = empty(alloc, limits)?;
     commit(alloc, &mut service, &TWO_HOPS)?.map_err(|_| "a batch that is refused")?;
     Ok(service)
 }
 
-// How many calls of compute a refresh takes that may be refused.
-pub(crate) fn attempted<P: Computation, C: MessageCombiner<P::Message>, M: MasterCompute>(
-    alloc: Global,
-    service: &mut Service<P, C, M>,
-) -> Option<u64> {
-    match service.refresh(alloc) {
-        Ok(report) => Some(report.calls),
-        Err(_) => None,
+// A worker that fell, the superstep in which it did, and why.
+fn tell_losses(text: &mut String, losses: &[Loss]) -> Result<(), Memory> {
+    write!(text, " losses")?;
+    for loss in losses {
+        let cause = match loss.cause {
+            Cause::Fate => "fate",
+            Cause::Memory => "memory",
+        };
+        write!(
+            text,
+            " ({} {} {cause})",
+            loss.worker.number(),
+            loss.superstep.number()
+        )?;
     }
+    Ok(())
 }
 
-// The same of one that isn't refused.
-pub(crate) fn refresh<P: Computation, C: MessageCombiner<P::Message>, M: MasterCompute>(
-    alloc: Global,
-    service: &mut Service<P, C, M>,
-) -> Result<u64, Fail> {
-    Ok(attempted(alloc, service).ok_or("a refresh that is refused")?)
-}
-
-// What a report tells: calls of compute, supersteps, of how many partitions it has the steps, and how many of these made
-// another number of steps.
-#[derive(Drop)]
-struct Counts {
-    calls: u64,
-    supersteps: u32,
-    partitions: usize,
-    others: usize,
-}
-
-fn counts_in(report: &Report) -> Counts {
-    let mut others = 0_usize;
-    for made in report.steps.as_slice() {
-        if *made != report.supersteps {
-            others = others.saturating_add(1);
+// What a report tells: calls of compute, supersteps, the steps of each partition where they aren't as many, and the
+// workers that fell.
+fn tell_report(text: &mut String, report: &Report) -> Result<(), Memory> {
+    write!(text, "calls {} supersteps {}", report.calls, report.supersteps)?;
+    let supersteps = u64::from(report.supersteps);
+    for (partition, made) in report.steps.as_slice().iter().enumerate() {
+        if *made != supersteps {
+            write!(text, " steps of {partition} {made}")?;
         }
     }
-    Counts {
-        calls: report.calls,
-        supersteps: report.supersteps,
-        partitions: report.steps.len(),
-        others,
+    tell_losses(text, report.losses.as_slice())
+}
+
+// The number of a refusal, and the workers that fell where it tells them.
+fn tell_refusal(text: &mut String, fault: &RefreshFault) -> Result<(), Memory> {
+    write!(text, "refused {}", fault.number())?;
+    match fault {
+        RefreshFault::TooManyLosses(losses) => tell_losses(text, losses.as_slice()),
+        RefreshFault::NoWorkers(losses) => tell_losses(text, losses.as_slice()),
+        RefreshFault::Memory => Ok(()),
+        RefreshFault::Device => Ok(()),
     }
 }
 
-// What a refresh tells, if it isn't refused.
-fn refreshed<P: Computation, C: MessageCombiner<P::Message>, M: MasterCompute>(
+// What a refresh tells on workers that fall by this fate, with checkpoints on this shelf.
+pub(crate) fn refreshed_on<
+    R: Threads + Wait + Sync,
+    P: Computation,
+    C: MessageCombiner<P::Message>,
+    M: MasterCompute,
+    S: Shelf,
+    F: Fate,
+>(
+    rt: &R,
     alloc: Global,
     service: &mut Service<P, C, M>,
-) -> Option<Counts> {
-    match service.refresh(alloc) {
-        Ok(report) => Some(counts_in(&report)),
-        Err(_) => None,
+    shelf: &mut S,
+    fate: &F,
+) -> Result<String, Fail>
+    requires { (S.state shelf.old).is_honest ≡ true }
+{
+    if shelf.failures() > 0 {
+        return Err(Fail::from("the device has failed before"));
     }
+    let mut text = String::new(alloc);
+    match service.refresh(rt, alloc, shelf, fate, &NoGate) {
+        Ok(report) => tell_report(&mut text, &report)?,
+        Err(fault) => tell_refusal(&mut text, &fault)?,
+    }
+    Ok(text)
 }
 
-// The same as text.
-fn tell_refresh(counts: &Counts, text: &mut String) -> Result<(), Fail> {
-    write!(
-        text,
-        "calls {} supersteps {}",
-        counts.calls, counts.supersteps
-    )?;
-    write!(
-        text,
-        " steps {} others {}",
-        counts.partitions, counts.others
-    )?;
-    Ok(())
+// The same with nobody made to fall, and checkpoints in memory.
+pub(crate) fn refreshed<
+    R: Threads + Wait + Sync,
+    P: Computation,
+    C: MessageCombiner<P::Message>,
+    M: MasterCompute,
+>(
+    rt: &R,
+    alloc: Global,
+    service: &mut Service<P, C, M>,
+) -> Result<String, Fail> {
+    let mut shelf = MemShelf::new(alloc);
+    refreshed_on(rt, alloc, service, &mut shelf, &NoFate)
 }
 
 // What is published: the values by rising id.
@@ -198,6 +221,7 @@ fn tell_values<P: Computation, C: MessageCombiner<P::Message>, M: MasterCompute>
     text: &mut String,
 ) -> Result<(), Fail> {
     let answers = service.answers().ok_or("nothing is published")?;
+    write!(text, "; of {}:", answers.edition().number())?;
     for (vertex, value) in answers.values() {
         write!(text, " {vertex}=")?;
         value.show(text)?;
@@ -206,43 +230,37 @@ fn tell_values<P: Computation, C: MessageCombiner<P::Message>, M: MasterCompute>
     Ok(())
 }
 
-// What a refresh of shortest paths tells and publishes, after a batch of these lines.
-fn tell_after(
+// What a refresh tells on workers that fall by this fate, with checkpoints on this shelf, and what is published after it,
+// with its edition.
+pub(crate) fn told_on<R: Threads + Wait + Sync, S: Shelf, F: Fate>(
+    rt: &R,
     alloc: Global,
     service: &mut Paths,
-    lines: &[Line],
-    text: &mut String,
-) -> Result<(), Fail> {
-    let batch = batch_of(alloc, lines)?;
-    edit(alloc, service, &batch).map_err(|_| "a batch that is refused")?;
-    let counts = refreshed(alloc, service).ok_or("a refresh that is refused")?;
-    tell_refresh(&counts, text)?;
-    tell_values(service, text)
+    shelf: &mut S,
+    fate: &F,
+) -> Result<String, Fail>
+    requires { (S.state shelf.old).is_honest ≡ true }
+{
+    let mut text = refreshed_on(rt, alloc, service, shelf, fate)?;
+    tell_values(service, &mut text)?;
+    Ok(text)
 }
 
-// The same of refreshes, each after a batch.
-fn tell_all(
+// The same of refreshes of a service with these limits, each after a batch, with nobody made to fall.
+pub(crate) fn told<R: Threads + Wait + Sync>(
+    rt: &R,
     alloc: Global,
-    service: &mut Paths,
-    batches: &[&[Line]],
-    text: &mut String,
-) -> Result<(), Fail> {
-    for lines in batches {
-        tell_after(alloc, service, lines, text)?;
-    }
-    Ok(())
-}
-
-// The same of a service on so many partitions.
-pub(crate) fn told(
-    alloc: Global,
-    partitions: u32,
-    missing: Missing,
+    limits: Limits,
     batches: &[&[Line]],
 ) -> Result<String, Fail> {
     let mut text = String::new(alloc);
-    let mut service = empty(alloc, partitions, missing)?;
-    tell_all(alloc, &mut service, batches, &mut text)?;
+    let mut service = empty(alloc, limits)?;
+    for lines in batches {
+        commit(alloc, &mut service, lines)?.map_err(|_| "a batch that is refused")?;
+        let mut shelf = MemShelf::new(alloc);
+        let told = told_on(rt, alloc, &mut service, &mut shelf, &NoFate)?;
+        text.push_str(told.as_str())?;
+    }
     Ok(text)
 }
 

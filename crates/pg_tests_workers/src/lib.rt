@@ -2,4 +2,24 @@
 #![tactic(auto)]
 
 #[cfg(test)]
+mod fates;
+#[cfg(test)]
+mod graphs;
+#[cfg(test)]
+mod jobs;
+#[cfg(test)]
+mod meeting;
+#[cfg(test)]
+mod overlap;
+#[cfg(test)]
+mod playing;
+#[cfg(test)]
+mod random;
+#[cfg(test)]
 mod rounds;
+#[cfg(test)]
+mod rows;
+#[cfg(test)]
+mod shelves;
+#[cfg(test)]
+mod starving;

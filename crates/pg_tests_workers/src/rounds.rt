@@ -1,22 +1,22 @@
 // Rounds of two workers with a partition each, in threads and in turn.
 ghost use Rattle.std.specs.Prelude.{◌≡◌, true, length, All, IfOk};
 ghost use Rattle.pg_global.specs.Master.{has_places};
-ghost use Rattle.pg_workers.specs.Work.{AreAt};
+ghost use Rattle.pg_workers_rounds.specs.Work.{AreAt};
 
+use crate::graphs::graph_of;
+use crate::meeting::Meeting;
 use pg_global::{AnyCombiner, Registry, Visible};
-use pg_graph::{Batch, Edit, Graph, Missing, PartitionId, Superstep, VertexId, WorkerId};
+use pg_graph::{Graph, Missing, PartitionId, Superstep, WorkerId};
 use pg_inbox::Logs;
 use pg_model::Sequence;
-use pg_part::{Part, Partitioner};
 use pg_program::{Computation, Plain, Tally};
-use pg_workers::{
-    Assignment, Cause, Fate, Gate, NoFate, NoGate, Outcome, Round, in_threads, in_turn,
+use pg_workers_rounds::{
+    Assignment, Cause, Fate, Gate, NoFate, NoGate, Outcome, Part, Partitioner, Round, in_threads,
+    in_turn,
 };
 use std::alloc::Global;
 use std::process::Abort;
-use std::sync::atomic::{AtomicBool, Ordering};
 use std::test::Fail;
-use std::thread;
 use std::thread::Threads;
 
 // How the workers of a round work.
@@ -46,57 +46,9 @@ impl Fate for SecondFalls {
     }
 }
 
-// A gate at which each of two workers waits for the other, for so many turns at most.
-#[derive(Drop)]
-struct Meeting {
-    first: AtomicBool,
-    second: AtomicBool,
-    missed: AtomicBool,
-}
-
-impl Meeting {
-    fn new() -> Meeting {
-        Meeting {
-            first: AtomicBool::new(false),
-            second: AtomicBool::new(false),
-            missed: AtomicBool::new(false),
-        }
-    }
-}
-
-impl Gate for Meeting {
-    fn pass(&self, worker: WorkerId, _superstep: Superstep) {
-        let (own, other) = match worker.number() {
-            0 => (&self.first, &self.second),
-            _ => (&self.second, &self.first),
-        };
-        own.store(true, Ordering::SeqCst);
-        for _ in 0..10_000_000 {
-            if other.load(Ordering::SeqCst) {
-                return;
-            }
-            thread::yield_now();
-        }
-        self.missed.store(true, Ordering::SeqCst);
-    }
-}
-
-fn id(number: u64) -> Result<VertexId, Fail> {
-    Ok(VertexId::new(number).ok_or("a number above 2^63 - 1")?)
-}
-
 // The graph of vertices 1 to 3, in which 1 and 2 lead to 3.
 fn three_vertices(alloc: Global) -> Result<Graph, Fail> {
-    let mut batch = Batch::new(alloc);
-    for (number, input) in [(1, 10), (2, 20), (3, 0)].as_slice() {
-        batch.push(Edit::AddVertex(id(*number)?, *input))?;
-    }
-    for source in [1, 2].as_slice() {
-        batch.push(Edit::AddEdge(id(*source)?, id(3)?, 1))?;
-    }
-    let mut graph = Graph::new(alloc);
-    graph.apply(alloc, &batch)?;
-    Ok(graph)
+    graph_of(alloc, &[(1, 10), (2, 20), (3, 0)], &[(1, 3, 1), (2, 3, 1)])
 }
 
 // A worker with the partition of its number, of two, as a run begins.
@@ -180,7 +132,8 @@ fn played<R: Threads + Sync, P: Computation<Message = i64>, F: Fate, G: Gate>(
     Ok(outcomes?)
 }
 
-// What a worker tells: which it is, and its partition, where that stands and how many calls its step took; or why it fell.
+// What a worker tells: which it is, and its partition, where that stands and how many calls its step took; or why it
+// fell.
 type Told = (u32, Result<(u32, u32, u64), Cause>);
 
 fn told<V: Plain, M: Plain>(outcome: &Outcome<V, M>) -> Told {
@@ -241,6 +194,6 @@ fn workers_in_threads_meet(rt: HostRuntime) -> Result<(), Fail> {
     let alloc = rt.alloc();
     let gate = Meeting::new();
     told_of(&rt, alloc, Way::Threads, &NoFate, &gate)?;
-    assert!(rt; !gate.missed.load(Ordering::SeqCst));
+    assert!(rt; gate.was_held());
     Ok(())
 }

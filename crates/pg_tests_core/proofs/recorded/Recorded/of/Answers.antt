@@ -5,7 +5,7 @@ use Rattle.std.specs.Map.{keys_of}
 use Rattle.std.specs.Ordering.{nat_cmp}
 use Rattle.std.proofs.lemmas.List.{length_push}
 use Rattle.pg_map.specs.Entries.{HasRisingIds}
-use Rattle.pg_tests_service.proofs.recorded.Recorded.of.Goals as goal
+use Rattle.pg_tests_core.proofs.recorded.Recorded.of.Goals as goal
 
 all_more : {X : Type 0} (P : X → Type 0) (xs : List X) (x : X) → AllByRecursion P xs → P x → AllByRecursion P (xs ++ x ∷ [])
 all_more P [] x all one = (one, tt)

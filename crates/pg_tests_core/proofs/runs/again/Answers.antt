@@ -1,5 +1,5 @@
 use Rattle.std.proofs.Common.{ap, ◌∙◌}
-use Rattle.pg_tests_service.proofs.runs.again.Goals as goal
+use Rattle.pg_tests_core.proofs.runs.again.Goals as goal
 
 pub open_beside-requires-clause-each : goal.open_beside-requires-clause-each
 open_beside-requires-clause-each g c =

@@ -1,6 +1,6 @@
 use Rattle.std.proofs.Common.{◌<◌, refl, subst}
 use Rattle.pg_global.specs.Registry.{first_refusal}
-use Rattle.pg_tests_service.proofs.runs.opened.Goals as goal
+use Rattle.pg_tests_core.proofs.runs.opened.Goals as goal
 
 pub open-requires-clause-lawful : goal.open-requires-clause-lawful
 unfolding first_refusal

@@ -2,7 +2,7 @@ use Rattle.std.proofs.Common.{ap, ◌∙◌}
 use Rattle.std.specs.Map.{keys_of}
 use Rattle.std.proofs.lemmas.List.{map-append, take_all}
 use Rattle.pg_map.proofs.Filling.{mapped_more}
-use Rattle.pg_tests_service.proofs.recorded.copied.Goals as goal
+use Rattle.pg_tests_core.proofs.recorded.copied.Goals as goal
 
 pub loop-vertex-init : goal.loop-vertex-init
 loop-vertex-init g c = ap keys_of c.in_ok-list.ensures.items

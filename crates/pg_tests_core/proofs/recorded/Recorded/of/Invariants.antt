@@ -1,7 +1,7 @@
 use Rattle.std.proofs.Common.{◌≡◌, length}
 use Rattle.std.specs.List.{AllByRecursion}
 use Rattle.pg_map.specs.Entries.{HasRisingIds}
-use Rattle.pg_tests_service.proofs.recorded.Recorded.of.Given as goal
+use Rattle.pg_tests_core.proofs.recorded.Recorded.of.Given as goal
 
 abbrev pub invariant-loop-number : goal.invariant-loop-number
 invariant-loop-number g l = record {

@@ -1,0 +1,164 @@
+// Refreshes on workers that fall, with checkpoints. All was found by hand.
+use crate::fates::{AllFall, FateAt};
+use crate::hops::{Line, commit, limits_of, refreshed, told_on, two_hops};
+use crate::shelves::{NthShelf, ShortShelf};
+use pg_service::{Fate, Limits, MemShelf, NoFate};
+use std::alloc::Global;
+use std::process::Abort;
+use std::sync::Wait;
+use std::test::Fail;
+use std::thread::Threads;
+
+// Worker 1 of two falls after it has stepped partition 1 from superstep 1.
+const FALLS_ONCE: FateAt = FateAt {
+    superstep: 1,
+    attempt: 0,
+    worker: 1,
+    partition: 1,
+};
+
+// What a first refresh of two hops tells, with checkpoints in memory.
+fn first<R: Threads + Wait + Sync, F: Fate>(
+    rt: &R,
+    alloc: Global,
+    limits: Limits,
+    fate: &F,
+) -> Result<String, Fail> {
+    let mut service = two_hops(alloc, limits)?;
+    let mut shelf = MemShelf::new(alloc);
+    told_on(rt, alloc, &mut service, &mut shelf, fate)
+}
+
+// Without a checkpoint the partition begins anew; with one it goes on from there.
+#[test]
+fn a_worker_falls(rt: HostRuntime) -> Result<(), Fail> {
+    let alloc = rt.alloc();
+    let anew = first(&rt, alloc, limits_of(3, 2, 0, 16)?, &FALLS_ONCE)?;
+    assert_eq!(rt;
+        anew.as_str(),
+        "calls 6 supersteps 3 steps of 1 4 losses (1 1 fate); of 1: 1=0 2=5 3=6\n"
+    );
+    let saved = first(&rt, alloc, limits_of(3, 2, 1, 16)?, &FALLS_ONCE)?;
+    assert_eq!(rt;
+        saved.as_str(),
+        "calls 5 supersteps 3 losses (1 1 fate); of 1: 1=0 2=5 3=6\n"
+    );
+    Ok(())
+}
+
+#[test]
+fn short_checkpoints_are_of_no_use(rt: HostRuntime) -> Result<(), Fail> {
+    let alloc = rt.alloc();
+    let mut service = two_hops(alloc, limits_of(3, 2, 1, 16)?)?;
+    let mut shelf = ShortShelf::new(alloc);
+    let told = told_on(&rt, alloc, &mut service, &mut shelf, &FALLS_ONCE)?;
+    assert_eq!(rt;
+        told.as_str(),
+        "calls 6 supersteps 3 steps of 1 4 losses (1 1 fate); of 1: 1=0 2=5 3=6\n"
+    );
+    Ok(())
+}
+
+// What refreshes tell of a shortcut beside two hops, where worker 0 of two falls once it has stepped partition 2 from
+// superstep 0, and of an empty batch after it.
+fn shortcut<R: Threads + Wait + Sync>(rt: &R, alloc: Global) -> Result<(String, String), Fail> {
+    let mut service = two_hops(alloc, limits_of(3, 2, 0, 16)?)?;
+    let _first = refreshed(rt, alloc, &mut service)?;
+    commit(alloc, &mut service, &[Line::Edge(1, 3, 2)])?.map_err(|_| "a batch that is refused")?;
+    let fate = FateAt {
+        superstep: 0,
+        attempt: 0,
+        worker: 0,
+        partition: 2,
+    };
+    let mut shelf = MemShelf::new(alloc);
+    let told = told_on(rt, alloc, &mut service, &mut shelf, &fate)?;
+    commit(alloc, &mut service, &[])?.map_err(|_| "a batch that is refused")?;
+    let again = told_on(rt, alloc, &mut service, &mut shelf, &NoFate)?;
+    Ok((told, again))
+}
+
+#[test]
+fn a_worker_falls_beside_a_kept_run(rt: HostRuntime) -> Result<(), Fail> {
+    let (told, again) = shortcut(&rt, rt.alloc())?;
+    assert_eq!(rt;
+        told.as_str(),
+        "calls 6 supersteps 3 losses (0 0 fate); of 2: 1=0 2=5 3=2\n"
+    );
+    assert_eq!(rt;
+        again.as_str(),
+        "calls 0 supersteps 3 losses; of 3: 1=0 2=5 3=2\n"
+    );
+    Ok(())
+}
+
+// What a refresh of a shortcut tells that is refused, with what stays published, and the next one.
+fn refused<R: Threads + Wait + Sync>(
+    rt: &R,
+    alloc: Global,
+    max_losses: u32,
+) -> Result<(String, String), Fail> {
+    let mut service = two_hops(alloc, limits_of(3, 2, 0, max_losses)?)?;
+    let _first = refreshed(rt, alloc, &mut service)?;
+    commit(alloc, &mut service, &[])?.map_err(|_| "a batch that is refused")?;
+    let mut shelf = MemShelf::new(alloc);
+    let told = told_on(rt, alloc, &mut service, &mut shelf, &AllFall)?;
+    let next = told_on(rt, alloc, &mut service, &mut shelf, &NoFate)?;
+    Ok((told, next))
+}
+
+// More workers fell than may, or all of them: what was published stays, and the next refresh calls all.
+#[test]
+fn a_refresh_is_refused(rt: HostRuntime) -> Result<(), Fail> {
+    let alloc = rt.alloc();
+    let rows = [
+        (
+            2,
+            "refused 3 losses (0 0 fate) (1 0 fate); of 1: 1=0 2=5 3=6\n",
+        ),
+        (
+            1,
+            "refused 2 losses (0 0 fate) (1 0 fate); of 1: 1=0 2=5 3=6\n",
+        ),
+    ];
+    for (max_losses, wanted) in rows {
+        let (told, next) = refused(&rt, alloc, max_losses)?;
+        assert_eq!(rt; told.as_str(), wanted);
+        assert_eq!(rt;
+            next.as_str(),
+            "calls 5 supersteps 3 losses; of 2: 1=0 2=5 3=6\n"
+        );
+    }
+    Ok(())
+}
+
+// What a second refresh tells whose shelf's device fails at this call, where worker 1 falls once, and the one after it.
+fn failing<R: Threads + Wait + Sync>(
+    rt: &R,
+    alloc: Global,
+    call: u64,
+) -> Result<(String, u64, String), Fail> {
+    let mut service = two_hops(alloc, limits_of(3, 2, 1, 16)?)?;
+    let _first = refreshed(rt, alloc, &mut service)?;
+    commit(alloc, &mut service, &[Line::Edge(1, 3, 2)])?.map_err(|_| "a batch that is refused")?;
+    let mut shelf = NthShelf::new(alloc, call);
+    let told = told_on(rt, alloc, &mut service, &mut shelf, &FALLS_ONCE)?;
+    Ok((told, shelf.calls(), refreshed(rt, alloc, &mut service)?))
+}
+
+// Three partitions are saved before superstep 1 and again before superstep 2, and one is looked for in between.
+#[test]
+fn the_device_fails(rt: HostRuntime) -> Result<(), Fail> {
+    let alloc = rt.alloc();
+    for call in 1..8 {
+        let (told, calls, next) = failing(&rt, alloc, call)?;
+        assert_eq!(rt; told.as_str(), "refused 4; of 1: 1=0 2=5 3=6\n");
+        assert_eq!(rt; calls, call);
+        assert_eq!(rt; next.as_str(), "calls 6 supersteps 3 losses");
+    }
+    let (told, calls, next) = failing(&rt, alloc, 8)?;
+    assert!(rt; told.as_str().ends_with(" losses (1 1 fate); of 2: 1=0 2=5 3=2\n"));
+    assert_eq!(rt; calls, 7);
+    assert_eq!(rt; next.as_str(), "calls 0 supersteps 3 losses");
+    Ok(())
+}

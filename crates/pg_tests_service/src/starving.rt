@@ -1,0 +1,100 @@
+// Refreshes whose workers want memory: one falls as a call of compute is refused it, and the others go on.
+use crate::hops::{TWO_HOPS, batch_of, limits_of, master, program, refreshed, service_of};
+use pg_global::AnyCombiner;
+use pg_graph::{Memory, VertexId};
+use pg_model::Declared;
+use pg_program::{Computation, Cx, Vertex};
+use pg_service::Limits;
+use std::alloc::{AllocError, Global};
+use std::process::Abort;
+use std::sync::Wait;
+use std::sync::atomic::{AtomicU64, Ordering};
+use std::test::Fail;
+use std::thread::Threads;
+
+// A program that does what another does, but wants memory at one of its calls, by number from 0 on.
+#[derive(Drop)]
+struct Starving<P> {
+    inner: P,
+    at: u64,
+    calls: AtomicU64,
+}
+
+impl<P: Computation> Computation for Starving<P> {
+    type Value = P::Value;
+
+    type Message = P::Message;
+
+    ghost program = { λ starving. P.program starving.inner };
+
+    fn declared(&self) -> Declared {
+        self.inner.declared()
+    }
+
+    fn initial(&self, alloc: Global, id: VertexId, input: i64) -> Result<P::Value, Memory> {
+        self.inner.initial(alloc, id, input)
+    }
+
+    fn compute(
+        &self,
+        alloc: Global,
+        vertex: &mut Vertex<P::Value>,
+        messages: &[P::Message],
+        cx: &mut Cx<P::Message>,
+    ) -> Result<(), Memory> {
+        if self.calls.fetch_add(1, Ordering::SeqCst) == self.at {
+            return Err(AllocError);
+        }
+        self.inner.compute(alloc, vertex, messages, cx)
+    }
+}
+
+// What a first refresh of the shortest paths on two hops tells that wants memory at one of its calls, and the next one.
+fn starved<R: Threads + Wait + Sync>(
+    rt: &R,
+    alloc: Global,
+    at: u64,
+    limits: Limits,
+) -> Result<(String, String), Fail> {
+    let starving = Starving {
+        inner: program()?,
+        at,
+        calls: AtomicU64::new(0),
+    };
+    let mut service = service_of(alloc, limits, starving, AnyCombiner::NoCombiner, master()?)?;
+    let batch = batch_of(alloc, &TWO_HOPS)?;
+    service.edit(alloc, &batch).map_err(|_| "a batch that is refused")?;
+    let first = refreshed(rt, alloc, &mut service)?;
+    Ok((first, refreshed(rt, alloc, &mut service)?))
+}
+
+// Superstep 0 takes three calls, and the next ones one each.
+#[test]
+fn the_only_worker_wants_memory(rt: HostRuntime) -> Result<(), Fail> {
+    let alloc = rt.alloc();
+    let rows = [
+        (0, 16, "refused 3 losses (0 0 memory)"),
+        (3, 16, "refused 3 losses (0 1 memory)"),
+        (4, 16, "refused 3 losses (0 2 memory)"),
+        (0, 0, "refused 2 losses (0 0 memory)"),
+    ];
+    for (at, max_losses, wanted) in rows {
+        let (told, next) = starved(&rt, alloc, at, limits_of(3, 1, 0, max_losses)?)?;
+        assert_eq!(rt; told.as_str(), wanted);
+        assert_eq!(rt; next.as_str(), "calls 5 supersteps 3 losses");
+    }
+    Ok(())
+}
+
+// Which of two workers makes a call is left to the threads in superstep 0; later only one vertex is called.
+#[test]
+fn one_of_two_workers_wants_memory(rt: HostRuntime) -> Result<(), Fail> {
+    let alloc = rt.alloc();
+    for at in 0..5 {
+        let (told, next) = starved(&rt, alloc, at, limits_of(3, 2, 1, 1)?)?;
+        assert!(rt; told.as_str().starts_with("calls "));
+        assert!(rt; told.as_str().ends_with(" memory)"));
+        assert_eq!(rt; next.as_str(), "calls 0 supersteps 3 losses");
+    }
+    Ok(())
+}

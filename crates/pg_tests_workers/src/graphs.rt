@@ -1,0 +1,26 @@
+// Graphs by hand.
+use pg_graph::{Batch, Edit, Graph, VertexId};
+use std::alloc::Global;
+use std::test::Fail;
+
+pub(crate) fn id(number: u64) -> Result<VertexId, Fail> {
+    Ok(VertexId::new(number).ok_or("a number above 2^63 - 1")?)
+}
+
+// The graph of these vertices with their inputs, and of these edges with their weights.
+pub(crate) fn graph_of(
+    alloc: Global,
+    vertices: &[(u64, i64)],
+    edges: &[(u64, u64, i64)],
+) -> Result<Graph, Fail> {
+    let mut batch = Batch::new(alloc);
+    for (number, input) in vertices {
+        batch.push(Edit::AddVertex(id(*number)?, *input))?;
+    }
+    for (source, target, weight) in edges {
+        batch.push(Edit::AddEdge(id(*source)?, id(*target)?, *weight))?;
+    }
+    let mut graph = Graph::new(alloc);
+    graph.apply(alloc, &batch)?;
+    Ok(graph)
+}
