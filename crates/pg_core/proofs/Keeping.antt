@@ -4,7 +4,7 @@ use Rattle.pg_core.specs.Progress.{HoldsAt, IsRightWith, Progress, has_lost, kep
 use Rattle.pg_course.specs.Course.{IsSentTo}
 use Rattle.pg_graph.specs.Rows.{Rows}
 use Rattle.pg_inbox.specs.Logged.{slot_at}
-use Rattle.pg_machine.specs.Machine.{Reaches, State, after_all, first_state, place_at, takes, was_lost}
+use Rattle.pg_machine.specs.Machine.{Reaches, State, after_all, first_state, place_at, takes}
 use Rattle.pg_machine.specs.declared.event.Event.{Event}
 use Rattle.pg_machine.proofs.LawsMachine.{was_lost-stays}
 use Rattle.pg_model.specs.Job.{Job}
@@ -21,11 +21,6 @@ module _ {P C A V M : Type 0} where
   -- nothing, where no run is kept
   pub kept_for-none : (core : Progress P C A V M) (p : ℕ) → kept_for None core p ≡ None
   kept_for-none core p = either_same (has_lost core p) None
-
-  -- the kept run, as long as nothing has happened
-  pub kept_for-first : (kept : Option Rows) (core : Progress P C A V M) (p : ℕ) → core.history ≡ [] → kept_for kept core p ≡ kept
-  kept_for-first kept core p none =
-      ap (λ (events : List Event). cond (was_lost p (first_state core.limits.partitions core.limits.workers) events) None kept) none
 
   -- an event leaves what is kept for a partition that it doesn't take
   pub kept_more : (kept : Option Rows) (core : Progress P C A V M) (event : Event) (p : ℕ)

@@ -12,7 +12,6 @@ use Rattle.pg_core.specs.Losing.{AreLost, IsAsFound, IsForgotten, IsOf, place_fo
 use Rattle.pg_core.specs.Progress.{HoldsAt, IsLawful, IsPartAt, IsRight, Progress, is_past, is_ready, kept_for, part_at, ready_of}
 use Rattle.pg_core.specs.declared.tally.Tally.{Tally}
 use Rattle.pg_core.proofs.Keeping.{IsRightWith-same, kept_more}
-use Rattle.pg_core.proofs.Onward.{below_next}
 use Rattle.pg_course.specs.Course.{IsSentTo}
 use Rattle.pg_global.specs.Registry.{Registered}
 use Rattle.pg_graph.specs.Rows.{Rows}
@@ -80,6 +79,14 @@ and_true false c is = refl
 true_and : (b c : Bool) → b ≡ true → (b && c) ≡ c
 true_and true c is = refl
 true_and false c is = absurd (true≢false (sym is))
+
+-- the partition after the last one counts for no other
+below_next : (q p : ℕ) → q ≢ p → nat_lt q (p + 1) ≡ nat_lt q p
+below_next q p apart =
+    elim (cases_lt q p) [
+      | inl less ↦ lt-ltb q (p + 1) (omega (arith, less)) ∙ sym (lt-ltb q p less)
+      | inr more ↦ le-ltb q (p + 1) (omega (arith, more, apart)) ∙ sym (le-ltb q p more)
+    ]
 
 -- what is gone of the first k partitions, by their hosts, and of one partition more
 pub one_lost : {X : Type 0} (w k : ℕ) (host : ℕ → ℕ) (before mid now : ℕ → Option X)

@@ -1,5 +1,5 @@
 -- What taking a part, and taking in its step, leave of a run over partitions.
-use Rattle.std.proofs.Common.{◌≡◌, ℕ, zero, suc, ◌+◌, ◌<◌, ◌≢◌, Bool, true, false, cond, ◌&&◌, List, [], ◌∷◌, ◌++◌, length, take}
+use Rattle.std.proofs.Common.{◌≡◌, ℕ, ◌+◌, ◌<◌, ◌≢◌, Bool, true, false, cond, ◌&&◌, List, [], ◌∷◌, ◌++◌, length, take}
 use Rattle.std.proofs.Common.{get_or, set, Option, None, Some, is_some, refl, ap, sym, ◌∙◌, subst, subst₂, arith, inl, inr}
 use Rattle.std.specs.Prelude.{◌==◌, nat_lt}
 use Rattle.std.specs.List.{slice_get}
@@ -10,8 +10,8 @@ use Rattle.std.proofs.lemmas.List.{get_or-set_other, get_or-set_same, length-set
 use Rattle.std.proofs.lemmas.Option.{same_Some}
 use Rattle.pg_machine.specs.Limits.{Limits}
 use Rattle.pg_machine.specs.Machine.{Reaches, State, after, first_state, is_allowed, is_from, place_at}
-use Rattle.pg_core.specs.Progress.{HasMadeStep, HasPut, HoldsAt, IsLawful, IsNext, IsPartAt, IsRight, IsStepFrom, IsStepLent, IsStepOf}
-use Rattle.pg_core.specs.Progress.{LogsHold, Progress, TakesIn, has_lost, is_past, kept_for, part_at, with_step, without_part}
+use Rattle.pg_core.specs.Progress.{HasPut, HoldsAt, IsLawful, IsNext, IsPartAt, IsRight, IsStepFrom, IsStepLent, IsStepOf}
+use Rattle.pg_core.specs.Progress.{LogsHold, Progress, TakesIn, has_lost, is_past, kept_for, part_at, without_part}
 use Rattle.pg_core.specs.Traces.{KeepsCommon, Common, logs_in, visible_in}
 use Rattle.pg_machine.specs.declared.event.Event.{Event}
 use Rattle.pg_machine.specs.declared.event.Event.TheVariants.{Step}
@@ -362,25 +362,6 @@ IsStepOf-from_HasMadeStep job kept core p r part sent value_eq message_eq calls 
       sends = stepped.course.sends;
     } in
     subst (λ (s : ℕ). IsStepFrom job (kept_for kept core p) core.graph core.limits.partitions p s part sent) (same_Some r s (sym at ∙ is)) made
-
--- what a step is lent doesn't lie in the parts
-pub IsStepLent-without : {V M : Type 0} (job : Job V M) (kept : Option Rows) {P C A : Type 0} (core : Progress P C A V M) (p r : ℕ) (part : PartState V M)
-    → IsStepLent job kept core p r part → IsStepLent job kept (without_part p core) p r part
-IsStepLent-without job kept core p r part lent = record { holds = lent.holds; lent = lent.lent; beside = lent.beside; open_or_before = lent.open_or_before }
-
-set_twice : {X : Type 0} (xs : List X) (p : ℕ) (x y : X) → set (set xs p x) p y ≡ set xs p y
-set_twice [] p x y = refl
-set_twice (z ∷ zs) zero x y = refl
-set_twice (z ∷ zs) (suc p) x y = ap (λ l. z ∷ l) (set_twice zs p x y)
-
--- a step that was taken in after its part was taken
-pub HasMadeStep-from_TakesIn : {P C A V M : Type 0} (core : Progress P C A V M) (p : ℕ) (part : PartState V M) (sent : List (Logged M))
-    (new : Progress P C A V M)
-    → TakesIn p part sent (without_part p core) new → HasMadeStep p core new
-HasMadeStep-from_TakesIn core p part sent new takes = record {
-  part = part;
-  core_is = takes.core_is ∙ (λ i. record (with_step p part core) { parts = set_twice core.parts p None (Some part) i; logs = new.logs });
-}
 
 -- what a step was lent is what it asks for: the same by other names
 module _ {V M : Type 0} (job : Job V M) (kept : Option Rows) {P C A : Type 0} (core : Progress P C A V M) (p r : ℕ) (part : PartState V M)

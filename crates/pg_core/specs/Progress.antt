@@ -186,11 +186,6 @@ module _ {P C A V M : Type 0} where
     pub core_is : after ≡ record (with_step p part before) { logs = after.logs }
     pub logs_are : (r : ℕ) → place_at p before.state ≡ Some r → HasPut r p (take before.limits.partitions sent) before.logs after.logs
 
-  -- a step of partition p was made: its part and what was sent are others, and the rest is as it was
-  pub record HasMadeStep (p : ℕ) (before after : Progress P C A V M) : Type 0 where
-    pub part : PartState V M
-    pub core_is : after ≡ record (with_step p part before) { logs = after.logs }
-
 -- a part and what it sent are those of the run after a step of partition p of n from r, beside the kept run, if any
 pub record IsStepFrom {V M : Type 0} (job : Job V M) (kept : Option Rows) (rows : Rows) (n p r : ℕ) (part : PartState V M) (sent : List (Logged M)) : Type 0 where
   pub holds : HoldsShare job kept rows n p (r + 1) part

@@ -23,7 +23,8 @@ use std::alloc::Global;
 pub type Finished<V, M> = (Run<V>, Traces<V, M>, Spent<V, M>);
 
 impl<'a, P: Computation, C: MessageCombiner<P::Message>, M: MasterCompute> Core<'a, P, C, M> {
-    /// The answer of a run that has ended, all that the run leaves for one beside it, and what nobody needs any more.
+    /// The answer of a run that has ended, with an aggregate for each of the master's registrations, all that the run
+    /// leaves for one beside it, and what nobody needs any more.
     ///
     /// Costs a copy of the vertices' values, a look-up for each vertex that may have ended otherwise than in the kept run,
     /// and what is cut where that was longer. Beside nothing, and where a loss took a partition, it costs a sort of the
@@ -31,6 +32,8 @@ impl<'a, P: Computation, C: MessageCombiner<P::Message>, M: MasterCompute> Core<
     pub fn finish(self, alloc: Global) -> Result<Finished<P::Value, P::Message>, Memory>
         requires { self.state.ended ≡ true }
         ensures each { IfOk result (λ done. length done.1.lefts ≡ self.entry.limits.partitions) }
+        ensures places { IfOk result
+            (λ done. length done.0.aggregates ≡ length (M.master self.entry.master).registrations) }
         ensures finished { let job = job_by P.program C.combining M.master self.entry in
             IfOk result (λ done. (kept : Option Rows) → IsRight job kept self.entry
             → IsFinished job self.entry done.0 done.1) }

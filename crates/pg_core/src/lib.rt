@@ -3,11 +3,9 @@
 
 mod beginning;
 mod closing;
-mod driving;
 mod finishing;
 mod losing;
 mod running;
-mod stepping;
 mod tally;
 mod together;
 mod traces;

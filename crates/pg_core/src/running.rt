@@ -391,6 +391,8 @@ impl<'a, P: Computation, C: MessageCombiner<P::Message>, M: MasterCompute> Core<
     ) -> Result<Finished<P::Value, P::Message>, Memory>
         requires { self.state.ended ≡ true }
         ensures each { IfOk result (λ done. length done.1.lefts ≡ self.entry.limits.partitions) }
+        ensures places { IfOk result
+            (λ done. length done.0.aggregates ≡ length (M.master self.entry.master).registrations) }
         ensures finished { let job = job_by P.program C.combining M.master self.entry in
             IfOk result (λ done. (kept : Option Rows) → IsRight job kept self.entry
             → values ≡ values_of job self.entry.graph

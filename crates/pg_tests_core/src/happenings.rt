@@ -1,6 +1,6 @@
 // What may happen in a run over partitions, event by event, with what was saved of its partitions beside it.
 use crate::recorded::Recorded;
-use crate::runs::step_once;
+use crate::stepping::step_once;
 use pg_core::Core;
 use pg_global::{MasterCompute, MessageCombiner};
 use pg_graph::{Memory, PartitionId, Superstep, WorkerId};

@@ -22,3 +22,5 @@ mod recorded;
 mod recovery;
 #[cfg(test)]
 mod runs;
+#[cfg(test)]
+mod stepping;

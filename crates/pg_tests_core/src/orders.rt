@@ -4,7 +4,7 @@ ghost use Rattle.pg_global.specs.Master.{is_registered};
 ghost use Rattle.pg_global.specs.Registry.{first_refusal};
 
 use crate::graphs::graph_of;
-use crate::runs::step_once;
+use crate::stepping::step_once;
 use pg_core::{Core, Limits};
 use pg_global::{AnyCombiner, MasterCompute, MessageCombiner, NoMaster};
 use pg_graph::{Graph, Memory, PartitionId, WorkerId};

@@ -10,7 +10,7 @@ use crate::happenings::play;
 use crate::noting::Noting;
 use pg_core::{Core, Event, Limits, Traces};
 use pg_global::{AnyCombiner, MasterCompute, MessageCombiner, NoMaster};
-use pg_graph::{Graph, Memory, PartitionId, VertexId};
+use pg_graph::{Graph, PartitionId, VertexId};
 use pg_model::Run;
 use pg_program::{Computation, Meter, Plain, Shed, Tally};
 use pg_ready::{ReadyMaster, ReadyProgram, Sssp};

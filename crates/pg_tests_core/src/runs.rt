@@ -1,39 +1,26 @@
-ghost use Rattle.std.specs.Prelude.{◌≡◌, ℕ, ◌<◌, [], true, None, IsSome, IfOk};
-ghost use Rattle.pg_core.specs.Progress.{part_at};
+ghost use Rattle.std.specs.Prelude.{◌≡◌, [], true, None};
 ghost use Rattle.pg_global.specs.Master.{is_registered};
 ghost use Rattle.pg_global.specs.Registry.{first_refusal};
 
 use crate::graphs::graph_of;
+use crate::happenings::play;
+use crate::recovery::finished;
+use crate::stepping::step_once;
 use pg_core::{Core, Event, Limits};
 use pg_global::{AnyCombiner, MasterCompute, MessageCombiner, NoMaster};
 use pg_graph::{Graph, Memory, Missing, PartitionId, Superstep};
 use pg_model::Run;
 use pg_program::{Computation, Meter, Tally};
-use std::alloc::{AllocError, Global};
+use std::alloc::Global;
 use std::process::Abort;
 use std::test::Fail;
-
-// One step of a partition that is ready.
-pub(crate) fn step_once<P: Computation, C: MessageCombiner<P::Message>, M: MasterCompute>(
-    alloc: Global,
-    core: &mut Core<'_, P, C, M>,
-    partition: PartitionId,
-    meter: &mut Meter,
-) -> Result<(), Memory> {
-    if !core.is_ready(partition) {
-        return Err(AllocError);
-    }
-    core.step_ready(alloc, partition, meter)
-}
 
 // A core with so many partitions on two workers, to which nothing has happened.
 fn opened<'a>(
     alloc: Global,
     graph: &'a Graph,
     partitions: u32,
-) -> Result<Core<'a, Tally, AnyCombiner, NoMaster>, Fail>
-    ensures { IfOk result (λ core. (p : ℕ) → p < core.limits.partitions → IsSome (part_at p core)) }
-{
+) -> Result<Core<'a, Tally, AnyCombiner, NoMaster>, Fail> {
     let limits = Limits::new(partitions, 2, 10, 0, 0).ok_or("no such limits")?;
     let core = Core::open(
         alloc,
@@ -117,8 +104,9 @@ fn partitions_step_in_any_order(rt: HostRuntime) -> Result<(), Fail> {
 fn whole(alloc: Global, graph: &Graph, partitions: u32) -> Result<(Vec<(u64, i64)>, u64), Fail> {
     let mut core = opened(alloc, graph, partitions)?;
     let mut meter = Meter::new();
-    core.run_out(alloc, &mut meter)?;
-    let (run, _, _) = core.finish(alloc)?;
+    play(alloc, &mut core, &[], &mut meter)?;
+    let limits = core.limits();
+    let (run, _) = finished(alloc, core, limits)?;
     let mut values = Vec::new(alloc);
     for (id, value) in run.values.as_slice() {
         values.push((id.number(), value.0))?;
@@ -146,14 +134,13 @@ fn again<'a, P: Computation, C: MessageCombiner<P::Message>, M: MasterCompute>(
     combiner: &'a C,
     master: &'a M,
     limits: Limits,
-) -> Result<(Run<P::Value>, u64), Memory>
+) -> Result<(Run<P::Value>, u64), Fail>
     requires lawful { first_refusal [] (M.master master.now).registrations ≡ None }
     requires registered { is_registered (P.program program.now) (M.master master.now) ≡ true }
 {
     let mut first = Core::open(alloc, graph, program, combiner, master, limits, 7)?;
-    let mut before = Meter::new();
-    first.run_out(alloc, &mut before)?;
-    let (_, left, _) = first.finish(alloc)?;
+    play(alloc, &mut first, &[], &mut Meter::new())?;
+    let (_, left) = finished(alloc, first, limits)?;
     let mut second = Core::open_beside(
         alloc,
         graph,
@@ -166,8 +153,8 @@ fn again<'a, P: Computation, C: MessageCombiner<P::Message>, M: MasterCompute>(
         8,
     )?;
     let mut meter = Meter::new();
-    second.run_out(alloc, &mut meter)?;
-    let (run, _, _) = second.finish(alloc)?;
+    play(alloc, &mut second, &[], &mut meter)?;
+    let (run, _) = finished(alloc, second, limits)?;
     Ok((run, meter.count()))
 }
 

@@ -31,6 +31,13 @@ returns-clause-each g c =
     (λ done given. given.each ∙ (c.self.invariant.each ∙ ap (λ core. core.limits.partitions) c.self.view_is))
     c.finished.ensures
 
+pub returns-clause-places : goal.returns-clause-places
+returns-clause-places g c =
+    IfOk-weaker c.finished.result _ _
+    (λ done given. ap (λ r. length r.aggregates) given.answers
+    ∙ (c.self.invariant.gathered_places ∙ ap (λ core. length (g.M.MasterCompute.master core.master).registrations) c.self.view_is))
+    c.finished.ensures
+
 pub returns-clause-finished : goal.returns-clause-finished
 returns-clause-finished g c =
     let core = c.args.self in
