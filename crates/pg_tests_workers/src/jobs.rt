@@ -8,7 +8,9 @@ use pg_graph::{Graph, Memory, VertexId};
 use pg_model::Run;
 use pg_program::{Computation, Meter, Plain};
 use pg_scratch::run;
-use pg_workers::{Cause, Core, Counts, Fate, Gate, Limits, Loss, RefreshFault, Shelf, Traces, run_job};
+use pg_workers::{
+    Cause, Core, Counts, Fate, Gate, Limits, Loss, RefreshFault, Shelf, Traces, run_job,
+};
 use std::alloc::Global;
 use std::fmt::Write;
 use std::sync::Wait;

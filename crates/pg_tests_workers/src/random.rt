@@ -117,6 +117,36 @@ impl Random {
     }
 }
 
+// The calls of a partition's next step, which is made.
+fn calls_of_step<P: Computation, C: MessageCombiner<P::Message>, M: MasterCompute>(
+    alloc: Global,
+    core: &mut Core<'_, P, C, M>,
+    partition: PartitionId,
+) -> Result<u64, Memory> {
+    if !core.is_ready(partition) {
+        return Err(AllocError);
+    }
+    let part = core.take(partition);
+    let place = part.place();
+    let mut meter = Meter::new();
+    let stepped = part.step(
+        alloc,
+        core.logs(),
+        core.visible(place),
+        core.old_logs(place),
+        core.old_visible(place),
+        core.registry(),
+        core.program(),
+        core.combiner(),
+        &mut meter,
+    );
+    match stepped {
+        Ok((part, sent)) => core.stepped(alloc, partition, part, sent)?,
+        Err(_) => return Err(AllocError),
+    }
+    Ok(meter.count())
+}
+
 // The calls of each partition's next step, and the close of the superstep.
 fn calls_of_superstep<P: Computation, C: MessageCombiner<P::Message>, M: MasterCompute>(
     alloc: Global,
@@ -125,12 +155,7 @@ fn calls_of_superstep<P: Computation, C: MessageCombiner<P::Message>, M: MasterC
     let mut row = Vec::new(alloc);
     for number in 0..core.limits().partitions() {
         let partition = PartitionId::new(number);
-        let mut meter = Meter::new();
-        if !core.is_ready(partition) {
-            return Err(AllocError);
-        }
-        core.step_ready(alloc, partition, &mut meter)?;
-        row.push(meter.count())?;
+        row.push(calls_of_step(alloc, core, partition)?)?;
     }
     if !core.may_close() {
         return Err(AllocError);

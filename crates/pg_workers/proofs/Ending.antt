@@ -117,13 +117,15 @@ module _ {P C A V M : Type 0} (own : Meaning P C A V M) (fated : ℕ → ℕ →
           l_of : now.core.limits ≡ first.limits
           l_of = runs.same.limits_are
 
-    pub is_driven : length now.losses ≤ first.limits.max_losses → length left.lefts ≡ now.core.limits.partitions → IsDriven own fated shelf.is_honest first run left counts
-    is_driven few each = record {
+    pub is_driven : length now.losses ≤ first.limits.max_losses → length left.lefts ≡ now.core.limits.partitions
+        → length run.aggregates ≡ length (own.master now.core.master).registrations → IsDriven own fated shelf.is_honest first run left counts
+    is_driven few each places = record {
       history = now.core.history;
       tells = tells;
       few = subst (λ (l : List Loss). length l ≤ first.limits.max_losses) (sym losses_same) few;
       fated_are = subst (AreFated fated 0) (sym losses_same) runs.fated_are;
       each = each ∙ ap (λ (l : Limits). l.partitions) runs.same.limits_are;
+      places = places ∙ ap (λ (master : A). length (own.master master).registrations) runs.same.master_is;
       right = answered;
     }
 

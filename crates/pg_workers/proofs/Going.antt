@@ -47,7 +47,7 @@ same_then first second = record {
 
 module _ {P C A V M : Type 0} (own : Meaning P C A V M) where
   pub job_stays : {a b : Progress P C A V M} → IsSameRun a b → job_in own b ≡ job_in own a
-  job_stays {a} {b} same = job_same own.program own.combining own.master own.value_eq own.message_eq a b same
+  job_stays {a} {b} same = job_same own.program own.combining own.master a b same
 
   -- what a history tells of calls, in the words of the run's numbers
   abbrev calls_by : Job V M → Option Rows → Rows → Limits → List Event → ℕ

@@ -44,8 +44,9 @@ module _ {P C A V M : Type 0} (own : Meaning P C A V M) where
     pub counted : AreCountsOf own.value_eq own.message_eq (job_in own core) kept core.graph core.limits.partitions core.limits.workers history counts
 
   -- the run of a core was driven to its end through a history that the status machine allows. No more workers fell than
-  -- may, by the fate those alone that it has fall; each partition leaves something; and where the core was right it is
-  -- answered, if the shelf is honest or nothing that it gave was used
+  -- may, by the fate those alone that it has fall; each partition leaves something; there is an aggregate for each of the
+  -- master's registrations; and where the core was right it is answered, if the shelf is honest or nothing that it gave was
+  -- used
   pub record IsDriven (fated : ℕ → ℕ → ℕ → ℕ → Bool) (honest : Bool) (core : Progress P C A V M) (run : Run V) (left : Traces V M)
       (counts : Counts) : Type 0 where
     pub history : List Event
@@ -53,6 +54,7 @@ module _ {P C A V M : Type 0} (own : Meaning P C A V M) where
     pub few : length counts.losses ≤ core.limits.max_losses
     pub fated_are : AreFated fated 0 counts.losses
     pub each : length left.lefts ≡ core.limits.partitions
+    pub places : length run.aggregates ≡ length (own.master core.master).registrations
     pub right : (kept : Option Rows) → IsRight (job_in own core) kept core → Trusts honest history → IsAnswered kept core history run left counts
 
   -- nobody fell: the answer and what is left are those of the run from scratch whatever the shelf is, just the executions

@@ -22,6 +22,7 @@ returns-clause-driven g c fated first shelf runs few =
     (record { calls = inside.calls; steps = c.in_ok-steps.steps; losses = c.from_vec.result })
     steps refl c.from_vec.ensures c.in_ok-finished.ensures.finished
     (subst (λ (s : Coordination _ _ _ _ _). length s.losses ≤ first.limits.max_losses) (sym c.self.view_is) few) c.in_ok-finished.ensures.each
+    c.in_ok-finished.ensures.places
 
 pub returns-clause-unlost : goal.returns-clause-unlost
 returns-clause-unlost g c fated first shelf runs kept right none =
