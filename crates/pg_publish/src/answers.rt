@@ -2,7 +2,7 @@
 ghost use Rattle.std.specs.Prelude.{◌≡◌, IfOk};
 ghost use Rattle.std.specs.Arc.{arc_value};
 ghost use Rattle.std.specs.Option.{option_copied};
-ghost use Rattle.pg_publish.specs.Answers.{HasRisingIds, IsWhole, aggregate_of, value_of};
+ghost use Rattle.pg_publish.specs.Answers.{HaveRisingIds, IsWhole, aggregate_of, value_of};
 
 use pg_global::{Ending, Registry, Run};
 use pg_graph::{Edition, Memory, VertexId};
@@ -13,11 +13,21 @@ use std::marker::Model;
 use std::sync::Arc;
 
 /// The answer of a run on an edition of a graph, with its aggregates by name.
-#[derive(Drop)]
 pub struct Answers<V> {
     edition: Edition,
     run: Run<V>,
     registry: Arc<Registry>,
+}
+
+// By hand, so that it is let go by one call wherever that is, and not field by field.
+impl<V: Drop> Drop for Answers<V> {
+    fn drop(self) {
+        let Answers {
+            edition: _,
+            run: _,
+            registry: _,
+        } = self;
+    }
 }
 
 impl<V> Model for Answers<V> {
@@ -27,8 +37,7 @@ impl<V> Model for Answers<V> {
     ghost Value = { Answered V };
 
     ghost view = { λ a. record {
-      edition = a.edition;
-      answer = a.run;
+      publication = record { edition = a.edition; answer = a.run };
       registered = arc_value a.registry;
     } };
 
@@ -41,7 +50,7 @@ impl<V> Answers<V> {
     ///
     /// # Errors
     ///
-    /// Want of memory: the registry has too many owners.
+    /// Out of memory, where the registry has too many owners.
     pub fn new(
         edition: Edition,
         run: Run<V>,
@@ -52,8 +61,7 @@ impl<V> Answers<V> {
         requires { IsWhole run (arc_value registry.now) }
         ensures { IfOk result
             (λ a. a ≡ record {
-              edition = edition;
-              answer = run;
+              publication = record { edition = edition; answer = run };
               registered = arc_value registry.now;
             }) }
     {
@@ -88,21 +96,21 @@ impl<V> Answers<V> {
 
     /// The edition of the graph that the run was made on.
     pub fn edition(&self) -> Edition
-        ensures { result ≡ self.now.edition }
+        ensures { result ≡ self.now.publication.edition }
     {
         self.edition
     }
 
     /// The answer of the run, with its aggregates by place.
     pub fn run(&self) -> &Run<V>
-        ensures { result.now ≡ self.now.answer }
+        ensures { result.now ≡ self.now.publication.answer }
     {
         &self.run
     }
 
     /// The value of a vertex, found by halving.
     pub fn value(&self, id: VertexId) -> Option<&V>
-        ensures { option_copied result ≡ value_of id self.now }
+        ensures { option_copied result ≡ value_of id self.now.publication.answer.values }
     {
         let values = self.values();
         match values.binary_search_by_key(&id, |entry| entry.0) {
@@ -111,9 +119,10 @@ impl<V> Answers<V> {
         }
     }
 
-    /// The aggregate with this name.
+    /// The aggregate with this name. Costs what reading the name costs.
     pub fn aggregate(&self, name: &str) -> Option<i64>
-        ensures { result ≡ aggregate_of name.now self.now }
+        ensures { result
+            ≡ aggregate_of name.now self.now.registered self.now.publication.answer.aggregates }
     {
         let place = self.registry.place(name)?;
         let aggregates = self.run.aggregates.as_slice();
@@ -122,22 +131,22 @@ impl<V> Answers<V> {
 
     /// How many supersteps were executed.
     pub fn supersteps(&self) -> u32
-        ensures { result ≡ self.now.answer.supersteps }
+        ensures { result ≡ self.now.publication.answer.supersteps }
     {
         self.run.supersteps
     }
 
     /// Why the run ended.
     pub fn ending(&self) -> Ending
-        ensures { result ≡ self.now.answer.ending }
+        ensures { result ≡ self.now.publication.answer.ending }
     {
         self.run.ending
     }
 
     /// The value of each vertex, by rising id.
     pub fn values(&self) -> &[(VertexId, V)]
-        ensures value { result.now ≡ self.now.answer.values }
-        ensures rising { HasRisingIds result.now }
+        ensures value { result.now ≡ self.now.publication.answer.values }
+        ensures rising { HaveRisingIds result.now }
     {
         self.run.values.as_slice()
     }

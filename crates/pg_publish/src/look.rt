@@ -27,35 +27,38 @@ pub type Told<V> = Front<Answers<V>>;
 impl<V: Drop> Sight<Answers<V>> {
     /// The edition that is looked at.
     pub fn edition(&self) -> Option<Edition>
-        ensures { result ≡ option_map (λ a. a.edition) (last_of self.now.list) }
+        ensures { result ≡ option_map (λ a. a.publication.edition) (last_of self.now.list) }
     {
         Some(self.last()?.edition())
     }
 
     /// The value of a vertex, found by halving.
     pub fn value(&self, id: VertexId) -> Option<&V>
-        ensures { option_copied result ≡ option_and_then (value_of id) (last_of self.now.list) }
+        ensures { option_copied result
+            ≡ option_and_then (λ a. value_of id a.publication.answer.values) (last_of self.now.list) }
     {
         self.last()?.value(id)
     }
 
     /// The aggregate with this name.
     pub fn aggregate(&self, name: &str) -> Option<i64>
-        ensures { result ≡ option_and_then (aggregate_of name.now) (last_of self.now.list) }
+        ensures { result ≡ option_and_then
+            (λ a. aggregate_of name.now a.registered a.publication.answer.aggregates)
+            (last_of self.now.list) }
     {
         self.last()?.aggregate(name)
     }
 
     /// How many supersteps were executed.
     pub fn supersteps(&self) -> Option<u32>
-        ensures { result ≡ option_map (λ a. a.answer.supersteps) (last_of self.now.list) }
+        ensures { result ≡ option_map (λ a. a.publication.answer.supersteps) (last_of self.now.list) }
     {
         Some(self.last()?.supersteps())
     }
 
     /// Why the run ended.
     pub fn ending(&self) -> Option<Ending>
-        ensures { result ≡ option_map (λ a. a.answer.ending) (last_of self.now.list) }
+        ensures { result ≡ option_map (λ a. a.publication.answer.ending) (last_of self.now.list) }
     {
         Some(self.last()?.ending())
     }

@@ -1,7 +1,9 @@
 //! The publisher: the one that adds to a history and shows readers its last entry.
 ghost use Rattle.std.specs.Prelude.{◌≡◌, ◌+◌, ◌<◌, ◌++◌, ◌∷◌, [], drop};
 ghost use Rattle.std.specs.Prelude.{MatchOption, MatchResult, IfOk};
+ghost use Rattle.std.specs.Option.{option_copied};
 ghost use Rattle.left_right.specs.Sides.{view as known_of};
+ghost use Rattle.pg_publish.specs.History.{last_of};
 ghost use Rattle.pg_publish.specs.Sender.{Shows, told_of};
 
 use crate::history::{Front, Head, open};
@@ -197,6 +199,13 @@ impl<E: Drop> Sender<E> {
             |writer, x| (show(x.0, writer, x.1), ()),
         );
         Ok(())
+    }
+
+    /// The entry that was published last; none where nothing is published.
+    pub fn last(&self) -> Option<&E>
+        ensures { option_copied result ≡ last_of self.now.list }
+    {
+        self.writer.published().last()
     }
 
     /// What is published so far, for a reader to learn.
