@@ -9,7 +9,7 @@ use Rattle.pg_model.specs.Run.{answer, configuration, run_length}
 use Rattle.pg_model.specs.Superstep.{ids}
 use Rattle.pg_model.specs.declared.configuration.Standing.{Standing}
 use Rattle.pg_model.proofs.LawsIds.{in_order}
-use Rattle.pg_service.specs.Answers.{HaveRisingIds}
+use Rattle.pg_publish.specs.Answers.{HaveRisingIds}
 
 module _ {V M : Type 0} where
   keys-values : (xs : List (Standing V M)) → keys_of (map (λ (x : Standing V M). (x.state.id, x.state.value)) xs) ≡ ids xs

@@ -1,15 +1,15 @@
 -- What a run that was opened by a service, and driven by workers, gives.
-use Rattle.std.proofs.Common.{◌≡◌, ℕ, ◌+◌, ◌≤◌, zero, suc, Bool, true, ◌||◌, List, [], ◌∷◌, map, replicate, Option, Result, Ok, Err, IfOk, refl, ap, sym, subst, ◌∙◌}
+use Rattle.std.proofs.Common.{◌≡◌, ℕ, ◌+◌, zero, suc, Bool, true, ◌||◌, [], ◌∷◌, map, replicate, Option, Result, Ok, Err, IfOk, refl, ap, sym, subst, ◌∙◌}
 use Rattle.std.specs.List.{range_with_len}
-use Rattle.pg_workers.specs.Handed.{IsLeftBy, IsOpened, IsRight, Limits, Progress, Traces}
+use Rattle.pg_workers.specs.Handed.{IsOpened, IsRight, Limits, Progress, Traces}
 use Rattle.pg_workers.proofs.Handed.{job_as_opened}
 use Rattle.pg_graph.specs.Rows.{HasRisingIds, Rows}
 use Rattle.pg_model.specs.Job.{Job}
 use Rattle.pg_model.specs.Run.{answer, run_length}
 use Rattle.pg_model.specs.declared.run.Run.{Run}
-use Rattle.pg_service.specs.Answers.{HaveRisingIds}
+use Rattle.pg_publish.specs.Answers.{HaveRisingIds}
 use Rattle.pg_service.specs.Job.{ServiceJob, job_meant}
-use Rattle.pg_service.specs.Service.{IsRun, MayCount}
+use Rattle.pg_service.specs.Service.{IsRun}
 use Rattle.pg_service.proofs.AnswersRise.{answer_rises}
 use Rattle.pg_workers.specs.Driven.{IsAnswered, IsDriven, IsUnlost}
 use Rattle.pg_workers.specs.Meaning.{Meaning, job_in}
@@ -53,9 +53,11 @@ module _ {P C A V M : Type 0} (own : Meaning P C A V M) (job : ServiceJob P C A)
             fated_are = driven.fated_are;
             alone = alone;
             unlost = λ none.
-                let u = unlost kept right none in
-                (u.calls_are, u.steps_are ∙ each_so core.limits.partitions 0 (run_length (job_in own core) core.graph)
-                ∙ ap (replicate core.limits.partitions) (supersteps_of (job_in own core) core.graph));
+                let u = unlost kept right none in (
+                  u.calls_are,
+                  u.steps_are ∙ each_so core.limits.partitions 0 (run_length (job_in own core) core.graph)
+                      ∙ ap (replicate core.limits.partitions) (supersteps_of (job_in own core) core.graph),
+                );
           };
         }
 

@@ -1,55 +1,46 @@
 -- What an edit and a refresh leave of a service, and what a refresh reports.
-use Rattle.std.proofs.Common.{◌≡◌, ℕ, ◌+◌, Bool, [], Option, None, Some, Result, Ok, Err, IfErr, IfSome, OnErr, IsErrAnd}
+use Rattle.std.proofs.Common.{◌≡◌, ℕ, ◌+◌, Bool, [], Option, None, Some, Result, Ok, Err, IfSome, OnErr}
 use Rattle.std.proofs.Common.{refl, ap, sym, subst, ◌∙◌, arith}
 use Rattle.pg_workers.specs.Handed.{IsLeftBy, Limits, Traces}
 use Rattle.pg_global.specs.Master.{Master, job_of}
+use Rattle.pg_global.specs.Registry.{Registered}
 use Rattle.pg_graph.specs.Rows.{Rows, row_at}
 use Rattle.pg_model.specs.Job.{Combining, Job, Program}
-use Rattle.pg_model.specs.Publications.{Publication}
 use Rattle.pg_model.specs.Run.{answer}
 use Rattle.pg_model.specs.declared.run.Run.{Run}
-use Rattle.pg_service.specs.Answers.{Answered}
-use Rattle.pg_service.specs.Job.{ServiceJob, job_meant}
+use Rattle.pg_publish.specs.Answers.{Answered}
+use Rattle.pg_publish.specs.History.{Beginning}
+use Rattle.pg_service.specs.Job.{ServiceJob, job_meant, registered_by}
 use Rattle.pg_service.specs.Kept.{IsKept, KeptRun}
 use Rattle.pg_service.specs.Reported.{report_on}
-use Rattle.pg_service.specs.Service.{IsAnswered, IsRun, MayCount, MayReport, ServiceState, Stands, publication_of, report_of}
+use Rattle.pg_service.specs.Service.{IsAnswered, IsRun, MayCount, MayReport, ServiceState, Stands, entry_of, report_of, with_entry}
 use Rattle.pg_service.specs.declared.report.Report.{Report}
 use Rattle.pg_workers.specs.declared.counts.Counts.{Counts}
 
 module _ {R F : Type 0} where
-  -- a refusal, by its fault
-  pub refused_by : (Q : F → Type 0) (r : Result R F) → IsErrAnd r Q → IfErr r Q
-  refused_by Q (Ok report) h = tt
-  refused_by Q (Err fault) h = h
-
   pub refused_so : {X : Type 0} (r : Result R F) → X → OnErr r X
   refused_so (Ok report) h = tt
   refused_so (Err fault) h = h
 
-module _ {V M : Type 0} {program : Program V M} {combining : Option (Combining M)} {master : Master} {limits : Limits} {graph : Rows}
-    {edition : ℕ} {published : Option (Answered V)} {kept : Option (KeptRun V M)}
-    (stands : Stands program combining master limits graph edition published kept) where
-  -- what a service has still fits together where no run is kept
-  pub stands_alone : {none : Option (KeptRun V M)} {same : Rows} → none ≡ None → same ≡ graph
-      → Stands program combining master limits same edition published none
-  stands_alone {none = absent} none same =
-      subst (λ rows. Stands program combining master limits rows edition published absent) (sym same)
-      (subst (Stands program combining master limits graph edition published) (sym none)
-      (record { can_run = stands.can_run; answered = stands.answered; beside = tt }))
-
+module _ {V M : Type 0} {program : Program V M} {combining : Option (Combining M)} {master : Master} {limits : Limits} {names : Registered}
+    {graph : Rows} {edition : ℕ} {published : Option (Answered V)} {kept : Option (KeptRun V M)}
+    (stands : Stands program combining master limits names graph edition published kept) where
   abbrev Own : Job V M
   Own = job_of program combining master limits.missing limits.limit
 
-  -- and where the answer of its graph is published, and the run that gave it is kept
-  pub stands_refreshed : {run : Run V} {traces : Traces V M} {answers : Answered V} {left : KeptRun V M} {same : Rows}
-      → answers ≡ record { publication = record { edition = edition; answer = run }; registered = master.registrations }
+  -- what a service has fits together where the answer of its graph is published last, and the run that gave it is kept
+  pub stands_refreshed : {run : Run V} {traces : Traces V M} {answers : Answered V} {last : Option (Answered V)} {left : KeptRun V M} {same : Rows}
+      → answers ≡ record { publication = record { edition = edition; answer = run }; registered = names }
+      → last ≡ Some answers
       → left ≡ record { traces = traces; touched = [] }
       → run ≡ answer Own same → IsLeftBy Own same limits.partitions traces
-      → Stands program combining master limits same edition (Some answers) (Some left)
-  stands_refreshed {traces = traces} {same = same} answers left is_answer leaves = record {
+      → Stands program combining master limits names same edition last (Some left)
+  stands_refreshed {traces = traces} {same = same} answers last left is_answer leaves = record {
     can_run = stands.can_run;
-    answered = subst (IsAnswered Own master.registrations same edition) (sym answers)
-        (record { published = record { not_later = omega arith; is_answer = λ _. is_answer }; named = refl });
+    named = stands.named;
+    answered = subst (λ o. IfSome o (IsAnswered Own master.registrations same edition)) (sym last)
+        (subst (IsAnswered Own master.registrations same edition) (sym answers)
+        (record { published = record { not_later = omega arith; is_answer = λ _. is_answer }; named = stands.named }));
     beside = subst (IsKept Own limits.partitions same) (sym left) (record {
       left = subst (λ rows. IsLeftBy Own rows limits.partitions traces) (sym leaves.graph_is) leaves;
       untouched = λ q _. ap (row_at q) leaves.graph_is;
@@ -59,9 +50,9 @@ module _ {V M : Type 0} {program : Program V M} {combining : Option (Combining M
   -- and where another edition of the graph comes after, beside which the run is kept
   pub stands_later : {made : Rows} {later : ℕ} {beside : Option (KeptRun V M)}
       → later ≡ edition + 1 → IfSome beside (IsKept Own limits.partitions made)
-      → Stands program combining master limits made later published beside
+      → Stands program combining master limits names made later published beside
   stands_later {made = made} {later = later} next is_kept =
-      record { can_run = stands.can_run; answered = not_current published stands.answered; beside = is_kept }
+      record { can_run = stands.can_run; named = stands.named; answered = not_current published stands.answered; beside = is_kept }
     where
       not_current : (o : Option (Answered V)) → IfSome o (IsAnswered Own master.registrations graph edition)
           → IfSome o (IsAnswered Own master.registrations made later)
@@ -77,16 +68,27 @@ module _ {P C A V M : Type 0} (program_of : P → Program V M) (combining_of : C
   Meant = job_meant program_of combining_of master_of
 
   -- what it publishes and keeps
-  pub refreshed : (run : Run V) {publication : Publication V} {kept : Rows}
-      → publication ≡ record { edition = state.edition; answer = run } → run ≡ answer (Meant state.job) state.graph → kept ≡ state.graph
-      → record state { published = Some publication; kept = Some kept }
-      ≡ record old { published = Some (publication_of (Meant old.job) old.edition old.graph); kept = Some old.graph }
-  refreshed run publication is_answer kept =
+  pub refreshed : (run : Run V) {answers : Answered V} {told : Beginning (Answered V)} {readers : ℕ} {kept : Rows} {names : Registered}
+      → answers ≡ record { publication = record { edition = state.edition; answer = run }; registered = names }
+      → names ≡ registered_by master_of state.job
+      → told ≡ with_entry answers state.told → readers ≡ state.readers
+      → run ≡ answer (Meant state.job) state.graph → kept ≡ state.graph
+      → record state { told = told; readers = readers; kept = Some kept }
+      ≡ record old {
+        told = with_entry (entry_of (Meant old.job) (registered_by master_of old.job) old.edition old.graph) old.told;
+        kept = Some old.graph;
+      }
+  refreshed run answers names told readers is_answer kept =
       (λ i. record state {
-        published = Some ((publication ∙ ap (λ (answer : Run V). record { edition = state.edition; answer = answer }) is_answer) i);
+        told = (told ∙ ap (λ (a : Answered V). with_entry a state.told)
+            (answers ∙ (λ j. record { publication = record { edition = state.edition; answer = is_answer j }; registered = names j }))) i;
+        readers = readers i;
         kept = Some (kept i);
       })
-      ∙ ap (λ (s : ServiceState P C A V). record s { published = Some (publication_of (Meant s.job) s.edition s.graph); kept = Some s.graph }) is
+      ∙ ap (λ (s : ServiceState P C A V). record s {
+        told = with_entry (entry_of (Meant s.job) (registered_by master_of s.job) s.edition s.graph) s.told;
+        kept = Some s.graph;
+      }) is
 
   -- what it reports
   pub reported : (value_eq : V → V → Bool) (message_eq : M → M → Bool) (fated : ℕ → ℕ → ℕ → ℕ → Bool) (run : Run V) {left : Traces V M}

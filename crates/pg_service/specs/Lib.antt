@@ -1,4 +1,3 @@
-pub mod Answers
 pub mod Handed
 pub mod Job
 pub mod Kept

@@ -1,6 +1,7 @@
 -- What a service keeps, and what an edit and a refresh make of it.
 use Rattle.std.specs.Prelude.{◌≡◌, ◌⊎◌, ℕ, ◌<◌, ◌≤◌, Bool, false, ◌==◌, nat_lt, if◌then◌else◌}
-use Rattle.std.specs.Prelude.{List, [], length, replicate, Option, None, Some, IfSome, Result, Err}
+use Rattle.std.specs.Prelude.{List, [], ◌∷◌, ◌++◌, length, replicate, Option, None, Some, IfSome, option_map, Result, Err}
+use Rattle.logbook.specs.Pages.{Book}
 use Rattle.pg_workers.specs.Handed.{Event, IsLeftBy, Limits, Traces}
 use Rattle.pg_global.specs.Master.{Master, job_of}
 use Rattle.pg_graph.specs.Edit.{batch_edited, batch_limit}
@@ -16,7 +17,8 @@ use Rattle.pg_model.specs.Publications.{Publication}
 use Rattle.pg_model.specs.Run.{answer}
 use Rattle.pg_model.specs.Superstep.{capped}
 use Rattle.pg_model.specs.declared.run.Run.{Run}
-use Rattle.pg_service.specs.Answers.{Answered, HaveRisingIds}
+use Rattle.pg_publish.specs.Answers.{Answered, HaveRisingIds}
+use Rattle.pg_publish.specs.History.{Beginning, last_of}
 use Rattle.pg_service.specs.Job.{CanRun, ServiceJob}
 use Rattle.pg_service.specs.Kept.{IsKept, KeptRun}
 use Rattle.pg_service.specs.Reported.{counts_in, report_on}
@@ -27,18 +29,34 @@ use Rattle.pg_workers.specs.Driven.{AreCountsOf}
 use Rattle.pg_workers.specs.Losses.{AreFated}
 use Rattle.pg_workers.specs.declared.counts.Counts.{Counts}
 
--- what it runs, its graph with the number of batches that made it, what was published last, and the graph of the run
--- that the next one may reuse
+-- what it runs, its graph with the number of batches that made it, which publisher it has with all that was published, how
+-- many readers were made, and the graph of the run that the next one may reuse
 pub record ServiceState (P C A V : Type 0) : Type 0 where
   pub job : ServiceJob P C A
   pub graph : Rows
   pub edition : ℕ
-  pub published : Option (Publication V)
+  pub told : Beginning (Answered V)
+  pub readers : ℕ
   pub kept : Option Rows
 
--- a service as it begins: an empty graph, and nothing published or kept
-abbrev pub fresh : {P C A V : Type 0} → ServiceJob P C A → ServiceState P C A V
-fresh job = record { job = job; graph = []; edition = 0; published = None; kept = None }
+-- a service with this publisher as it begins: an empty graph, and nothing published or kept
+abbrev pub fresh : {P C A V : Type 0} → ServiceJob P C A → Book → ServiceState P C A V
+fresh job publisher = record {
+  job = job;
+  graph = [];
+  edition = 0;
+  told = record { publisher = publisher; list = [] };
+  readers = 0;
+  kept = None;
+}
+
+-- with one entry more
+abbrev pub with_entry : {E : Type 0} → E → Beginning E → Beginning E
+with_entry entry told = record told { list = told.list ++ entry ∷ [] }
+
+-- what was published last
+abbrev pub last_published : {V : Type 0} → List (Answered V) → Option (Publication V)
+last_published list = option_map (λ a. a.publication) (last_of list)
 
 -- no edition is greater
 abbrev pub edition_limit : ℕ
@@ -80,9 +98,12 @@ module _ {V M : Type 0} (job : Job V M) where
     pub published : IsPublished graph edition answers.publication
     pub named : answers.registered ≡ registered
 
-  -- what a refresh publishes
+  -- what a refresh publishes, with the names of its aggregates
   abbrev pub publication_of : ℕ → Rows → Publication V
   publication_of edition graph = record { edition = edition; answer = answer job graph }
+
+  abbrev pub entry_of : Registered → ℕ → Rows → Answered V
+  entry_of names edition graph = record { publication = publication_of edition graph; registered = names }
 
   module _ (value_eq : V → V → Bool) (message_eq : M → M → Bool) where
     -- how many executions a run needs beside the run on a graph that was kept, if any
@@ -134,12 +155,14 @@ module _ {V M : Type 0} (job : Job V M) where
     check_of edition graph published =
         if is_current edition published then Same (calls_of None graph) else Stale
 
--- what a service has fits together: its program can run with its master, what was published is of this
--- edition and the answer of its graph, or of an earlier edition, and the run that is kept was on a graph that differs at the noted ids alone
+-- what a service has fits together: its program can run with its master, whose aggregators have these names, what was
+-- published last is of this edition and the answer of its graph, or of an earlier edition, and the run that is kept was on a
+-- graph that differs at the noted ids alone
 pub record Stands {V M : Type 0} (program : Program V M) (combining : Option (Combining M)) (master : Master)
-    (limits : Limits) (graph : Rows) (edition : ℕ) (published : Option (Answered V))
+    (limits : Limits) (names : Registered) (graph : Rows) (edition : ℕ) (published : Option (Answered V))
     (kept : Option (KeptRun V M)) : Type 0 where
   pub can_run : CanRun program master
+  pub named : names ≡ master.registrations
   pub answered : IfSome published (IsAnswered (job_of program combining master limits.missing limits.limit)
       master.registrations graph edition)
   pub beside : IfSome kept (IsKept (job_of program combining master limits.missing limits.limit) limits.partitions

@@ -1,107 +1,11 @@
-//! What a refresh publishes, and what a check finds of it.
+//! What a check finds of what was published.
 ghost use Rattle.std.specs.Prelude.{◌≡◌};
 ghost use Rattle.std.specs.Bool.{Decides};
-ghost use Rattle.std.specs.Option.{option_copied};
-ghost use Rattle.pg_service.specs.Answers.{HaveRisingIds, aggregate_of, value_of};
 
-use pg_global::Registry;
-use pg_graph::{Edition, VertexId};
+use pg_graph::VertexId;
 use pg_model::Run;
 use pg_program::Plain;
-use std::marker::Model;
-
-/// What a refresh has published: the edition of the graph that it ran on, and the answer of the
-/// run, with its aggregates by name.
-pub struct Answers<V> {
-    edition: Edition,
-    run: Run<V>,
-    registry: Registry,
-}
-
-// By hand, so that it is let go by one call wherever that is, and not field by field.
-impl<V: Drop> Drop for Answers<V> {
-    fn drop(self) {
-        let Answers {
-            edition: _,
-            run: _,
-            registry: _,
-        } = self;
-    }
-}
-
-impl<V> Model for Answers<V> {
-    ghost use Rattle.pg_service.specs.Answers.{Answered, HaveRisingIds};
-
-    ghost Value = { Answered V };
-
-    ghost view = { λ a. record {
-      publication = record { edition = a.edition; answer = a.run };
-      registered = a.registry;
-    } };
-
-    ghost invariant = { λ a. HaveRisingIds a.run.values };
-}
-
-impl<V> Answers<V> {
-    /// The answer of the run on this edition of a graph. Its aggregates have the names of the
-    /// registry.
-    pub(crate) fn new(edition: Edition, run: Run<V>, registry: Registry) -> Answers<V>
-        requires { HaveRisingIds run.values }
-        ensures { result ≡ record {
-          publication = record { edition = edition; answer = run };
-          registered = registry;
-        } }
-    {
-        Answers {
-            edition,
-            run,
-            registry,
-        }
-    }
-
-    /// The edition of the graph that the run was made on.
-    pub fn edition(&self) -> Edition
-        ensures { result ≡ self.now.publication.edition }
-    {
-        self.edition
-    }
-
-    /// The value of each vertex, by rising id.
-    pub fn values(&self) -> &[(VertexId, V)]
-        ensures value { result.now ≡ self.now.publication.answer.values }
-        ensures rising { HaveRisingIds result.now }
-    {
-        self.run.values.as_slice()
-    }
-
-    /// The value of a vertex, found by halving.
-    pub fn value(&self, id: VertexId) -> Option<&V>
-        ensures { option_copied result ≡ value_of id self.now.publication.answer.values }
-    {
-        let values = self.values();
-        match values.binary_search_by_key(&id, |entry| entry.0) {
-            Ok(place) => Some(&values[place].1),
-            Err(_) => None,
-        }
-    }
-
-    /// The aggregate of this name. Costs what reading the name costs.
-    pub fn aggregate(&self, name: &str) -> Option<i64>
-        ensures { result
-            ≡ aggregate_of name.now self.now.registered self.now.publication.answer.aggregates }
-    {
-        let place = self.registry.place(name)?;
-        let aggregates = self.run.aggregates.as_slice();
-        aggregates.get(usize::from(place.number())).copied()
-    }
-
-    /// The answer of the run, with its aggregates by place.
-    pub fn run(&self) -> &Run<V>
-        ensures { result.now ≡ self.now.publication.answer }
-    {
-        &self.run
-    }
-}
+use pg_publish::Answers;
 
 /// Whether these are the answers of a run: its values, aggregates, ending and counts. The edition
 /// isn't looked at. Costs one walk over the values.

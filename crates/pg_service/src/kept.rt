@@ -6,9 +6,9 @@ ghost use Rattle.pg_graph.specs.Rows.{Rows};
 ghost use Rattle.pg_model.specs.Job.{Job};
 ghost use Rattle.pg_service.specs.Kept.{IsKept, sources};
 
-use pg_workers::Traces;
 use pg_graph::{Batch, Edit, Memory, VertexId};
 use pg_program::Plain;
+use pg_workers::Traces;
 use std::alloc::Global;
 use std::marker::Model;
 

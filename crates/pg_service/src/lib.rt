@@ -1,5 +1,5 @@
-//! The service: a graph that is kept with its edition, a job that runs on it, beside its last run, and the answers of
-//! the last refresh.
+//! The service: a graph that is kept with its edition, a job that runs on it, beside its last run, and the answers, which
+//! are published to readers in other threads.
 #![tactic(auto)]
 
 mod answers;
@@ -12,8 +12,9 @@ mod report;
 mod report_json;
 mod service;
 
-pub use answers::{Answers, Check, same};
-pub use laws::publications_are_answers;
+pub use answers::{Check, same};
+pub use laws::{looks_are_answers, publications_are_answers};
+pub use pg_publish::{AnswerReader, Answers, Look, Told};
 pub use pg_workers::{
     Cause, Fate, Gate, Limits, Loss, MemShelf, NoFate, NoGate, RefreshFault, Shelf, ShelfFault,
 };

@@ -1,19 +1,20 @@
 //! A refresh: the run on the graph as it stands, beside the last one.
-ghost use Rattle.std.specs.Prelude.{◌≡◌, ◌<◌, ◌+◌, ◌^◌, true, None, Some, option_map, IfOk, IfErr, IfSome, OnOk, OnErr};
+ghost use Rattle.std.specs.Prelude.{◌≡◌, ◌<◌, ◌+◌, ◌^◌, true, None, Some, length, option_map};
+ghost use Rattle.std.specs.Prelude.{IfOk, IfErr, IfSome, OnOk, OnErr};
 ghost use Rattle.pg_workers.specs.Handed.{IsCounted, IsOpened, IsRight, job_by};
-ghost use Rattle.pg_service.specs.Job.{job_meant};
+ghost use Rattle.pg_service.specs.Job.{job_meant, registered_by};
 ghost use Rattle.pg_service.specs.Kept.{IsKept};
-ghost use Rattle.pg_service.specs.Led.{RefreshLeadsOn};
-ghost use Rattle.pg_service.specs.Service.{IsRun, MayReport, publication_of};
+ghost use Rattle.pg_service.specs.Led.{LeadsOn};
+ghost use Rattle.pg_service.specs.Service.{IsRun, MayReport, entry_of, with_entry};
 ghost use Rattle.pg_workers.specs.Refused.{MayRefuse, is_failure};
 
 use crate::kept::KeptRun;
-use crate::registering::names;
 use crate::service::rises;
-use crate::{Answers, RefreshFault, Report, Service};
+use crate::{RefreshFault, Report, Service};
 use pg_global::{MasterCompute, MessageCombiner};
 use pg_graph::Memory;
 use pg_program::Computation;
+use pg_publish::Answers;
 use pg_workers::{Core, Counts, Fate, Finished, Gate, Shelf, run_job};
 use std::alloc::Global;
 use std::sync::Wait;
@@ -21,15 +22,16 @@ use std::thread::Threads;
 
 impl<P: Computation, C: MessageCombiner<P::Message>, M: MasterCompute> Service<P, C, M> {
     /// Runs the program on the graph as it stands, beside the last run where that is kept, on workers of which some may
-    /// fall, publishes the answer, and keeps what the run leaves. The answer is that of the run from scratch, whoever
-    /// fell. Where nobody fell, the calls of compute are as many as the vertices and supersteps whose inputs aren't those
-    /// of the kept run, at most 2^64 - 1. The shelf is where checkpoints are put; those of different refreshes don't meet.
+    /// fall, publishes the answer to readers, and keeps what the run leaves. The answer is that of the run from scratch,
+    /// whoever fell. Where nobody fell, the calls of compute are as many as the vertices and supersteps whose inputs aren't
+    /// those of the kept run, at most 2^64 - 1. The shelf is where checkpoints are put; those of different refreshes don't
+    /// meet. It waits for readers that still look at the publication before the last.
     ///
     /// # Errors
     ///
     /// `Memory` where a growth was refused outside of a worker's steps, `Device` where the shelf's device failed,
     /// `TooManyLosses` where more workers fell than may, and else `NoWorkers` where all of them did. Then no run is kept,
-    /// and the rest stays as it was.
+    /// and the rest stays as it was, what is published too.
     ///
     /// # Cost
     ///
@@ -54,25 +56,27 @@ impl<P: Computation, C: MessageCombiner<P::Message>, M: MasterCompute> Service<P
             IfOk result (MayReport job P.Value.PartialEq.eq P.Message.PartialEq.eq (F.fated fate.now)
             self.old.job.limits self.old.kept self.old.edition self.old.graph) }
         ensures published { let job = job_meant P.program C.combining M.master self.old.job in
+            let names = registered_by M.master self.old.job in
             OnOk result (self.new ≡ record self.old {
-              published = Some (publication_of job self.old.edition self.old.graph);
+              told = with_entry (entry_of job names self.old.edition self.old.graph) self.old.told;
               kept = Some self.old.graph;
             }) }
         ensures refused { IfErr result (MayRefuse (F.fated fate.now) self.old.job.limits) }
         ensures counted { IsCounted (S.state shelf.old) (is_failure result) (S.state shelf.new) }
         ensures err { OnErr result (self.new ≡ record self.old { kept = None }) }
         ensures leads { let job = job_meant P.program C.combining M.master self.old.job in
-            RefreshLeadsOn self.old.job job result self.old self.new }
+            LeadsOn self.old.job job (registered_by M.master self.old.job) self.old.told.publisher
+            self.old self.new }
     {
         drop(self.spent.take());
         let kept = self.kept.take();
         self.graph.settle(alloc);
         self.runs = self.runs.saturating_add(1);
-        let registry = names(alloc, &self.master)?;
         let (finished, counts) = self.run_beside(rt, alloc, kept, shelf, fate, gate)?;
         let (run, traces, spent) = finished;
         let report = Report::of(self.edition, &run, counts);
-        self.published = Some(Answers::new(self.edition, run, registry));
+        let answers = Answers::new(self.edition, run, &self.registry)?;
+        self.publisher.publish(rt, answers)?;
         self.kept = Some(KeptRun::new(alloc, traces));
         self.spent = Some(spent);
         Ok(report)
@@ -95,6 +99,8 @@ impl<P: Computation, C: MessageCombiner<P::Message>, M: MasterCompute> Service<P
         ensures ran { let job = job_meant P.program C.combining M.master self.now.job in
             IfOk result (λ r. IsRun job P.Value.PartialEq.eq P.Message.PartialEq.eq (F.fated fate.now)
             self.now.job.limits (option_map (λ k. k.traces.graph) kept) self.now.graph r.0.0 r.0.1 r.1) }
+        ensures named { IfOk result
+            (λ r. length r.0.0.aggregates ≡ length (registered_by M.master self.now.job)) }
         ensures refused { IfErr result (MayRefuse (F.fated fate.now) self.now.job.limits) }
         ensures counted { IsCounted (S.state shelf.old) (is_failure result) (S.state shelf.new) }
     {

@@ -1,33 +1,39 @@
-//! The service: a graph that is kept, the run that is kept beside it, and the answers of the last refresh.
-ghost use Rattle.std.specs.Prelude.{◌≡◌, ◌+◌, false, [], None, IsSome, option_map, Ok};
-ghost use Rattle.std.specs.Prelude.{IfOk, IfErr, IfSome, OnOk, OnErr, IsErrOf};
+//! The service: a graph that is kept, the run that is kept beside it, and the answers that were published.
+ghost use Rattle.std.specs.Prelude.{◌≡◌, ◌+◌, ◌<◌, false, [], None, IsSome, Ok};
+ghost use Rattle.std.specs.Prelude.{IfOk, IfErr, IfSome, MatchOption, OnOk, OnErr, IsErrOf};
 ghost use Rattle.std.specs.Option.{option_copied};
 ghost use Rattle.std.specs.String.{string_bytes};
 ghost use Rattle.pg_global.specs.Master.{is_registered};
 ghost use Rattle.pg_global.specs.Registry.{first_refusal};
 ghost use Rattle.pg_graph.specs.Rows.{HasRisingIds};
 ghost use Rattle.pg_model.specs.Run.{answer};
+ghost use Rattle.pg_publish.specs.History.{last_of};
 ghost use Rattle.pg_service.specs.Job.{job_meant, registered_by};
-ghost use Rattle.pg_service.specs.Led.{EditLeadsOn};
+ghost use Rattle.pg_service.specs.Led.{EditLeadsOn, LeadsOn};
 ghost use Rattle.pg_service.specs.Printed.{json_text};
-ghost use Rattle.pg_service.specs.Service.{RefusesEdition, calls_of, check_of, fresh, next_graph};
+ghost use Rattle.pg_service.specs.Service.{RefusesEdition, calls_of, check_of, fresh, last_published};
+ghost use Rattle.pg_service.specs.Service.{next_graph};
 
 use crate::kept::{KeptRun, note};
-use crate::registering::test;
+use crate::registering::registry_of;
 use crate::report_json::value_of_report;
-use crate::{Answers, Check, Limits, Report, same};
-use pg_global::{MasterCompute, MessageCombiner};
+use crate::{Check, Limits, Report, same};
+use pg_global::{MasterCompute, MessageCombiner, Registry};
 use pg_graph::{Batch, EditFault, EditKind, Edition, Graph, Memory};
 use pg_model::Run;
 use pg_program::{Computation, Meter};
+use pg_publish::{AnswerReader, Answers, Publisher, Told};
 use pg_scratch::{RunFault, run};
 use pg_workers::Spent;
 use std::alloc::{AllocError, Global};
 use std::marker::Model;
+use std::mem;
+use std::sync::{Arc, Wait};
 
-/// A service: a program with its combiner and its master, a graph with its edition, what was published last, what the
-/// last run left, beside which the next one runs, and what it had no more use for; and how many runs there were, which
-/// stops at 2^64 - 1.
+/// A service: a program with its combiner and its master, whose aggregators have names; a graph with its edition; the
+/// publisher of its answers; what the last run left, beside which the next one runs, and what it had no more use for; and
+/// how many runs there were, which stops at 2^64 - 1. It isn't `Drop`, since its publisher waits for readers: end it by
+/// `close`.
 pub struct Service<P: Computation, C: MessageCombiner<P::Message>, M: MasterCompute> {
     pub(crate) program: P,
     pub(crate) combiner: C,
@@ -35,33 +41,18 @@ pub struct Service<P: Computation, C: MessageCombiner<P::Message>, M: MasterComp
     pub(crate) limits: Limits,
     pub(crate) graph: Graph,
     pub(crate) edition: Edition,
-    pub(crate) published: Option<Answers<P::Value>>,
+    pub(crate) registry: Arc<Registry>,
+    pub(crate) publisher: Publisher<P::Value>,
     pub(crate) kept: Option<KeptRun<P::Value, P::Message>>,
     pub(crate) spent: Option<Spent<P::Value, P::Message>>,
     pub(crate) runs: u64,
 }
 
-// By hand, so that a service is let go by one call wherever that is, and not field by field.
-impl<P: Computation + Drop, C: MessageCombiner<P::Message> + Drop, M: MasterCompute + Drop> Drop
-    for Service<P, C, M> {
-    fn drop(self) {
-        let Service {
-            program: _,
-            combiner: _,
-            master: _,
-            limits: _,
-            graph: _,
-            edition: _,
-            published: _,
-            kept: _,
-            spent: _,
-            runs: _,
-        } = self;
-    }
-}
-
 impl<P: Computation, C: MessageCombiner<P::Message>, M: MasterCompute> Model for Service<P, C, M> {
+    ghost use Rattle.std.specs.Arc.{arc_value};
     ghost use Rattle.std.specs.Prelude.{option_map};
+    ghost use Rattle.pg_publish.specs.History.{last_of};
+    ghost use Rattle.pg_publish.specs.Sender.{told_of};
     ghost use Rattle.pg_service.specs.Service.{ServiceState, Stands};
 
     ghost Value = { ServiceState P C M P.Value };
@@ -70,22 +61,24 @@ impl<P: Computation, C: MessageCombiner<P::Message>, M: MasterCompute> Model for
       job = record { program = s.program; combiner = s.combiner; master = s.master; limits = s.limits };
       graph = s.graph;
       edition = s.edition;
-      published = option_map (λ a. a.publication) s.published;
+      told = told_of s.publisher;
+      readers = s.publisher.readers;
       kept = option_map (λ k. k.traces.graph) s.kept;
     } };
 
     ghost invariant = { λ s. Stands (P.program s.program) (C.combining s.combiner) (M.master s.master) s.limits
-        s.graph s.edition s.published s.kept };
+        (arc_value s.registry) s.graph s.edition (last_of s.publisher.list) s.kept };
 }
 
 impl<P: Computation, C: MessageCombiner<P::Message>, M: MasterCompute> Service<P, C, M> {
-    /// A service with an empty graph of edition 0, and nothing published.
+    /// A service with an empty graph of edition 0, nothing published, and places for 8 readers. It waits for nobody.
     ///
     /// # Errors
     ///
     /// The master's list of aggregators breaks the rules of registration, or the program has declared a place that
     /// isn't among them; or want of memory.
-    pub fn new(
+    pub fn new<R: Wait>(
+        rt: &R,
         alloc: Global,
         limits: Limits,
         program: P,
@@ -101,14 +94,15 @@ impl<P: Computation, C: MessageCombiner<P::Message>, M: MasterCompute> Service<P
           combiner = combiner;
           master = master;
           limits = limits;
-        })) }
+        }) service.told.publisher) }
         ensures register { IsErrOf result RunFault.Register
             → IsSome (first_refusal [] (M.master master).registrations) }
         ensures unregistered { IsErrOf result RunFault.Unregistered
             → (first_refusal [] (M.master master).registrations ≡ None)
             × (is_registered (P.program program) (M.master master) ≡ false) }
     {
-        test(alloc, &program, &master)?;
+        let registry = registry_of(alloc, &program, &master)?;
+        let publisher = Publisher::new(rt, alloc)?;
         Ok(Service {
             program,
             combiner,
@@ -116,7 +110,8 @@ impl<P: Computation, C: MessageCombiner<P::Message>, M: MasterCompute> Service<P
             limits,
             graph: Graph::new(alloc),
             edition: Edition::new(0),
-            published: None,
+            registry,
+            publisher,
             kept: None,
             spent: None,
             runs: 0,
@@ -137,14 +132,36 @@ impl<P: Computation, C: MessageCombiner<P::Message>, M: MasterCompute> Service<P
         self.edition
     }
 
-    /// What was published last.
+    /// What was published last; none before the first refresh.
     pub fn answers(&self) -> Option<&Answers<P::Value>>
-        ensures published { option_map (λ a. a.publication) (option_copied result)
-            ≡ self.now.published }
+        ensures last { option_copied result ≡ last_of self.now.told.list }
         ensures named { IfSome (option_copied result)
             (λ a. a.registered ≡ registered_by M.master self.now.job) }
     {
-        self.published.as_ref()
+        self.publisher.last()
+    }
+
+    /// A reader, for any thread, who looks at what is published and waits for nobody. None after the eighth, also where
+    /// one was dropped, or where there is no place for it. A look that is kept has a refresh wait before it publishes a
+    /// second time after it.
+    pub fn reader(&mut self) -> Option<AnswerReader<P::Value>>
+        ensures made { MatchOption result
+            (self.new ≡ self.old)
+            (λ r. (self.old.readers < 8)
+            × (self.new ≡ record self.old { readers = self.old.readers + 1 })
+            × (r ≡ self.old.told)) }
+        ensures leads { let job = job_meant P.program C.combining M.master self.old.job in
+            LeadsOn self.old.job job (registered_by M.master self.old.job) self.old.told.publisher
+            self.old self.new }
+    {
+        self.publisher.reader()
+    }
+
+    /// What is published so far. A reader that learns of it looks at no less from then on.
+    pub fn tell(&self) -> Told<P::Value>
+        ensures { result ≡ self.now.told }
+    {
+        self.publisher.tell()
     }
 
     /// Applies a batch, all of it or none, and gives the edition that it makes, which is one more than the one before,
@@ -168,7 +185,8 @@ impl<P: Computation, C: MessageCombiner<P::Message>, M: MasterCompute> Service<P
         ensures refused { IfErr result (RefusesEdition self.old.edition self.old.graph batch.now) }
         ensures err { OnErr result (self.new ≡ self.old) }
         ensures leads { let job = job_meant P.program C.combining M.master self.old.job in
-            EditLeadsOn self.old.job job batch.now result self.old self.new }
+            EditLeadsOn self.old.job job (registered_by M.master self.old.job) self.old.told.publisher
+            batch.now result self.old self.new }
     {
         let Some(number) = self.edition.number().checked_add(1) else {
             return Err(NO_EDITION_LEFT);
@@ -205,7 +223,7 @@ impl<P: Computation, C: MessageCombiner<P::Message>, M: MasterCompute> Service<P
     pub fn check(&self, alloc: Global) -> Result<Check, Memory>
         ensures { let job = job_meant P.program C.combining M.master self.now.job in
             IfOk result (λ check. check ≡ check_of job P.Value.PartialEq.eq P.Message.PartialEq.eq
-            self.now.edition self.now.graph self.now.published) }
+            self.now.edition self.now.graph (last_published self.now.told.list)) }
     {
         let Some(answers) = self.answers() else {
             return Ok(Check::Stale);
@@ -230,6 +248,54 @@ impl<P: Computation, C: MessageCombiner<P::Message>, M: MasterCompute> Service<P
     {
         let value = value_of_report(alloc, report)?;
         value.to_string(alloc)
+    }
+
+    /// Ends the service: its publisher, once nobody looks any more, and all that it keeps. Readers look no more after that.
+    pub fn close<R: Wait>(self, rt: &R)
+    where
+        P: Drop,
+        C: Drop,
+        M: Drop,
+    {
+        let Service {
+            program: _,
+            combiner: _,
+            master: _,
+            limits: _,
+            graph: _,
+            edition: _,
+            registry: _,
+            publisher,
+            kept: _,
+            spent: _,
+            runs: _,
+        } = self;
+        publisher.close(rt);
+    }
+
+    /// Ends the service as `close` does, and leaves the memory of what it keeps to the process. To let go of all that a
+    /// long session holds takes time, which a process that ends can save.
+    pub fn leave<R: Wait>(self, rt: &R)
+    where
+        P: Drop,
+        C: Drop,
+        M: Drop,
+    {
+        let Service {
+            program: _,
+            combiner: _,
+            master: _,
+            limits: _,
+            graph,
+            edition: _,
+            registry: _,
+            publisher,
+            kept,
+            spent,
+            runs: _,
+        } = self;
+        mem::forget((graph, kept, spent));
+        publisher.close(rt);
     }
 
     /// The run from scratch on the graph as it stands, with the number of calls of compute.

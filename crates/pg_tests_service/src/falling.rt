@@ -1,6 +1,6 @@
 // Refreshes on workers that fall, with checkpoints. All was found by hand.
 use crate::fates::{AllFall, FateAt};
-use crate::hops::{Line, commit, limits_of, refreshed, told_on, two_hops};
+use crate::hops::{Line, Paths, accepted, limits_of, refreshed, told_on, two_hops};
 use crate::shelves::{NthShelf, ShortShelf};
 use pg_service::{Fate, Limits, MemShelf, NoFate};
 use std::alloc::Global;
@@ -24,9 +24,11 @@ fn first<R: Threads + Wait + Sync, F: Fate>(
     limits: Limits,
     fate: &F,
 ) -> Result<String, Fail> {
-    let mut service = two_hops(alloc, limits)?;
+    let mut service = two_hops(rt, alloc, limits)?;
     let mut shelf = MemShelf::new(alloc);
-    told_on(rt, alloc, &mut service, &mut shelf, fate)
+    let told = told_on(rt, alloc, &mut service, &mut shelf, fate);
+    service.close(rt);
+    told
 }
 
 // Without a checkpoint the partition begins anew; with one it goes on from there.
@@ -49,11 +51,12 @@ fn a_worker_falls(rt: HostRuntime) -> Result<(), Fail> {
 #[test]
 fn short_checkpoints_are_of_no_use(rt: HostRuntime) -> Result<(), Fail> {
     let alloc = rt.alloc();
-    let mut service = two_hops(alloc, limits_of(3, 2, 1, 16)?)?;
+    let mut service = two_hops(&rt, alloc, limits_of(3, 2, 1, 16)?)?;
     let mut shelf = ShortShelf::new(alloc);
-    let told = told_on(&rt, alloc, &mut service, &mut shelf, &FALLS_ONCE)?;
+    let told = told_on(&rt, alloc, &mut service, &mut shelf, &FALLS_ONCE);
+    service.close(&rt);
     assert_eq!(rt;
-        told.as_str(),
+        told?.as_str(),
         "calls 6 supersteps 3 steps of 1 4 losses (1 1 fate); of 1: 1=0 2=5 3=6\n"
     );
     Ok(())
@@ -61,10 +64,13 @@ fn short_checkpoints_are_of_no_use(rt: HostRuntime) -> Result<(), Fail> {
 
 // What refreshes tell of a shortcut beside two hops, where worker 0 of two falls once it has stepped partition 2 from
 // superstep 0, and of an empty batch after it.
-fn shortcut<R: Threads + Wait + Sync>(rt: &R, alloc: Global) -> Result<(String, String), Fail> {
-    let mut service = two_hops(alloc, limits_of(3, 2, 0, 16)?)?;
-    let _first = refreshed(rt, alloc, &mut service)?;
-    commit(alloc, &mut service, &[Line::Edge(1, 3, 2)])?.map_err(|_| "a batch that is refused")?;
+fn shortcut<R: Threads + Wait + Sync>(
+    rt: &R,
+    alloc: Global,
+    service: &mut Paths,
+) -> Result<(String, String), Fail> {
+    let _first = refreshed(rt, alloc, service)?;
+    accepted(alloc, service, &[Line::Edge(1, 3, 2)])?;
     let fate = FateAt {
         superstep: 0,
         attempt: 0,
@@ -72,15 +78,19 @@ fn shortcut<R: Threads + Wait + Sync>(rt: &R, alloc: Global) -> Result<(String, 
         partition: 2,
     };
     let mut shelf = MemShelf::new(alloc);
-    let told = told_on(rt, alloc, &mut service, &mut shelf, &fate)?;
-    commit(alloc, &mut service, &[])?.map_err(|_| "a batch that is refused")?;
-    let again = told_on(rt, alloc, &mut service, &mut shelf, &NoFate)?;
+    let told = told_on(rt, alloc, service, &mut shelf, &fate)?;
+    accepted(alloc, service, &[])?;
+    let again = told_on(rt, alloc, service, &mut shelf, &NoFate)?;
     Ok((told, again))
 }
 
 #[test]
 fn a_worker_falls_beside_a_kept_run(rt: HostRuntime) -> Result<(), Fail> {
-    let (told, again) = shortcut(&rt, rt.alloc())?;
+    let alloc = rt.alloc();
+    let mut service = two_hops(&rt, alloc, limits_of(3, 2, 0, 16)?)?;
+    let found = shortcut(&rt, alloc, &mut service);
+    service.close(&rt);
+    let (told, again) = found?;
     assert_eq!(rt;
         told.as_str(),
         "calls 6 supersteps 3 losses (0 0 fate); of 2: 1=0 2=5 3=2\n"
@@ -92,18 +102,17 @@ fn a_worker_falls_beside_a_kept_run(rt: HostRuntime) -> Result<(), Fail> {
     Ok(())
 }
 
-// What a refresh of a shortcut tells that is refused, with what stays published, and the next one.
+// What a refresh of two hops tells that is refused, with what stays published, and the next one.
 fn refused<R: Threads + Wait + Sync>(
     rt: &R,
     alloc: Global,
-    max_losses: u32,
+    service: &mut Paths,
 ) -> Result<(String, String), Fail> {
-    let mut service = two_hops(alloc, limits_of(3, 2, 0, max_losses)?)?;
-    let _first = refreshed(rt, alloc, &mut service)?;
-    commit(alloc, &mut service, &[])?.map_err(|_| "a batch that is refused")?;
+    let _first = refreshed(rt, alloc, service)?;
+    accepted(alloc, service, &[])?;
     let mut shelf = MemShelf::new(alloc);
-    let told = told_on(rt, alloc, &mut service, &mut shelf, &AllFall)?;
-    let next = told_on(rt, alloc, &mut service, &mut shelf, &NoFate)?;
+    let told = told_on(rt, alloc, service, &mut shelf, &AllFall)?;
+    let next = told_on(rt, alloc, service, &mut shelf, &NoFate)?;
     Ok((told, next))
 }
 
@@ -122,7 +131,10 @@ fn a_refresh_is_refused(rt: HostRuntime) -> Result<(), Fail> {
         ),
     ];
     for (max_losses, wanted) in rows {
-        let (told, next) = refused(&rt, alloc, max_losses)?;
+        let mut service = two_hops(&rt, alloc, limits_of(3, 2, 0, max_losses)?)?;
+        let found = refused(&rt, alloc, &mut service);
+        service.close(&rt);
+        let (told, next) = found?;
         assert_eq!(rt; told.as_str(), wanted);
         assert_eq!(rt;
             next.as_str(),
@@ -133,17 +145,29 @@ fn a_refresh_is_refused(rt: HostRuntime) -> Result<(), Fail> {
 }
 
 // What a second refresh tells whose shelf's device fails at this call, where worker 1 falls once, and the one after it.
+fn beside_failing<R: Threads + Wait + Sync>(
+    rt: &R,
+    alloc: Global,
+    service: &mut Paths,
+    call: u64,
+) -> Result<(String, u64, String), Fail> {
+    let _first = refreshed(rt, alloc, service)?;
+    accepted(alloc, service, &[Line::Edge(1, 3, 2)])?;
+    let mut shelf = NthShelf::new(alloc, call);
+    let told = told_on(rt, alloc, service, &mut shelf, &FALLS_ONCE)?;
+    Ok((told, shelf.calls(), refreshed(rt, alloc, service)?))
+}
+
+// The same of a service of its own.
 fn failing<R: Threads + Wait + Sync>(
     rt: &R,
     alloc: Global,
     call: u64,
 ) -> Result<(String, u64, String), Fail> {
-    let mut service = two_hops(alloc, limits_of(3, 2, 1, 16)?)?;
-    let _first = refreshed(rt, alloc, &mut service)?;
-    commit(alloc, &mut service, &[Line::Edge(1, 3, 2)])?.map_err(|_| "a batch that is refused")?;
-    let mut shelf = NthShelf::new(alloc, call);
-    let told = told_on(rt, alloc, &mut service, &mut shelf, &FALLS_ONCE)?;
-    Ok((told, shelf.calls(), refreshed(rt, alloc, &mut service)?))
+    let mut service = two_hops(rt, alloc, limits_of(3, 2, 1, 16)?)?;
+    let found = beside_failing(rt, alloc, &mut service, call);
+    service.close(rt);
+    found
 }
 
 // Three partitions are saved before superstep 1 and again before superstep 2, and one is looked for in between.
@@ -157,7 +181,10 @@ fn the_device_fails(rt: HostRuntime) -> Result<(), Fail> {
         assert_eq!(rt; next.as_str(), "calls 6 supersteps 3 losses");
     }
     let (told, calls, next) = failing(&rt, alloc, 8)?;
-    assert!(rt; told.as_str().ends_with(" losses (1 1 fate); of 2: 1=0 2=5 3=2\n"));
+    assert!(rt;
+        told.as_str()
+            .ends_with(" losses (1 1 fate); of 2: 1=0 2=5 3=2\n")
+    );
     assert_eq!(rt; calls, 7);
     assert_eq!(rt; next.as_str(), "calls 0 supersteps 3 losses");
     Ok(())

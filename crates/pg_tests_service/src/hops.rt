@@ -8,8 +8,9 @@ use pg_graph::{Batch, Edit, EditKind, Graph, Memory, Missing, VertexId};
 use pg_program::{Computation, Meter, Plain};
 use pg_ready::{ReadyMaster, ReadyProgram, Sssp};
 use pg_scratch::run;
-use pg_service::{Cause, Fate, Limits, Loss, MemShelf, NoFate, NoGate, RefreshFault, Report, Service};
-use pg_service::{Shelf, same};
+use pg_service::{
+    Cause, Fate, Limits, Loss, MemShelf, NoFate, NoGate, RefreshFault, Report, Service, Shelf, same,
+};
 use std::alloc::Global;
 use std::fmt::Write;
 use std::sync::Wait;
@@ -41,23 +42,27 @@ pub(crate) fn limits_of(
     Ok(Limits::new(partitions, workers, 1_000, every, max_losses).ok_or("limits")?)
 }
 
+// A service, which is ended by `close`.
 pub(crate) fn service_of<
+    R: Wait,
     P: Computation + Drop,
     C: MessageCombiner<P::Message> + Drop,
     M: MasterCompute + Drop,
 >(
+    rt: &R,
     alloc: Global,
     limits: Limits,
     program: P,
     combiner: C,
     master: M,
 ) -> Result<Service<P, C, M>, Fail> {
-    Ok(Service::new(alloc, limits, program, combiner, master)?)
+    Ok(Service::new(rt, alloc, limits, program, combiner, master)?)
 }
 
 // A service with these limits, with nothing in its graph.
-pub(crate) fn empty(alloc: Global, limits: Limits) -> Result<Paths, Fail> {
+pub(crate) fn empty<R: Wait>(rt: &R, alloc: Global, limits: Limits) -> Result<Paths, Fail> {
     service_of(
+        rt,
         alloc,
         limits,
         program()?,
@@ -98,7 +103,9 @@ fn edit<P: Computation, C: MessageCombiner<P::Message>, M: MasterCompute>(
     alloc: Global,
     service: &mut Service<P, C, M>,
     batch: &Batch,
-) -> Result<u64, (u64, EditKind)> {
+) -> Result<u64, (u64, EditKind)>
+    ensures { service.new.told ≡ service.old.told }
+{
     match service.edit(alloc, batch) {
         Ok(edition) => Ok(edition.number()),
         Err(fault) => Err((fault.position, fault.kind)),
@@ -110,9 +117,21 @@ pub(crate) fn commit(
     alloc: Global,
     service: &mut Paths,
     lines: &[Line],
-) -> Result<Result<u64, (u64, EditKind)>, Fail> {
+) -> Result<Result<u64, (u64, EditKind)>, Fail>
+    ensures { service.new.told ≡ service.old.told }
+{
     let batch = batch_of(alloc, lines)?;
     Ok(edit(alloc, service, &batch))
+}
+
+// The same of a batch that isn't to be refused.
+pub(crate) fn accepted(alloc: Global, service: &mut Paths, lines: &[Line]) -> Result<u64, Fail>
+    ensures { service.new.told ≡ service.old.told }
+{
+    match commit(alloc, service, lines)? {
+        Ok(edition) => Ok(edition),
+        Err(_) => Err(Fail::from("a batch that is refused")),
+    }
 }
 
 pub(crate) const TWO_HOPS: [Line; 5] = [
@@ -124,10 +143,15 @@ pub(crate) const TWO_HOPS: [Line; 5] = [
 ];
 
 // A service with the edges from 1 to 2, of weight 5, and from 2 to 3, of weight 1.
-pub(crate) fn two_hops(alloc: Global, limits: Limits) -> Result<Paths, Fail> {
-    let mut service = empty(alloc, limits)?;
-    commit(alloc, &mut service, &TWO_HOPS)?.map_err(|_| "a batch that is refused")?;
-    Ok(service)
+pub(crate) fn two_hops<R: Wait>(rt: &R, alloc: Global, limits: Limits) -> Result<Paths, Fail> {
+    let mut service = empty(rt, alloc, limits)?;
+    match accepted(alloc, &mut service, &TWO_HOPS) {
+        Ok(_) => Ok(service),
+        Err(fail) => {
+            service.close(rt);
+            Err(fail)
+        }
+    }
 }
 
 // A worker that fell, the superstep in which it did, and why.
@@ -151,7 +175,11 @@ fn tell_losses(text: &mut String, losses: &[Loss]) -> Result<(), Memory> {
 // What a report tells: calls of compute, supersteps, the steps of each partition where they aren't as many, and the
 // workers that fell.
 fn tell_report(text: &mut String, report: &Report) -> Result<(), Memory> {
-    write!(text, "calls {} supersteps {}", report.calls, report.supersteps)?;
+    write!(
+        text,
+        "calls {} supersteps {}",
+        report.calls, report.supersteps
+    )?;
     let supersteps = u64::from(report.supersteps);
     for (partition, made) in report.steps.as_slice().iter().enumerate() {
         if *made != supersteps {
@@ -206,11 +234,7 @@ pub(crate) fn refreshed<
     P: Computation,
     C: MessageCombiner<P::Message>,
     M: MasterCompute,
->(
-    rt: &R,
-    alloc: Global,
-    service: &mut Service<P, C, M>,
-) -> Result<String, Fail> {
+>(rt: &R, alloc: Global, service: &mut Service<P, C, M>) -> Result<String, Fail> {
     let mut shelf = MemShelf::new(alloc);
     refreshed_on(rt, alloc, service, &mut shelf, &NoFate)
 }
@@ -246,22 +270,34 @@ pub(crate) fn told_on<R: Threads + Wait + Sync, S: Shelf, F: Fate>(
     Ok(text)
 }
 
-// The same of refreshes of a service with these limits, each after a batch, with nobody made to fall.
+// The same of a refresh after each of these batches, with nobody made to fall.
+fn told_after_each<R: Threads + Wait + Sync>(
+    rt: &R,
+    alloc: Global,
+    service: &mut Paths,
+    batches: &[&[Line]],
+) -> Result<String, Fail> {
+    let mut text = String::new(alloc);
+    for lines in batches {
+        accepted(alloc, service, lines)?;
+        let mut shelf = MemShelf::new(alloc);
+        let told = told_on(rt, alloc, service, &mut shelf, &NoFate)?;
+        text.push_str(told.as_str())?;
+    }
+    Ok(text)
+}
+
+// The same of a service with these limits.
 pub(crate) fn told<R: Threads + Wait + Sync>(
     rt: &R,
     alloc: Global,
     limits: Limits,
     batches: &[&[Line]],
 ) -> Result<String, Fail> {
-    let mut text = String::new(alloc);
-    let mut service = empty(alloc, limits)?;
-    for lines in batches {
-        commit(alloc, &mut service, lines)?.map_err(|_| "a batch that is refused")?;
-        let mut shelf = MemShelf::new(alloc);
-        let told = told_on(rt, alloc, &mut service, &mut shelf, &NoFate)?;
-        text.push_str(told.as_str())?;
-    }
-    Ok(text)
+    let mut service = empty(rt, alloc, limits)?;
+    let told = told_after_each(rt, alloc, &mut service, batches);
+    service.close(rt);
+    told
 }
 
 // Whether what a service has published is what a run from scratch of its job finds on a graph.

@@ -5,11 +5,15 @@
 #![tactic(auto)]
 
 #[cfg(test)]
-mod fates;
-#[cfg(test)]
 mod falling;
 #[cfg(test)]
+mod fates;
+#[cfg(test)]
+mod gates;
+#[cfg(test)]
 mod hops;
+#[cfg(test)]
+mod publishing;
 #[cfg(test)]
 mod rows;
 #[cfg(test)]

@@ -1,5 +1,7 @@
 // What a service has published, beside runs from scratch. All was found by hand.
-use crate::hops::{Line, Paths, TWO_HOPS, commit, is_run_of, limits_of, refreshed, told, two_hops};
+use crate::hops::{
+    Line, Paths, TWO_HOPS, accepted, is_run_of, limits_of, refreshed, told, two_hops,
+};
 use pg_graph::Missing;
 use std::alloc::Global;
 use std::process::Abort;
@@ -31,9 +33,10 @@ fn beside_runs<R: Threads + Wait + Sync>(
 #[test]
 fn the_same_as_a_run_of_its_graph_alone(rt: HostRuntime) -> Result<(), Fail> {
     let alloc = rt.alloc();
-    let mut service = two_hops(alloc, limits_of(2, 1, 0, 0)?)?;
-    let found = beside_runs(&rt, alloc, &mut service)?;
-    assert_eq!(rt; found, (true, false));
+    let mut service = two_hops(&rt, alloc, limits_of(2, 1, 0, 0)?)?;
+    let found = beside_runs(&rt, alloc, &mut service);
+    service.close(&rt);
+    assert_eq!(rt; found?, (true, false));
     Ok(())
 }
 
@@ -88,7 +91,7 @@ fn beside_refused<R: Threads + Wait + Sync>(
     service: &mut Paths,
 ) -> Result<(String, String), Fail> {
     let _told = refreshed(rt, alloc, service)?;
-    commit(alloc, service, &[Line::Edge(1, 3, 2)])?.map_err(|_| "a batch that is refused")?;
+    accepted(alloc, service, &[Line::Edge(1, 3, 2)])?;
     let first = refreshed(rt, alloc, service)?;
     Ok((first, refreshed(rt, alloc, service)?))
 }
@@ -98,8 +101,10 @@ fn beside_refused<R: Threads + Wait + Sync>(
 #[test]
 fn a_refused_refresh_keeps_no_run(rt: HostRuntime) -> Result<(), Fail> {
     let alloc = rt.alloc();
-    let mut service = two_hops(alloc, limits_of(2, 1, 0, 0)?)?;
-    let (first, next) = beside_refused(&rt, alloc, &mut service)?;
+    let mut service = two_hops(&rt, alloc, limits_of(2, 1, 0, 0)?)?;
+    let found = beside_refused(&rt, alloc, &mut service);
+    service.close(&rt);
+    let (first, next) = found?;
     if first.as_str().starts_with("refused ") {
         assert_eq!(rt; next.as_str(), "calls 6 supersteps 3 losses");
     } else {

@@ -1,10 +1,10 @@
 // Refreshes whose workers want memory: one falls as a call of compute is refused it, and the others go on.
-use crate::hops::{TWO_HOPS, batch_of, limits_of, master, program, refreshed, service_of};
-use pg_global::AnyCombiner;
+use crate::hops::{Line, TWO_HOPS, batch_of, limits_of, master, program, refreshed, service_of};
+use pg_global::{AnyCombiner, MasterCompute, MessageCombiner};
 use pg_graph::{Memory, VertexId};
 use pg_model::Declared;
 use pg_program::{Computation, Cx, Vertex};
-use pg_service::Limits;
+use pg_service::{Limits, Service};
 use std::alloc::{AllocError, Global};
 use std::process::Abort;
 use std::sync::Wait;
@@ -12,13 +12,19 @@ use std::sync::atomic::{AtomicU64, Ordering};
 use std::test::Fail;
 use std::thread::Threads;
 
-// A program that does what another does, but wants memory at one of its calls, by number from 0 on.
+// A program that does what another does, but wants memory at one of its calls, and as one of its vertices begins, both by
+// number from 0 on.
 #[derive(Drop)]
 struct Starving<P> {
     inner: P,
     at: u64,
     calls: AtomicU64,
+    beginning: u64,
+    begun: AtomicU64,
 }
+
+// No call and no vertex has this number.
+const NONE: u64 = u64::MAX;
 
 impl<P: Computation> Computation for Starving<P> {
     type Value = P::Value;
@@ -32,6 +38,9 @@ impl<P: Computation> Computation for Starving<P> {
     }
 
     fn initial(&self, alloc: Global, id: VertexId, input: i64) -> Result<P::Value, Memory> {
+        if self.begun.fetch_add(1, Ordering::SeqCst) == self.beginning {
+            return Err(AllocError);
+        }
         self.inner.initial(alloc, id, input)
     }
 
@@ -49,7 +58,22 @@ impl<P: Computation> Computation for Starving<P> {
     }
 }
 
-// What a first refresh of the shortest paths on two hops tells that wants memory at one of its calls, and the next one.
+// What a first refresh of two hops tells, and the next one.
+fn refreshed_twice<
+    R: Threads + Wait + Sync,
+    P: Computation,
+    C: MessageCombiner<P::Message>,
+    M: MasterCompute,
+>(rt: &R, alloc: Global, service: &mut Service<P, C, M>) -> Result<(String, String), Fail> {
+    let batch = batch_of(alloc, &TWO_HOPS)?;
+    service
+        .edit(alloc, &batch)
+        .map_err(|_| "a batch that is refused")?;
+    let first = refreshed(rt, alloc, service)?;
+    Ok((first, refreshed(rt, alloc, service)?))
+}
+
+// The same of the shortest paths where the first refresh wants memory at one of its calls.
 fn starved<R: Threads + Wait + Sync>(
     rt: &R,
     alloc: Global,
@@ -60,12 +84,58 @@ fn starved<R: Threads + Wait + Sync>(
         inner: program()?,
         at,
         calls: AtomicU64::new(0),
+        beginning: NONE,
+        begun: AtomicU64::new(0),
     };
-    let mut service = service_of(alloc, limits, starving, AnyCombiner::NoCombiner, master()?)?;
-    let batch = batch_of(alloc, &TWO_HOPS)?;
-    service.edit(alloc, &batch).map_err(|_| "a batch that is refused")?;
-    let first = refreshed(rt, alloc, &mut service)?;
-    Ok((first, refreshed(rt, alloc, &mut service)?))
+    let none = AnyCombiner::NoCombiner;
+    let mut service = service_of(rt, alloc, limits, starving, none, master()?)?;
+    let told = refreshed_twice(rt, alloc, &mut service);
+    service.close(rt);
+    told
+}
+
+// What refreshes of two hops tell: the first, one after a vertex was added, and the next one.
+fn refreshed_thrice<
+    R: Threads + Wait + Sync,
+    P: Computation,
+    C: MessageCombiner<P::Message>,
+    M: MasterCompute,
+>(rt: &R, alloc: Global, service: &mut Service<P, C, M>) -> Result<[String; 3], Fail> {
+    service
+        .edit(alloc, &batch_of(alloc, &TWO_HOPS)?)
+        .map_err(|_| "a batch that is refused")?;
+    let first = refreshed(rt, alloc, service)?;
+    service
+        .edit(alloc, &batch_of(alloc, &[Line::Vertex(4)])?)
+        .map_err(|_| "a batch that is refused")?;
+    let second = refreshed(rt, alloc, service)?;
+    Ok([first, second, refreshed(rt, alloc, service)?])
+}
+
+// The same of the shortest paths where memory is wanted as the vertex that was added begins.
+fn starved_beside<R: Threads + Wait + Sync>(rt: &R, alloc: Global) -> Result<[String; 3], Fail> {
+    let starving = Starving {
+        inner: program()?,
+        at: NONE,
+        calls: AtomicU64::new(0),
+        beginning: 3,
+        begun: AtomicU64::new(0),
+    };
+    let none = AnyCombiner::NoCombiner;
+    let mut service = service_of(rt, alloc, limits_of(2, 1, 0, 0)?, starving, none, master()?)?;
+    let told = refreshed_thrice(rt, alloc, &mut service);
+    service.close(rt);
+    told
+}
+
+// A refresh that is refused keeps no run, and the next one calls all.
+#[test]
+fn a_refresh_beside_a_kept_run_wants_memory(rt: HostRuntime) -> Result<(), Fail> {
+    let [first, second, third] = starved_beside(&rt, rt.alloc())?;
+    assert_eq!(rt; first.as_str(), "calls 5 supersteps 3 losses");
+    assert_eq!(rt; second.as_str(), "refused 1");
+    assert_eq!(rt; third.as_str(), "calls 6 supersteps 3 losses");
+    Ok(())
 }
 
 // Superstep 0 takes three calls, and the next ones one each.

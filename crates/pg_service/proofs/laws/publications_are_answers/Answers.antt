@@ -2,4 +2,4 @@ use Rattle.pg_service.proofs.Leading.{follows}
 use Rattle.pg_service.proofs.laws.publications_are_answers.Goals as goal
 
 pub returns : goal.returns
-returns g c own job batches published state led = follows own job batches published state led
+returns g c = follows

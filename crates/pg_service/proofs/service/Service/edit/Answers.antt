@@ -1,16 +1,19 @@
 use Rattle.std.proofs.Common.{rules, ◌≡◌, ◌+◌, ap, sym, subst, ◌∙◌, arith}
 use Rattle.std.proofs.lemmas.Result.{IfOk-from_err}
+use Rattle.std.specs.Arc.{arc_value}
+use Rattle.pg_publish.specs.History.{last_of}
 use Rattle.pg_service.specs.Service.{Stands, next_graph}
 use Rattle.pg_service.proofs.Leading.{edit_accepted, edit_refused}
 use Rattle.pg_service.proofs.Refreshed.{refused_so, stands_later}
 use Rattle.pg_service.proofs.service.Service.edit.Goals as goal
 
 pub returns-in_default-clause-leads : goal.returns-in_default-clause-leads
-returns-in_default-clause-leads g c batches published led = led
+returns-in_default-clause-leads g c batches led = led
 
 pub invariant_of-self : goal.invariant_of-self
 invariant_of-self g c = record {
   can_run = c.self.invariant.can_run;
+  named = c.self.invariant.named;
   answered = c.self.invariant.answered;
   beside = c.note.ensures.before _ _ _ c.self.invariant.beside;
 }
@@ -30,9 +33,9 @@ returns-in_err-note-clause-err g c =
     (λ i. record (c.self.view_is i) { kept = (c.note.ensures.graph ∙ ap (λ s. s.kept) c.self.view_is) i })
 
 pub returns-in_err-note-clause-leads : goal.returns-in_err-note-clause-leads
-returns-in_err-note-clause-leads g c batches published led =
-    edit_refused _ _ c.args.batch.now c.args.self.now _ c.from_residual.result c.from_residual.ensures.0
-    (returns-in_err-note-clause-err g c) batches published led
+returns-in_err-note-clause-leads g c batches led =
+    edit_refused _ _ _ _ c.args.batch.now c.args.self.now _ c.from_residual.result c.from_residual.ensures.0
+    (returns-in_err-note-clause-err g c) batches led
 
 pub invariant_of-self-in_err-apply : goal.invariant_of-self-in_err-apply
 invariant_of-self-in_err-apply g c =
@@ -40,9 +43,10 @@ invariant_of-self-in_err-apply g c =
     let program = g.P.Computation.program inside.program in
     let combining = g.C.MessageCombiner.combining inside.combiner in
     let master = g.M.MasterCompute.master inside.master in
-    subst (λ graph. Stands program combining master inside.limits graph inside.edition inside.published c.note.new.kept)
+    subst (λ graph. Stands program combining master inside.limits (arc_value inside.registry) graph inside.edition (last_of inside.publisher.list) c.note.new.kept)
     (sym c.in_err-apply.ensures.err) (record {
       can_run = c.self.invariant.can_run;
+      named = c.self.invariant.named;
       answered = c.self.invariant.answered;
       beside = c.note.ensures.before _ _ _ c.self.invariant.beside;
     })
@@ -65,9 +69,9 @@ returns-in_err-apply-clause-err g c =
     })
 
 pub returns-in_err-apply-clause-leads : goal.returns-in_err-apply-clause-leads
-returns-in_err-apply-clause-leads g c batches published led =
-    edit_refused _ _ c.args.batch.now c.args.self.now _ c.from_residual-in_err-apply.result c.from_residual-in_err-apply.ensures.0
-    (returns-in_err-apply-clause-err g c) batches published led
+returns-in_err-apply-clause-leads g c batches led =
+    edit_refused _ _ _ _ c.args.batch.now c.args.self.now _ c.from_residual-in_err-apply.result c.from_residual-in_err-apply.ensures.0
+    (returns-in_err-apply-clause-err g c) batches led
 
 pub invariant_of-self-2 : goal.invariant_of-self-2
 invariant_of-self-2 g c =
@@ -86,5 +90,5 @@ returns-clause-rest g c =
 
 pub returns-clause-leads : goal.returns-clause-leads
 unfolding next_graph
-returns-clause-leads g c batches published led =
-    edit_accepted _ _ c.args.batch.now c.args.self.now _ (search rules) (returns-clause-rest g c) batches published led
+returns-clause-leads g c batches led =
+    edit_accepted _ _ _ _ c.args.batch.now c.args.self.now _ (search rules) (returns-clause-rest g c) batches led

@@ -1,32 +1,39 @@
 use Rattle.std.proofs.Common.{option_map, ap, ◌∙◌}
-use Rattle.std.proofs.lemmas.Result.{IfOk-from_err}
-use Rattle.pg_service.proofs.Leading.{refresh_answered, refresh_leads}
-use Rattle.pg_service.proofs.Refreshed.{refreshed, refused_so, reported, stands_refreshed}
+use Rattle.pg_publish.specs.History.{last_of}
+use Rattle.pg_publish.specs.Sender.{told_of}
+use Rattle.pg_publish.proofs.Fronts.{last_of-append}
+use Rattle.pg_service.proofs.Leading.{refresh_answered, refresh_refused}
+use Rattle.pg_service.proofs.Refreshed.{refreshed, reported, stands_refreshed}
 use Rattle.pg_service.proofs.service.Service.refresh.Goals as goal
-
-pub returns-in_err-registry-clause-leads : goal.returns-in_err-registry-clause-leads
-returns-in_err-registry-clause-leads g c =
-    refresh_leads _ _ c.from_residual.result c.args.self.now _ (IfOk-from_err c.from_residual.result _ c.from_residual.ensures.0)
-    (refused_so c.from_residual.result (λ i. record (c.self.view_is i) {
-      graph = (c.settle.ensures ∙ ap (λ s. s.graph) c.self.view_is) i;
-      kept = option_map (λ run. run.traces.graph) (c.take-kept.ensures.after i);
-    }))
 
 pub returns-in_err-finished-clause-leads : goal.returns-in_err-finished-clause-leads
 returns-in_err-finished-clause-leads g c =
-    refresh_leads _ _ c.from_residual-in_err-finished.result c.args.self.now _
-    (IfOk-from_err c.from_residual-in_err-finished.result _ c.from_residual-in_err-finished.ensures.0)
-    (refused_so c.from_residual-in_err-finished.result (λ i. record (c.self.view_is i) {
+    refresh_refused _ _ _ _ c.args.self.now _ (λ i. record (c.self.view_is i) {
       graph = (c.settle.ensures ∙ ap (λ s. s.graph) c.self.view_is) i;
       kept = option_map (λ run. run.traces.graph) (c.take-kept.ensures.after i);
-    }))
+    })
 
-pub invariant_of-self-3 : goal.invariant_of-self-3
-invariant_of-self-3 g c =
-    stands_refreshed c.self.invariant (c.new.ensures ∙ ap (λ registry. record {
-      publication = record { edition = c.self.inside.edition; answer = c.in_ok-finished.finished.0 };
-      registered = registry;
-    }) c.in_ok-registry.ensures) c.new-2.ensures c.in_ok-finished.ensures.ran.answers c.in_ok-finished.ensures.ran.leaves
+pub returns-in_err-answers-clause-leads : goal.returns-in_err-answers-clause-leads
+returns-in_err-answers-clause-leads g c =
+    refresh_refused _ _ _ _ c.args.self.now _ (λ i. record (c.self.view_is i) {
+      graph = (c.settle.ensures ∙ ap (λ s. s.graph) c.self.view_is) i;
+      kept = option_map (λ run. run.traces.graph) (c.take-kept.ensures.after i);
+    })
+
+pub returns-in_err-publish-clause-leads : goal.returns-in_err-publish-clause-leads
+returns-in_err-publish-clause-leads g c =
+    refresh_refused _ _ _ _ c.args.self.now _ (λ i. record (c.self.view_is i) {
+      graph = (c.settle.ensures ∙ ap (λ s. s.graph) c.self.view_is) i;
+      told = (ap told_of c.in_err-publish.ensures.list ∙ ap (λ s. s.told) c.self.view_is) i;
+      readers = (ap (λ p. p.readers) c.in_err-publish.ensures.list ∙ ap (λ s. s.readers) c.self.view_is) i;
+      kept = option_map (λ run. run.traces.graph) (c.take-kept.ensures.after i);
+    })
+
+pub invariant_of-self-2 : goal.invariant_of-self-2
+invariant_of-self-2 g c =
+    stands_refreshed c.self.invariant c.in_ok-answers.ensures
+    (ap (λ p. last_of p.list) c.in_ok-publish.ensures.list ∙ last_of-append c.self.inside.publisher.list c.in_ok-answers.answers)
+    c.new-2.ensures c.in_ok-finished.ensures.ran.answers c.in_ok-finished.ensures.ran.leaves
 
 pub returns-clause-report : goal.returns-clause-report
 returns-clause-report g c =
@@ -39,8 +46,9 @@ pub returns-clause-published : goal.returns-clause-published
 returns-clause-published g c =
     refreshed g.P.Computation.program g.C.MessageCombiner.combining g.M.MasterCompute.master
     (λ i. record (c.self.view_is i) { graph = (c.settle.ensures ∙ ap (λ s. s.graph) c.self.view_is) i })
-    c.in_ok-finished.finished.0 (ap (λ answers. answers.publication) c.new.ensures) c.in_ok-finished.ensures.ran.answers
+    c.in_ok-finished.finished.0 c.in_ok-answers.ensures c.self.invariant.named (ap told_of c.in_ok-publish.ensures.list)
+    (ap (λ p. p.readers) c.in_ok-publish.ensures.list) c.in_ok-finished.ensures.ran.answers
     (ap (λ run. run.traces.graph) c.new-2.ensures ∙ c.in_ok-finished.ensures.ran.leaves.graph_is)
 
 pub returns-clause-leads : goal.returns-clause-leads
-returns-clause-leads g c = refresh_answered _ _ c.args.self.now _ (returns-clause-published g c)
+returns-clause-leads g c = refresh_answered _ _ _ _ c.args.self.now _ (returns-clause-published g c)

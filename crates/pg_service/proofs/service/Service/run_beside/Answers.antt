@@ -1,4 +1,5 @@
-use Rattle.std.proofs.Common.{ap, option_map, subst}
+use Rattle.std.proofs.Common.{ap, length, option_map, subst, ◌∙◌}
+use Rattle.std.proofs.lemmas.Result.{IfOk-weaker}
 use Rattle.pg_graph.specs.Rows.{HasRisingIds}
 use Rattle.pg_service.proofs.Ran.{ran_if}
 use Rattle.pg_service.proofs.service.Service.run_beside.Goals as goal
@@ -10,3 +11,9 @@ returns-clause-ran g c =
     ran_if _ state.job state.graph (option_map (λ run. run.traces.graph) c.args.kept) c.in_ok-core.core (g.F.Fate.fated c.args.fate.now)
     (g.S.Shelf.state c.args.shelf.now).is_honest _ rising c.in_ok-core.ensures.opened c.in_ok-core.ensures.right c.run_job.result
     c.requires.honest c.run_job.ensures.driven c.run_job.ensures.unlost c.run_job.ensures.alone
+
+pub returns-clause-named : goal.returns-clause-named
+returns-clause-named g c =
+    IfOk-weaker c.run_job.result _ _
+    (λ done driven. driven.places ∙ ap (λ m. length (g.M.MasterCompute.master m).registrations) c.in_ok-core.ensures.opened.master_is)
+    c.run_job.ensures.driven
