@@ -18,12 +18,14 @@ use std::alloc::{AllocError, Global};
 const NAME: &str = "pregeld";
 
 /// What help begins with.
-const ABOUT: &str = "Keeps a graph and runs a vertex program on it; after an edit it runs anew only what differs.\n\
+const ABOUT: &str =
+    "Keeps a graph and runs a vertex program on it; after an edit it runs anew only what differs.\n\
 Commands are read from standard input, a line each, and so are edge lists: `import list N`,\n\
 and then N lines.";
 
 /// What help ends with.
-const SESSION: &str = "A session to paste into `pregeld --program sssp`, two edges and the distances from 1:\n\
+const SESSION: &str =
+    "A session to paste into `pregeld --program sssp`, two edges and the distances from 1:\n\
 \n\
   import list 2\n\
   1 2 5\n\

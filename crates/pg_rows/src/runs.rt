@@ -4,7 +4,8 @@ use pg_graph::VertexId;
 use pg_ready::{ReadyMaster, ReadyProgram, Sssp};
 use pregeld::{Limits, ReadyService, ServeFault, Service, serve, start_leaving};
 use std::alloc::Global;
-use std::io::{BufRead, Write};
+use std::io;
+use std::io::{BufRead, BufReader, Read, Write};
 use std::process::Abort;
 use std::sync::Wait;
 use std::test::Fail;
@@ -20,9 +21,8 @@ pub(crate) fn started<H: Threads + Wait + Sync, R: BufRead, W: Write, E: Write>(
     reader: &mut R,
     writer: &mut W,
     errors: &mut E,
-    service_left: &mut Option<ReadyService>,
-) -> u8 {
-    start_leaving(rt, alloc, words, reader, writer, errors, service_left)
+) -> (u8, Option<ReadyService>) {
+    start_leaving(rt, alloc, words, reader, writer, errors)
 }
 
 // The same of a session.
@@ -51,34 +51,41 @@ fn run<H: Threads + Wait + Sync>(rt: &H, alloc: Global, words: &[&str], input: &
     let mut reader = input;
     let mut output = Vec::new(alloc);
     let mut errors = Vec::new(alloc);
-    let mut service = None;
-    let status = started(
-        rt,
-        alloc,
-        words,
-        &mut reader,
-        &mut output,
-        &mut errors,
-        &mut service,
-    );
+    let (status, service) = started(rt, alloc, words, &mut reader, &mut output, &mut errors);
+    let reached = match service {
+        Some(service) => Some(reached_at_end(rt, service)),
+        None => None,
+    };
     Ended {
         status,
         output,
         errors,
-        reached: service.as_ref().map(|service| reached_by(service)),
+        reached,
     }
 }
 
-// Shortest paths from 1 on these lines print this.
+// Shortest paths from 1 on these lines print this, and say this of the first line at fault.
+pub(crate) fn prints_and_hints<H: Threads + Wait + Sync + Abort>(
+    rt: &H,
+    alloc: Global,
+    input: &[u8],
+    output: &[u8],
+    hint: &[u8],
+) {
+    let ended = run(rt, alloc, &["pregeld", "--program", "sssp"], input);
+    assert!(rt; ended.status == 0 && ended.reached.is_some());
+    assert_eq!(rt; ended.output.as_slice(), output);
+    assert_eq!(rt; ended.errors.as_slice(), hint);
+}
+
+// Shortest paths from 1 on these lines print this, and nothing is at fault.
 pub(crate) fn prints<H: Threads + Wait + Sync + Abort>(
     rt: &H,
     alloc: Global,
     input: &[u8],
     output: &[u8],
 ) {
-    let ended = run(rt, alloc, &["pregeld", "--program", "sssp"], input);
-    assert!(rt; ended.status == 0 && ended.errors.is_empty() && ended.reached.is_some());
-    assert_eq!(rt; ended.output.as_slice(), output);
+    prints_and_hints(rt, alloc, input, output, b"");
 }
 
 // A list of so many edges, none of which shares a vertex with another.
@@ -145,20 +152,80 @@ fn help(rt: HostRuntime) {
     assert_eq!(&rt; own.as_slice(), other.as_slice());
 }
 
+// A reader that fails at once, in this way.
+#[derive(Drop)]
+struct FailingReader {
+    kind: io::ErrorKind,
+}
+
+impl Read for FailingReader {
+    fn read(&mut self, _buf: &mut [u8]) -> io::Result<usize> {
+        Err(io::Error::from(self.kind))
+    }
+}
+
+// What a session of shortest paths comes to on these streams: its exit status, and what is said of it.
+fn said<H: Threads + Wait + Sync, R: BufRead, W: Write>(
+    rt: &H,
+    alloc: Global,
+    reader: &mut R,
+    writer: &mut W,
+) -> (u8, Vec<u8>) {
+    let mut errors = Vec::new(alloc);
+    let words = ["pregeld", "--program", "sssp"];
+    let (status, service) = started(rt, alloc, words.as_slice(), reader, writer, &mut errors);
+    if let Some(service) = service {
+        service.close(rt);
+    }
+    (status, errors)
+}
+
+// What is said where the reader fails in this way.
+fn said_of_reader<H: Threads + Wait + Sync>(
+    rt: &H,
+    alloc: Global,
+    kind: io::ErrorKind,
+) -> Result<(u8, Vec<u8>), Fail> {
+    let mut reader = BufReader::with_capacity(alloc, 64, FailingReader { kind })?;
+    let mut output = Vec::new(alloc);
+    Ok(said(rt, alloc, &mut reader, &mut output))
+}
+
+// What is said where the writer has room for four bytes.
+fn said_of_writer<H: Threads + Wait + Sync>(rt: &H, alloc: Global) -> (u8, Vec<u8>) {
+    let mut reader: &[u8] = TWO_HOPS;
+    let mut room = [0_u8; 4];
+    let mut writer = room.as_mut_slice();
+    said(rt, alloc, &mut reader, &mut writer)
+}
+
+// It is named what failed: memory, the input or the output.
+#[test]
+fn what_failed_is_said(rt: HostRuntime) -> Result<(), Fail> {
+    let alloc = rt.alloc();
+    let (status, text) = said_of_reader(&rt, alloc, io::ErrorKind::OutOfMemory)?;
+    assert!(&rt; status == 1 && text.as_slice() == b"pregeld: memory\n".as_slice());
+    let (status, text) = said_of_reader(&rt, alloc, io::ErrorKind::BrokenPipe)?;
+    assert!(&rt; status == 1 && text.as_slice() == b"pregeld: input\n".as_slice());
+    let (status, text) = said_of_writer(&rt, alloc);
+    assert!(&rt; status == 1 && text.as_slice() == b"pregeld: output\n".as_slice());
+    Ok(())
+}
+
 // The program of shortest paths from a source.
 fn paths_from(source: VertexId) -> ReadyProgram {
     ReadyProgram::Sssp(Sssp { source })
 }
 
-// Shortest paths from 1, on no graph yet.
-pub(crate) fn shortest_paths(alloc: Global) -> Result<ReadyService, Fail> {
+// Shortest paths from 1, on no graph yet. It is ended by `close`.
+pub(crate) fn shortest_paths<H: Wait>(rt: &H, alloc: Global) -> Result<ReadyService, Fail> {
     let source = VertexId::new(1).ok_or("an id")?;
     let limits = Limits::new(1, 1, 1000, 0, 0).ok_or("limits")?;
     let master = ReadyMaster {
         program: paths_from(source),
     };
     let combiner = AnyCombiner::NoCombiner;
-    let service = Service::new(alloc, limits, paths_from(source), combiner, master)?;
+    let service = Service::new(rt, alloc, limits, paths_from(source), combiner, master)?;
     Ok(service)
 }
 
@@ -177,11 +244,18 @@ pub(crate) struct Reached {
     pub(crate) published: Option<u64>,
 }
 
-pub(crate) fn reached_by(service: &ReadyService) -> Reached {
+fn reached_by(service: &ReadyService) -> Reached {
     Reached {
         graph: service.edition().number(),
         published: service.answers().map(|answers| answers.edition().number()),
     }
+}
+
+// Ends a service, and tells how far it has come.
+pub(crate) fn reached_at_end<H: Wait>(rt: &H, service: ReadyService) -> Reached {
+    let reached = reached_by(&service);
+    service.close(rt);
+    reached
 }
 
 // How shortest paths end whose writer has room for four bytes, and how far they have come.
@@ -189,12 +263,12 @@ fn with_four_bytes<H: Threads + Wait + Sync>(
     rt: &H,
     alloc: Global,
 ) -> Result<(Result<(), ServeFault>, Reached), Fail> {
-    let mut service = shortest_paths(alloc)?;
+    let mut service = shortest_paths(rt, alloc)?;
     let mut reader: &[u8] = TWO_HOPS;
     let mut room = [0_u8; 4];
     let mut writer = room.as_mut_slice();
     let served = served(rt, alloc, &mut reader, &mut writer, &mut service);
-    Ok((served, reached_by(&service)))
+    Ok((served, reached_at_end(rt, service)))
 }
 
 #[test]

@@ -1,5 +1,5 @@
 // Sessions of edits, commits and imports whose lines are too long to be stored.
-use crate::runs::prints;
+use crate::runs::{prints, prints_and_hints};
 use std::alloc::Global;
 use std::io::Write;
 use std::process::Abort;
@@ -77,7 +77,13 @@ fn no_numbers_of_a_megabyte(rt: HostRuntime) -> Result<(), Fail> {
     let nines = repeated(alloc, b'9', 1_048_576)?;
     let input = with_word(alloc, COMMANDS, nines.as_slice())?;
     let output = faults_of_lines(alloc, COMMANDS_COUNT)?;
-    prints(&rt, alloc, input.as_slice(), output.as_slice());
+    prints_and_hints(
+        &rt,
+        alloc,
+        input.as_slice(),
+        output.as_slice(),
+        b"pregeld: line 1: no number in range where one belongs, or no form of a list\n",
+    );
     Ok(())
 }
 
@@ -91,11 +97,40 @@ fn a_megabyte_of_zeros(rt: HostRuntime) -> Result<(), Fail> {
     let alloc = rt.alloc();
     let zeros = repeated(alloc, b'0', 1_048_576)?;
     let input = with_word(alloc, ZEROS, zeros.as_slice())?;
-    prints(
+    prints_and_hints(
         &rt,
         alloc,
         input.as_slice(),
         b"error 5 line 4\nedition 1\nrefreshed edition 1 supersteps 1 ending finished calls 1 losses 0\n{\"calls\":1,\"dropped\":0,\"edition\":1,\"ending\":\"finished\",\"losses\":0,\"sent\":0,\"supersteps\":1}\nvalue 7 9223372036854775807\n",
+        b"pregeld: line 4: no import while edits are pending, commit them first\n",
     );
+    Ok(())
+}
+
+// Adds the import of so many edges, from each number to itself, from this one on.
+fn add_loops(text: &mut Vec<u8>, first: u64, count: u64) -> Result<(), Fail> {
+    writeln!(text, "import list {count}")?;
+    for number in first..first.saturating_add(count) {
+        writeln!(text, "{number} {number}")?;
+    }
+    Ok(())
+}
+
+// A graph may have 1,048,576 vertices. One more is refused, one that is there already has a fault of its own, and an edge
+// to nobody is no vertex. Before a proof this takes more than the minute that tests have: rt try --test --seconds 600.
+#[test]
+fn as_many_vertices_as_there_may_be(rt: HostRuntime) -> Result<(), Fail> {
+    let alloc = rt.alloc();
+    let (mut input, mut output) = (Vec::new(alloc), Vec::new(alloc));
+    for block in 0..20_u64 {
+        add_loops(&mut input, block.saturating_mul(50_000), 50_000)?;
+    }
+    add_loops(&mut input, 1_000_000, 48_576)?;
+    input.extend_from_slice(b"vertex 2000000\ncommit\nvertex 1\ncommit\nedge 1 2000000\ncommit\n")?;
+    for edition in 1..22_u64 {
+        writeln!(&mut output, "edition {edition}")?;
+    }
+    output.extend_from_slice(b"refused 7 position 1\nrefused 2 position 1\nedition 22\n")?;
+    prints(&rt, alloc, input.as_slice(), output.as_slice());
     Ok(())
 }

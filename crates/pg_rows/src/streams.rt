@@ -1,5 +1,5 @@
 // Sessions whose reader or writer fails in mid-stream.
-use crate::runs::{Reached, Session, reached_by, served, shortest_paths};
+use crate::runs::{Reached, Session, reached_at_end, served, shortest_paths};
 use pregeld::ServeFault;
 use std::alloc::Global;
 use std::io;
@@ -111,14 +111,14 @@ fn read_by<H: Threads + Wait + Sync, R: Read + Drop>(
     alloc: Global,
     inner: R,
 ) -> Result<Session, Fail> {
-    let mut service = shortest_paths(alloc)?;
     let mut reader = BufReader::with_capacity(alloc, 16, inner)?;
     let mut written = Vec::new(alloc);
+    let mut service = shortest_paths(rt, alloc)?;
     let served = served(rt, alloc, &mut reader, &mut written, &mut service);
     Ok(Session {
         served,
         written,
-        reached: reached_by(&service),
+        reached: reached_at_end(rt, service),
     })
 }
 
@@ -191,7 +191,7 @@ fn with_broken_writer<H: Threads + Wait + Sync>(
     alloc: Global,
     calls: usize,
 ) -> Result<Session, Fail> {
-    let mut service = shortest_paths(alloc)?;
+    let mut service = shortest_paths(rt, alloc)?;
     let mut reader = INPUT;
     let mut writer = NthWriter {
         written: Vec::new(alloc),
@@ -201,7 +201,7 @@ fn with_broken_writer<H: Threads + Wait + Sync>(
     Ok(Session {
         served,
         written: writer.written,
-        reached: reached_by(&service),
+        reached: reached_at_end(rt, service),
     })
 }
 

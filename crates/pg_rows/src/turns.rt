@@ -85,7 +85,6 @@ fn served_in_turns<H: Threads + Wait + Sync>(
     alloc: Global,
     flushes: bool,
 ) -> Result<(Result<(), ServeFault>, usize), Fail> {
-    let mut service = shortest_paths(alloc)?;
     let handed_on = Cell::new(0);
     let turns = TurnReader {
         taken: 0,
@@ -97,7 +96,9 @@ fn served_in_turns<H: Threads + Wait + Sync>(
         handed_on: &handed_on,
         flushes,
     };
+    let mut service = shortest_paths(rt, alloc)?;
     let ended = served(rt, alloc, &mut reader, &mut writer, &mut service);
+    service.close(rt);
     Ok((ended, handed_on.get()))
 }
 

@@ -5,8 +5,8 @@ ghost use Rattle.pg_service.specs.Handed.{Limits};
 ghost use Rattle.pg_model.specs.Needed.{needed_count};
 ghost use Rattle.pg_model.specs.Run.{answer};
 ghost use Rattle.pg_model.specs.Superstep.{capped};
-ghost use Rattle.pg_service.specs.Service.{fresh};
-ghost use Rattle.pg_widest.specs.Widest.{searched, widest_job};
+ghost use Rattle.pg_service.specs.Service.{fresh, with_entry};
+ghost use Rattle.pg_widest.specs.Widest.{found, searched, widest_job};
 ghost use Rattle.pg_widest.specs.declared.search.Search.{Search};
 
 use crate::{Widest, WidestMaster};
@@ -30,13 +30,19 @@ pub struct Search {
 pub type Searching = Service<Widest, AnyCombiner, WidestMaster>;
 
 /// A service of a search, with an empty graph. The limits say on how many partitions it runs and how many supersteps it
-/// may take.
+/// may take. It is ended by [`Service::close`].
 ///
 /// # Errors
 ///
 /// Want of memory.
-pub fn searching(alloc: Global, search: &Search, limits: Limits) -> Result<Searching, RunFault>
-    ensures begun { IfOk result (λ service. service ≡ fresh (searched search.now limits)) }
+pub fn searching<R: Wait>(
+    rt: &R,
+    alloc: Global,
+    search: &Search,
+    limits: Limits,
+) -> Result<Searching, RunFault>
+    ensures begun { IfOk result
+        (λ service. service ≡ fresh (searched search.now limits) service.told.publisher) }
     ensures memory { IfErr result (λ fault. fault ≡ RunFault.Memory) }
 {
     let program = Widest {
@@ -46,7 +52,7 @@ pub fn searching(alloc: Global, search: &Search, limits: Limits) -> Result<Searc
     let master = WidestMaster {
         enough: search.enough,
     };
-    Service::new(alloc, limits, program, AnyCombiner::Max, master)
+    Service::new(rt, alloc, limits, program, AnyCombiner::Max, master)
 }
 
 /// Searches the graph as it stands, beside the last search where that is kept. What is published is the answer of the
@@ -67,16 +73,19 @@ pub fn widest_paths<R: Threads + Wait + Sync>(
 ) -> Result<Report, RefreshFault>
     ensures answer { OnOk result ((search : Search) (limits : Limits)
         → service.old.job ≡ searched search limits
-        → service.new.published ≡ Some (record {
-          edition = service.old.edition;
-          answer = answer (widest_job search limits) service.old.graph;
-        })) }
+        → service.new.told ≡ with_entry (record {
+          publication = record {
+            edition = service.old.edition;
+            answer = answer (widest_job search limits) service.old.graph;
+          };
+          registered = found;
+        }) service.old.told) }
     ensures calls { IfOk result (λ report. (search : Search) (limits : Limits)
         → service.old.job ≡ searched search limits → report.losses ≡ []
         → report.calls ≡ capped (needed_count int_eq int_eq (widest_job search limits)
         service.old.kept service.old.graph)) }
     ensures rest { OnOk result (service.new ≡ record service.old {
-      published = service.new.published;
+      told = service.new.told;
       kept = Some service.old.graph;
     }) }
     ensures err { OnErr result (service.new ≡ record service.old { kept = None }) }

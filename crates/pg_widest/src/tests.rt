@@ -14,14 +14,14 @@ fn id(rt: &impl Abort, number: u64) -> VertexId {
 }
 
 // Looks for the widest paths from 1, until one to 3 is as wide as this.
-fn service(rt: &impl Abort, alloc: Global, enough: i64) -> Result<Searching, Fail> {
+fn service<R: Wait + Abort>(rt: &R, alloc: Global, enough: i64) -> Result<Searching, Fail> {
     let search = Search {
         source: id(rt, 1),
         target: id(rt, 3),
         enough,
     };
     let limits = Limits::new(2, 1, 1000, 0, 0).ok_or("limits")?;
-    Ok(searching(alloc, &search, limits)?)
+    Ok(searching(rt, alloc, &search, limits)?)
 }
 
 // The roads: 1 leads to 2 and 3, 2 leads to 3, and 3 leads to 4.
@@ -123,7 +123,9 @@ fn finds_wider<R: Threads + Wait + Sync + Abort>(
 #[test]
 fn after_an_edit(rt: HostRuntime) -> Result<(), Fail> {
     let mut service = service(&rt, rt.alloc(), 100)?;
-    finds_wider(&rt, rt.alloc(), &mut service)
+    let found = finds_wider(&rt, rt.alloc(), &mut service);
+    service.close(&rt);
+    found
 }
 
 // The narrow road from 1 to 3 is enough: 4 hears of no better one.
@@ -146,5 +148,7 @@ fn finds_enough<R: Threads + Wait + Sync + Abort>(
 #[test]
 fn halted_at_enough(rt: HostRuntime) -> Result<(), Fail> {
     let mut service = service(&rt, rt.alloc(), 3)?;
-    finds_enough(&rt, rt.alloc(), &mut service)
+    let found = finds_enough(&rt, rt.alloc(), &mut service);
+    service.close(&rt);
+    found
 }

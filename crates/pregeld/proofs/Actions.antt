@@ -1,7 +1,7 @@
 -- What actions are answered, beside what a session may be answered.
-use Rattle.std.proofs.Common.{◌≡◌, ℕ, ◌+◌, true, false, nat_lt, List, [], ◌∷◌, ◌++◌, length, take, drop, Option, None, Some, Ok, refl, sym, ap, subst}
+use Rattle.std.proofs.Common.{◌≡◌, ℕ, ◌+◌, true, false, nat_lt, List, [], ◌∷◌, length, take, drop, Option, None, Some, Ok, refl, sym, ap, subst}
 use Rattle.std.proofs.Common.{◌∙◌, inl, inr, arith}
-use Rattle.std.specs.List.{concat, last_or}
+use Rattle.std.specs.List.{concat}
 use Rattle.std.proofs.lemmas.Bool.Decides.{nat_tests}
 use Rattle.std.proofs.lemmas.Grind.{common_steps}
 use Rattle.pg_edits.specs.declared.edit.Edit.{Edit}
@@ -9,7 +9,7 @@ use Rattle.pregeld.specs.Job.{ReadyState, ready_job}
 use Rattle.pregeld.specs.Notes.{Held, Noted, stored}
 use Rattle.pregeld.specs.Reading.{SkipsLines, TakesLines}
 use Rattle.pregeld.specs.Keeping.{AreNotes, Checks, Edits, Imports, ImportsLines, Keeps, Refreshes, RepliesTo}
-use Rattle.pg_service.specs.Service.{next_graph, publication_of}
+use Rattle.pg_service.specs.Service.{next_graph}
 use Rattle.pregeld.specs.Session.{Imported, Place, State, after, action_answer, answer_to, answered, edges_of, edited, emptied, import_answer}
 use Rattle.pregeld.specs.Session.{Answers, MayReportAt, imported, nobody, past, refresh_answer}
 use Rattle.pregeld.specs.Reply.{told_of}
@@ -29,10 +29,6 @@ use Rattle.pregeld.proofs.Pending.{next_of_stored, none_pending, stored_none, tr
 
 -- ---- refreshes
 
-last-append : {A : Type 0} (o : Option A) (xs : List A) (x : A) → last_or o (xs ++ x ∷ []) ≡ Some x
-last-append o [] x = refl
-last-append o (y ∷ xs) x = last-append (Some y) xs x
-
 -- a refresh is answered as where nobody fell, or as where somebody did
 reported_at : (s : ReadyState) (here : Place) (reply : Reply) (report : Report) (losses : List Loss) → report.losses ≡ losses
     → MayReportAt s.job here.state report → reply ≡ Refreshed (told_of report)
@@ -49,12 +45,10 @@ refreshes_at : (s : ReadyState) (notes : Noted) (here : Place) (reply : Reply) (
     → Refreshes (record { service = after s here.state; notes = notes }) reply new → RepliesTo (Ok (Act Refresh)) here (after s here.state) reply
     here.number new left
 refreshes_at s notes here reply new left are left_is (inl (report, may, replies, is, noted)) =
-    let own = ready_job s.job in
     record {
       next = (refresh_answer s.job report here).next;
       answers = reported_at s here reply report report.losses refl may replies;
-      service_is = is ∙ ap (λ p. record (after s here.state) { published = p; kept = Some here.state.graph })
-          (sym (last-append None here.state.publications (publication_of own here.state.edition here.state.graph)));
+      service_is = is;
       notes_are = record {
         pending_is = ap (λ (n : Noted). n.pending) noted ∙ are.pending_is;
         report_is = ap (λ (n : Noted). n.report) noted;

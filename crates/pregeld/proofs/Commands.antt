@@ -1,11 +1,11 @@
 -- What lines are answered, beside what a session may be answered.
-use Rattle.std.proofs.Common.{◌≡◌, ◌≢◌, ℕ, ℤ, List, [], ◌∷◌, ◌++◌, length, flat_map, Option, None, Some, option_to_list, Result, Ok, Err, refl, sym}
+use Rattle.std.proofs.Common.{◌≡◌, ◌≢◌, ℕ, ℤ, List, [], ◌∷◌, ◌++◌, length, flat_map, Option, None, Some, Result, Ok, Err, refl, sym}
 use Rattle.std.proofs.Common.{ap, ap₂, subst, ◌∙◌, inl, inr, codes}
 use Rattle.std.specs.Io.KnownBytes.{Appends}
 use Rattle.std.specs.Fmt.{signed_decimal}
-use Rattle.std.specs.List.{last_or}
 use Rattle.pg_edits.specs.declared.edit.Edit.{Edit as OneEdit}
-use Rattle.pg_service.specs.Answers.{aggregate_of}
+use Rattle.pg_service.specs.Handed.{aggregate_of}
+use Rattle.pg_service.specs.Service.{last_published}
 use Rattle.pregeld.specs.Job.{ReadyJob, ReadyState, ready_names}
 use Rattle.pg_command.specs.Command.{command_of}
 use Rattle.pregeld.specs.Notes.{Held, Noted, stored}
@@ -26,13 +26,9 @@ use Rattle.pregeld.specs.declared.session.ServeFault.{ServeFault}
 use Rattle.pregeld.specs.declared.session.ServeFault.TheVariants.{Write}
 use Rattle.pregeld.proofs.Pending.{stored_later}
 
-last-one : {A : Type 0} (o : Option A) → last_or None (option_to_list o) ≡ o
-last-one None = refl
-last-one (Some x) = refl
-
 -- what a session begins with is what its service keeps
 pub opened_is : (service : ReadyState) → service ≡ after service (opened service)
-opened_is service = ap (λ p. record service { published = p }) (sym (last-one service.published))
+opened_is service = refl
 
 -- ---- no answer is empty
 
@@ -136,23 +132,24 @@ edit_answered line edit here held notes left before now asks keeps notes_is left
     keeps.service_is (edit_noted edit held.notes notes here.state keeps.notes_are notes_is) left_is wrote
 
 -- what was published last, by the service and by the session
-published_is : (service : ReadyState) (state : State) → service ≡ after service state → service.published ≡ last_or None state.publications
-published_is service state is = ap (λ s. s.published) is
+published_is : (service : ReadyState) (state : State) → service ≡ after service state
+    → last_published service.told.list ≡ last_published state.publications
+published_is service state is = ap (λ s. last_published s.told.list) is
 
 -- what is told
 query_is : (own : ReadyJob) (query : Query) (here : Place) (held : Held) → Keeps held here.state
-    → query_text own query (last_or None here.state.publications) here.state.report ≡ query_text own query held.service.published held.notes.report
+    → query_text own query (last_published here.state.publications) here.state.report ≡ query_text own query (last_published held.service.told.list) held.notes.report
 query_is own query here held keeps = ap₂ (query_text own query) (sym (published_is held.service here.state keeps.service_is)) (sym keeps.notes_are.report_is)
 
 pub query_answered : (line : List ℕ) (query : Query) (here : Place) (held : Held) (left : Option (List (List ℕ))) (before now : Option (List ℕ))
     → command_of line ≡ Ok (Ask query)
     → Keeps held here.state → left ≡ Some here.lines
-    → Appends before now (query_text held.service.job query held.service.published held.notes.report) → AnswersLine line here held.service held
+    → Appends before now (query_text held.service.job query (last_published held.service.told.list) held.notes.report) → AnswersLine line here held.service held
     here.number left before now
 unfolding answer_to
 query_answered line query here held left before now asks keeps left_is wrote =
     rest_answered line (Ok (Ask query)) here held.service held
-    (record { text = query_text held.service.job query held.service.published held.notes.report; next = here }) left before now asks
+    (record { text = query_text held.service.job query (last_published held.service.told.list) held.notes.report; next = here }) left before now asks
     (ap (λ t. record { text = t; next = here }) (query_is held.service.job query here held keeps)) keeps.service_is keeps.notes_are left_is wrote
 
 -- what was to be told can't be
@@ -163,11 +160,11 @@ unfolding answer_to
 query_untold fault line query here held before now asks keeps (inl failed) =
     inr (
       failed,
-      record { text = query_text held.service.job query (last_or None here.state.publications) here.state.report; next = here },
+      record { text = query_text held.service.job query (last_published here.state.publications) here.state.report; next = here },
       inl
           (ap (λ c. answer_to held.service.job c here) (sym asks)),
       keeps.service_is,
       query_some held.service.job query
-          (last_or None here.state.publications) here.state.report,
+          (last_published here.state.publications) here.state.report,
     )
 query_untold fault line query here held before now asks keeps (inr other) = inl (other.0, refl, other.1)

@@ -4,6 +4,7 @@ use Rattle.std.specs.Io.KnownBytes.{Appends}
 use Rattle.clap.specs.Words.{Text}
 use Rattle.pg_options.specs.Arguments.{AreAtFault, AsksForHelp, AsksForRuns}
 use Rattle.pg_options.specs.declared.options.Options.{Options}
+use Rattle.pg_service.specs.Handed.{Book}
 use Rattle.pg_service.specs.Service.{fresh}
 use Rattle.pregeld.specs.AskedJob.{job_in}
 use Rattle.pregeld.specs.Job.{ReadyState}
@@ -15,8 +16,8 @@ use Rattle.pregeld.specs.declared.session.ServeFault.{ServeFault}
 pub record ServesWords (words : List Text) (remaining before now : Option (List ℕ)) : Type 0 where
   pub options : Options
   pub asked : AsksForRuns words options
-  pub served : IfSome remaining (λ input. (left : ReadyState)
-      × Serves input (fresh (job_in options)) left before now)
+  pub served : IfSome remaining (λ input. (publisher : Book) × (left : ReadyState)
+      × Serves input (fresh (job_in options) publisher) left before now)
 
 -- a fault broke off a session of the job that the words ask for, where the bytes that there were
 -- are known
@@ -25,8 +26,8 @@ pub record BreaksOffWords (words : List Text)
   pub options : Options
   pub asked : AsksForRuns words options
   pub fault : ServeFault
-  pub broken : IfSome remaining (λ input. (left : ReadyState)
-      × BreaksOff fault input (fresh (job_in options)) left before now)
+  pub broken : IfSome remaining (λ input. (publisher : Book) × (left : ReadyState)
+      × BreaksOff fault input (fresh (job_in options) publisher) left before now)
 
 -- a text was added to what was written, where that is known
 abbrev pub AddsText : Option (List ℕ) → Option (List ℕ) → Type 0

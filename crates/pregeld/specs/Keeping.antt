@@ -9,12 +9,11 @@ use Rattle.pg_edits.specs.declared.edit.Edit.{Edit}
 use Rattle.pg_import.specs.Import.{no_memory}
 use Rattle.pg_import.specs.declared.line.ImportFault.{ImportFault}
 use Rattle.pg_import.specs.declared.line.Line.{Line}
-use Rattle.pregeld.specs.Job.{ReadyState, ready_job}
+use Rattle.pregeld.specs.Job.{ReadyState, ready_job, ready_names}
 use Rattle.pg_command.specs.Command.{command_of}
 use Rattle.pregeld.specs.Notes.{Held, Noted, stored}
 use Rattle.pregeld.specs.Reply.{told_of}
-use Rattle.pg_service.specs.Service.{IsTried, check_of, next_graph, publication_of}
-use Rattle.pg_service.specs.Service.{MayReport}
+use Rattle.pg_service.specs.Service.{IsTried, MayReport, check_of, entry_of, last_published, next_graph, with_entry}
 use Rattle.pg_service.specs.declared.report.Report.{Report}
 use Rattle.pg_service.specs.Handed.{MayRefuse, RefreshFault, refusal_number}
 use Rattle.pregeld.specs.Session.{Answer, Answers, IsTriedOf, Place, State, after, answered}
@@ -58,11 +57,11 @@ abbrev pub Refreshes : Held → Reply → Held → Type 0
 Refreshes old reply new =
     let service = old.service in
     let own = ready_job service.job in
-    let publication = publication_of own service.edition service.graph in
+    let entry = entry_of own (ready_names service.job) service.edition service.graph in
     ((report : Report)
     × MayReport own int_eq int_eq nobody service.job.limits service.kept service.edition service.graph report
     × (reply ≡ Refreshed (told_of report))
-    × (new.service ≡ record service { published = Some publication; kept = Some service.graph })
+    × (new.service ≡ record service { told = with_entry entry service.told; kept = Some service.graph })
     × (new.notes ≡ record old.notes { report = Some report }))
     ⊎ ((fault : RefreshFault) × MayRefuse nobody service.job.limits fault
     × (reply ≡ RunRefused (refusal_number fault))
@@ -71,7 +70,7 @@ Refreshes old reply new =
 -- a check may be answered so, or for want of memory
 abbrev pub Checks : ReadyState → Reply → Type 0
 Checks old reply =
-    (reply ≡ Checked (check_of (ready_job old.job) int_eq int_eq old.edition old.graph old.published))
+    (reply ≡ Checked (check_of (ready_job old.job) int_eq int_eq old.edition old.graph (last_published old.told.list)))
     ⊎ (reply ≡ RunRefused 1)
 
 -- ---- a service beside a session

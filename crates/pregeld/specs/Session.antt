@@ -1,9 +1,9 @@
 -- A session: what is answered to lines, one command after another.
 use Rattle.std.specs.Prelude.{◌≡◌, ◌≢◌, ◌⊎◌, ℕ, ℤ, ◌+◌, ◌≤◌, nat_lt, Bool, false, if◌then◌else◌, List, [], ◌∷◌}
-use Rattle.std.specs.Prelude.{◌++◌, length, take, drop, Option, None, Some, option_to_list, Result}
+use Rattle.std.specs.Prelude.{◌++◌, length, take, drop, Option, None, Some, Result}
 use Rattle.std.specs.Prelude.{Ok, Err}
 use Rattle.std.specs.Io.KnownBytes.{Appends}
-use Rattle.std.specs.List.{concat, last_or}
+use Rattle.std.specs.List.{concat}
 use Rattle.std.specs.Ordering.{int_eq}
 use Rattle.pg_edits.specs.EditFault.{memory_fault}
 use Rattle.pg_graph.specs.Rows.{Rows}
@@ -15,14 +15,13 @@ use Rattle.pg_import.specs.Import.{list_of, no_memory}
 use Rattle.pg_import.specs.declared.line.ImportFault.{ImportFault}
 use Rattle.pg_import.specs.declared.line.Line.{Line}
 use Rattle.pg_global.specs.Registry.{Registered}
-use Rattle.pg_model.specs.Publications.{Publication, Publications}
+use Rattle.pg_model.specs.Publications.{Publication}
 use Rattle.pg_import.specs.Text.{raw_lines}
-use Rattle.pg_service.specs.Answers.{aggregate_of, value_of}
 use Rattle.pregeld.specs.Job.{ReadyJob, ReadyState, ready_job, ready_names}
 use Rattle.pg_command.specs.Command.{command_of}
 use Rattle.pregeld.specs.Reply.{line_of_aggregate, line_of_reply, told_of, values_text}
 use Rattle.pg_service.specs.Printed.{json_text}
-use Rattle.pg_service.specs.Service.{IsTried, check_of, next_graph, publication_of}
+use Rattle.pg_service.specs.Service.{IsTried, check_of, entry_of, last_published, next_graph}
 use Rattle.pg_service.specs.Service.{MayReport, report_of}
 use Rattle.pg_command.specs.declared.command.Command.{Command}
 use Rattle.pg_command.specs.declared.command.Command.TheVariants.{Nothing, Edit, Act, Ask}
@@ -39,7 +38,7 @@ use Rattle.pregeld.specs.declared.reply.Reply.TheVariants.{Edition, ImportRefuse
 use Rattle.pregeld.specs.declared.reply.Reply.TheVariants.{Refreshed, RunRefused, Checked}
 use Rattle.pregeld.specs.declared.reply.Reply.TheVariants.{Unpublished, Value, NoValue, Fault}
 use Rattle.pg_service.specs.declared.report.Report.{Report}
-use Rattle.pg_service.specs.Handed.{MayRefuse, RefreshFault, refusal_number}
+use Rattle.pg_service.specs.Handed.{Answered, MayRefuse, RefreshFault, aggregate_of, refusal_number, value_of}
 use Rattle.pregeld.specs.declared.session.ServeFault.{ServeFault}
 use Rattle.pregeld.specs.declared.session.ServeFault.TheVariants.{Write}
 
@@ -48,7 +47,7 @@ pub record State : Type 0 where
   pub graph : Rows
   pub edition : ℕ
   pub pending : List OneEdit  -- edits that wait to be made as one batch, in their order
-  pub publications : Publications ℤ
+  pub publications : List (Answered ℤ)  -- all that the service has published, with the names of the aggregates
   pub report : Option Report  -- of the last refresh of this session that was answered
   pub kept : Option Rows  -- the graph of the run that the next refresh may reuse
 
@@ -200,10 +199,10 @@ module _ (own : ReadyJob) where
   abbrev pub refresh_answer : Report → Place → Answer
   refresh_answer report place =
       let state = place.state in
-      let publication = publication_of (ready_job own) state.edition state.graph in
+      let entry = entry_of (ready_job own) (ready_names own) state.edition state.graph in
       answered (Refreshed (told_of report)) (record place {
         state = record state {
-          publications = state.publications ++ publication ∷ [];
+          publications = state.publications ++ entry ∷ [];
           report = Some report;
           kept = Some state.graph;
         };
@@ -225,7 +224,7 @@ module _ (own : ReadyJob) where
   action_answer Refresh place = refresh_answer (report_at place.state) place
   action_answer Recompute place =
       let state = place.state in
-      let published = last_or None state.publications in
+      let published = last_published state.publications in
       answered (Checked (check_of (ready_job own) int_eq int_eq state.edition state.graph published)) place
 
   -- the answer to a command, which stands in the last line that was read
@@ -237,7 +236,7 @@ module _ (own : ReadyJob) where
   answer_to (Ok (Act action)) place = action_answer action place
   answer_to (Ok (Ask query)) place =
       record {
-        text = query_text own query (last_or None place.state.publications) place.state.report;
+        text = query_text own query (last_published place.state.publications) place.state.report;
         next = place;
       }
 
@@ -306,7 +305,7 @@ opened service = record {
   graph = service.graph;
   edition = service.edition;
   pending = [];
-  publications = option_to_list service.published;
+  publications = service.told.list;
   report = None;
   kept = service.kept;
 }
@@ -316,7 +315,7 @@ abbrev pub after : ReadyState → State → ReadyState
 after service state = record service {
   graph = state.graph;
   edition = state.edition;
-  published = last_or None state.publications;
+  told = record service.told { list = state.publications };
   kept = state.kept;
 }
 

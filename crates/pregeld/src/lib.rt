@@ -11,9 +11,7 @@ mod session;
 mod writing;
 
 use pg_global::AnyCombiner;
-pub use pg_ready::{
-    Cc, Indegree, MaxValue, Pagerank, Peel, ReadyMaster, ReadyProgram, Sssp,
-};
+pub use pg_ready::{Cc, Indegree, MaxValue, Pagerank, Peel, ReadyMaster, ReadyProgram, Sssp};
 pub use pg_service::{Answers, Cause, Check, Limits, Loss, RefreshFault, Report, Service, same};
 pub use program::{start, start_leaving};
 pub use session::{ServeFault, serve};

@@ -10,14 +10,21 @@ use pg_options::{Options, program_of};
 use pg_ready::ReadyMaster;
 use pg_scratch::RunFault;
 use std::alloc::{AllocError, Global};
+use std::sync::Wait;
 
 /// A service of the job that the options ask for.
-pub(crate) fn service_of(alloc: Global, options: &Options) -> Result<ReadyService, Memory>
+pub(crate) fn service_of<H: Wait>(
+    rt: &H,
+    alloc: Global,
+    options: &Options,
+) -> Result<ReadyService, Memory>
     requires { AreInRange options.now }
-    ensures { IfOk result (λ service. service ≡ fresh (job_in options.now)) }
+    ensures { IfOk result
+        (λ service. service ≡ fresh (job_in options.now) service.told.publisher) }
 {
     let (limits, combiner) = (limits_of(options), options.combiner);
     let made = Service::new(
+        rt,
         alloc,
         limits,
         program_of(options),

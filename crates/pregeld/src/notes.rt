@@ -5,6 +5,8 @@ ghost use Rattle.std.specs.Option.{option_copied};
 ghost use Rattle.pregeld.specs.Notes.{stored, stored_limit};
 
 use crate::Report;
+use crate::reply::Reply;
+use pg_command::LineFault;
 use pg_graph::{Batch, Edit, Memory};
 use std::alloc::Global;
 use std::marker::Model;
@@ -12,12 +14,13 @@ use std::marker::Model;
 /// So many pending edits are stored, which are too many for a batch.
 const STORED_LIMIT: usize = 100_001;
 
-/// The edits that wait to be made as one batch, and the report of the last refresh that was
-/// answered.
+/// The edits that wait to be made as one batch, the report of the last refresh that was answered, and the first line
+/// that was at fault, of which a contract sees nothing.
 #[derive(Drop)]
 pub(crate) struct Notes {
     pending: Batch,
     report: Option<Report>,
+    first_fault: Option<(LineFault, u64)>,
 }
 
 impl Model for Notes {
@@ -39,6 +42,7 @@ impl Notes {
         Notes {
             pending: Batch::new(alloc),
             report: None,
+            first_fault: None,
         }
     }
 
@@ -81,6 +85,20 @@ impl Notes {
         ensures { self.new ≡ record self.old { pending = [] } }
     {
         self.pending = Batch::new(alloc);
+    }
+
+    /// The first line that was at fault, if any: its fault and its number.
+    pub(crate) fn first_fault(&self) -> Option<(LineFault, u64)> {
+        self.first_fault
+    }
+
+    /// Keeps the fault of an answer, if it is the first one.
+    pub(crate) fn note_fault(&mut self, reply: &Reply)
+        ensures { self.new ≡ self.old }
+    {
+        if let (None, Reply::Fault(fault, number)) = (self.first_fault, reply) {
+            self.first_fault = Some((*fault, *number));
+        }
     }
 
     /// This is the last report.

@@ -1,6 +1,7 @@
 //! The program.
-ghost use Rattle.std.specs.Prelude.{◌≡◌, ◌≤◌, ◌⊎◌, map, IfErr, IfSome, OnOk};
+ghost use Rattle.std.specs.Prelude.{◌≡◌, ◌≤◌, ◌⊎◌, [], None, map, IfErr, IfSome, OnOk};
 ghost use Rattle.pg_options.specs.Arguments.{AreInRange};
+ghost use Rattle.pg_service.specs.Handed.{Book};
 ghost use Rattle.pg_service.specs.Service.{fresh};
 ghost use Rattle.pregeld.specs.AskedJob.{job_in};
 ghost use Rattle.pregeld.specs.ExitStatus.{AddsText, EndsBroken, EndsWell, IsRefused};
@@ -8,9 +9,12 @@ ghost use Rattle.pregeld.specs.Job.{ReadyState};
 ghost use Rattle.pregeld.specs.Session.{BreaksOff, Serves};
 
 use crate::making::service_of;
-use crate::{ReadyService, ServeFault, serve};
+use crate::notes::Notes;
+use crate::session::serve_noting;
+use crate::{ReadyService, ServeFault};
 use clap::Error;
 use clap::error::ErrorKind;
+use pg_command::LineFault;
 use pg_options::{NoOptions, Options, options_of};
 use std::alloc::Global;
 use std::convert::AsStr;
@@ -24,8 +28,8 @@ const NO_FILES: &str =
 
 /// Runs the program on its words, the program's name first, with `rt` to start threads by, and gives its exit status: 0 at the
 /// end of the input or after help; 1 where memory, the input or the output failed; 2 where the
-/// words are at fault, and then nothing was read or written. With 1 and 2 `errors` is told why, if
-/// it can be written.
+/// words are at fault, and then nothing was read or written. With 1 and 2 `errors` is told why, and
+/// after a session what is at fault with the first line that was, if it can be written.
 pub fn start<H: Threads + Wait + Sync, S: AsStr, R: BufRead, W: Write, E: Write>(
     rt: &H,
     alloc: Global,
@@ -42,12 +46,15 @@ pub fn start<H: Threads + Wait + Sync, S: AsStr, R: BufRead, W: Write, E: Write>
     ensures refused { result ≡ 2 → IsRefused R.remaining W.contents
         (map S.text words.now) reader.old reader.new writer.old writer.new }
 {
-    let mut service = None;
-    start_leaving(rt, alloc, words, reader, writer, errors, &mut service)
+    let (status, service) = start_leaving(rt, alloc, words, reader, writer, errors);
+    if let Some(service) = service {
+        service.close(rt);
+    }
+    status
 }
 
-/// Does what `start` does, and leaves the service of the session in `service_left`, if one was begun. To let go of all that
-/// a long session holds takes time, which a process that ends can save.
+/// Does what `start` does, and hands back the service of the session too, if one was begun. A process that ends saves the
+/// time to let go of all that a long session holds, where it calls `leave` on it.
 pub fn start_leaving<H: Threads + Wait + Sync, S: AsStr, R: BufRead, W: Write, E: Write>(
     rt: &H,
     alloc: Global,
@@ -55,59 +62,78 @@ pub fn start_leaving<H: Threads + Wait + Sync, S: AsStr, R: BufRead, W: Write, E
     reader: &mut R,
     writer: &mut W,
     errors: &mut E,
-    service_left: &mut Option<ReadyService>,
-) -> u8
-    ensures status { result ≤ 2 }
-    ensures done { result ≡ 0 → EndsWell R.remaining W.contents
+) -> (u8, Option<ReadyService>)
+    ensures status { result.0 ≤ 2 }
+    ensures done { result.0 ≡ 0 → EndsWell R.remaining W.contents
         (map S.text words.now) reader.old reader.new writer.old writer.new }
-    ensures broken { result ≡ 1 → EndsBroken R.remaining W.contents
+    ensures broken { result.0 ≡ 1 → EndsBroken R.remaining W.contents
         (map S.text words.now) reader.old reader.new writer.old writer.new }
-    ensures refused { result ≡ 2 → IsRefused R.remaining W.contents
+    ensures refused { result.0 ≡ 2 → IsRefused R.remaining W.contents
         (map S.text words.now) reader.old reader.new writer.old writer.new }
 {
     let options = match options_of(alloc, words) {
         Ok(options) => options,
         Err(NoOptions::Help(text)) => {
             return match show(alloc, writer, &text) {
-                Ok(()) => 0,
-                Err(fault) => fail(errors, name_of(fault), 1),
+                Ok(()) => (0, None),
+                Err(fault) => (fail(errors, name_of(fault), 1), None),
             };
         }
-        Err(NoOptions::Memory) => return fail(errors, "memory", 1),
+        Err(NoOptions::Memory) => return (fail(errors, "memory", 1), None),
         Err(NoOptions::Arguments(error)) => {
             let status = fail(errors, "arguments", 2);
             explain(errors, error);
-            return status;
+            return (status, None);
         }
     };
-    match serve_asked(rt, alloc, &options, reader, writer, service_left) {
+    let mut notes = Notes::new(alloc);
+    let (served, service) = serve_asked(rt, alloc, &options, reader, writer, &mut notes);
+    let status = match served {
         Ok(()) => 0,
         Err(fault) => fail(errors, name_of(fault), 1),
-    }
+    };
+    hint(errors, notes.first_fault());
+    (status, service)
 }
 
-/// Serves a session of the job that the options ask for, and leaves the service in `service_left`.
+/// Serves a session of the job that the options ask for, and hands back the service, if there was memory for one.
 fn serve_asked<H: Threads + Wait + Sync, R: BufRead, W: Write>(
     rt: &H,
     alloc: Global,
     options: &Options,
     reader: &mut R,
     writer: &mut W,
-    service_left: &mut Option<ReadyService>,
-) -> Result<(), ServeFault>
-    requires { AreInRange options.now }
-    ensures ok { OnOk result (IfSome (R.remaining reader.old) (λ input. (left : ReadyState)
-        × Serves input (fresh (job_in options.now)) left (W.contents writer.old) (W.contents writer.new))) }
-    ensures err { IfErr result (λ fault. ((reader.new ≡ reader.old) × (writer.new ≡ writer.old))
-        ⊎ IfSome (R.remaining reader.old) (λ input. (left : ReadyState)
-        × BreaksOff fault input (fresh (job_in options.now)) left (W.contents writer.old) (W.contents writer.new))) }
+    notes: &mut Notes,
+) -> (Result<(), ServeFault>, Option<ReadyService>)
+    requires range { AreInRange options.now }
+    requires none { notes.old ≡ record { pending = []; report = None } }
+    ensures ok { OnOk result.0 (IfSome (R.remaining reader.old) (λ input. (publisher : Book) × (left : ReadyState)
+        × Serves input (fresh (job_in options.now) publisher) left (W.contents writer.old) (W.contents writer.new))) }
+    ensures err { IfErr result.0 (λ fault. ((reader.new ≡ reader.old) × (writer.new ≡ writer.old))
+        ⊎ IfSome (R.remaining reader.old) (λ input. (publisher : Book) × (left : ReadyState)
+        × BreaksOff fault input (fresh (job_in options.now) publisher) left
+        (W.contents writer.old) (W.contents writer.new))) }
 {
-    let Ok(mut service) = service_of(alloc, options) else {
-        return Err(ServeFault::Memory);
+    let Ok(mut service) = service_of(rt, alloc, options) else {
+        return (Err(ServeFault::Memory), None);
     };
-    let served = serve(rt, alloc, reader, writer, &mut service);
-    *service_left = Some(service);
-    served
+    let served = serve_noting(rt, alloc, reader, writer, &mut service, notes);
+    (served, Some(service))
+}
+
+/// Says what is at fault with the first line of a session that is.
+fn hint<E: Write>(errors: &mut E, fault: Option<(LineFault, u64)>) {
+    let Some((fault, line)) = fault else {
+        return;
+    };
+    let what = match fault {
+        LineFault::NoCommand => "no such command, see --help",
+        LineFault::WordCount => "too many words, or too few, see --help",
+        LineFault::BadWord => "no number in range where one belongs, or no form of a list",
+        LineFault::CutShort => "the input ends before the lines of this import do",
+        LineFault::EditsPending => "no import while edits are pending, commit them first",
+    };
+    let _said = writeln!(errors, "pregeld: line {line}: {what}");
 }
 
 /// Says what is at fault with the words of the command line, and where a word may have been meant as the name of a file,

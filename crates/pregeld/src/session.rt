@@ -1,5 +1,5 @@
 //! A session: commands from a reader, and their answers to a writer.
-ghost use Rattle.std.specs.Prelude.{◌≢◌, IfOk, IfErr, IfSome, OnOk};
+ghost use Rattle.std.specs.Prelude.{◌≡◌, ◌≢◌, [], None, IfOk, IfErr, IfSome, OnOk};
 ghost use Rattle.pregeld.specs.Notes.{with_notes};
 ghost use Rattle.pregeld.specs.Reading.{IfLines, lines_left};
 ghost use Rattle.pregeld.specs.Keeping.{AnswersLine, FailsLine, Keeps};
@@ -69,8 +69,27 @@ pub fn serve<H: Threads + Wait + Sync, R: BufRead, W: Write>(
         BreaksOff fault input service.old service.new
         (W.contents writer.old) (W.contents writer.new))) }
 {
-    let mut number = 0_u64;
     let mut notes = Notes::new(alloc);
+    serve_noting(rt, alloc, reader, writer, service, &mut notes)
+}
+
+/// Does what `serve` does, and keeps notes of the session, which has none as it begins.
+pub(crate) fn serve_noting<H: Threads + Wait + Sync, R: BufRead, W: Write>(
+    rt: &H,
+    alloc: Global,
+    reader: &mut R,
+    writer: &mut W,
+    service: &mut ReadyService,
+    notes: &mut Notes,
+) -> Result<(), ServeFault>
+    requires { notes.old ≡ record { pending = []; report = None } }
+    ensures ok { OnOk result (IfSome (R.remaining reader.old) (λ input.
+        Serves input service.old service.new (W.contents writer.old) (W.contents writer.new))) }
+    ensures err { IfErr result (λ fault. IfSome (R.remaining reader.old) (λ input.
+        BreaksOff fault input service.old service.new
+        (W.contents writer.old) (W.contents writer.new))) }
+{
+    let mut number = 0_u64;
     for _turn in 0..u64::MAX {
         let Some(line) = next_line(alloc, reader)? else {
             return Ok(());
@@ -82,7 +101,7 @@ pub fn serve<H: Threads + Wait + Sync, R: BufRead, W: Write>(
             number: here,
             text: line.as_slice(),
         };
-        number = match answer_line(rt, alloc, line, reader, writer, service, &mut notes) {
+        number = match answer_line(rt, alloc, line, reader, writer, service, notes) {
             Ok(reached) => reached,
             Err(fault) => return Err(fault),
         };
@@ -132,6 +151,7 @@ fn answer_line<H: Threads + Wait + Sync, R: BufRead, W: Write>(
         },
         Ok(Command::Act(action)) => {
             let (reply, reached) = carry_out(rt, alloc, number, action, reader, service, notes)?;
+            notes.note_fault(&reply);
             match say(writer, reply) {
                 Ok(()) => {
                     service.release();
@@ -140,9 +160,13 @@ fn answer_line<H: Threads + Wait + Sync, R: BufRead, W: Write>(
                 Err(fault) => Err(fault),
             }
         }
-        Err(fault) => match say(writer, Reply::Fault(fault, number)) {
-            Ok(()) => Ok(number),
-            Err(fault) => Err(fault),
-        },
+        Err(fault) => {
+            let reply = Reply::Fault(fault, number);
+            notes.note_fault(&reply);
+            match say(writer, reply) {
+                Ok(()) => Ok(number),
+                Err(fault) => Err(fault),
+            }
+        }
     }
 }

@@ -1,6 +1,7 @@
 //! Answers, written.
 ghost use Rattle.std.specs.Prelude.{◌≡◌, flat_map, IfErr, OnOk};
 ghost use Rattle.std.specs.Io.KnownBytes.{Appends, Keeps};
+ghost use Rattle.pg_service.specs.Service.{last_published};
 ghost use Rattle.pregeld.specs.Reply.{line_of_reply, line_of_value};
 ghost use Rattle.pregeld.specs.Keeping.{FailsToTell};
 ghost use Rattle.pregeld.specs.Job.{ready_names};
@@ -51,7 +52,7 @@ pub(crate) fn tell<W: Write>(
     notes: &Notes,
 ) -> Result<(), ServeFault>
     ensures ok { OnOk result (Appends (W.contents writer.old) (W.contents writer.new)
-        (query_text service.now.job query.entry service.now.published notes.now.report)) }
+        (query_text service.now.job query.entry (last_published service.now.told.list) notes.now.report)) }
     ensures err { IfErr result (λ fault.
         FailsToTell fault (W.contents writer.old) (W.contents writer.new)) }
 {
@@ -74,7 +75,7 @@ pub(crate) fn tell<W: Write>(
 
 /// The published value of a vertex.
 fn get(id: VertexId, service: &ReadyService) -> Reply
-    ensures { result ≡ get_reply id service.now.published }
+    ensures { result ≡ get_reply id (last_published service.now.told.list) }
 {
     let Some(answers) = service.answers() else {
         return Reply::Unpublished;
@@ -88,7 +89,7 @@ fn get(id: VertexId, service: &ReadyService) -> Reply
 /// Prints the published aggregate of this name.
 fn aggregate<W: Write>(writer: &mut W, name: &str, service: &ReadyService) -> Result<(), ServeFault>
     ensures ok { OnOk result (Appends (W.contents writer.old) (W.contents writer.new)
-        (aggregate_text name.now (ready_names service.now.job) service.now.published)) }
+        (aggregate_text name.now (ready_names service.now.job) (last_published service.now.told.list))) }
     ensures err { IfErr result (λ fault. fault ≡ ServeFault.Write) }
 {
     let Some(answers) = service.answers() else {
@@ -137,7 +138,7 @@ fn report<W: Write>(
 /// Prints the published values by rising id, and their number.
 fn dump<W: Write>(writer: &mut W, service: &ReadyService) -> Result<(), ServeFault>
     ensures ok { OnOk result (Appends (W.contents writer.old) (W.contents writer.new)
-        (dump_text service.now.published)) }
+        (dump_text (last_published service.now.told.list))) }
     ensures err { IfErr result (λ fault. fault ≡ ServeFault.Write) }
 {
     let Some(answers) = service.answers() else {

@@ -51,11 +51,7 @@ const MIXED: [Setting; 6] = [
     ("64", "16", "0"),
 ];
 
-const FEW: [Setting; 3] = [
-    ("1", "1", "0"),
-    ("3", "1", "1"),
-    ("3", "2", "0"),
-];
+const FEW: [Setting; 3] = [("1", "1", "0"), ("3", "1", "1"), ("3", "2", "0")];
 
 /// Where command lines lie, those of a folder with one input, one output and one exit status.
 const WORDS: &str = "words";
@@ -82,11 +78,7 @@ fn main(rt: HostRuntime) -> io::Result<ExitCode> {
 }
 
 /// Whether all sessions of a folder are answered as is stored. Prints a line for each.
-fn are_sessions_answered<H: Host>(
-    rt: &H,
-    folder: &str,
-    settings: &[Setting],
-) -> io::Result<bool> {
+fn are_sessions_answered<H: Host>(rt: &H, folder: &str, settings: &[Setting]) -> io::Result<bool> {
     let mut all = true;
     for name in sessions(rt, folder)? {
         let answers = is_answered_as_stored(rt, name.as_str(), settings)?;
@@ -141,21 +133,30 @@ fn text_in<H: Host>(rt: &H, folder: &str, file: &str) -> io::Result<String> {
 }
 
 /// Whether the program, on the words and the input of a folder, ends well with the output that is
-/// stored there, and says nothing else, by each of these settings.
-fn is_answered_as_stored<H: Host>(
-    rt: &H,
-    name: &str,
-    settings: &[Setting],
-) -> io::Result<bool> {
-    let alloc = rt.alloc();
+/// stored there, and says nothing else but where the first line at fault is, by each of these settings.
+fn is_answered_as_stored<H: Host>(rt: &H, name: &str, settings: &[Setting]) -> io::Result<bool> {
     let args = text_in(rt, name, "args")?;
     let input = bytes_in(rt, name, "stdin")?;
+    let output = text_in(rt, name, "stdout")?;
     let wanted = Wanted {
         status: 0,
-        output: bytes_in(rt, name, "stdout")?,
-        errors: Vec::new(alloc),
+        errors: hint_by(rt.alloc(), output.as_str())?,
+        output: output.into_bytes(),
     };
     is_answered_on_each(rt, args.as_str(), settings, input.as_slice(), &wanted)
+}
+
+/// How the hint to the first line at fault begins, by the first answer that tells of a fault; nothing where none does.
+fn hint_by(alloc: Global, answers: &str) -> io::Result<Vec<u8>> {
+    for answer in answers.lines() {
+        if let (Some("error"), Some(number)) = (
+            answer.split(' ').next(),
+            answer.split(' ').last(),
+        ) {
+            return Ok(format!(in alloc; "pregeld: line {number}: ")?.into_bytes());
+        }
+    }
+    Ok(Vec::new(alloc))
 }
 
 /// Whether the program, started with these words by each of these settings, ends as is wanted.

@@ -5,11 +5,11 @@ ghost use Rattle.std.specs.Prelude.{◌≤◌};
 
 use pregeld::start_leaving;
 use std::alloc::{AllocError, Global};
+use std::env;
 use std::io::{self, BufReader, BufWriter, Write};
 use std::process::ExitCode;
 use std::sync::Wait;
 use std::thread::Threads;
-use std::{env, mem};
 
 /// How many bytes the piece has that is taken once. Up to twice as many stay when they are let go of.
 const LARGE_PIECE: usize = 16 << 20;
@@ -40,18 +40,18 @@ fn run<H: Threads + Wait + Sync, E: Write>(
     }
     let mut reader = BufReader::new(rt.alloc(), rt.stdin())?;
     let mut writer = BufWriter::new(rt.alloc(), rt.stdout())?;
-    let mut service = None;
-    let status = start_leaving(
+    let (status, service) = start_leaving(
         threads,
         rt.alloc(),
         words.as_slice(),
         &mut reader,
         &mut writer,
         errors,
-        &mut service,
     );
-    // The process ends before long, and its memory goes with it.
-    mem::forget(service);
+    if let Some(service) = service {
+        // The process ends before long, and its memory goes with it.
+        service.leave(threads);
+    }
     if status == 0 && writer.flush().is_err() {
         // Whatever kind of error it is, it is the output that failed.
         return Err(io::Error::from(io::ErrorKind::Other));

@@ -58,10 +58,12 @@ returns-in-Ok-say-clause-ok g c state keeps lines there =
     let left = lines_left (g.R.Read.remaining c.carry_out.new.reader) in
     let written = g.W.Write.contents c.args.writer.now in
     let told = g.W.Write.contents c.say.new.writer in
-    subst (λ service. AnswersLine c.args.line.text.now here c.args.service.now (record { service = service; notes = c.carry_out.new.notes }) pair.reached left written told)
+    subst (λ service. AnswersLine c.args.line.text.now here c.args.service.now (record { service = service; notes = c.note_fault.new.self }) pair.reached left written told)
     (sym c.release.ensures)
+    (subst (λ notes. AnswersLine c.args.line.text.now here c.args.service.now (record { service = c.carry_out.new.service; notes = notes }) pair.reached left written told)
+    (sym c.note_fault.ensures)
     (line_answered c.args.line.text.now command here c.args.service.now (record { service = c.carry_out.new.service; notes = c.carry_out.new.notes })
-    pair.reply pair.reached left written told asks (pair.ensures.ok state keeps lines there) c.in-Ok-say.ensures.ok)
+    pair.reply pair.reached left written told asks (pair.ensures.ok state keeps lines there) c.in-Ok-say.ensures.ok))
 
 pub returns-in-Err-say-clause-err : goal.returns-in-Err-say-clause-err
 returns-in-Err-say-clause-err g c state keeps lines there =
@@ -82,9 +84,11 @@ returns-in-Ok-say-2-clause-ok g c state keeps lines there =
     let held : Held = record { service = c.args.service.now; notes = c.args.notes.now } in
     let left = lines_left (g.R.Read.remaining c.args.reader.now) in
     let asks : command_of c.args.line.text.now ≡ Err c.in-Err.fault = sym c.command_of.ensures ∙ c.in-Err.is in
-    line_answered c.args.line.text.now (Err c.in-Err.fault) here c.args.service.now held (Fault c.in-Err.fault c.args.line.number) c.args.line.number left
+    subst (λ notes. AnswersLine c.args.line.text.now here c.args.service.now (record { service = c.args.service.now; notes = notes }) c.args.line.number left
+    (g.W.Write.contents c.args.writer.now) (g.W.Write.contents c.say-in-Err.new.writer)) (sym c.note_fault-in-Err.ensures)
+    (line_answered c.args.line.text.now (Err c.in-Err.fault) here c.args.service.now held (Fault c.in-Err.fault c.args.line.number) c.args.line.number left
     (g.W.Write.contents c.args.writer.now) (g.W.Write.contents c.say-in-Err.new.writer) asks
-    (fault_replies c.in-Err.fault here held left keeps there) c.in-Ok-say-2.ensures.ok
+    (fault_replies c.in-Err.fault here held left keeps there) c.in-Ok-say-2.ensures.ok)
 
 pub returns-in-Err-say-2-clause-err : goal.returns-in-Err-say-2-clause-err
 returns-in-Err-say-2-clause-err g c state keeps lines there =

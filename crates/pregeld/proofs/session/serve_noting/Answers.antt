@@ -5,14 +5,14 @@ use Rattle.pregeld.specs.Reading.{NextLine, lines_left}
 use Rattle.pregeld.specs.Keeping.{AnswersLine, FailsLine}
 use Rattle.pregeld.specs.declared.session.ServeFault.TheVariants.{Read, Write}
 use Rattle.pregeld.proofs.Serving.{at_end, at_first, between_lines, breaks_off, goes_on, if_known, keeps_midway}
-use Rattle.pregeld.proofs.session.serve.Goals as goal
+use Rattle.pregeld.proofs.session.serve_noting.Goals as goal
 
 read_is_not_write : Read ≢ Write
 read_is_not_write same = absurd cc
 
 pub loop-turn-init : goal.loop-turn-init
-loop-turn-init g c input there = at_first input (g.R.Read.remaining c.args.reader.now) c.args.service.now c.new-notes.result
-    (g.W.Write.contents c.args.writer.now) there c.new-notes.ensures
+loop-turn-init g c input there = at_first input (g.R.Read.remaining c.args.reader.now) c.args.service.now c.args.notes.now
+    (g.W.Write.contents c.args.writer.now) there c.requires
 
 pub returns-in_default-clause-ok : goal.returns-in_default-clause-ok
 returns-in_default-clause-ok g c =

@@ -1,7 +1,7 @@
 use Rattle.std.proofs.Common.{◌≡◌, ℕ, List, Some}
 use Rattle.pregeld.specs.Reading.{lines_left}
 use Rattle.pregeld.proofs.Serving.{Midway}
-use Rattle.pregeld.proofs.session.serve.Given as goal
+use Rattle.pregeld.proofs.session.serve_noting.Given as goal
 
 -- what was read so far was answered, and the rest is left
 abbrev pub invariant-loop-turn : goal.invariant-loop-turn
