@@ -256,10 +256,17 @@ fn tell_values<P: Computation, C: MessageCombiner<P::Message>, M: MasterCompute>
 
 // What a refresh tells on workers that fall by this fate, with checkpoints on this shelf, and what is published after it,
 // with its edition.
-pub(crate) fn told_on<R: Threads + Wait + Sync, S: Shelf, F: Fate>(
+pub(crate) fn told_on<
+    R: Threads + Wait + Sync,
+    P: Computation,
+    C: MessageCombiner<P::Message>,
+    M: MasterCompute,
+    S: Shelf,
+    F: Fate,
+>(
     rt: &R,
     alloc: Global,
-    service: &mut Paths,
+    service: &mut Service<P, C, M>,
     shelf: &mut S,
     fate: &F,
 ) -> Result<String, Fail>

@@ -17,6 +17,8 @@ mod publishing;
 #[cfg(test)]
 mod rows;
 #[cfg(test)]
+mod shedding;
+#[cfg(test)]
 mod shelves;
 #[cfg(test)]
 mod starving;
