@@ -8,7 +8,7 @@ use Rattle.pg_graph.specs.Rows.{Rows}
 use Rattle.pg_machine.specs.Machine.{State}
 use Rattle.pg_model.specs.Job.{Job}
 use Rattle.pg_workers_rounds.specs.Handed.{PartState}
-use Rattle.pg_workers.specs.Losses.{Trusts}
+use Rattle.pg_workers.specs.Losses.{Fated, Trusts}
 use Rattle.pg_workers.specs.Meaning.{Meaning, job_in}
 use Rattle.pg_workers.specs.Recovering.{AreFalls, IsFall}
 use Rattle.pg_workers.specs.Rounds.{AreAssigned, AreNext, AreRecorded, AreReturned, AreStepsRight, IsCollected, IsRest, fallen_in}
@@ -28,7 +28,7 @@ module _ {P C A V M : Type 0} (own : Meaning P C A V M) where
   abbrev with_parts : List (Option (PartState V M)) → Coordination P C A V M → Coordination P C A V M
   with_parts parts a = record { core = record a.core { parts = parts }; calls = a.calls; losses = a.losses }
 
-  running_without : (fated : ℕ → ℕ → ℕ → ℕ → Bool) (first : Progress P C A V M) (shelf : ShelfState) (a : Coordination P C A V M) (parts : List (Option (PartState V M)))
+  running_without : (fated : Fated) (first : Progress P C A V M) (shelf : ShelfState) (a : Coordination P C A V M) (parts : List (Option (PartState V M)))
       → ((kept : Option Rows) → IsRight (job_in own a.core) kept a.core → IsRight (job_in own a.core) kept (record a.core { parts = parts }))
       → IsRunning own fated first shelf a → IsRunning own fated first shelf (with_parts parts a)
   running_without fated first shelf a parts rightly runs = record {
@@ -44,13 +44,15 @@ module _ {P C A V M : Type 0} (own : Meaning P C A V M) where
     losses_are = runs.losses_are;
     fated_are = runs.fated_are;
     right = λ kept right trusts.
-        subst (λ (j : Job V M). IsRight j kept a.core → IsRight j kept (record a.core { parts = parts })) (job_stays own runs.same) (rightly kept) (runs.right kept right trusts);
+        subst (λ (j : Job V M). IsRight j kept a.core → IsRight j kept (record a.core { parts = parts })) (job_stays own runs.same) (rightly kept)
+        (runs.right kept right trusts);
     calls_are = runs.calls_are;
     saved = runs.saved;
   }
 
-  pub running_rest : (fated : ℕ → ℕ → ℕ → ℕ → Bool) (first : Progress P C A V M) (shelf : ShelfState) (a : Coordination P C A V M) (rest : Progress P C A V M)
-      → IsRest own a.core rest → IsRunning own fated first shelf a → IsRunning own fated first shelf (record { core = rest; calls = a.calls; losses = a.losses })
+  pub running_rest : (fated : Fated) (first : Progress P C A V M) (shelf : ShelfState) (a : Coordination P C A V M) (rest : Progress P C A V M)
+      → IsRest own a.core rest → IsRunning own fated first shelf a
+      → IsRunning own fated first shelf (record { core = rest; calls = a.calls; losses = a.losses })
   running_rest fated first shelf a rest left runs =
       subst (λ (c : Progress P C A V M). IsRunning own fated first shelf (record { core = c; calls = a.calls; losses = a.losses })) (sym left.core_is)
       (running_without fated first shelf a rest.parts
@@ -70,7 +72,7 @@ module _ {P C A V M : Type 0} (own : Meaning P C A V M) where
 
   -- ---- a round
 
-  module _ (fated : ℕ → ℕ → ℕ → ℕ → Bool) (superstep below : ℕ) (a : Coordination P C A V M) (rest : Progress P C A V M) (assignments : List (Assignment V M))
+  module _ (fated : Fated) (superstep below : ℕ) (a : Coordination P C A V M) (rest : Progress P C A V M) (assignments : List (Assignment V M))
       (outcomes : List (Outcome V M)) (collected : RoundResult V M) (assigned : AreAssigned own a.core superstep below rest assignments)
       (returned : AreReturned own fated superstep (length a.losses) a.core outcomes) (sorted : IsCollected superstep outcomes collected) where
     -- the steps can be recorded
@@ -83,7 +85,8 @@ module _ {P C A V M : Type 0} (own : Meaning P C A V M) where
     pub after_steps : (first : Progress P C A V M) (shelf : ShelfState) (now : Coordination P C A V M)
         → AreRecorded collected.steps.items rest.state now.core.state → now.losses ≡ a.losses
         → (IsRunning own fated first shelf (record { core = rest; calls = a.calls; losses = a.losses })
-        → ((kept : Option Rows) → IsRight (job_in own first) kept first → Trusts shelf.is_honest rest.history → AreStepsRight own kept rest collected.steps.items)
+        → ((kept : Option Rows) → IsRight (job_in own first) kept first → Trusts shelf.is_honest rest.history
+        → AreStepsRight own kept rest collected.steps.items)
         → IsRunning own fated first shelf now)
         → IsRunning own fated first shelf a → IsRunning own fated first shelf now × AreFalls fated (length now.losses) now.core.state collected.fallen.items
     after_steps first shelf now recorded losses takes runs =
@@ -97,12 +100,14 @@ module _ {P C A V M : Type 0} (own : Meaning P C A V M) where
         (subst (λ (j : Job V M). IsRight j kept a.core) (sym there) (runs.right kept right (subst (Trusts shelf.is_honest) history trusts))))) in
         let unnoted : All (IsUnnoted own a.core fated superstep (length a.losses) collected.steps.items) collected.fallen.items =
         subst (λ (l : List Loss). All (IsUnnoted own a.core fated superstep (length a.losses) collected.steps.items) l) (sym sorted.fallen_are)
-        (subst (λ (s : List (Option (Done V M))). All (IsUnnoted own a.core fated superstep (length a.losses) s) (fallen_in superstep outcomes)) (sym sorted.steps_are)
+        (subst (λ (s : List (Option (Done V M))). All (IsUnnoted own a.core fated superstep (length a.losses) s) (fallen_in superstep outcomes))
+        (sym sorted.steps_are)
         (all_unnoted own a.core fated superstep (length a.losses) outcomes sorted.none sorted.nothing returned)) in
         let from : AreRecorded collected.steps.items a.core.state now.core.state =
         subst (λ (s : State). AreRecorded collected.steps.items s now.core.state) state recorded in (
           takes (running_rest fated first shelf a rest assigned.taken runs) right,
           subst (λ (l : List Loss). AreFalls fated (length l) now.core.state collected.fallen.items) (sym losses)
               (All-weaker (IsUnnoted own a.core fated superstep (length a.losses) collected.steps.items) (IsFall fated (length a.losses) now.core.state)
-              (λ loss is. fall_from_unnoted own a.core fated superstep (length a.losses) collected.steps.items now.core.state loss from is) collected.fallen.items unnoted),
+              (λ loss is. fall_from_unnoted own a.core fated superstep (length a.losses) collected.steps.items now.core.state loss from is)
+              collected.fallen.items unnoted),
         )

@@ -1,5 +1,6 @@
 -- What a run on workers gives once it has ended.
-use Rattle.std.proofs.Common.{◌≡◌, ℕ, zero, suc, ◌+◌, ◌<◌, ◌≤◌, Bool, true, false, List, [], ◌∷◌, length, map, refl, ap, ap₂, sym, ◌∙◌, subst, subst₂, arith, Option, None, Some, is_some}
+use Rattle.std.proofs.Common.{◌≡◌, ℕ, zero, suc, ◌+◌, ◌<◌, ◌≤◌, Bool, true, false, List, [], ◌∷◌, length}
+use Rattle.std.proofs.Common.{map, refl, ap, ap₂, sym, ◌∙◌, subst, subst₂, arith, Option, None, Some, is_some}
 use Rattle.std.specs.List.{range_with_len}
 use Rattle.std.proofs.lemmas.Bool.{true≢false}
 use Rattle.std.proofs.lemmas.List.FromFn.{get_or-map-range_with_len}
@@ -23,7 +24,7 @@ use Rattle.pg_model.specs.Run.{answer, run_length}
 use Rattle.pg_model.specs.Superstep.{capped}
 use Rattle.pg_model.specs.declared.run.Run.{Run}
 use Rattle.pg_workers.specs.Driven.{IsAnswered, IsDriven, IsHistoryOf, IsUnlost}
-use Rattle.pg_workers.specs.Losses.{AreAll, AreFated, Trusts, as_told}
+use Rattle.pg_workers.specs.Losses.{AreAll, AreFated, Fated, Trusts, as_told}
 use Rattle.pg_workers.specs.Meaning.{Meaning, job_in}
 use Rattle.pg_workers.specs.Refused.{AreLosses}
 use Rattle.pg_workers.specs.Running.{Coordination, IsRunning}
@@ -46,7 +47,7 @@ pub unlost_trusts : (honest : Bool) (n workers : ℕ) (history : List Event) (to
 unlost_trusts true n workers history to reaches none = refl
 unlost_trusts false n workers history to reaches none = unlost_anew (λ lost p r. 0) n workers history to reaches none
 
-module _ {P C A V M : Type 0} (own : Meaning P C A V M) (fated : ℕ → ℕ → ℕ → ℕ → Bool) (first : Progress P C A V M) (shelf : ShelfState)
+module _ {P C A V M : Type 0} (own : Meaning P C A V M) (fated : Fated) (first : Progress P C A V M) (shelf : ShelfState)
     (now : Coordination P C A V M) (runs : IsRunning own fated first shelf now) where
   abbrev n : ℕ
   n = first.limits.partitions
@@ -144,7 +145,8 @@ module _ {P C A V M : Type 0} (own : Meaning P C A V M) (fated : ℕ → ℕ →
           ≡ needed_count own.value_eq own.message_eq (job_in own now.core) kept now.core.graph)
           → IsUnlost own kept first run left counts
       is_unlost kept right steps unlost =
-          let trusts : Trusts shelf.is_honest now.core.history = unlost_trusts shelf.is_honest n first.limits.workers now.core.history now.core.state reaches nobody in
+          let trusts : Trusts shelf.is_honest now.core.history = unlost_trusts shelf.is_honest n first.limits.workers now.core.history now.core.state reaches
+          nobody in
           let all = answered kept right trusts in
           let same : job_in own now.core ≡ job_in own first = job_stays own runs.same in
           let right_now : IsRight (job_in own now.core) kept now.core = subst (λ (j : Job V M). IsRight j kept now.core) (sym same) (there kept right trusts) in
@@ -165,10 +167,11 @@ module _ {P C A V M : Type 0} (own : Meaning P C A V M) (fated : ℕ → ℕ →
     alone_unlost some one =
         none_told counts.losses (tells.losses_are
         ∙ (ap (λ (w : ℕ). losses_in (first_state n w) now.core.history) one
-        ∙ none_fell_of_one n now.core.history now.core.state some (subst (λ (w : ℕ). Reaches (first_state n w) now.core.history now.core.state) one reaches) ended))
+        ∙ none_fell_of_one n now.core.history now.core.state some
+        (subst (λ (w : ℕ). Reaches (first_state n w) now.core.history now.core.state) one reaches) ended))
 
 -- a run to which nothing has happened has gone on from itself
-pub running_first : {P C A V M : Type 0} (own : Meaning P C A V M) (fated : ℕ → ℕ → ℕ → ℕ → Bool) (core : Progress P C A V M) (shelf : ShelfState)
+pub running_first : {P C A V M : Type 0} (own : Meaning P C A V M) (fated : Fated) (core : Progress P C A V M) (shelf : ShelfState)
     → Reaches (first_state core.limits.partitions core.limits.workers) core.history core.state → core.history ≡ []
     → IsRunning own fated core shelf (record { core = core; calls = 0; losses = [] })
 running_first own fated core shelf leads none =
@@ -181,7 +184,8 @@ running_first own fated core shelf leads none =
       fated_are = tt;
       right = λ kept right trusts. right;
       calls_are = λ kept right trusts.
-          ap (λ (h : List Event). capped (counts_in (needs_of own.value_eq own.message_eq (job_in own core) core.graph core.limits.partitions kept) (λ p. false) start h)) (sym none);
+          ap (λ (h : List Event). capped (counts_in (needs_of own.value_eq own.message_eq (job_in own core) core.graph core.limits.partitions kept)
+          (λ p. false) start h)) (sym none);
       saved = λ honest kept right p r within at. absurd (unsaved p r within (ap (saved_at p) (sym state) ∙ at));
     }
   where

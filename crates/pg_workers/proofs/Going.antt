@@ -1,5 +1,6 @@
 -- A run on workers goes on by one event more, with what is counted of it.
-use Rattle.std.proofs.Common.{◌≡◌, ℕ, suc, cond, ◌+◌, Bool, true, false, List, [], ◌∷◌, ◌++◌, map, refl, ap, ap₂, sym, ◌∙◌, subst, subst₂, Option, None, Result, Ok, Err, arith}
+use Rattle.std.proofs.Common.{◌≡◌, ℕ, suc, cond, ◌+◌, Bool, true, false, List, [], ◌∷◌, ◌++◌, map, refl}
+use Rattle.std.proofs.Common.{ap, ap₂, sym, ◌∙◌, subst, subst₂, Option, None, Result, Ok, Err, arith}
 use Rattle.std.specs.Prelude.{IfErr, IfOk, OnOk, slice_index_or}
 use Rattle.std.proofs.lemmas.Bool.{and_parts}
 use Rattle.std.proofs.lemmas.List.{append-nil}
@@ -17,7 +18,7 @@ use Rattle.pg_machine.proofs.LawsLosses.{counts_in-more, losses_in-more}
 use Rattle.pg_machine.proofs.LawsMachine.{Reaches-push}
 use Rattle.pg_model.specs.Job.{Job}
 use Rattle.pg_model.specs.Superstep.{capped}
-use Rattle.pg_workers.specs.Losses.{AreFated, Trusts, as_told}
+use Rattle.pg_workers.specs.Losses.{AreFated, Fated, Trusts, as_told}
 use Rattle.pg_workers.specs.Meaning.{Meaning, job_in}
 use Rattle.pg_workers.specs.Running.{AreSaved, Coordination, Happens, IsRunning}
 
@@ -60,7 +61,8 @@ module _ {P C A V M : Type 0} (own : Meaning P C A V M) where
     leads_on allowed =
         let more = Reaches-push (first_state before.limits.partitions before.limits.workers) before.state before.history event leads allowed in
         subst (λ (l : Limits). Reaches (first_state l.partitions l.workers) now.history now.state) (sym happens.same.limits_are)
-        (subst₂ (λ (h : List Event) (s : State). Reaches (first_state before.limits.partitions before.limits.workers) h s) (sym happens.history_is) (sym happens.state_is) more)
+        (subst₂ (λ (h : List Event) (s : State). Reaches (first_state before.limits.partitions before.limits.workers) h s) (sym happens.history_is)
+        (sym happens.state_is) more)
 
     losses_on : losses_of now ≡ losses_of before ++ lost_by before.state event
     losses_on =
@@ -77,7 +79,7 @@ module _ {P C A V M : Type 0} (own : Meaning P C A V M) where
 
   -- one event more: what it leaves right, the loss that it is, if any, the calls that it counts, and what it makes of what
   -- was saved
-  pub record Adds (fated : ℕ → ℕ → ℕ → ℕ → Bool) (first : Progress P C A V M) (event : Event) (shelf shelf_after : ShelfState)
+  pub record Adds (fated : Fated) (first : Progress P C A V M) (event : Event) (shelf shelf_after : ShelfState)
       (before now : Coordination P C A V M) : Type 0 where
     pub allowed : is_allowed before.core.state event ≡ true
     pub happens : Happens event before.core now.core
@@ -93,7 +95,7 @@ module _ {P C A V M : Type 0} (own : Meaning P C A V M) where
         → AreSaved own (job_in own first) first.graph first.limits.partitions first.run before.core.state shelf
         → AreSaved own (job_in own first) first.graph first.limits.partitions first.run now.core.state shelf_after
 
-  pub running_after : (fated : ℕ → ℕ → ℕ → ℕ → Bool) (first : Progress P C A V M) (event : Event) (shelf shelf_after : ShelfState)
+  pub running_after : (fated : Fated) (first : Progress P C A V M) (event : Event) (shelf shelf_after : ShelfState)
       (before now : Coordination P C A V M) → Adds fated first event shelf shelf_after before now → IsRunning own fated first shelf before
       → IsRunning own fated first shelf_after now
   running_after fated first event shelf shelf_after before now adds runs =
@@ -111,7 +113,8 @@ module _ {P C A V M : Type 0} (own : Meaning P C A V M) where
             ∙ sym (losses_on event before.core now.core adds.happens runs.leads));
         fated_are = adds.fated_are runs.fated_are;
         right = λ kept right t.
-            subst (λ (j : Job V M). IsRight j kept before.core → IsRight j kept now.core) there (adds.right kept right (trusts t)) (runs.right kept right (sooner t));
+            subst (λ (j : Job V M). IsRight j kept before.core → IsRight j kept now.core) there (adds.right kept right (trusts t))
+            (runs.right kept right (sooner t));
         calls_are = λ kept right t.
             adds.calls_are kept (calls_in own.value_eq own.message_eq job kept before.core) right (trusts t) (runs.calls_are kept right (sooner t))
             ∙ ap (λ (k : ℕ). capped k) (sym (calls_on event before.core now.core adds.happens runs.leads job kept));
@@ -121,7 +124,7 @@ module _ {P C A V M : Type 0} (own : Meaning P C A V M) where
       }
 
   -- an event by which nobody falls and nothing is counted or saved
-  pub running_quiet : (fated : ℕ → ℕ → ℕ → ℕ → Bool) (first : Progress P C A V M) (event : Event) (shelf : ShelfState) (before now : Coordination P C A V M)
+  pub running_quiet : (fated : Fated) (first : Progress P C A V M) (event : Event) (shelf : ShelfState) (before now : Coordination P C A V M)
       → is_allowed before.core.state event ≡ true → Happens event before.core now.core
       → ((kept : Option Rows) → IsRight (job_in own first) kept first → Trusts shelf.is_honest (before.core.history ++ event ∷ [])
       → IsRight (job_in own before.core) kept before.core → IsRight (job_in own before.core) kept now.core)
@@ -139,7 +142,8 @@ module _ {P C A V M : Type 0} (own : Meaning P C A V M) where
             ∙ (sym (append-nil (map as_told before.losses)) ∙ ap (λ l. map as_told before.losses ++ l) (sym nobody));
         fated_are = λ are. subst (AreFated fated 0) (sym losses) are;
         calls_are = λ kept x is t was.
-            let none = nothing (needs_of own.value_eq own.message_eq (job_in own first) before.core.graph before.core.limits.partitions kept) (has_lost before.core) in
+            let none = nothing (needs_of own.value_eq own.message_eq (job_in own first) before.core.graph before.core.limits.partitions kept)
+            (has_lost before.core) in
             let same : x ≡ x + counts_by (needs_of own.value_eq own.message_eq (job_in own first) before.core.graph before.core.limits.partitions kept)
             (has_lost before.core) before.core.state event = omega (arith, none) in
             calls ∙ (was ∙ ap (λ (k : ℕ). capped k) same);
@@ -158,17 +162,3 @@ counted_then a b c failed first second = record {
 
 pub not_counted : (a : ShelfState) → IsCounted a false a
 not_counted a = record { honest = refl; failures = refl }
-
--- ---- results
-
-pub ok_then : {X E : Type 0} (P Q : X → Type 0) (r : Result X E) → ((x : X) → P x → Q x) → IfOk r P → IfOk r Q
-ok_then P Q (Ok x) f p = f x p
-ok_then P Q (Err e) f p = tt
-
-pub err_then : {X E : Type 0} (P Q : E → Type 0) (r : Result X E) → ((e : E) → P e → Q e) → IfErr r P → IfErr r Q
-err_then P Q (Ok x) f p = tt
-err_then P Q (Err e) f p = f e p
-
-pub on_ok : {X E : Type 0} (P Q : Type 0) (r : Result X E) → (P → Q) → OnOk r P → OnOk r Q
-on_ok P Q (Ok x) f p = f p
-on_ok P Q (Err e) f p = tt

@@ -1,5 +1,6 @@
 -- Workers that fell are recorded: each at the superstep of its round, which is the least one of what it hosted.
-use Rattle.std.proofs.Common.{◌≡◌, ◌≢◌, ℕ, zero, suc, ◌+◌, ◌≤◌, Bool, true, false, cond, List, [], ◌∷◌, ◌++◌, length, map, get_or, refl, ap, sym, ◌∙◌, subst, arith, Option, None, Some, inl, inr}
+use Rattle.std.proofs.Common.{◌≡◌, ◌≢◌, ℕ, zero, suc, ◌+◌, ◌≤◌, Bool, true, false, cond, List, [], ◌∷◌, ◌++◌}
+use Rattle.std.proofs.Common.{length, map, get_or, refl, ap, sym, ◌∙◌, subst, arith, Option, None, Some, inl, inr}
 use Rattle.std.specs.Prelude.{◌==◌, nat_le, slice_index_or}
 use Rattle.std.proofs.lemmas.Bool.{and_parts, cases_eq, eq-eqb, eqb-true, le-leb, leb-true, true≢false}
 use Rattle.std.proofs.lemmas.List.{get_or-set_other, get_or-set_same, length-append, map-append}
@@ -14,7 +15,7 @@ use Rattle.pg_machine.specs.declared.event.Event.TheVariants.{Lose}
 use Rattle.pg_machine.proofs.LawsLosses.{alive_within}
 use Rattle.pg_machine.proofs.LawsMachine.{length-first, length-hosts_all, length-hosts_first, length-places_all, place_after_lose}
 use Rattle.pg_model.specs.Superstep.{capped}
-use Rattle.pg_workers.specs.Losses.{AreFated, WasFated, as_told}
+use Rattle.pg_workers.specs.Losses.{AreFated, Fated, WasFated, as_told}
 use Rattle.pg_workers.specs.Meaning.{Meaning, job_in}
 use Rattle.pg_workers.specs.Recovering.{AreFalls, IsFall, LosesOn, Stands}
 use Rattle.pg_workers.specs.Running.{Coordination, Happens}
@@ -81,7 +82,7 @@ least_is w s (suc p) (first ∷ hosts) (place ∷ places) each host at low =
 
 -- ---- fates
 
-later_fated : (fated : ℕ → ℕ → ℕ → ℕ → Bool) (a b : ℕ) (loss : Loss) → a ≤ b → WasFated fated a loss → WasFated fated b loss
+later_fated : (fated : Fated) (a b : ℕ) (loss : Loss) → a ≤ b → WasFated fated a loss → WasFated fated b loss
 later_fated fated a b loss later was = record {
   attempt = was.attempt;
   partition = was.partition;
@@ -89,7 +90,7 @@ later_fated fated a b loss later was = record {
   falls = was.falls;
 }
 
-fated_more : (fated : ℕ → ℕ → ℕ → ℕ → Bool) (place : ℕ) (losses : List Loss) (loss : Loss) → AreFated fated place losses
+fated_more : (fated : Fated) (place : ℕ) (losses : List Loss) (loss : Loss) → AreFated fated place losses
     → (loss.cause ≡ Fate → WasFated fated (place + length losses) loss) → AreFated fated place (losses ++ loss ∷ [])
 fated_more fated place [] loss before last = (λ is. later_fated fated (place + 0) place loss (omega arith) (last is), tt)
 fated_more fated place (l ∷ losses) loss before last = (
@@ -100,7 +101,8 @@ fated_more fated place (l ∷ losses) loss before last = (
 
 -- ---- one loss
 
-module _ {P C A V M : Type 0} (core : Progress P C A V M) (leads : Reaches (first_state core.limits.partitions core.limits.workers) core.history core.state) where
+module _ {P C A V M : Type 0} (core : Progress P C A V M)
+    (leads : Reaches (first_state core.limits.partitions core.limits.workers) core.history core.state) where
   -- each partition has a host
   each_hosted : length core.state.hosts ≡ length core.state.places
   each_hosted =
@@ -111,7 +113,7 @@ module _ {P C A V M : Type 0} (core : Progress P C A V M) (leads : Reaches (firs
       ∙ (sym (length-places_all first core.history) ∙ ap (λ (s : State). length s.places) leads.leads))))
 
   -- a loss leaves those that are to be recorded beside it
-  fall_still : (fated : ℕ → ℕ → ℕ → ℕ → Bool) (attempt w : ℕ) (loss : Loss) → is_allowed core.state (Lose w) ≡ true → IsFall fated attempt core.state loss
+  fall_still : (fated : Fated) (attempt w : ℕ) (loss : Loss) → is_allowed core.state (Lose w) ≡ true → IsFall fated attempt core.state loss
       → IsFall fated attempt (after core.state (Lose w)) loss
   fall_still fated attempt w loss allowed fall = record {
     lowest = λ q r at. fall.lowest q r (was q r (host_of q core.state == w) (sym (place_after_lose core.state w q each_hosted) ∙ at));
@@ -143,7 +145,7 @@ module _ {P C A V M : Type 0} (core : Progress P C A V M) (leads : Reaches (firs
       stays q false is apart = refl
 
   -- its superstep is the least one of what its worker hosted
-  lost_is : (fated : ℕ → ℕ → ℕ → ℕ → Bool) (attempt : ℕ) (loss : Loss) → is_allowed core.state (Lose loss.worker) ≡ true → IsFall fated attempt core.state loss
+  lost_is : (fated : Fated) (attempt : ℕ) (loss : Loss) → is_allowed core.state (Lose loss.worker) ≡ true → IsFall fated attempt core.state loss
       → lost_by core.state (Lose loss.worker) ≡ as_told loss ∷ []
   lost_is fated attempt loss allowed fall =
       let stands : Stands core.state loss = fall.there (and_parts _ _ allowed).1 in
@@ -165,8 +167,9 @@ happens_lose w a b lost = record {
   history_is = ap (λ core. core.history) lost.core_is;
 }
 
-module _ {P C A V M : Type 0} (own : Meaning P C A V M) (fated : ℕ → ℕ → ℕ → ℕ → Bool) (first : Progress P C A V M) (shelf : ShelfState) where
-  pub loses_none : (attempt : ℕ) (now : Coordination P C A V M) (loss : Loss) (rest : List Loss) → LosesOn own fated first shelf attempt now (loss ∷ rest) → LosesOn own fated first shelf attempt now rest
+module _ {P C A V M : Type 0} (own : Meaning P C A V M) (fated : Fated) (first : Progress P C A V M) (shelf : ShelfState) where
+  pub loses_none : (attempt : ℕ) (now : Coordination P C A V M) (loss : Loss) (rest : List Loss) → LosesOn own fated first shelf attempt now (loss ∷ rest)
+      → LosesOn own fated first shelf attempt now rest
   loses_none attempt now loss rest on = record {
     runs = on.runs;
     before = on.before;
@@ -176,7 +179,8 @@ module _ {P C A V M : Type 0} (own : Meaning P C A V M) (fated : ℕ → ℕ →
   pub loses_one : (attempt : ℕ) (a b : Coordination P C A V M) (loss : Loss) (rest : List Loss) → is_allowed a.core.state (Lose loss.worker) ≡ true
       → HasLost loss.worker a.core b.core
       → ((kept : Option Rows) → IsRight (job_in own a.core) kept a.core → IsRight (job_in own a.core) kept b.core)
-      → b.losses ≡ a.losses ++ loss ∷ [] → b.calls ≡ a.calls → LosesOn own fated first shelf attempt a (loss ∷ rest) → LosesOn own fated first shelf attempt b rest
+      → b.losses ≡ a.losses ++ loss ∷ [] → b.calls ≡ a.calls → LosesOn own fated first shelf attempt a (loss ∷ rest)
+      → LosesOn own fated first shelf attempt b rest
   loses_one attempt a b loss rest allowed lost keeps losses calls on =
       let happens : Happens (Lose loss.worker) a.core b.core = happens_lose loss.worker a.core b.core lost in
       let fall : IsFall fated attempt a.core.state loss = All-head (IsFall fated attempt a.core.state) loss rest on.falls in

@@ -1,11 +1,13 @@
 -- What workers give back of what they were assigned.
-use Rattle.std.proofs.Common.{◌≡◌, ◌≢◌, ℕ, zero, suc, ◌+◌, ◌<◌, ◌≤◌, Bool, true, List, [], ◌∷◌, ◌++◌, length, get_or, set, refl, ap, sym, ◌∙◌, subst, subst₂, arith, Option, None, Some, is_some, Result, Ok, Err, Vec, Global, inl, inr}
+use Rattle.std.proofs.Common.{◌≡◌, ◌≢◌, ℕ, zero, suc, ◌+◌, ◌<◌, ◌≤◌, Bool, true, List, [], ◌∷◌, ◌++◌, length, get_or, set, refl}
+use Rattle.std.proofs.Common.{ap, sym, ◌∙◌, subst, subst₂, arith, Option, None, Some, is_some, Result, Ok, Err, Vec, Global, inl, inr}
 use Rattle.std.specs.Prelude.{All, IfOk, IfErr, slice_index_or}
 use Rattle.std.specs.List.{AllPairs, AllZip}
 use Rattle.std.proofs.lemmas.Bool.{cases_eq, leb-true, true≢false}
 use Rattle.std.proofs.lemmas.List.{get_or-set_other}
 use Rattle.std.proofs.lemmas.List.Elements.{All-cons, All-head, All-nil, All-tail}
 use Rattle.std.proofs.lemmas.Option.{same_Some}
+use Rattle.std.proofs.lemmas.Result.{IfErr-weaker, IfOk-weaker}
 use Rattle.pg_core.specs.Progress.{IsNext, IsRight, IsStepOf, Progress, kept_for}
 use Rattle.pg_core.specs.Traces.{logs_in, visible_in}
 use Rattle.pg_core.proofs.Steps.{IsNext-from_IsFurther, IsStepOf-from_HasMadeStep, lent_beside, lent_run}
@@ -21,12 +23,14 @@ use Rattle.pg_model.specs.Share.{belongs}
 use Rattle.pg_model.specs.Superstep.{capped}
 use Rattle.pg_workers_rounds.specs.Handed.{PartState}
 use Rattle.pg_stats.specs.GlobalStats.{aggregators_of}
+use Rattle.pg_workers.proofs.Taking.{lends_before}
+use Rattle.pg_workers.specs.Losses.{Fated}
 use Rattle.pg_workers.specs.Meaning.{Meaning, job_in}
 use Rattle.pg_workers.specs.Recovering.{IsFall}
-use Rattle.pg_workers.specs.Rounds.{AreAssigned, AreNext, AreRecorded, AreReturned, AreStepsRight, ComesEarlier, HasFallen, HasNone, IsAssigned, IsBack, IsReturned, IsStepRight}
+use Rattle.pg_workers.specs.Rounds.{AreAssigned, AreNext, AreRecorded, AreReturned, AreStepsRight, ComesEarlier, HasFallen}
+use Rattle.pg_workers.specs.Rounds.{HasNone, IsAssigned, IsBack, IsReturned, IsStepRight}
 use Rattle.pg_workers.specs.Rounds.{IsTaken, Lends, NoneBefore, fallen_in, with_outcome, with_outcomes, with_steps}
 use Rattle.pg_workers.specs.declared.counts.Loss.{Loss}
-use Rattle.pg_workers.proofs.Going.{err_then, ok_then}
 use Rattle.pg_workers_rounds.specs.Outcomes.{AreOutcomes, IsOutcome}
 use Rattle.pg_workers_rounds.specs.Round.{RoundOf}
 use Rattle.pg_workers_rounds.specs.Work.{IsDone, IsStruck}
@@ -45,7 +49,7 @@ zip_all R Q W (x ∷ xs) [] f all zip = absurd zip
 zip_all R Q W (x ∷ xs) (y ∷ ys) f all zip =
     All-cons W y ys (f x y (All-head Q x xs all) zip.0) (zip_all R Q W xs ys f (All-tail Q x xs all) zip.1)
 
-module _ {P C A V M : Type 0} (own : Meaning P C A V M) (fated : ℕ → ℕ → ℕ → ℕ → Bool) (superstep attempt : ℕ) (core : Progress P C A V M)
+module _ {P C A V M : Type 0} (own : Meaning P C A V M) (fated : Fated) (superstep attempt : ℕ) (core : Progress P C A V M)
     (round : RoundOf M) (lends : Lends own core superstep attempt round) where
   abbrev job : Job V M
   job = job_in own core
@@ -80,7 +84,8 @@ module _ {P C A V M : Type 0} (own : Meaning P C A V M) (fated : ℕ → ℕ →
             let here : place_at p core.state ≡ Some s = ap (λ (q : ℕ). place_at q core.state) (sym same) ∙ at in
             let place : r ≡ s = same_Some r s (sym taken.at.place_is ∙ here) in
             let none : (x : ℕ) → capped (0 + x) ≡ capped x = λ x. omega arith in
-            subst₂ (λ (q k : ℕ). done.calls ≡ capped (needed_in own.value_eq own.message_eq job (kept_for kept core q) core.graph (belongs n q) k)) (sym same) place
+            subst₂ (λ (q k : ℕ). done.calls ≡ capped (needed_in own.value_eq own.message_eq job (kept_for kept core q) core.graph (belongs n q) k))
+            (sym same) place
             ((made kept right).course.counted ∙ none (needed_in own.value_eq own.message_eq job (kept_for kept core p) core.graph (belongs n p) r));
       }
 
@@ -110,11 +115,11 @@ module _ {P C A V M : Type 0} (own : Meaning P C A V M) (fated : ℕ → ℕ →
       → IsReturned own fated superstep attempt core outcome
   returned_from_outcome assignment outcome assigned is = record {
     done = subst (λ (w : ℕ). IfOk outcome.done (λ dones. All (IsBack own core w) dones.items)) (sym is.worker)
-        (ok_then _ (λ dones. All (IsBack own core assignment.worker) dones.items) outcome.done
+        (IfOk-weaker outcome.done _ (λ dones. All (IsBack own core assignment.worker) dones.items)
         (λ dones zip. zip_all _ (IsTaken own core superstep assignment.worker) (IsBack own core assignment.worker) assignment.parts.items dones.items
         (λ part done taken made. back_from_taken assignment.worker part done taken made) assigned.parts zip) is.done);
     fell = subst (λ (w : ℕ). IfErr outcome.done (λ cause. HasFallen fated superstep attempt core.state w cause)) (sym is.worker)
-        (err_then _ (λ cause. HasFallen fated superstep attempt core.state assignment.worker cause) outcome.done
+        (IfErr-weaker outcome.done _ (λ cause. HasFallen fated superstep attempt core.state assignment.worker cause)
         (λ cause struck. fallen_from_taken assignment.worker assignment.parts.items cause assigned.some assigned.parts struck) is.struck);
   }
 
@@ -127,10 +132,12 @@ module _ {P C A V M : Type 0} (own : Meaning P C A V M) (fated : ℕ → ℕ →
     each = λ k d within. one k d within assignments assigned.each are.many are.each;
   }
     where
-      rises : (i j : ℕ) (d : Outcome V M) → i < j → j < length outcomes → (assignments : List (Assignment V M)) → AllPairs (λ (a b : Assignment V M). a.worker < b.worker) assignments
+      rises : (i j : ℕ) (d : Outcome V M) → i < j → j < length outcomes → (assignments : List (Assignment V M))
+          → AllPairs (λ (a b : Assignment V M). a.worker < b.worker) assignments
           → length outcomes ≡ length assignments
           → ((i : ℕ) (a : Assignment V M) (o : Outcome V M) → i < length assignments
-          → IsOutcome own.value_eq own.message_eq (own.program core.program) (own.combining core.combiner) fated round (get_or assignments i a) (get_or outcomes i o))
+          → IsOutcome own.value_eq own.message_eq (own.program core.program) (own.combining core.combiner) fated round (get_or assignments i a)
+          (get_or outcomes i o))
           → (get_or outcomes i d).worker < (get_or outcomes j d).worker
       rises i j d less within [] rise many each = absurd (omega (arith, many, within))
       rises i j d less within (a ∷ later) rise many each =
@@ -141,7 +148,8 @@ module _ {P C A V M : Type 0} (own : Meaning P C A V M) (fated : ℕ → ℕ →
       one : (k : ℕ) (d : Outcome V M) → k < length outcomes → (assignments : List (Assignment V M)) → All (IsAssigned own core superstep) assignments
           → length outcomes ≡ length assignments
           → ((i : ℕ) (a : Assignment V M) (o : Outcome V M) → i < length assignments
-          → IsOutcome own.value_eq own.message_eq (own.program core.program) (own.combining core.combiner) fated round (get_or assignments i a) (get_or outcomes i o))
+          → IsOutcome own.value_eq own.message_eq (own.program core.program) (own.combining core.combiner) fated round (get_or assignments i a)
+          (get_or outcomes i o))
           → IsReturned own fated superstep attempt core (get_or outcomes k d)
       one k d within [] all many each = absurd (omega (arith, many, within))
       one k d within (a ∷ later) all many each =
@@ -198,7 +206,7 @@ module _ {P C A V M : Type 0} (own : Meaning P C A V M) (core : Progress P C A V
       ∙ get_or-set_other steps done.part.course.partition p (Some done) None
       (λ same. apart (ap (λ (q : ℕ). host_of q core.state) same ∙ one.host_is))
 
-  module _ (fated : ℕ → ℕ → ℕ → ℕ → Bool) (superstep attempt : ℕ) where
+  module _ (fated : Fated) (superstep attempt : ℕ) where
     abbrev Returned : Outcome V M → Type 0
     Returned outcome = IsReturned own fated superstep attempt core outcome
 
@@ -237,12 +245,15 @@ module _ {P C A V M : Type 0} (own : Meaning P C A V M) (core : Progress P C A V
 
     -- the steps that stand there are of workers before all of these
     Precede : List (Option (Done V M)) → List (Outcome V M) → Type 0
-    Precede steps outcomes = (p : ℕ) (done : Done V M) → slice_index_or steps p None ≡ Some done → All (λ (o : Outcome V M). host_of p core.state < o.worker) outcomes
+    Precede steps outcomes = (p : ℕ) (done : Done V M) → slice_index_or steps p None ≡ Some done
+        → All (λ (o : Outcome V M). host_of p core.state < o.worker) outcomes
 
-    collected_good : (outcomes : List (Outcome V M)) (steps : List (Option (Done V M))) → All Returned outcomes → AreGood steps → AreGood (with_outcomes outcomes steps)
+    collected_good : (outcomes : List (Outcome V M)) (steps : List (Option (Done V M))) → All Returned outcomes → AreGood steps
+        → AreGood (with_outcomes outcomes steps)
     collected_good [] steps are good = good
     collected_good (outcome ∷ outcomes) steps are good =
-        collected_good outcomes (with_outcome outcome steps) (All-tail Returned outcome outcomes are) (outcome_good outcome steps (All-head Returned outcome outcomes are) good)
+        collected_good outcomes (with_outcome outcome steps) (All-tail Returned outcome outcomes are)
+        (outcome_good outcome steps (All-head Returned outcome outcomes are) good)
 
     precede_more : (outcome : Outcome V M) (outcomes : List (Outcome V M)) (steps : List (Option (Done V M))) → AllPairs ComesEarlier (outcome ∷ outcomes)
         → Returned outcome → Precede steps (outcome ∷ outcomes) → Precede (with_outcome outcome steps) outcomes
@@ -270,14 +281,17 @@ module _ {P C A V M : Type 0} (own : Meaning P C A V M) (core : Progress P C A V
     collected_fallen [] steps are rise before = All-nil (IsUnnoted steps)
     collected_fallen (outcome ∷ outcomes) steps are rise before =
         let one : Returned outcome = All-head Returned outcome outcomes are in
-        let rest = collected_fallen outcomes (with_outcome outcome steps) (All-tail Returned outcome outcomes are) (pairs_tail ComesEarlier outcome outcomes rise)
+        let rest = collected_fallen outcomes (with_outcome outcome steps) (All-tail Returned outcome outcomes are)
+        (pairs_tail ComesEarlier outcome outcomes rise)
         (precede_more outcome outcomes steps rise one before) in
         by outcome.done refl one.fell rest
       where
-        by : (done : Result (Vec (Done V M) Global) Cause) → outcome.done ≡ done → IfErr done (λ cause. HasFallen fated superstep attempt core.state outcome.worker cause)
+        by : (done : Result (Vec (Done V M) Global) Cause) → outcome.done ≡ done
+            → IfErr done (λ cause. HasFallen fated superstep attempt core.state outcome.worker cause)
             → All (IsUnnoted (with_outcomes outcomes (with_outcome outcome steps))) (fallen_in superstep outcomes)
             → All (IsUnnoted (with_outcomes outcomes (with_outcome outcome steps)))
-            ((elim done [ Ok dones ↦ [] | Err cause ↦ record { worker = outcome.worker; superstep = superstep; cause = cause } ∷ [] ]) ++ fallen_in superstep outcomes)
+            ((elim done [ Ok dones ↦ [] | Err cause ↦ record { worker = outcome.worker; superstep = superstep; cause = cause } ∷ [] ]) ++ fallen_in superstep
+            outcomes)
         by (Ok dones) is fell rest = rest
         by (Err cause) is fell rest =
             All-cons (IsUnnoted (with_outcomes outcomes (with_outcome outcome steps))) _ (fallen_in superstep outcomes) (record {
@@ -286,7 +300,8 @@ module _ {P C A V M : Type 0} (own : Meaning P C A V M) (core : Progress P C A V
               unnoted =
                   all_others outcomes (with_outcome outcome steps) fell.partition (All-tail Returned outcome outcomes are)
                   (subst (λ (w : ℕ). All (λ (o : Outcome V M). w < o.worker) outcomes) (sym fell.host_is) (pairs_head ComesEarlier outcome outcomes rise))
-                  ∙ (ap (λ (d : Result (Vec (Done V M) Global) Cause). slice_index_or (elim d [ Ok dones ↦ with_steps dones.items steps | Err cause ↦ steps ]) fell.partition None) is
+                  ∙ (ap (λ (d : Result (Vec (Done V M) Global) Cause). slice_index_or
+                  (elim d [ Ok dones ↦ with_steps dones.items steps | Err cause ↦ steps ]) fell.partition None) is
                   ∙ unnoted_here steps outcome outcomes fell.partition before fell.host_is);
             }) rest
 
@@ -355,3 +370,22 @@ module _ {P C A V M : Type 0} (own : Meaning P C A V M) (core : Progress P C A V
         leb_at : (q r : ℕ) → place_at q core.state ≡ Some r → is_from superstep (place_at q core.state) ≡ true → superstep ≤ r
         leb_at q r there from =
             leb-true superstep r (ap (λ (o : Option ℕ). is_from superstep o) (sym there) ∙ from)
+
+-- what the workers of a round made of what they were assigned is returned, of whatever core their parts were taken from
+module _ {P C A V M : Type 0} (own : Meaning P C A V M) (fated : Fated) (superstep attempt : ℕ) (now : Progress P C A V M)
+    (round : RoundOf M) (lends : Lends own now superstep attempt round) (program : P) (combiner : C)
+    (program_is : program ≡ now.program) (combiner_is : combiner ≡ now.combiner) (assignments : List (Assignment V M)) where
+  pub all_returned : {E : Type 0} (result : Result (Vec (Outcome V M) Global) E)
+      → IfOk result (λ outcomes. AreOutcomes own.value_eq own.message_eq (own.program program) (own.combining combiner) fated round
+      assignments outcomes.items)
+      → IfOk result (λ outcomes. (before : Progress P C A V M) (below : ℕ) → AreAssigned own before superstep below now assignments
+      → AreReturned own fated superstep attempt before outcomes.items)
+  all_returned result are =
+      IfOk-weaker result _ _ (λ outcomes each before below assigned.
+      let left = assigned.taken in
+      returned own fated superstep attempt before round (lends_before own before now superstep attempt round left lends) below now
+      assignments outcomes.items assigned
+      (subst₂ (λ (p : P) (c : C). AreOutcomes own.value_eq own.message_eq (own.program p) (own.combining c) fated round assignments
+      outcomes.items)
+      (program_is ∙ ap (λ (core : Progress P C A V M). core.program) left.core_is)
+      (combiner_is ∙ ap (λ (core : Progress P C A V M). core.combiner) left.core_is) each)) are

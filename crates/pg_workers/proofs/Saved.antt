@@ -1,5 +1,6 @@
 -- Partitions that are lost go on elsewhere, and those that are here are saved.
-use Rattle.std.proofs.Common.{◌≡◌, ◌≢◌, ℕ, zero, suc, ◌+◌, ◌<◌, ◌≤◌, ◌^◌, Bool, true, false, List, [], ◌∷◌, ◌++◌, length, map, take, refl, ap, sym, ◌∙◌, subst, subst₂, arith, Option, None, Some, Result, Ok, inl, inr}
+use Rattle.std.proofs.Common.{◌≡◌, ◌≢◌, ℕ, zero, suc, ◌+◌, ◌<◌, ◌≤◌, ◌^◌, Bool, true, false, List, [], ◌∷◌, ◌++◌, length}
+use Rattle.std.proofs.Common.{map, take, refl, ap, sym, ◌∙◌, subst, subst₂, arith, Option, None, Some, Result, Ok, inl, inr}
 use Rattle.std.specs.Prelude.{◌==◌}
 use Rattle.std.specs.List.{list_all}
 use Rattle.std.proofs.lemmas.Bool.{and_parts, cases_eq, eqb-true}
@@ -29,7 +30,7 @@ use Rattle.pg_model.specs.Job.{Job}
 use Rattle.pg_model.specs.Run.{run_length}
 use Rattle.pg_model.specs.Superstep.{capped}
 use Rattle.pg_workers_rounds.specs.Handed.{HoldsShare, PartState}
-use Rattle.pg_workers.specs.Losses.{AreFated, Trusts, as_told}
+use Rattle.pg_workers.specs.Losses.{AreFated, Fated, Trusts, as_told}
 use Rattle.pg_workers.specs.Meaning.{Meaning, job_in}
 use Rattle.pg_routing.specs.Starting.{PartRows}
 use Rattle.pg_workers.specs.Recovering.{IsFoundRight}
@@ -187,7 +188,7 @@ holds_at : {V M : Type 0} (job : Job V M) (kept : Option Rows) (rows : Rows) (n 
     → HoldsAt job rows kept n p place part → HoldsShare job kept rows n p r part
 holds_at job kept rows n p r place part at holds = subst (λ (o : Option ℕ). HoldsAt job rows kept n p o part) at holds
 
-module _ {P C A V M : Type 0} (own : Meaning P C A V M) (fated : ℕ → ℕ → ℕ → ℕ → Bool) (first : Progress P C A V M) where
+module _ {P C A V M : Type 0} (own : Meaning P C A V M) (fated : Fated) (first : Progress P C A V M) where
   -- the shelf was looked at
   pub running_got : {X : Type 0} (before now : ShelfState) (result : Result X _) (c : Coordination P C A V M) → IsGot before result now
       → IsRunning own fated first before c → IsRunning own fated first now c
@@ -214,7 +215,8 @@ module _ {P C A V M : Type 0} (own : Meaning P C A V M) (fated : ℕ → ℕ →
       → b.losses ≡ a.losses → b.calls ≡ a.calls → IsRunning own fated first before a → IsRunning own fated first now b
   running_save before now a b p part x allowed few mine here there put codable fits is keeps losses calls runs =
       let happens : Happens (Save p) a.core b.core = happens_event (Save p) a.core b.core is in
-      let many : length a.core.state.saved ≡ a.core.limits.partitions = saved_many a.core.limits.partitions a.core.limits.workers a.core.history a.core.state runs.leads in
+      let many : length a.core.state.saved ≡ a.core.limits.partitions = saved_many a.core.limits.partitions a.core.limits.workers a.core.history a.core.state
+      runs.leads in
       let near = AreNear-from_Reaches a.core.limits.partitions a.core.limits.workers a.core.history a.core.state runs.leads in
       let n_is : a.core.limits.partitions ≡ first.limits.partitions = ap (λ (l : Limits). l.partitions) runs.same.limits_are in
       let run_is : a.core.run ≡ first.run = runs.same.run_is in
@@ -230,7 +232,8 @@ module _ {P C A V M : Type 0} (own : Meaning P C A V M) (fated : ℕ → ℕ →
         saved = λ honest kept first_right right all.
             let holds : HoldsShare (job_in own first) (kept_for kept a.core p) first.graph first.limits.partitions p part.course.place part =
             subst₂ (λ (g : Rows) (n : ℕ). HoldsShare (job_in own first) (kept_for kept a.core p) g n p part.course.place part) rows_are n_is
-            (holds_at (job_in own first) (kept_for kept a.core p) a.core.graph a.core.limits.partitions p part.course.place (place_at p a.core.state) part there.place_is
+            (holds_at (job_in own first) (kept_for kept a.core p) a.core.graph a.core.limits.partitions p part.course.place
+            (place_at p a.core.state) part there.place_is
             (right.parts p part here)) in
             let ended : a.core.state.current + 1 ≤ run_length (job_in own first) first.graph =
             subst (λ (g : Rows). a.core.state.current + 1 ≤ run_length (job_in own first) g) rows_are (omega (arith, right.within)) in
@@ -242,8 +245,10 @@ module _ {P C A V M : Type 0} (own : Meaning P C A V M) (fated : ℕ → ℕ →
             let others : (other : List ℕ) → other ≢ key_of p → Fades (at_key before other) (at_key now other) =
             λ other apart. put.others honest other (λ e. apart (e ∙ key)) in
             subst (λ (s : State). AreSaved own (job_in own first) first.graph first.limits.partitions first.run s now) (sym happens.state_is)
-            (one_saved own (job_in own first) first.graph first.limits.partitions first.run (omega (arith, n_is, few)) a.core.state before now p part.course.place
-            (kept_for kept a.core p) part (omega (arith, mine, many)) there.place_is (omega (arith, near.places p part.course.place there.place_is, ended)) holds codable
+            (one_saved own (job_in own first) first.graph first.limits.partitions first.run
+            (omega (arith, n_is, few)) a.core.state before now p part.course.place
+            (kept_for kept a.core p) part (omega (arith, mine, many)) there.place_is
+            (omega (arith, near.places p part.course.place there.place_is, ended)) holds codable
             (subst (λ (l : List ℕ). length l < 2 ^ 64) coding fits) (omega (arith, mine, n_is)) faded others all);
       }) runs
 
@@ -272,13 +277,15 @@ module _ {P C A V M : Type 0} (own : Meaning P C A V M) (fated : ℕ → ℕ →
   -- it goes on from what was found of it
   pub running_restore : (shelf : ShelfState) (a b : Coordination P C A V M) (p : ℕ) (found : Option (PartState V M))
       → is_allowed a.core.state (Restore p (place_found found)) ≡ true → IsRestored (own.combining a.core.combiner) p found a.core b.core
-      → ((kept : Option Rows) → IsRight (job_in own a.core) kept a.core → IsShareFound (job_in own a.core) a.core p found → IsRight (job_in own a.core) kept b.core)
+      → ((kept : Option Rows) → IsRight (job_in own a.core) kept a.core → IsShareFound (job_in own a.core) a.core p found
+      → IsRight (job_in own a.core) kept b.core)
       → b.losses ≡ a.losses → b.calls ≡ a.calls → IsRunning own fated first shelf a → IsFoundRight own first shelf a.core p found
       → IsRunning own fated first shelf b
   running_restore shelf a b p found allowed restored keeps losses calls runs found_right =
       running_quiet own fated first (Restore p (place_found found)) shelf a b allowed
       (happens_restore (own.combining a.core.combiner) p found a.core b.core restored)
-      (λ kept right trusts is. keeps kept is (subst (λ (j : Job V M). IsShareFound j a.core p found) (sym (job_stays own runs.same)) (found_right kept right trusts)))
+      (λ kept right trusts is. keeps kept is
+      (subst (λ (j : Job V M). IsShareFound j a.core p found) (sym (job_stays own runs.same)) (found_right kept right trusts)))
       losses calls refl (λ needs lost. refl) refl runs
 
   -- what a shelf gave of a partition is right, if it may be trusted once the partition goes on from it
@@ -300,7 +307,8 @@ module _ {P C A V M : Type 0} (own : Meaning P C A V M) (fated : ℕ → ℕ →
           → IsSaved own (job_in own first) first.graph first.limits.partitions first.run p r (at_key shelf (key_of p))
           → IsLoaded own.is_value own.value own.is_message own.message asked (at_key shelf (key_of p)) (Found part) → job_in own first ≡ job_in own c.core
           → HoldsShare (job_in own first) None c.core.graph c.core.limits.partitions p part.course.place part
-      by None is was loaded same = absurd (subst (λ (o : Option (List ℕ)). IsLoaded own.is_value own.value own.is_message own.message asked o (Found part)) is loaded)
+      by None is was loaded same = absurd
+          (subst (λ (o : Option (List ℕ)). IsLoaded own.is_value own.value own.is_message own.message asked o (Found part)) is loaded)
       by (Some bytes) is was loaded same =
           let job : Job V M = job_in own first in
           let found = subst (λ (o : Option (List ℕ)). IsLoaded own.is_value own.value own.is_message own.message asked o (Found part)) is loaded in
@@ -316,6 +324,7 @@ module _ {P C A V M : Type 0} (own : Meaning P C A V M) (fated : ℕ → ℕ →
           subst₂ (λ (k : ℕ) (o : Option (List ℕ)). Fades (Some (part_coding own.value own.message k was.part)) o) run_is is was.faded in
           let holds : HoldsShare job None asked.rows.graph asked.rows.partitions asked.rows.partition r part =
           found_holds own.is_value own.value own.is_message own.message asked job was.kept r was.part part bytes
-          (ap (λ (j : Job V M). j.program) same ∙ program) (ap (λ (j : Job V M). j.missing) same ∙ missing) (ap (λ (j : Job V M). j.aggregators) same ∙ aggregators)
+          (ap (λ (j : Job V M). j.program) same ∙ program) (ap (λ (j : Job V M). j.missing) same ∙ missing)
+          (ap (λ (j : Job V M). j.aggregators) same ∙ aggregators)
           within held was.codable fits faded found in
           subst₂ (λ (o : PartRows) (k : ℕ). HoldsShare job None o.graph o.partitions o.partition k part) rows (sym place) holds

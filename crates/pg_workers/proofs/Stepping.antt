@@ -20,7 +20,7 @@ use Rattle.pg_model.specs.Needed.{needed_in}
 use Rattle.pg_model.specs.Share.{belongs}
 use Rattle.pg_model.specs.Superstep.{capped}
 use Rattle.pg_workers_rounds.specs.Handed.{PartState}
-use Rattle.pg_workers.specs.Losses.{AreFated, Trusts, as_told}
+use Rattle.pg_workers.specs.Losses.{AreFated, Fated, Trusts, as_told}
 use Rattle.pg_workers.specs.Meaning.{Meaning, job_in}
 use Rattle.pg_workers.specs.Rounds.{AreNext, AreRecorded, AreStepsRight, IsStepRight, NoneBefore}
 use Rattle.pg_workers.specs.Running.{Coordination, Happens, IsRunning}
@@ -78,7 +78,8 @@ none_before_step s q state allowed none p r at =
 pub counts_more : (x y d z : ℕ) → y ≡ capped x → d ≡ capped z → capped (y + d) ≡ capped (x + z)
 counts_more x y d z a b = omega (arith, a, b)
 
-pub happens_step : {P C A V M : Type 0} (a b : Progress P C A V M) (p : ℕ) (part : PartState V M) (sent : List _) → TakesIn p part sent a b → Happens (Step p) a b
+pub happens_step : {P C A V M : Type 0} (a b : Progress P C A V M) (p : ℕ) (part : PartState V M) (sent : List _) → TakesIn p part sent a b
+    → Happens (Step p) a b
 happens_step a b p part sent takes = record {
   same = record {
     program_is = ap (λ core. core.program) takes.core_is;
@@ -93,7 +94,7 @@ happens_step a b p part sent takes = record {
 }
 
 module _ {P C A V M : Type 0} (own : Meaning P C A V M) where
-  pub running_step : (fated : ℕ → ℕ → ℕ → ℕ → Bool) (first : Progress P C A V M) (shelf : ShelfState) (a b : Coordination P C A V M) (p : ℕ) (done : Done V M)
+  pub running_step : (fated : Fated) (first : Progress P C A V M) (shelf : ShelfState) (a b : Coordination P C A V M) (p : ℕ) (done : Done V M)
       → is_allowed a.core.state (Step p) ≡ true → TakesIn p done.part done.sent a.core b.core
       → ((kept : Option Rows) → IsRight (job_in own a.core) kept a.core → IsStepOf (job_in own a.core) kept a.core p done.part done.sent
       → IsRight (job_in own a.core) kept b.core)
@@ -113,10 +114,12 @@ module _ {P C A V M : Type 0} (own : Meaning P C A V M) where
         fated_are = λ are. subst (AreFated fated 0) (sym losses) are;
         calls_are = λ kept x right trusts was.
             let step = steps kept right (trusts_before shelf.is_honest a.core.history (Step p) trusts) in
-            let needs : ℕ = needed_in own.value_eq own.message_eq (job_in own first) (kept_for kept a.core p) a.core.graph (belongs a.core.limits.partitions p) from.from in
+            let needs : ℕ = needed_in own.value_eq own.message_eq (job_in own first) (kept_for kept a.core p) a.core.graph
+            (belongs a.core.limits.partitions p) from.from in
             let counted : done.calls ≡ capped needs =
             subst (λ (j : Job V M). done.calls ≡ capped
-            (needed_in own.value_eq own.message_eq j (kept_for kept a.core p) a.core.graph (belongs a.core.limits.partitions p) from.from)) there (step.counted from.from from.at) in
+            (needed_in own.value_eq own.message_eq j (kept_for kept a.core p) a.core.graph (belongs a.core.limits.partitions p) from.from)) there
+            (step.counted from.from from.at) in
             calls ∙ (counts_more x a.calls done.calls needs was counted
             ∙ ap (λ (place : Option ℕ). capped (x + elim place as (λ _. ℕ) [
               | None ↦ 0
@@ -156,7 +159,7 @@ module _ {P C A V M : Type 0} (own : Meaning P C A V M) where
         → (slice_index_or steps p None ≡ Some done) × ((is_allowed now.core.state (Step p) ≡ true) × (place_at p now.core.state ≡ place_at p old.core.state))
     pub recorded : AreRecorded steps old.core.state now.core.state
     pub trusts : (honest : Bool) → Trusts honest now.core.history → Trusts honest old.core.history
-    pub goes : (fated : ℕ → ℕ → ℕ → ℕ → Bool) (first : Progress P C A V M) (shelf : ShelfState) → IsRunning own fated first shelf old
+    pub goes : (fated : Fated) (first : Progress P C A V M) (shelf : ShelfState) → IsRunning own fated first shelf old
         → ((kept : Option Rows) → IsRight (job_in own first) kept first → Trusts shelf.is_honest old.core.history → AreStepsRight own kept old.core steps)
         → IsRunning own fated first shelf now × ((p : ℕ) → has_lost now.core p ≡ has_lost old.core p)
 
@@ -216,7 +219,7 @@ module _ {P C A V M : Type 0} (own : Meaning P C A V M) where
     pub takes_in_more : (now new : Coordination P C A V M) (rest : List (Option (Done V M))) (p : ℕ) (done : Done V M)
         → TakesInOn steps old now rest → slice_index_or rest p None ≡ Some done
         → Happens (Step p) now.core new.core → new.losses ≡ now.losses
-        → ((fated : ℕ → ℕ → ℕ → ℕ → Bool) (first : Progress P C A V M) (shelf : ShelfState) → IsRunning own fated first shelf now
+        → ((fated : Fated) (first : Progress P C A V M) (shelf : ShelfState) → IsRunning own fated first shelf now
         → ((kept : Option Rows) → IsRight (job_in own first) kept first → Trusts shelf.is_honest now.core.history → IsStepRight own kept now.core p done)
         → IsRunning own fated first shelf new)
         → TakesInOn steps old new (set rest p None)
@@ -255,7 +258,8 @@ module _ {P C A V M : Type 0} (own : Meaning P C A V M) where
                     (right kept first_right (was.trusts shelf.is_honest trusts) p done left.0)),
                 λ q. ap (λ (l : Limits). was_lost q (first_state l.partitions l.workers) new.core.history) happens.same.limits_are
                     ∙ (ap (was_lost q (first_state now.core.limits.partitions now.core.limits.workers)) happens.history_is
-                    ∙ (was_lost-stays q (first_state now.core.limits.partitions now.core.limits.workers) now.core.state now.core.history (Step p) runs_now.leads refl
+                    ∙ (was_lost-stays q (first_state now.core.limits.partitions now.core.limits.workers) now.core.state now.core.history
+                    (Step p) runs_now.leads refl
                     ∙ gone.1 q)),
               );
         }

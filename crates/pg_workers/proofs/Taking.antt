@@ -62,7 +62,8 @@ module _ {P C A V M : Type 0} (own : Meaning P C A V M) where
       → place_at p core.state ≡ Some superstep → is_ready core p ≡ true
       → now ≡ without_part p core → part.course.place ≤ core.state.current → core.state.current < 10000
       → IsPartAt core.limits.partitions core.state p part
-      → ((kept : Option Rows) → IsRight (job_in own core) kept core → IsRight (job_in own core) kept now × IsStepLent (job_in own core) kept core p part.course.place part)
+      → ((kept : Option Rows) → IsRight (job_in own core) kept core → IsRight (job_in own core) kept now
+      × IsStepLent (job_in own core) kept core p part.course.place part)
       → TakesParts own first now superstep worker (parts ++ part ∷ [])
   takes_more first core now p superstep worker part parts was within host place ready is reached small at lends =
       let mine : part.course.partition ≡ p = at.partition_is in

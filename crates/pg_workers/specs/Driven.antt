@@ -13,12 +13,12 @@ use Rattle.pg_model.specs.Needed.{needed_count}
 use Rattle.pg_model.specs.Run.{answer, run_length}
 use Rattle.pg_model.specs.Superstep.{capped}
 use Rattle.pg_model.specs.declared.run.Run.{Run}
-use Rattle.pg_workers.specs.Losses.{AreFated, Trusts, as_told}
+use Rattle.pg_workers.specs.Losses.{AreFated, Fated, Trusts, as_told}
 use Rattle.pg_workers.specs.Meaning.{Meaning, job_in}
 use Rattle.pg_workers.specs.declared.counts.Counts.{Counts}
 
--- the status machine allows this history of n partitions on so many workers, the run has ended with it, and the steps and
--- the losses that were counted are those that it tells of
+-- the status machine allows this history of n partitions on so many workers, the run has ended with it, and the steps
+-- and the losses that were counted are those that it tells of
 pub record IsHistoryOf (n workers : ℕ) (history : List Event) (counts : Counts) : Type 0 where
   pub reached : State
   pub leads : Reaches (first_state n workers) history reached
@@ -26,28 +26,32 @@ pub record IsHistoryOf (n workers : ℕ) (history : List Event) (counts : Counts
   pub steps_are : counts.steps ≡ map (λ p. steps_of p history) (range_with_len 0 n)
   pub losses_are : map as_told counts.losses ≡ losses_in (first_state n workers) history
 
--- it has all supersteps of the job's run on these rows, and the calls that were counted are those that it tells of: in each
--- step those that differ from the kept run's, if any, and all where a loss had taken the partition
-pub record AreCountsOf {V M : Type 0} (value_eq : V → V → Bool) (message_eq : M → M → Bool) (job : Job V M) (kept : Option Rows) (rows : Rows)
+-- it has all supersteps of the job's run on these rows, and the calls that were counted are those that it tells of: in
+-- each step those that differ from the kept run's, if any, and all where a loss had taken the partition
+pub record AreCountsOf {V M : Type 0} (value_eq : V → V → Bool) (message_eq : M → M → Bool) (job : Job V M)
+    (kept : Option Rows) (rows : Rows)
     (n workers : ℕ) (history : List Event) (counts : Counts) : Type 0 where
   pub tells : IsHistoryOf n workers history counts
   pub whole : tells.reached.current + 1 ≡ run_length job rows
-  pub calls_are : counts.calls ≡ capped (counts_in (needs_of value_eq message_eq job rows n kept) (λ p. false) (first_state n workers) history)
+  pub calls_are : counts.calls ≡ capped
+      (counts_in (needs_of value_eq message_eq job rows n kept) (λ p. false) (first_state n workers) history)
 
 module _ {P C A V M : Type 0} (own : Meaning P C A V M) where
   -- the answer, what is left for the next run and the counts are those of the run from scratch on the graph of a core,
   -- beside the kept run, if any
-  pub record IsAnswered (kept : Option Rows) (core : Progress P C A V M) (history : List Event) (run : Run V) (left : Traces V M)
+  pub record IsAnswered (kept : Option Rows) (core : Progress P C A V M) (history : List Event) (run : Run V)
+      (left : Traces V M)
       (counts : Counts) : Type 0 where
     pub answers : run ≡ answer (job_in own core) core.graph
     pub leaves : IsLeftBy (job_in own core) core.graph core.limits.partitions left
-    pub counted : AreCountsOf own.value_eq own.message_eq (job_in own core) kept core.graph core.limits.partitions core.limits.workers history counts
+    pub counted : AreCountsOf own.value_eq own.message_eq
+        (job_in own core) kept core.graph core.limits.partitions core.limits.workers history counts
 
   -- the run of a core was driven to its end through a history that the status machine allows. No more workers fell than
-  -- may, by the fate those alone that it has fall; each partition leaves something; there is an aggregate for each of the
-  -- master's registrations; and where the core was right it is answered, if the shelf is honest or nothing that it gave was
-  -- used
-  pub record IsDriven (fated : ℕ → ℕ → ℕ → ℕ → Bool) (honest : Bool) (core : Progress P C A V M) (run : Run V) (left : Traces V M)
+  -- may, by the fate those alone that it has fall; each partition leaves something; there is an aggregate for each of
+  -- the master's registrations; and where the core was right it is answered, if the shelf is honest or nothing that it
+  -- gave was used
+  pub record IsDriven (fated : Fated) (honest : Bool) (core : Progress P C A V M) (run : Run V) (left : Traces V M)
       (counts : Counts) : Type 0 where
     pub history : List Event
     pub tells : IsHistoryOf core.limits.partitions core.limits.workers history counts
@@ -55,12 +59,15 @@ module _ {P C A V M : Type 0} (own : Meaning P C A V M) where
     pub fated_are : AreFated fated 0 counts.losses
     pub each : length left.lefts ≡ core.limits.partitions
     pub places : length run.aggregates ≡ length (own.master core.master).registrations
-    pub right : (kept : Option Rows) → IsRight (job_in own core) kept core → Trusts honest history → IsAnswered kept core history run left counts
+    pub right : (kept : Option Rows) → IsRight (job_in own core) kept core → Trusts honest history
+        → IsAnswered kept core history run left counts
 
-  -- nobody fell: the answer and what is left are those of the run from scratch whatever the shelf is, just the executions
-  -- that differ from the kept run's, if any, were called, and each partition has made each superstep once
-  pub record IsUnlost (kept : Option Rows) (core : Progress P C A V M) (run : Run V) (left : Traces V M) (counts : Counts) : Type 0 where
+  -- nobody fell: the answer and what is left are those of the run from scratch whatever the shelf is, just the
+  -- executions that differ from the kept run's, if any, were called, and each partition has made each superstep once
+  pub record IsUnlost (kept : Option Rows) (core : Progress P C A V M) (run : Run V) (left : Traces V M)
+      (counts : Counts) : Type 0 where
     pub answers : run ≡ answer (job_in own core) core.graph
     pub leaves : IsLeftBy (job_in own core) core.graph core.limits.partitions left
     pub calls_are : counts.calls ≡ capped (needed_count own.value_eq own.message_eq (job_in own core) kept core.graph)
-    pub steps_are : counts.steps ≡ map (λ p. run_length (job_in own core) core.graph) (range_with_len 0 core.limits.partitions)
+    pub steps_are : counts.steps ≡ map (λ p. run_length (job_in own core) core.graph)
+        (range_with_len 0 core.limits.partitions)

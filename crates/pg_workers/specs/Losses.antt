@@ -10,9 +10,14 @@ use Rattle.pg_workers_rounds.specs.declared.cause.Cause.TheVariants.{Fate}
 abbrev pub as_told : Loss → ℕ × Option ℕ
 as_told loss = (loss.worker, Some loss.superstep)
 
-module _ (fated : ℕ → ℕ → ℕ → ℕ → Bool) where
-  -- by the fate the worker falls in that superstep once it has stepped some partition, in a round before which at most so
-  -- many losses were recorded
+-- whether a worker falls: by the superstep, how many losses were recorded before the round, the worker, and the
+-- partition that it has stepped
+abbrev pub Fated : Type 0
+Fated = ℕ → ℕ → ℕ → ℕ → Bool
+
+module _ (fated : Fated) where
+  -- by the fate the worker falls in that superstep once it has stepped some partition, in a round before which at most
+  -- so many losses were recorded
   pub record WasFated (most : ℕ) (loss : Loss) : Type 0 where
     pub attempt : ℕ
     pub partition : ℕ

@@ -4,8 +4,8 @@ use Rattle.pg_core.specs.Progress.{Progress, job_by}
 use Rattle.pg_global.specs.Master.{Master}
 use Rattle.pg_model.specs.Job.{Combining, Job, Program}
 
--- what a program, a combiner and a master mean, when two values or messages are equal, which of them there are, and their
--- bytes
+-- what a program, a combiner and a master mean, when two values or messages are equal, which of them there are, and
+-- their bytes
 pub record Meaning (P C A V M : Type 0) : Type 1 where
   pub program : P → Program V M
   pub combining : C → Option (Combining M)
@@ -17,7 +17,8 @@ pub record Meaning (P C A V M : Type 0) : Type 1 where
   pub is_message : M → Type 0
   pub message : M → List ℕ
 
-abbrev pub meaning : {P C A V M : Type 0} → (P → Program V M) → (C → Option (Combining M)) → (A → Master) → (V → V → Bool) → (M → M → Bool)
+abbrev pub meaning : {P C A V M : Type 0} → (P → Program V M) → (C → Option (Combining M)) → (A → Master)
+    → (V → V → Bool) → (M → M → Bool)
     → (V → Type 0) → (V → List ℕ) → (M → Type 0) → (M → List ℕ) → Meaning P C A V M
 meaning program combining master value_eq message_eq is_value value is_message message = record {
   program = program;

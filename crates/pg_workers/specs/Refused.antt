@@ -6,7 +6,7 @@ use Rattle.pg_machine.specs.Limits.{Limits}
 use Rattle.pg_machine.specs.Losses.{losses_in}
 use Rattle.pg_machine.specs.Machine.{Reaches, State, first_state}
 use Rattle.pg_machine.specs.declared.event.Event.{Event}
-use Rattle.pg_workers.specs.Losses.{AreAll, AreFated, as_told}
+use Rattle.pg_workers.specs.Losses.{AreAll, AreFated, Fated, as_told}
 use Rattle.pg_workers.specs.declared.counts.Loss.{Loss}
 use Rattle.pg_workers.specs.declared.fault.RefreshFault.{RefreshFault}
 use Rattle.pg_workers.specs.declared.fault.RefreshFault.TheVariants.{Memory, TooManyLosses, NoWorkers, Device}
@@ -35,7 +35,7 @@ is_failure (Err (TooManyLosses losses)) = false
 is_failure (Err (NoWorkers losses)) = false
 is_failure (Err Device) = true
 
-module _ (fated : ℕ → ℕ → ℕ → ℕ → Bool) (limits : Limits) where
+module _ (fated : Fated) (limits : Limits) where
   -- these are all losses of a history that the status machine allows
   pub record AreLosses (losses : List Loss) : Type 0 where
     pub history : List Event
@@ -48,5 +48,6 @@ module _ (fated : ℕ → ℕ → ℕ → ℕ → Bool) (limits : Limits) where
   abbrev pub MayRefuse : RefreshFault → Type 0
   MayRefuse Memory = Unit {0}
   MayRefuse (TooManyLosses losses) = AreLosses losses.items × (limits.max_losses < length losses.items)
-  MayRefuse (NoWorkers losses) = AreLosses losses.items × ((length losses.items ≤ limits.max_losses) × AreAll limits.workers losses.items)
+  MayRefuse (NoWorkers losses) = AreLosses losses.items
+      × ((length losses.items ≤ limits.max_losses) × AreAll limits.workers losses.items)
   MayRefuse Device = Unit {0}

@@ -1,5 +1,6 @@
 -- A round: the parts that workers are assigned, what they give back, and who falls.
-use Rattle.std.specs.Prelude.{◌≡◌, ℕ, ◌+◌, ◌<◌, ◌≤◌, ◌^◌, Bool, true, List, [], ◌∷◌, ◌++◌, length, All, Option, None, Some, IfOk, IfErr, slice_index_or, slice_set, Ok, Err}
+use Rattle.std.specs.Prelude.{◌≡◌, ℕ, ◌+◌, ◌<◌, ◌≤◌, ◌^◌, Bool, true, List, [], ◌∷◌, ◌++◌}
+use Rattle.std.specs.Prelude.{length, All, Option, None, Some, IfOk, IfErr, slice_index_or, slice_set, Ok, Err}
 use Rattle.std.specs.List.{AllPairs}
 use Rattle.pg_core.specs.Progress.{IsNext, IsPartAt, IsRight, IsStepLent, IsStepOf, Progress, kept_for}
 use Rattle.pg_core.specs.Traces.{logs_in, visible_in}
@@ -11,7 +12,7 @@ use Rattle.pg_model.specs.Run.{visible_at}
 use Rattle.pg_model.specs.Share.{belongs}
 use Rattle.pg_model.specs.Superstep.{capped}
 use Rattle.pg_workers_rounds.specs.Handed.{PartState}
-use Rattle.pg_workers.specs.Losses.{WasFated}
+use Rattle.pg_workers.specs.Losses.{Fated, WasFated}
 use Rattle.pg_workers.specs.Meaning.{Meaning, job_in}
 use Rattle.pg_workers.specs.declared.counts.Loss.{Loss}
 use Rattle.pg_workers.specs.declared.outcomes.RoundResult.{RoundResult}
@@ -30,8 +31,8 @@ abbrev pub ComesEarlier : {V M : Type 0} → Outcome V M → Outcome V M → Typ
 ComesEarlier a b = a.worker < b.worker
 
 module _ {P C A V M : Type 0} (own : Meaning P C A V M) (core : Progress P C A V M) where
-  -- a part was taken from a core, and may make a step from this superstep; its worker hosts it, and where the core was right
-  -- the step is lent what it reads
+  -- a part was taken from a core, and may make a step from this superstep; its worker hosts it, and where the core was
+  -- right the step is lent what it reads
   pub record IsTaken (superstep worker : ℕ) (part : PartState V M) : Type 0 where
     pub within : part.course.partition < core.limits.partitions
     pub host_is : host_of part.course.partition core.state ≡ worker
@@ -58,7 +59,8 @@ module _ {P C A V M : Type 0} (own : Meaning P C A V M) (core : Progress P C A V
     pub each : All (IsTaken superstep worker) parts
 
   -- workers are assigned parts that were taken, by rising worker, all of them below this one
-  pub record AreAssigned (superstep below : ℕ) (rest : Progress P C A V M) (assignments : List (Assignment V M)) : Type 0 where
+  pub record AreAssigned (superstep below : ℕ) (rest : Progress P C A V M)
+      (assignments : List (Assignment V M)) : Type 0 where
     pub taken : IsRest rest
     pub rise : AllPairs IsEarlier assignments
     pub each : All (IsAssigned superstep) assignments
@@ -72,10 +74,11 @@ module _ {P C A V M : Type 0} (own : Meaning P C A V M) (core : Progress P C A V
     pub logs_are : round.logs ≡ core.logs
     pub old_logs_are : round.old_logs ≡ logs_in superstep core.kept
     pub old_visible_is : round.old_visible ≡ visible_in superstep core.kept
-    pub shows : (kept : Option Rows) → IsRight (job_in own core) kept core → round.visible ≡ visible_at (job_in own core) core.graph superstep
+    pub shows : (kept : Option Rows) → IsRight (job_in own core) kept core
+        → round.visible ≡ visible_at (job_in own core) core.graph superstep
 
-  -- a worker gives back a step that can be recorded, of a partition that it hosts; where the core was right it is the run's,
-  -- with as many calls as it needs
+  -- a worker gives back a step that can be recorded, of a partition that it hosts; where the core was right it is the
+  -- run's, with as many calls as it needs
   pub record IsBack (worker : ℕ) (done : Done V M) : Type 0 where
     pub within : done.part.course.partition < core.limits.partitions
     pub host_is : host_of done.part.course.partition core.state ≡ worker
@@ -83,20 +86,23 @@ module _ {P C A V M : Type 0} (own : Meaning P C A V M) (core : Progress P C A V
     pub next : IsNext core.limits.partitions core.state done.part.course.partition done.part
     pub step_of : (kept : Option Rows) → IsRight (job_in own core) kept core
         → IsStepOf (job_in own core) kept core done.part.course.partition done.part done.sent
-    pub counted : (kept : Option Rows) (r : ℕ) → IsRight (job_in own core) kept core → place_at done.part.course.partition core.state ≡ Some r
-        → done.calls ≡ capped (needed_in own.value_eq own.message_eq (job_in own core) (kept_for kept core done.part.course.partition) core.graph
+    pub counted : (kept : Option Rows) (r : ℕ) → IsRight (job_in own core) kept core
+        → place_at done.part.course.partition core.state ≡ Some r
+        → done.calls ≡ capped (needed_in own.value_eq own.message_eq (job_in own core)
+        (kept_for kept core done.part.course.partition) core.graph
         (belongs core.limits.partitions done.part.course.partition) r)
 
--- a worker fell in a round at this superstep: a partition that it hosts may make a step from there, and it has a fate where
--- that is the cause
-pub record HasFallen (fated : ℕ → ℕ → ℕ → ℕ → Bool) (superstep attempt : ℕ) (state : State) (worker : ℕ) (cause : Cause) : Type 0 where
+-- a worker fell in a round at this superstep: a partition that it hosts may make a step from there, and it has a fate
+-- where that is the cause
+pub record HasFallen (fated : Fated) (superstep attempt : ℕ) (state : State) (worker : ℕ) (cause : Cause) : Type 0 where
   pub partition : ℕ
   pub host_is : host_of partition state ≡ worker
   pub allowed : is_allowed state (Step partition) ≡ true
   pub place_is : place_at partition state ≡ Some superstep
   pub struck : cause ≡ Fate → WasFated fated attempt (record { worker = worker; superstep = superstep; cause = cause })
 
-module _ {P C A V M : Type 0} (own : Meaning P C A V M) (fated : ℕ → ℕ → ℕ → ℕ → Bool) (superstep attempt : ℕ) (core : Progress P C A V M) where
+module _ {P C A V M : Type 0} (own : Meaning P C A V M) (fated : Fated) (superstep attempt : ℕ)
+    (core : Progress P C A V M) where
   -- a worker gives back its steps, or it fell
   pub record IsReturned (outcome : Outcome V M) : Type 0 where
     pub done : IfOk outcome.done (λ dones. All (IsBack own core outcome.worker) dones.items)
@@ -126,7 +132,11 @@ module _ {V M : Type 0} where
   -- the worker of an outcome, if it fell in a round at this superstep
   abbrev pub fallen_by : ℕ → Outcome V M → List Loss
   fallen_by superstep outcome =
-      elim outcome.done [ Ok dones ↦ [] | Err cause ↦ record { worker = outcome.worker; superstep = superstep; cause = cause } ∷ [] ]
+      elim outcome.done [
+        | Ok dones ↦ []
+        | Err cause ↦ record
+            { worker = outcome.worker; superstep = superstep; cause = cause } ∷ []
+      ]
 
   abbrev pub fallen_in : ℕ → List (Outcome V M) → List Loss
   fallen_in superstep [] = []
@@ -137,7 +147,8 @@ abbrev pub HasNone : {X : Type 0} → List (Option X) → Type 0
 HasNone steps = (p : ℕ) → slice_index_or steps p None ≡ None
 
 -- these are the steps that outcomes give back, by partition, and the workers that fell in a round at this superstep
-pub record IsCollected {V M : Type 0} (superstep : ℕ) (outcomes : List (Outcome V M)) (collected : RoundResult V M) : Type 0 where
+pub record IsCollected {V M : Type 0} (superstep : ℕ) (outcomes : List (Outcome V M))
+    (collected : RoundResult V M) : Type 0 where
   pub none : List (Option (Done V M))
   pub nothing : HasNone none
   pub steps_are : collected.steps.items ≡ with_outcomes outcomes none
@@ -146,14 +157,16 @@ pub record IsCollected {V M : Type 0} (superstep : ℕ) (outcomes : List (Outcom
 -- each step stands at the place of its partition, and can be recorded
 abbrev pub AreNext : {P C A V M : Type 0} → Progress P C A V M → List (Option (Done V M)) → Type 0
 AreNext core steps = (p : ℕ) (done : Done _ _) → slice_index_or steps p None ≡ Some done
-    → (done.part.course.partition ≡ p) × ((is_allowed core.state (Step p) ≡ true) × IsNext core.limits.partitions core.state p done.part)
+    → (done.part.course.partition ≡ p)
+    × ((is_allowed core.state (Step p) ≡ true) × IsNext core.limits.partitions core.state p done.part)
 
 module _ {P C A V M : Type 0} (own : Meaning P C A V M) (kept : Option Rows) (core : Progress P C A V M) where
   -- a step of partition p is the run's, with as many calls as it needs
   pub record IsStepRight (p : ℕ) (done : Done V M) : Type 0 where
     pub step_of : IsStepOf (job_in own core) kept core p done.part done.sent
     pub counted : (r : ℕ) → place_at p core.state ≡ Some r
-        → done.calls ≡ capped (needed_in own.value_eq own.message_eq (job_in own core) (kept_for kept core p) core.graph (belongs core.limits.partitions p) r)
+        → done.calls ≡ capped (needed_in own.value_eq own.message_eq (job_in own core) (kept_for kept core p) core.graph
+        (belongs core.limits.partitions p) r)
 
   -- each is, by partition
   abbrev pub AreStepsRight : List (Option (Done V M)) → Type 0
@@ -163,7 +176,8 @@ module _ {P C A V M : Type 0} (own : Meaning P C A V M) (kept : Option Rows) (co
 abbrev pub NoneBefore : ℕ → State → Type 0
 NoneBefore s state = (q r : ℕ) → place_at q state ≡ Some r → s ≤ r
 
--- steps were recorded: hosts stay, and so do the places of partitions of which no step stands there; none is further back
+-- steps were recorded: hosts stay, and so do the places of partitions of which no step stands there; none is further
+-- back
 pub record AreRecorded {X : Type 0} (steps : List (Option X)) (before after : State) : Type 0 where
   pub hosts : after.hosts ≡ before.hosts
   pub places : (p : ℕ) → slice_index_or steps p None ≡ None → place_at p after ≡ place_at p before

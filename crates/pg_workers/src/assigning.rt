@@ -102,9 +102,9 @@ pub(crate) fn lent<'a, P: Computation, C: MessageCombiner<P::Message>, M: Master
     )
 }
 
-/// Whether one worker alone has anything to do, or the steps of these parts look at so few vertices that to start threads
-/// would take longer. Of few it is never so where the kept run hasn't the superstep, or a part is cold. It is a hint, of
-/// which nothing is promised.
+/// Whether one worker alone has anything to do, or the steps of these parts look at so few vertices that to start
+/// threads would take longer. Of few it is never so where the kept run hasn't the superstep, or a part is cold. It is a
+/// hint, of which nothing is promised.
 pub(crate) fn is_little<P: Computation, C: MessageCombiner<P::Message>, M: MasterCompute>(
     core: &Core<'_, P, C, M>,
     superstep: Superstep,

@@ -1,14 +1,16 @@
 //! A run that is driven to its end by workers.
-ghost use Rattle.std.specs.Prelude.{◌≡◌, ◌≤◌, ◌<◌, ◌+◌, ◌^◌, ℕ, Bool, [], true, false, length, map, IfErr, IfOk, OnOk, Option};
+ghost use Rattle.std.specs.Prelude.{◌≡◌, ◌≤◌, ◌<◌, ◌+◌, ◌^◌, [], true, false, length, map, IfErr, IfOk, OnOk};
+ghost use Rattle.std.specs.Prelude.{Option};
 ghost use Rattle.std.specs.List.{range_with_len};
 ghost use Rattle.pg_checkpoint.specs.Shelf.{IsCounted, ShelfState};
 ghost use Rattle.pg_core.specs.Progress.{IsRight, Progress};
 ghost use Rattle.pg_graph.specs.Rows.{Rows};
 ghost use Rattle.pg_machine.specs.Machine.{is_allowed, is_step as step_test, steps_of};
+ghost use Rattle.pg_workers.specs.Losses.{Fated};
 ghost use Rattle.pg_workers.specs.Driven.{IsDriven, IsUnlost};
 ghost use Rattle.pg_workers.specs.Meaning.{job_in, meaning};
 ghost use Rattle.pg_workers.specs.Refused.{IsOfShelf, MayRefuse, is_failure};
-ghost use Rattle.pg_workers.specs.Running.{IsRunning, Keeps, MayEnd};
+ghost use Rattle.pg_workers.specs.Running.{GoesOn, IsRunning, Keeps, MayEnd};
 
 use crate::coordinator::Coordinator;
 use crate::{Counts, RefreshFault};
@@ -59,7 +61,8 @@ pub fn run_job<
     requires counts { (S.state shelf.old).failures + 1 < 2 ^ 64 }
     ensures driven { let own = meaning P.program C.combining M.master P.Value.PartialEq.eq P.Message.PartialEq.eq
         P.Value.is_value P.Value.coding P.Message.is_value P.Message.coding in
-        IfOk result (λ done. IsDriven own (F.fated fate.now) (S.state shelf.old).is_honest core.entry done.0.0 done.0.1 done.1) }
+        IfOk result (λ done. IsDriven own (F.fated fate.now)
+        (S.state shelf.old).is_honest core.entry done.0.0 done.0.1 done.1) }
     ensures unlost { let own = meaning P.program C.combining M.master P.Value.PartialEq.eq P.Message.PartialEq.eq
         P.Value.is_value P.Value.coding P.Message.is_value P.Message.coding in
         IfOk result (λ done. (kept : Option Rows) → IsRight (job_in own core.entry) kept core.entry
@@ -144,9 +147,7 @@ impl<'a, P: Computation, C: MessageCombiner<P::Message>, M: MasterCompute> Coord
         requires counts { (S.state shelf.old).failures + 1 < 2 ^ 64 }
         ensures keeps { let own = meaning P.program C.combining M.master P.Value.PartialEq.eq P.Message.PartialEq.eq
             P.Value.is_value P.Value.coding P.Message.is_value P.Message.coding in
-            OnOk result ((fated : ℕ → ℕ → ℕ → ℕ → Bool) (first : Progress P C M P.Value P.Message)
-            → IsRunning own fated first (S.state shelf.old) self.old
-            → IsRunning own fated first (S.state shelf.new) self.new) }
+            OnOk result (GoesOn own (S.state shelf.old) self.old (S.state shelf.new) self.new) }
         ensures limits { OnOk result (self.new.core.limits ≡ self.old.core.limits) }
         ensures losses { OnOk result (self.new.losses ≡ self.old.losses) }
         ensures fault { IfErr result IsOfShelf }
@@ -163,17 +164,17 @@ impl<'a, P: Computation, C: MessageCombiner<P::Message>, M: MasterCompute> Coord
         requires { self.core.state.ended ≡ true }
         ensures driven { let own = meaning P.program C.combining M.master P.Value.PartialEq.eq P.Message.PartialEq.eq
             P.Value.is_value P.Value.coding P.Message.is_value P.Message.coding in
-            IfOk result (λ done. (fated : ℕ → ℕ → ℕ → ℕ → Bool) (first : Progress P C M P.Value P.Message) (shelf : ShelfState)
+            IfOk result (λ done. (fated : Fated) (first : Progress P C M P.Value P.Message) (shelf : ShelfState)
             → IsRunning own fated first shelf self.entry → length self.entry.losses ≤ first.limits.max_losses
             → IsDriven own fated shelf.is_honest first done.0.0 done.0.1 done.1) }
         ensures unlost { let own = meaning P.program C.combining M.master P.Value.PartialEq.eq P.Message.PartialEq.eq
             P.Value.is_value P.Value.coding P.Message.is_value P.Message.coding in
-            IfOk result (λ done. (fated : ℕ → ℕ → ℕ → ℕ → Bool) (first : Progress P C M P.Value P.Message) (shelf : ShelfState)
+            IfOk result (λ done. (fated : Fated) (first : Progress P C M P.Value P.Message) (shelf : ShelfState)
             → IsRunning own fated first shelf self.entry → (kept : Option Rows) → IsRight (job_in own first) kept first
             → done.1.losses ≡ [] → IsUnlost own kept first done.0.0 done.0.1 done.1) }
         ensures alone { let own = meaning P.program C.combining M.master P.Value.PartialEq.eq P.Message.PartialEq.eq
             P.Value.is_value P.Value.coding P.Message.is_value P.Message.coding in
-            IfOk result (λ done. (fated : ℕ → ℕ → ℕ → ℕ → Bool) (first : Progress P C M P.Value P.Message) (shelf : ShelfState)
+            IfOk result (λ done. (fated : Fated) (first : Progress P C M P.Value P.Message) (shelf : ShelfState)
             → IsRunning own fated first shelf self.entry → first.limits.workers ≡ 1 → done.1.losses ≡ []) }
     {
         let Coordinator {

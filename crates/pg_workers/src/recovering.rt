@@ -1,13 +1,15 @@
 //! What is done about workers that fell.
-ghost use Rattle.std.specs.Prelude.{◌≡◌, ◌≤◌, ◌<◌, ◌+◌, ◌^◌, ◌∷◌, ℕ, Bool, [], false, length, List, Some, IfErr, IfOk, IfSome, OnOk};
+ghost use Rattle.std.specs.Prelude.{◌≡◌, ◌≤◌, ◌<◌, ◌+◌, ◌^◌, ◌∷◌, ℕ, [], false, length, List, Some, IfErr};
+ghost use Rattle.std.specs.Prelude.{IfOk, IfSome, OnOk};
 ghost use Rattle.pg_checkpoint.specs.Shelf.{IsCounted, ShelfState};
 ghost use Rattle.pg_core.specs.Losing.{IsOf, place_found};
 ghost use Rattle.pg_core.specs.Progress.{Progress};
 ghost use Rattle.pg_machine.specs.Machine.{is_alive, saved_at};
+ghost use Rattle.pg_workers.specs.Losses.{Fated};
 ghost use Rattle.pg_workers.specs.Meaning.{meaning};
 ghost use Rattle.pg_workers.specs.Recovering.{AreFalls, IsFoundRight, LosesOn};
 ghost use Rattle.pg_workers.specs.Refused.{IsOfShelf, MayRefuse, is_failure};
-ghost use Rattle.pg_workers.specs.Running.{IsRunning};
+ghost use Rattle.pg_workers.specs.Running.{GoesOn, GoesOnAnywhere, IsRunning};
 
 use crate::coordinator::Coordinator;
 use crate::{Loss, RefreshFault};
@@ -37,14 +39,14 @@ impl<'a, P: Computation, C: MessageCombiner<P::Message>, M: MasterCompute> Coord
         requires counts { (S.state shelf.old).failures + 1 < 2 ^ 64 }
         ensures keeps { let own = meaning P.program C.combining M.master P.Value.PartialEq.eq P.Message.PartialEq.eq
             P.Value.is_value P.Value.coding P.Message.is_value P.Message.coding in
-            OnOk result ((fated : ℕ → ℕ → ℕ → ℕ → Bool) (first : Progress P C M P.Value P.Message)
+            OnOk result ((fated : Fated) (first : Progress P C M P.Value P.Message)
             → IsRunning own fated first (S.state shelf.old) self.old
             → AreFalls fated (length self.old.losses) self.old.core.state fallen.items
             → IsRunning own fated first (S.state shelf.new) self.new) }
         ensures few { OnOk result (length self.new.losses ≤ self.new.core.limits.max_losses) }
         ensures refused { let own = meaning P.program C.combining M.master P.Value.PartialEq.eq P.Message.PartialEq.eq
             P.Value.is_value P.Value.coding P.Message.is_value P.Message.coding in
-            IfErr result (λ fault. (fated : ℕ → ℕ → ℕ → ℕ → Bool) (first : Progress P C M P.Value P.Message)
+            IfErr result (λ fault. (fated : Fated) (first : Progress P C M P.Value P.Message)
             → IsRunning own fated first (S.state shelf.old) self.old
             → AreFalls fated (length self.old.losses) self.old.core.state fallen.items
             → MayRefuse fated first.limits fault) }
@@ -71,7 +73,7 @@ impl<'a, P: Computation, C: MessageCombiner<P::Message>, M: MasterCompute> Coord
         ensures limits { OnOk result (self.new.core.limits ≡ self.old.core.limits) }
         ensures keeps { let own = meaning P.program C.combining M.master P.Value.PartialEq.eq P.Message.PartialEq.eq
             P.Value.is_value P.Value.coding P.Message.is_value P.Message.coding in
-            OnOk result ((fated : ℕ → ℕ → ℕ → ℕ → Bool) (first : Progress P C M P.Value P.Message) (shelf : ShelfState)
+            OnOk result ((fated : Fated) (first : Progress P C M P.Value P.Message) (shelf : ShelfState)
             → IsRunning own fated first shelf self.old
             → AreFalls fated (length self.old.losses) self.old.core.state fallen.items
             → IsRunning own fated first shelf self.new) }
@@ -87,7 +89,8 @@ impl<'a, P: Computation, C: MessageCombiner<P::Message>, M: MasterCompute> Coord
         ensures limits { OnOk result (self.new.core.limits ≡ self.old.core.limits) }
         ensures keeps { let own = meaning P.program C.combining M.master P.Value.PartialEq.eq P.Message.PartialEq.eq
             P.Value.is_value P.Value.coding P.Message.is_value P.Message.coding in
-            OnOk result ((fated : ℕ → ℕ → ℕ → ℕ → Bool) (first : Progress P C M P.Value P.Message) (shelf : ShelfState) (attempt : ℕ) (rest : List Loss)
+            OnOk result ((fated : Fated) (first : Progress P C M P.Value P.Message) (shelf : ShelfState) (attempt : ℕ)
+            (rest : List Loss)
             → LosesOn own fated first shelf attempt self.old (loss ∷ rest)
             → LosesOn own fated first shelf attempt self.new rest) }
     {
@@ -124,9 +127,7 @@ impl<'a, P: Computation, C: MessageCombiner<P::Message>, M: MasterCompute> Coord
         requires counts { (S.state shelf.old).failures + 1 < 2 ^ 64 }
         ensures keeps { let own = meaning P.program C.combining M.master P.Value.PartialEq.eq P.Message.PartialEq.eq
             P.Value.is_value P.Value.coding P.Message.is_value P.Message.coding in
-            OnOk result ((fated : ℕ → ℕ → ℕ → ℕ → Bool) (first : Progress P C M P.Value P.Message)
-            → IsRunning own fated first (S.state shelf.old) self.old
-            → IsRunning own fated first (S.state shelf.new) self.new) }
+            OnOk result (GoesOn own (S.state shelf.old) self.old (S.state shelf.new) self.new) }
         ensures limits { OnOk result (self.new.core.limits ≡ self.old.core.limits) }
         ensures losses { OnOk result (self.new.losses ≡ self.old.losses) }
         ensures fault { IfErr result IsOfShelf }
@@ -152,9 +153,7 @@ impl<'a, P: Computation, C: MessageCombiner<P::Message>, M: MasterCompute> Coord
         requires counts { (S.state shelf.old).failures + 1 < 2 ^ 64 }
         ensures keeps { let own = meaning P.program C.combining M.master P.Value.PartialEq.eq P.Message.PartialEq.eq
             P.Value.is_value P.Value.coding P.Message.is_value P.Message.coding in
-            OnOk result ((fated : ℕ → ℕ → ℕ → ℕ → Bool) (first : Progress P C M P.Value P.Message)
-            → IsRunning own fated first (S.state shelf.old) self.old
-            → IsRunning own fated first (S.state shelf.new) self.new) }
+            OnOk result (GoesOn own (S.state shelf.old) self.old (S.state shelf.new) self.new) }
         ensures limits { OnOk result (self.new.core.limits ≡ self.old.core.limits) }
         ensures losses { OnOk result (self.new.losses ≡ self.old.losses) }
         ensures fault { IfErr result IsOfShelf }
@@ -173,8 +172,7 @@ impl<'a, P: Computation, C: MessageCombiner<P::Message>, M: MasterCompute> Coord
     fn host(&mut self, partition: PartitionId, worker: WorkerId) -> Result<(), Memory>
         ensures keeps { let own = meaning P.program C.combining M.master P.Value.PartialEq.eq P.Message.PartialEq.eq
             P.Value.is_value P.Value.coding P.Message.is_value P.Message.coding in
-            OnOk result ((fated : ℕ → ℕ → ℕ → ℕ → Bool) (first : Progress P C M P.Value P.Message) (shelf : ShelfState)
-            → IsRunning own fated first shelf self.old → IsRunning own fated first shelf self.new) }
+            OnOk result (GoesOnAnywhere own self.old self.new) }
         ensures limits { OnOk result (self.new.core.limits ≡ self.old.core.limits) }
         ensures losses { OnOk result (self.new.losses ≡ self.old.losses) }
     {
@@ -194,7 +192,7 @@ impl<'a, P: Computation, C: MessageCombiner<P::Message>, M: MasterCompute> Coord
         requires { IfSome found (IsOf self.old.core.limits.partitions partition) }
         ensures keeps { let own = meaning P.program C.combining M.master P.Value.PartialEq.eq P.Message.PartialEq.eq
             P.Value.is_value P.Value.coding P.Message.is_value P.Message.coding in
-            OnOk result ((fated : ℕ → ℕ → ℕ → ℕ → Bool) (first : Progress P C M P.Value P.Message) (shelf : ShelfState)
+            OnOk result ((fated : Fated) (first : Progress P C M P.Value P.Message) (shelf : ShelfState)
             → IsRunning own fated first shelf self.old → IsFoundRight own first shelf self.old.core partition found
             → IsRunning own fated first shelf self.new) }
         ensures limits { OnOk result (self.new.core.limits ≡ self.old.core.limits) }
@@ -219,14 +217,12 @@ impl<'a, P: Computation, C: MessageCombiner<P::Message>, M: MasterCompute> Coord
         ensures own { IfOk result (λ found. IfSome found (IsOf self.now.core.limits.partitions partition)) }
         ensures right { let own = meaning P.program C.combining M.master P.Value.PartialEq.eq P.Message.PartialEq.eq
             P.Value.is_value P.Value.coding P.Message.is_value P.Message.coding in
-            IfOk result (λ found. (fated : ℕ → ℕ → ℕ → ℕ → Bool) (first : Progress P C M P.Value P.Message)
+            IfOk result (λ found. (fated : Fated) (first : Progress P C M P.Value P.Message)
             → IsRunning own fated first (S.state shelf.old) self.now
             → IsFoundRight own first (S.state shelf.new) self.now.core partition found) }
         ensures keeps { let own = meaning P.program C.combining M.master P.Value.PartialEq.eq P.Message.PartialEq.eq
             P.Value.is_value P.Value.coding P.Message.is_value P.Message.coding in
-            OnOk result ((fated : ℕ → ℕ → ℕ → ℕ → Bool) (first : Progress P C M P.Value P.Message)
-            → IsRunning own fated first (S.state shelf.old) self.now
-            → IsRunning own fated first (S.state shelf.new) self.now) }
+            OnOk result (GoesOn own (S.state shelf.old) self.now (S.state shelf.new) self.now) }
         ensures fault { IfErr result IsOfShelf }
         ensures counted { IsCounted (S.state shelf.old) (is_failure result) (S.state shelf.new) }
     {
@@ -251,14 +247,12 @@ impl<'a, P: Computation, C: MessageCombiner<P::Message>, M: MasterCompute> Coord
         ensures own { IfOk result (λ found. IfSome found (IsOf self.now.core.limits.partitions partition)) }
         ensures right { let own = meaning P.program C.combining M.master P.Value.PartialEq.eq P.Message.PartialEq.eq
             P.Value.is_value P.Value.coding P.Message.is_value P.Message.coding in
-            IfOk result (λ found. (fated : ℕ → ℕ → ℕ → ℕ → Bool) (first : Progress P C M P.Value P.Message)
+            IfOk result (λ found. (fated : Fated) (first : Progress P C M P.Value P.Message)
             → IsRunning own fated first (S.state shelf.old) self.now
             → IsFoundRight own first (S.state shelf.new) self.now.core partition found) }
         ensures keeps { let own = meaning P.program C.combining M.master P.Value.PartialEq.eq P.Message.PartialEq.eq
             P.Value.is_value P.Value.coding P.Message.is_value P.Message.coding in
-            OnOk result ((fated : ℕ → ℕ → ℕ → ℕ → Bool) (first : Progress P C M P.Value P.Message)
-            → IsRunning own fated first (S.state shelf.old) self.now
-            → IsRunning own fated first (S.state shelf.new) self.now) }
+            OnOk result (GoesOn own (S.state shelf.old) self.now (S.state shelf.new) self.now) }
         ensures fault { IfErr result IsOfShelf }
         ensures counted { IsCounted (S.state shelf.old) (is_failure result) (S.state shelf.new) }
     {

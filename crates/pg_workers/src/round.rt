@@ -1,10 +1,10 @@
 //! One round of a run on workers.
-ghost use Rattle.std.specs.Prelude.{◌≡◌, ◌≤◌, ◌<◌, ◌+◌, ◌^◌, ℕ, Bool, true, length, All, IfErr, IfOk, OnOk, Option};
+ghost use Rattle.std.specs.Prelude.{◌≡◌, ◌≤◌, ◌<◌, ◌+◌, ◌^◌, ℕ, true, length, All, IfErr, IfOk, OnOk, Option};
 ghost use Rattle.pg_checkpoint.specs.Shelf.{IsCounted, ShelfState};
 ghost use Rattle.pg_core.specs.Progress.{IsNext, IsRight, Progress};
 ghost use Rattle.pg_graph.specs.Rows.{Rows};
 ghost use Rattle.pg_machine.specs.Machine.{is_allowed};
-ghost use Rattle.pg_workers.specs.Losses.{Trusts};
+ghost use Rattle.pg_workers.specs.Losses.{Fated, Trusts};
 ghost use Rattle.pg_workers.specs.Meaning.{job_in, meaning};
 ghost use Rattle.pg_workers.specs.Refused.{is_failure};
 ghost use Rattle.pg_workers.specs.Rounds.{AreAssigned, AreNext, AreRecorded, AreReturned, AreStepsRight, IsStepRight};
@@ -30,8 +30,8 @@ impl<'a, P: Computation, C: MessageCombiner<P::Message>, M: MasterCompute> Coord
     C,
     M,
 > {
-    /// One round: the parts that are ready at a superstep are stepped by their workers, the steps that are given back are
-    /// recorded by rising partition, and then the losses by rising worker, and what is lost is recovered.
+    /// One round: the parts that are ready at a superstep are stepped by their workers, the steps that are given back
+    /// are recorded by rising partition, and then the losses by rising worker, and what is lost is recovered.
     pub(crate) fn round<R: Threads + Sync, S: Shelf, F: Fate, G: Gate>(
         &mut self,
         rt: &R,
@@ -61,8 +61,8 @@ impl<'a, P: Computation, C: MessageCombiner<P::Message>, M: MasterCompute> Coord
         self.recover(alloc, shelf, fallen)
     }
 
-    /// What the workers make of what they are assigned, in order: in threads, or one after another where there is little
-    /// to do.
+    /// What the workers make of what they are assigned, in order: in threads, or one after another where there is
+    /// little to do.
     fn outcomes<R: Threads + Sync, F: Fate, G: Gate>(
         &self,
         rt: &R,
@@ -111,7 +111,7 @@ impl<'a, P: Computation, C: MessageCombiner<P::Message>, M: MasterCompute> Coord
         ensures losses { OnOk result (self.new.losses ≡ self.old.losses) }
         ensures keeps { let own = meaning P.program C.combining M.master P.Value.PartialEq.eq P.Message.PartialEq.eq
             P.Value.is_value P.Value.coding P.Message.is_value P.Message.coding in
-            OnOk result ((fated : ℕ → ℕ → ℕ → ℕ → Bool) (first : Progress P C M P.Value P.Message) (shelf : ShelfState)
+            OnOk result ((fated : Fated) (first : Progress P C M P.Value P.Message) (shelf : ShelfState)
             → IsRunning own fated first shelf self.old
             → ((kept : Option Rows) → IsRight (job_in own first) kept first
             → Trusts shelf.is_honest self.old.core.history → AreStepsRight own kept self.old.core steps.items)
@@ -140,7 +140,7 @@ impl<'a, P: Computation, C: MessageCombiner<P::Message>, M: MasterCompute> Coord
         ensures losses { OnOk result (self.new.losses ≡ self.old.losses) }
         ensures keeps { let own = meaning P.program C.combining M.master P.Value.PartialEq.eq P.Message.PartialEq.eq
             P.Value.is_value P.Value.coding P.Message.is_value P.Message.coding in
-            OnOk result ((fated : ℕ → ℕ → ℕ → ℕ → Bool) (first : Progress P C M P.Value P.Message) (shelf : ShelfState)
+            OnOk result ((fated : Fated) (first : Progress P C M P.Value P.Message) (shelf : ShelfState)
             → IsRunning own fated first shelf self.old
             → ((kept : Option Rows) → IsRight (job_in own first) kept first
             → Trusts shelf.is_honest self.old.core.history → IsStepRight own kept self.old.core partition done)

@@ -1,11 +1,11 @@
 //! Saving the partitions of a run.
-ghost use Rattle.std.specs.Prelude.{◌≡◌, ◌≤◌, ◌<◌, ◌+◌, ◌^◌, ℕ, Bool, IfErr, IsSome, OnOk};
+ghost use Rattle.std.specs.Prelude.{◌≡◌, ◌≤◌, ◌<◌, ◌+◌, ◌^◌, IfErr, IsSome, OnOk};
 ghost use Rattle.pg_checkpoint.specs.Shelf.{IsCounted};
-ghost use Rattle.pg_core.specs.Progress.{Progress, part_at};
+ghost use Rattle.pg_core.specs.Progress.{part_at};
 ghost use Rattle.pg_workers_rounds.specs.Handed.{PartState};
 ghost use Rattle.pg_workers.specs.Meaning.{meaning};
 ghost use Rattle.pg_workers.specs.Refused.{IsOfShelf, is_failure};
-ghost use Rattle.pg_workers.specs.Running.{HasPut, IsRunning};
+ghost use Rattle.pg_workers.specs.Running.{GoesOn, HasPut};
 
 use crate::RefreshFault;
 use crate::coordinator::Coordinator;
@@ -30,9 +30,7 @@ impl<'a, P: Computation, C: MessageCombiner<P::Message>, M: MasterCompute> Coord
         requires counts { (S.state shelf.old).failures + 1 < 2 ^ 64 }
         ensures keeps { let own = meaning P.program C.combining M.master P.Value.PartialEq.eq P.Message.PartialEq.eq
             P.Value.is_value P.Value.coding P.Message.is_value P.Message.coding in
-            OnOk result ((fated : ℕ → ℕ → ℕ → ℕ → Bool) (first : Progress P C M P.Value P.Message)
-            → IsRunning own fated first (S.state shelf.old) self.old
-            → IsRunning own fated first (S.state shelf.new) self.new) }
+            OnOk result (GoesOn own (S.state shelf.old) self.old (S.state shelf.new) self.new) }
         ensures limits { OnOk result (self.new.core.limits ≡ self.old.core.limits) }
         ensures losses { OnOk result (self.new.losses ≡ self.old.losses) }
         ensures fault { IfErr result IsOfShelf }
@@ -60,9 +58,7 @@ impl<'a, P: Computation, C: MessageCombiner<P::Message>, M: MasterCompute> Coord
         requires counts { (S.state shelf.old).failures + 1 < 2 ^ 64 }
         ensures keeps { let own = meaning P.program C.combining M.master P.Value.PartialEq.eq P.Message.PartialEq.eq
             P.Value.is_value P.Value.coding P.Message.is_value P.Message.coding in
-            OnOk result ((fated : ℕ → ℕ → ℕ → ℕ → Bool) (first : Progress P C M P.Value P.Message)
-            → IsRunning own fated first (S.state shelf.old) self.old
-            → IsRunning own fated first (S.state shelf.new) self.new) }
+            OnOk result (GoesOn own (S.state shelf.old) self.old (S.state shelf.new) self.new) }
         ensures limits { OnOk result (self.new.core.limits ≡ self.old.core.limits) }
         ensures losses { OnOk result (self.new.losses ≡ self.old.losses) }
         ensures fault { IfErr result IsOfShelf }
@@ -85,7 +81,8 @@ impl<'a, P: Computation, C: MessageCombiner<P::Message>, M: MasterCompute> Coord
     ) -> Result<(), ShelfFault>
         requires here { IsSome (part_at partition self.now.core) }
         requires counts { (S.state shelf.old).failures + 1 < 2 ^ 64 }
-        ensures { (part : PartState P.Value P.Message) × HasPut P.Value.is_value P.Value.coding P.Message.is_value P.Message.coding
+        ensures { (part : PartState P.Value P.Message)
+            × HasPut P.Value.is_value P.Value.coding P.Message.is_value P.Message.coding
             self.now.core partition part (S.state shelf.old) result (S.state shelf.new) }
     {
         let run = self.core.run();

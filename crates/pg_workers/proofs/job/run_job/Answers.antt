@@ -26,9 +26,11 @@ returns-clause-driven g c =
     let fated = g.F.Fate.fated c.args.fate.now in
     let core = c.args.core in
     let begun = running_first own fated core (g.S.Shelf.state c.args.shelf.now) c.new-coordinator.ensures.leads c.requires.begins in
-    let runs = c.in_ok-drive.ensures.keeps core (subst (IsRunning own fated core (g.S.Shelf.state c.args.shelf.now)) (sym c.new-coordinator.ensures.value) begun) in
+    let runs = c.in_ok-drive.ensures.keeps core
+    (subst (IsRunning own fated core (g.S.Shelf.state c.args.shelf.now)) (sym c.new-coordinator.ensures.value) begun) in
     let few = subst (λ (l : _). length c.drive.new.self.losses ≤ l.max_losses) runs.same.limits_are c.in_ok-drive.ensures.few in
-    subst (λ (b : Bool). IsDriven own fated b core c.in_ok-finish.field-0.0.0 c.in_ok-finish.field-0.0.1 c.in_ok-finish.field-0.1) c.in_ok-drive.ensures.counted.honest
+    subst (λ (b : Bool). IsDriven own fated b core c.in_ok-finish.field-0.0.0 c.in_ok-finish.field-0.0.1 c.in_ok-finish.field-0.1)
+    c.in_ok-drive.ensures.counted.honest
     (c.in_ok-finish.ensures.driven fated core (g.S.Shelf.state c.drive.new.shelf) runs few)
 
 pub returns-clause-unlost : goal.returns-clause-unlost
@@ -38,7 +40,8 @@ returns-clause-unlost g c kept right none =
     let fated = g.F.Fate.fated c.args.fate.now in
     let core = c.args.core in
     let begun = running_first own fated core (g.S.Shelf.state c.args.shelf.now) c.new-coordinator.ensures.leads c.requires.begins in
-    let runs = c.in_ok-drive.ensures.keeps core (subst (IsRunning own fated core (g.S.Shelf.state c.args.shelf.now)) (sym c.new-coordinator.ensures.value) begun) in
+    let runs = c.in_ok-drive.ensures.keeps core
+    (subst (IsRunning own fated core (g.S.Shelf.state c.args.shelf.now)) (sym c.new-coordinator.ensures.value) begun) in
     c.in_ok-finish.ensures.unlost fated core (g.S.Shelf.state c.drive.new.shelf) runs kept right none
 
 pub returns-clause-alone : goal.returns-clause-alone
@@ -48,5 +51,6 @@ returns-clause-alone g c one =
     let fated = g.F.Fate.fated c.args.fate.now in
     let core = c.args.core in
     let begun = running_first own fated core (g.S.Shelf.state c.args.shelf.now) c.new-coordinator.ensures.leads c.requires.begins in
-    let runs = c.in_ok-drive.ensures.keeps core (subst (IsRunning own fated core (g.S.Shelf.state c.args.shelf.now)) (sym c.new-coordinator.ensures.value) begun) in
+    let runs = c.in_ok-drive.ensures.keeps core
+    (subst (IsRunning own fated core (g.S.Shelf.state c.args.shelf.now)) (sym c.new-coordinator.ensures.value) begun) in
     c.in_ok-finish.ensures.alone fated core (g.S.Shelf.state c.drive.new.shelf) runs one

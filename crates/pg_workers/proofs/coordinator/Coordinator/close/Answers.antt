@@ -1,10 +1,10 @@
 use Rattle.std.proofs.Common.{◌≡◌, true, refl, sym, subst}
+use Rattle.std.proofs.lemmas.Result.{on_ok_weaker}
 use Rattle.pg_workers.specs.Meaning.{meaning}
 use Rattle.pg_machine.specs.Machine.{is_allowed}
 use Rattle.pg_machine.specs.declared.event.Closed.TheVariants.{Next}
 use Rattle.pg_machine.specs.declared.event.Event.TheVariants.{Close}
 use Rattle.pg_workers.specs.Running.{Coordination, IsRunning}
-use Rattle.pg_workers.proofs.Going.{on_ok}
 use Rattle.pg_workers.proofs.Saved.{running_close}
 use Rattle.pg_workers.proofs.coordinator.Coordinator.close.Goals as goal
 
@@ -26,7 +26,7 @@ returns-in-Next-clause-keeps g c =
     let inside = c.self.inside in
     let before : Coordination _ _ _ _ _ = record { core = inside.core; calls = inside.calls; losses = inside.losses.items } in
     let allowed = subst (λ (s : Coordination _ _ _ _ _). is_allowed s.core.state (Close Next) ≡ true) (sym c.self.view_is) c.requires.allowed in
-    on_ok _ _ c.save_all.result
+    on_ok_weaker c.save_all.result
     (λ keeps fated first runs. keeps fated first
     (running_close own fated first (g.S.Shelf.state c.args.shelf.now) before (record before { core = c.close.new.self }) c.in_ok-close.field-0 allowed
     c.in_ok-close.ensures.core c.in_ok-close.ensures.right refl refl

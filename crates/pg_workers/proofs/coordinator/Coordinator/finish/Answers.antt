@@ -48,7 +48,8 @@ returns-clause-alone g c fated first shelf runs one =
     let steps = c.in_ok-steps.ensures ∙ (λ i. map (λ p. steps_of p (c.history.ensures.value i)) (range_with_len 0 (many i))) in
     let now = subst (IsRunning own fated first shelf) (sym c.self.view_is) runs in
     let ended = subst (λ (s : Coordination _ _ _ _ _). s.core.state.ended ≡ true) (sym c.self.view_is) c.requires in
-    let some : 0 < first.limits.partitions = omega (arith, ap (λ (l : _). l.partitions) c.limits.ensures, ap (λ (l : _). l.partitions) now.same.limits_are, c.partitions.ensures.are.partitions_least) in
+    let some : 0 < first.limits.partitions = omega
+    (arith, ap (λ (l : _). l.partitions) c.limits.ensures, ap (λ (l : _). l.partitions) now.same.limits_are, c.partitions.ensures.are.partitions_least) in
     alone_unlost own fated first shelf before now ended c.in_ok-finished.finished.0 c.in_ok-finished.finished.1
     (record { calls = inside.calls; steps = c.in_ok-steps.steps; losses = c.from_vec.result })
     steps refl c.from_vec.ensures c.in_ok-finished.ensures.finished some one

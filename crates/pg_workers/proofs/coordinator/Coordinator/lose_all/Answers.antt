@@ -12,7 +12,8 @@ loop-loss-preserved g c =
       keeps = λ fated first shelf on.
           let attempt = length c.args.self.now.losses in
           c.in_ok-lose.ensures.keeps fated first shelf attempt c.next.new.self.rest.items
-          (subst (λ (l : List _). LosesOn own fated first shelf attempt c.loop-loss.self l) c.in-Some.ensures.steps.0 (c.loop-loss.invariant.keeps fated first shelf on));
+          (subst (λ (l : List _). LosesOn own fated first shelf attempt c.loop-loss.self l) c.in-Some.ensures.steps.0
+          (c.loop-loss.invariant.keeps fated first shelf on));
     }
 
 pub returns-clause-keeps : goal.returns-clause-keeps

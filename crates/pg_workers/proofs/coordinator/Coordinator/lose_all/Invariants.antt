@@ -1,6 +1,7 @@
 use Rattle.std.proofs.Common.{◌≡◌, ℕ, Bool, length}
 use Rattle.pg_checkpoint.specs.Shelf.{ShelfState}
 use Rattle.pg_core.specs.Progress.{Progress}
+use Rattle.pg_workers.specs.Losses.{Fated}
 use Rattle.pg_workers.specs.Meaning.{meaning}
 use Rattle.pg_workers.specs.Recovering.{LosesOn}
 use Rattle.pg_workers.proofs.coordinator.Coordinator.lose_all.Given as goal
@@ -12,7 +13,7 @@ invariant-loop-loss g l =
     g.P.Value.Plain.is_value g.P.Value.Coded.coding g.P.Message.Plain.is_value g.P.Message.Coded.coding in
     record {
       limits : l.self.core.limits ≡ l.fn.self.core.limits;
-      keeps : (fated : ℕ → ℕ → ℕ → ℕ → Bool) (first : Progress _ _ _ _ _) (shelf : ShelfState)
+      keeps : (fated : Fated) (first : Progress _ _ _ _ _) (shelf : ShelfState)
           → LosesOn own fated first shelf (length l.fn.self.losses) l.fn.self l.fn.fallen.items
           → LosesOn own fated first shelf (length l.fn.self.losses) l.self l.loss-iterator.rest.items;
     }

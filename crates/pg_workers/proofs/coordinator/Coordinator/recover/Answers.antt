@@ -2,17 +2,17 @@ use Rattle.std.proofs.Common.{rules, ◌≡◌, ◌≤◌, ◌<◌, ℕ, List, [
 use Rattle.pg_workers.specs.Meaning.{meaning}
 use Rattle.std.proofs.lemmas.Bool.{eqb-true}
 use Rattle.std.proofs.lemmas.List.{nil_from_length}
+use Rattle.std.proofs.lemmas.Result.{on_ok_weaker}
 use Rattle.pg_workers.specs.Losses.{AreAll}
 use Rattle.pg_workers.specs.Refused.{AreLosses}
 use Rattle.pg_machine.specs.Limits.{Limits}
 use Rattle.pg_workers.specs.declared.counts.Loss.{Loss}
 use Rattle.pg_workers.proofs.Ending.{all_fell, losses_are}
-use Rattle.pg_workers.proofs.Going.{on_ok}
 use Rattle.pg_workers.proofs.coordinator.Coordinator.recover.Goals as goal
 
 pub returns-clause-keeps : goal.returns-clause-keeps
 returns-clause-keeps g c =
-    on_ok _ _ c.restore_all.result
+    on_ok_weaker c.restore_all.result
     (λ keeps fated first runs falls. keeps fated first (c.in_ok-lose_all.ensures.keeps fated first (g.S.Shelf.state c.args.shelf.now) runs falls))
     c.restore_all.ensures.keeps
 

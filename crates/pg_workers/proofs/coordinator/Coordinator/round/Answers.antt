@@ -1,8 +1,8 @@
 use Rattle.std.proofs.Common.{sym, subst}
+use Rattle.std.proofs.lemmas.Result.{IfErr-weaker, on_ok_weaker}
 use Rattle.pg_workers.specs.Meaning.{meaning}
 use Rattle.pg_workers.specs.Running.{Coordination, IsRunning}
 use Rattle.pg_workers.proofs.Composing.{after_steps, steps_next}
-use Rattle.pg_workers.proofs.Going.{err_then, on_ok}
 use Rattle.pg_workers.proofs.coordinator.Coordinator.round.Goals as goal
 
 pub take_in-requires-after_bounds : goal.take_in-requires-after_bounds
@@ -23,7 +23,7 @@ returns-clause-keeps g c =
     let fated = g.F.Fate.fated c.args.fate.now in
     let shelf = g.S.Shelf.state c.args.shelf.now in
     let before : Coordination _ _ _ _ _ = record { core = inside.core; calls = inside.calls; losses = inside.losses.items } in
-    on_ok _ _ c.recover.result
+    on_ok_weaker c.recover.result
     (λ keeps first runs.
     let there = after_steps own fated c.args.superstep inside.core.limits.workers before c.assign.new.core c.in_ok-assignments.assignments.items
     c.in_ok-outcomes.outcomes.items c.in_ok-steps.field-0 c.in_ok-assignments.ensures
@@ -41,7 +41,7 @@ returns-clause-refused g c =
     let fated = g.F.Fate.fated c.args.fate.now in
     let shelf = g.S.Shelf.state c.args.shelf.now in
     let before : Coordination _ _ _ _ _ = record { core = inside.core; calls = inside.calls; losses = inside.losses.items } in
-    err_then _ _ c.recover.result
+    IfErr-weaker c.recover.result _ _
     (λ fault may first runs.
     let there = after_steps own fated c.args.superstep inside.core.limits.workers before c.assign.new.core c.in_ok-assignments.assignments.items
     c.in_ok-outcomes.outcomes.items c.in_ok-steps.field-0 c.in_ok-assignments.ensures

@@ -24,4 +24,5 @@ returns-clause-keeps g c fated first shelf runs steps =
     → IsStepRight own kept s.core p c.args.done) (sym c.self.view_is) steps in
     let called : c.saturating_add-self-inside.result ≡ capped (inside.calls + c.args.done.calls) = omega (arith, c.saturating_add-self-inside.ensures) in
     running_step own fated first shelf before (record { core = c.stepped.new.self; calls = c.saturating_add-self-inside.result; losses = inside.losses.items })
-    p c.args.done allowed c.in_ok-stepped.ensures.core c.in_ok-stepped.ensures.right called refl (subst (IsRunning own fated first shelf) (sym c.self.view_is) runs) right
+    p c.args.done allowed c.in_ok-stepped.ensures.core c.in_ok-stepped.ensures.right called refl
+    (subst (IsRunning own fated first shelf) (sym c.self.view_is) runs) right
