@@ -5,6 +5,7 @@ use Rattle.std.specs.List.{All}
 use Rattle.std.proofs.Math.Seq.{take-length}
 use Rattle.std.proofs.lemmas.List.{get_or_append_left, length-append, take-append-le}
 use Rattle.std.proofs.lemmas.List.Elements.{All-nil, All-push, All-weaker}
+use Rattle.std.proofs.lemmas.Option.{get_or_from_slice_get, slice_get_within}
 use mathlib.Core.List.{IsPrefix}
 use Rattle.logbook.specs.Pages.{Book}
 use Rattle.pg_graph.specs.Edit.{batch_edited}
@@ -54,17 +55,6 @@ at_push [] x a (suc k) h = absurd cc
 at_push (y ∷ xs) x a zero h = inl h
 at_push (y ∷ xs) x a (suc k) h = ⊎_elim (λ there. inl there) (λ last. inr (ap suc last.0, last.1)) (at_push xs x a k h)
 
--- where something stands in a list
-at_within : {A : Type 0} (xs : List A) (a : A) (k : ℕ) → slice_get xs k ≡ Some a → k < length xs
-at_within [] a k h = absurd cc
-at_within (x ∷ xs) a zero h = omega arith
-at_within (x ∷ xs) a (suc k) h = let within = at_within xs a k h in omega (arith, within)
-
-at_get_or : {A : Type 0} (xs : List A) (a d : A) (k : ℕ) → slice_get xs k ≡ Some a → get_or xs k d ≡ a
-at_get_or [] a d k h = absurd cc
-at_get_or (x ∷ xs) a d zero h = cc h
-at_get_or (x ∷ xs) a d (suc k) h = at_get_or xs a d k h
-
 module _ {V : Type 0} where
   -- editions go on by one that is no earlier than any before
   never_back_push : (list : List (Answered V)) (x : Answered V) → NeverGoesBack list
@@ -75,7 +65,7 @@ module _ {V : Type 0} where
         → a.publication.edition ≤ b.publication.edition
     by (inl first) (inl second) = rises i j a b le first second
     by (inl first) (inr second) = subst (λ (e : Answered V). a.publication.edition ≤ e.publication.edition) second.1 (below i a first)
-    by (inr first) (inl second) = let within = at_within list b j second in absurd (omega (arith, within, le, first.0))
+    by (inr first) (inl second) = let within = slice_get_within list j b second in absurd (omega (arith, within, le, first.0))
     by (inr first) (inr second) =
         let same : a.publication.edition ≡ b.publication.edition = ap (λ (e : Answered V). e.publication.edition) (sym first.1 ∙ second.1) in
         omega (arith, same)
@@ -116,9 +106,9 @@ module _ {V M : Type 0} (job : Job V M) (names : Registered) where
     });
     named = All-push (λ a. a.registered ≡ names) list (entry_of job names edition graph) are.named refl;
     never_back = never_back_push list (entry_of job names edition graph) are.never_back (λ k a at.
-        let within = at_within list a k at in
+        let within = slice_get_within list k a at in
         let is : IsOfEdition job batches a.publication =
-        subst (λ (e : Answered V). IsOfEdition job batches e.publication) (at_get_or list a a k at) (are.each k a within) in
+        subst (λ (e : Answered V). IsOfEdition job batches e.publication) (get_or_from_slice_get list k a a at) (are.each k a within) in
         let l = is.within in
         omega (arith, l, edition_is));
   }

@@ -14,6 +14,7 @@ use Rattle.pg_service.proofs.AnswersRise.{answer_rises}
 use Rattle.pg_workers.specs.Driven.{IsAnswered, IsDriven, IsUnlost}
 use Rattle.pg_workers.specs.Meaning.{Meaning, job_in}
 use Rattle.pg_workers.specs.declared.counts.Counts.{Counts}
+use Rattle.pg_workers.specs.Losses.{Fated}
 
 -- the same for each partition
 each_so : {A : Type 0} (n first : ℕ) (a : A) → map (λ p. a) (range_with_len first n) ≡ replicate n a
@@ -28,7 +29,7 @@ unfolding answer
 supersteps_of job graph = refl
 
 module _ {P C A V M : Type 0} (own : Meaning P C A V M) (job : ServiceJob P C A) (graph : Rows) (kept : Option Rows) (core : Progress P C A V M)
-    (fated : ℕ → ℕ → ℕ → ℕ → Bool) (honest : Bool) (number : ℕ) (rising : HasRisingIds graph)
+    (fated : Fated) (honest : Bool) (number : ℕ) (rising : HasRisingIds graph)
     (opened : IsOpened core job.program job.combiner job.master graph job.limits number) (right : IsRight (job_in own core) kept core) where
   abbrev Meant : Job V M
   Meant = job_meant own.program own.combining own.master job

@@ -16,6 +16,7 @@ use Rattle.pg_service.specs.Reported.{report_on}
 use Rattle.pg_service.specs.Service.{IsAnswered, IsRun, MayCount, MayReport, ServiceState, Stands, entry_of, report_of, with_entry}
 use Rattle.pg_service.specs.declared.report.Report.{Report}
 use Rattle.pg_workers.specs.declared.counts.Counts.{Counts}
+use Rattle.pg_workers.specs.Losses.{Fated}
 
 module _ {R F : Type 0} where
   pub refused_so : {X : Type 0} (r : Result R F) → X → OnErr r X
@@ -91,7 +92,7 @@ module _ {P C A V M : Type 0} (program_of : P → Program V M) (combining_of : C
       }) is
 
   -- what it reports
-  pub reported : (value_eq : V → V → Bool) (message_eq : M → M → Bool) (fated : ℕ → ℕ → ℕ → ℕ → Bool) (run : Run V) {left : Traces V M}
+  pub reported : (value_eq : V → V → Bool) (message_eq : M → M → Bool) (fated : Fated) (run : Run V) {left : Traces V M}
       {counts : Counts} {kept : Option Rows} {report : Report}
       → report ≡ report_on state.edition run counts → kept ≡ state.kept
       → IsRun (Meant state.job) value_eq message_eq fated state.job.limits kept state.graph run left counts
@@ -109,7 +110,7 @@ module _ {P C A V M : Type 0} (program_of : P → Program V M) (combining_of : C
       }))
 
 -- a report of a refresh in which nobody fell
-pub report_is_of : {V M : Type 0} (job : Job V M) (value_eq : V → V → Bool) (message_eq : M → M → Bool) (fated : ℕ → ℕ → ℕ → ℕ → Bool) (limits : Limits)
+pub report_is_of : {V M : Type 0} (job : Job V M) (value_eq : V → V → Bool) (message_eq : M → M → Bool) (fated : Fated) (limits : Limits)
     (kept : Option Rows) (edition : ℕ) (graph : Rows) (report : Report)
     → MayReport job value_eq message_eq fated limits kept edition graph report → report.losses ≡ []
     → report ≡ report_of job value_eq message_eq limits.partitions kept edition graph

@@ -27,9 +27,9 @@ composed graph [] = Ok graph
 composed graph (batch ∷ batches) = and_then (batch_edited graph batch) (λ made. composed made batches)
 
 module _ {P C A V M : Type 0} (own : ServiceJob P C A) (job : Job V M) (names : Registered) (publisher : Book) where
-  -- from a service as it begins, edits, refreshes and readers that were made have led here, and these batches were accepted,
-  -- in their order. An edit that is refused leaves the service as it was; a refresh that is refused lets go of the kept run
-  -- alone
+  -- from a service as it begins, edits, refreshes and readers that were made have led here, and these batches were
+  -- accepted, in their order. An edit that is refused leaves the service as it was; a refresh that is refused lets go
+  -- of the kept run alone
   pub data Led : List (List Edit) → ServiceState P C A V → Type 0 where
     begun : Led [] (fresh own publisher)
     accepted : (batches : List (List Edit)) (before : ServiceState P C A V) (batch : List Edit) (graph : Rows)
@@ -68,16 +68,19 @@ module _ {V M : Type 0} (job : Job V M) where
     pub named : All (λ a. a.registered ≡ names) list
     pub never_back : NeverGoesBack list
 
-  -- a service's graph is what the accepted batches make, one after another, its edition is their number, and what it has
-  -- published are answers, from this publisher
-  pub record Follows {P C A : Type 0} (names : Registered) (publisher : Book) (batches : List (List Edit)) (state : ServiceState P C A V) : Type 0 where
+  -- a service's graph is what the accepted batches make, one after another, its edition is their number, and what it
+  -- has published are answers, from this publisher
+  pub record Follows {P C A : Type 0} (names : Registered) (publisher : Book) (batches : List (List Edit))
+      (state : ServiceState P C A V) : Type 0 where
     pub edition_is : state.edition ≡ length batches
     pub graph_is : composed [] batches ≡ Ok state.graph
     pub own : state.told.publisher ≡ publisher
     pub published : AreAnswers names batches state.told.list
 
--- what a reader has seen or was told of is a beginning of what is published: then it shows answers too, and whoever has seen
--- more looks at no earlier edition
-pub record LooksAtAnswers {V M : Type 0} (job : Job V M) (names : Registered) (batches : List (List Edit)) (seen later : List (Answered V)) : Type 0 where
+-- what a reader has seen or was told of is a beginning of what is published: then it shows answers too, and whoever has
+-- seen more looks at no earlier edition
+pub record LooksAtAnswers {V M : Type 0} (job : Job V M) (names : Registered) (batches : List (List Edit))
+    (seen later : List (Answered V)) : Type 0 where
   pub answers : AreAnswers job names batches seen
-  pub goes_on : (a b : Answered V) → last_of seen ≡ Some a → last_of later ≡ Some b → a.publication.edition ≤ b.publication.edition
+  pub goes_on : (a b : Answered V) → last_of seen ≡ Some a → last_of later ≡ Some b
+      → a.publication.edition ≤ b.publication.edition

@@ -1,6 +1,7 @@
 -- What a service keeps, and what an edit and a refresh make of it.
 use Rattle.std.specs.Prelude.{◌≡◌, ◌⊎◌, ℕ, ◌<◌, ◌≤◌, Bool, false, ◌==◌, nat_lt, if◌then◌else◌}
-use Rattle.std.specs.Prelude.{List, [], ◌∷◌, ◌++◌, length, replicate, Option, None, Some, IfSome, option_map, Result, Err}
+use Rattle.std.specs.Prelude.{List, [], ◌∷◌, ◌++◌, length, replicate, Option}
+use Rattle.std.specs.Prelude.{None, Some, IfSome, option_map, Result, Err}
 use Rattle.logbook.specs.Pages.{Book}
 use Rattle.pg_workers.specs.Handed.{Event, IsLeftBy, Limits, Traces}
 use Rattle.pg_global.specs.Master.{Master, job_of}
@@ -26,11 +27,11 @@ use Rattle.pg_service.specs.declared.answers.Check.{Check}
 use Rattle.pg_service.specs.declared.answers.Check.TheVariants.{Same, Stale}
 use Rattle.pg_service.specs.declared.report.Report.{Report}
 use Rattle.pg_workers.specs.Driven.{AreCountsOf}
-use Rattle.pg_workers.specs.Losses.{AreFated}
+use Rattle.pg_workers.specs.Losses.{AreFated, Fated}
 use Rattle.pg_workers.specs.declared.counts.Counts.{Counts}
 
--- what it runs, its graph with the number of batches that made it, which publisher it has with all that was published, how
--- many readers were made, and the graph of the run that the next one may reuse
+-- what it runs, its graph with the number of batches that made it, which publisher it has with all that was published,
+-- how many readers were made, and the graph of the run that the next one may reuse
 pub record ServiceState (P C A V : Type 0) : Type 0 where
   pub job : ServiceJob P C A
   pub graph : Rows
@@ -110,21 +111,24 @@ module _ {V M : Type 0} (job : Job V M) where
     abbrev pub calls_of : Option Rows → Rows → ℕ
     calls_of kept graph = capped (needed_count value_eq message_eq job kept graph)
 
-    -- what may be counted of a run beside a kept one, if any, on workers that fall by a fate: what is told by a history that
-    -- the status machine allows. No more workers fell than may, by the fate those alone that it has fall, and nobody where
-    -- there is one worker. Where nobody fell, the calls are the needed executions, at most 2^64 - 1, and each partition has
-    -- made each superstep once
-    pub record MayCount (fated : ℕ → ℕ → ℕ → ℕ → Bool) (limits : Limits) (kept : Option Rows) (graph : Rows) (counts : Counts) : Type 0 where
+    -- what may be counted of a run beside a kept one, if any, on workers that fall by a fate: what is told by a history
+    -- that the status machine allows. No more workers fell than may, by the fate those alone that it has fall, and
+    -- nobody where there is one worker. Where nobody fell, the calls are the needed executions, at most 2^64 - 1, and
+    -- each partition has made each superstep once
+    pub record MayCount (fated : Fated) (limits : Limits) (kept : Option Rows) (graph : Rows)
+        (counts : Counts) : Type 0 where
       pub history : List Event
       pub tells : AreCountsOf value_eq message_eq job kept graph limits.partitions limits.workers history counts
       pub few : length counts.losses ≤ limits.max_losses
       pub fated_are : AreFated fated 0 counts.losses
       pub alone : limits.workers ≡ 1 → counts.losses ≡ []
       pub unlost : counts.losses ≡ []
-          → (counts.calls ≡ calls_of kept graph) × (counts.steps ≡ replicate limits.partitions (answer job graph).supersteps)
+          → (counts.calls ≡ calls_of kept graph)
+          × (counts.steps ≡ replicate limits.partitions (answer job graph).supersteps)
 
     -- what a refresh may report: the numbers of the run from scratch, and what may be counted
-    pub record MayReport (fated : ℕ → ℕ → ℕ → ℕ → Bool) (limits : Limits) (kept : Option Rows) (edition : ℕ) (graph : Rows)
+    pub record MayReport (fated : Fated) (limits : Limits) (kept : Option Rows) (edition : ℕ)
+        (graph : Rows)
         (report : Report) : Type 0 where
       pub edition_is : report.edition ≡ edition
       pub supersteps_are : report.supersteps ≡ (answer job graph).supersteps
@@ -142,7 +146,8 @@ module _ {V M : Type 0} (job : Job V M) where
     report_of n kept edition graph = report_on edition (answer job graph) (unlost_counts n kept graph)
 
     -- what a run gives: the answer of the run from scratch, what the next one may reuse, and what may be counted
-    pub record IsRun (fated : ℕ → ℕ → ℕ → ℕ → Bool) (limits : Limits) (kept : Option Rows) (graph : Rows) (run : Run V) (left : Traces V M)
+    pub record IsRun (fated : Fated) (limits : Limits) (kept : Option Rows) (graph : Rows) (run : Run V)
+        (left : Traces V M)
         (counts : Counts) : Type 0 where
       pub answers : run ≡ answer job graph
       pub rising : HaveRisingIds run.values
@@ -156,8 +161,8 @@ module _ {V M : Type 0} (job : Job V M) where
         if is_current edition published then Same (calls_of None graph) else Stale
 
 -- what a service has fits together: its program can run with its master, whose aggregators have these names, what was
--- published last is of this edition and the answer of its graph, or of an earlier edition, and the run that is kept was on a
--- graph that differs at the noted ids alone
+-- published last is of this edition and the answer of its graph, or of an earlier edition, and the run that is kept was
+-- on a graph that differs at the noted ids alone
 pub record Stands {V M : Type 0} (program : Program V M) (combining : Option (Combining M)) (master : Master)
     (limits : Limits) (names : Registered) (graph : Rows) (edition : ℕ) (published : Option (Answered V))
     (kept : Option (KeptRun V M)) : Type 0 where

@@ -1,5 +1,5 @@
-//! The service: a graph that is kept with its edition, a job that runs on it, beside its last run, and the answers, which
-//! are published to readers in other threads.
+//! The service: a graph that is kept with its edition, a job that runs on it, beside its last run, and the answers,
+//! which are published to readers in other threads.
 #![tactic(auto)]
 
 mod answers;

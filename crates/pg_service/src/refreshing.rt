@@ -22,26 +22,26 @@ use std::thread::Threads;
 
 impl<P: Computation, C: MessageCombiner<P::Message>, M: MasterCompute> Service<P, C, M> {
     /// Runs the program on the graph as it stands, beside the last run where that is kept, on workers of which some may
-    /// fall, publishes the answer to readers, and keeps what the run leaves. The answer is that of the run from scratch,
-    /// whoever fell. Where nobody fell, the calls of compute are as many as the vertices and supersteps whose inputs aren't
-    /// those of the kept run, at most 2^64 - 1. The shelf is where checkpoints are put; those of different refreshes don't
-    /// meet. It waits for readers that still look at the publication before the last.
+    /// fall, publishes the answer to readers, and keeps what the run leaves. The answer is that of the run from
+    /// scratch, whoever fell. Where nobody fell, the calls of compute are as many as the vertices and supersteps whose
+    /// inputs aren't those of the kept run, at most 2^64 - 1. The shelf is where checkpoints are put; those of
+    /// different refreshes don't meet. It waits for readers that still look at the publication before the last.
     ///
     /// # Errors
     ///
     /// `Memory` where a growth was refused outside of a worker's steps, `Device` where the shelf's device failed,
-    /// `TooManyLosses` where more workers fell than may, and else `NoWorkers` where all of them did. Then no run is kept,
-    /// and the rest stays as it was, what is published too.
+    /// `TooManyLosses` where more workers fell than may, and else `NoWorkers` where all of them did. Then no run is
+    /// kept, and the rest stays as it was, what is published too.
     ///
     /// # Cost
     ///
-    /// Where no run is kept, that of a whole run. Else what is executed, with its edges and messages; a sort of the noted
-    /// ids and a look-up of each for each partition; a count for each superstep and pair of partitions; a walk over the
-    /// records of each superstep in which something else is contributed, and over what is active past the kept run's
-    /// end; and for the answer two copies of the vertices' values, with a look-up for each vertex that may have ended
-    /// otherwise. Where many rows were changed, a walk over all rows, and a copy of the edges of those beside the changed
-    /// ones, so that they lie side by side. What workers add, `pg_workers::run_job` tells. What the kept run sent
-    /// otherwise is still there afterwards: `release` lets go of it, or the next refresh as it begins.
+    /// Where no run is kept, that of a whole run. Else what is executed, with its edges and messages; a sort of the
+    /// noted ids and a look-up of each for each partition; a count for each superstep and pair of partitions; a walk
+    /// over the records of each superstep in which something else is contributed, and over what is active past the kept
+    /// run's end; and for the answer two copies of the vertices' values, with a look-up for each vertex that may have
+    /// ended otherwise. Where many rows were changed, a walk over all rows, and a copy of the edges of those beside the
+    /// changed ones, so that they lie side by side. What workers add, `pg_workers::run_job` tells. What the kept run
+    /// sent otherwise is still there afterwards: `release` lets go of it, or the next refresh as it begins.
     pub fn refresh<R: Threads + Wait + Sync, S: Shelf, F: Fate, G: Gate>(
         &mut self,
         rt: &R,

@@ -12,8 +12,8 @@ use pg_scratch::RunFault;
 use std::alloc::Global;
 use std::sync::Arc;
 
-/// The names of the master's aggregators, to be shared by all answers, where they can be registered and each place that the
-/// program declares is among them.
+/// The names of the master's aggregators, to be shared by all answers, where they can be registered and each place that
+/// the program declares is among them.
 pub(crate) fn registry_of<P: Computation, M: MasterCompute>(
     alloc: Global,
     program: &P,

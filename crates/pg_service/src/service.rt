@@ -31,9 +31,9 @@ use std::mem;
 use std::sync::{Arc, Wait};
 
 /// A service: a program with its combiner and its master, whose aggregators have names; a graph with its edition; the
-/// publisher of its answers; what the last run left, beside which the next one runs, and what it had no more use for; and
-/// how many runs there were, which stops at 2^64 - 1. It isn't `Drop`, since its publisher waits for readers: end it by
-/// `close`.
+/// publisher of its answers; what the last run left, beside which the next one runs, and what it had no more use for;
+/// and how many runs there were, which stops at 2^64 - 1. It isn't `Drop`, since its publisher waits for readers: end
+/// it by `close`.
 pub struct Service<P: Computation, C: MessageCombiner<P::Message>, M: MasterCompute> {
     pub(crate) program: P,
     pub(crate) combiner: C,
@@ -47,6 +47,9 @@ pub struct Service<P: Computation, C: MessageCombiner<P::Message>, M: MasterComp
     pub(crate) spent: Option<Spent<P::Value, P::Message>>,
     pub(crate) runs: u64,
 }
+
+/// The graph, the run that is kept, and what it had no more use for.
+type Held<V, M> = (Graph, Option<KeptRun<V, M>>, Option<Spent<V, M>>);
 
 impl<P: Computation, C: MessageCombiner<P::Message>, M: MasterCompute> Model for Service<P, C, M> {
     ghost use Rattle.std.specs.Arc.{arc_value};
@@ -197,8 +200,8 @@ impl<P: Computation, C: MessageCombiner<P::Message>, M: MasterCompute> Service<P
         Ok(self.edition)
     }
 
-    /// Lets go of what the last refresh had no more use for: what the run before it recorded and sent otherwise. The next
-    /// refresh does so as it begins; whoever calls this before has it done while nobody waits.
+    /// Lets go of what the last refresh had no more use for: what the run before it recorded and sent otherwise. The
+    /// next refresh does so as it begins; whoever calls this before has it done while nobody waits.
     ///
     /// # Cost
     ///
@@ -250,32 +253,33 @@ impl<P: Computation, C: MessageCombiner<P::Message>, M: MasterCompute> Service<P
         value.to_string(alloc)
     }
 
-    /// Ends the service: its publisher, once nobody looks any more, and all that it keeps. Readers look no more after that.
+    /// Ends the service: its publisher, once nobody looks any more, and all that it keeps. Readers look no more after
+    /// that.
     pub fn close<R: Wait>(self, rt: &R)
     where
         P: Drop,
         C: Drop,
         M: Drop,
     {
-        let Service {
-            program: _,
-            combiner: _,
-            master: _,
-            limits: _,
-            graph: _,
-            edition: _,
-            registry: _,
-            publisher,
-            kept: _,
-            spent: _,
-            runs: _,
-        } = self;
+        let (publisher, _held) = self.into_parts();
         publisher.close(rt);
     }
 
     /// Ends the service as `close` does, and leaves the memory of what it keeps to the process. To let go of all that a
     /// long session holds takes time, which a process that ends can save.
     pub fn leave<R: Wait>(self, rt: &R)
+    where
+        P: Drop,
+        C: Drop,
+        M: Drop,
+    {
+        let (publisher, held) = self.into_parts();
+        mem::forget(held);
+        publisher.close(rt);
+    }
+
+    /// The publisher, and what holds much memory.
+    fn into_parts(self) -> (Publisher<P::Value>, Held<P::Value, P::Message>)
     where
         P: Drop,
         C: Drop,
@@ -294,8 +298,7 @@ impl<P: Computation, C: MessageCombiner<P::Message>, M: MasterCompute> Service<P
             spent,
             runs: _,
         } = self;
-        mem::forget((graph, kept, spent));
-        publisher.close(rt);
+        (publisher, (graph, kept, spent))
     }
 
     /// The run from scratch on the graph as it stands, with the number of calls of compute.

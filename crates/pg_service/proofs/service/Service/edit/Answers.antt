@@ -43,7 +43,8 @@ invariant_of-self-in_err-apply g c =
     let program = g.P.Computation.program inside.program in
     let combining = g.C.MessageCombiner.combining inside.combiner in
     let master = g.M.MasterCompute.master inside.master in
-    subst (λ graph. Stands program combining master inside.limits (arc_value inside.registry) graph inside.edition (last_of inside.publisher.list) c.note.new.kept)
+    subst (λ graph. Stands program combining master inside.limits (arc_value inside.registry) graph inside.edition
+    (last_of inside.publisher.list) c.note.new.kept)
     (sym c.in_err-apply.ensures.err) (record {
       can_run = c.self.invariant.can_run;
       named = c.self.invariant.named;
