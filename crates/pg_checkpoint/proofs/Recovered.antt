@@ -42,12 +42,14 @@ module _ {V M : Type 0} (is_value : V → Type 0) (value : V → List ℕ) (is_m
         | inl first ↦ (
             let rest : List ℕ = first_rest value message asked.run asked.rows.partition records in
             let long : length bytes ≡ 12 + length rest = ap length first ∙ framed_length first_magic rest refl in
-            first ∙ whole_or_none first_magic rest second_magic left faded.0 refl refl (omega (arith, long, shorter, fits)) (omega (arith, many, fits)) (sym first ∙ faded.1)
+            first ∙ whole_or_none first_magic rest second_magic left faded.0 refl refl (omega (arith, long, shorter, fits)) (omega (arith, many, fits))
+            (sym first ∙ faded.1)
             )
         | inr second ↦ (
             let rest : List ℕ = second_rest value message asked.run asked.rows.partition (edges_behind (initial_of asked) records) records in
             let long : length bytes ≡ 12 + length rest = ap length second ∙ framed_length second_magic rest refl in
-            second ∙ whole_or_none second_magic rest second_magic left faded.0 refl refl (omega (arith, long, shorter, fits)) (omega (arith, many, fits)) (sym second ∙ faded.1)
+            second ∙ whole_or_none second_magic rest second_magic left faded.0 refl refl (omega (arith, long, shorter, fits)) (omega (arith, many, fits))
+            (sym second ∙ faded.1)
             )
       ]
 

@@ -23,7 +23,8 @@ key_of partition = 112 ∷ decimal partition
 -- the bytes of a part of a run, in format 2
 abbrev pub part_coding : {V M : Type 0} → (V → List ℕ) → (M → List ℕ) → ℕ → PartState V M → List ℕ
 part_coding value message run part =
-    second_coding value message run part.course.partition (edges_behind part.course.trace.initial (own_records part)) (own_records part)
+    second_coding value message run part.course.partition (edges_behind part.course.trace.initial (own_records part))
+    (own_records part)
 
 -- the run and the partition of which a part is asked for, and its job as far as records hang on it
 pub record Asked (V M : Type 0) : Type 0 where

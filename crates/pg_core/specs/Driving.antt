@@ -9,8 +9,8 @@ use Rattle.pg_model.specs.Needed.{needed_in}
 use Rattle.pg_model.specs.Share.{belongs}
 
 module _ {V M : Type 0} (value_eq : V → V → Bool) (message_eq : M → M → Bool) (job : Job V M) (rows : Rows) (n : ℕ) where
-  -- how many executions of partition p of n are needed in superstep r: beside the kept run, if any, unless a loss took the
-  -- partition, and all then
+  -- how many executions of partition p of n are needed in superstep r: beside the kept run, if any, unless a loss took
+  -- the partition, and all then
   abbrev pub needs_of : Option Rows → Bool → ℕ → ℕ → ℕ
   needs_of kept lost p r = needed_in value_eq message_eq job (cond lost None kept) rows (belongs n p) r
 

@@ -56,8 +56,8 @@ pub fn searching<R: Wait>(
 }
 
 /// Searches the graph as it stands, beside the last search where that is kept. What is published is the answer of the
-/// search from scratch; where no worker fell, compute is called for what differs from the last search. No worker is made
-/// to fall; one falls that has no memory left.
+/// search from scratch; where no worker fell, compute is called for what differs from the last search. No worker is
+/// made to fall; one falls that has no memory left.
 ///
 /// # Errors
 ///

@@ -138,7 +138,8 @@ published_is service state is = ap (λ s. last_published s.told.list) is
 
 -- what is told
 query_is : (own : ReadyJob) (query : Query) (here : Place) (held : Held) → Keeps held here.state
-    → query_text own query (last_published here.state.publications) here.state.report ≡ query_text own query (last_published held.service.told.list) held.notes.report
+    → query_text own query (last_published here.state.publications) here.state.report ≡ query_text own query
+    (last_published held.service.told.list) held.notes.report
 query_is own query here held keeps = ap₂ (query_text own query) (sym (published_is held.service here.state keeps.service_is)) (sym keeps.notes_are.report_is)
 
 pub query_answered : (line : List ℕ) (query : Query) (here : Place) (held : Held) (left : Option (List (List ℕ))) (before now : Option (List ℕ))

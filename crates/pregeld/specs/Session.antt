@@ -240,16 +240,18 @@ module _ (own : ReadyJob) where
         next = place;
       }
 
-  -- a refresh for which a worker, or more, had no memory: it is answered all the same, or refused, and then no run is kept
+  -- a refresh for which a worker, or more, had no memory: it is answered all the same, or refused, and then no run is
+  -- kept
   abbrev pub LosesWorkers : Place → Answer → Type 0
   LosesWorkers place answer =
-      ((report : Report) × MayReportAt place.state report × (report.losses ≢ []) × (answer ≡ refresh_answer report place))
+      ((report : Report) × MayReportAt place.state report × (report.losses ≢ [])
+      × (answer ≡ refresh_answer report place))
       ⊎ ((fault : RefreshFault) × MayRefuse nobody own.limits fault
       × (answer
       ≡ answered (RunRefused (refusal_number fault)) (record place { state = record place.state { kept = None } })))
 
-  -- an action for which there is no memory: graph, edition and publications stay, but for a refresh that is answered, and
-  -- no edit is pending after a commit
+  -- an action for which there is no memory: graph, edition and publications stay, but for a refresh that is answered,
+  -- and no edit is pending after a commit
   abbrev pub WantsMemory : Action → Place → Answer → Type 0
   WantsMemory Commit place answer =
       IsTried place.state.edition place.state.pending

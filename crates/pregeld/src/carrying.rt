@@ -74,8 +74,8 @@ fn apply(alloc: Global, batch: &Batch, service: &mut ReadyService) -> Reply
     }
 }
 
-/// Runs the program, publishes the answer and keeps the report. Nobody falls by a fate, and checkpoints are kept in memory
-/// until the refresh is done.
+/// Runs the program, publishes the answer and keeps the report. Nobody falls by a fate, and checkpoints are kept in
+/// memory until the refresh is done.
 fn refresh<H: Threads + Wait + Sync>(
     rt: &H,
     alloc: Global,

@@ -26,10 +26,10 @@ use std::thread::Threads;
 const NO_FILES: &str =
     "No files are read: edge lists come on standard input, as `import list N` and then N lines.";
 
-/// Runs the program on its words, the program's name first, with `rt` to start threads by, and gives its exit status: 0 at the
-/// end of the input or after help; 1 where memory, the input or the output failed; 2 where the
-/// words are at fault, and then nothing was read or written. With 1 and 2 `errors` is told why, and
-/// after a session what is at fault with the first line that was, if it can be written.
+/// Runs the program on its words, the program's name first, with `rt` to start threads by, and gives its exit status: 0
+/// at the end of the input or after help; 1 where memory, the input or the output failed; 2 where the words are at
+/// fault, and then nothing was read or written. With 1 and 2 `errors` is told why, and after a session what is at fault
+/// with the first line that was, if it can be written.
 pub fn start<H: Threads + Wait + Sync, S: AsStr, R: BufRead, W: Write, E: Write>(
     rt: &H,
     alloc: Global,
@@ -53,8 +53,8 @@ pub fn start<H: Threads + Wait + Sync, S: AsStr, R: BufRead, W: Write, E: Write>
     status
 }
 
-/// Does what `start` does, and hands back the service of the session too, if one was begun. A process that ends saves the
-/// time to let go of all that a long session holds, where it calls `leave` on it.
+/// Does what `start` does, and hands back the service of the session too, if one was begun. A process that ends saves
+/// the time to let go of all that a long session holds, where it calls `leave` on it.
 pub fn start_leaving<H: Threads + Wait + Sync, S: AsStr, R: BufRead, W: Write, E: Write>(
     rt: &H,
     alloc: Global,
@@ -136,8 +136,8 @@ fn hint<E: Write>(errors: &mut E, fault: Option<(LineFault, u64)>) {
     let _said = writeln!(errors, "pregeld: line {line}: {what}");
 }
 
-/// Says what is at fault with the words of the command line, and where a word may have been meant as the name of a file,
-/// that edge lists are read from standard input.
+/// Says what is at fault with the words of the command line, and where a word may have been meant as the name of a
+/// file, that edge lists are read from standard input.
 fn explain<E: Write>(errors: &mut E, error: Option<Error>) {
     let Some(error) = error else {
         return;

@@ -1,5 +1,5 @@
-//! Runs the stored sessions on several numbers of partitions and workers, with and without checkpoints, and stored command
-//! lines as they stand, and says whether each answers what is stored.
+//! Runs the stored sessions on several numbers of partitions and workers, with and without checkpoints, and stored
+//! command lines as they stand, and says whether each answers what is stored.
 #![tactic(auto)]
 
 use pregeld::start;
@@ -18,8 +18,8 @@ impl<H: Threads + Wait + Sync + Files + AllocGlobal + Print + Clone + Drop> Host
 /// On how many partitions and workers a session is run, and after how many supersteps they are saved.
 type Setting = (&'static str, &'static str, &'static str);
 
-/// Where sessions lie, and how each is run: those for readers, those that the rules are tried by, those of random graphs
-/// and batches, and those of many supersteps.
+/// Where sessions lie, and how each is run: those for readers, those that the rules are tried by, those of random
+/// graphs and batches, and those of many supersteps.
 const FOLDERS: [(&str, &[Setting]); 4] = [
     ("examples", &EACH),
     ("rows", &EACH),
@@ -249,8 +249,8 @@ fn words_of<'a>(alloc: Global, args: &'a str, setting: Setting) -> io::Result<Ve
     Ok(words)
 }
 
-/// Whether the program, started with these words, ends as is wanted. Of what it says is stored how it begins, if it says
-/// anything.
+/// Whether the program, started with these words, ends as is wanted. Of what it says is stored how it begins, if it
+/// says anything.
 fn is_answered<H: Host>(rt: &H, words: &[&str], input: &[u8], wanted: &Wanted) -> bool {
     let mut reader = input;
     let alloc = rt.alloc();

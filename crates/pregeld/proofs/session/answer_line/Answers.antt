@@ -16,7 +16,8 @@ returns-in-Ok-Nothing-clause-ok g c state keeps lines there =
     let held : Held = record { service = c.args.service.now; notes = c.args.notes.now } in
     let asks : command_of c.args.line.text.now ≡ Ok Nothing = sym c.command_of.ensures ∙ (c.in-Ok-Nothing.is ∙ ap Ok c.in-Ok-Nothing.field-0-is) in
     let written = g.W.Write.contents c.args.writer.now in
-    nothing_answered c.args.line.text.now here held (lines_left (g.R.Read.remaining c.args.reader.now)) written written asks keeps there (nothing_written written)
+    nothing_answered c.args.line.text.now here held (lines_left (g.R.Read.remaining c.args.reader.now)) written written asks keeps there
+    (nothing_written written)
 
 -- edits
 
@@ -58,9 +59,11 @@ returns-in-Ok-say-clause-ok g c state keeps lines there =
     let left = lines_left (g.R.Read.remaining c.carry_out.new.reader) in
     let written = g.W.Write.contents c.args.writer.now in
     let told = g.W.Write.contents c.say.new.writer in
-    subst (λ service. AnswersLine c.args.line.text.now here c.args.service.now (record { service = service; notes = c.note_fault.new.self }) pair.reached left written told)
+    subst (λ service. AnswersLine c.args.line.text.now here c.args.service.now
+    (record { service = service; notes = c.note_fault.new.self }) pair.reached left written told)
     (sym c.release.ensures)
-    (subst (λ notes. AnswersLine c.args.line.text.now here c.args.service.now (record { service = c.carry_out.new.service; notes = notes }) pair.reached left written told)
+    (subst (λ notes. AnswersLine c.args.line.text.now here c.args.service.now
+    (record { service = c.carry_out.new.service; notes = notes }) pair.reached left written told)
     (sym c.note_fault.ensures)
     (line_answered c.args.line.text.now command here c.args.service.now (record { service = c.carry_out.new.service; notes = c.carry_out.new.notes })
     pair.reply pair.reached left written told asks (pair.ensures.ok state keeps lines there) c.in-Ok-say.ensures.ok))
