@@ -3,12 +3,13 @@ ghost use Rattle.std.specs.Prelude.{◌≡◌, true};
 ghost use Rattle.pg_global.specs.Master.{has_places};
 
 use crate::course::{SIZES, cold_run, mixed_run, told, warm_run};
-use crate::graphs::{graph_of, id};
+use crate::graphs::graph_of;
 use crate::noting::Noting;
 use pg_course::Partitioner;
 use pg_global::{AnyCombiner, MessageCombiner};
 use pg_graph::{Graph, PartitionId, VertexId};
 use pg_program::{Computation, Tally};
+use pg_tests_kit::id;
 use std::alloc::Global;
 use std::fmt::Write;
 use std::process::Abort;

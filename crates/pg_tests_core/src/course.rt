@@ -2,13 +2,14 @@ ghost use Rattle.std.specs.Prelude.{◌≡◌, length, true, IfSome};
 ghost use Rattle.std.specs.Option.{option_copied};
 ghost use Rattle.pg_global.specs.Master.{has_places};
 
-use crate::graphs::{graph_of, id};
+use crate::graphs::graph_of;
 use pg_course::{Course, Partitioner, Sent};
 use pg_global::{AnyCombiner, MessageCombiner, Visible};
 use pg_graph::{Graph, Missing, PartitionId, Superstep, VertexId};
 use pg_inbox::Logs;
 use pg_model::Sequence;
 use pg_program::{Computation, Meter, Plain, Tally};
+use pg_tests_kit::id;
 use std::alloc::Global;
 use std::fmt::Write;
 use std::process::Abort;

@@ -1,10 +1,6 @@
-use pg_graph::{Batch, Edit, Graph, VertexId};
+use pg_graph::Graph;
 use std::alloc::Global;
 use std::test::Fail;
-
-pub(crate) fn id(number: u64) -> Result<VertexId, Fail> {
-    Ok(VertexId::new(number).ok_or("a number above 2^63 - 1")?)
-}
 
 // The graph of these vertices with their inputs, and of these edges.
 pub(crate) fn graph_of(
@@ -12,14 +8,9 @@ pub(crate) fn graph_of(
     vertices: &[(u64, i64)],
     edges: &[(u64, u64)],
 ) -> Result<Graph, Fail> {
-    let mut batch = Batch::new(alloc);
-    for (number, input) in vertices {
-        batch.push(Edit::AddVertex(id(*number)?, *input))?;
-    }
+    let mut weighted = Vec::new(alloc);
     for (source, target) in edges {
-        batch.push(Edit::AddEdge(id(*source)?, id(*target)?, 1))?;
+        weighted.push((*source, *target, 1))?;
     }
-    let mut graph = Graph::new(alloc);
-    graph.apply(alloc, &batch)?;
-    Ok(graph)
+    pg_tests_kit::graph_of(alloc, vertices, weighted.as_slice())
 }

@@ -2,14 +2,14 @@
 // beside runs from scratch.
 ghost use Rattle.std.specs.Prelude.{◌≡◌, length, IfOk, IfSome};
 
-use crate::graphs::id;
 use crate::happenings::{Happening, Shelf, empty_shelf, happen, play};
-use crate::recovery::{finished, is_same, scratch};
+use crate::recovery::finished;
 use pg_core::{Core, Limits, Traces};
 use pg_global::{AnyCombiner, MasterCompute, MessageCombiner};
-use pg_graph::{Batch, Edit, Graph, Memory, Missing, PartitionId, VertexId, WorkerId};
+use pg_graph::{Graph, Memory, Missing, PartitionId, VertexId, WorkerId};
 use pg_program::{Computation, Meter};
 use pg_ready::{Cc, Indegree, MaxValue, Pagerank, Peel, ReadyMaster, ReadyProgram, Sssp};
+use pg_tests_kit::{GraphSize, Random, edited, id, is_same, random_graph, scratch};
 use std::alloc::{AllocError, Global};
 use std::process::Abort;
 use std::test::Fail;
@@ -17,37 +17,29 @@ use std::test::Fail;
 // Numbers at random, and what came of them: how many workers fell, and how many partitions were found, some of them past
 // the superstep that was open.
 #[derive(Drop)]
-struct Random {
-    seed: u64,
+struct Trials {
+    random: Random,
     losses: u32,
     found: u32,
     found_ahead: u32,
 }
 
-impl Random {
-    fn below(&mut self, count: u32) -> u32 {
-        self.seed = self
-            .seed
-            .wrapping_mul(6_364_136_223_846_793_005)
-            .wrapping_add(1_442_695_040_888_963_407);
-        let drawn = u32::try_from(self.seed >> 33).unwrap_or(0);
-        drawn.checked_rem(count).unwrap_or(0)
-    }
-
-    // One of so many ids, from 1 on.
-    fn id(&mut self, count: u32) -> Result<VertexId, Fail> {
-        id(u64::from(self.below(count)).saturating_add(1))
-    }
-}
+// Twelve vertices, with edges to them and to three ids that aren't there.
+const SIZE: GraphSize = GraphSize {
+    vertices: 12,
+    edges: 30,
+    targets: 15,
+    sources: 14,
+};
 
 // A worker that is alive, if there is more than one.
 fn worker_of<P: Computation, C: MessageCombiner<P::Message>, M: MasterCompute>(
     core: &Core<'_, P, C, M>,
-    random: &mut Random,
+    trials: &mut Trials,
 ) -> Option<WorkerId> {
     let alive = core.state().alive();
     let count = alive.iter().filter(|alive| **alive).count();
-    let worker = WorkerId::new(random.below(core.limits().workers()));
+    let worker = WorkerId::new(trials.random.below(core.limits().workers()));
     if count > 1 && core.state().is_alive(worker) {
         return Some(worker);
     }
@@ -57,10 +49,10 @@ fn worker_of<P: Computation, C: MessageCombiner<P::Message>, M: MasterCompute>(
 // A worker that is alive.
 fn host_of<P: Computation, C: MessageCombiner<P::Message>, M: MasterCompute>(
     core: &Core<'_, P, C, M>,
-    random: &mut Random,
+    trials: &mut Trials,
 ) -> WorkerId {
     let workers = core.limits().workers();
-    let first = random.below(workers);
+    let first = trials.random.below(workers);
     for number in 0..workers {
         let worker = WorkerId::new(first.wrapping_add(number).checked_rem(workers).unwrap_or(0));
         if core.state().is_alive(worker) {
@@ -74,19 +66,19 @@ fn host_of<P: Computation, C: MessageCombiner<P::Message>, M: MasterCompute>(
 // closed.
 fn next_of<P: Computation, C: MessageCombiner<P::Message>, M: MasterCompute>(
     core: &Core<'_, P, C, M>,
-    random: &mut Random,
+    trials: &mut Trials,
 ) -> Option<Happening> {
-    let number = random.below(core.limits().partitions());
+    let number = trials.random.below(core.limits().partitions());
     let partition = PartitionId::new(number);
     let lost = core.state().place(partition).is_none();
-    match random.below(12) {
+    match trials.random.below(12) {
         0 => {
-            let worker = worker_of(core, random)?;
-            random.losses = random.losses.saturating_add(1);
+            let worker = worker_of(core, trials)?;
+            trials.losses = trials.losses.saturating_add(1);
             Some(Happening::Lose(worker.number()))
         }
         1 | 2 => core.is_here(partition).then_some(Happening::Save(number)),
-        3 => lost.then_some(Happening::Host(number, host_of(core, random).number())),
+        3 => lost.then_some(Happening::Host(number, host_of(core, trials).number())),
         4 => {
             let alive = core.state().is_alive(core.state().host(partition));
             (lost && alive).then_some(Happening::Restore(number))
@@ -106,16 +98,16 @@ fn happen_next<P: Computation, C: MessageCombiner<P::Message>, M: MasterCompute>
     core: &mut Core<'_, P, C, M>,
     shelf: &mut Shelf<P::Value, P::Message>,
     happening: Happening,
-    random: &mut Random,
+    trials: &mut Trials,
 ) -> Result<(), Memory> {
     happen(alloc, core, shelf, happening, &mut Meter::new())?;
     if let Happening::Restore(number) = happening {
         if let Some(place) = core.state().place(PartitionId::new(number)) {
             if place.number() > 0 {
-                random.found = random.found.saturating_add(1);
+                trials.found = trials.found.saturating_add(1);
             }
             if place > core.state().current() {
-                random.found_ahead = random.found_ahead.saturating_add(1);
+                trials.found_ahead = trials.found_ahead.saturating_add(1);
             }
         }
     }
@@ -126,15 +118,15 @@ fn happen_next<P: Computation, C: MessageCombiner<P::Message>, M: MasterCompute>
 fn go_on<P: Computation, C: MessageCombiner<P::Message>, M: MasterCompute>(
     alloc: Global,
     core: &mut Core<'_, P, C, M>,
-    random: &mut Random,
+    trials: &mut Trials,
 ) -> Result<(), Memory> {
     let mut shelf = empty_shelf(alloc, core.limits().partitions())?;
     for _ in 0..20_000 {
         if core.state().ended() {
             return Ok(());
         }
-        if let Some(happening) = next_of(core, random) {
-            happen_next(alloc, core, &mut shelf, happening, random)?;
+        if let Some(happening) = next_of(core, trials) {
+            happen_next(alloc, core, &mut shelf, happening, trials)?;
         }
     }
     Err(AllocError)
@@ -148,13 +140,21 @@ fn first<P: Computation, C: MessageCombiner<P::Message>, M: MasterCompute>(
     combiner: &C,
     master: &M,
     limits: Limits,
-    random: &mut Random,
+    trials: &mut Trials,
 ) -> Result<Option<Traces<P::Value, P::Message>>, Fail>
     ensures { IfOk result (λ found. IfSome found (λ left. length left.lefts ≡ limits.partitions)) }
 {
-    let wanted = scratch(alloc, graph, program, combiner, master, limits)?;
+    let wanted = scratch(
+        alloc,
+        graph,
+        program,
+        combiner,
+        master,
+        limits.missing(),
+        limits.limit(),
+    )?;
     let mut core = Core::open(alloc, graph, program, combiner, master, limits, 1)?;
-    go_on(alloc, &mut core, random)?;
+    go_on(alloc, &mut core, trials)?;
     let (run, left) = finished(alloc, core, limits)?;
     if !is_same(&run, &wanted) {
         return Ok(None);
@@ -172,16 +172,24 @@ fn beside<P: Computation, C: MessageCombiner<P::Message>, M: MasterCompute>(
     combiner: &C,
     master: &M,
     limits: Limits,
-    random: &mut Random,
+    trials: &mut Trials,
 ) -> Result<Option<Traces<P::Value, P::Message>>, Fail>
     requires { length left.lefts ≡ limits.partitions }
     ensures { IfOk result (λ found. IfSome found (λ left. length left.lefts ≡ limits.partitions)) }
 {
-    let wanted = scratch(alloc, graph, program, combiner, master, limits)?;
+    let wanted = scratch(
+        alloc,
+        graph,
+        program,
+        combiner,
+        master,
+        limits.missing(),
+        limits.limit(),
+    )?;
     let mut core = Core::open_beside(
         alloc, graph, left, touched, program, combiner, master, limits, 2,
     )?;
-    go_on(alloc, &mut core, random)?;
+    go_on(alloc, &mut core, trials)?;
     let (run, left) = finished(alloc, core, limits)?;
     if !is_same(&run, &wanted) {
         return Ok(None);
@@ -202,7 +210,15 @@ fn again<P: Computation, C: MessageCombiner<P::Message>, M: MasterCompute>(
 ) -> Result<Option<u64>, Fail>
     requires { length left.lefts ≡ limits.partitions }
 {
-    let wanted = scratch(alloc, graph, program, combiner, master, limits)?;
+    let wanted = scratch(
+        alloc,
+        graph,
+        program,
+        combiner,
+        master,
+        limits.missing(),
+        limits.limit(),
+    )?;
     let mut core = Core::open_beside(
         alloc,
         graph,
@@ -223,58 +239,6 @@ fn again<P: Computation, C: MessageCombiner<P::Message>, M: MasterCompute>(
     Ok(Some(meter.count()))
 }
 
-fn random_graph(alloc: Global, random: &mut Random) -> Result<Graph, Fail> {
-    let mut graph = Graph::new(alloc);
-    let mut batch = Batch::new(alloc);
-    for number in 1..13 {
-        batch.push(Edit::AddVertex(id(number)?, i64::from(random.below(50))))?;
-    }
-    graph.apply(alloc, &batch)?;
-    for _ in 0..30 {
-        let (source, target) = (random.id(12)?, random.id(15)?);
-        let edit = Edit::AddEdge(source, target, i64::from(random.below(5)));
-        edit_if_lawful(alloc, &mut graph, edit)?;
-    }
-    Ok(graph)
-}
-
-// Makes an edit, if the graph allows it.
-fn edit_if_lawful(alloc: Global, graph: &mut Graph, edit: Edit) -> Result<(), Fail> {
-    let mut batch = Batch::new(alloc);
-    batch.push(edit)?;
-    let _ = graph.apply(alloc, &batch);
-    Ok(())
-}
-
-fn random_edit(random: &mut Random, source: VertexId) -> Result<Edit, Fail> {
-    let (target, number) = (random.id(15)?, i64::from(random.below(50)));
-    Ok(match random.below(6) {
-        0 => Edit::RemoveVertex(source),
-        1 => Edit::AddVertex(source, number),
-        2 => Edit::SetInput(source, number),
-        3 => Edit::AddEdge(source, target, number),
-        4 => Edit::SetEdge(source, target, number),
-        _ => Edit::RemoveEdge(source, target),
-    })
-}
-
-// The graph after three edits at random, and the ids that they name.
-fn edited(
-    alloc: Global,
-    graph: &Graph,
-    random: &mut Random,
-) -> Result<(Graph, Vec<VertexId>), Fail> {
-    let mut after = graph.copy(alloc)?;
-    let mut touched = Vec::new(alloc);
-    for _ in 0..3 {
-        let source = random.id(14)?;
-        let edit = random_edit(random, source)?;
-        edit_if_lawful(alloc, &mut after, edit)?;
-        touched.push(source)?;
-    }
-    Ok((after, touched))
-}
-
 // A run with losses, one beside it on an edited graph with losses, and one beside that without: how many calls the last one
 // takes. Nothing where an answer is another than from scratch.
 fn tried<P: Computation, C: MessageCombiner<P::Message>, M: MasterCompute>(
@@ -283,16 +247,16 @@ fn tried<P: Computation, C: MessageCombiner<P::Message>, M: MasterCompute>(
     combiner: &C,
     master: &M,
     limits: Limits,
-    random: &mut Random,
+    trials: &mut Trials,
 ) -> Result<Option<u64>, Fail> {
-    let graph = random_graph(alloc, random)?;
-    let Some(left) = first(alloc, &graph, program, combiner, master, limits, random)? else {
+    let graph = random_graph(alloc, SIZE, &mut trials.random)?;
+    let Some(left) = first(alloc, &graph, program, combiner, master, limits, trials)? else {
         return Ok(None);
     };
-    let (after, touched) = edited(alloc, &graph, random)?;
+    let (after, touched) = edited(alloc, &graph, SIZE, &mut trials.random)?;
     let touched = touched.as_slice();
     let beside = beside(
-        alloc, &after, left, touched, program, combiner, master, limits, random,
+        alloc, &after, left, touched, program, combiner, master, limits, trials,
     )?;
     let Some(left) = beside else {
         return Ok(None);
@@ -307,14 +271,14 @@ fn all_tried(
     program: ReadyProgram,
     combiner: AnyCombiner,
     partitions: u32,
-    random: &mut Random,
+    trials: &mut Trials,
 ) -> Result<bool, Fail> {
     let master = ReadyMaster { program };
     for missing in [Missing::Drop, Missing::Create] {
         for workers in 2..6 {
             let limits = Limits::new(partitions, workers, 12, 0, 16).ok_or("limits")?;
             let limits = limits.with_missing(missing);
-            let calls = tried(alloc, &program, &combiner, &master, limits, random)?;
+            let calls = tried(alloc, &program, &combiner, &master, limits, trials)?;
             if calls != Some(0) {
                 return Ok(false);
             }
@@ -334,8 +298,8 @@ fn losses_change_no_answer(rt: HostRuntime) -> Result<(), Fail> {
         ReadyProgram::Pagerank(Pagerank { rounds: 5, eps: 0 }),
         ReadyProgram::Peel(Peel { k: 2 }),
     ];
-    let mut random = Random {
-        seed: 1,
+    let mut trials = Trials {
+        random: Random::new(1),
         losses: 0,
         found: 0,
         found_ahead: 0,
@@ -343,12 +307,12 @@ fn losses_change_no_answer(rt: HostRuntime) -> Result<(), Fail> {
     for program in programs {
         for combiner in [AnyCombiner::NoCombiner, AnyCombiner::Min, AnyCombiner::Sum] {
             for partitions in [1, 2, 3, 5] {
-                assert!(rt; all_tried(alloc, program, combiner, partitions, &mut random)?);
+                assert!(rt; all_tried(alloc, program, combiner, partitions, &mut trials)?);
             }
         }
     }
-    assert!(rt; random.losses > 500);
-    assert!(rt; random.found > 200);
-    assert!(rt; random.found_ahead > 20);
+    assert!(rt; trials.losses > 500);
+    assert!(rt; trials.found > 200);
+    assert!(rt; trials.found_ahead > 20);
     Ok(())
 }

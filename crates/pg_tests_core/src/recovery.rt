@@ -4,7 +4,7 @@ ghost use Rattle.std.specs.Prelude.{◌≡◌, [], true, None, length, IfOk};
 ghost use Rattle.pg_global.specs.Master.{is_registered};
 ghost use Rattle.pg_global.specs.Registry.{first_refusal};
 
-use crate::graphs::{graph_of, id};
+use crate::graphs::graph_of;
 use crate::happenings::Happening::{self, Close, Host, Lose, Restore, Save, Step};
 use crate::happenings::play;
 use crate::noting::Noting;
@@ -14,7 +14,7 @@ use pg_graph::{Graph, PartitionId, VertexId};
 use pg_model::Run;
 use pg_program::{Computation, Meter, Plain, Shed, Tally};
 use pg_ready::{ReadyMaster, ReadyProgram, Sssp};
-use pg_scratch::run;
+use pg_tests_kit::{id, is_same, scratch};
 use std::alloc::Global;
 use std::fmt::Write;
 use std::process::Abort;
@@ -37,15 +37,6 @@ fn tell_values<V: Plain>(text: &mut String, run: &Run<V>) -> Result<(), Fail> {
         value.show(text)?;
     }
     Ok(())
-}
-
-pub(crate) fn is_same<V: Plain>(first: &Run<V>, second: &Run<V>) -> bool {
-    first.values.as_slice() == second.values.as_slice()
-        && first.aggregates.as_slice() == second.aggregates.as_slice()
-        && first.ending == second.ending
-        && first.supersteps == second.supersteps
-        && first.sent == second.sent
-        && first.dropped == second.dropped
 }
 
 // The answer of a run that has ended, and what it leaves.
@@ -88,25 +79,6 @@ fn ended<P: Computation, C: MessageCombiner<P::Message>, M: MasterCompute>(
     Ok((text, left))
 }
 
-// The answer of the plain runner.
-pub(crate) fn scratch<P: Computation, C: MessageCombiner<P::Message>, M: MasterCompute>(
-    alloc: Global,
-    graph: &Graph,
-    program: &P,
-    combiner: &C,
-    master: &M,
-    limits: Limits,
-) -> Result<Run<P::Value>, Fail>
-    ensures { IfOk result (λ _. (first_refusal [] (M.master master.now).registrations ≡ None)
-        × (is_registered (P.program program.now) (M.master master.now) ≡ true)) }
-{
-    let mut meter = Meter::new();
-    let (missing, limit) = (limits.missing(), limits.limit());
-    Ok(run(
-        alloc, graph, program, combiner, master, missing, limit, &mut meter,
-    )?)
-}
-
 // What a run from scratch tells in which this happens.
 fn played<P: Computation + Drop, C: MessageCombiner<P::Message>, M: MasterCompute>(
     alloc: Global,
@@ -117,7 +89,15 @@ fn played<P: Computation + Drop, C: MessageCombiner<P::Message>, M: MasterComput
     limits: Limits,
     happenings: &[Happening],
 ) -> Result<String, Fail> {
-    let wanted = scratch(alloc, graph, &program, combiner, master, limits)?;
+    let wanted = scratch(
+        alloc,
+        graph,
+        &program,
+        combiner,
+        master,
+        limits.missing(),
+        limits.limit(),
+    )?;
     let program = Noting::of(alloc, program)?;
     let mut core = Core::open(alloc, graph, &program, combiner, master, limits, 1)?;
     let mut meter = Meter::new();
@@ -137,7 +117,15 @@ fn left_by<P: Computation, C: MessageCombiner<P::Message>, M: MasterCompute>(
 ) -> Result<Traces<P::Value, P::Message>, Fail>
     ensures { IfOk result (λ left. length left.lefts ≡ limits.partitions) }
 {
-    scratch(alloc, graph, program, combiner, master, limits)?;
+    scratch(
+        alloc,
+        graph,
+        program,
+        combiner,
+        master,
+        limits.missing(),
+        limits.limit(),
+    )?;
     let mut core = Core::open(alloc, graph, program, combiner, master, limits, 1)?;
     play(alloc, &mut core, &[], &mut Meter::new())?;
     let (_, left) = finished(alloc, core, limits)?;
@@ -159,7 +147,15 @@ fn played_beside<P: Computation + Drop + Copy, C: MessageCombiner<P::Message>, M
     requires { length left.lefts ≡ limits.partitions }
     ensures { IfOk result (λ told. length told.1.lefts ≡ limits.partitions) }
 {
-    let wanted = scratch(alloc, graph, &program, combiner, master, limits)?;
+    let wanted = scratch(
+        alloc,
+        graph,
+        &program,
+        combiner,
+        master,
+        limits.missing(),
+        limits.limit(),
+    )?;
     let program = Noting::of(alloc, program)?;
     let mut core = Core::open_beside(
         alloc, graph, left, touched, &program, combiner, master, limits, 2,

@@ -4,8 +4,6 @@
 #![tactic(auto)]
 
 #[cfg(test)]
-mod graphs;
-#[cfg(test)]
 mod program;
 #[cfg(test)]
 mod scratch;

@@ -2,10 +2,10 @@ ghost use Rattle.std.specs.Prelude.{◌≡◌, ◌++◌, ◌∷◌, [], map, tru
 ghost use Rattle.pg_edits.specs.EdgeList.{with_edge};
 ghost use Rattle.pg_program.specs.Context.{ShowsDeclared};
 
-use crate::graphs::id;
 use pg_graph::{Edges, Memory, Superstep, VertexId};
 use pg_model::{Declared, Place, Sequence, VertexState, View};
 use pg_program::{Coded, Computation, Cx, EdgeRoom, Meter, Plain, Tally, Vertex};
+use pg_tests_kit::id;
 use std::alloc::Global;
 use std::fmt::Write;
 use std::process::Abort;

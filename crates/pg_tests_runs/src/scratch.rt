@@ -5,7 +5,6 @@ ghost use Rattle.pg_global.specs.Master.{leaves_all};
 ghost use Rattle.pg_global.specs.declared.aggregator.AnyAggregator.TheVariants.{LongSum};
 ghost use Rattle.pg_model.specs.Programs.{infinity};
 
-use crate::graphs::{graph_of, id};
 use pg_global::{
     AnyAggregator, AnyCombiner, MasterCompute, MasterState, MessageCombiner, NoMaster,
     RegisterFault, Registry,
@@ -14,6 +13,7 @@ use pg_graph::{Graph, Memory, Missing, VertexId};
 use pg_model::{Declared, Place, Run};
 use pg_program::{Computation, Cx, Meter, Vertex};
 use pg_scratch::{RunFault, run};
+use pg_tests_kit::{Starving, graph_of, id};
 use std::alloc::Global;
 use std::fmt::Write;
 use std::process::Abort;
@@ -463,10 +463,9 @@ fn messages_to_nobody_are_combined(rt: HostRuntime) -> Result<(), Fail> {
     are_distances(&rt, alloc, &graph, &each, missing, 10, wanted)
 }
 
-// Run with each allocation failing in turn, it shows that a refused growth gives want of memory, leaves
-// the meter, and doesn't change the answer of the next run.
+// A run that is out of memory leaves the meter, and doesn't change the answer of the next run.
 #[test]
-fn a_refused_growth_leaves_the_meter(rt: HostRuntime) -> Result<(), Fail> {
+fn a_run_out_of_memory_leaves_the_meter(rt: HostRuntime) -> Result<(), Fail> {
     let wanted = [
         (
             Missing::Drop,
@@ -478,7 +477,9 @@ fn a_refused_growth_leaves_the_meter(rt: HostRuntime) -> Result<(), Fail> {
         ),
     ];
     for (missing, wanted) in wanted {
-        a_refused_growth(&rt, rt.alloc(), missing, wanted)?;
+        for call in 0..7 {
+            run_after_one_out_of_memory(&rt, rt.alloc(), missing, call, wanted)?;
+        }
     }
     Ok(())
 }
@@ -503,20 +504,22 @@ fn run_of<P: Computation, C: MessageCombiner<P::Message>>(
     )
 }
 
-fn a_refused_growth(
+// A call of compute is refused memory, by number from 0 on, and no call of the next run.
+fn run_after_one_out_of_memory(
     rt: &impl Abort,
     alloc: Global,
     missing: Missing,
+    call: u64,
     wanted: &str,
 ) -> Result<(), Fail> {
     let graph = five_edges(alloc)?;
-    let program = FirstDistance { source: id(1)? };
+    let program = Starving::at_call(FirstDistance { source: id(1)? }, call);
     let mut meter = Meter::new();
-    let mut answer = run_of(alloc, &graph, &program, &Least, missing, &mut meter);
-    if let Err(fault) = &answer {
-        assert_eq!(rt; (*fault, meter.count()), (RunFault::Memory, 0));
-        answer = run_of(alloc, &graph, &program, &Least, missing, &mut meter);
+    match run_of(alloc, &graph, &program, &Least, missing, &mut meter) {
+        Ok(_) => return Err(Fail::from("it isn't out of memory")),
+        Err(fault) => assert_eq!(rt; (fault, meter.count()), (RunFault::Memory, 0)),
     }
-    assert_eq!(rt; text_of(alloc, &answer?, meter.count())?.as_str(), wanted);
+    let answer = run_of(alloc, &graph, &program, &Least, missing, &mut meter)?;
+    assert_eq!(rt; text_of(alloc, &answer, meter.count())?.as_str(), wanted);
     Ok(())
 }

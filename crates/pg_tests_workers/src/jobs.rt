@@ -6,8 +6,8 @@ ghost use Rattle.pg_global.specs.Registry.{first_refusal};
 use pg_global::{MasterCompute, MessageCombiner};
 use pg_graph::{Graph, Memory, VertexId};
 use pg_model::Run;
-use pg_program::{Computation, Meter, Plain};
-use pg_scratch::run;
+use pg_program::{Computation, Plain};
+use pg_tests_kit::{is_same, scratch};
 use pg_workers::{
     Cause, Core, Counts, Fate, Gate, Limits, Loss, RefreshFault, Shelf, Traces, run_job,
 };
@@ -19,34 +19,6 @@ use std::thread::Threads;
 
 // What a run adds to its text where its answer isn't the one from scratch.
 pub(crate) const OTHERWISE: &str = " otherwise than from scratch";
-
-fn is_same<V: Plain>(first: &Run<V>, second: &Run<V>) -> bool {
-    first.values.as_slice() == second.values.as_slice()
-        && first.aggregates.as_slice() == second.aggregates.as_slice()
-        && first.ending == second.ending
-        && first.supersteps == second.supersteps
-        && first.sent == second.sent
-        && first.dropped == second.dropped
-}
-
-// The answer of the plain runner.
-pub(crate) fn scratch<P: Computation, C: MessageCombiner<P::Message>, M: MasterCompute>(
-    alloc: Global,
-    graph: &Graph,
-    program: &P,
-    combiner: &C,
-    master: &M,
-    limits: Limits,
-) -> Result<Run<P::Value>, Fail>
-    ensures { IfOk result (λ _. (first_refusal [] (M.master master.now).registrations ≡ None)
-        × (is_registered (P.program program.now) (M.master master.now) ≡ true)) }
-{
-    let mut meter = Meter::new();
-    let (missing, limit) = (limits.missing(), limits.limit());
-    Ok(run(
-        alloc, graph, program, combiner, master, missing, limit, &mut meter,
-    )?)
-}
 
 // The calls of compute, and the steps of each partition.
 pub(crate) fn tell_steps(text: &mut String, calls: u64, steps: &[u64]) -> Result<(), Memory> {
@@ -174,7 +146,15 @@ pub(crate) fn first<
     ensures lawful { IfOk result (λ _. (first_refusal [] (M.master master.now).registrations ≡ None)
         × (is_registered (P.program program.now) (M.master master.now) ≡ true)) }
 {
-    let wanted = scratch(alloc, graph, program, combiner, master, limits)?;
+    let wanted = scratch(
+        alloc,
+        graph,
+        program,
+        combiner,
+        master,
+        limits.missing(),
+        limits.limit(),
+    )?;
     let core = Core::open(alloc, graph, program, combiner, master, limits, 1)?;
     driven(rt, alloc, core, shelf, fate, gate, &wanted)
 }
@@ -207,7 +187,15 @@ pub(crate) fn beside<
     ensures lawful { IfOk result (λ _. (first_refusal [] (M.master master.now).registrations ≡ None)
         × (is_registered (P.program program.now) (M.master master.now) ≡ true)) }
 {
-    let wanted = scratch(alloc, graph, program, combiner, master, limits)?;
+    let wanted = scratch(
+        alloc,
+        graph,
+        program,
+        combiner,
+        master,
+        limits.missing(),
+        limits.limit(),
+    )?;
     let core = Core::open_beside(
         alloc, graph, left, touched, program, combiner, master, limits, 2,
     )?;

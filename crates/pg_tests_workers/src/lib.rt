@@ -2,17 +2,9 @@
 #![tactic(auto)]
 
 #[cfg(test)]
-mod fates;
-#[cfg(test)]
-mod graphs;
-#[cfg(test)]
 mod jobs;
 #[cfg(test)]
-mod meeting;
-#[cfg(test)]
 mod overlap;
-#[cfg(test)]
-mod playing;
 #[cfg(test)]
 mod random;
 #[cfg(test)]

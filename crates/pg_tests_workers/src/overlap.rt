@@ -1,55 +1,18 @@
 // Workers work at the same time: each of two waits for the other, at a gate and within compute.
-use crate::graphs::{graph_of, id};
-use crate::jobs::{driven, first, scratch};
-use crate::meeting::Meeting;
+use crate::jobs::{driven, first};
 use crate::rows::limits_of;
 use pg_global::{AnyCombiner, MasterCompute, MessageCombiner};
-use pg_graph::{Graph, Memory, VertexId};
-use pg_model::Declared;
-use pg_program::{Computation, Cx, Vertex};
+use pg_graph::Graph;
+use pg_program::Computation;
 use pg_ready::{ReadyMaster, ReadyProgram, Sssp};
+use pg_tests_kit::{graph_of, id, scratch};
+use pg_tests_rounds::{Meeting, Waiting};
 use pg_workers::{Core, Limits, MemShelf, NoFate, NoGate};
 use std::alloc::Global;
 use std::process::Abort;
-use std::sync::Wait;
+use std::sync::{Arc, Wait};
 use std::test::Fail;
 use std::thread::Threads;
-
-// A program that does what another does, and whose vertices 1 and 2 wait for each other in superstep 0.
-#[derive(Drop)]
-struct Waiting<P> {
-    inner: P,
-    meeting: Meeting,
-}
-
-impl<P: Computation> Computation for Waiting<P> {
-    type Value = P::Value;
-
-    type Message = P::Message;
-
-    ghost program = { λ waiting. P.program waiting.inner };
-
-    fn declared(&self) -> Declared {
-        self.inner.declared()
-    }
-
-    fn initial(&self, alloc: Global, id: VertexId, input: i64) -> Result<P::Value, Memory> {
-        self.inner.initial(alloc, id, input)
-    }
-
-    fn compute(
-        &self,
-        alloc: Global,
-        vertex: &mut Vertex<P::Value>,
-        messages: &[P::Message],
-        cx: &mut Cx<P::Message>,
-    ) -> Result<(), Memory> {
-        if cx.superstep().number() == 0 {
-            self.meeting.meet(vertex.id().number() == 1);
-        }
-        self.inner.compute(alloc, vertex, messages, cx)
-    }
-}
 
 // The vertices 1 and 2 without an edge.
 fn two_vertices(alloc: Global) -> Result<Graph, Fail> {
@@ -89,15 +52,24 @@ fn met<
     master: &M,
     limits: Limits,
 ) -> Result<(String, bool), Fail> {
-    let wanted = scratch(alloc, graph, &inner, combiner, master, limits)?;
+    let wanted = scratch(
+        alloc,
+        graph,
+        &inner,
+        combiner,
+        master,
+        limits.missing(),
+        limits.limit(),
+    )?;
+    let meeting = Arc::new(alloc, Meeting::new())?;
     let program = Waiting {
         inner,
-        meeting: Meeting::new(),
+        meeting: Arc::try_clone(&meeting)?,
     };
     let core = Core::open(alloc, graph, &program, combiner, master, limits, 1)?;
     let mut shelf = MemShelf::new(alloc);
     let (told, _) = driven(rt, alloc, core, &mut shelf, &NoFate, &NoGate, &wanted)?;
-    Ok((told, program.meeting.was_held()))
+    Ok((told, meeting.was_held()))
 }
 
 #[test]

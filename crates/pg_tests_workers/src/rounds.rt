@@ -3,13 +3,13 @@ ghost use Rattle.std.specs.Prelude.{◌≡◌, true, length, All, IfOk};
 ghost use Rattle.pg_global.specs.Master.{has_places};
 ghost use Rattle.pg_workers_rounds.specs.Work.{AreAt};
 
-use crate::graphs::graph_of;
-use crate::meeting::Meeting;
 use pg_global::{AnyCombiner, Registry, Visible};
 use pg_graph::{Graph, Missing, PartitionId, Superstep, WorkerId};
 use pg_inbox::Logs;
 use pg_model::Sequence;
 use pg_program::{Computation, Plain, Tally};
+use pg_tests_kit::graph_of;
+use pg_tests_rounds::Meeting;
 use pg_workers_rounds::{
     Assignment, Cause, Fate, Gate, NoFate, NoGate, Outcome, Part, Partitioner, Round, in_threads,
     in_turn,

@@ -1,14 +1,14 @@
 // Runs on workers, on graphs by hand: their values, calls of compute, steps by partition and losses were found by hand.
 ghost use Rattle.std.specs.Prelude.{◌≡◌, length, IfOk, IfSome};
 
-use crate::fates::{AllFall, Strike, Strikes};
-use crate::graphs::{graph_of, id};
 use crate::jobs::{beside, first};
 use crate::shelves::{Keeping, TestShelf};
 use pg_global::{AnyCombiner, NoMaster};
 use pg_graph::{Graph, Missing, VertexId};
 use pg_program::{Shed, Tally};
 use pg_ready::{ReadyMaster, ReadyProgram, Sssp};
+use pg_tests_kit::{graph_of, id};
+use pg_tests_rounds::{AllFall, Strike, Strikes};
 use pg_workers::{Fate, Limits, MemShelf, NoFate, NoGate, Shelf, Traces};
 use std::alloc::Global;
 use std::process::Abort;

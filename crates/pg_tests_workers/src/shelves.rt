@@ -1,6 +1,7 @@
 //! Shelves that don't keep all, count what they are asked, and may fail once.
 ghost use Rattle.std.specs.Prelude.{◌≡◌};
 
+use pg_tests_rounds::Findable;
 use pg_workers::{MemShelf, Shelf, ShelfFault};
 use std::alloc::Global;
 
@@ -13,6 +14,17 @@ pub(crate) enum Keeping {
     Nothing,
     /// Under each key what was put there first.
     Firsts,
+}
+
+impl Keeping {
+    /// Which checkpoint of a partition can be loaded then.
+    pub(crate) fn findable(self) -> Findable {
+        match self {
+            Keeping::All => Findable::Last,
+            Keeping::Firsts => Findable::First,
+            Keeping::Beginnings | Keeping::Nothing => Findable::None,
+        }
+    }
 }
 
 /// A shelf that counts puts and gets, and whose device fails at one put and at one get, if at any.

@@ -1,56 +1,17 @@
 // Workers that want memory: one falls as a call of compute is refused it, and the others go on.
-use crate::graphs::id;
-use crate::jobs::{driven, scratch};
+use crate::jobs::driven;
 use crate::rows::{limits_of, two_hops};
 use pg_global::{AnyCombiner, MasterCompute, MessageCombiner};
-use pg_graph::{Graph, Memory, VertexId};
-use pg_model::Declared;
-use pg_program::{Computation, Cx, Vertex};
+use pg_graph::Graph;
+use pg_program::Computation;
 use pg_ready::{ReadyMaster, ReadyProgram, Sssp};
+use pg_tests_kit::{Starving, id, scratch};
 use pg_workers::{Core, Limits, MemShelf, NoFate, NoGate};
-use std::alloc::{AllocError, Global};
+use std::alloc::Global;
 use std::process::Abort;
 use std::sync::Wait;
-use std::sync::atomic::{AtomicU64, Ordering};
 use std::test::Fail;
 use std::thread::Threads;
-
-// A program that does what another does, but wants memory at one of its calls, by number from 0 on.
-#[derive(Drop)]
-struct Starving<P> {
-    inner: P,
-    at: u64,
-    calls: AtomicU64,
-}
-
-impl<P: Computation> Computation for Starving<P> {
-    type Value = P::Value;
-
-    type Message = P::Message;
-
-    ghost program = { λ starving. P.program starving.inner };
-
-    fn declared(&self) -> Declared {
-        self.inner.declared()
-    }
-
-    fn initial(&self, alloc: Global, id: VertexId, input: i64) -> Result<P::Value, Memory> {
-        self.inner.initial(alloc, id, input)
-    }
-
-    fn compute(
-        &self,
-        alloc: Global,
-        vertex: &mut Vertex<P::Value>,
-        messages: &[P::Message],
-        cx: &mut Cx<P::Message>,
-    ) -> Result<(), Memory> {
-        if self.calls.fetch_add(1, Ordering::SeqCst) == self.at {
-            return Err(AllocError);
-        }
-        self.inner.compute(alloc, vertex, messages, cx)
-    }
-}
 
 // What a run of a program tells that wants memory at one of its calls.
 fn starved<
@@ -68,12 +29,16 @@ fn starved<
     master: &M,
     limits: Limits,
 ) -> Result<String, Fail> {
-    let wanted = scratch(alloc, graph, &inner, combiner, master, limits)?;
-    let program = Starving {
-        inner,
-        at,
-        calls: AtomicU64::new(0),
-    };
+    let program = Starving::at_call(inner, at);
+    let wanted = scratch(
+        alloc,
+        graph,
+        &program.inner,
+        combiner,
+        master,
+        limits.missing(),
+        limits.limit(),
+    )?;
     let core = Core::open(alloc, graph, &program, combiner, master, limits, 1)?;
     let mut shelf = MemShelf::new(alloc);
     let (told, _) = driven(rt, alloc, core, &mut shelf, &NoFate, &NoGate, &wanted)?;

@@ -1,20 +1,23 @@
 //! Fates: by one or two strikes, by a table, and the one by which all workers fall.
 ghost use Rattle.std.specs.Prelude.{◌≡◌, ◌==◌, ◌&&◌};
 
-use pg_graph::{PartitionId, Superstep, WorkerId};
+use pg_graph::{Memory, PartitionId, Superstep, WorkerId};
+use pg_tests_kit::Random;
 use pg_workers::Fate;
+use std::alloc::Global;
 
 /// A superstep, how many losses were recorded before, a worker and one of its partitions.
 #[derive(Clone, Copy)]
-pub(crate) struct Strike {
-    pub(crate) superstep: u32,
-    pub(crate) attempt: u32,
-    pub(crate) worker: u32,
-    pub(crate) partition: u32,
+pub struct Strike {
+    pub superstep: u32,
+    pub attempt: u32,
+    pub worker: u32,
+    pub partition: u32,
 }
 
 impl Strike {
-    pub(crate) fn at(superstep: u32, attempt: u32, worker: u32, partition: u32) -> Strike {
+    /// The strike at these.
+    pub fn at(superstep: u32, attempt: u32, worker: u32, partition: u32) -> Strike {
         Strike {
             superstep,
             attempt,
@@ -36,17 +39,19 @@ impl Strike {
 
 /// The fate by which workers fall at two strikes, which may be the same.
 #[derive(Clone, Copy)]
-pub(crate) struct Strikes {
-    first: Strike,
-    second: Strike,
+pub struct Strikes {
+    pub first: Strike,
+    pub second: Strike,
 }
 
 impl Strikes {
-    pub(crate) fn once(strike: Strike) -> Strikes {
+    /// One strike.
+    pub fn once(strike: Strike) -> Strikes {
         Strikes::twice(strike, strike)
     }
 
-    pub(crate) fn twice(first: Strike, second: Strike) -> Strikes {
+    /// Two strikes.
+    pub fn twice(first: Strike, second: Strike) -> Strikes {
         Strikes { first, second }
     }
 }
@@ -79,7 +84,7 @@ impl Fate for Strikes {
 
 /// The fate by which each worker falls in its first round.
 #[derive(Clone, Copy)]
-pub(crate) struct AllFall;
+pub struct AllFall;
 
 impl Fate for AllFall {
     ghost use Rattle.std.specs.Prelude.{true};
@@ -97,13 +102,26 @@ impl Fate for AllFall {
     }
 }
 
-/// How many supersteps, attempts, workers and partitions a table has.
-pub(crate) const TABLE: u32 = 8 * 17 * 5 * 7;
+// How many supersteps, attempts, workers and partitions a table has.
+const TABLE: u32 = 8 * 17 * 5 * 7;
 
 /// The fate by a table, by rising superstep, attempt, worker and partition. Past the table nobody falls.
 #[derive(Drop)]
-pub(crate) struct Table {
-    pub(crate) falls: Vec<bool>,
+pub struct Table {
+    pub falls: Vec<bool>,
+}
+
+impl Table {
+    /// The fate by which about one step in so many strikes.
+    pub fn random(alloc: Global, one_in: u32, random: &mut Random) -> Result<Table, Memory> {
+        let mut falls = vec![in alloc; false; TABLE as usize]?;
+        for _ in 0..TABLE.checked_div(one_in).unwrap_or(0) {
+            if let Some(strikes) = falls.get_mut(random.below(TABLE) as usize) {
+                *strikes = true;
+            }
+        }
+        Ok(Table { falls })
+    }
 }
 
 impl Fate for Table {

@@ -1,14 +1,15 @@
-// Graphs by hand.
+//! Graphs by hand.
 use pg_graph::{Batch, Edit, Graph, VertexId};
 use std::alloc::Global;
 use std::test::Fail;
 
-pub(crate) fn id(number: u64) -> Result<VertexId, Fail> {
+/// The id with this number.
+pub fn id(number: u64) -> Result<VertexId, Fail> {
     Ok(VertexId::new(number).ok_or("a number above 2^63 - 1")?)
 }
 
-// The graph of these vertices with their inputs, and of these edges with their weights.
-pub(crate) fn graph_of(
+/// The graph of these vertices with their inputs, and of these edges with their weights.
+pub fn graph_of(
     alloc: Global,
     vertices: &[(u64, i64)],
     edges: &[(u64, u64, i64)],

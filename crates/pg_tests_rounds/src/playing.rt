@@ -1,19 +1,17 @@
 //! The rounds of a run on workers, played with plain numbers: where each partition stands, who hosts it, and what was
 //! saved.
 use crate::fates::Table;
-use crate::jobs::{tell_loss, tell_steps};
-use crate::shelves::Keeping;
 use pg_graph::{Memory, PartitionId, Superstep, WorkerId};
 use pg_workers::{Fate, Limits};
-use std::alloc::Global;
-use std::fmt::Write;
+use std::alloc::{AllocError, Global};
+use std::mem;
 
 /// How many calls each step takes, by superstep and partition: of a partition that goes on beside the kept run, and of
 /// one that doesn't.
 #[derive(Drop)]
-pub(crate) struct Calls {
-    pub(crate) warm: Vec<Vec<u64>>,
-    pub(crate) cold: Vec<Vec<u64>>,
+pub struct Calls {
+    pub warm: Vec<Vec<u64>>,
+    pub cold: Vec<Vec<u64>>,
 }
 
 impl Calls {
@@ -31,8 +29,27 @@ impl Calls {
     }
 }
 
+/// Which checkpoint of a partition can be loaded, of those that were put.
+#[derive(Clone, Copy)]
+pub enum Findable {
+    Last,
+    First,
+    None,
+}
+
+/// What comes of a run.
+#[derive(Debug, PartialEq, Eq, Drop)]
+pub enum Played {
+    /// It ends, with so many calls of compute, these steps of each partition, and these workers fallen, each in a
+    /// superstep.
+    Ended(u64, Vec<u64>, Vec<(u32, u32)>),
+    /// It is refused for the reason with this number, which names these workers: those that fell, but none where the
+    /// device failed.
+    Refused(u8, Vec<(u32, u32)>),
+}
+
 // A partition: its host, where it stands, whether it is lost, whether it goes on beside the kept run, how many steps it
-// made, the superstep at which it was saved last, and that of the checkpoint that can be had.
+// made, the superstep at which it was saved last, and that of the checkpoint that can be loaded.
 #[derive(Clone, Copy)]
 struct Standing {
     host: u32,
@@ -41,28 +58,30 @@ struct Standing {
     is_warm: bool,
     steps: u64,
     saved: Option<u32>,
-    kept: Option<u32>,
+    found: Option<u32>,
 }
 
 /// A run between two of its rounds.
 #[derive(Drop)]
-pub(crate) struct Play {
+pub struct Play {
     limits: Limits,
-    keeping: Keeping,
+    findable: Findable,
+    failing: u64,
     standings: Vec<Standing>,
     alive: Vec<bool>,
     current: u32,
     calls: u64,
     puts: u64,
+    gets: u64,
     losses: Vec<(u32, u32)>,
 }
 
 impl Play {
-    /// A run as it begins, beside a kept run or not, and with a shelf that keeps so much.
-    pub(crate) fn new(
+    /// A run as it begins, beside a kept run or not, on a shelf of whose checkpoints these can be loaded.
+    pub fn new(
         alloc: Global,
         limits: Limits,
-        keeping: Keeping,
+        findable: Findable,
         is_warm: bool,
     ) -> Result<Play, Memory> {
         let mut standings = Vec::new(alloc);
@@ -74,7 +93,7 @@ impl Play {
                 is_warm,
                 steps: 0,
                 saved: None,
-                kept: None,
+                found: None,
             })?;
         }
         let mut alive = Vec::new(alloc);
@@ -83,41 +102,51 @@ impl Play {
         }
         Ok(Play {
             limits,
-            keeping,
+            findable,
+            failing: 0,
             standings,
             alive,
             current: 0,
             calls: 0,
             puts: 0,
+            gets: 0,
             losses: Vec::new(alloc),
         })
     }
 
+    /// The same on a shelf whose device fails as it is asked for the time with this number, from 1 on; 0 is none.
+    pub fn failing(self, failing: u64) -> Play {
+        Play { failing, ..self }
+    }
+
     /// How many checkpoints were put.
-    pub(crate) fn puts(&self) -> u64 {
+    pub fn puts(&self) -> u64 {
         self.puts
     }
 
-    /// Plays the run to its end, and tells what was counted of it, or why it is refused.
-    pub(crate) fn played(
-        &mut self,
-        alloc: Global,
-        calls: &Calls,
-        fate: &Table,
-    ) -> Result<String, Memory> {
+    /// How often a checkpoint was looked for.
+    pub fn gets(&self) -> u64 {
+        self.gets
+    }
+
+    /// Plays the run to its end.
+    pub fn played(&mut self, alloc: Global, calls: &Calls, fate: &Table) -> Result<Played, Memory> {
         for _ in 0..10_000 {
             let least = self.least();
-            if least <= self.current {
-                if let Some(number) = self.round(alloc, least, calls, fate)? {
-                    return self.told_refused(alloc, number);
-                }
+            let refused = if least <= self.current {
+                self.round(alloc, least, calls, fate)?
             } else if self.current.saturating_add(1) as usize == calls.cold.len() {
-                return self.told(alloc);
+                return self.ended(alloc);
             } else {
-                self.open_next();
+                self.open_next()
+            };
+            match refused {
+                Some(4) => return Ok(Played::Refused(4, Vec::new(alloc))),
+                Some(number) => return Ok(Played::Refused(number, self.taken_losses(alloc))),
+                None => {}
             }
         }
-        String::from_str(alloc, "no end")
+        Err(AllocError)
     }
 
     // The superstep of the partitions that are furthest behind.
@@ -129,22 +158,28 @@ impl Play {
         least
     }
 
-    // The next superstep opens, and all partitions are saved where that is due.
-    fn open_next(&mut self) {
+    // Whether the device fails now.
+    fn fails(&self) -> bool {
+        self.puts.saturating_add(self.gets) == self.failing
+    }
+
+    // The next superstep opens, and all partitions are saved where that is due; the number of a refusal where the
+    // device fails.
+    fn open_next(&mut self) -> Option<u8> {
         self.current = self.current.saturating_add(1);
         if self.current.checked_rem(self.limits.every()) != Some(0) {
-            return;
+            return None;
         }
-        for standing in self.standings.as_mut_slice() {
+        for partition in 0..self.standings.len() {
             self.puts = self.puts.saturating_add(1);
-            standing.saved = Some(standing.place);
-            standing.kept = match self.keeping {
-                Keeping::All => standing.saved,
-                Keeping::Firsts => standing.kept.or(standing.saved),
-                Keeping::Beginnings => None,
-                Keeping::Nothing => None,
-            };
+            if self.fails() {
+                return Some(4);
+            }
+            if let Some(standing) = self.standings.get_mut(partition) {
+                save(standing, self.findable);
+            }
         }
+        None
     }
 
     // A round of the partitions at a superstep, and the number of a refusal.
@@ -217,57 +252,77 @@ impl Play {
         }
     }
 
-    // The lost partitions go on at the workers that are alive; the number of a refusal where none is.
-    fn rehost(&mut self, alloc: Global) -> Result<Option<u8>, Memory> {
-        let mut left = Vec::new(alloc);
+    // The workers that are alive.
+    fn living(&self, alloc: Global) -> Result<Vec<u32>, Memory> {
+        let mut living = Vec::new(alloc);
         let mut worker = 0u32;
         for alive in &self.alive {
             if *alive {
-                left.push(worker)?;
+                living.push(worker)?;
             }
             worker = worker.saturating_add(1);
         }
-        if left.is_empty() {
+        Ok(living)
+    }
+
+    // The lost partitions go on at the workers that are alive; the number of a refusal where none is, or the device
+    // fails.
+    fn rehost(&mut self, alloc: Global) -> Result<Option<u8>, Memory> {
+        let living = self.living(alloc)?;
+        if living.is_empty() {
             return Ok(Some(3));
         }
-        let mut partition = 0usize;
-        for standing in self.standings.as_mut_slice() {
-            if standing.is_lost {
-                let position = partition.checked_rem(left.len()).unwrap_or(0);
-                if let Some(host) = left.get(position) {
-                    restore(standing, *host);
-                }
+        for partition in 0..self.standings.len() {
+            let position = partition.checked_rem(living.len()).unwrap_or(0);
+            let host = living.get(position).copied().unwrap_or(0);
+            if self.restore(partition, host) {
+                return Ok(Some(4));
             }
-            partition = partition.saturating_add(1);
         }
         Ok(None)
     }
 
-    fn told(&self, alloc: Global) -> Result<String, Memory> {
+    // A partition goes on at a worker, where it is lost; whether the device fails. A checkpoint is looked for where one
+    // was put.
+    fn restore(&mut self, partition: usize, host: u32) -> bool {
+        let (is_lost, is_saved) = match self.standings.get(partition) {
+            Some(standing) => (standing.is_lost, standing.saved.is_some()),
+            None => (false, false),
+        };
+        if is_lost && is_saved {
+            self.gets = self.gets.saturating_add(1);
+            if self.fails() {
+                return true;
+            }
+        }
+        match self.standings.get_mut(partition) {
+            Some(standing) if is_lost => restore(standing, host),
+            _ => {}
+        }
+        false
+    }
+
+    fn taken_losses(&mut self, alloc: Global) -> Vec<(u32, u32)> {
+        mem::replace(&mut self.losses, Vec::new(alloc))
+    }
+
+    fn ended(&mut self, alloc: Global) -> Result<Played, Memory> {
         let mut steps = Vec::new(alloc);
         for standing in &self.standings {
             steps.push(standing.steps)?;
         }
-        let mut text = String::new(alloc);
-        tell_steps(&mut text, self.calls, steps.as_slice())?;
-        self.tell_losses(&mut text)?;
-        Ok(text)
+        Ok(Played::Ended(self.calls, steps, self.taken_losses(alloc)))
     }
+}
 
-    fn told_refused(&self, alloc: Global, number: u8) -> Result<String, Memory> {
-        let mut text = String::new(alloc);
-        write!(text, "refused {number}")?;
-        self.tell_losses(&mut text)?;
-        Ok(text)
-    }
-
-    fn tell_losses(&self, text: &mut String) -> Result<(), Memory> {
-        write!(text, " losses")?;
-        for (worker, superstep) in &self.losses {
-            tell_loss(text, *worker, *superstep, "fate")?;
-        }
-        write!(text, ";")
-    }
+// A partition is saved as it stands.
+fn save(standing: &mut Standing, findable: Findable) {
+    standing.saved = Some(standing.place);
+    standing.found = match findable {
+        Findable::Last => standing.saved,
+        Findable::First => standing.found.or(standing.saved),
+        Findable::None => None,
+    };
 }
 
 // A lost partition goes on at a worker: from the checkpoint where it is the one that was saved last, or else from
@@ -276,7 +331,7 @@ fn restore(standing: &mut Standing, host: u32) {
     standing.host = host;
     standing.is_lost = false;
     standing.is_warm = false;
-    standing.place = match standing.kept {
+    standing.place = match standing.found {
         Some(place) if standing.saved == Some(place) => place,
         _ => 0,
     };
