@@ -62,6 +62,7 @@ fn mark_of(id: VertexId) -> u64 {
         1 => 1 << 1,
         2 => 1 << 2,
         3 => 1 << 3,
+        4 => 1 << 4,
         _ => 1,
     }
 }
@@ -87,30 +88,7 @@ fn counted<
     Ok((told, calls, board.called.swap(0, Ordering::SeqCst)))
 }
 
-// The same of the two hops, of a shortcut beside them, and of an edge that is added and taken away again.
-fn counted_thrice<R: Threads + Wait + Sync>(
-    rt: &R,
-    alloc: Global,
-    limits: Limits,
-) -> Result<[(String, u64, u64); 3], Fail> {
-    let counts = Board {
-        calls: AtomicU64::new(0),
-        called: AtomicU64::new(0),
-    };
-    let Ok(board) = Arc::new(alloc, counts) else {
-        return Err(Fail::from("out of memory"));
-    };
-    let counting = Counting {
-        inner: program()?,
-        board: Arc::try_clone(&board)?,
-    };
-    let none = AnyCombiner::NoCombiner;
-    let mut service = service_of(rt, alloc, limits, counting, none, master()?)?;
-    let told = each_counted(rt, alloc, &mut service, &board);
-    service.close(rt);
-    told
-}
-
+// The same of these batches in turn.
 fn each_counted<
     R: Threads + Wait + Sync,
     P: Computation,
@@ -121,25 +99,83 @@ fn each_counted<
     alloc: Global,
     service: &mut Service<P, C, M>,
     board: &Board,
-) -> Result<[(String, u64, u64); 3], Fail> {
-    let first = counted(rt, alloc, service, board, &TWO_HOPS)?;
-    let second = counted(rt, alloc, service, board, &[Line::Edge(1, 3, 2)])?;
-    let restored = [Line::Edge(3, 1, 1), Line::Unedge(3, 1)];
-    let third = counted(rt, alloc, service, board, &restored)?;
-    Ok([first, second, third])
+    batches: &[&[Line]],
+) -> Result<Vec<(String, u64, u64)>, Fail> {
+    let mut counts = Vec::new(alloc);
+    for lines in batches {
+        counts.push(counted(rt, alloc, service, board, lines)?)?;
+    }
+    Ok(counts)
+}
+
+// The same of shortest paths with this combiner.
+fn paths_counted<R: Threads + Wait + Sync>(
+    rt: &R,
+    alloc: Global,
+    limits: Limits,
+    combiner: AnyCombiner,
+    batches: &[&[Line]],
+) -> Result<Vec<(String, u64, u64)>, Fail> {
+    let nothing = Board {
+        calls: AtomicU64::new(0),
+        called: AtomicU64::new(0),
+    };
+    let board = Arc::new(alloc, nothing)?;
+    let counting = Counting {
+        inner: program()?,
+        board: Arc::try_clone(&board)?,
+    };
+    let mut service = service_of(rt, alloc, limits, counting, combiner, master()?)?;
+    let told = each_counted(rt, alloc, &mut service, &board, batches);
+    service.close(rt);
+    told
+}
+
+// Whether so many calls were told and counted in each refresh, of these vertices.
+fn are(counts: &[(String, u64, u64)], wanted: &[(&str, u64, u64)]) -> bool {
+    counts.len() == wanted.len()
+        && counts.iter().zip(wanted).all(|(count, want)| {
+            count.0.as_str().starts_with(want.0) && count.1 == want.1 && count.2 == want.2
+        })
 }
 
 // As many calls as are reported, of the vertices whose inputs differ: all of them; 1, which has an edge more, and 3, which
-// hears of it; nobody.
+// hears of it; nobody, where an edge is added and taken away again.
 #[test]
 fn those_are_called_whose_inputs_differ(rt: HostRuntime) -> Result<(), Fail> {
     let alloc = rt.alloc();
+    let restored = [Line::Edge(3, 1, 1), Line::Unedge(3, 1)];
+    let batches: [&[Line]; 3] = [&TWO_HOPS, &[Line::Edge(1, 3, 2)], &restored];
     for (partitions, workers) in [(1, 1), (3, 2)] {
         let limits = limits_of(partitions, workers, 0, 0)?;
-        let [first, second, third] = counted_thrice(&rt, alloc, limits)?;
-        assert!(rt; first.0.as_str().starts_with("calls 5 ") && first.1 == 5 && first.2 == 14);
-        assert!(rt; second.0.as_str().starts_with("calls 3 ") && second.1 == 3 && second.2 == 10);
-        assert!(rt; third.0.as_str().starts_with("calls 0 ") && third.1 == 0 && third.2 == 0);
+        let counts = paths_counted(&rt, alloc, limits, AnyCombiner::NoCombiner, &batches)?;
+        let wanted = [("calls 5 ", 5, 14), ("calls 3 ", 3, 10), ("calls 0 ", 0, 0)];
+        assert!(rt; are(counts.as_slice(), &wanted));
+    }
+    Ok(())
+}
+
+const TWO_WAYS: [Line; 7] = [
+    Line::Vertex(1),
+    Line::Vertex(2),
+    Line::Vertex(3),
+    Line::Vertex(4),
+    Line::Edge(1, 2, 1),
+    Line::Edge(1, 3, 1),
+    Line::Edge(2, 4, 1),
+];
+
+// Vertex 3 has an edge more; vertex 4 hears of it, but what it is given is the same where the least is taken.
+#[test]
+fn what_is_combined_calls_nobody(rt: HostRuntime) -> Result<(), Fail> {
+    let alloc = rt.alloc();
+    let batches: [&[Line]; 2] = [&TWO_WAYS, &[Line::Edge(3, 4, 5)]];
+    for (partitions, workers) in [(1, 1), (3, 2)] {
+        let limits = limits_of(partitions, workers, 0, 0)?;
+        let least = paths_counted(&rt, alloc, limits, AnyCombiner::Min, &batches)?;
+        assert!(rt; are(least.as_slice(), &[("calls 7 ", 7, 30), ("calls 2 ", 2, 8)]));
+        let each = paths_counted(&rt, alloc, limits, AnyCombiner::NoCombiner, &batches)?;
+        assert!(rt; are(each.as_slice(), &[("calls 7 ", 7, 30), ("calls 3 ", 3, 24)]));
     }
     Ok(())
 }

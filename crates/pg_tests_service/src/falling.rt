@@ -1,8 +1,8 @@
 // Refreshes on workers that fall, with checkpoints. All was found by hand.
-use crate::fates::{AllFall, FateAt};
 use crate::hops::{Line, Paths, accepted, limits_of, refreshed, told_on, two_hops};
 use crate::shelves::{NthShelf, ShortShelf};
 use pg_service::{Fate, Limits, MemShelf, NoFate};
+use pg_tests_rounds::{AllFall, Strike, Strikes};
 use std::alloc::Global;
 use std::process::Abort;
 use std::sync::Wait;
@@ -10,12 +10,9 @@ use std::test::Fail;
 use std::thread::Threads;
 
 // Worker 1 of two falls after it has stepped partition 1 from superstep 1.
-const FALLS_ONCE: FateAt = FateAt {
-    superstep: 1,
-    attempt: 0,
-    worker: 1,
-    partition: 1,
-};
+fn falls_once() -> Strikes {
+    Strikes::once(Strike::at(1, 0, 1, 1))
+}
 
 // What a first refresh of two hops tells, with checkpoints in memory.
 fn first<R: Threads + Wait + Sync, F: Fate>(
@@ -35,12 +32,12 @@ fn first<R: Threads + Wait + Sync, F: Fate>(
 #[test]
 fn a_worker_falls(rt: HostRuntime) -> Result<(), Fail> {
     let alloc = rt.alloc();
-    let anew = first(&rt, alloc, limits_of(3, 2, 0, 16)?, &FALLS_ONCE)?;
+    let anew = first(&rt, alloc, limits_of(3, 2, 0, 16)?, &falls_once())?;
     assert_eq!(rt;
         anew.as_str(),
         "calls 6 supersteps 3 steps of 1 4 losses (1 1 fate); of 1: 1=0 2=5 3=6\n"
     );
-    let saved = first(&rt, alloc, limits_of(3, 2, 1, 16)?, &FALLS_ONCE)?;
+    let saved = first(&rt, alloc, limits_of(3, 2, 1, 16)?, &falls_once())?;
     assert_eq!(rt;
         saved.as_str(),
         "calls 5 supersteps 3 losses (1 1 fate); of 1: 1=0 2=5 3=6\n"
@@ -53,7 +50,7 @@ fn short_checkpoints_are_of_no_use(rt: HostRuntime) -> Result<(), Fail> {
     let alloc = rt.alloc();
     let mut service = two_hops(&rt, alloc, limits_of(3, 2, 1, 16)?)?;
     let mut shelf = ShortShelf::new(alloc);
-    let told = told_on(&rt, alloc, &mut service, &mut shelf, &FALLS_ONCE);
+    let told = told_on(&rt, alloc, &mut service, &mut shelf, &falls_once());
     service.close(&rt);
     assert_eq!(rt;
         told?.as_str(),
@@ -71,12 +68,7 @@ fn shortcut<R: Threads + Wait + Sync>(
 ) -> Result<(String, String), Fail> {
     let _first = refreshed(rt, alloc, service)?;
     accepted(alloc, service, &[Line::Edge(1, 3, 2)])?;
-    let fate = FateAt {
-        superstep: 0,
-        attempt: 0,
-        worker: 0,
-        partition: 2,
-    };
+    let fate = Strikes::once(Strike::at(0, 0, 0, 2));
     let mut shelf = MemShelf::new(alloc);
     let told = told_on(rt, alloc, service, &mut shelf, &fate)?;
     accepted(alloc, service, &[])?;
@@ -154,7 +146,7 @@ fn beside_failing<R: Threads + Wait + Sync>(
     let _first = refreshed(rt, alloc, service)?;
     accepted(alloc, service, &[Line::Edge(1, 3, 2)])?;
     let mut shelf = NthShelf::new(alloc, call);
-    let told = told_on(rt, alloc, service, &mut shelf, &FALLS_ONCE)?;
+    let told = told_on(rt, alloc, service, &mut shelf, &falls_once())?;
     Ok((told, shelf.calls(), refreshed(rt, alloc, service)?))
 }
 

@@ -4,13 +4,13 @@
 ghost use Rattle.std.specs.Prelude.{◌≡◌, true};
 
 use pg_global::{AnyCombiner, MasterCompute, MessageCombiner};
-use pg_graph::{Batch, Edit, EditKind, Graph, Memory, Missing, VertexId};
-use pg_program::{Computation, Meter, Plain};
+use pg_graph::{Batch, Edit, EditKind, Graph, Memory};
+use pg_program::{Computation, Plain};
 use pg_ready::{ReadyMaster, ReadyProgram, Sssp};
-use pg_scratch::run;
 use pg_service::{
     Cause, Fate, Limits, Loss, MemShelf, NoFate, NoGate, RefreshFault, Report, Service, Shelf, same,
 };
+use pg_tests_kit::{id, scratch};
 use std::alloc::Global;
 use std::fmt::Write;
 use std::sync::Wait;
@@ -18,10 +18,6 @@ use std::test::Fail;
 use std::thread::Threads;
 
 pub(crate) type Paths = Service<ReadyProgram, AnyCombiner, ReadyMaster>;
-
-pub(crate) fn id(number: u64) -> Result<VertexId, Fail> {
-    Ok(VertexId::new(number).ok_or("a number above 2^63 - 1")?)
-}
 
 pub(crate) fn program() -> Result<ReadyProgram, Fail> {
     Ok(ReadyProgram::Sssp(Sssp { source: id(1)? }))
@@ -308,18 +304,24 @@ pub(crate) fn told<R: Threads + Wait + Sync>(
 }
 
 // Whether what a service has published is what a run from scratch of its job finds on a graph.
-fn is_run_on<P: Computation, C: MessageCombiner<P::Message>, M: MasterCompute>(
+pub(crate) fn is_run_on<P: Computation, C: MessageCombiner<P::Message>, M: MasterCompute>(
     alloc: Global,
     service: &Service<P, C, M>,
     graph: &Graph,
     program: &P,
     combiner: &C,
     master: &M,
+    limits: Limits,
 ) -> Result<bool, Fail> {
     let answers = service.answers().ok_or("nothing is published")?;
-    let (missing, mut meter) = (Missing::Drop, Meter::new());
-    let run = run(
-        alloc, graph, program, combiner, master, missing, 1000, &mut meter,
+    let run = scratch(
+        alloc,
+        graph,
+        program,
+        combiner,
+        master,
+        limits.missing(),
+        limits.limit(),
     )?;
     Ok(same(answers, &run))
 }
@@ -327,8 +329,8 @@ fn is_run_on<P: Computation, C: MessageCombiner<P::Message>, M: MasterCompute>(
 // Whether what a service has published is what a run from scratch finds on a graph of these lines.
 pub(crate) fn is_run_of(alloc: Global, service: &Paths, lines: &[Line]) -> Result<bool, Fail> {
     let (program, combiner, master) = (program()?, AnyCombiner::NoCombiner, master()?);
-    let graph = graph_of(alloc, lines)?;
-    is_run_on(alloc, service, &graph, &program, &combiner, &master)
+    let (graph, limits) = (graph_of(alloc, lines)?, limits_of(1, 1, 0, 0)?);
+    is_run_on(alloc, service, &graph, &program, &combiner, &master, limits)
 }
 
 // The graph of these lines.

@@ -9,11 +9,11 @@ mod counting;
 #[cfg(test)]
 mod falling;
 #[cfg(test)]
-mod fates;
-#[cfg(test)]
 mod gates;
 #[cfg(test)]
 mod hops;
+#[cfg(test)]
+mod overlap;
 #[cfg(test)]
 mod publishing;
 #[cfg(test)]

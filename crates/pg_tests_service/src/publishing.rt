@@ -1,14 +1,14 @@
 // What readers look at, before, while and after a service refreshes. All was found by hand.
 ghost use Rattle.std.specs.Prelude.{◌≡◌, IfOk};
 
-use crate::fates::AllFall;
-use crate::gates::{Meeting, Watched};
+use crate::gates::Watched;
 use crate::hops::{Line, Paths, accepted, empty, limits_of, refreshed, two_hops};
 use pg_global::{MasterCompute, MessageCombiner};
 use pg_graph::VertexId;
 use pg_model::Ending;
 use pg_program::Computation;
 use pg_service::{AnswerReader, Fate, Gate, Look, MemShelf, NoFate, NoGate, Service, Told};
+use pg_tests_rounds::{AllFall, Meeting};
 use std::alloc::Global;
 use std::process::Abort;
 use std::sync::{Arc, Wait};
@@ -335,5 +335,27 @@ fn a_refused_refresh_publishes_nothing(rt: HostRuntime) -> Result<(), Fail> {
     let found = refused(&rt, alloc, &mut service);
     service.close(&rt);
     assert_eq!(rt; found?, (false, Some(HOPS), Some(HOPS)));
+    Ok(())
+}
+
+// What a reader looks at after a refresh, and the reader.
+fn look_after_refresh<R: Threads + Wait + Sync>(
+    rt: &R,
+    alloc: Global,
+    service: &mut Paths,
+) -> Result<(Option<Shown>, AnswerReader<i64>), Fail> {
+    let reader = reader_of(service)?;
+    let _told = refreshed(rt, alloc, service)?;
+    Ok(look_once(reader))
+}
+
+#[test]
+fn after_a_close_no_look_is_given(rt: HostRuntime) -> Result<(), Fail> {
+    let alloc = rt.alloc();
+    let mut service = two_hops(&rt, alloc, limits_of(3, 2, 0, 0)?)?;
+    let found = look_after_refresh(&rt, alloc, &mut service);
+    service.close(&rt);
+    let (before, reader) = found?;
+    assert_eq!(rt; (before, look_once(reader).0), (Some(HOPS), None));
     Ok(())
 }

@@ -1,8 +1,10 @@
 // What a service has published, beside runs from scratch. All was found by hand.
 use crate::hops::{
-    Line, Paths, TWO_HOPS, accepted, is_run_of, limits_of, refreshed, told, two_hops,
+    Line, Paths, TWO_HOPS, accepted, commit, is_run_of, limits_of, refreshed, told, told_on,
+    two_hops,
 };
-use pg_graph::Missing;
+use pg_graph::{EditKind, Missing};
+use pg_service::{MemShelf, NoFate};
 use std::alloc::Global;
 use std::process::Abort;
 use std::sync::Wait;
@@ -84,32 +86,39 @@ calls 1 supersteps 2 losses; of 2: 1=0 2=5 3=9223372036854775807\n"
     Ok(())
 }
 
-// What the refresh of a shortcut tells that may be refused, and the one after it.
-fn beside_refused<R: Threads + Wait + Sync>(
+// What refreshes tell before a batch whose third edit is refused, and after an empty one; and the batch's answer.
+fn beside_a_refused_batch<R: Threads + Wait + Sync>(
     rt: &R,
     alloc: Global,
     service: &mut Paths,
-) -> Result<(String, String), Fail> {
+) -> Result<(Result<u64, (u64, EditKind)>, u64, String), Fail> {
     let _told = refreshed(rt, alloc, service)?;
-    accepted(alloc, service, &[Line::Edge(1, 3, 2)])?;
-    let first = refreshed(rt, alloc, service)?;
-    Ok((first, refreshed(rt, alloc, service)?))
+    let batch = [Line::Vertex(9), Line::Vertex(8), Line::Edge(1, 2, 5)];
+    let refused = commit(alloc, service, &batch)?;
+    let edition = accepted(alloc, service, &[])?;
+    let mut shelf = MemShelf::new(alloc);
+    Ok((
+        refused,
+        edition,
+        told_on(rt, alloc, service, &mut shelf, &NoFate)?,
+    ))
 }
 
-// After a refresh that is refused no run is kept, and the next one calls all: this is for runs in which an allocation is
-// refused.
+// An edge that is there: nothing of the batch is applied, and the next refresh calls nothing.
 #[test]
-fn a_refused_refresh_keeps_no_run(rt: HostRuntime) -> Result<(), Fail> {
+fn a_refused_batch_changes_nothing(rt: HostRuntime) -> Result<(), Fail> {
     let alloc = rt.alloc();
-    let mut service = two_hops(&rt, alloc, limits_of(2, 1, 0, 0)?)?;
-    let found = beside_refused(&rt, alloc, &mut service);
-    service.close(&rt);
-    let (first, next) = found?;
-    if first.as_str().starts_with("refused ") {
-        assert_eq!(rt; next.as_str(), "calls 6 supersteps 3 losses");
-    } else {
-        assert_eq!(rt; first.as_str(), "calls 3 supersteps 3 losses");
-        assert_eq!(rt; next.as_str(), "calls 0 supersteps 3 losses");
+    for (partitions, workers) in [(1, 1), (3, 2)] {
+        let mut service = two_hops(&rt, alloc, limits_of(partitions, workers, 1, 0)?)?;
+        let found = beside_a_refused_batch(&rt, alloc, &mut service);
+        service.close(&rt);
+        let (refused, edition, told) = found?;
+        assert_eq!(rt; refused, Err((3, EditKind::EdgeExists)));
+        assert_eq!(rt; edition, 2);
+        assert_eq!(rt;
+            told.as_str(),
+            "calls 0 supersteps 3 losses; of 2: 1=0 2=5 3=6\n"
+        );
     }
     Ok(())
 }

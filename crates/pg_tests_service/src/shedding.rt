@@ -1,6 +1,5 @@
 // Refreshes of a program that takes edges away, and of shortest paths beside which messages are combined, vertices made,
 // checkpoints counted. All was found by hand.
-use crate::fates::{FateAt, FateTwice};
 use crate::hops::{
     Line, TWO_HOPS, batch_of, limits_of, master, program, refreshed, refreshed_on, service_of,
     told_on, two_hops,
@@ -11,6 +10,7 @@ use pg_graph::Missing;
 use pg_model::Ending;
 use pg_program::{Computation, Shed};
 use pg_service::{Fate, Limits, MemShelf, NoFate, Service};
+use pg_tests_rounds::{Strike, Strikes};
 use std::alloc::Global;
 use std::process::Abort;
 use std::sync::Wait;
@@ -107,12 +107,7 @@ fn an_edge_is_added_and_taken_away(rt: HostRuntime) -> Result<(), Fail> {
 #[test]
 fn edges_are_taken_away_after_a_loss(rt: HostRuntime) -> Result<(), Fail> {
     let alloc = rt.alloc();
-    let fate = FateAt {
-        superstep: 1,
-        attempt: 0,
-        worker: 1,
-        partition: 1,
-    };
+    let fate = Strikes::once(Strike::at(1, 0, 1, 1));
     let limits = limits_of(3, 2, 0, 16)?;
     let (first, second) = shed(&rt, alloc, limits, &fate, Line::Edge(1, 4, 1))?;
     assert_eq!(rt;
@@ -195,20 +190,7 @@ fn paths<R: Threads + Wait + Sync, F: Fate>(
 #[test]
 fn a_partition_is_lost_twice(rt: HostRuntime) -> Result<(), Fail> {
     let alloc = rt.alloc();
-    let fate = FateTwice {
-        first: FateAt {
-            superstep: 1,
-            attempt: 0,
-            worker: 1,
-            partition: 1,
-        },
-        second: FateAt {
-            superstep: 1,
-            attempt: 1,
-            worker: 2,
-            partition: 1,
-        },
-    };
+    let fate = Strikes::twice(Strike::at(1, 0, 1, 1), Strike::at(1, 1, 2, 1));
     let told = paths(&rt, alloc, limits_of(3, 3, 1, 16)?, &TWO_HOPS, &fate)?;
     assert_eq!(rt;
         told.as_str(),
@@ -221,12 +203,7 @@ fn a_partition_is_lost_twice(rt: HostRuntime) -> Result<(), Fail> {
 #[test]
 fn a_vertex_is_made_again_after_a_loss(rt: HostRuntime) -> Result<(), Fail> {
     let alloc = rt.alloc();
-    let fate = FateAt {
-        superstep: 1,
-        attempt: 0,
-        worker: 0,
-        partition: 2,
-    };
+    let fate = Strikes::once(Strike::at(1, 0, 0, 2));
     let lines = [Line::Vertex(1), Line::Vertex(3), Line::Edge(1, 2, 5)];
     let limits = limits_of(3, 2, 0, 16)?.with_missing(Missing::Create);
     let told = paths(&rt, alloc, limits, &lines, &fate)?;
@@ -337,12 +314,7 @@ fn fallen_once<
     C: MessageCombiner<P::Message>,
     M: MasterCompute,
 >(rt: &R, alloc: Global, service: &mut Service<P, C, M>) -> Result<(String, String), Fail> {
-    let fate = FateAt {
-        superstep: 1,
-        attempt: 0,
-        worker: 1,
-        partition: 1,
-    };
+    let fate = Strikes::once(Strike::at(1, 0, 1, 1));
     let mut shelf = MemShelf::new(alloc);
     let told = refreshed_on(rt, alloc, service, &mut shelf, &fate)?;
     Ok((told, refreshed(rt, alloc, service)?))

@@ -1,62 +1,14 @@
 // Refreshes whose workers want memory: one falls as a call of compute is refused it, and the others go on.
 use crate::hops::{Line, TWO_HOPS, batch_of, limits_of, master, program, refreshed, service_of};
 use pg_global::{AnyCombiner, MasterCompute, MessageCombiner};
-use pg_graph::{Memory, VertexId};
-use pg_model::Declared;
-use pg_program::{Computation, Cx, Vertex};
+use pg_program::Computation;
 use pg_service::{Limits, Service};
-use std::alloc::{AllocError, Global};
+use pg_tests_kit::Starving;
+use std::alloc::Global;
 use std::process::Abort;
 use std::sync::Wait;
-use std::sync::atomic::{AtomicU64, Ordering};
 use std::test::Fail;
 use std::thread::Threads;
-
-// A program that does what another does, but wants memory at one of its calls, and as one of its vertices begins, both by
-// number from 0 on.
-#[derive(Drop)]
-struct Starving<P> {
-    inner: P,
-    at: u64,
-    calls: AtomicU64,
-    beginning: u64,
-    begun: AtomicU64,
-}
-
-// No call and no vertex has this number.
-const NONE: u64 = u64::MAX;
-
-impl<P: Computation> Computation for Starving<P> {
-    type Value = P::Value;
-
-    type Message = P::Message;
-
-    ghost program = { λ starving. P.program starving.inner };
-
-    fn declared(&self) -> Declared {
-        self.inner.declared()
-    }
-
-    fn initial(&self, alloc: Global, id: VertexId, input: i64) -> Result<P::Value, Memory> {
-        if self.begun.fetch_add(1, Ordering::SeqCst) == self.beginning {
-            return Err(AllocError);
-        }
-        self.inner.initial(alloc, id, input)
-    }
-
-    fn compute(
-        &self,
-        alloc: Global,
-        vertex: &mut Vertex<P::Value>,
-        messages: &[P::Message],
-        cx: &mut Cx<P::Message>,
-    ) -> Result<(), Memory> {
-        if self.calls.fetch_add(1, Ordering::SeqCst) == self.at {
-            return Err(AllocError);
-        }
-        self.inner.compute(alloc, vertex, messages, cx)
-    }
-}
 
 // What a first refresh of two hops tells, and the next one.
 fn refreshed_twice<
@@ -80,13 +32,7 @@ fn starved<R: Threads + Wait + Sync>(
     at: u64,
     limits: Limits,
 ) -> Result<(String, String), Fail> {
-    let starving = Starving {
-        inner: program()?,
-        at,
-        calls: AtomicU64::new(0),
-        beginning: NONE,
-        begun: AtomicU64::new(0),
-    };
+    let starving = Starving::at_call(program()?, at);
     let none = AnyCombiner::NoCombiner;
     let mut service = service_of(rt, alloc, limits, starving, none, master()?)?;
     let told = refreshed_twice(rt, alloc, &mut service);
@@ -114,13 +60,7 @@ fn refreshed_thrice<
 
 // The same of the shortest paths where memory is wanted as the vertex that was added begins.
 fn starved_beside<R: Threads + Wait + Sync>(rt: &R, alloc: Global) -> Result<[String; 3], Fail> {
-    let starving = Starving {
-        inner: program()?,
-        at: NONE,
-        calls: AtomicU64::new(0),
-        beginning: 3,
-        begun: AtomicU64::new(0),
-    };
+    let starving = Starving::as_it_begins(program()?, 3);
     let none = AnyCombiner::NoCombiner;
     let mut service = service_of(rt, alloc, limits_of(2, 1, 0, 0)?, starving, none, master()?)?;
     let told = refreshed_thrice(rt, alloc, &mut service);
