@@ -184,9 +184,9 @@ fn has_ends(map: &Numbers, low: i64, high: i64) -> bool {
     map.len() == 600 && number_at(map, 3) == low && number_at(map, 700) == high
 }
 
-// Run with each allocation failing in turn, it shows that a refused growth leaves the map.
+// Where an allocation is refused (bench/refuse.sh), the map is as it was, and the change can be made again.
 #[test]
-fn a_refused_growth_leaves_the_map(rt: HostRuntime) -> Result<(), Memory> {
+fn a_change_leaves_what_shares_the_map(rt: HostRuntime) -> Result<(), Memory> {
     let mut map = six_hundred(rt.alloc())?;
     let before = map.share()?;
     if move_up(rt.alloc(), &mut map, id(3), id(700), Number(2)).is_err() {
@@ -244,7 +244,7 @@ fn has_both(map: &Numbers, low: u32, high: u32, value: i64) -> bool {
     number_at(map, low) == value && number_at(map, high) == value
 }
 
-// Run with each allocation failing in turn, it shows that what can't be made in place is made beside.
+// Where an allocation is refused (bench/refuse.sh), what can't be made in place is made beside.
 #[test]
 fn changes_its_own_memory(rt: HostRuntime) -> Result<(), Memory> {
     let mut map = six_hundred(rt.alloc())?;
@@ -255,7 +255,7 @@ fn changes_its_own_memory(rt: HostRuntime) -> Result<(), Memory> {
     Ok(())
 }
 
-// Run with each allocation failing in turn, it shows that a refused growth leaves the map.
+// Where an allocation is refused (bench/refuse.sh), the map is as it was, and the change can be made again.
 #[test]
 fn a_change_of_its_own_leaves_copies(rt: HostRuntime) -> Result<(), Memory> {
     let mut map = thousand(rt.alloc())?;
