@@ -5,7 +5,7 @@ reference.py FOLDER..               says of each stored session (args, stdin, st
 reference.py --random FOLDER ROUNDS  writes a random session for each program and policy into the folder, with its answers
 
 A run keeps the inputs of each execution, and the calls of a refresh are those whose inputs aren't the same in the run
-before. Quotes in comma lists and bytes above 127 are beyond it: such sessions are left out."""
+before. Texts are read as Latin-1, so that each byte is a character."""
 import os
 import random
 import re
@@ -184,11 +184,52 @@ def edited(graph, edits):
     return graph
 
 
+def bare(line):
+    return line.removesuffix("\n").removesuffix("\r")
+
+
+def words_of(line):
+    return [word for word in re.split("[ \t]+", line) if word]
+
+
+def value_of(word):
+    """The number that a word of digits writes, or one that is out of range as well."""
+    number = int(word.lstrip("-").lstrip("0")[:30] or "0")
+    return -number if word.startswith("-") else number
+
+
 def number_of(word, least):
+    """The number, or the fault of an edge list: 2 for no number, 3 for one out of range."""
     if not re.fullmatch("-?[0-9]+" if least < 0 else "[0-9]+", word):
-        return None
-    number = int(word)
-    return number if least <= number <= INF else None
+        return None, 2
+    number = value_of(word)
+    return (number, None) if least <= number <= INF else (None, 3)
+
+
+def records_of(text):
+    """The records of a comma list: quotes may stand round a field, and two of them inside stand for one."""
+    text = text.removeprefix("\xef\xbb\xbf")
+    records, fields, field, at = [], [], [], "record"
+    for letter in text:
+        if at == "quoted":
+            if letter == '"':
+                at = "quote"
+            else:
+                field.append(letter)
+        elif letter in "\r\n":
+            if at != "record":
+                records.append(fields + ["".join(field)])
+            fields, field, at = [], [], "record"
+        elif letter == ",":
+            fields.append("".join(field))
+            field, at = [], "field"
+        elif letter == '"' and at != "bare":
+            field += [letter] if at == "quote" else []
+            at = "quoted"
+        else:
+            at = "bare"
+            field.append(letter)
+    return records if at == "record" else records + [fields + ["".join(field)]]
 
 
 class Session:
@@ -197,13 +238,13 @@ class Session:
     def __init__(self, options):
         self.options, self.graph, self.edition, self.pending = options, {}, 0, []
         self.published = self.run = self.report = None
-        self.lines = []
+        self.lines, self.kept = [], {}
 
     def say(self, line):
         self.lines.append(line)
 
     def commit(self, edits):
-        made = edited(self.graph, edits)
+        made = edited(self.graph, edits) if len(edits) <= 100_000 else (6, 100_001)
         if isinstance(made, tuple):
             self.say(f"refused {made[0]} position {made[1]}")
             return
@@ -212,23 +253,24 @@ class Session:
 
     def load(self, form, block):
         """Applies an edge list."""
-        edits, ids, edges, counted = [], set(self.graph), {(i, t) for i, (_, e) in self.graph.items() for t in e}, 0
-        for place, line in enumerate(block, 1):
-            words = line.split() if form == "list" else [word.strip(" \t") for word in line.split(",")] if line else []
-            if not words or (form == "list" and words[0].startswith("#")):
+        edits, ids, edges = [], set(self.graph), {(i, t) for i, (_, e) in self.graph.items() for t in e}
+        if form == "list":
+            rows = [words_of(bare(line)) for line in block]
+        else:
+            rows = [[word.strip(" \t") for word in record] for record in records_of("".join(block))]
+        for place, words in enumerate(rows, 1):
+            is_header = form == "csv" and place == 1 and len(words) > 1 and not any(re.match("[0-9]", it) for it in words[:2])
+            if is_header or (form == "list" and (not words or words[0].startswith("#"))):
                 continue
-            counted += 1
-            if form == "csv" and counted == 1 and words[:2] == ["source", "target"]:
-                continue
-            at = place if form == "list" else counted
             if len(words) not in (2, 3):
-                return self.say(f"import refused 4 line {at}")
-            texts = list(zip(words, ("[0-9]+", "[0-9]+", "-?[0-9]+")))
-            if not all(re.fullmatch(form_of, word) for word, form_of in texts):
-                return self.say(f"import refused 2 line {at}")
-            source, target, weight = ([int(word) for word in words] + [1])[:3]
-            if not (source <= INF and target <= INF and LEAST <= weight <= INF):
-                return self.say(f"import refused 3 line {at}")
+                return self.say(f"import refused 4 line {place}")
+            numbers = []
+            for word, least in zip(words, (0, 0, LEAST)):
+                number, fault = number_of(word, least)
+                if fault:
+                    return self.say(f"import refused {fault} line {place}")
+                numbers.append(number)
+            source, target, weight = (numbers + [1])[:3]
             for id in source, target:
                 if id not in ids:
                     ids.add(id)
@@ -239,10 +281,9 @@ class Session:
 
     def refresh(self):
         run = Run(self.options, self.graph)
-        before = self.run.inputs if self.run else {}
-        calls = sum(1 for key, inputs in run.inputs.items() if before.get(key) != inputs)
+        calls = sum(1 for key, inputs in run.inputs.items() if self.kept.get(key) != inputs)
         self.say(f"refreshed edition {self.edition} supersteps {run.supersteps} ending {run.ending} calls {calls} losses 0")
-        self.run, self.published = run, self.edition
+        self.run, self.kept, self.published = run, run.inputs, self.edition
         self.report = (f'{{"calls":{calls},"dropped":{run.dropped},"edition":{self.edition},"ending":"{run.ending}",'
                        f'"losses":0,"sent":{run.sent},"supersteps":{run.supersteps}}}')
 
@@ -259,7 +300,7 @@ class Session:
                 self.say(f"value {id} {value}")
             self.say(f"end {len(self.run.states)}")
         elif words[0] == "get":
-            id = int(words[1])
+            id = value_of(words[1])
             state = self.run.states.get(id)
             self.say(f"value {id} {state[0]}" if state else f"none {id}")
         else:
@@ -267,58 +308,75 @@ class Session:
             self.say(f"aggregate {words[1]} {self.run.gathered}" if own else f"none {words[1]}")
 
 
+FILES = ("args", "stdin", "stdout")
 COUNTS = {"commit": (1,), "refresh": (1,), "report": (1,), "check": (1,), "dump": (1,), "get": (2,), "agg": (2,), "import": (3,)}
 COUNTS.update(EDITS)
 
 
 def fault_of(words):
     """The number of a line's fault, if it has one."""
-    if words[0] not in COUNTS:
+    if words[0] not in COUNTS or not all(word.isascii() for word in words):
         return 1
     if len(words) not in COUNTS[words[0]]:
         return 2
     if words[0] in EDITS or words[0] == "get":
         ids = {"edge": 2, "reweigh": 2, "unedge": 2}.get(words[0], 1)
-        if any(number_of(word, 0 if place < ids else LEAST) is None for place, word in enumerate(words[1:])):
+        if any(number_of(word, 0 if place < ids else LEAST)[1] for place, word in enumerate(words[1:])):
             return 3
     if words[0] == "import":
-        number = number_of(words[2], 0)
-        if words[1] not in ("list", "csv") or number is None or number > 100_000:
+        number, fault = number_of(words[2], 0)
+        if words[1] not in ("list", "csv") or fault or number > 100_000:
             return 3
     return None
 
 
-def answers(options, text):
-    """What a session answers to a text."""
-    session, lines, at = Session(options), text.removesuffix("\n").split("\n") if text else [], 0
+def session_of(options, text, refusal=lambda session, command: None, after=lambda session: None):
+    """The session of a text. What `refusal` gives for a command, if anything, is its answer: memory was wanted for it."""
+    session, lines, at = Session(options), re.findall("[^\n]*\n|[^\n]+", text), 0
     while at < len(lines):
-        words, at = lines[at].removesuffix("\r").split(), at + 1
+        words, at = words_of(bare(lines[at])), at + 1
         if not words or words[0].startswith("#"):
             continue
-        fault = fault_of(words)
+        at = answer(session, words, lines, at, refusal(session, words[0]))
+        after(session)
+    return session
+
+
+def answer(session, words, lines, at, refusal):
+    """Answers a command, and gives the number of the last line that it has taken."""
+    fault, block = fault_of(words), []
+    if words[0] == "import" and not fault:
+        here, count = at, value_of(words[2])
+        block, at = lines[at : at + count], at + count
+        fault = 5 if session.pending else 4 if len(block) < count else None
         if fault:
-            session.say(f"error {fault} line {at}")
-        elif words[0] in EDITS:
-            numbers = [int(word) for word in words[1:]]
-            missing = {("vertex", 1): [0], ("edge", 2): [1]}.get((words[0], len(numbers)), [])
-            session.pending.append((words[0], *numbers, *missing))
-        elif words[0] == "commit":
-            session.commit(session.pending)
-            session.pending = []
-        elif words[0] == "import":
-            block, here = lines[at : at + int(words[2])], at
-            at += int(words[2])
-            if session.pending:
-                session.say(f"error 5 line {here}")
-            elif len(block) < int(words[2]):
-                session.say(f"error 4 line {here}")
-            else:
-                session.load(words[1], [line.removesuffix("\r") for line in block])
-        elif words[0] == "refresh":
-            session.refresh()
-        else:
-            session.ask(words)
-    return "".join(line + "\n" for line in session.lines)
+            session.say(f"error {fault} line {here}")
+            return at
+    if fault:
+        session.say(f"error {fault} line {at}")
+    elif refusal:
+        session.say(refusal)
+        session.pending = [] if words[0] == "commit" else session.pending
+        session.kept = {} if words[0] == "refresh" else session.kept
+    elif words[0] in EDITS:
+        numbers = [value_of(word) for word in words[1:]]
+        missing = {("vertex", 1): [0], ("edge", 2): [1]}.get((words[0], len(numbers)), [])
+        session.pending.append((words[0], *numbers, *missing))
+    elif words[0] == "commit":
+        session.commit(session.pending)
+        session.pending = []
+    elif words[0] == "import":
+        session.load(words[1], block)
+    elif words[0] == "refresh":
+        session.refresh()
+    else:
+        session.ask(words)
+    return at
+
+
+def answers(options, text):
+    """What a session answers to a text."""
+    return "".join(line + "\n" for line in session_of(options, text).lines)
 
 
 def sessions_below(folder):
@@ -328,11 +386,8 @@ def sessions_below(folder):
 def compare(folders):
     for folder in folders:
         for name in sessions_below(folder):
-            words, text, stored = (open(os.path.join(name, file), "rb").read() for file in ("args", "stdin", "stdout"))
-            if any(byte > 127 for byte in text) or b'"' in text:
-                print(name, "is left out")
-                continue
-            same = answers(options_of(words.decode().split()), text.decode()) == stored.decode()
+            words, text, stored = (open(os.path.join(name, file), encoding="latin-1", newline="").read() for file in FILES)
+            same = answers(options_of(words.split()), text) == stored
             print(name, "answers the same" if same else "DIFFERS")
 
 
