@@ -4,7 +4,7 @@ ghost use Rattle.pg_global.specs.Master.{has_places};
 
 use crate::course::{SIZES, cold_run, mixed_run, told, warm_run};
 use crate::graphs::graph_of;
-use crate::noting::Noting;
+use crate::noting::{Noting, noting};
 use pg_course::Partitioner;
 use pg_global::{AnyCombiner, MessageCombiner};
 use pg_graph::{Graph, PartitionId, VertexId};
@@ -21,7 +21,7 @@ static EDGES: [(u64, u64); 5] = [(5, 3), (4, 3), (3, 1), (2, 3), (1, 3)];
 
 // What a program noted, and what the meter counted.
 fn noted(alloc: Global, program: &Noting<Tally>, count: u64) -> Result<String, Fail> {
-    let mut text = program.told(alloc)?;
+    let mut text = program.listener.told(alloc)?;
     write!(text, " calls {count}")?;
     Ok(text)
 }
@@ -43,7 +43,7 @@ fn calls_alone<P: Computation, C: MessageCombiner<P::Message>>(
 // Which vertices it calls.
 fn called(alloc: Global, graph: &Graph, partitions: u32) -> Result<String, Fail> {
     let partitioner = Partitioner::new(partitions).ok_or("no such number of partitions")?;
-    let program = Noting::of(alloc, Tally)?;
+    let program = noting(alloc, Tally)?;
     let combiner = AnyCombiner::NoCombiner;
     let calls = calls_alone(alloc, graph, partitioner, &program, &combiner)?;
     noted(alloc, &program, calls)
@@ -86,7 +86,7 @@ fn called_beside(
     partitions: u32,
 ) -> Result<String, Fail> {
     let partitioner = Partitioner::new(partitions).ok_or("no such number of partitions")?;
-    let (first, program) = (Noting::of(alloc, Tally)?, Noting::of(alloc, Tally)?);
+    let (first, program) = (noting(alloc, Tally)?, noting(alloc, Tally)?);
     let combiner = AnyCombiner::NoCombiner;
     let calls = calls_beside(
         alloc,
@@ -194,7 +194,7 @@ fn called_mixed(
         ids.push(id(*number)?)?;
     }
     let partitioner = Partitioner::new(2).ok_or("no such number of partitions")?;
-    let (first, program) = (Noting::of(alloc, Tally)?, Noting::of(alloc, Tally)?);
+    let (first, program) = (noting(alloc, Tally)?, noting(alloc, Tally)?);
     let old = cold_run(alloc, &before, partitioner, &[0, 0], &first, &combiner)?;
     let made = mixed_run(
         alloc,

@@ -144,15 +144,7 @@ fn first<P: Computation, C: MessageCombiner<P::Message>, M: MasterCompute>(
 ) -> Result<Option<Traces<P::Value, P::Message>>, Fail>
     ensures { IfOk result (λ found. IfSome found (λ left. length left.lefts ≡ limits.partitions)) }
 {
-    let wanted = scratch(
-        alloc,
-        graph,
-        program,
-        combiner,
-        master,
-        limits.missing(),
-        limits.limit(),
-    )?;
+    let wanted = scratch(alloc, graph, program, combiner, master, limits)?;
     let mut core = Core::open(alloc, graph, program, combiner, master, limits, 1)?;
     go_on(alloc, &mut core, trials)?;
     let (run, left) = finished(alloc, core, limits)?;
@@ -177,15 +169,7 @@ fn beside<P: Computation, C: MessageCombiner<P::Message>, M: MasterCompute>(
     requires { length left.lefts ≡ limits.partitions }
     ensures { IfOk result (λ found. IfSome found (λ left. length left.lefts ≡ limits.partitions)) }
 {
-    let wanted = scratch(
-        alloc,
-        graph,
-        program,
-        combiner,
-        master,
-        limits.missing(),
-        limits.limit(),
-    )?;
+    let wanted = scratch(alloc, graph, program, combiner, master, limits)?;
     let mut core = Core::open_beside(
         alloc, graph, left, touched, program, combiner, master, limits, 2,
     )?;
@@ -210,15 +194,7 @@ fn again<P: Computation, C: MessageCombiner<P::Message>, M: MasterCompute>(
 ) -> Result<Option<u64>, Fail>
     requires { length left.lefts ≡ limits.partitions }
 {
-    let wanted = scratch(
-        alloc,
-        graph,
-        program,
-        combiner,
-        master,
-        limits.missing(),
-        limits.limit(),
-    )?;
+    let wanted = scratch(alloc, graph, program, combiner, master, limits)?;
     let mut core = Core::open_beside(
         alloc,
         graph,

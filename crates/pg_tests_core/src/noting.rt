@@ -1,9 +1,8 @@
-//! A program that notes which vertices are called.
+//! Programs of which is noted which vertices are called.
 ghost use Rattle.std.specs.Prelude.{◌≡◌, IfOk};
 
 use pg_graph::{Memory, Superstep, VertexId};
-use pg_model::Declared;
-use pg_program::{Computation, Cx, Vertex};
+use pg_tests_kit::{Heard, Listener, Moment};
 use std::alloc::Global;
 use std::fmt::Write;
 use std::sync::atomic::{AtomicU64, Ordering};
@@ -15,10 +14,9 @@ const SUPERSTEPS: u32 = 3;
 /// The ids that are told apart, from 0 on.
 const IDS: u32 = 10;
 
-/// A program that does what another does, and counts how often each vertex is called in each superstep.
+/// The listener that counts how often each vertex is called in each superstep.
 #[derive(Drop)]
-pub(crate) struct Noting<P> {
-    inner: P,
+pub(crate) struct Notes {
     calls: Vec<Vec<AtomicU64>>,
     others: AtomicU64,
 }
@@ -32,19 +30,14 @@ fn counters(alloc: Global) -> Result<Vec<AtomicU64>, Memory> {
     Ok(row)
 }
 
-impl<P> Noting<P> {
-    /// The program that does what this one does, without a call so far.
-    pub(crate) fn of(alloc: Global, inner: P) -> Result<Noting<P>, Memory>
-    where
-        P: Drop,
-        ensures { IfOk result (λ noting. noting.inner ≡ inner) }
-    {
+impl Notes {
+    // No call so far.
+    fn new(alloc: Global) -> Result<Notes, Memory> {
         let mut calls = Vec::new(alloc);
         for _ in 0..SUPERSTEPS {
             calls.push(counters(alloc)?)?;
         }
-        Ok(Noting {
-            inner,
+        Ok(Notes {
             calls,
             others: AtomicU64::new(0),
         })
@@ -96,29 +89,22 @@ fn tell_count(text: &mut String, superstep: u32, id: u32, count: u64) -> Result<
     Ok(())
 }
 
-impl<P: Computation> Computation for Noting<P> {
-    type Value = P::Value;
-
-    type Message = P::Message;
-
-    ghost program = { λ noting. P.program noting.inner };
-
-    fn declared(&self) -> Declared {
-        self.inner.declared()
+impl Listener for Notes {
+    fn hear(&self, moment: Moment) -> Result<(), Memory> {
+        if let Moment::Compute(superstep, vertex) = moment {
+            self.note(superstep, vertex);
+        }
+        Ok(())
     }
+}
 
-    fn initial(&self, alloc: Global, id: VertexId, input: i64) -> Result<P::Value, Memory> {
-        self.inner.initial(alloc, id, input)
-    }
+/// A program whose calls are noted.
+pub(crate) type Noting<P> = Heard<P, Notes>;
 
-    fn compute(
-        &self,
-        alloc: Global,
-        vertex: &mut Vertex<P::Value>,
-        messages: &[P::Message],
-        cx: &mut Cx<P::Message>,
-    ) -> Result<(), Memory> {
-        self.note(cx.superstep(), vertex.id());
-        self.inner.compute(alloc, vertex, messages, cx)
-    }
+/// The program that does what this one does, without a call so far.
+pub(crate) fn noting<P: Drop>(alloc: Global, inner: P) -> Result<Noting<P>, Memory>
+    ensures { IfOk result (λ noting. noting.inner ≡ inner) }
+{
+    let listener = Notes::new(alloc)?;
+    Ok(Heard { inner, listener })
 }

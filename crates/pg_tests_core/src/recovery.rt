@@ -7,7 +7,7 @@ ghost use Rattle.pg_global.specs.Registry.{first_refusal};
 use crate::graphs::graph_of;
 use crate::happenings::Happening::{self, Close, Host, Lose, Restore, Save, Step};
 use crate::happenings::play;
-use crate::noting::Noting;
+use crate::noting::{Noting, noting};
 use pg_core::{Core, Event, Limits, Traces};
 use pg_global::{AnyCombiner, MasterCompute, MessageCombiner, NoMaster};
 use pg_graph::{Graph, PartitionId, VertexId};
@@ -68,7 +68,7 @@ fn ended<P: Computation, C: MessageCombiner<P::Message>, M: MasterCompute>(
 ) -> Result<(String, Traces<P::Value, P::Message>), Fail>
     ensures { IfOk result (λ told. length told.1.lefts ≡ limits.partitions) }
 {
-    let mut text = core.program().told(alloc)?;
+    let mut text = core.program().listener.told(alloc)?;
     write!(text, " calls {calls}")?;
     tell_steps(&mut text, core.history(), limits.partitions())?;
     let (run, left) = finished(alloc, core, limits)?;
@@ -89,16 +89,8 @@ fn played<P: Computation + Drop, C: MessageCombiner<P::Message>, M: MasterComput
     limits: Limits,
     happenings: &[Happening],
 ) -> Result<String, Fail> {
-    let wanted = scratch(
-        alloc,
-        graph,
-        &program,
-        combiner,
-        master,
-        limits.missing(),
-        limits.limit(),
-    )?;
-    let program = Noting::of(alloc, program)?;
+    let wanted = scratch(alloc, graph, &program, combiner, master, limits)?;
+    let program = noting(alloc, program)?;
     let mut core = Core::open(alloc, graph, &program, combiner, master, limits, 1)?;
     let mut meter = Meter::new();
     play(alloc, &mut core, happenings, &mut meter)?;
@@ -117,15 +109,7 @@ fn left_by<P: Computation, C: MessageCombiner<P::Message>, M: MasterCompute>(
 ) -> Result<Traces<P::Value, P::Message>, Fail>
     ensures { IfOk result (λ left. length left.lefts ≡ limits.partitions) }
 {
-    scratch(
-        alloc,
-        graph,
-        program,
-        combiner,
-        master,
-        limits.missing(),
-        limits.limit(),
-    )?;
+    scratch(alloc, graph, program, combiner, master, limits)?;
     let mut core = Core::open(alloc, graph, program, combiner, master, limits, 1)?;
     play(alloc, &mut core, &[], &mut Meter::new())?;
     let (_, left) = finished(alloc, core, limits)?;
@@ -147,16 +131,8 @@ fn played_beside<P: Computation + Drop + Copy, C: MessageCombiner<P::Message>, M
     requires { length left.lefts ≡ limits.partitions }
     ensures { IfOk result (λ told. length told.1.lefts ≡ limits.partitions) }
 {
-    let wanted = scratch(
-        alloc,
-        graph,
-        &program,
-        combiner,
-        master,
-        limits.missing(),
-        limits.limit(),
-    )?;
-    let program = Noting::of(alloc, program)?;
+    let wanted = scratch(alloc, graph, &program, combiner, master, limits)?;
+    let program = noting(alloc, program)?;
     let mut core = Core::open_beside(
         alloc, graph, left, touched, &program, combiner, master, limits, 2,
     )?;

@@ -1,10 +1,11 @@
 //! Answers from scratch.
-ghost use Rattle.std.specs.Prelude.{◌≡◌, ◌<◌, [], true, None, IfOk};
+ghost use Rattle.std.specs.Prelude.{◌≡◌, [], true, None, IfOk};
 ghost use Rattle.pg_global.specs.Master.{is_registered};
 ghost use Rattle.pg_global.specs.Registry.{first_refusal};
 
 use pg_global::{MasterCompute, MessageCombiner};
-use pg_graph::{Graph, Missing};
+use pg_graph::Graph;
+use pg_machine::Limits;
 use pg_model::Run;
 use pg_program::{Computation, Meter, Plain};
 use pg_scratch::run;
@@ -21,21 +22,20 @@ pub fn is_same<V: Plain>(first: &Run<V>, second: &Run<V>) -> bool {
         && first.dropped == second.dropped
 }
 
-/// The answer of the plain runner, in so many supersteps at most.
+/// The answer of the plain runner.
 pub fn scratch<P: Computation, C: MessageCombiner<P::Message>, M: MasterCompute>(
     alloc: Global,
     graph: &Graph,
     program: &P,
     combiner: &C,
     master: &M,
-    missing: Missing,
-    limit: u32,
+    limits: Limits,
 ) -> Result<Run<P::Value>, Fail>
-    requires { 0 < limit }
     ensures { IfOk result (λ _. (first_refusal [] (M.master master.now).registrations ≡ None)
         × (is_registered (P.program program.now) (M.master master.now) ≡ true)) }
 {
     let mut meter = Meter::new();
+    let (missing, limit) = (limits.missing(), limits.limit());
     Ok(run(
         alloc, graph, program, combiner, master, missing, limit, &mut meter,
     )?)

@@ -6,11 +6,9 @@ mod counted;
 mod fates;
 mod meeting;
 mod playing;
-mod waiting;
 
 pub use counted::{unlost, unlost_beside};
 pub use fates::{AllFall, Strike, Strikes, Table};
-pub use meeting::{Meeting, is_set_in_time};
+pub use meeting::{Meeting, Waiting, is_set_in_time};
 pub use pg_workers::Traces;
 pub use playing::{Calls, Findable, Play, Played};
-pub use waiting::Waiting;

@@ -1,6 +1,8 @@
 //! A place at which two threads wait for each other.
-use pg_graph::{Superstep, WorkerId};
+use pg_graph::{Memory, Superstep, WorkerId};
+use pg_tests_kit::{Listener, Moment};
 use pg_workers::Gate;
+use std::sync::Arc;
 use std::sync::atomic::{AtomicBool, Ordering};
 use std::thread;
 
@@ -58,4 +60,21 @@ pub fn is_set_in_time(flag: &AtomicBool) -> bool {
         thread::yield_now();
     }
     false
+}
+
+/// The listener by which the vertices 1 and 2 of a program meet in superstep 0.
+#[derive(Drop)]
+pub struct Waiting {
+    pub meeting: Arc<Meeting>,
+}
+
+impl Listener for Waiting {
+    fn hear(&self, moment: Moment) -> Result<(), Memory> {
+        if let Moment::Compute(superstep, vertex) = moment {
+            if superstep.number() == 0 {
+                self.meeting.meet(vertex.number() == 1);
+            }
+        }
+        Ok(())
+    }
 }

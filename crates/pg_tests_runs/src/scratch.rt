@@ -13,7 +13,7 @@ use pg_graph::{Graph, Memory, Missing, VertexId};
 use pg_model::{Declared, Place, Run};
 use pg_program::{Computation, Cx, Meter, Vertex};
 use pg_scratch::{RunFault, run};
-use pg_tests_kit::{Starving, graph_of, id};
+use pg_tests_kit::{Heard, Starving, graph_of, id};
 use std::alloc::Global;
 use std::fmt::Write;
 use std::process::Abort;
@@ -513,7 +513,10 @@ fn run_after_one_out_of_memory(
     wanted: &str,
 ) -> Result<(), Fail> {
     let graph = five_edges(alloc)?;
-    let program = Starving::at_call(FirstDistance { source: id(1)? }, call);
+    let program = Heard {
+        inner: FirstDistance { source: id(1)? },
+        listener: Starving::at_call(call),
+    };
     let mut meter = Meter::new();
     match run_of(alloc, &graph, &program, &Least, missing, &mut meter) {
         Ok(_) => return Err(Fail::from("it isn't out of memory")),

@@ -2,9 +2,9 @@
 use crate::hops::{Line, TWO_HOPS, batch_of, limits_of, master, program, refreshed, service_of};
 use pg_global::{AnyCombiner, MasterCompute, MessageCombiner};
 use pg_graph::{Memory, VertexId};
-use pg_model::Declared;
-use pg_program::{Computation, Cx, Vertex};
+use pg_program::Computation;
 use pg_service::{Limits, Service};
+use pg_tests_kit::{Heard, Listener, Moment};
 use std::alloc::Global;
 use std::process::Abort;
 use std::sync::atomic::{AtomicU64, Ordering};
@@ -19,40 +19,21 @@ struct Board {
     called: AtomicU64,
 }
 
-// A program that does what another does, and counts.
+// The listener that counts calls.
 #[derive(Drop)]
-struct Counting<P> {
-    inner: P,
+struct Counting {
     board: Arc<Board>,
 }
 
-impl<P: Computation> Computation for Counting<P> {
-    type Value = P::Value;
-
-    type Message = P::Message;
-
-    ghost program = { λ counting. P.program counting.inner };
-
-    fn declared(&self) -> Declared {
-        self.inner.declared()
-    }
-
-    fn initial(&self, alloc: Global, id: VertexId, input: i64) -> Result<P::Value, Memory> {
-        self.inner.initial(alloc, id, input)
-    }
-
-    fn compute(
-        &self,
-        alloc: Global,
-        vertex: &mut Vertex<P::Value>,
-        messages: &[P::Message],
-        cx: &mut Cx<P::Message>,
-    ) -> Result<(), Memory> {
-        self.board.calls.fetch_add(1, Ordering::SeqCst);
-        self.board
-            .called
-            .fetch_or(mark_of(vertex.id()), Ordering::SeqCst);
-        self.inner.compute(alloc, vertex, messages, cx)
+impl Listener for Counting {
+    fn hear(&self, moment: Moment) -> Result<(), Memory> {
+        if let Moment::Compute(_, vertex) = moment {
+            self.board.calls.fetch_add(1, Ordering::SeqCst);
+            self.board
+                .called
+                .fetch_or(mark_of(vertex), Ordering::SeqCst);
+        }
+        Ok(())
     }
 }
 
@@ -121,9 +102,11 @@ fn paths_counted<R: Threads + Wait + Sync>(
         called: AtomicU64::new(0),
     };
     let board = Arc::new(alloc, nothing)?;
-    let counting = Counting {
+    let counting = Heard {
         inner: program()?,
-        board: Arc::try_clone(&board)?,
+        listener: Counting {
+            board: Arc::try_clone(&board)?,
+        },
     };
     let mut service = service_of(rt, alloc, limits, counting, combiner, master()?)?;
     let told = each_counted(rt, alloc, &mut service, &board, batches);

@@ -314,15 +314,7 @@ pub(crate) fn is_run_on<P: Computation, C: MessageCombiner<P::Message>, M: Maste
     limits: Limits,
 ) -> Result<bool, Fail> {
     let answers = service.answers().ok_or("nothing is published")?;
-    let run = scratch(
-        alloc,
-        graph,
-        program,
-        combiner,
-        master,
-        limits.missing(),
-        limits.limit(),
-    )?;
+    let run = scratch(alloc, graph, program, combiner, master, limits)?;
     Ok(same(answers, &run))
 }
 

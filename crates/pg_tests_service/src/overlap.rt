@@ -3,6 +3,7 @@ use crate::hops::{Line, batch_of, limits_of, master, program, service_of, told_o
 use pg_global::{AnyCombiner, MasterCompute, MessageCombiner};
 use pg_program::Computation;
 use pg_service::{MemShelf, NoFate, Service};
+use pg_tests_kit::Heard;
 use pg_tests_rounds::{Meeting, Waiting};
 use std::alloc::Global;
 use std::process::Abort;
@@ -29,9 +30,11 @@ fn refreshed_two<
 fn vertices_meet_in_compute(rt: HostRuntime) -> Result<(), Fail> {
     let alloc = rt.alloc();
     let meeting = Arc::new(alloc, Meeting::new())?;
-    let waiting = Waiting {
+    let waiting = Heard {
         inner: program()?,
-        meeting: Arc::try_clone(&meeting)?,
+        listener: Waiting {
+            meeting: Arc::try_clone(&meeting)?,
+        },
     };
     let (none, limits) = (AnyCombiner::NoCombiner, limits_of(2, 2, 0, 0)?);
     let mut service = service_of(&rt, alloc, limits, waiting, none, master()?)?;

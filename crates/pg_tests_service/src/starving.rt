@@ -3,7 +3,7 @@ use crate::hops::{Line, TWO_HOPS, batch_of, limits_of, master, program, refreshe
 use pg_global::{AnyCombiner, MasterCompute, MessageCombiner};
 use pg_program::Computation;
 use pg_service::{Limits, Service};
-use pg_tests_kit::Starving;
+use pg_tests_kit::{Heard, Starving};
 use std::alloc::Global;
 use std::process::Abort;
 use std::sync::Wait;
@@ -32,7 +32,10 @@ fn starved<R: Threads + Wait + Sync>(
     at: u64,
     limits: Limits,
 ) -> Result<(String, String), Fail> {
-    let starving = Starving::at_call(program()?, at);
+    let starving = Heard {
+        inner: program()?,
+        listener: Starving::at_call(at),
+    };
     let none = AnyCombiner::NoCombiner;
     let mut service = service_of(rt, alloc, limits, starving, none, master()?)?;
     let told = refreshed_twice(rt, alloc, &mut service);
@@ -60,7 +63,10 @@ fn refreshed_thrice<
 
 // The same of the shortest paths where memory is wanted as the vertex that was added begins.
 fn starved_beside<R: Threads + Wait + Sync>(rt: &R, alloc: Global) -> Result<[String; 3], Fail> {
-    let starving = Starving::as_it_begins(program()?, 3);
+    let starving = Heard {
+        inner: program()?,
+        listener: Starving::as_it_begins(3),
+    };
     let none = AnyCombiner::NoCombiner;
     let mut service = service_of(rt, alloc, limits_of(2, 1, 0, 0)?, starving, none, master()?)?;
     let told = refreshed_thrice(rt, alloc, &mut service);

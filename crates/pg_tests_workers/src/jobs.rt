@@ -146,15 +146,7 @@ pub(crate) fn first<
     ensures lawful { IfOk result (λ _. (first_refusal [] (M.master master.now).registrations ≡ None)
         × (is_registered (P.program program.now) (M.master master.now) ≡ true)) }
 {
-    let wanted = scratch(
-        alloc,
-        graph,
-        program,
-        combiner,
-        master,
-        limits.missing(),
-        limits.limit(),
-    )?;
+    let wanted = scratch(alloc, graph, program, combiner, master, limits)?;
     let core = Core::open(alloc, graph, program, combiner, master, limits, 1)?;
     driven(rt, alloc, core, shelf, fate, gate, &wanted)
 }
@@ -187,15 +179,7 @@ pub(crate) fn beside<
     ensures lawful { IfOk result (λ _. (first_refusal [] (M.master master.now).registrations ≡ None)
         × (is_registered (P.program program.now) (M.master master.now) ≡ true)) }
 {
-    let wanted = scratch(
-        alloc,
-        graph,
-        program,
-        combiner,
-        master,
-        limits.missing(),
-        limits.limit(),
-    )?;
+    let wanted = scratch(alloc, graph, program, combiner, master, limits)?;
     let core = Core::open_beside(
         alloc, graph, left, touched, program, combiner, master, limits, 2,
     )?;

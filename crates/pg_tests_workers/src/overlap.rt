@@ -5,7 +5,7 @@ use pg_global::{AnyCombiner, MasterCompute, MessageCombiner};
 use pg_graph::Graph;
 use pg_program::Computation;
 use pg_ready::{ReadyMaster, ReadyProgram, Sssp};
-use pg_tests_kit::{graph_of, id, scratch};
+use pg_tests_kit::{Heard, graph_of, id, scratch};
 use pg_tests_rounds::{Meeting, Waiting};
 use pg_workers::{Core, Limits, MemShelf, NoFate, NoGate};
 use std::alloc::Global;
@@ -52,19 +52,13 @@ fn met<
     master: &M,
     limits: Limits,
 ) -> Result<(String, bool), Fail> {
-    let wanted = scratch(
-        alloc,
-        graph,
-        &inner,
-        combiner,
-        master,
-        limits.missing(),
-        limits.limit(),
-    )?;
+    let wanted = scratch(alloc, graph, &inner, combiner, master, limits)?;
     let meeting = Arc::new(alloc, Meeting::new())?;
-    let program = Waiting {
+    let program = Heard {
         inner,
-        meeting: Arc::try_clone(&meeting)?,
+        listener: Waiting {
+            meeting: Arc::try_clone(&meeting)?,
+        },
     };
     let core = Core::open(alloc, graph, &program, combiner, master, limits, 1)?;
     let mut shelf = MemShelf::new(alloc);

@@ -5,7 +5,7 @@ use pg_global::{AnyCombiner, MasterCompute, MessageCombiner};
 use pg_graph::Graph;
 use pg_program::Computation;
 use pg_ready::{ReadyMaster, ReadyProgram, Sssp};
-use pg_tests_kit::{Starving, id, scratch};
+use pg_tests_kit::{Heard, Starving, id, scratch};
 use pg_workers::{Core, Limits, MemShelf, NoFate, NoGate};
 use std::alloc::Global;
 use std::process::Abort;
@@ -29,16 +29,11 @@ fn starved<
     master: &M,
     limits: Limits,
 ) -> Result<String, Fail> {
-    let program = Starving::at_call(inner, at);
-    let wanted = scratch(
-        alloc,
-        graph,
-        &program.inner,
-        combiner,
-        master,
-        limits.missing(),
-        limits.limit(),
-    )?;
+    let wanted = scratch(alloc, graph, &inner, combiner, master, limits)?;
+    let program = Heard {
+        inner,
+        listener: Starving::at_call(at),
+    };
     let core = Core::open(alloc, graph, &program, combiner, master, limits, 1)?;
     let mut shelf = MemShelf::new(alloc);
     let (told, _) = driven(rt, alloc, core, &mut shelf, &NoFate, &NoGate, &wanted)?;
