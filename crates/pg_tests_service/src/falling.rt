@@ -1,7 +1,7 @@
 // Refreshes on workers that fall, with checkpoints. All was found by hand.
 use crate::hops::{Line, Paths, accepted, limits_of, refreshed, told_on, two_hops};
 use crate::shelves::{NthShelf, ShortShelf};
-use pg_service::{Fate, Limits, MemShelf, NoFate};
+use pg_service::{Fate, Limits, MemShelf, NoFate, Shelf};
 use pg_tests_rounds::{AllFall, Strike, Strikes};
 use std::alloc::Global;
 use std::process::Abort;
@@ -133,6 +133,67 @@ fn a_refresh_is_refused(rt: HostRuntime) -> Result<(), Fail> {
             "calls 5 supersteps 3 losses; of 2: 1=0 2=5 3=6\n"
         );
     }
+    Ok(())
+}
+
+// What a refresh of a kept run's graph tells whose fourth checkpoint can't be put, and the next one.
+fn fourth_put<R: Threads + Wait + Sync>(
+    rt: &R,
+    alloc: Global,
+    service: &mut Paths,
+) -> Result<(String, String), Fail> {
+    let _first = refreshed(rt, alloc, service)?;
+    accepted(alloc, service, &[])?;
+    let mut shelf = NthShelf::new(alloc, 4);
+    let told = told_on(rt, alloc, service, &mut shelf, &NoFate)?;
+    Ok((told, refreshed(rt, alloc, service)?))
+}
+
+// What was published stays, and the next refresh calls all.
+#[test]
+fn a_checkpoint_cannot_be_put(rt: HostRuntime) -> Result<(), Fail> {
+    let alloc = rt.alloc();
+    let mut service = two_hops(&rt, alloc, limits_of(3, 2, 1, 0)?)?;
+    let found = fourth_put(&rt, alloc, &mut service);
+    service.close(&rt);
+    let (told, next) = found?;
+    assert_eq!(rt; told.as_str(), "refused 4; of 1: 1=0 2=5 3=6\n");
+    assert_eq!(rt; next.as_str(), "calls 5 supersteps 3 losses");
+    Ok(())
+}
+
+// Whether the checkpoint of partition 1 names the run with this number, in the eight bytes behind its form and length.
+fn names_run(alloc: Global, shelf: &mut MemShelf, number: u8) -> Result<bool, Fail> {
+    let Ok(Some(bytes)) = shelf.get(alloc, b"p1") else {
+        return Err(Fail::from("no checkpoint"));
+    };
+    match bytes.as_slice().get(12..20) {
+        Some(run) => Ok(run == [number, 0, 0, 0, 0, 0, 0, 0].as_slice()),
+        None => Ok(false),
+    }
+}
+
+// Whether the checkpoints of two refreshes on one shelf name the runs 1 and 2.
+fn two_runs<R: Threads + Wait + Sync>(
+    rt: &R,
+    alloc: Global,
+    service: &mut Paths,
+) -> Result<(bool, bool), Fail> {
+    let mut shelf = MemShelf::new(alloc);
+    let _first = told_on(rt, alloc, service, &mut shelf, &NoFate)?;
+    let first = names_run(alloc, &mut shelf, 1)?;
+    accepted(alloc, service, &[Line::Edge(1, 3, 2)])?;
+    let _second = told_on(rt, alloc, service, &mut shelf, &NoFate)?;
+    Ok((first, names_run(alloc, &mut shelf, 2)?))
+}
+
+#[test]
+fn checkpoints_name_their_run(rt: HostRuntime) -> Result<(), Fail> {
+    let alloc = rt.alloc();
+    let mut service = two_hops(&rt, alloc, limits_of(3, 2, 1, 0)?)?;
+    let found = two_runs(&rt, alloc, &mut service);
+    service.close(&rt);
+    assert_eq!(rt; found?, (true, true));
     Ok(())
 }
 

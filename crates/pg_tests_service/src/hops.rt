@@ -8,7 +8,8 @@ use pg_graph::{Batch, Edit, EditKind, Graph, Memory};
 use pg_program::{Computation, Plain};
 use pg_ready::{ReadyMaster, ReadyProgram, Sssp};
 use pg_service::{
-    Cause, Fate, Limits, Loss, MemShelf, NoFate, NoGate, RefreshFault, Report, Service, Shelf, same,
+    Cause, Fate, Gate, Limits, Loss, MemShelf, NoFate, NoGate, RefreshFault, Report, Service,
+    Shelf, same,
 };
 use pg_tests_kit::{id, scratch};
 use std::alloc::Global;
@@ -72,6 +73,7 @@ pub(crate) fn empty<R: Wait>(rt: &R, alloc: Global, limits: Limits) -> Result<Pa
 pub(crate) enum Line {
     Vertex(u64),
     Unvertex(u64),
+    Input(u64, i64),
     Edge(u64, u64, i64),
     Unedge(u64, u64),
 }
@@ -80,6 +82,7 @@ fn edit_of(line: Line) -> Result<Edit, Fail> {
     match line {
         Line::Vertex(vertex) => Ok(Edit::AddVertex(id(vertex)?, 0)),
         Line::Unvertex(vertex) => Ok(Edit::RemoveVertex(id(vertex)?)),
+        Line::Input(vertex, input) => Ok(Edit::SetInput(id(vertex)?, input)),
         Line::Edge(source, target, weight) => {
             Ok(Edit::AddEdge(id(source)?, id(target)?, weight))
         }
@@ -196,6 +199,36 @@ fn tell_refusal(text: &mut String, fault: &RefreshFault) -> Result<(), Memory> {
     }
 }
 
+// What a refresh tells on workers that fall by this fate and pass this gate, with checkpoints on this shelf.
+fn refreshed_at<
+    R: Threads + Wait + Sync,
+    P: Computation,
+    C: MessageCombiner<P::Message>,
+    M: MasterCompute,
+    S: Shelf,
+    F: Fate,
+    G: Gate,
+>(
+    rt: &R,
+    alloc: Global,
+    service: &mut Service<P, C, M>,
+    shelf: &mut S,
+    fate: &F,
+    gate: &G,
+) -> Result<String, Fail>
+    requires { (S.state shelf.old).is_honest ≡ true }
+{
+    if shelf.failures() > 0 {
+        return Err(Fail::from("the device has failed before"));
+    }
+    let mut text = String::new(alloc);
+    match service.refresh(rt, alloc, shelf, fate, gate) {
+        Ok(report) => tell_report(&mut text, &report)?,
+        Err(fault) => tell_refusal(&mut text, &fault)?,
+    }
+    Ok(text)
+}
+
 // What a refresh tells on workers that fall by this fate, with checkpoints on this shelf.
 pub(crate) fn refreshed_on<
     R: Threads + Wait + Sync,
@@ -213,15 +246,7 @@ pub(crate) fn refreshed_on<
 ) -> Result<String, Fail>
     requires { (S.state shelf.old).is_honest ≡ true }
 {
-    if shelf.failures() > 0 {
-        return Err(Fail::from("the device has failed before"));
-    }
-    let mut text = String::new(alloc);
-    match service.refresh(rt, alloc, shelf, fate, &NoGate) {
-        Ok(report) => tell_report(&mut text, &report)?,
-        Err(fault) => tell_refusal(&mut text, &fault)?,
-    }
-    Ok(text)
+    refreshed_at(rt, alloc, service, shelf, fate, &NoGate)
 }
 
 // The same with nobody made to fall, and checkpoints in memory.
@@ -240,7 +265,10 @@ fn tell_values<P: Computation, C: MessageCombiner<P::Message>, M: MasterCompute>
     service: &Service<P, C, M>,
     text: &mut String,
 ) -> Result<(), Fail> {
-    let answers = service.answers().ok_or("nothing is published")?;
+    let Some(answers) = service.answers() else {
+        text.push_str("; of nothing\n")?;
+        return Ok(());
+    };
     write!(text, "; of {}:", answers.edition().number())?;
     for (vertex, value) in answers.values() {
         write!(text, " {vertex}=")?;
@@ -250,8 +278,32 @@ fn tell_values<P: Computation, C: MessageCombiner<P::Message>, M: MasterCompute>
     Ok(())
 }
 
-// What a refresh tells on workers that fall by this fate, with checkpoints on this shelf, and what is published after it,
-// with its edition.
+// What a refresh tells on workers that fall by this fate and pass this gate, with checkpoints on this shelf, and what is
+// published after it, with its edition.
+pub(crate) fn told_at<
+    R: Threads + Wait + Sync,
+    P: Computation,
+    C: MessageCombiner<P::Message>,
+    M: MasterCompute,
+    S: Shelf,
+    F: Fate,
+    G: Gate,
+>(
+    rt: &R,
+    alloc: Global,
+    service: &mut Service<P, C, M>,
+    shelf: &mut S,
+    fate: &F,
+    gate: &G,
+) -> Result<String, Fail>
+    requires { (S.state shelf.old).is_honest ≡ true }
+{
+    let mut text = refreshed_at(rt, alloc, service, shelf, fate, gate)?;
+    tell_values(service, &mut text)?;
+    Ok(text)
+}
+
+// The same with no gate.
 pub(crate) fn told_on<
     R: Threads + Wait + Sync,
     P: Computation,
@@ -268,9 +320,7 @@ pub(crate) fn told_on<
 ) -> Result<String, Fail>
     requires { (S.state shelf.old).is_honest ≡ true }
 {
-    let mut text = refreshed_on(rt, alloc, service, shelf, fate)?;
-    tell_values(service, &mut text)?;
-    Ok(text)
+    told_at(rt, alloc, service, shelf, fate, &NoGate)
 }
 
 // The same of a refresh after each of these batches, with nobody made to fall.

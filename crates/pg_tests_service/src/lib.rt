@@ -19,8 +19,12 @@ mod publishing;
 #[cfg(test)]
 mod rows;
 #[cfg(test)]
+mod sessions;
+#[cfg(test)]
 mod shedding;
 #[cfg(test)]
 mod shelves;
 #[cfg(test)]
 mod starving;
+#[cfg(test)]
+mod trials;

@@ -1,8 +1,8 @@
-// Workers of a refresh work at the same time: each of two waits for the other, within compute.
-use crate::hops::{Line, batch_of, limits_of, master, program, service_of, told_on};
+// Workers of a refresh work at the same time: each of two waits for the other, at the gate or within compute.
+use crate::hops::{Line, batch_of, empty, limits_of, master, program, service_of, told_at};
 use pg_global::{AnyCombiner, MasterCompute, MessageCombiner};
 use pg_program::Computation;
-use pg_service::{MemShelf, NoFate, Service};
+use pg_service::{Gate, MemShelf, NoFate, NoGate, Service};
 use pg_tests_kit::Heard;
 use pg_tests_rounds::{Meeting, Waiting};
 use std::alloc::Global;
@@ -11,18 +11,34 @@ use std::sync::{Arc, Wait};
 use std::test::Fail;
 use std::thread::Threads;
 
-// What the first refresh of the vertices 1 and 2 tells.
+// What the first refresh of the vertices 1 and 2 tells. Nothing is kept before it, so its workers are threads.
 fn refreshed_two<
     R: Threads + Wait + Sync,
     P: Computation,
     C: MessageCombiner<P::Message>,
     M: MasterCompute,
->(rt: &R, alloc: Global, service: &mut Service<P, C, M>) -> Result<String, Fail> {
+    G: Gate,
+>(rt: &R, alloc: Global, service: &mut Service<P, C, M>, gate: &G) -> Result<String, Fail> {
     let batch = batch_of(alloc, &[Line::Vertex(1), Line::Vertex(2)])?;
     service
         .edit(alloc, &batch)
         .map_err(|_| "a batch that is refused")?;
-    told_on(rt, alloc, service, &mut MemShelf::new(alloc), &NoFate)
+    let mut shelf = MemShelf::new(alloc);
+    told_at(rt, alloc, service, &mut shelf, &NoFate, gate)
+}
+
+const TWO_VERTICES: &str = "calls 2 supersteps 1 losses; of 1: 1=0 2=9223372036854775807\n";
+
+#[test]
+fn workers_meet_at_the_gate(rt: HostRuntime) -> Result<(), Fail> {
+    let alloc = rt.alloc();
+    let mut service = empty(&rt, alloc, limits_of(2, 2, 0, 0)?)?;
+    let gate = Meeting::new();
+    let told = refreshed_two(&rt, alloc, &mut service, &gate);
+    service.close(&rt);
+    assert_eq!(rt; told?.as_str(), TWO_VERTICES);
+    assert!(rt; gate.was_held());
+    Ok(())
 }
 
 // Vertex 1 is of partition 1, which worker 1 hosts, and vertex 2 of partition 0.
@@ -38,12 +54,9 @@ fn vertices_meet_in_compute(rt: HostRuntime) -> Result<(), Fail> {
     };
     let (none, limits) = (AnyCombiner::NoCombiner, limits_of(2, 2, 0, 0)?);
     let mut service = service_of(&rt, alloc, limits, waiting, none, master()?)?;
-    let told = refreshed_two(&rt, alloc, &mut service);
+    let told = refreshed_two(&rt, alloc, &mut service, &NoGate);
     service.close(&rt);
-    assert_eq!(rt;
-        told?.as_str(),
-        "calls 2 supersteps 1 losses; of 1: 1=0 2=9223372036854775807\n"
-    );
+    assert_eq!(rt; told?.as_str(), TWO_VERTICES);
     assert!(rt; meeting.was_held());
     Ok(())
 }

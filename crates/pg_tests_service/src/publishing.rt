@@ -8,13 +8,12 @@ use pg_graph::VertexId;
 use pg_model::Ending;
 use pg_program::Computation;
 use pg_service::{AnswerReader, Fate, Gate, Look, MemShelf, NoFate, NoGate, Service, Told};
-use pg_tests_rounds::{AllFall, Meeting};
+use pg_tests_rounds::AllFall;
 use std::alloc::Global;
 use std::process::Abort;
-use std::sync::{Arc, Wait};
+use std::sync::Wait;
 use std::test::Fail;
-use std::thread;
-use std::thread::Threads;
+use std::thread::{Threads, join};
 
 // What a look shows: the values of the vertices 1 to 3, and of the aggregates the one named `reached`.
 #[derive(Clone, Copy, Debug, PartialEq, Eq)]
@@ -223,7 +222,9 @@ fn what_is_told_is_learned_in_any_order(rt: HostRuntime) -> Result<(), Fail> {
 }
 
 // Looks once a worker is at the gate, and lets it pass then: `None` where none came, or no look is given.
-fn look_within(reader: AnswerReader<i64>, gate: &Watched) -> (Option<Shown>, AnswerReader<i64>) {
+fn look_within(reader: AnswerReader<i64>, gate: &Watched) -> (Option<Shown>, AnswerReader<i64>)
+    ensures { result.1.publisher ≡ reader.publisher }
+{
     if !gate.is_entered() {
         return (None, reader);
     }
@@ -232,8 +233,8 @@ fn look_within(reader: AnswerReader<i64>, gate: &Watched) -> (Option<Shown>, Ans
     (shown, reader)
 }
 
-// What a reader in another thread has looked at while a worker of a refresh stood at its gate, and after the refresh;
-// whether the refresh gave a report, and whether the worker waited in vain; and how often worker 0 and worker 1 have
+// What a reader in another thread has looked at while a worker of a refresh stood at its gate, and once it has learned
+// what is told after the refresh; whether the refresh gave a report, and whether the worker waited in vain; and how often worker 0 and worker 1 have
 // passed.
 #[derive(Clone, Copy, Debug, PartialEq, Eq)]
 struct Beside {
@@ -251,22 +252,20 @@ fn beside_a_look<R: Threads + Wait + Sync>(
     service: &mut Paths,
 ) -> Result<Beside, Fail> {
     let reader = reader_of(service)?;
-    let gate = Arc::new(alloc, Watched::new())?;
-    let theirs = Arc::try_clone(&gate)?;
-    let Ok(thread) = thread::spawn(rt, move || look_within(reader, &theirs)) else {
-        return Err(Fail::from("no thread"));
-    };
-    let own: &Watched = &gate;
-    let (reported, _) = told_after(rt, alloc, service, &NoFate, own);
-    let (within, reader) = thread.join(rt);
-    let (after, _) = look_once(reader);
+    let gate = Watched::new();
+    let ((reported, told), (within, reader)) = join(
+        rt,
+        || told_after(rt, alloc, service, &NoFate, &gate),
+        || look_within(reader, &gate),
+    );
+    let (after, _) = look_once(reader.learn(told));
     Ok(Beside {
         within,
         after,
         reported,
-        missed: own.was_missed(),
-        first_passed: own.first_passed(),
-        second_passed: own.second_passed(),
+        missed: gate.was_missed(),
+        first_passed: gate.first_passed(),
+        second_passed: gate.second_passed(),
     })
 }
 
@@ -298,18 +297,6 @@ fn a_reader_looks_while_a_refresh_runs(rt: HostRuntime) -> Result<(), Fail> {
         second_passed: 3,
     };
     assert_eq!(rt; found?, wanted);
-    Ok(())
-}
-
-// Nothing is kept before the first refresh, so its workers are threads, which are at the gate at the same time.
-#[test]
-fn workers_of_a_refresh_meet_at_the_gate(rt: HostRuntime) -> Result<(), Fail> {
-    let alloc = rt.alloc();
-    let mut service = two_hops(&rt, alloc, limits_of(2, 2, 0, 0)?)?;
-    let gate = Meeting::new();
-    let (reported, _) = told_after(&rt, alloc, &mut service, &NoFate, &gate);
-    service.close(&rt);
-    assert!(rt; reported && gate.was_held());
     Ok(())
 }
 

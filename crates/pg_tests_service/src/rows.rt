@@ -93,7 +93,7 @@ fn beside_a_refused_batch<R: Threads + Wait + Sync>(
     service: &mut Paths,
 ) -> Result<(Result<u64, (u64, EditKind)>, u64, String), Fail> {
     let _told = refreshed(rt, alloc, service)?;
-    let batch = [Line::Vertex(9), Line::Vertex(8), Line::Edge(1, 2, 5)];
+    let batch = [Line::Vertex(9), Line::Input(9, 7), Line::Edge(1, 2, 1)];
     let refused = commit(alloc, service, &batch)?;
     let edition = accepted(alloc, service, &[])?;
     let mut shelf = MemShelf::new(alloc);

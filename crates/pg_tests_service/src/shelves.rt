@@ -1,10 +1,11 @@
-//! Honest shelves: one that counts what it is asked and may fail, and one that keeps beginnings alone.
+//! Honest shelves that count what they are asked: one that may fail, one that keeps beginnings alone, and one that keeps
+//! nothing.
 ghost use Rattle.std.specs.Prelude.{◌≡◌};
 
 use pg_service::{MemShelf, Shelf, ShelfFault};
 use std::alloc::Global;
 
-/// A shelf in memory that counts what it is asked, and whose device fails at one call, by number from 1 on; at none where
+/// A shelf in memory whose device fails at one call, by number from 1 on; at none where
 /// that is 0.
 #[derive(Drop)]
 pub(crate) struct NthShelf {
@@ -68,13 +69,20 @@ impl Shelf for NthShelf {
 #[derive(Drop)]
 pub(crate) struct ShortShelf {
     inner: MemShelf,
+    calls: u64,
 }
 
 impl ShortShelf {
     pub(crate) fn new(alloc: Global) -> ShortShelf {
         ShortShelf {
             inner: MemShelf::new(alloc),
+            calls: 0,
         }
+    }
+
+    /// How many puts and gets were asked.
+    pub(crate) fn calls(&self) -> u64 {
+        self.calls
     }
 }
 
@@ -88,6 +96,7 @@ impl Shelf for ShortShelf {
     }
 
     fn put(&mut self, key: &[u8], bytes: &[u8]) -> Result<(), ShelfFault> {
+        self.calls = self.calls.saturating_add(1);
         match self.inner.put(key, &bytes[..bytes.len().saturating_sub(1)]) {
             Ok(()) => Ok(()),
             Err(_) => Err(ShelfFault::Memory),
@@ -95,9 +104,48 @@ impl Shelf for ShortShelf {
     }
 
     fn get(&mut self, alloc: Global, key: &[u8]) -> Result<Option<Vec<u8>>, ShelfFault> {
+        self.calls = self.calls.saturating_add(1);
         match self.inner.get(alloc, key) {
             Ok(found) => Ok(found),
             Err(_) => Err(ShelfFault::Memory),
         }
+    }
+}
+
+/// A shelf that keeps nothing.
+#[derive(Drop)]
+pub(crate) struct EmptyShelf {
+    calls: u64,
+}
+
+impl EmptyShelf {
+    pub(crate) fn new() -> EmptyShelf {
+        EmptyShelf { calls: 0 }
+    }
+
+    /// How many puts and gets were asked.
+    pub(crate) fn calls(&self) -> u64 {
+        self.calls
+    }
+}
+
+impl Shelf for EmptyShelf {
+    ghost use Rattle.std.specs.Prelude.{true};
+    ghost use Rattle.std.specs.FinMap.{empty};
+
+    ghost state = { λ _. record { stored = empty; is_honest = true; failures = 0 } };
+
+    fn failures(&self) -> u64 {
+        0
+    }
+
+    fn put(&mut self, _key: &[u8], _bytes: &[u8]) -> Result<(), ShelfFault> {
+        self.calls = self.calls.saturating_add(1);
+        Ok(())
+    }
+
+    fn get(&mut self, _alloc: Global, _key: &[u8]) -> Result<Option<Vec<u8>>, ShelfFault> {
+        self.calls = self.calls.saturating_add(1);
+        Ok(None)
     }
 }

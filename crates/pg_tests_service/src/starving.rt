@@ -1,8 +1,10 @@
 // Refreshes whose workers want memory: one falls as a call of compute is refused it, and the others go on.
-use crate::hops::{Line, TWO_HOPS, batch_of, limits_of, master, program, refreshed, service_of};
+use crate::hops::{
+    Line, TWO_HOPS, batch_of, limits_of, master, program, refreshed, service_of, told_on,
+};
 use pg_global::{AnyCombiner, MasterCompute, MessageCombiner};
 use pg_program::Computation;
-use pg_service::{Limits, Service};
+use pg_service::{Limits, MemShelf, NoFate, Service};
 use pg_tests_kit::{Heard, Starving};
 use std::alloc::Global;
 use std::process::Abort;
@@ -10,7 +12,7 @@ use std::sync::Wait;
 use std::test::Fail;
 use std::thread::Threads;
 
-// What a first refresh of two hops tells, and the next one.
+// What a first refresh of two hops tells, with what is published after it, and what the next one tells.
 fn refreshed_twice<
     R: Threads + Wait + Sync,
     P: Computation,
@@ -21,7 +23,7 @@ fn refreshed_twice<
     service
         .edit(alloc, &batch)
         .map_err(|_| "a batch that is refused")?;
-    let first = refreshed(rt, alloc, service)?;
+    let first = told_on(rt, alloc, service, &mut MemShelf::new(alloc), &NoFate)?;
     Ok((first, refreshed(rt, alloc, service)?))
 }
 
@@ -89,10 +91,10 @@ fn a_refresh_beside_a_kept_run_wants_memory(rt: HostRuntime) -> Result<(), Fail>
 fn the_only_worker_wants_memory(rt: HostRuntime) -> Result<(), Fail> {
     let alloc = rt.alloc();
     let rows = [
-        (0, 16, "refused 3 losses (0 0 memory)"),
-        (3, 16, "refused 3 losses (0 1 memory)"),
-        (4, 16, "refused 3 losses (0 2 memory)"),
-        (0, 0, "refused 2 losses (0 0 memory)"),
+        (0, 16, "refused 3 losses (0 0 memory); of nothing\n"),
+        (3, 16, "refused 3 losses (0 1 memory); of nothing\n"),
+        (4, 16, "refused 3 losses (0 2 memory); of nothing\n"),
+        (0, 0, "refused 2 losses (0 0 memory); of nothing\n"),
     ];
     for (at, max_losses, wanted) in rows {
         let (told, next) = starved(&rt, alloc, at, limits_of(3, 1, 0, max_losses)?)?;
@@ -109,7 +111,7 @@ fn one_of_two_workers_wants_memory(rt: HostRuntime) -> Result<(), Fail> {
     for at in 0..5 {
         let (told, next) = starved(&rt, alloc, at, limits_of(3, 2, 1, 1)?)?;
         assert!(rt; told.as_str().starts_with("calls "));
-        assert!(rt; told.as_str().ends_with(" memory)"));
+        assert!(rt; told.as_str().ends_with(" memory); of 1: 1=0 2=5 3=6\n"));
         assert_eq!(rt; next.as_str(), "calls 0 supersteps 3 losses");
     }
     Ok(())

@@ -1,138 +1,22 @@
-// Sessions of edits and refreshes at random, beside rounds that are played: a test that isn't proved. To run it: put it into
-// crates/pg_tests_service/src/sessions.rt, with `#[cfg(test)] mod sessions;` in lib.rt, and `rt try --test` there.
 // Sessions of edits and refreshes at random: what is published is the answer from scratch, and a report or a refusal is
 // what the rounds come to as they are played with plain numbers.
 ghost use Rattle.std.specs.Prelude.{◌≡◌, true, length, IfOk, IfSome};
 
-use crate::hops::{is_run_on, service_of};
+use crate::hops::{Paths, is_run_on, service_of};
+use crate::shelves::{EmptyShelf, NthShelf, ShortShelf};
+use crate::trials::{Keeping, Trials};
 use pg_global::{AnyCombiner, MasterCompute, MessageCombiner};
 use pg_graph::{Batch, Edit, Graph, Memory, Missing, VertexId};
 use pg_program::Computation;
 use pg_ready::{Cc, Indegree, MaxValue, Pagerank, Peel, ReadyMaster, ReadyProgram, Sssp};
-use pg_service::{
-    Fate, Limits, Loss, MemShelf, NoGate, RefreshFault, Report, Service, Shelf, ShelfFault,
-};
-use pg_tests_kit::{GraphSize, Random, edit_if_lawful, id, random_edit, scratch};
+use pg_service::{Fate, Limits, Loss, NoGate, RefreshFault, Report, Service, Shelf};
+use pg_tests_kit::{GraphSize, edit_if_lawful, id, random_edit, scratch};
 use pg_tests_rounds::{Calls, Findable, Play, Played, Table, Traces, unlost, unlost_beside};
 use std::alloc::{AllocError, Global};
 use std::process::Abort;
 use std::sync::Wait;
 use std::test::Fail;
 use std::thread::Threads;
-
-// What a shelf keeps of what it is given.
-#[derive(Clone, Copy)]
-enum Keeping {
-    // All, on a device that fails at the call with this number, from 1 on; at none where it is 0.
-    All(u64),
-    // All but the last byte.
-    Beginnings,
-    Nothing,
-}
-
-// Numbers at random, and what came of them: how many refreshes there were and how many of them ended, how many workers
-// fell, and how many refreshes were refused for each reason.
-#[derive(Drop)]
-struct Trials {
-    random: Random,
-    refreshes: u32,
-    ended: u32,
-    losses: u32,
-    too_many: u32,
-    no_workers: u32,
-    device: u32,
-}
-
-impl Trials {
-    fn new(seed: u64) -> Trials {
-        Trials {
-            random: Random::new(seed),
-            refreshes: 0,
-            ended: 0,
-            losses: 0,
-            too_many: 0,
-            no_workers: 0,
-            device: 0,
-        }
-    }
-
-    fn below(&mut self, count: u32) -> u32 {
-        self.random.below(count)
-    }
-
-    fn keeping(&mut self) -> Keeping {
-        match self.below(4) {
-            0 => Keeping::Beginnings,
-            1 => Keeping::Nothing,
-            _ => Keeping::All(self.failing()),
-        }
-    }
-
-    // The call of a shelf at which its device fails; 0 is none.
-    fn failing(&mut self) -> u64 {
-        match self.below(6) {
-            0 => u64::from(self.below(8)).saturating_add(1),
-            _ => 0,
-        }
-    }
-
-    // 1 to 5 partitions on 1 to 5 workers, saved after 0 to 3 supersteps, with 1, 2 or 16 losses borne, in at most 8
-    // supersteps.
-    fn limits(&mut self) -> Result<Limits, Fail> {
-        let (partitions, workers) = (self.below(5), self.below(5));
-        let most = match self.below(6) {
-            0 => 1,
-            1 => 2,
-            _ => 16,
-        };
-        let every = self.below(4);
-        let limits = Limits::new(
-            partitions.saturating_add(1),
-            workers.saturating_add(1),
-            8,
-            every,
-            most,
-        );
-        Ok(limits.ok_or("no such limits")?)
-    }
-
-    // Whether enough refreshes ended, enough workers fell, and enough refreshes were refused for each reason. In all
-    // three tests there are 648 refreshes, in which 424 workers fall: 512 end, 25 are refused as too many workers fell,
-    // 99 as none was left, and 12 as the device failed.
-    fn is_enough(&self) -> bool {
-        self.refreshes == 216
-            && self.ended > 120
-            && self.losses > 100
-            && self.too_many > 5
-            && self.no_workers > 20
-            && self.device > 2
-    }
-
-    // Counts a refresh.
-    fn count(&mut self, played: &Played) {
-        self.refreshes = self.refreshes.saturating_add(1);
-        let losses = match played {
-            Played::Ended(_, _, losses) => {
-                self.ended = self.ended.saturating_add(1);
-                losses
-            }
-            Played::Refused(2, losses) => {
-                self.too_many = self.too_many.saturating_add(1);
-                losses
-            }
-            Played::Refused(3, losses) => {
-                self.no_workers = self.no_workers.saturating_add(1);
-                losses
-            }
-            Played::Refused(_, losses) => {
-                self.device = self.device.saturating_add(1);
-                losses
-            }
-        };
-        let more = u32::try_from(losses.len()).unwrap_or(0);
-        self.losses = self.losses.saturating_add(more);
-    }
-}
 
 // What is the same for all refreshes of a session.
 #[derive(Clone, Copy)]
@@ -142,8 +26,6 @@ struct Setting {
     limits: Limits,
     one_in: u32,
 }
-
-type Paths = Service<ReadyProgram, AnyCombiner, ReadyMaster>;
 
 type Left = Traces<i64, i64>;
 
@@ -276,15 +158,7 @@ fn unlost_first(
 {
     let (program, combiner, limits) = (setting.program, setting.combiner, setting.limits);
     let master = ReadyMaster { program };
-    let _run = scratch(
-        alloc,
-        graph,
-        &program,
-        &combiner,
-        &master,
-        limits.missing(),
-        limits.limit(),
-    )?;
+    scratch(alloc, graph, &program, &combiner, &master, limits)?;
     unlost(alloc, graph, &program, &combiner, &master, limits)
 }
 
@@ -301,15 +175,7 @@ fn unlost_next(
     let (program, combiner, limits) = (setting.program, setting.combiner, setting.limits);
     let master = ReadyMaster { program };
     let (graph, touched) = (&beside.graph, beside.touched.as_slice());
-    let _run = scratch(
-        alloc,
-        graph,
-        &program,
-        &combiner,
-        &master,
-        limits.missing(),
-        limits.limit(),
-    )?;
+    scratch(alloc, graph, &program, &combiner, &master, limits)?;
     unlost_beside(
         alloc, graph, left, touched, &program, &combiner, &master, limits,
     )
@@ -450,6 +316,25 @@ fn go_on(
     Ok(())
 }
 
+// A refresh, and three edits after it.
+fn tried_and_edited<R: Threads + Wait + Sync>(
+    rt: &R,
+    alloc: Global,
+    service: &mut Paths,
+    beside: &mut Beside,
+    kept: Option<Left>,
+    setting: &Setting,
+    trials: &mut Trials,
+) -> Result<Option<Left>, Fail>
+    requires { IfSome kept (λ left. length left.lefts ≡ setting.now.limits.partitions) }
+    ensures { IfOk result (λ kept. IfSome kept (λ left. length left.lefts ≡ setting.now.limits.partitions)) }
+{
+    let kept = tried(rt, alloc, service, beside, kept, setting, trials)?;
+    beside.touched = Vec::new(alloc);
+    go_on(alloc, service, beside, trials)?;
+    Ok(kept)
+}
+
 // Three refreshes, each after edits.
 fn all_refreshed<R: Threads + Wait + Sync>(
     rt: &R,
@@ -461,13 +346,16 @@ fn all_refreshed<R: Threads + Wait + Sync>(
     let (graph, touched) = (Graph::new(alloc), Vec::new(alloc));
     let mut beside = Beside { graph, touched };
     begin(alloc, service, &mut beside, trials)?;
-    let mut kept = None;
-    for _ in 0..3 {
-        kept = tried(rt, alloc, service, &beside, kept, setting, trials)?;
-        beside.touched = Vec::new(alloc);
-        go_on(alloc, service, &mut beside, trials)?;
-    }
+    let first = tried_and_edited(rt, alloc, service, &mut beside, None, setting, trials)?;
+    let second = tried_and_edited(rt, alloc, service, &mut beside, first, setting, trials)?;
+    tried_and_edited(rt, alloc, service, &mut beside, second, setting, trials)?;
     Ok(())
+}
+
+fn master_of(setting: &Setting) -> ReadyMaster {
+    ReadyMaster {
+        program: setting.program,
+    }
 }
 
 // A session of a service of its own.
@@ -477,9 +365,8 @@ fn session<R: Threads + Wait + Sync>(
     setting: &Setting,
     trials: &mut Trials,
 ) -> Result<(), Fail> {
-    let (program, combiner, limits) = (setting.program, setting.combiner, setting.limits);
-    let master = ReadyMaster { program };
-    let mut service = service_of(rt, alloc, limits, program, combiner, master)?;
+    let (master, combiner) = (master_of(setting), setting.combiner);
+    let mut service = service_of(rt, alloc, setting.limits, setting.program, combiner, master)?;
     let done = all_refreshed(rt, alloc, &mut service, setting, trials);
     service.close(rt);
     done
@@ -497,14 +384,14 @@ const SIZE: GraphSize = GraphSize {
 fn all_sessions<R: Threads + Wait + Sync>(
     rt: &R,
     alloc: Global,
-    program: ReadyProgram,
+    program: &ReadyProgram,
     combiner: AnyCombiner,
     trials: &mut Trials,
 ) -> Result<(), Fail> {
     for missing in [Missing::Drop, Missing::Create] {
         for _ in 0..6 {
             let setting = Setting {
-                program,
+                program: *program,
                 combiner,
                 limits: trials.limits()?.with_missing(missing),
                 one_in: trials.below(30).saturating_add(6),
@@ -519,7 +406,7 @@ fn all_sessions<R: Threads + Wait + Sync>(
 fn two_tried<R: Threads + Wait + Sync>(
     rt: &R,
     alloc: Global,
-    programs: [ReadyProgram; 2],
+    programs: &[ReadyProgram],
 ) -> Result<Trials, Fail> {
     let mut trials = Trials::new(7);
     for program in programs {
@@ -533,7 +420,7 @@ fn two_tried<R: Threads + Wait + Sync>(
 #[test]
 fn sessions_of_paths_and_components_go_as_played(rt: HostRuntime) -> Result<(), Fail> {
     let paths = ReadyProgram::Sssp(Sssp { source: id(1)? });
-    let trials = two_tried(&rt, rt.alloc(), [paths, ReadyProgram::Cc(Cc)])?;
+    let trials = two_tried(&rt, rt.alloc(), &[paths, ReadyProgram::Cc(Cc)])?;
     assert!(rt; trials.is_enough());
     Ok(())
 }
@@ -541,7 +428,7 @@ fn sessions_of_paths_and_components_go_as_played(rt: HostRuntime) -> Result<(), 
 #[test]
 fn sessions_of_inputs_and_degrees_go_as_played(rt: HostRuntime) -> Result<(), Fail> {
     let most = ReadyProgram::MaxValue(MaxValue);
-    let trials = two_tried(&rt, rt.alloc(), [most, ReadyProgram::Indegree(Indegree)])?;
+    let trials = two_tried(&rt, rt.alloc(), &[most, ReadyProgram::Indegree(Indegree)])?;
     assert!(rt; trials.is_enough());
     Ok(())
 }
@@ -549,152 +436,7 @@ fn sessions_of_inputs_and_degrees_go_as_played(rt: HostRuntime) -> Result<(), Fa
 #[test]
 fn sessions_of_ranks_and_cores_go_as_played(rt: HostRuntime) -> Result<(), Fail> {
     let ranks = ReadyProgram::Pagerank(Pagerank { rounds: 5, eps: 0 });
-    let trials = two_tried(&rt, rt.alloc(), [ranks, ReadyProgram::Peel(Peel { k: 2 })])?;
+    let trials = two_tried(&rt, rt.alloc(), &[ranks, ReadyProgram::Peel(Peel { k: 2 })])?;
     assert!(rt; trials.is_enough());
     Ok(())
-}
-
-/// A shelf in memory that counts what it is asked, and whose device fails at one call, by number from 1 on; at none where
-/// that is 0.
-#[derive(Drop)]
-pub(crate) struct NthShelf {
-    inner: MemShelf,
-    failing: u64,
-    calls: u64,
-    failures: u64,
-}
-
-impl NthShelf {
-    pub(crate) fn new(alloc: Global, failing: u64) -> NthShelf {
-        NthShelf {
-            inner: MemShelf::new(alloc),
-            failing,
-            calls: 0,
-            failures: 0,
-        }
-    }
-
-    /// How many puts and gets were asked.
-    pub(crate) fn calls(&self) -> u64 {
-        self.calls
-    }
-}
-
-impl Shelf for NthShelf {
-    ghost use Rattle.pg_service.specs.Handed.{mem_state};
-
-    ghost state = { λ shelf. record (mem_state shelf.inner) { failures = shelf.failures } };
-
-    fn failures(&self) -> u64 {
-        self.failures
-    }
-
-    fn put(&mut self, key: &[u8], bytes: &[u8]) -> Result<(), ShelfFault> {
-        self.calls = self.calls.saturating_add(1);
-        if self.calls == self.failing {
-            self.failures += 1;
-            return Err(ShelfFault::Device);
-        }
-        match self.inner.put(key, bytes) {
-            Ok(()) => Ok(()),
-            Err(_) => Err(ShelfFault::Memory),
-        }
-    }
-
-    fn get(&mut self, alloc: Global, key: &[u8]) -> Result<Option<Vec<u8>>, ShelfFault> {
-        self.calls = self.calls.saturating_add(1);
-        if self.calls == self.failing {
-            self.failures += 1;
-            return Err(ShelfFault::Device);
-        }
-        match self.inner.get(alloc, key) {
-            Ok(found) => Ok(found),
-            Err(_) => Err(ShelfFault::Memory),
-        }
-    }
-}
-
-/// A shelf in memory that keeps all but the last byte of what it is given.
-#[derive(Drop)]
-pub(crate) struct ShortShelf {
-    inner: MemShelf,
-    calls: u64,
-}
-
-impl ShortShelf {
-    pub(crate) fn new(alloc: Global) -> ShortShelf {
-        ShortShelf {
-            inner: MemShelf::new(alloc),
-            calls: 0,
-        }
-    }
-
-    /// How many puts and gets were asked.
-    pub(crate) fn calls(&self) -> u64 {
-        self.calls
-    }
-}
-
-impl Shelf for ShortShelf {
-    ghost use Rattle.pg_service.specs.Handed.{mem_state};
-
-    ghost state = { λ shelf. mem_state shelf.inner };
-
-    fn failures(&self) -> u64 {
-        0
-    }
-
-    fn put(&mut self, key: &[u8], bytes: &[u8]) -> Result<(), ShelfFault> {
-        self.calls = self.calls.saturating_add(1);
-        match self.inner.put(key, &bytes[..bytes.len().saturating_sub(1)]) {
-            Ok(()) => Ok(()),
-            Err(_) => Err(ShelfFault::Memory),
-        }
-    }
-
-    fn get(&mut self, alloc: Global, key: &[u8]) -> Result<Option<Vec<u8>>, ShelfFault> {
-        self.calls = self.calls.saturating_add(1);
-        match self.inner.get(alloc, key) {
-            Ok(found) => Ok(found),
-            Err(_) => Err(ShelfFault::Memory),
-        }
-    }
-}
-
-/// A shelf that keeps nothing.
-#[derive(Drop)]
-pub(crate) struct EmptyShelf {
-    calls: u64,
-}
-
-impl EmptyShelf {
-    pub(crate) fn new() -> EmptyShelf {
-        EmptyShelf { calls: 0 }
-    }
-
-    /// How many puts and gets were asked.
-    pub(crate) fn calls(&self) -> u64 {
-        self.calls
-    }
-}
-
-impl Shelf for EmptyShelf {
-    ghost use Rattle.std.specs.Prelude.{true, []};
-    ghost use Rattle.std.specs.FinMap.{from_entries};
-
-    ghost state = { λ _. record { stored = from_entries []; is_honest = true; failures = 0 } };
-
-    fn failures(&self) -> u64 {
-        0
-    }
-
-    fn put(&mut self, _key: &[u8], _bytes: &[u8]) -> Result<(), ShelfFault> {
-        self.calls = self.calls.saturating_add(1);
-        Ok(())
-    }
-
-    fn get(&mut self, _alloc: Global, _key: &[u8]) -> Result<Option<Vec<u8>>, ShelfFault> {
-        self.calls = self.calls.saturating_add(1);
-        Ok(None)
-    }
 }
