@@ -7,9 +7,9 @@ use pg_global::{MasterCompute, MessageCombiner};
 use pg_graph::{Graph, Memory, VertexId};
 use pg_model::Run;
 use pg_program::{Computation, Plain};
-use pg_tests_kit::{is_same, scratch};
+use pg_tests_kit::{Heard, Listener, is_same, scratch};
 use pg_workers::{
-    Cause, Core, Counts, Fate, Gate, Limits, Loss, RefreshFault, Shelf, Traces, run_job,
+    Cause, Core, Counts, Fate, Gate, Limits, Loss, MemShelf, RefreshFault, Shelf, Traces, run_job,
 };
 use std::alloc::Global;
 use std::fmt::Write;
@@ -184,4 +184,32 @@ pub(crate) fn beside<
         alloc, graph, left, touched, program, combiner, master, limits, 2,
     )?;
     driven(rt, alloc, core, shelf, fate, gate, &wanted)
+}
+
+// What a first run of a program tells whose calls are heard, with checkpoints in memory. The answer that is wanted is
+// that of the program without its listener.
+pub(crate) fn heard<
+    R: Threads + Wait + Sync,
+    P: Computation,
+    L: Listener,
+    C: MessageCombiner<P::Message>,
+    M: MasterCompute,
+    F: Fate,
+    G: Gate,
+>(
+    rt: &R,
+    alloc: Global,
+    graph: &Graph,
+    program: &Heard<P, L>,
+    combiner: &C,
+    master: &M,
+    limits: Limits,
+    fate: &F,
+    gate: &G,
+) -> Result<String, Fail> {
+    let wanted = scratch(alloc, graph, &program.inner, combiner, master, limits)?;
+    let core = Core::open(alloc, graph, program, combiner, master, limits, 1)?;
+    let mut shelf = MemShelf::new(alloc);
+    let (told, _) = driven(rt, alloc, core, &mut shelf, fate, gate, &wanted)?;
+    Ok(told)
 }

@@ -1,18 +1,16 @@
 // Workers work at the same time: each of two waits for the other, at a gate and within compute.
-use crate::jobs::{driven, first};
+use crate::jobs::{first, heard};
 use crate::rows::limits_of;
-use pg_global::{AnyCombiner, MasterCompute, MessageCombiner};
+use pg_global::AnyCombiner;
 use pg_graph::Graph;
-use pg_program::Computation;
 use pg_ready::{ReadyMaster, ReadyProgram, Sssp};
-use pg_tests_kit::{Heard, graph_of, id, scratch};
+use pg_tests_kit::{Heard, graph_of, id};
 use pg_tests_rounds::{Meeting, Waiting};
-use pg_workers::{Core, Limits, MemShelf, NoFate, NoGate};
+use pg_workers::{MemShelf, NoFate, NoGate};
 use std::alloc::Global;
 use std::process::Abort;
-use std::sync::{Arc, Wait};
+use std::sync::Arc;
 use std::test::Fail;
-use std::thread::Threads;
 
 // The vertices 1 and 2 without an edge.
 fn two_vertices(alloc: Global) -> Result<Graph, Fail> {
@@ -37,43 +35,22 @@ fn workers_meet_at_the_gate(rt: HostRuntime) -> Result<(), Fail> {
     Ok(())
 }
 
-// What a run of a program tells whose vertices wait for each other, and whether they met.
-fn met<
-    R: Threads + Wait + Sync,
-    P: Computation + Drop,
-    C: MessageCombiner<P::Message>,
-    M: MasterCompute,
->(
-    rt: &R,
-    alloc: Global,
-    graph: &Graph,
-    inner: P,
-    combiner: &C,
-    master: &M,
-    limits: Limits,
-) -> Result<(String, bool), Fail> {
-    let wanted = scratch(alloc, graph, &inner, combiner, master, limits)?;
-    let meeting = Arc::new(alloc, Meeting::new())?;
-    let program = Heard {
-        inner,
-        listener: Waiting {
-            meeting: Arc::try_clone(&meeting)?,
-        },
-    };
-    let core = Core::open(alloc, graph, &program, combiner, master, limits, 1)?;
-    let mut shelf = MemShelf::new(alloc);
-    let (told, _) = driven(rt, alloc, core, &mut shelf, &NoFate, &NoGate, &wanted)?;
-    Ok((told, meeting.was_held()))
-}
-
+// Vertex 1 is of partition 1, which worker 1 hosts, and vertex 2 of partition 0.
 #[test]
 fn vertices_meet_in_compute(rt: HostRuntime) -> Result<(), Fail> {
     let alloc = rt.alloc();
     let (graph, limits) = (two_vertices(alloc)?, limits_of(2, 2, 0, 0)?);
-    let program = ReadyProgram::Sssp(Sssp { source: id(1)? });
-    let (master, none) = (ReadyMaster { program }, AnyCombiner::NoCombiner);
-    let (told, held) = met(&rt, alloc, &graph, program, &none, &master, limits)?;
+    let inner = ReadyProgram::Sssp(Sssp { source: id(1)? });
+    let (master, none) = (ReadyMaster { program: inner }, AnyCombiner::NoCombiner);
+    let meeting = Arc::new(alloc, Meeting::new())?;
+    let listener = Waiting {
+        meeting: Arc::try_clone(&meeting)?,
+    };
+    let program = Heard { inner, listener };
+    let told = heard(
+        &rt, alloc, &graph, &program, &none, &master, limits, &NoFate, &NoGate,
+    )?;
     assert_eq!(rt; told.as_str(), ANSWER);
-    assert!(rt; held);
+    assert!(rt; meeting.was_held());
     Ok(())
 }

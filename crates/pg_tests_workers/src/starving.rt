@@ -1,56 +1,33 @@
-// Workers that want memory: one falls as a call of compute is refused it, and the others go on.
-use crate::jobs::driven;
+// Workers that are out of memory: one falls as a call of compute is, and the others go on.
+use crate::jobs::heard;
 use crate::rows::{limits_of, two_hops};
-use pg_global::{AnyCombiner, MasterCompute, MessageCombiner};
-use pg_graph::Graph;
-use pg_program::Computation;
+use pg_global::AnyCombiner;
 use pg_ready::{ReadyMaster, ReadyProgram, Sssp};
-use pg_tests_kit::{Heard, Starving, id, scratch};
-use pg_workers::{Core, Limits, MemShelf, NoFate, NoGate};
+use pg_tests_kit::{Heard, Starving, id};
+use pg_tests_rounds::{Strike, Strikes};
+use pg_workers::{Fate, Limits, NoFate, NoGate};
 use std::alloc::Global;
 use std::process::Abort;
 use std::sync::Wait;
 use std::test::Fail;
 use std::thread::Threads;
 
-// What a run of a program tells that wants memory at one of its calls.
-fn starved<
-    R: Threads + Wait + Sync,
-    P: Computation + Drop,
-    C: MessageCombiner<P::Message>,
-    M: MasterCompute,
->(
-    rt: &R,
-    alloc: Global,
-    graph: &Graph,
-    inner: P,
-    at: u64,
-    combiner: &C,
-    master: &M,
-    limits: Limits,
-) -> Result<String, Fail> {
-    let wanted = scratch(alloc, graph, &inner, combiner, master, limits)?;
-    let program = Heard {
-        inner,
-        listener: Starving::at_call(at),
-    };
-    let core = Core::open(alloc, graph, &program, combiner, master, limits, 1)?;
-    let mut shelf = MemShelf::new(alloc);
-    let (told, _) = driven(rt, alloc, core, &mut shelf, &NoFate, &NoGate, &wanted)?;
-    Ok(told)
-}
-
-// The same of the shortest paths on two hops.
-fn hops<R: Threads + Wait + Sync>(
+// What a run of the shortest paths on two hops tells that is out of memory at this call, on workers that fall by this
+// fate.
+fn hops<R: Threads + Wait + Sync, F: Fate>(
     rt: &R,
     alloc: Global,
     at: u64,
     limits: Limits,
+    fate: &F,
 ) -> Result<String, Fail> {
-    let program = ReadyProgram::Sssp(Sssp { source: id(1)? });
-    let (master, none) = (ReadyMaster { program }, AnyCombiner::NoCombiner);
-    let graph = two_hops(alloc)?;
-    starved(rt, alloc, &graph, program, at, &none, &master, limits)
+    let inner = ReadyProgram::Sssp(Sssp { source: id(1)? });
+    let (master, none) = (ReadyMaster { program: inner }, AnyCombiner::NoCombiner);
+    let listener = Starving::at_call(at);
+    let (graph, program) = (two_hops(alloc)?, Heard { inner, listener });
+    heard(
+        rt, alloc, &graph, &program, &none, &master, limits, fate, &NoGate,
+    )
 }
 
 // Superstep 0 takes three calls, and the next ones one each.
@@ -65,9 +42,24 @@ fn the_only_worker_wants_memory(rt: HostRuntime) -> Result<(), Fail> {
         (5, 0, "calls 5 steps 3 3 3 losses; in 3: 1=0 2=5 3=6"),
     ];
     for (at, max_losses, wanted) in rows {
-        let told = hops(&rt, alloc, at, limits_of(3, 1, 0, max_losses)?)?;
+        let told = hops(&rt, alloc, at, limits_of(3, 1, 0, max_losses)?, &NoFate)?;
         assert_eq!(rt; told.as_str(), wanted);
     }
+    Ok(())
+}
+
+// A worker is asked of its fate once it has made a step: one whose step is out of memory falls for that.
+#[test]
+fn fate_is_asked_after_the_step(rt: HostRuntime) -> Result<(), Fail> {
+    let alloc = rt.alloc();
+    let (fate, limits) = (
+        Strikes::once(Strike::at(0, 0, 0, 0)),
+        limits_of(3, 1, 0, 16)?,
+    );
+    let told = hops(&rt, alloc, 0, limits, &fate)?;
+    assert_eq!(rt; told.as_str(), "refused 3 losses (0 0 memory);");
+    let told = hops(&rt, alloc, 1, limits, &fate)?;
+    assert_eq!(rt; told.as_str(), "refused 3 losses (0 0 fate);");
     Ok(())
 }
 
@@ -77,7 +69,7 @@ fn one_of_two_workers_wants_memory(rt: HostRuntime) -> Result<(), Fail> {
     let alloc = rt.alloc();
     for every in 0..4 {
         for at in 0..5 {
-            let told = hops(&rt, alloc, at, limits_of(3, 2, every, 1)?)?;
+            let told = hops(&rt, alloc, at, limits_of(3, 2, every, 1)?, &NoFate)?;
             let told = told.as_str();
             assert!(rt; told.starts_with("calls "));
             assert!(rt; told.contains(" memory); in 3: 1=0 2=5 3=6"));
