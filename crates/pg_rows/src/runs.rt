@@ -199,6 +199,45 @@ fn said_of_writer<H: Threads + Wait + Sync>(rt: &H, alloc: Global) -> (u8, Vec<u
     said(rt, alloc, &mut reader, &mut writer)
 }
 
+// A writer that takes all, and can't hand it on for want of memory.
+#[derive(Drop)]
+struct FailingFlush;
+
+impl Write for FailingFlush {
+    fn write(&mut self, buf: &[u8]) -> io::Result<usize> {
+        Ok(buf.len())
+    }
+
+    fn flush(&mut self) -> io::Result<()> {
+        Err(io::Error::from(io::ErrorKind::OutOfMemory))
+    }
+}
+
+// A flush that fails is one of the output, of whatever kind it is.
+#[test]
+fn a_flush_fails(rt: HostRuntime) {
+    let mut reader: &[u8] = TWO_HOPS;
+    let (status, text) = said(&rt, rt.alloc(), &mut reader, &mut FailingFlush);
+    assert!(&rt; status == 1 && text.as_slice() == b"pregeld: output\n".as_slice());
+}
+
+// What is said of a file's name among the words ends with where edge lists come from.
+#[test]
+fn a_file_is_named(rt: HostRuntime) {
+    let words = ["pregeld", "--program", "sssp", "roads.txt"];
+    let ended = run(&rt, rt.alloc(), words.as_slice(), TWO_HOPS);
+    assert!(&rt; ended.status == 2 && ended.output.is_empty() && ended.reached.is_none());
+    let said = ended.errors.as_slice();
+    assert!(&rt;
+        said.starts_with(b"pregeld: arguments\nerror: unexpected argument 'roads.txt' found\n")
+    );
+    assert!(&rt;
+        said.ends_with(
+            b"\nNo files are read: edge lists come on standard input, as `import list N` and then N lines.\n"
+        )
+    );
+}
+
 // It is named what failed: memory, the input or the output.
 #[test]
 fn what_failed_is_said(rt: HostRuntime) -> Result<(), Fail> {
