@@ -19,8 +19,16 @@ module _ {E : Type 0} where
   abbrev pub first : Standing E
   first = record { list = []; seen = λ reader. []; told = [] }
 
+  -- the list with an entry more, at its end
+  abbrev pub with_next : List E → E → List E
+  with_next list entry = list ++ entry ∷ []
+
   abbrev pub longer : List E → List E → List E
   longer xs ys = if nat_lt (length xs) (length ys) then ys else xs
+
+  -- what is shown begins with what was seen
+  abbrev pub ShowsOn : List E → List E → Type 0
+  ShowsOn seen shown = IsPrefix seen shown
 
   -- this reader has seen `now`, and the others what they had
   abbrev pub sees : ℕ → List E → (ℕ → List E) → ℕ → List E
@@ -29,7 +37,7 @@ module _ {E : Type 0} where
   -- what a step changes
   abbrev pub after : Standing E → Step E → Standing E
   -- the publisher: its list gets one entry at the end
-  after s (publishes entry) = record s { list = s.list ++ entry ∷ [] }
+  after s (publishes entry) = record s { list = with_next s.list entry }
   -- the publisher: its list is handed out
   after s tells = record s { told = s.told ++ s.list ∷ [] }
   -- one reader: its seen list becomes the list that is shown to it
@@ -40,7 +48,7 @@ module _ {E : Type 0} where
   -- when a step may be taken
   abbrev pub May : Standing E → Step E → Type 0
   -- what is shown to a reader begins with what it had seen, and is a beginning of what is published
-  May s (enters reader shown) = IsPrefix (s.seen reader) shown × IsPrefix shown s.list
+  May s (enters reader shown) = ShowsOn (s.seen reader) shown × IsPrefix shown s.list
   -- only what was told is learned
   May s (learns reader told) = Contains s.told told
   May s _ = Unit {0}

@@ -3,6 +3,7 @@
 ghost use Rattle.std.specs.Prelude.{◌≡◌, ◌<◌, ◌^◌, ◌++◌, ◌∷◌, ◌⊎◌, [], length, MatchBool};
 ghost use mathlib.Core.List.{IsPrefix};
 ghost use Rattle.pg_publish.specs.History.{GoesFurther};
+ghost use Rattle.pg_publish.specs.Steps.{longer};
 
 use logbook::{Gain, Offer, Plain, Play, Rule, Seen, Start, Word};
 use std::marker::Model;
@@ -137,6 +138,7 @@ impl<E> Front<E> {
         requires { other.publisher ≡ self.publisher }
         ensures one { (result ≡ self) ⊎ (result ≡ other) }
         ensures both { IsPrefix self.list result.list × IsPrefix other.list result.list }
+        ensures longer { result.list ≡ longer self.list other.list }
     {
         if self.begins(&other) { other } else { self }
     }

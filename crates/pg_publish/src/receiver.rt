@@ -4,6 +4,7 @@ ghost use Rattle.std.specs.Option.{option_copied};
 ghost use mathlib.Core.List.{IsPrefix};
 ghost use Rattle.left_right.specs.Sides.{view as known_of};
 ghost use Rattle.pg_publish.specs.History.{last_of};
+ghost use Rattle.pg_publish.specs.Steps.{ShowsOn, longer};
 ghost use Rattle.pg_publish.specs.Views.{naming};
 
 use crate::history::Front;
@@ -73,7 +74,7 @@ impl<E: Drop> Receiver<E> {
     /// was where the publisher is closed, or where what is shown is less than it was told of.
     pub fn look(self) -> Result<Sight<E>, Receiver<E>>
         ensures { MatchResult result
-            (λ sight. (sight.publisher ≡ self.publisher) × IsPrefix self.list sight.list)
+            (λ sight. (sight.publisher ≡ self.publisher) × ShowsOn self.list sight.list)
             (λ reader. reader ≡ self) }
     {
         let Receiver { seat, front } = self;
@@ -99,6 +100,7 @@ impl<E: Drop> Receiver<E> {
         requires { told.publisher ≡ self.publisher }
         ensures one { (result ≡ self) ⊎ (result ≡ told) }
         ensures both { IsPrefix self.list result.list × IsPrefix told.list result.list }
+        ensures longer { result.list ≡ longer self.list told.list }
     {
         let Receiver { seat, front } = self;
         let front = front.longer(told);

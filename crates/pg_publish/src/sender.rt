@@ -5,6 +5,7 @@ ghost use Rattle.std.specs.Option.{option_copied};
 ghost use Rattle.left_right.specs.Sides.{view as known_of};
 ghost use Rattle.pg_publish.specs.History.{last_of};
 ghost use Rattle.pg_publish.specs.Sender.{Shows, told_of};
+ghost use Rattle.pg_publish.specs.Steps.{with_next};
 
 use crate::history::{Front, Head, open};
 use crate::receiver::Receiver;
@@ -183,7 +184,7 @@ impl<E: Drop> Sender<E> {
     /// it was.
     pub fn publish<R: Wait>(&mut self, rt: &R, next: E) -> Result<(), AllocError>
         ensures list { MatchResult result
-            (λ _. self.new ≡ record self.old { list = self.old.list ++ next ∷ [] })
+            (λ _. self.new ≡ record self.old { list = with_next self.old.list next })
             (λ _. self.new ≡ self.old) }
     {
         let Ok(next) = Arc::new(self.alloc, next) else {
