@@ -234,8 +234,8 @@ fn look_within(reader: AnswerReader<i64>, gate: &Watched) -> (Option<Shown>, Ans
 }
 
 // What a reader in another thread has looked at while a worker of a refresh stood at its gate, and once it has learned
-// what is told after the refresh; whether the refresh gave a report, and whether the worker waited in vain; and how often worker 0 and worker 1 have
-// passed.
+// what is told after the refresh; whether the refresh gave a report, and whether the worker waited in vain; and how often
+// worker 0 and worker 1 have passed.
 #[derive(Clone, Copy, Debug, PartialEq, Eq)]
 struct Beside {
     within: Option<Shown>,
