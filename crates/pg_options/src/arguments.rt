@@ -24,16 +24,21 @@ Commands are read from standard input, a line each, and so are edge lists: `impo
 and then N lines.";
 
 /// What help ends with.
-const SESSION: &str =
-    "A session to paste into `pregeld --program sssp`, two edges and the distances from 1:\n\
+const SESSION: &str = "Commands:\n\
+\x20 vertex ID [INPUT], input ID N, unvertex ID\n\
+\x20 edge SOURCE TARGET [WEIGHT], reweigh SOURCE TARGET WEIGHT, unedge SOURCE TARGET\n\
+\x20 commit, import list N, import csv N, refresh\n\
+\x20 get ID, agg NAME, dump, report, check\n\
 \n\
-  import list 2\n\
-  1 2 5\n\
-  2 3\n\
-  refresh\n\
-  dump\n\
+A session to paste into `pregeld --program sssp`, two edges and the distances from 1:\n\
 \n\
-All commands and their answers: docs/PROTOCOL.md.";
+\x20 import list 2\n\
+\x20 1 2 5\n\
+\x20 2 3\n\
+\x20 refresh\n\
+\x20 dump\n\
+\n\
+docs/PROTOCOL.md has the commands with their answers.";
 
 /// The greatest id.
 pub(crate) const SOURCE_LIMIT: u64 = 9_223_372_036_854_775_807;
@@ -78,7 +83,7 @@ pub(crate) fn command<'a>(alloc: Global) -> Result<Command<'a>, AllocError>
             0,
             SOURCE_LIMIT,
             "1",
-            "sssp: the vertex that distances are measured from",
+            "sssp: the vertex that distances are measured from, 0 to 2^63 - 1",
         ))?
         .arg(number_option(
             alloc,
@@ -86,7 +91,7 @@ pub(crate) fn command<'a>(alloc: Global) -> Result<Command<'a>, AllocError>
             0,
             K_LIMIT,
             "2",
-            "peel: how many edges a vertex needs to stay",
+            "peel: how many edges a vertex needs to stay, 0 to 1000000",
         ))?
         .arg(number_option(
             alloc,
@@ -94,7 +99,7 @@ pub(crate) fn command<'a>(alloc: Global) -> Result<Command<'a>, AllocError>
             0,
             ROUNDS_LIMIT,
             "30",
-            "pagerank: the superstep from which on nothing is sent",
+            "pagerank: the superstep from which on nothing is sent, 0 to 10000",
         ))?
         .arg(number_option(
             alloc,
@@ -102,7 +107,7 @@ pub(crate) fn command<'a>(alloc: Global) -> Result<Command<'a>, AllocError>
             0,
             EPS_LIMIT,
             "0",
-            "pagerank: the change of all ranks that ends a run, if it is above 0",
+            "pagerank: the change of all ranks that ends a run, if it is above 0, up to 10^12",
         ))?
         .arg(combiner_option(alloc))?
         .arg(number_option(
@@ -111,7 +116,7 @@ pub(crate) fn command<'a>(alloc: Global) -> Result<Command<'a>, AllocError>
             1,
             PARTITION_LIMIT,
             "1",
-            "How many partitions the vertices are dealt out to",
+            "How many partitions the vertices are dealt out to, 1 to 64",
         ))?
         .arg(number_option(
             alloc,
@@ -119,7 +124,7 @@ pub(crate) fn command<'a>(alloc: Global) -> Result<Command<'a>, AllocError>
             1,
             WORKER_LIMIT,
             "1",
-            "How many workers step the partitions, each in a thread",
+            "How many workers step the partitions, each in a thread, 1 to 16",
         ))?
         .arg(number_option(
             alloc,
@@ -127,7 +132,7 @@ pub(crate) fn command<'a>(alloc: Global) -> Result<Command<'a>, AllocError>
             1,
             SUPERSTEP_LIMIT,
             "1000",
-            "The most supersteps of a run",
+            "The most supersteps of a run, 1 to 10000",
         ))?
         .arg(number_option(
             alloc,
@@ -135,7 +140,7 @@ pub(crate) fn command<'a>(alloc: Global) -> Result<Command<'a>, AllocError>
             0,
             EVERY_LIMIT,
             "0",
-            "After how many supersteps partitions are saved, 0 for never",
+            "After how many supersteps partitions are saved, 0 for never, up to 1000",
         ))?
         .arg(number_option(
             alloc,
@@ -143,7 +148,7 @@ pub(crate) fn command<'a>(alloc: Global) -> Result<Command<'a>, AllocError>
             0,
             LOSS_LIMIT,
             "16",
-            "How many workers may fall before a refresh is refused",
+            "The most workers that a refresh may lose, 0 to 16",
         ))?
         .arg(missing_option(alloc))
 }
@@ -179,7 +184,7 @@ fn program_option<'a>(alloc: Global) -> Arg<'a>
         .required(true)
         .action(ArgAction::Set)
         .value_parser(ValueParser::Names(PROGRAMS.as_slice()))
-        .help("The vertex program: sssp, cc, max, indegree, pagerank, peel")
+        .help("The vertex program")
 }
 
 /// The option that names the combiner.
@@ -193,7 +198,7 @@ fn combiner_option<'a>(alloc: Global) -> Arg<'a>
         .action(ArgAction::Set)
         .value_parser(ValueParser::Names(COMBINERS.as_slice()))
         .default_value("none")
-        .help("How the messages to a vertex are made into one: none, min, max, sum")
+        .help("How the messages to a vertex are combined")
 }
 
 /// The option that names the policy for messages to nobody.
@@ -207,5 +212,5 @@ fn missing_option<'a>(alloc: Global) -> Arg<'a>
         .action(ArgAction::Set)
         .value_parser(ValueParser::Names(POLICIES.as_slice()))
         .default_value("drop")
-        .help("What becomes of messages to ids that have no state: drop, create")
+        .help("What becomes of messages to ids without a vertex")
 }

@@ -15,9 +15,9 @@ use Rattle.pregeld.specs.Notes.{Held, Noted, stored}
 use Rattle.pregeld.specs.Reply.{told_of}
 use Rattle.pg_service.specs.Service.{IsTried, MayReport, check_of, entry_of, last_published, next_graph, with_entry}
 use Rattle.pg_service.specs.declared.report.Report.{Report}
-use Rattle.pg_service.specs.Handed.{MayRefuse, RefreshFault, refusal_number}
+use Rattle.pg_service.specs.Handed.{RefreshFault, refusal_number}
 use Rattle.pregeld.specs.Session.{Answer, Answers, IsTriedOf, Place, State, after, answered}
-use Rattle.pregeld.specs.Session.{edges_of, edited, imported, nobody}
+use Rattle.pregeld.specs.Session.{MayBeRefused, edges_of, edited, imported, nobody}
 use Rattle.pg_command.specs.declared.command.Command.{Command}
 use Rattle.pg_command.specs.declared.command.Form.{Form}
 use Rattle.pg_command.specs.declared.command.LineFault.{LineFault}
@@ -63,7 +63,7 @@ Refreshes old reply new =
     × (reply ≡ Refreshed (told_of report))
     × (new.service ≡ record service { told = with_entry entry service.told; kept = Some service.graph })
     × (new.notes ≡ record old.notes { report = Some report }))
-    ⊎ ((fault : RefreshFault) × MayRefuse nobody service.job.limits fault
+    ⊎ ((fault : RefreshFault) × MayBeRefused service.job.limits fault
     × (reply ≡ RunRefused (refusal_number fault))
     × (new ≡ record old { service = record service { kept = None } }))
 

@@ -38,7 +38,7 @@ use Rattle.pregeld.specs.declared.reply.Reply.TheVariants.{Edition, ImportRefuse
 use Rattle.pregeld.specs.declared.reply.Reply.TheVariants.{Refreshed, RunRefused, Checked}
 use Rattle.pregeld.specs.declared.reply.Reply.TheVariants.{Unpublished, Value, NoValue, Fault}
 use Rattle.pg_service.specs.declared.report.Report.{Report}
-use Rattle.pg_service.specs.Handed.{Answered, MayRefuse, RefreshFault, aggregate_of, refusal_number, value_of}
+use Rattle.pg_service.specs.Handed.{Answered, Limits, MayRefuse, RefreshFault, aggregate_of, is_failure, refusal_number, value_of}
 use Rattle.pregeld.specs.declared.session.ServeFault.{ServeFault}
 use Rattle.pregeld.specs.declared.session.ServeFault.TheVariants.{Write}
 
@@ -194,6 +194,10 @@ query_text own Reported published report = report_line report
 abbrev pub nobody : ℕ → ℕ → ℕ → ℕ → Bool
 nobody superstep attempt worker partition = false
 
+-- why a refresh may be refused: not by a device, since its checkpoints stay in memory
+abbrev pub MayBeRefused : Limits → RefreshFault → Type 0
+MayBeRefused limits fault = (is_failure {X = Report} (Err fault) ≡ false) × MayRefuse nobody limits fault
+
 module _ (own : ReadyJob) where
   -- the run on the graph as it stands is published and reported so, and is the one that the next may reuse
   abbrev pub refresh_answer : Report → Place → Answer
@@ -246,7 +250,7 @@ module _ (own : ReadyJob) where
   LosesWorkers place answer =
       ((report : Report) × MayReportAt place.state report × (report.losses ≢ [])
       × (answer ≡ refresh_answer report place))
-      ⊎ ((fault : RefreshFault) × MayRefuse nobody own.limits fault
+      ⊎ ((fault : RefreshFault) × MayBeRefused own.limits fault
       × (answer
       ≡ answered (RunRefused (refusal_number fault)) (record place { state = record place.state { kept = None } })))
 
