@@ -1,4 +1,4 @@
-"""What `valgrind --tool=callgrind` counts of a session: for instructions.py and hot.py."""
+"""What `valgrind --tool=callgrind` counts of a session: for instructions.py, warm.py and hot.py."""
 import os
 import re
 import subprocess
@@ -12,12 +12,17 @@ def session(*words):
     return subprocess.run([sys.executable, f"{BENCH}/workload.py", *words], capture_output=True, text=True, check=True).stdout
 
 
-def run(program, lines, file, *flags):
-    """Runs the program on a session, leaves the counts in a file, and gives the calls of compute and all instructions."""
-    words = ["valgrind", "--tool=callgrind", f"--callgrind-out-file={file}", *flags, program, "--program", "sssp", "--limit", "10000"]
+def counted(command, lines, file, *flags):
+    """Runs a command on a session, leaves the counts in a file, and gives what it prints and all instructions."""
+    words = ["valgrind", "--tool=callgrind", f"--callgrind-out-file={file}", *flags, *command]
     ran = subprocess.run(words, input=lines, capture_output=True, text=True, check=True)
-    calls = re.search(r"^refreshed .* calls (\d+)", ran.stdout, re.M)
-    total = int(re.search(r"refs:\s+([\d,]+)", ran.stderr)[1].replace(",", ""))
+    return ran.stdout, int(re.search(r"refs:\s+([\d,]+)", ran.stderr)[1].replace(",", ""))
+
+
+def run(program, lines, file, *flags):
+    """Of the shortest paths: the calls of compute of the first refresh, and all instructions."""
+    said, total = counted([program, "--program", "sssp", "--limit", "10000"], lines, file, *flags)
+    calls = re.search(r"^refreshed .* calls (\d+)", said, re.M)
     return int(calls[1]) if calls else 0, total
 
 

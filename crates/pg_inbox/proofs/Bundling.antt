@@ -141,20 +141,29 @@ module _ {M : Type 0} where
 turned : (a b : ℕ) → (a == b) ≡ eqb b a
 turned a b = grind (arith, nat_tests)
 
+module _ {X : Type 0} (items : List (ℕ × X)) (order : List (ℕ × ℕ)) (taken : List (ℕ × X)) where
+  module _ (by_id : AreById (map (λ i. i.0) items) order) (zip : StandAt items order taken) where
+    rise_taken : IsNonDecreasingBy (λ i. i.0) taken
+    rise_taken = taken_rise (λ i. i.0) items order taken by_id zip
+
+    -- what stands at the places of ids in order
+    pub groups_taken : AreGroups items (groups_of taken)
+    groups_taken = groups_of_same items taken rise_taken
+        (λ q. filter_agree (λ i. i.0 == q) (λ i. eqb q i.0) (λ i. turned i.0 q) taken
+        ∙ taken_same (λ i. i.0) items order taken by_id zip q
+        ∙ sym (filter_agree (λ i. i.0 == q) (λ i. eqb q i.0) (λ i. turned i.0 q) items))
+
 module _ {M : Type 0} (sent : Sends M) (order : List (ℕ × ℕ)) (letters : List (ℕ × (ℕ × M))) where
   module _ (by_id : AreById (map (λ s. s.1) sent) order) (zip : StandAt (map as_item sent) order letters) where
     keyed : AreById (map (λ i. i.0) (map as_item sent)) order
     keyed = subst (λ l. AreById l order) (sym (map-map (λ i. i.0) as_item sent)) by_id
 
     pub rise_by_id : IsNonDecreasingBy (λ i. i.0) letters
-    rise_by_id = taken_rise (λ i. i.0) (map as_item sent) order letters keyed zip
+    rise_by_id = rise_taken (map as_item sent) order letters keyed zip
 
     -- what stands at the places of the targets in order
     pub groups_by_id : AreGroups (map as_item sent) (groups_of letters)
-    groups_by_id = groups_of_same (map as_item sent) letters rise_by_id
-        (λ q. filter_agree (λ i. i.0 == q) (λ i. eqb q i.0) (λ i. turned i.0 q) letters
-        ∙ taken_same (λ i. i.0) (map as_item sent) order letters keyed zip q
-        ∙ sym (filter_agree (λ i. i.0 == q) (λ i. eqb q i.0) (λ i. turned i.0 q) (map as_item sent)))
+    groups_by_id = groups_taken (map as_item sent) order letters keyed zip
 
 -- ---- each entry, from the look-ups
 

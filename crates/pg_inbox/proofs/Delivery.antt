@@ -3,7 +3,8 @@ use Rattle.std.proofs.Common.{◌≡◌, ℕ, ◌==◌, ◌≤◌, Bool, true, f
 use Rattle.std.proofs.Common.{◌∙◌, subst, ◌||◌, All, IsPermutation, filter, flat_map, fold, is_some, length, arith, take, get_or, ◌+◌, ◌<◌}
 use Rattle.std.specs.List.{AllByRecursion, list_any}
 use Rattle.std.specs.Option.{option_to_list, option_map}
-use Rattle.std.proofs.lemmas.List.{append-nil, map-append}
+use Rattle.std.proofs.lemmas.List.{append-nil, map-append, take_more}
+use Rattle.std.proofs.lemmas.List.Folds.{list_any-append}
 use Rattle.std.proofs.lemmas.List.Elements.{All-from_recursion, filter-append}
 use Rattle.std.proofs.lemmas.List.Sums.{fold-append}
 use Rattle.std.proofs.lemmas.List.Sorted.{IsPermutation-map, length_permutation}
@@ -27,7 +28,7 @@ use Rattle.pg_parcel.specs.declared.parcel.Contents.{Contents}
 use Rattle.pg_inbox.specs.Bundles.{Parcels, bundle_of}
 use Rattle.pg_inbox.specs.Holding.{HoldsAt}
 use Rattle.pg_inbox.specs.Ordered.{in_order}
-use Rattle.pg_inbox.specs.Inboxes.{AreInboxes, Delivers, contents_to, each_inbox, inboxes_of, letters_at, received_of}
+use Rattle.pg_inbox.specs.Inboxes.{AreInboxes, Delivers, contents_to, each_inbox, inboxes_of, is_receiver, letters_at, received_of}
 use Rattle.pg_inbox.specs.Sends.{AreAllOf, RiseBySender, Sends, letters_to, sent_by, without_senders}
 use Rattle.pg_inbox.proofs.Bundling.{at_id, rises-values, value_at-bundle_of, value_at-values}
 use Rattle.pg_inbox.proofs.Senders.{from, in_order-from, in_order-up, permutation_by_number, same_by_number}
@@ -49,6 +50,11 @@ module _ {X Y : Type 0} where
   same_flat_map : (f g : X → List Y) → ((x : X) → f x ≡ g x) → (xs : List X) → flat_map f xs ≡ flat_map g xs
   same_flat_map f g same [] = refl
   same_flat_map f g same (x ∷ xs) = ap (λ l. l ++ flat_map f xs) (same x) ∙ ap (λ l. g x ++ l) (same_flat_map f g same xs)
+
+module _ {X Y : Type 0} where
+  pub list_any-of_map : (p : Y → Bool) (f : X → Y) (xs : List X) → list_any p (map f xs) ≡ list_any (λ x. p (f x)) xs
+  list_any-of_map p f [] = refl
+  list_any-of_map p f (x ∷ xs) = ap (λ b. p (f x) || b) (list_any-of_map p f xs)
 
 -- what the messages to a target in one bundle come to
 abbrev pub folded_at : {M : Type 0} → ℕ → Parcels M → List M
@@ -283,12 +289,42 @@ module _ {M : Type 0} (id : ℕ) where
   delivers_received is_value (Some c) law bundles hold =
       subst (λ l. Delivers (Some c) id bundles (combined (Some c) l)) (sym (folded_of_all bundles)) (delivers_some c law id bundles hold)
 
+  nothing_at : (bundles : List (Parcels M)) → is_receiver bundles id ≡ false → flat_map (letters_at id) bundles ≡ []
+  nothing_at [] none = refl
+  nothing_at (b ∷ bundles) none = by (value_at id b) none (nothing_at bundles)
+    where
+      by : (o : Option (Contents M)) → (is_some o || is_receiver bundles id) ≡ false
+          → (is_receiver bundles id ≡ false → flat_map (letters_at id) bundles ≡ [])
+          → elim o [ None ↦ [] | Some contents ↦ contents.letters ] ++ flat_map (letters_at id) bundles ≡ []
+      by None h later = later h
+      by (Some c) h later = absurd cc
+
+  -- what none of the first bundles and not the next has a message to, none of one more has
+  pub no_receiver_more : (bundles : List (Parcels M)) (i : ℕ) (b : Parcels M) → i < length bundles → b ≡ get_or bundles i b
+      → is_receiver (take i bundles) id ≡ false → value_at id b ≡ None → is_receiver (take (i + 1) bundles) id ≡ false
+  no_receiver_more bundles i b within is before none =
+      ap (λ l. is_receiver l id) (take_more bundles i b within ∙ ap (λ x. take i bundles ++ x ∷ []) (sym is))
+      ∙ list_any-append (λ b. is_some (value_at id b)) (take i bundles) (b ∷ [])
+      ∙ ap₂ ◌||◌ before (ap (λ (o : Option (Contents M)). is_some o || false) none)
+
+  -- where no bundle has a message to a target, nothing is delivered to it
+  pub delivers_nothing : (bundles : List (Parcels M)) → is_receiver bundles id ≡ false → (combining : Option (Combining M)) → Delivers combining id bundles []
+  delivers_nothing bundles none combining lists all are of =
+      let is : [] ≡ letters_to id all =
+      same_by_number [] (letters_to id all) tt (up_letters id all of.rise)
+      (λ q. ap (from q) (sym (nothing_at bundles none) ∙ letters_in_bundles id combining bundles lists are) ∙ sym (same_letters id lists all of q)) in
+      sym (combined_nothing combining) ∙ ap (combined combining) (ap messages is ∙ messages-letters id all)
+    where
+      combined_nothing : (combining : Option (Combining M)) → combined combining [] ≡ []
+      combined_nothing None = refl
+      combined_nothing (Some c) = refl
+
   pub received_in_order : (combining : Option (Combining M)) → is_some combining ≡ false → (contents : List (Contents M))
       → received_of combining contents ≡ messages (in_order (flat_map (λ c. c.letters) contents))
   received_in_order None h contents = refl
   received_in_order (Some c) h contents = absurd cc
 
-  received_nothing : (combining : Option (Combining M)) → received_of combining [] ≡ []
+  pub received_nothing : (combining : Option (Combining M)) → received_of combining [] ≡ []
   received_nothing None = refl
   received_nothing (Some c) = refl
 

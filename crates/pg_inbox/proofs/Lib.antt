@@ -1,8 +1,10 @@
+pub mod Among
 pub mod AtPlaces
 pub mod Bundling
 pub mod Delivery
 pub mod Differing
 pub mod Merging
+pub mod Near
 pub mod Parting
 pub mod Replacing
 pub mod SameDelivery

@@ -1,6 +1,6 @@
 -- What a bundle becomes where messages are withdrawn and others are added, target by target.
-use Rattle.std.proofs.Common.{◌≡◌, ℕ, ◌==◌, ◌||◌, ◌&&◌, not, Bool, true, false, cond, List, [], ◌∷◌, ◌++◌, map}
-use Rattle.std.proofs.Common.{Option, Some, refl, sym, ap, ap₂, ◌∙◌, append_assoc, subst, subst₂, filter, flat_map, eqb-true}
+use Rattle.std.proofs.Common.{◌≡◌, ℕ, zero, suc, ◌+◌, ◌<◌, arith, length, slice_get, ◌==◌, ◌||◌, ◌&&◌, not, Bool, true, false, cond, List, [], ◌∷◌, ◌++◌, map}
+use Rattle.std.proofs.Common.{Option, Some, refl, sym, ap, ap₂, ◌∙◌, append_assoc, true≢false, subst, subst₂, filter, flat_map, eqb-true}
 use Rattle.std.specs.List.{AllByRecursion}
 use Rattle.std.proofs.lemmas.List.Elements.{All-from_recursion, recursion_from_All}
 use Rattle.std.proofs.lemmas.List.Sorted.{All-permutation}
@@ -8,7 +8,8 @@ use Rattle.std.specs.List.Sorted.{IsPermutation, IsNonDecreasingBy, IsStableByKe
 use Rattle.std.specs.Map.{keys_of}
 use Rattle.std.specs.Option.{option_map, unwrap_or}
 use Rattle.std.specs.Ordering.{nat_cmp}
-use Rattle.std.proofs.lemmas.List.{append-nil, map-append}
+use Rattle.std.proofs.lemmas.List.{append-nil, length-append, length-map, map-append}
+use Rattle.std.proofs.lemmas.Option.{slice_get-map}
 use Rattle.std.proofs.lemmas.Simd.{map-map}
 use Rattle.std.proofs.Math.Bool.{and-true, and-false}
 use Rattle.pg_map.specs.Entries.{ChangesRise, HasRisingIds, value_at, with_changes}
@@ -61,6 +62,44 @@ module _ {X Y : Type 0} (f : ℕ × X → Y) where
           → cond b (Some (f e)) (value_at q (map (λ e. (e.0, f e)) es)) ≡ option_map (λ x. f (q, x)) (cond b (Some e.1) (value_at q es))
       by true e' h = ap (λ k. Some (f (k, e.1))) (eqb-true e.0 q e')
       by false e' h = h
+
+-- ---- what is withdrawn, and then what is added
+
+module _ {M : Type 0} (withdrawn : List (ℕ × ℕ)) (added : Sends M) where
+  pub targets-mends_of : map (λ m. m.0) (mends_of withdrawn added) ≡ map (λ w. w.1) withdrawn ++ map (λ s. s.1) added
+  targets-mends_of =
+      map-append (λ m. m.0) (map (as_withdrawal {M = M}) withdrawn) (map as_addition added)
+      ∙ ap₂ ◌++◌ (map-map (λ m. m.0) (as_withdrawal {M = M}) withdrawn) (map-map (λ m. m.0) as_addition added)
+
+  pub length-mends_of : length (mends_of withdrawn added) ≡ length withdrawn + length added
+  length-mends_of =
+      length-append (map (as_withdrawal {M = M}) withdrawn) (map as_addition added)
+      ∙ ap₂ ◌+◌ (length-map withdrawn (as_withdrawal {M = M})) (length-map added as_addition)
+
+module _ {X : Type 0} where
+  slice_get-first : (xs ys : List X) (i : ℕ) → i < length xs → slice_get (xs ++ ys) i ≡ slice_get xs i
+  slice_get-first [] ys i within = absurd (omega (arith, within))
+  slice_get-first (x ∷ xs) ys zero within = refl
+  slice_get-first (x ∷ xs) ys (suc i) within = slice_get-first xs ys i (omega (arith, within))
+
+  slice_get-second : (xs ys : List X) (i j : ℕ) → j ≡ length xs + i → slice_get (xs ++ ys) j ≡ slice_get ys i
+  slice_get-second [] ys i j at = let is : j ≡ i = omega (arith, at) in ap (slice_get ys) is
+  slice_get-second (x ∷ xs) ys i zero at = absurd (omega (arith, at))
+  slice_get-second (x ∷ xs) ys i (suc j) at = slice_get-second xs ys i j (omega (arith, at))
+
+module _ {M : Type 0} (withdrawn : List (ℕ × ℕ)) (added : Sends M) where
+  -- what stands at a place, of the one or of the other
+  pub withdrawal_at : (i : ℕ) (w : ℕ × ℕ) → i < length withdrawn → slice_get withdrawn i ≡ Some w
+      → slice_get (mends_of withdrawn added) i ≡ Some (as_withdrawal w)
+  withdrawal_at i w within at =
+      slice_get-first (map (as_withdrawal {M = M}) withdrawn) (map as_addition added) i (omega (arith, within, length-map withdrawn (as_withdrawal {M = M})))
+      ∙ slice_get-map (as_withdrawal {M = M}) withdrawn i ∙ ap (option_map (as_withdrawal {M = M})) at
+
+  pub addition_at : (i j : ℕ) (s : ℕ × ℕ × M) → j ≡ length withdrawn + i → slice_get added i ≡ Some s
+      → slice_get (mends_of withdrawn added) j ≡ Some (as_addition s)
+  addition_at i j s is at =
+      slice_get-second (map (as_withdrawal {M = M}) withdrawn) (map as_addition added) i j (omega (arith, is, length-map withdrawn (as_withdrawal {M = M})))
+      ∙ slice_get-map as_addition added i ∙ ap (option_map as_addition) at
 
 -- ---- what is done to one target
 
@@ -220,6 +259,12 @@ module _ {M : Type 0} (old : Parcels M) where
   pub record AreFound (changes : List (ℕ × Option (Contents M))) (found : List ℕ) : Type 0 where
     pub rise : (rest : List ℕ) → IsStrictlySortedBy nat_cmp (keys_of changes ++ rest) → IsStrictlySortedBy nat_cmp (found ++ rest)
     pub told : (new : Parcels M) → AllByRecursion (λ c. value_at c.0 new ≡ c.1) changes → AreTold old new found (keys_of changes)
+
+  pub found-none : AreFound [] []
+  found-none = record {
+    rise = λ rest h. h;
+    told = λ new h q. (λ here. absurd (true≢false (sym here)), λ other here. absurd (true≢false (sym here)));
+  }
 
   pub found-more : {id' id : ℕ} {before after' after : Option (Contents M)} (changes changes' : List (ℕ × Option (Contents M))) (found found' : List ℕ)
       → AreFound changes found → changes' ≡ changes ++ (id, after) ∷ [] → before ≡ value_at id old → after' ≡ after

@@ -1,9 +1,7 @@
 -- What is done to the messages to one target.
-use Rattle.std.specs.Prelude.{◌≡◌, ℕ, not, ◌||◌, List, [], ◌∷◌, ◌++◌, map, Option}
-use Rattle.std.specs.BTreeSet.{BTreeSet, contains}
+use Rattle.std.specs.Prelude.{◌≡◌, ℕ, not, List, [], ◌∷◌, ◌++◌, map, Option}
 use Rattle.std.specs.List.{filter, flat_map}
 use Rattle.std.specs.Option.{option_map}
-use Rattle.std.specs.Ordering.{nat_cmp}
 use Rattle.pg_map.specs.Entries.{value_at}
 use Rattle.pg_model.specs.Job.{Combining}
 use Rattle.pg_model.specs.Superstep.{has_id}
@@ -17,18 +15,10 @@ use Rattle.pg_inbox.specs.Sends.{Sends}
 use Rattle.pg_inbox.specs.declared.patching.Mend.{Mend}
 use Rattle.pg_inbox.specs.declared.patching.Mend.TheVariants.{Withdrawn, Added}
 
--- a set of just these ids
-abbrev pub HasJust : BTreeSet ℕ → List ℕ → Type 0
-HasJust set ids = (id : ℕ) → contains nat_cmp set id ≡ has_id ids id
-
--- and of these too
-abbrev pub HasMore : BTreeSet ℕ → BTreeSet ℕ → List ℕ → Type 0
-HasMore before after more = (id : ℕ) → contains nat_cmp after id ≡ (contains nat_cmp before id || has_id more id)
-
 module _ {M : Type 0} where
   -- the messages of all other senders
-  abbrev pub others : BTreeSet ℕ → List (ℕ × M) → List (ℕ × M)
-  others senders letters = filter (λ l. not (contains nat_cmp senders l.0)) letters
+  abbrev pub others : List ℕ → List (ℕ × M) → List (ℕ × M)
+  others senders letters = filter (λ l. not (has_id senders l.0)) letters
 
   abbrev pub withdrawn_by : Mend M → List ℕ
   withdrawn_by (Withdrawn sender) = sender ∷ []
@@ -48,7 +38,7 @@ module _ {M : Type 0} where
 
   -- what becomes of the messages to a target
   abbrev pub mended : List (Mend M) → List (ℕ × M) → List (ℕ × M)
-  mended mends letters = in_order (filter (λ l. not (has_id (senders_of mends) l.0)) letters ++ additions mends)
+  mended mends letters = in_order (others (senders_of mends) letters ++ additions mends)
 
   -- and what the bundle has of them
   abbrev pub mended_in : Option (Combining M) → Option (Contents M) → List (Mend M) → Option (Contents M)

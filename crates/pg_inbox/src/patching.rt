@@ -1,29 +1,28 @@
 //! Bundles of which some messages are replaced.
-ghost use Rattle.std.specs.Prelude.{◌≡◌, [], ◌∷◌, ◌++◌, map, IfOk, OnOk};
-ghost use Rattle.std.specs.BTreeSet.{contains};
+ghost use Rattle.std.specs.Prelude.{◌≡◌, ◌+◌, ◌<◌, ℕ, [], ◌∷◌, ◌++◌, length, map, slice_get, Some, IfOk, OnOk};
 ghost use Rattle.std.specs.List.{AllByRecursion};
-ghost use Rattle.std.specs.List.Sorted.{IsNonDecreasingBy};
+ghost use Rattle.std.specs.List.Sorted.{IsNonDecreasingBy, IsStrictlySortedBy};
 ghost use Rattle.std.specs.Option.{option_copied};
 ghost use Rattle.std.specs.Ordering.{nat_cmp};
+ghost use Rattle.pg_graph.specs.ById.{AreById, StandAt};
 ghost use Rattle.pg_map.specs.Entries.{ChangesRise, with_changes};
-ghost use Rattle.pg_parcel.specs.Grouping.{groups_of};
+ghost use Rattle.pg_model.specs.Superstep.{has_id};
+ghost use Rattle.pg_parcel.specs.Grouping.{AreGroups, groups_of};
 ghost use Rattle.pg_inbox.specs.Changed.{AreChanged, IsAdded};
 ghost use Rattle.pg_inbox.specs.Holding.{HoldsAt};
 ghost use Rattle.pg_inbox.specs.Inboxes.{letters_in};
-ghost use Rattle.pg_inbox.specs.Mending.{HasJust, HasMore, additions, as_addition, as_withdrawal, changes_of, mended, mended_in, mends_of, others};
-ghost use Rattle.pg_inbox.specs.Mending.{senders_of, withdrawn_by};
+ghost use Rattle.pg_inbox.specs.Mending.{additions, changes_of, mended, mended_in, mends_of, others, senders_of};
 ghost use Rattle.pg_inbox.specs.Patched.{IsPatched, TellsChanges};
 ghost use Rattle.pg_inbox.specs.Sound.{needed};
 
 use crate::changing::add_if_changed;
 use crate::{Bundle, Logged, SendsRef};
 use pg_global::MessageCombiner;
-use pg_graph::{Memory, VertexId};
+use pg_graph::{Memory, VertexId, sorted_by_id};
 use pg_model::Sequence;
-use pg_parcel::{Change, Parcel, ParcelRef, by_target, first_group, items_to};
+use pg_parcel::{Change, Parcel, ParcelRef, first_group, items_to};
 use pg_program::Plain;
 use std::alloc::Global;
-use std::collections::BTreeSet;
 
 /// What is done to the messages to a target.
 #[derive(Drop)]
@@ -58,7 +57,6 @@ pub fn patch<M: Plain, C: MessageCombiner<M>>(
     ensures changed { IfOk result (λ logged. TellsChanges old.now logged) }
 {
     let mends = mends_by_target(alloc, withdrawn, added)?;
-    let mends = by_target(mends)?;
     let after = changes_at(alloc, old, mends.as_slice(), combiner)?;
     let After { changes, changed } = after;
     let bundle = mended_bundle(alloc, old, changes)?;
@@ -68,44 +66,81 @@ pub fn patch<M: Plain, C: MessageCombiner<M>>(
     })
 }
 
-/// What is done, beside the target that it is done to.
+/// What is done, beside the target that it is done to, by rising target: to each what is withdrawn, and then what is added.
 fn mends_by_target<M: Plain>(
     alloc: Global,
     withdrawn: &[(VertexId, VertexId)],
     added: &SendsRef<'_, M>,
 ) -> Result<Vec<(VertexId, Mend<M>)>, Memory>
-    ensures { IfOk result (λ mends. mends.items ≡ mends_of withdrawn.now added.now) }
+    ensures { IfOk result (λ mends. AreGroups (mends_of withdrawn.now added.now) (groups_of mends.items)) }
 {
-    let mut mends = Vec::new(alloc);
-    add_withdrawals(&mut mends, withdrawn)?;
-    add_additions(alloc, &mut mends, added)?;
+    let targets = targets_of(alloc, withdrawn, added.beside_targets())?;
+    let order = sorted_by_id(alloc, targets.as_slice())?;
+    mends_in_order(alloc, withdrawn, added, order.as_slice())
+}
+
+/// The targets of what is withdrawn, and then of what is added.
+fn targets_of<M>(
+    alloc: Global,
+    withdrawn: &[(VertexId, VertexId)],
+    added: &[(VertexId, M)],
+) -> Result<Vec<VertexId>, Memory>
+    ensures { IfOk result (λ targets. targets.items ≡ map (λ w. w.1) withdrawn.now ++ map (λ m. m.0) added.now) }
+{
+    let mut targets = Vec::with_capacity(alloc, withdrawn.len().saturating_add(added.len()))?;
+    add_withdrawn(&mut targets, withdrawn)?;
+    for (target, _) in added {
+        targets.push(*target)?;
+    }
+    Ok(targets)
+}
+
+/// Adds the targets of what is withdrawn.
+fn add_withdrawn(
+    targets: &mut Vec<VertexId>,
+    withdrawn: &[(VertexId, VertexId)],
+) -> Result<(), Memory>
+    ensures { OnOk result (targets.new.items ≡ targets.old.items ++ map (λ w. w.1) withdrawn.now) }
+{
+    for (_, target) in withdrawn {
+        targets.push(*target)?;
+    }
+    Ok(())
+}
+
+/// What is done at these places, of what is withdrawn and then what is added.
+fn mends_in_order<M: Plain>(
+    alloc: Global,
+    withdrawn: &[(VertexId, VertexId)],
+    added: &SendsRef<'_, M>,
+    order: &[(usize, VertexId)],
+) -> Result<Vec<(VertexId, Mend<M>)>, Memory>
+    requires { AreById (map (λ m. m.0) (mends_of withdrawn.now added.now)) order.now }
+    ensures { IfOk result (λ mends. StandAt (mends_of withdrawn.now added.now) order.now mends.items) }
+{
+    let mut mends = Vec::with_capacity(alloc, order.len())?;
+    for (place, _) in order {
+        mends.push(mend_at(alloc, withdrawn, added, *place)?)?;
+    }
     Ok(mends)
 }
 
-fn add_withdrawals<M: Plain>(
-    mends: &mut Vec<(VertexId, Mend<M>)>,
-    withdrawn: &[(VertexId, VertexId)],
-) -> Result<(), Memory>
-    ensures { OnOk result (mends.new.items ≡ mends.old.items ++ map as_withdrawal withdrawn.now) }
-{
-    for (sender, target) in withdrawn {
-        mends.push((*target, Mend::Withdrawn(*sender)))?;
-    }
-    Ok(())
-}
-
-fn add_additions<M: Plain>(
+/// What is done at a place, of what is withdrawn and then what is added.
+fn mend_at<M: Plain>(
     alloc: Global,
-    mends: &mut Vec<(VertexId, Mend<M>)>,
+    withdrawn: &[(VertexId, VertexId)],
     added: &SendsRef<'_, M>,
-) -> Result<(), Memory>
-    ensures { OnOk result (mends.new.items ≡ mends.old.items ++ map as_addition added.now) }
+    place: usize,
+) -> Result<(VertexId, Mend<M>), Memory>
+    requires { place < length withdrawn.now + length added.now }
+    ensures { IfOk result (λ mend. slice_get (mends_of withdrawn.now added.now) place ≡ Some mend) }
 {
-    for place in 0..added.len() {
-        let (sender, target, message) = added.at(place);
-        mends.push((target, Mend::Added(sender, message.copy(alloc)?)))?;
+    if place < withdrawn.len() {
+        let (sender, target) = withdrawn[place];
+        return Ok((target, Mend::Withdrawn(sender)));
     }
-    Ok(())
+    let (sender, target, message) = added.at(place - withdrawn.len());
+    Ok((target, Mend::Added(sender, message.copy(alloc)?)))
 }
 
 /// The old bundle with these changes; in its own memory where there are none.
@@ -186,11 +221,12 @@ fn changes_at<M: Plain, C: MessageCombiner<M>>(
         → AreChanged old.now (with_changes after.changes.items old.now) after.changed.items) }
 {
     old.holds();
-    let mut changes = Vec::new(alloc);
-    let mut changed = Vec::new(alloc);
+    let mut changes = Vec::with_capacity(alloc, mends.len())?;
+    let mut changed = Vec::with_capacity(alloc, mends.len())?;
+    let mut finder = old.finder();
     let mut left = mends;
     while let Some((target, here, later)) = first_group(left) {
-        let before = old.parcel(target);
+        let before = finder.parcel(target);
         let seen = before.as_ref();
         let change = change_to(alloc, seen, here, combiner)?;
         note_if_changed(&mut changed, target, seen, &change)?;
@@ -260,67 +296,71 @@ fn mended_letters<M: Plain>(
     ensures values { IfOk result (λ after. AllByRecursion (λ l. M.is_value l.1) after.items) }
 {
     let withdrawn = withdrawn_senders(alloc, mends)?;
-    let mut after = staying_in(alloc, old, &withdrawn)?;
+    let mut after = staying_in(alloc, old, withdrawn.as_slice(), mends.len())?;
     add_letters(alloc, &mut after, mends)?;
     after.sort_by_key(|letter| letter.0)?;
     Ok(after)
 }
 
-/// The senders whose messages are withdrawn.
+/// The senders whose messages are withdrawn, rising.
 fn withdrawn_senders<M: Plain>(
     alloc: Global,
     mends: &[(VertexId, Mend<M>)],
-) -> Result<BTreeSet<VertexId>, Memory>
-    ensures { IfOk result (λ senders. HasJust senders (senders_of (map (λ m. m.1) mends.now))) }
+) -> Result<Vec<VertexId>, Memory>
+    ensures rise { IfOk result (λ senders. IsStrictlySortedBy nat_cmp senders.items) }
+    ensures same { IfOk result (λ senders. (id : ℕ) → has_id senders.items id ≡ has_id (senders_of (map (λ m. m.1) mends.now)) id) }
 {
-    let mut senders = BTreeSet::new(alloc);
+    let mut senders = senders_in(alloc, mends)?;
+    senders.sort_unstable();
+    senders.dedup();
+    Ok(senders)
+}
+
+/// The senders whose messages are withdrawn, in their order.
+fn senders_in<M: Plain>(
+    alloc: Global,
+    mends: &[(VertexId, Mend<M>)],
+) -> Result<Vec<VertexId>, Memory>
+    ensures { IfOk result (λ senders. senders.items ≡ senders_of (map (λ m. m.1) mends.now)) }
+{
+    let mut senders = Vec::with_capacity(alloc, mends.len())?;
     for (_, mend) in mends {
-        add_if_withdrawn(&mut senders, mend)?;
+        if let Mend::Withdrawn(sender) = mend {
+            senders.push(*sender)?;
+        }
     }
     Ok(senders)
 }
 
-/// Adds a sender whose messages are withdrawn.
-fn add_if_withdrawn<M: Plain>(
-    senders: &mut BTreeSet<VertexId>,
-    mend: &Mend<M>,
-) -> Result<(), Memory>
-    ensures { OnOk result (HasMore senders.old senders.new (withdrawn_by mend.now)) }
-{
-    match mend {
-        Mend::Withdrawn(sender) => {
-            senders.insert(*sender)?;
-            Ok(())
-        }
-        Mend::Added(_, _) => Ok(()),
-    }
-}
-
-/// The messages of all other senders to a target, if there are any.
+/// The messages of all other senders to a target, if there are any, with room for more.
 fn staying_in<M: Plain>(
     alloc: Global,
     old: Option<&ParcelRef<'_, M>>,
-    withdrawn: &BTreeSet<VertexId>,
+    withdrawn: &[VertexId],
+    more: usize,
 ) -> Result<Vec<(VertexId, M)>, Memory>
+    requires { IsStrictlySortedBy nat_cmp withdrawn.now }
     ensures items { IfOk result (λ after. after.items ≡ others withdrawn.now (letters_in (option_copied old.entry))) }
     ensures values { IfOk result (λ after. AllByRecursion (λ l. M.is_value l.1) after.items) }
 {
     match old {
-        Some(parcel) => staying_letters(alloc, parcel, withdrawn),
-        None => Ok(Vec::new(alloc)),
+        Some(parcel) => staying_letters(alloc, parcel, withdrawn, more),
+        None => Ok(Vec::with_capacity(alloc, more)?),
     }
 }
 
-/// The messages of all other senders.
+/// The messages of all other senders, with room for more.
 fn staying_letters<M: Plain>(
     alloc: Global,
     letters: &ParcelRef<'_, M>,
-    withdrawn: &BTreeSet<VertexId>,
+    withdrawn: &[VertexId],
+    more: usize,
 ) -> Result<Vec<(VertexId, M)>, Memory>
+    requires { IsStrictlySortedBy nat_cmp withdrawn.now }
     ensures items { IfOk result (λ after. after.items ≡ others withdrawn.now letters.now.letters) }
     ensures values { IfOk result (λ after. AllByRecursion (λ l. M.is_value l.1) after.items) }
 {
-    let mut after = Vec::new(alloc);
+    let mut after = Vec::with_capacity(alloc, letters.len().saturating_add(more))?;
     for place in 0..letters.len() {
         add_if_staying(alloc, &mut after, letters.letter(place), withdrawn)?;
     }
@@ -332,9 +372,10 @@ fn add_if_staying<M: Plain>(
     alloc: Global,
     after: &mut Vec<(VertexId, M)>,
     letter: &(VertexId, M),
-    withdrawn: &BTreeSet<VertexId>,
+    withdrawn: &[VertexId],
 ) -> Result<(), Memory>
-    requires { AllByRecursion (λ l. M.is_value l.1) after.old.items }
+    requires rise { IsStrictlySortedBy nat_cmp withdrawn.now }
+    requires values { AllByRecursion (λ l. M.is_value l.1) after.old.items }
     ensures items { OnOk result (after.new.items ≡ after.old.items ++ others withdrawn.now (letter.now ∷ [])) }
     ensures values { AllByRecursion (λ l. M.is_value l.1) after.new.items }
 {
@@ -344,10 +385,15 @@ fn add_if_staying<M: Plain>(
     add_letter(alloc, after, letter.0, &letter.1)
 }
 
-fn is_among(senders: &BTreeSet<VertexId>, sender: VertexId) -> bool
-    ensures { result ≡ contains nat_cmp senders.now sender }
+/// Whether a sender is among these, which rise.
+fn is_among(senders: &[VertexId], sender: VertexId) -> bool
+    requires { IsStrictlySortedBy nat_cmp senders.now }
+    ensures { result ≡ has_id senders.now sender }
 {
-    senders.contains(&sender)
+    match senders.binary_search(&sender) {
+        Ok(_) => true,
+        Err(_) => false,
+    }
 }
 
 /// Adds the messages that are added.

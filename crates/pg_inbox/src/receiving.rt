@@ -1,15 +1,16 @@
 //! Inboxes: what a vertex receives of the bundles to its partition.
-ghost use Rattle.std.specs.Prelude.{◌≡◌, ◌++◌, ◌||◌, map, true, is_some, IsSome, IfSome, IfOk, OnOk};
+ghost use Rattle.std.specs.Prelude.{◌≡◌, ◌++◌, ◌∷◌, ◌||◌, ℕ, [], map, false, true, is_some, Option, None, IsSome, IfSome, IfOk, OnOk};
 ghost use Rattle.std.specs.List.{AllByRecursion, flat_map, fold};
 ghost use Rattle.std.specs.Option.{option_to_list};
 ghost use Rattle.pg_map.specs.Entries.{value_at};
-ghost use Rattle.pg_model.specs.Superstep.{combined};
+ghost use Rattle.pg_model.specs.Job.{Combining};
+ghost use Rattle.pg_model.specs.Superstep.{combined, has_id};
 ghost use Rattle.pg_parcel.specs.Contents.{messages};
 ghost use Rattle.pg_inbox.specs.Holding.{HoldsAt};
 ghost use Rattle.pg_inbox.specs.Inboxes.{Delivers, contents_to, folded_of, received_of};
 ghost use Rattle.pg_inbox.specs.Ordered.{in_order};
 
-use crate::Bundle;
+use crate::{Bundle, BundleFinder};
 use pg_global::MessageCombiner;
 use pg_graph::{Memory, VertexId};
 use pg_parcel::ParcelRef;
@@ -29,8 +30,74 @@ pub fn inbox<M: Plain, C: MessageCombiner<M>>(
 ) -> Result<Vec<M>, Memory>
     ensures { IfOk result (λ inbox. Delivers (C.combining combiner.now) id (map (λ b. b.now) bundles.now) inbox.items) }
 {
+    if let [bundle] = bundles {
+        return inbox_of(alloc, bundle, id, combiner);
+    }
     let parcels = parcels_at(alloc, bundles, id)?;
     received(alloc, parcels.as_slice(), combiner)
+}
+
+/// What a vertex receives of the only bundle.
+fn inbox_of<M: Plain, C: MessageCombiner<M>>(
+    alloc: Global,
+    bundle: &Bundle<M>,
+    id: VertexId,
+    combiner: &C,
+) -> Result<Vec<M>, Memory>
+    ensures { IfOk result (λ inbox. Delivers (C.combining combiner.now) id (bundle.now ∷ []) inbox.items) }
+{
+    match bundle.parcel(id) {
+        Some(parcel) => received(alloc, &[(id, parcel)], combiner),
+        None => Ok(Vec::new(alloc)),
+    }
+}
+
+/// Adds those of these vertices to which one of the bundles has a message, one of them more than once where several have.
+/// Costs a look-up in each bundle for each, near the one before.
+pub fn add_receivers<M: Plain>(
+    receivers: &mut Vec<VertexId>,
+    ids: &[VertexId],
+    bundles: &[Bundle<M>],
+) -> Result<(), Memory>
+    ensures { OnOk result ((id : ℕ) → has_id receivers.new.items id ≡ false → (has_id receivers.old.items id ≡ false)
+        × (has_id ids.now id ≡ true → (combining : Option (Combining M)) → Delivers combining id bundles.now [])) }
+{
+    for bundle in bundles {
+        add_receivers_of(receivers, ids, bundle)?;
+    }
+    Ok(())
+}
+
+/// Adds those of these vertices to which a bundle has a message.
+fn add_receivers_of<M: Plain>(
+    receivers: &mut Vec<VertexId>,
+    ids: &[VertexId],
+    bundle: &Bundle<M>,
+) -> Result<(), Memory>
+    ensures { OnOk result ((id : ℕ) → has_id receivers.new.items id ≡ false → (has_id receivers.old.items id ≡ false)
+        × (has_id ids.now id ≡ true → value_at id bundle.now ≡ None)) }
+{
+    let mut finder = bundle.finder();
+    for id in ids {
+        add_if_receiving(receivers, &mut finder, *id)?;
+    }
+    Ok(())
+}
+
+/// Adds a vertex to which a bundle has a message.
+fn add_if_receiving<M: Plain>(
+    receivers: &mut Vec<VertexId>,
+    bundle: &mut BundleFinder<'_, M>,
+    id: VertexId,
+) -> Result<(), Memory>
+    ensures added { OnOk result ((q : ℕ) → has_id receivers.new.items q ≡ false → (has_id receivers.old.items q ≡ false)
+        × (q ≡ id → value_at q bundle.old ≡ None)) }
+    ensures same { bundle.new ≡ bundle.old }
+{
+    if bundle.parcel(id).is_some() {
+        receivers.push(id)?;
+    }
+    Ok(())
 }
 
 /// What the bundles have for a vertex, bundle by bundle.
@@ -76,11 +143,14 @@ pub(crate) fn received<M: Plain, C: MessageCombiner<M>>(
     if combiner.combines() {
         return combined(alloc, parcels, combiner);
     }
-    if let [(_, parcel)] = parcels {
-        return messages_by_sender(alloc, parcel);
+    match parcels {
+        [] => Ok(Vec::new(alloc)),
+        [(_, parcel)] => messages_by_sender(alloc, parcel),
+        _ => {
+            let letters = letters_in(alloc, parcels)?;
+            sorted_messages(alloc, letters)
+        }
     }
-    let letters = letters_in(alloc, parcels)?;
-    sorted_messages(alloc, letters)
 }
 
 /// The messages to one target of one bundle, by sender and then in the order sent.

@@ -37,3 +37,14 @@ module _ (base : List (ℕ × List ℕ)) (notes : List (ℕ × Option (List ℕ)
           ≡ cond b (with_ran s runs (steps_in (value_at id (with_changes notes base)))) (steps_in (value_at q (with_changes notes base)))
       by true = is ∙ ap (λ o. with_ran s runs (steps_in o)) (sym was)
       by false = ap steps_in (sym (over q (value_at q notes) refl))
+
+-- a note that says nothing new
+pub noted_same : (id s : ℕ) (runs : Bool) (ran : List (ℕ × List ℕ)) → with_ran s runs (steps_in (value_at id ran)) ≡ steps_in (value_at id ran)
+    → IsNotedOf id s runs ran ran
+noted_same id s runs ran same q =
+    let noted = with_ran s runs (steps_in (value_at id ran)) in
+    ⊎_elim
+    (λ (e : q ≡ id). subst (λ k. steps_in (value_at k ran) ≡ cond (is_at (nat_cmp id) k) noted (steps_in (value_at k ran))) (sym e)
+    (sym (ap (λ b. cond b noted (steps_in (value_at id ran))) (at_same id) ∙ same)))
+    (λ (other : q ≡ id → ⊥). sym (ap (λ b. cond b noted (steps_in (value_at q ran))) (at_other id q (λ e. other (sym e)))))
+    (cases_eq q id)

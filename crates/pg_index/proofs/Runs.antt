@@ -5,8 +5,8 @@ use Rattle.std.specs.List.{filter}
 use Rattle.std.specs.List.Sorted.{IsNonDecreasingBy, IsPartitionPoint}
 use Rattle.std.proofs.lemmas.Bool.{leb-true, leb-false, ltb-true, ltb-false}
 use Rattle.std.proofs.lemmas.List.{get_or-map, length-map}
-use Rattle.pg_index.specs.Ran.{last_of, steps_below}
-use Rattle.pg_index.proofs.Supersteps.{lower, not_lower}
+use Rattle.pg_index.specs.Ran.{last_of, steps_above, steps_below, with_ran}
+use Rattle.pg_index.proofs.Supersteps.{lower, not_lower, ran_under}
 
 -- what is added to a new list in three parts
 pub in_three : {new one two three : List ℕ} (low mid high : List ℕ) → new ≡ [] → one ≡ new ++ low → two ≡ one ++ mid → three ≡ two ++ high
@@ -53,6 +53,32 @@ module _ {X : Type 0} (key : X → ℕ) where
       ∙ ap (λ l. key x ∷ l)
       (front s n xs (omega arith) (λ k d w. low (suc k) d (omega arith)) (λ k d w v. high (suc k) d (omega arith) (omega arith)))
 
+  -- all lie above s
+  all_above : (s : ℕ) (xs : List X) → ((k : ℕ) (d : X) → k < length xs → s < key (get_or xs k d)) → steps_above s (map key xs) ≡ map key xs
+  all_above s [] high = refl
+  all_above s (x ∷ xs) high =
+      ap (λ c. cond c (key x ∷ steps_above s (map key xs)) (steps_above s (map key xs))) (lower s (key x) (high 0 x (omega arith)))
+      ∙ ap (λ l. key x ∷ l) (all_above s xs (λ k d w. high (suc k) d (omega arith)))
+
+  -- the first n lie below s, the next one in it, and the others above it
+  among : (s n : ℕ) (xs : List X) → n < length xs → ((k : ℕ) (d : X) → k < n → key (get_or xs k d) < s) → ((d : X) → key (get_or xs n d) ≡ s)
+      → ((k : ℕ) (d : X) → n < k → k < length xs → s < key (get_or xs k d)) → with_ran s true (map key xs) ≡ map key xs
+  among s n [] h low at high = absurd (omega arith)
+  among s zero (x ∷ xs) h low at high =
+      let same : key x ≡ s = at x in
+      let behind : (k : ℕ) (d : X) → k < length xs → s < key (get_or xs k d) = λ k d w. high (suc k) d (omega arith) (omega arith) in
+      let below : steps_below s (map key (x ∷ xs)) ≡ [] =
+      ap (λ c. cond c (key x ∷ steps_below s (map key xs)) (steps_below s (map key xs))) (not_lower (key x) s (omega (arith, same)))
+      ∙ front s 0 xs (omega arith) (λ k d w. absurd (omega arith)) (λ k d w v. let e = behind k d v in omega (arith, e)) in
+      let above : steps_above s (map key (x ∷ xs)) ≡ map key xs =
+      ap (λ c. cond c (key x ∷ steps_above s (map key xs)) (steps_above s (map key xs))) (not_lower s (key x) (omega (arith, same)))
+      ∙ all_above s xs behind in
+      ap (λ l. l ++ (s ∷ []) ++ steps_above s (map key (x ∷ xs))) below ∙ ap (λ l. s ∷ l) above ∙ ap (λ t. t ∷ map key xs) (sym same)
+  among s (suc n) (x ∷ xs) h low at high =
+      sym (ran_under (key x) s true true (map key xs) (low 0 x (omega arith)))
+      ∙ ap (λ l. key x ∷ l)
+      (among s n xs (omega arith) (λ k d w. low (suc k) d (omega arith)) at (λ k d w v. high (suc k) d (omega arith) (omega arith)))
+
   last_of-take : (n : ℕ) (xs : List X) (d : X) → n < length xs → last_of (map key (take (suc n) xs)) ≡ Some (key (get_or xs n d))
   last_of-take n [] d h = absurd (omega arith)
   last_of-take zero (x ∷ xs) d h = refl
@@ -70,6 +96,15 @@ module _ {X : Type 0} (key : X → ℕ) where
     up_to parts =
         front (s + 1) n xs within (λ k d w. let e = leb-true (key (get_or xs k d)) s (parts.0 k d (omega arith) w) in omega (arith, e))
         (λ k d w v. let e = leb-false (key (get_or xs k d)) s (parts.1 k d w v) in omega (arith, e))
+
+    -- where one more lies up to s than below it, s is that of just one, and one more note of it says nothing new
+    pub once : IsPartitionPoint (λ y. leb (key y) s ≡ true) (λ y. leb (key y) s ≡ false) xs n
+        → (m : ℕ) → IsPartitionPoint (λ y. ltb (key y) s ≡ true) (λ y. ltb (key y) s ≡ false) xs m → n ≡ m + 1 → with_ran s true (map key xs) ≡ map key xs
+    once up_to m below next =
+        among s m xs (omega arith) (λ k d w. ltb-true (key (get_or xs k d)) s (below.0 k d (omega arith) w))
+        (λ d. let low : key (get_or xs m d) ≤ s = leb-true (key (get_or xs m d)) s (up_to.0 m d (omega arith) (omega arith)) in
+        let high : s ≤ key (get_or xs m d) = ltb-false (key (get_or xs m d)) s (below.1 m d (omega arith) (omega arith)) in omega (arith, low, high))
+        (λ k d w v. let e = leb-false (key (get_or xs k d)) s (up_to.1 k d (omega arith) v) in omega (arith, e))
 
     none_found : (steps : List ℕ) → steps ≡ map key (take n xs) → n ≡ 0 → None ≡ last_of steps
     none_found steps found first = sym (ap last_of (found ∙ ap (λ k. map key (take k xs)) first))

@@ -28,7 +28,7 @@ Agrees (Some given) old new = new ≡ is_some given
 -- ---- one superstep noted
 
 -- below the superstep that is noted nothing changes
-ran_under : (b s : ℕ) (runs t : Bool) (steps : List ℕ) → b < s → begun_by t b (with_ran s runs steps) ≡ with_ran s runs (begun_by t b steps)
+pub ran_under : (b s : ℕ) (runs t : Bool) (steps : List ℕ) → b < s → begun_by t b (with_ran s runs steps) ≡ with_ran s runs (begun_by t b steps)
 ran_under b s runs false steps h = refl
 ran_under b s runs true steps h =
     sym (ap (λ c. begun_by c b (steps_below s steps) ++ cond runs (s ∷ []) [] ++ begun_by (ltb s b) b (steps_above s steps)) (lower b s h)

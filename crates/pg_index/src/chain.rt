@@ -1,5 +1,5 @@
 //! The runs of a vertex, where they lie.
-ghost use Rattle.std.specs.Prelude.{◌≡◌, ◌+◌, is_some, length, IfOk};
+ghost use Rattle.std.specs.Prelude.{◌≡◌, ◌+◌, is_some, length, true, IfOk, IsTrue};
 ghost use Rattle.std.specs.List.Sorted.{IsNonDecreasingBy};
 ghost use Rattle.std.specs.Option.{option_map};
 ghost use Rattle.pg_index.specs.Logged.{back, chain, first_below};
@@ -7,7 +7,7 @@ ghost use Rattle.pg_index.specs.Ran.{last_of, steps_below, steps_in, with_ran};
 
 use crate::listing::add_chain;
 use crate::log::Logged;
-use crate::ran::{Run, after_runs};
+use crate::ran::{Run, after_runs, have_once};
 use crate::steps::Steps;
 use pg_graph::Memory;
 use std::alloc::Global;
@@ -84,6 +84,18 @@ impl<'a> Ran<'a> {
         match &self.form {
             Form::Listed(steps) => steps.last_up_to(superstep),
             Form::Chained(logged, earlier) => last_under(*logged, earlier, superstep as u64 + 1),
+        }
+    }
+
+    /// Whether a superstep is that of just one of them. It may say no where it is: of runs that are found one from the
+    /// other it does.
+    pub(crate) fn has_once(&self, superstep: u32) -> bool
+        requires { IsNonDecreasingBy (λ t. t) self.now }
+        ensures { IsTrue result → with_ran superstep true self.now ≡ self.now }
+    {
+        match &self.form {
+            Form::Listed(steps) => have_once(steps.runs(), superstep),
+            Form::Chained(_, _) => false,
         }
     }
 

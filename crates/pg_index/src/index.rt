@@ -103,8 +103,10 @@ impl Index {
     /// stands, or that they have none there. The index is gone where memory is refused.
     ///
     /// For k vertices it costs k look-ups among the notes, and k in the map at most; and it copies no chunk. One that
-    /// has no note yet, that ran in this superstep or a later one, or that is given none, also costs a copy of its
-    /// runs. In a first run one that runs again costs one look-up and O(1), as long as nothing else was noted.
+    /// ran in this superstep and has a record there also costs two binary searches among its runs, and the place that
+    /// was noted of it stays. Any other one that has no note yet, that ran in a later superstep, or that is given none,
+    /// costs a copy of its runs. In a first run one that has no note yet costs one look-up and O(1) where it runs
+    /// again, as long as nothing else was noted, and else a copy of its runs.
     pub fn noted(
         self,
         alloc: Global,

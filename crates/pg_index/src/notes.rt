@@ -9,7 +9,7 @@ ghost use Rattle.pg_index.specs.Ran.{IsNoted, IsNotedOf, StepsRise, steps_in, wi
 use crate::base::{Base, BaseFinder};
 use crate::chunk::{Chunk, found, put};
 use crate::log::{Last, Log, LogFinder, Logged, add_run};
-use crate::ran::{Run, after, after_runs, runs_in};
+use crate::ran::{Run, after, after_runs, has_run_once, have_once, runs_in};
 use crate::steps::Steps;
 use pg_graph::{Memory, VertexId};
 use pg_map::Share;
@@ -22,9 +22,10 @@ pub(crate) type Notes = Vec<Chunk<Option<Steps>>>;
 /// Notes of these vertices, by rising id, at which place a superstep has their records, if it has them. Where memory is
 /// refused some of the notes may have been made.
 ///
-/// For k vertices it costs k look-ups among the notes, and k in the map at most. One that has no note yet, that ran in
-/// this superstep or a later one, or that is given none, also costs a copy of its runs; and one that has no note yet
-/// moves the notes that follow in its chunk.
+/// For k vertices it costs k look-ups among the notes, and k in the map at most. One that ran in this superstep and has
+/// a record there also costs two binary searches among its runs, and no note is made of it. Any other one that has no
+/// note yet, that ran in a later superstep, or that is given none, costs a copy of its runs; and where it has no note
+/// yet, it moves the notes that follow in its chunk.
 pub(crate) fn note_over(
     alloc: Global,
     notes: &mut Notes,
@@ -52,7 +53,8 @@ pub(crate) fn note_over(
 /// a superstep above their others. The log is gone where memory is refused.
 ///
 /// For k vertices it costs k look-ups; and what `note_over` costs, of one that ran in this superstep or a later one or
-/// that is given none, and of all that come after such a one.
+/// that is given none, and of all that come after such a one; but one that has no note yet always costs a copy of its
+/// runs.
 pub(crate) fn note_in_log(
     alloc: Global,
     notes: &mut Notes,
@@ -151,7 +153,8 @@ fn add_in_log(
     }
 }
 
-/// Notes of a vertex at which place a superstep has its record, if it has one.
+/// Notes of a vertex at which place a superstep has its record, if it has one. None is made where the
+/// vertex lies in a map and the note would say nothing new.
 fn note_of(
     alloc: Global,
     notes: &mut Notes,
@@ -174,12 +177,18 @@ fn note_of(
         note_again(alloc, steps, superstep, given)?;
         return Ok(());
     }
-    let steps = after(alloc, superstep, given, base.get(id))?;
+    let before = base.get(id);
+    if given.is_some() && has_run_once(&before, superstep) {
+        return Ok(());
+    }
+    let steps = after(alloc, superstep, given, before)?;
     put(alloc, notes, *near, id, steps)?;
     Ok(())
 }
 
-/// Changes the note of a vertex by at which place a superstep has its record, if it has one.
+/// Changes the note of a vertex by at which place a superstep has its record, if it has one. It costs what `add_last`
+/// does where the runs are below the superstep, two binary searches where one of them is in it and it has a record, and
+/// else a copy of them too.
 fn note_again(
     alloc: Global,
     steps: &mut Option<Steps>,
@@ -190,7 +199,7 @@ fn note_again(
     ensures { OnOk result (steps_in steps.new ≡ with_ran superstep (is_some given) (steps_in steps.old)) }
 {
     if let Some(place) = given {
-        if add_last(alloc, steps, superstep, place)? {
+        if add_last(alloc, steps, superstep, place)? || have_once(runs_in(steps), superstep) {
             return Ok(());
         }
     }

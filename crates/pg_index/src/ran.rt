@@ -1,5 +1,6 @@
 //! The runs of a vertex, and what an index has of it after a note.
-ghost use Rattle.std.specs.Prelude.{◌≡◌, ◌++◌, ◌∷◌, [], cond, is_some, IfOk, OnOk};
+ghost use Rattle.std.specs.Prelude.{◌≡◌, ◌++◌, ◌∷◌, [], cond, is_some, true, IfOk, OnOk, IsTrue};
+ghost use Rattle.std.specs.List.Sorted.{IsNonDecreasingBy};
 ghost use Rattle.std.specs.Option.{option_copied, option_map};
 ghost use Rattle.pg_index.specs.History.{steps_of};
 ghost use Rattle.pg_index.specs.Ran.{last_of, steps_above, steps_below, steps_in, with_ran};
@@ -51,6 +52,28 @@ pub(crate) fn after(
         Some(ran) => ran.after(alloc, superstep, given),
         None => after_runs(alloc, superstep, given, &[]),
     }
+}
+
+/// Whether a superstep is that of just one of the runs of a vertex, so that one more note of it says nothing new: the
+/// place that is noted remains where to look first. It may say no where it is.
+pub(crate) fn has_run_once(before: &Option<Ran<'_>>, superstep: u32) -> bool
+    requires { IsNonDecreasingBy (λ t. t) (steps_in before.now) }
+    ensures { IsTrue result → with_ran superstep true (steps_in before.now) ≡ steps_in before.now }
+{
+    match before {
+        Some(ran) => ran.has_once(superstep),
+        None => false,
+    }
+}
+
+/// Whether a superstep is that of just one of these runs. It costs two binary searches.
+pub(crate) fn have_once(runs: &[Run], superstep: u32) -> bool
+    requires { IsNonDecreasingBy (λ t. t) (steps_of runs.now) }
+    ensures { IsTrue result → with_ran superstep true (steps_of runs.now) ≡ steps_of runs.now }
+{
+    let below = runs.partition_point(|run| run.superstep < superstep);
+    let up_to = runs.partition_point(|run| run.superstep <= superstep);
+    up_to == below + 1
 }
 
 /// The last of runs.

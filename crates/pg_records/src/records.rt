@@ -12,7 +12,7 @@ use crate::change::Change;
 use crate::changes::Changes;
 use crate::record::RecordRef;
 use pg_graph::{Memory, VertexId};
-use pg_map::Map;
+use pg_map::{Finder, Map};
 use pg_model::Place;
 use std::alloc::Global;
 use std::marker::Model;
@@ -114,26 +114,7 @@ impl<V: Drop, M: Drop> Records<V, M> {
             return given_by(alloc, &self.given);
         }
         let ids = ids_of_both(alloc, &self.given, &self.changes)?;
-        self.found(alloc, ids.as_slice())
-    }
-
-    /// The records of those of these vertices that have one, where no other has one.
-    fn found(
-        &self,
-        alloc: Global,
-        ids: &[VertexId],
-    ) -> Result<Vec<(VertexId, RecordRef<'_, V, M>)>, Memory>
-        requires rising { HasRisingIds self.now }
-        requires rise { IsStrictlySortedBy nat_cmp ids.now }
-        requires all { (id : ℕ) → has_id ids.now id ≡ false → value_at id self.now ≡ None }
-        ensures { IfOk result (λ found. found.items ≡ self.now) }
-    {
-        let mut all = Vec::with_capacity(alloc, ids.len())?;
-        for id in ids {
-            let given = self.get(*id, all.len());
-            add_if_any(&mut all, *id, given)?;
-        }
-        Ok(all)
+        found(alloc, &self.given, &self.changes, ids.as_slice())
     }
 
     /// What all of them contributed, by rising id and of each in the order given. Costs a look at each record, and where
@@ -168,6 +149,47 @@ fn tell_rising<X>(map: &Map<X>)
     ensures { HasRisingIds map.now }
 {
     let _count = map.len();
+}
+
+/// The records of those of these vertices that have one by what is given and what is changed of that, where no other has
+/// one. Each is looked for near the one before it.
+fn found<'a, V: Drop, M: Drop>(
+    alloc: Global,
+    given: &'a Changes<V, M>,
+    changes: &'a Map<Change<V, M>>,
+    ids: &[VertexId],
+) -> Result<Vec<(VertexId, RecordRef<'a, V, M>)>, Memory>
+    requires given { ChangesRise given.now }
+    requires changes { ChangesRise changes.now }
+    requires rise { IsStrictlySortedBy nat_cmp ids.now }
+    requires all { (id : ℕ) → has_id ids.now id ≡ false → value_at id (with_changes changes.now (with_changes given.now [])) ≡ None }
+    ensures { IfOk result (λ found. found.items ≡ with_changes changes.now (with_changes given.now [])) }
+{
+    let mut all = Vec::with_capacity(alloc, ids.len())?;
+    let mut finder = changes.finder();
+    for id in ids {
+        let record = found_by(&mut finder, given, *id, all.len());
+        add_if_any(&mut all, *id, record)?;
+    }
+    Ok(all)
+}
+
+/// The record of a vertex, if there is one: what is changed, else what is given.
+fn found_by<'a, V: Drop, M: Drop>(
+    changes: &mut Finder<'a, Change<V, M>>,
+    given: &'a Changes<V, M>,
+    id: VertexId,
+    near: usize,
+) -> Option<RecordRef<'a, V, M>>
+    requires given { ChangesRise given.now }
+    requires changes { ChangesRise changes.old }
+    ensures found { result ≡ value_at id (with_changes changes.old (with_changes given.now [])) }
+    ensures same { changes.new ≡ changes.old }
+{
+    match changes.get(id) {
+        Some(change) => change.record(),
+        None => given.given(id, near),
+    }
 }
 
 /// The records that changes give, lent.

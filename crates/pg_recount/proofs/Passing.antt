@@ -2,7 +2,7 @@
 use Rattle.std.proofs.Common.{◌≡◌, ℕ, ◌+◌, ◌<◌, List, [], ◌∷◌, ◌++◌, get_or, map, refl, take, ap, ap₂, sym, ◌∙◌, sum_by, zero-add}
 use Rattle.std.proofs.Common.{Bool, true, false, cond, is_some, length, not, true≢false, Option, None, Some}
 use Rattle.std.proofs.lemmas.List.{map-append}
-use Rattle.std.proofs.lemmas.List.Sums.{sum_by_push}
+use Rattle.std.proofs.lemmas.List.Sums.{sum_by-cons, sum_by_push}
 use Rattle.pg_graph.specs.Rows.{Rows}
 use Rattle.pg_graph.specs.declared.missing.Missing.{Missing}
 use Rattle.pg_graph.specs.declared.missing.Missing.TheVariants.{Drop, Create}
@@ -54,12 +54,14 @@ module _ {M : Type 0} where
       → messages_among picks (ids ++ id ∷ []) parcels ≡ messages_among picks ids parcels + cond (picks id) (length (letters_at id parcels)) 0
   among_push picks ids id parcels = sum_by_push (λ k. cond (picks k) (length (letters_at k parcels)) 0) ids id
 
-  -- so a count of them goes on
-  pub among_more : (picks : ℕ → Bool) (ids : List ℕ) (i : ℕ) (parcels : Parcels M) {id : ℕ} {b : Bool} {before after : ℕ} → i < length ids
-      → id ≡ get_or ids i id → before ≡ messages_among picks (take i ids) parcels → after ≡ before + cond b (length (letters_at id parcels)) 0 → b ≡ picks id
+  -- so a count of them goes on, by a finder that is the bundle
+  pub among_more : (picks : ℕ → Bool) (ids : List ℕ) (i : ℕ) (parcels : Parcels M) {id : ℕ} {b : Bool} {before after : ℕ} {found : Parcels M}
+      → i < length ids → id ≡ get_or ids i id → before ≡ messages_among picks (take i ids) parcels → found ≡ parcels
+      → after ≡ before + cond b (length (letters_at id found)) 0 → b ≡ picks id
       → after ≡ messages_among picks (take (i + 1) ids) parcels
-  among_more picks ids i parcels {id} within is so_far more told =
-      more ∙ ap₂ (λ (n : ℕ) (b : Bool). n + cond b (length (letters_at id parcels)) 0) so_far told ∙ sym (among_push picks (take i ids) id parcels)
+  among_more picks ids i parcels {id} {b} {before} within is so_far near more told =
+      more ∙ ap (λ (ps : Parcels M). before + cond b (length (letters_at id ps)) 0) near
+      ∙ ap₂ (λ (n : ℕ) (b : Bool). n + cond b (length (letters_at id parcels)) 0) so_far told ∙ sym (among_push picks (take i ids) id parcels)
       ∙ ap (λ l. messages_among picks l parcels) (one_taken ids i within is)
 
   -- what has turned at one receiver more
@@ -77,6 +79,17 @@ module _ {M : Type 0} where
       → after ≡ turned count logs s p bundles (q + 1)
   turned_on count logs s p bundles q {logged} e b so_far h k =
       k ∙ (ap₂ ◌+◌ so_far (h ∙ ap (λ (o : Option (Parcels M)). count (parcels_in o) logged) b) ∙ sym (turned_more count logs s p bundles q logged e))
+
+-- where there is no bundle, there are none
+pub none_among : (M : Type 0) (picks : ℕ → Bool) (ids : List ℕ) → 0 ≡ messages_among picks ids (parcels_in {M = M} None)
+none_among M picks [] = refl
+none_among M picks (id ∷ ids) =
+    ap₂ ◌+◌ (by (picks id)) (none_among M picks ids)
+    ∙ sym (sum_by-cons (λ k. cond (picks k) (length (letters_at k (parcels_in {M = M} None))) 0) id ids)
+  where
+    by : (b : Bool) → 0 ≡ cond {A = ℕ} b 0 0
+    by true = refl
+    by false = refl
 
 -- whether a row is lent tells whether it is there
 module _ {X : Type 0} where

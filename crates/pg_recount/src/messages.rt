@@ -8,7 +8,7 @@ ghost use Rattle.pg_recount.specs.Traffic.{messages_among, sent_come, sent_gone,
 
 use crate::vertices::moved as moved_count;
 use pg_graph::{Graph, Memory, Missing, PartitionId, Superstep, VertexId};
-use pg_inbox::{Bundle, Logged, Logs};
+use pg_inbox::{Bundle, BundleFinder, Logged, Logs};
 use pg_program::Plain;
 use pg_stats::Traffic;
 use std::alloc::{AllocError, Global};
@@ -60,7 +60,8 @@ fn with_bundle<M: Plain>(
 /// What is sent and dropped with these bundles to each partition from 0 on, from what an old run sent and dropped in
 /// the superstep, of which these are the logs. `moved` has the ids that are a vertex in just one of the two graphs.
 ///
-/// Costs look-ups in the bundles for each target that a bundle names as changed and for each id that moved.
+/// Costs look-ups in the bundles, and where messages to nobody are dropped in the graph, for each target that a bundle
+/// names as changed and for each id that moved; where those rise, each is looked for near the one before.
 pub fn traffic_beside<M: Plain>(
     before: Traffic,
     old_logs: &Logs<M>,
@@ -168,19 +169,31 @@ fn bundle_of<M: Plain>(logged: Option<&Logged<M>>) -> Option<&Bundle<M>>
     }
 }
 
-/// How many messages a bundle has to these ids.
+/// How many messages a bundle has to these ids. Costs a look-up in it for each, near the one before where they rise.
 fn messages_among<M: Plain>(bundle: Option<&Bundle<M>>, ids: &[VertexId]) -> Result<u64, Memory>
     ensures { IfOk result
         (λ count. count ≡ messages_among is_any ids.now (parcels_in (option_copied bundle.entry))) }
 {
+    match bundle {
+        Some(bundle) => messages_to_each(bundle, ids),
+        None => Ok(0),
+    }
+}
+
+/// The same of a bundle that is there.
+fn messages_to_each<M: Plain>(bundle: &Bundle<M>, ids: &[VertexId]) -> Result<u64, Memory>
+    ensures { IfOk result (λ count. count ≡ messages_among is_any ids.now bundle.now) }
+{
+    let mut finder = bundle.finder();
     let mut count = 0u64;
     for id in ids {
-        count = with_messages_to(count, bundle, *id, true)?;
+        count = with_messages_to(count, &mut finder, *id, true)?;
     }
     Ok(count)
 }
 
-/// How many it has to those of these ids that are no vertices of a graph.
+/// How many it has to those of these ids that are no vertices of a graph. Costs a look-up in the graph for each, and
+/// one in the bundle for each that is counted, near the one before where they rise.
 fn astray_among<M: Plain>(
     bundle: Option<&Bundle<M>>,
     ids: &[VertexId],
@@ -189,14 +202,30 @@ fn astray_among<M: Plain>(
     ensures { IfOk result
         (λ count. count ≡ messages_among (is_nobody graph.now) ids.now (parcels_in (option_copied bundle.entry))) }
 {
+    match bundle {
+        Some(bundle) => astray_to_each(bundle, ids, graph),
+        None => Ok(0),
+    }
+}
+
+/// The same of a bundle that is there.
+fn astray_to_each<M: Plain>(
+    bundle: &Bundle<M>,
+    ids: &[VertexId],
+    graph: &Graph,
+) -> Result<u64, Memory>
+    ensures { IfOk result (λ count. count ≡ messages_among (is_nobody graph.now) ids.now bundle.now) }
+{
+    let mut rows = graph.finder();
+    let mut finder = bundle.finder();
     let mut count = 0u64;
     for id in ids {
-        count = with_messages_to(count, bundle, *id, graph.row(*id).is_none())?;
+        count = with_messages_to(count, &mut finder, *id, rows.get(*id).is_none())?;
     }
     Ok(count)
 }
 
-/// How many it has to the others of them.
+/// How many it has to the others of them. Costs the same.
 fn arriving_among<M: Plain>(
     bundle: Option<&Bundle<M>>,
     ids: &[VertexId],
@@ -205,27 +234,43 @@ fn arriving_among<M: Plain>(
     ensures { IfOk result
         (λ count. count ≡ messages_among (is_vertex graph.now) ids.now (parcels_in (option_copied bundle.entry))) }
 {
+    match bundle {
+        Some(bundle) => arriving_to_each(bundle, ids, graph),
+        None => Ok(0),
+    }
+}
+
+/// The same of a bundle that is there.
+fn arriving_to_each<M: Plain>(
+    bundle: &Bundle<M>,
+    ids: &[VertexId],
+    graph: &Graph,
+) -> Result<u64, Memory>
+    ensures { IfOk result (λ count. count ≡ messages_among (is_vertex graph.now) ids.now bundle.now) }
+{
+    let mut rows = graph.finder();
+    let mut finder = bundle.finder();
     let mut count = 0u64;
     for id in ids {
-        count = with_messages_to(count, bundle, *id, graph.row(*id).is_some())?;
+        count = with_messages_to(count, &mut finder, *id, rows.get(*id).is_some())?;
     }
     Ok(count)
 }
 
-/// A count with the messages to one id, where they are counted.
+/// A count with the messages to one id, where they are counted. No memory holds more than fit the count.
 fn with_messages_to<M: Plain>(
     count: u64,
-    bundle: Option<&Bundle<M>>,
+    bundle: &mut BundleFinder<'_, M>,
     id: VertexId,
     counts: bool,
 ) -> Result<u64, Memory>
-    ensures { IfOk result (λ after.
-        after ≡ count + cond counts (length (letters_at id (parcels_in (option_copied bundle.entry)))) 0) }
+    ensures count { IfOk result (λ after. after ≡ count + cond counts (length (letters_at id bundle.old)) 0) }
+    ensures same { bundle.new ≡ bundle.old }
 {
-    match bundle {
-        Some(bundle) if counts => count
-            .checked_add(bundle.messages_to(id) as u64)
-            .ok_or(AllocError),
-        _ => Ok(count),
+    if !counts {
+        return Ok(count);
     }
+    count
+        .checked_add(bundle.messages_to(id) as u64)
+        .ok_or(AllocError)
 }

@@ -10,6 +10,7 @@ abbrev pub invariant-loop-target : goal.invariant-loop-target
 invariant-loop-target g l =
     let changes = changes_of (g.C.MessageCombiner.combining l.combiner) l.old in
     record {
+      same : l.finder ≡ l.old;
       items : l.changes.items ++ changes (groups_of l.left) ≡ changes (groups_of l.mends);
       found : AreFound l.old l.changes.items l.changed.items;
       hold : AllByRecursion (λ c. HoldsAt g.M.Plain.is_value c.1) l.changes.items;

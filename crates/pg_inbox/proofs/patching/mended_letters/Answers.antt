@@ -2,6 +2,7 @@ use Rattle.std.proofs.Common.{of_calls, rules, ap, ◌∙◌, ◌++◌, filter, 
 use Rattle.std.specs.Option.{option_copied}
 use Rattle.std.proofs.lemmas.Fn.{always_returns_same}
 use Rattle.std.proofs.lemmas.List.Sorted.{IsNonDecreasingBy-from_sort}
+use Rattle.pg_model.specs.Superstep.{has_id}
 use Rattle.pg_inbox.specs.Inboxes.{letters_in}
 use Rattle.pg_inbox.specs.Mending.{additions}
 use Rattle.pg_inbox.specs.Ordered.{in_order}
@@ -17,7 +18,7 @@ returns-clause-items g c =
     (c.in_ok-sort_by_key.ensures.stable (λ x. x.0) (always_returns_same _ _ _ (λ a r f k. search (rules, of_calls))))
     ∙ ap in_order (c.in_ok-add_letters.ensures.items
     ∙ ap (λ l. l ++ additions (map (λ m. m.1) c.args.mends.now)) (c.in_ok-after.ensures.items
-    ∙ ap (λ p. filter p (letters_in (option_copied c.args.old))) (λ i l. not (c.in_ok-withdrawn.ensures l.0 i))))
+    ∙ ap (λ p. filter p (letters_in (option_copied c.args.old))) (λ i l. not ((ap (λ w. has_id w l.0) c.as_slice.ensures.value ∙ c.in_ok-withdrawn.ensures.same l.0) i))))
 
 pub returns-clause-values : goal.returns-clause-values
 returns-clause-values g c =

@@ -1,12 +1,12 @@
-use Rattle.std.proofs.Common.{◌≡◌, Some, None, is_some, refl, ap, sym, ◌∙◌, subst}
+use Rattle.std.proofs.Common.{◌≡◌, true, Some, None, is_some, refl, ap, sym, ◌∙◌, subst}
 use Rattle.std.specs.List.Sorted.{IsNonDecreasingBy}
 use Rattle.std.specs.Vec.{with_item}
-use Rattle.pg_map.specs.Entries.{value_at}
+use Rattle.pg_map.specs.Entries.{value_at, with_changes}
 use Rattle.pg_index.specs.Chunks.{IsAt, all_of}
 use Rattle.pg_index.specs.declared.chunk.Chunk.{Chunk}
-use Rattle.pg_index.specs.Ran.{steps_in, with_ran}
+use Rattle.pg_index.specs.Ran.{IsNotedOf, steps_in, with_ran}
 use Rattle.pg_index.proofs.InChunks.{changed_there, value_found}
-use Rattle.pg_index.proofs.Over.{noted_over, over}
+use Rattle.pg_index.proofs.Over.{noted_over, noted_same, over}
 use Rattle.pg_index.proofs.notes.note_of.Goals as goal
 
 pub note_again-requires : goal.note_again-requires
@@ -49,6 +49,27 @@ returns-in-Some-clause-noted c =
     c.index_mut-in-Some.ensures.value refl refl).0
     (over base (all_of notes) c.requires.rising c.requires.sound.rise id (Some e.1) found) c.in_ok-note_again.ensures
 
+pub has_run_once-requires : goal.has_run_once-requires
+has_run_once-requires c =
+    let id = c.args.id in
+    let notes = c.args.notes.now.items in
+    let none = ap (λ l. value_at id (all_of l)) (sym c.as_slice.ensures.value) ∙ c.in_default.ensures.none in
+    subst (λ o. IsNonDecreasingBy (λ t. t) (steps_in o))
+    (over c.args.base.now (all_of notes) c.requires.rising c.requires.sound.rise id None none ∙ sym c.get-before.ensures.value) c.requires.steps
+
+pub returns-then-has_run_once-clause-noted : goal.returns-then-has_run_once-clause-noted
+returns-then-has_run_once-clause-noted c =
+    let id = c.args.id in
+    let s = c.args.superstep in
+    let base = c.args.base.now in
+    let notes = c.args.notes.now.items in
+    let ran = with_changes (all_of notes) base in
+    let none = ap (λ l. value_at id (all_of l)) (sym c.as_slice.ensures.value) ∙ c.in_default.ensures.none in
+    subst (λ runs. IsNotedOf id s runs ran ran) c.if-is_some.ensures
+    (noted_same id s true ran
+    (subst (λ o. with_ran s true (steps_in o) ≡ steps_in o)
+    (c.get-before.ensures.value ∙ sym (over base (all_of notes) c.requires.rising c.requires.sound.rise id None none)) (c.if-has_run_once.ensures refl)))
+
 pub returns-clause-noted : goal.returns-clause-noted
 returns-clause-noted c =
     let id = c.args.id in
@@ -58,4 +79,4 @@ returns-clause-noted c =
     noted_over base (all_of notes) c.requires.rising c.requires.sound.rise (all_of c.put.new.chunks.items)
     id c.args.superstep (is_some c.args.given) (value_at id base) c.in_ok-steps.steps c.in_ok-put.ensures.all
     (over base (all_of notes) c.requires.rising c.requires.sound.rise id None none)
-    (c.in_ok-steps.ensures ∙ ap (λ o. with_ran c.args.superstep (is_some c.args.given) (steps_in o)) c.get.ensures.value)
+    (c.in_ok-steps.ensures ∙ ap (λ o. with_ran c.args.superstep (is_some c.args.given) (steps_in o)) c.get-before.ensures.value)

@@ -1,19 +1,6 @@
-use Rattle.std.proofs.Common.{true, refl, ap, ◌∙◌}
-use Rattle.std.specs.Option.{option_copied}
-use Rattle.std.proofs.lemmas.List.{take_all}
-use Rattle.pg_inbox.specs.Bundles.{parcels_in}
-use Rattle.pg_recount.specs.Traffic.{is_any, messages_among}
-use Rattle.pg_recount.proofs.Passing.{among_more}
+use Rattle.pg_recount.specs.Traffic.{is_any}
+use Rattle.pg_recount.proofs.Passing.{none_among}
 use Rattle.pg_recount.proofs.messages.messages_among.Goals as goal
 
-pub loop-id-preserved : goal.loop-id-preserved
-loop-id-preserved g c =
-    let parcels = parcels_in (option_copied c.args.bundle) in
-    among_more is_any c.args.ids.now c.loop-id.id-index parcels {b = true} c.loop-id-test.true c.id-item.is
-    c.loop-id.invariant c.in_ok-count.ensures refl
-
-pub returns : goal.returns
-returns g c =
-    let parcels = parcels_in (option_copied c.args.bundle) in
-    c.loop-id.invariant ∙ ap (λ ids. messages_among is_any ids parcels)
-    (take_all c.loop-id.id-index c.args.ids.now c.loop-id-test.false)
+pub returns-in-None : goal.returns-in-None
+returns-in-None g c = rw c.in-None.is (none_among g.row.M.Denot is_any c.args.ids.now)

@@ -1,6 +1,0 @@
-use Rattle.std.proofs.Common.{map, take}
-use Rattle.pg_inbox.specs.Mending.{HasJust, senders_of}
-use Rattle.pg_inbox.proofs.patching.withdrawn_senders.Given as goal
-
-abbrev pub invariant-loop-mend : goal.invariant-loop-mend
-invariant-loop-mend g l = HasJust l.senders (senders_of (map (λ m. m.1) (take l.mend-index l.mends)))

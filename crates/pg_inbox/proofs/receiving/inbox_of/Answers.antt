@@ -1,0 +1,26 @@
+use Rattle.std.proofs.Common.{◌∷◌, [], ap, ◌∙◌, ◌++◌, ◌||◌, false, is_some, subst, sym}
+use Rattle.std.proofs.lemmas.Result.{IfOk-weaker}
+use Rattle.std.specs.Option.{option_to_list}
+use Rattle.pg_map.specs.Entries.{value_at}
+use Rattle.pg_inbox.specs.Inboxes.{Delivers, received_of}
+use Rattle.pg_inbox.proofs.Delivery.{delivers_nothing, delivers_received}
+use Rattle.pg_inbox.proofs.receiving.inbox_of.Goals as goal
+
+pub returns-in-Some : goal.returns-in-Some
+returns-in-Some g c =
+    let combining = g.C.MessageCombiner.combining c.args.combiner.now in
+    let id = c.args.id in
+    let bundle = c.args.bundle.now in
+    let laws = g.met.C.MessageCombiner g.world.𝓛 g.world.𝓜 g.world.𝓡 ((λ s x. x), (λ x. x), (λ x. x), λ x. x) in
+    let delivers = delivers_received id g.M.Plain.is_value combining (laws.lawful c.args.combiner.now) (bundle ∷ []) (c.parcel.ensures.holds, tt) in
+    IfOk-weaker c.received.result _ _
+    (λ inbox is. subst (Delivers combining id (bundle ∷ []))
+    (sym (is ∙ ap (λ o. received_of combining (option_to_list o ++ [])) (sym c.in-Some.is ∙ c.parcel.ensures.value))) delivers)
+    c.received.ensures
+
+pub returns-in-None : goal.returns-in-None
+returns-in-None g c =
+    let id = c.args.id in
+    subst (Delivers (g.C.MessageCombiner.combining c.args.combiner.now) id (c.args.bundle.now ∷ [])) (sym c.new.ensures.items)
+    (delivers_nothing id (c.args.bundle.now ∷ []) (ap (λ o. is_some o || false) (sym c.parcel.ensures.value ∙ c.in-None.is))
+    (g.C.MessageCombiner.combining c.args.combiner.now))

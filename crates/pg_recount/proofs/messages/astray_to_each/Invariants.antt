@@ -1,0 +1,10 @@
+use Rattle.std.proofs.Common.{◌≡◌, take}
+use Rattle.pg_recount.specs.Traffic.{is_nobody, messages_among}
+use Rattle.pg_recount.proofs.messages.astray_to_each.Given as goal
+
+abbrev pub invariant-loop-id : goal.invariant-loop-id
+invariant-loop-id g l = record {
+  rows : l.rows ≡ l.graph;
+  finder : l.finder ≡ l.bundle;
+  counted : l.count ≡ messages_among (is_nobody l.graph) (take l.id-index l.ids) l.bundle;
+}
