@@ -1,3 +1,4 @@
+pub mod Below
 pub mod Callees
 pub mod Changing
 pub mod Coverage

@@ -1,16 +1,11 @@
 -- The ids that a step beside an old run looks at.
-use Rattle.std.proofs.Common.{◌≡◌, ℕ, ◌+◌, ◌<◌, ◌==◌, ◌||◌, ◌&&◌, Bool, true, false, List, [], ◌∷◌, ◌++◌}
-use Rattle.std.proofs.Common.{length, take, get_or, refl, sym, ap, ap₂, ◌∙◌, true≢false, inl, inr, ◌⊎◌}
+use Rattle.std.proofs.Common.{◌≡◌, ℕ, ◌||◌, ◌&&◌, Bool, true, false, List, ◌++◌, refl, sym, ap, ap₂, ◌∙◌, true≢false, inl, inr, ◌⊎◌}
 use Rattle.pg_inbox.proofs.Differing.{has_id-append}
 use Rattle.pg_model.proofs.LawsRising.{has_id-filter}
-use Rattle.std.proofs.lemmas.Bool.{cases_Bool, eqb-true}
-use Rattle.std.proofs.lemmas.List.{take_more}
+use Rattle.std.proofs.lemmas.Bool.{cases_Bool}
 use Rattle.std.specs.List.{filter}
 use Rattle.pg_model.specs.Superstep.{has_id}
-
-or_false : (b : Bool) → (b || false) ≡ b
-or_false true = refl
-or_false false = refl
+use Rattle.pg_compute.specs.Differing.{HaveSameIds}
 
 -- two that both hold
 pub both : (a b : Bool) → (a && b) ≡ true → (a ≡ true) × (b ≡ true)
@@ -37,15 +32,9 @@ in_either xs ys id h =
       | inr apart ↦ inr (sym (has_id-append xs ys id ∙ ap (λ (b : Bool). b || has_id ys id) apart) ∙ h)
     ]
 
--- what is among the first of a list and one more is among the first, or is that one
-pub in_either_more : (ids : List ℕ) (i id q : ℕ) → i < length ids → id ≡ get_or ids i id → has_id (take (i + 1) ids) q ≡ true
-    → (has_id (take i ids) q ≡ true) ⊎ (q ≡ id)
-in_either_more ids i id q within here h =
-    elim (in_either (take i ids) (id ∷ []) q (ap (λ l. has_id l q)
-    (ap (λ x. take i ids ++ x ∷ []) here ∙ sym (take_more ids i id within)) ∙ h)) [
-      | inl earlier ↦ inl earlier
-      | inr last ↦ inr (sym (eqb-true id q (sym (or_false (id == q)) ∙ last)))
-    ]
+-- the same ids in another order, put after others
+pub same_after : (xs ys zs : List ℕ) → HaveSameIds ys zs → HaveSameIds (xs ++ ys) (xs ++ zs)
+same_after xs ys zs same id = has_id-append xs ys id ∙ ap (λ (b : Bool). has_id xs id || b) (same id) ∙ sym (has_id-append xs zs id)
 
 -- what passes a test is among those that do, and passes it
 pub passing : (test : ℕ → Bool) (ids : List ℕ) (id : ℕ) → has_id (filter test ids) id ≡ true → (test id ≡ true) × (has_id ids id ≡ true)

@@ -12,6 +12,10 @@ use Rattle.pg_trace.specs.Trace.{Trace, state_at}
 abbrev pub without : List ℕ → List ℕ → List ℕ
 without ids others = filter (λ id. not (has_id others id)) ids
 
+-- the same ids, in whatever order
+abbrev pub HaveSameIds : List ℕ → List ℕ → Type 0
+HaveSameIds ids others = (id : ℕ) → has_id ids id ≡ has_id others id
+
 module _ {V : Type 0} where
   -- a vertex that is halted, or isn't there
   abbrev pub is_resting : Option (VertexState V) → Bool

@@ -1,8 +1,8 @@
 //! The vertices that a step beside an old run has to look at.
-ghost use Rattle.std.specs.Prelude.{◌≡◌, ℕ, ◌+◌, ◌<◌, [], map, true, false, IfOk, OnOk};
+ghost use Rattle.std.specs.Prelude.{◌≡◌, ℕ, ◌+◌, ◌<◌, false, Option, IfOk, OnOk};
 ghost use Rattle.std.specs.Option.{option_copied};
-ghost use Rattle.pg_inbox.specs.Inboxes.{Delivers};
 ghost use Rattle.pg_inbox.specs.Logged.{slot_at};
+ghost use Rattle.pg_model.specs.Job.{Combining};
 ghost use Rattle.pg_model.specs.Superstep.{has_id};
 ghost use Rattle.pg_compute.specs.Candidates.{AreLookedAt, awake_ids};
 ghost use Rattle.pg_compute.specs.Found.{is_same_view};
@@ -11,10 +11,8 @@ ghost use Rattle.pg_routing.specs.Routes.{AreSameIn, AreSameTo, IsSameTold, bund
 use crate::candidates::awake_ids;
 use crate::differing::Differing;
 use crate::ids::{add_all, rising};
-use crate::reading::lent_bundles;
-use pg_global::MessageCombiner;
 use pg_graph::{Memory, PartitionId, Superstep, VertexId};
-use pg_inbox::{Bundle, Logged, Logs, changed_targets, inbox};
+use pg_inbox::{Bundle, Logged, Logs, add_receivers, changed_targets};
 use pg_model::View;
 use pg_program::Plain;
 use pg_routing::Partitioner;
@@ -33,8 +31,9 @@ pub fn is_same_view(old: &View, new: &View) -> bool
 
 /// The vertices whose states may differ from those of the old run, but for those that rest in both and receive nothing;
 /// those to which something else may be sent; and where the old run saw something else all that aren't halted: by rising
-/// id. Costs a sort of them, a look at each bundle, and a look into each for a vertex that rests.
-pub fn looked_at<V: Plain, M: Plain, C: MessageCombiner<M>>(
+/// id. Costs a sort of them, a look at each bundle, and for each vertex that rests a look-up in each bundle, near the one
+/// before.
+pub fn looked_at<V: Plain, M: Plain>(
     alloc: Global,
     partitions: Partitioner,
     partition: PartitionId,
@@ -44,60 +43,17 @@ pub fn looked_at<V: Plain, M: Plain, C: MessageCombiner<M>>(
     logs: &Logs<M>,
     old_logs: &Logs<M>,
     bundles: &[Bundle<M>],
-    combiner: &C,
     seen: bool,
 ) -> Result<Vec<VertexId>, Memory>
-    ensures { IfOk result (λ ids.
-        AreLookedAt (C.combining combiner.now) bundles.now partitions partition superstep trace.now differing.now.restless.items
+    ensures { IfOk result (λ ids. (combining : Option (Combining M)) →
+        AreLookedAt combining bundles.now partitions partition superstep trace.now differing.now.restless.items
         differing.now.resting.items logs.now old_logs.now seen ids.items) }
 {
     let mut ids = changed_before(alloc, partitions, partition, superstep, logs, old_logs)?;
     add_all(&mut ids, differing.restless.as_slice())?;
-    let lent = lent_bundles(alloc, bundles)?;
-    add_receiving(
-        alloc,
-        &mut ids,
-        differing.resting.as_slice(),
-        lent.as_slice(),
-        combiner,
-    )?;
+    add_receivers(&mut ids, differing.resting.as_slice(), bundles)?;
     add_awake(alloc, &mut ids, superstep, trace, seen)?;
     Ok(rising(ids))
-}
-
-/// Adds those of these vertices that receive something. Costs a look into each bundle for each.
-fn add_receiving<M: Plain, C: MessageCombiner<M>>(
-    alloc: Global,
-    ids: &mut Vec<VertexId>,
-    resting: &[VertexId],
-    bundles: &[&Bundle<M>],
-    combiner: &C,
-) -> Result<(), Memory>
-    ensures { OnOk result ((id : ℕ) → has_id ids.new.items id ≡ false → (has_id ids.old.items id ≡ false)
-        × (has_id resting.now id ≡ true → Delivers (C.combining combiner.now) id (map (λ b. b.now) bundles.now) [])) }
-{
-    for id in resting {
-        add_if_receiving(alloc, ids, bundles, *id, combiner)?;
-    }
-    Ok(())
-}
-
-/// Adds a vertex that receives something.
-fn add_if_receiving<M: Plain, C: MessageCombiner<M>>(
-    alloc: Global,
-    ids: &mut Vec<VertexId>,
-    bundles: &[&Bundle<M>],
-    id: VertexId,
-    combiner: &C,
-) -> Result<(), Memory>
-    ensures { OnOk result ((q : ℕ) → has_id ids.new.items q ≡ false → (has_id ids.old.items q ≡ false)
-        × (q ≡ id → Delivers (C.combining combiner.now) q (map (λ b. b.now) bundles.now) [])) }
-{
-    let received = inbox(alloc, bundles, id, combiner)?;
-    if received.len() != 0 {
-        ids.push(id)?;
-    }
-    Ok(())
 }
 
 /// Adds the vertices that aren't halted, where the old run saw something else.

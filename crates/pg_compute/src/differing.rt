@@ -3,9 +3,9 @@ ghost use Rattle.std.specs.Prelude.{◌≡◌, ◌++◌, [], ◌∷◌, true, If
 ghost use Rattle.std.specs.List.Sorted.{IsStrictlySortedBy};
 ghost use Rattle.std.specs.Option.{option_eq};
 ghost use Rattle.std.specs.Ordering.{nat_cmp};
-ghost use Rattle.pg_compute.specs.Differing.{AreTold, are_resting, has_same_rest, is_resting, is_same_state, resting_among, restless_among, without};
+ghost use Rattle.pg_compute.specs.Differing.{AreTold, HaveSameIds, are_resting, has_same_rest, is_resting, is_same_state, resting_among, restless_among, without};
 
-use crate::ids::{with_ids, without};
+use crate::ids::{merged, without};
 use pg_graph::{Memory, Superstep, VertexId};
 use pg_program::Plain;
 use pg_trace::{StateRef, States, Trace};
@@ -33,8 +33,8 @@ impl Differing {
 }
 
 /// The vertices whose states may differ as a superstep begins: those that do of those that were looked at, and those that
-/// rested before and weren't. Costs two look-ups for each that was looked at, and a search among these for each that
-/// rested.
+/// rested before and weren't. Costs two look-ups for each that was looked at, a look among these for each that rested,
+/// near the one before, and a merge of those that rest.
 pub fn differing_after<V: Plain, M: Plain>(
     alloc: Global,
     old: &Trace<V, M>,
@@ -45,13 +45,13 @@ pub fn differing_after<V: Plain, M: Plain>(
 ) -> Result<Differing, Memory>
     requires { IsStrictlySortedBy nat_cmp looked_at.now }
     ensures restless { IfOk result (λ after. after.restless.items ≡ restless_among V.PartialEq.eq old.now new.now superstep looked_at.now) }
-    ensures resting { IfOk result (λ after. after.resting.items
-        ≡ without before.now.resting.items looked_at.now ++ resting_among V.PartialEq.eq old.now new.now superstep looked_at.now) }
+    ensures resting { IfOk result (λ after. HaveSameIds after.resting.items
+        (without before.now.resting.items looked_at.now ++ resting_among V.PartialEq.eq old.now new.now superstep looked_at.now)) }
     ensures told { IfOk result (λ _. AreTold V.PartialEq.eq old.now new.now superstep looked_at.now) }
 {
     let Differing { restless, resting } = differing_among(alloc, old, new, superstep, looked_at)?;
     let still = without(alloc, before.resting.as_slice(), looked_at)?;
-    let resting = with_ids(still, resting.as_slice())?;
+    let resting = merged(still, resting.as_slice())?;
     Ok(Differing { restless, resting })
 }
 

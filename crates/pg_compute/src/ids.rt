@@ -1,12 +1,15 @@
 //! Lists of ids.
-ghost use Rattle.std.specs.Prelude.{◌≡◌, ℕ, ◌++◌, IfOk, OnOk};
-ghost use Rattle.std.specs.List.Sorted.{IsStrictlySortedBy};
+ghost use Rattle.std.specs.Prelude.{◌≡◌, ℕ, ◌++◌, true, false, nat_lt, IfOk, IsTrue, OnOk};
+ghost use Rattle.std.specs.List.Sorted.{IsPartitionPoint, IsStrictlySortedBy};
 ghost use Rattle.std.specs.Ordering.{nat_cmp};
 ghost use Rattle.pg_model.specs.Superstep.{has_id};
-ghost use Rattle.pg_compute.specs.Differing.{without};
+ghost use Rattle.pg_compute.specs.Differing.{HaveSameIds, without};
 
 use pg_graph::{Memory, VertexId};
 use std::alloc::Global;
+
+/// How many ids are passed one by one before a search among all.
+const STEPS: usize = 16;
 
 /// These ids by rising id, each once. Costs a sort.
 pub fn rising(ids: Vec<VertexId>) -> Vec<VertexId>
@@ -37,6 +40,15 @@ pub fn with_ids(ids: Vec<VertexId>, more: &[VertexId]) -> Result<Vec<VertexId>, 
     Ok(all)
 }
 
+/// These ids and more, by rising id. Costs a merge where both rise, else a sort.
+pub(crate) fn merged(ids: Vec<VertexId>, more: &[VertexId]) -> Result<Vec<VertexId>, Memory>
+    ensures { IfOk result (λ all. HaveSameIds all.items (ids.items ++ more.now)) }
+{
+    let mut all = with_ids(ids, more)?;
+    all.sort()?;
+    Ok(all)
+}
+
 /// Adds more ids.
 pub(crate) fn add_all(ids: &mut Vec<VertexId>, more: &[VertexId]) -> Result<(), Memory>
     ensures { OnOk result (ids.new.items ≡ ids.old.items ++ more.now) }
@@ -47,7 +59,8 @@ pub(crate) fn add_all(ids: &mut Vec<VertexId>, more: &[VertexId]) -> Result<(), 
     Ok(())
 }
 
-/// Those of these ids that aren't among others, which rise. Costs a binary search for each.
+/// Those of these ids that aren't among others, which rise. Each costs a step for each of the others from the id before
+/// up to it, where these are few, else a binary search.
 pub(crate) fn without(
     alloc: Global,
     ids: &[VertexId],
@@ -56,22 +69,64 @@ pub(crate) fn without(
     requires { IsStrictlySortedBy nat_cmp others.now }
     ensures { IfOk result (λ rest. rest.items ≡ without ids.now others.now) }
 {
-    let mut rest = Vec::new(alloc);
+    let mut rest = Vec::with_capacity(alloc, ids.len())?;
+    let mut near = 0usize;
     for id in ids {
-        if !is_among(others, *id) {
+        if !is_among(others, &mut near, *id) {
             rest.push(*id)?;
         }
     }
     Ok(rest)
 }
 
-/// Whether an id is among these, which rise.
-fn is_among(ids: &[VertexId], id: VertexId) -> bool
+/// Whether an id is among these, which rise. `near` is a guess at how many of them are below it, and is then how many are.
+fn is_among(ids: &[VertexId], near: &mut usize, id: VertexId) -> bool
     requires { IsStrictlySortedBy nat_cmp ids.now }
     ensures { result ≡ has_id ids.now id }
 {
-    match ids.binary_search(&id) {
-        Ok(_) => true,
-        Err(_) => false,
+    let place = count_below(ids, *near, id);
+    *near = place;
+    place < ids.len() && ids[place] == id
+}
+
+/// How many of these ids, which rise, are below one. `near` is a guess at it, and costs no search where it is right, or a
+/// few too low.
+fn count_below(ids: &[VertexId], near: usize, id: VertexId) -> usize
+    requires { IsStrictlySortedBy nat_cmp ids.now }
+    ensures { IsPartitionPoint (λ k. nat_lt k id ≡ true) (λ k. nat_lt k id ≡ false) ids.now result }
+{
+    let place = passed(ids, near, id);
+    if are_below(ids, place, id) {
+        return place;
     }
+    ids.partition_point(|other| is_below(*other, id))
+}
+
+/// How far a few steps from a place on go, over ids below one.
+fn passed(ids: &[VertexId], place: usize, id: VertexId) -> usize {
+    let mut near = place;
+    for _ in 0..STEPS {
+        if near >= ids.len() || !is_below(ids[near], id) {
+            return near;
+        }
+        near += 1;
+    }
+    near
+}
+
+/// Whether just so many of these ids, which rise, are below one.
+fn are_below(ids: &[VertexId], count: usize, id: VertexId) -> bool
+    requires { IsStrictlySortedBy nat_cmp ids.now }
+    ensures { IsTrue result → IsPartitionPoint (λ k. nat_lt k id ≡ true) (λ k. nat_lt k id ≡ false) ids.now count }
+{
+    if count > ids.len() || count > 0 && !is_below(ids[count - 1], id) {
+        return false;
+    }
+    count == ids.len() || !is_below(ids[count], id)
+}
+
+fn is_below(id: VertexId, other: VertexId) -> bool
+    ensures { result ≡ nat_lt id other }
+{
+    id < other
 }

@@ -33,7 +33,7 @@ use Rattle.pg_model.specs.declared.record.Record.{Record}
 use Rattle.pg_model.specs.declared.view.View.{View}
 use Rattle.pg_model.specs.declared.view.Visible.{Visible}
 use Rattle.pg_compute.specs.Candidates.{IsPlayed}
-use Rattle.pg_compute.specs.Differing.{AreTold, are_resting, has_same_state, resting_among, restless_among, without}
+use Rattle.pg_compute.specs.Differing.{AreTold, HaveSameIds, are_resting, has_same_state, resting_among, restless_among, without}
 use Rattle.pg_compute.specs.Found.{IsTold, are_at_rest, is_left, is_run, is_same_view, is_taken_over, reads}
 use Rattle.pg_routing.specs.Routes.{HasMessages, as_sends, bundle_in, bundle_sent, bundles_before}
 use Rattle.pg_course.specs.Lent.{IsBesideOld, IsLentBeside, LendsLogs}
@@ -46,7 +46,7 @@ use Rattle.pg_compute.specs.declared.found.Candidate.{Candidate}
 use Rattle.pg_course.proofs.BesideOld.{IsWarmStep, WasRead, all_are_read, all_mine, all_were_read, are_candidates, candidates}
 use Rattle.pg_course.proofs.BesideOld.{candidates_rise, is_restless, kept, kept_holds, old_reads_nothing, reads_nothing}
 use Rattle.pg_compute.proofs.Changing.{entries, entries-among, entries-rise, told_at}
-use Rattle.pg_compute.proofs.Looking.{both, failing, in_either, in_neither, passing}
+use Rattle.pg_compute.proofs.Looking.{both, failing, in_either, in_neither, passing, same_after}
 use Rattle.pg_compute.proofs.Coverage.{records_held}
 use Rattle.pg_routing.proofs.Delivery.{sent_rise}
 use Rattle.pg_compute.proofs.Finding.{state_in_run}
@@ -395,13 +395,14 @@ module _ {V M : Type 0} (value_eq : V → V → Bool) (message_eq : M → M → 
           sym (ap₂ are_resting (old_state_then id mine) (state_then id mine))
           ∙ (both (not (has_same_state value_eq trace next_trace (s + 1) id)) _ (passing _ looked_at id found).0).1
 
-  pub warm_step : (after : Holding V M) (sent : List (Logged M))
+  pub warm_step : (after : Holding V M) (sent : List (Logged M)) (rested : List ℕ)
+      → HaveSameIds rested (without course.resting looked_at ++ resting)
       → after ≡ record course {
         place = s + 1;
         trace = next_trace;
         kept = Some trace;
         restless = restless;
-        resting = without course.resting looked_at ++ resting;
+        resting = rested;
         changed = looked_at;
         beside_old = true;
       }
@@ -411,7 +412,7 @@ module _ {V M : Type 0} (value_eq : V → V → Bool) (message_eq : M → M → 
       (items_to n q (flat_map sends_of played.changes))
       (slot_at old_logs s p q) (slice_get sent q))
       → HasStepped job value_eq message_eq (Some old) rows n p s after sent before played.meter
-  warm_step after sent further told to_each mended = record {
+  warm_step after sent rested rested_are further told to_each mended = record {
     holds = subst (Holds job (Some old) rows n p (s + 1)) (sym further) (record {
       partition_is = w.holds.partition_is;
       partitions_are = w.holds.partitions_are;
@@ -428,11 +429,11 @@ module _ {V M : Type 0} (value_eq : V → V → Bool) (message_eq : M → M → 
         is = refl;
         whole = w.holds.beside.whole;
         later = later_records;
-        others = λ id mine apart within. alike_then id mine told apart;
+        others = λ id mine apart within. alike_then id mine told (apart_from id apart);
         as_ended = λ id mine apart low.
             subst (λ k. state_at job old k id ≡ state_at job rows (s + 1) id) (let e : s + 1 ≡ run_length job old = omega (arith, low, w.lends.there) in e)
-            (alike_then id mine told apart);
-        rest = λ id mine among _. rest_then id mine among;
+            (alike_then id mine told (apart_from id apart));
+        rest = λ id mine among _. rest_then id mine (sym (rested_are id) ∙ among);
       };
     });
     to_each = to_each;
@@ -443,6 +444,9 @@ module _ {V M : Type 0} (value_eq : V → V → Bool) (message_eq : M → M → 
     changed_are = subst (λ (h : Holding V M). AreAllChanged job (Some old) rows n p s h.beside_old h.changed) (sym further) only;
     counted = w.is.counted ∙ ap (λ k. capped (before + k)) counted;
   }
+    where
+      apart_from : (id : ℕ) → has_id (restless ++ rested) id ≡ false → has_id (restless ++ (without course.resting looked_at ++ resting)) id ≡ false
+      apart_from id apart = sym (same_after restless rested (without course.resting looked_at ++ resting) rested_are id) ∙ apart
 
 -- ---- the same by what the calls were handed
 
@@ -467,7 +471,7 @@ module _ {V M : Type 0} (value_eq : V → V → Bool) (message_eq : M → M → 
     steps_here : StepsAt course.partitions course.partition course.place
     steps_here holds within has bundled sees lends saw =
         warm_step value_eq message_eq job old rows course.partitions course.partition course.place course logs old_logs old_view view bundles before played w
-        after sent ending.part_is ending.told ending.sent_is.to_each ending.sent_is.sends
+        after sent ending.resting ending.resting_are ending.part_is ending.told ending.sent_is.to_each ending.sent_is.sends
       where
         same : trace ≡ holds.beside.trace
         same = same_Some trace holds.beside.trace (sym is_kept ∙ holds.beside.is)

@@ -9,7 +9,7 @@ use Rattle.pg_model.specs.Job.{Combining, Program}
 use Rattle.pg_model.specs.declared.record.Record.{Record}
 use Rattle.pg_model.specs.declared.view.View.{View}
 use Rattle.pg_compute.specs.Candidates.{AreLookedAt, IsPlayed}
-use Rattle.pg_compute.specs.Differing.{AreTold, resting_among, restless_among, without}
+use Rattle.pg_compute.specs.Differing.{AreTold, HaveSameIds, resting_among, restless_among, without}
 use Rattle.pg_compute.specs.Found.{is_same_view}
 use Rattle.pg_routing.specs.Routes.{bundles_before}
 use Rattle.pg_trace.specs.Trace.{reaching, Trace, with_replaced}
@@ -22,19 +22,24 @@ module _ {V M : Type 0} (value_eq : V → V → Bool) (course : Holding V M) (ol
   abbrev pub trace_after : Trace V M
   trace_after = with_replaced course.place changes (reaching course.place course.trace)
 
-  -- the course one superstep further: the states of the vertices that were looked at are compared
-  abbrev pub further : Holding V M
-  further = record course {
+  -- the course one superstep further: the states of the vertices that were looked at are compared; these rest
+  abbrev pub further : List ℕ → Holding V M
+  further resting = record course {
     place = course.place + 1;
     trace = trace_after;
     kept = Some old;
     restless = restless_among value_eq old trace_after (course.place + 1) looked_at;
-    resting = without course.resting looked_at ++ resting_among value_eq old trace_after (course.place + 1) looked_at;
+    resting = resting;
     changed = looked_at;
     beside_old = true;
   }
 
-  -- and where they are found the same, they are
+  -- those that do are, in whatever order, those that did and weren't looked at, and those that are found to
+  abbrev pub AreTheResting : List ℕ → Type 0
+  AreTheResting resting =
+      HaveSameIds resting (without course.resting looked_at ++ resting_among value_eq old trace_after (course.place + 1) looked_at)
+
+  -- and where states are found the same, they are
   abbrev pub AreCompared : Type 0
   AreCompared = AreTold value_eq old trace_after (course.place + 1) looked_at
 
@@ -64,6 +69,8 @@ module _ {V M : Type 0} (value_eq : V → V → Bool) (message_eq : M → M → 
 
   -- the course with the changed records, and what it sends
   pub record IsConcluded (looked_at : List ℕ) (changes : List (ℕ × Option (Record V M))) (after : Holding V M) (sent : List (Logged M)) : Type 0 where
-    pub part_is : after ≡ further value_eq course old looked_at changes
+    pub resting : List ℕ
+    pub resting_are : AreTheResting value_eq course old looked_at changes resting
+    pub part_is : after ≡ further value_eq course old looked_at changes resting
     pub told : AreCompared value_eq course old looked_at changes
     pub sent_is : IsSentBeside combining course old old_logs changes sent

@@ -3,7 +3,7 @@ ghost use Rattle.std.specs.Prelude.{◌+◌, ◌^◌, ◌<◌, ◌≡◌, IfOk};
 ghost use Rattle.std.specs.List.Sorted.{IsStrictlySortedBy};
 ghost use Rattle.std.specs.Ordering.{nat_cmp};
 ghost use Rattle.pg_map.specs.Entries.{ChangesRise};
-ghost use Rattle.pg_course.specs.Warm.{AreCompared, IsConcluded, IsReplayed, IsSentBeside, further};
+ghost use Rattle.pg_course.specs.Warm.{AreCompared, AreTheResting, IsConcluded, IsReplayed, IsSentBeside, further};
 ghost use Rattle.pg_program.specs.Context.{ShowsDeclared};
 
 use crate::Course;
@@ -59,7 +59,6 @@ pub(crate) fn replayed<P: Computation, C: MessageCombiner<P::Message>>(
         logs,
         old_logs,
         bundles,
-        combiner,
         seen,
     )?;
     play_beside(
@@ -148,7 +147,8 @@ fn further<V: Plain, M: Plain>(
     requires rise { ChangesRise changes }
     requires looked_at_rise { IsStrictlySortedBy nat_cmp looked_at.items }
     requires counts { course.place + 1 < 2 ^ 32 }
-    ensures further { IfOk result (λ after. after ≡ further V.PartialEq.eq course old looked_at.items changes) }
+    ensures further { IfOk result (λ after. after ≡ further V.PartialEq.eq course old looked_at.items changes after.resting) }
+    ensures resting { IfOk result (λ after. AreTheResting V.PartialEq.eq course old looked_at.items changes after.resting) }
     ensures told { IfOk result (λ _. AreCompared V.PartialEq.eq course old looked_at.items changes) }
 {
     let Course {

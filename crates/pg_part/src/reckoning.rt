@@ -330,6 +330,9 @@ fn gathered_beside<V: Plain, M: Plain>(
     ensures otherwise { IfOk result (λ gathered. list_all (contributes_alike old.now trace.now superstep) changed.now ≡ false
         → gathered ≡ gathered_of registry.now trace.now superstep) }
 {
+    if registry.len() == 0 && before.len() == 0 {
+        return Ok(Sequence::new(alloc));
+    }
     if contribute_alike(old, trace, superstep, changed) {
         return copied(alloc, before);
     }

@@ -1,5 +1,6 @@
 use Rattle.std.proofs.Common.{◌++◌, ap, ap₂, ◌∙◌}
 use Rattle.std.proofs.lemmas.Result.{IfOk-from_err}
+use Rattle.pg_model.specs.Superstep.{has_id}
 use Rattle.pg_compute.specs.Differing.{without}
 use Rattle.pg_compute.proofs.differing.differing_after.Goals as goal
 
@@ -26,8 +27,8 @@ returns g c =
     let among = c.in_ok-restless.ensures in
     record {
       restless = among.restless;
-      resting = c.in_ok-resting.ensures
-          ∙ ap₂ ◌++◌ (c.in_ok-still.ensures ∙ ap (λ l. without l c.args.looked_at.now) c.as_slice.ensures.value)
-          (c.as_slice-2.ensures.value ∙ among.resting);
+      resting = λ id. c.in_ok-resting.ensures id
+          ∙ ap (λ l. has_id l id) (ap₂ ◌++◌ (c.in_ok-still.ensures ∙ ap (λ l. without l c.args.looked_at.now) c.as_slice.ensures.value)
+          (c.as_slice-2.ensures.value ∙ among.resting));
       told = among.told;
     }

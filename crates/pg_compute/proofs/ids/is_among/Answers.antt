@@ -1,10 +1,17 @@
-use Rattle.std.proofs.Common.{sym}
-use Rattle.pg_model.proofs.LawsSearching.{has_id-found, has_id-missing, searchable}
+use Rattle.std.proofs.Common.{sym, ◌∙◌, arith}
+use Rattle.std.proofs.lemmas.Bool.{le-ltb}
+use Rattle.pg_compute.proofs.Below.{missing, next_is}
 use Rattle.pg_compute.proofs.ids.is_among.Goals as goal
 
-pub returns-in-Ok : goal.returns-in-Ok
-returns-in-Ok c = sym (has_id-found c.args.ids.now c.args.id c.in-Ok.field-0 c.in-Ok.ensures.bound c.in-Ok.ensures.ok)
+pub returns-then-place-ids : goal.returns-then-place-ids
+returns-then-place-ids c =
+    c.eq.ensures
+    ∙ next_is c.args.ids.now c.requires c.args.id c.count_below-place.result c.count_below-place.ensures c.index-ids-place.result c.if-place-ids.true
+    c.index-ids-place.is
 
-pub returns-in-Err : goal.returns-in-Err
-returns-in-Err c =
-    sym (has_id-missing c.args.ids.now c.args.id c.in-Err.field-0 (c.in-Err.ensures.position (searchable c.args.ids.now c.args.id c.requires)))
+pub returns-else-place-ids : goal.returns-else-place-ids
+returns-else-place-ids c =
+    le-ltb _ _ c.if-place-ids.false
+    ∙ sym
+    (missing c.args.ids.now c.requires c.args.id c.count_below-place.result c.count_below-place.ensures
+    (λ d inside. absurd (omega (arith, inside, c.if-place-ids.false))))

@@ -3,6 +3,8 @@ use Rattle.pg_course.proofs.warm.concluded.Goals as goal
 
 pub returns-clause-concluded : goal.returns-clause-concluded
 returns-clause-concluded g c = record {
+  resting = c.in_ok-course.course.resting;
+  resting_are = c.in_ok-course.ensures.resting;
   part_is = c.in_ok-course.ensures.further;
   told = c.in_ok-course.ensures.told;
   sent_is = c.in_ok-sent.ensures;

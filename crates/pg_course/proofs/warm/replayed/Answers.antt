@@ -1,4 +1,6 @@
-use Rattle.std.proofs.Common.{◌<◌, Some, not, ◌∙◌, subst, subst₂}
+use Rattle.std.proofs.Common.{◌<◌, Some, not, sym, ◌∙◌, subst, subst₂}
+use Rattle.std.specs.List.Sorted.{IsStrictlySortedBy}
+use Rattle.std.specs.Ordering.{nat_cmp}
 use Rattle.std.proofs.lemmas.Result.{IfOk-weaker}
 use Rattle.pg_inbox.specs.Alike.{DeliverAlike}
 use Rattle.pg_compute.specs.Candidates.{AreLookedAt, IsPlayed}
@@ -39,7 +41,7 @@ returns-clause-replayed g c =
       ids = ids;
       looked = subst
           (λ b. AreLookedAt combining bundles course.partitions course.partition course.place course.trace course.restless course.resting logs old_logs b ids)
-          c.is_same_view-seen.ensures c.in_ok-ids.ensures;
+          c.is_same_view-seen.ensures (c.in_ok-ids.ensures combining);
       is = subst (λ b. IsPlayed value_eq message_eq program course.missing combining view course.partitions course.partition course.place course.trace bundles
           (Some (old, bundles_before old_logs course.partitions course.partition course.place)) ids (not b) b meter played) c.is_same_view-seen.ensures
           (subst₂
@@ -52,3 +54,8 @@ returns-clause-replayed g c =
 pub returns-clause-some : goal.returns-clause-some
 returns-clause-some g c =
     IfOk-weaker c.play_beside.result _ _ (λ played is. subst (λ h. 0 < h.partitions) c.course.view_is c.partitions.ensures.some) c.play_beside.ensures
+
+pub play_beside-requires-clause-rise : goal.play_beside-requires-clause-rise
+play_beside-requires-clause-rise g c κs within =
+    subst (IsStrictlySortedBy nat_cmp) (sym c.as_slice-3.ensures.value)
+    (c.in_ok-ids.ensures (g.C.MessageCombiner.combining c.args.combiner.now)).rise

@@ -21,7 +21,7 @@ returns-in_ok-played-in-Some-clause-further g c =
     let rest = c.parted-course.ensures.rest in
     IfOk-weaker c.concluded.result _ _
     (λ stepped concluded.
-    let is = concluded.part_is ∙ (λ i. further g.V.PartialEq.eq (rest i) c.in-Some.old played.looked_at.items played.changes) in
+    let is = concluded.part_is ∙ (λ i. further g.V.PartialEq.eq (rest i) c.in-Some.old played.looked_at.items played.changes concluded.resting) in
     record {
       partition_stays = ap (λ h. h.partition) is;
       partitions_stay = ap (λ h. h.partitions) is;
