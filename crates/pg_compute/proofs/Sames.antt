@@ -16,7 +16,7 @@ use Rattle.pg_model.specs.declared.configuration.Standing.{Standing}
 use Rattle.pg_model.specs.declared.view.View.{View}
 use Rattle.pg_compute.specs.Found.{AreSameVertices, are_at_rest, are_same_reading, is_running, is_same_vertex, is_same_view, reads}
 use Rattle.pg_compute.proofs.Coverage.{length_below}
-use Rattle.pg_compute.proofs.Looking.{both}
+use Rattle.pg_inbox.proofs.Among.{both}
 use Rattle.pg_trace.specs.OfRun.{HoldsRun}
 use Rattle.pg_trace.specs.Trace.{Trace}
 

@@ -43,7 +43,7 @@ use Rattle.pg_routing.proofs.Sends.{sends_of_changes}
 use Rattle.pg_index.proofs.Somes.{somes_are}
 use Rattle.pg_routing.proofs.Beginning.{own_rise}
 use Rattle.pg_course.proofs.Stepping.{reaching_next, stepped_holds}
-use Rattle.pg_compute.proofs.Looking.{in_neither, outside}
+use Rattle.pg_inbox.proofs.Among.{in_neither, outside}
 use Rattle.pg_compute.proofs.Sames.{at_rest_then}
 use Rattle.pg_model.specs.ByIds.{state_at}
 

@@ -12,7 +12,7 @@ use Rattle.pg_model.proofs.LawsAffected.{StandsAlike-first}
 use Rattle.pg_routing.specs.Starting.{own, first_changes}
 use Rattle.pg_course.specs.Course.{AreTouched, Holding, Holds, IsWhole, differing}
 use Rattle.pg_compute.proofs.Coverage.{records_held}
-use Rattle.pg_compute.proofs.Looking.{in_neither}
+use Rattle.pg_inbox.proofs.Among.{in_neither}
 use Rattle.pg_routing.proofs.Beginning.{begun_holds, first_again}
 use Rattle.pg_trace.specs.Beginning.{with_first}
 use Rattle.pg_trace.specs.OfRun.{HoldsRun}

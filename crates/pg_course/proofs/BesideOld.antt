@@ -33,7 +33,7 @@ use Rattle.pg_compute.specs.declared.execution.Played.{Played}
 use Rattle.pg_compute.specs.declared.found.Candidate.{Candidate}
 use Rattle.pg_routing.proofs.Delivery.{are_all, bundles_are, delivers_in_part, lists, of_lists, to_id, to_part}
 use Rattle.pg_compute.proofs.Finding.{arrives_in_run, arrives_nothing, found_in_run}
-use Rattle.pg_compute.proofs.Looking.{both, outside}
+use Rattle.pg_inbox.proofs.Among.{both, outside}
 use Rattle.pg_compute.proofs.ReadVertices.{IsRead, active_among, all_found, all_own, all_read, has_own, no_inputs_at_rest, own_belong}
 use Rattle.pg_compute.proofs.Sames.{holds_shorter}
 use Rattle.pg_routing.proofs.Beginning.{own_rise}

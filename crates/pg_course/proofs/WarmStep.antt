@@ -46,7 +46,8 @@ use Rattle.pg_compute.specs.declared.found.Candidate.{Candidate}
 use Rattle.pg_course.proofs.BesideOld.{IsWarmStep, WasRead, all_are_read, all_mine, all_were_read, are_candidates, candidates}
 use Rattle.pg_course.proofs.BesideOld.{candidates_rise, is_restless, kept, kept_holds, old_reads_nothing, reads_nothing}
 use Rattle.pg_compute.proofs.Changing.{entries, entries-among, entries-rise, told_at}
-use Rattle.pg_compute.proofs.Looking.{both, failing, in_either, in_neither, passing, same_after}
+use Rattle.pg_inbox.proofs.Among.{both, in_either, in_neither}
+use Rattle.pg_compute.proofs.Looking.{failing, passing, same_after}
 use Rattle.pg_compute.proofs.Coverage.{records_held}
 use Rattle.pg_routing.proofs.Delivery.{sent_rise}
 use Rattle.pg_compute.proofs.Finding.{state_in_run}

@@ -1,7 +1,7 @@
 use Rattle.std.proofs.Common.{◌++◌, ap, sym, ◌∙◌}
 use Rattle.std.proofs.lemmas.Result.{IfOk-weaker}
 use Rattle.pg_model.specs.Superstep.{has_id}
-use Rattle.pg_compute.proofs.Looking.{in_neither}
+use Rattle.pg_inbox.proofs.Among.{in_neither}
 use Rattle.pg_compute.proofs.changed.add_awake.Goals as goal
 
 pub returns : goal.returns

@@ -2,7 +2,7 @@ use Rattle.std.proofs.Common.{◌≡◌, ℕ, true, false, [], ◌++◌, Option,
 use Rattle.pg_inbox.specs.Inboxes.{Delivers}
 use Rattle.pg_model.specs.Job.{Combining}
 use Rattle.pg_model.specs.Superstep.{has_id}
-use Rattle.pg_compute.proofs.Looking.{in_neither}
+use Rattle.pg_inbox.proofs.Among.{in_neither}
 use Rattle.pg_compute.proofs.changed.looked_at.Goals as goal
 
 pub returns : goal.returns
