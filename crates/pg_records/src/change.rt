@@ -41,6 +41,7 @@ impl<V: Drop, M: Drop> Share for Change<V, M> {
 
 impl<V: Drop, M: Drop> Change<V, M> {
     /// The record, if there is one.
+    #[inline(always)]
     pub(crate) fn record(&self) -> Option<RecordRef<'_, V, M>>
         ensures { result ≡ self.now }
     {

@@ -2,6 +2,7 @@
 ghost use Rattle.std.specs.Prelude.{◌≡◌, ◌++◌, ◌∷◌, [], ℕ, false, map, None, Some, IfOk, OnOk};
 ghost use Rattle.std.specs.List.Sorted.{IsStrictlySortedBy};
 ghost use Rattle.std.specs.Map.{keys_of};
+ghost use Rattle.std.specs.Option.{option_copied};
 ghost use Rattle.std.specs.Ordering.{nat_cmp};
 ghost use Rattle.pg_map.specs.Entries.{ChangesRise, HasRisingIds, value_at, with_changes};
 ghost use Rattle.pg_model.specs.Superstep.{has_id};
@@ -78,7 +79,7 @@ impl<V: Drop, M: Drop> Records<V, M> {
     pub fn get(&self, id: VertexId, near: usize) -> Option<RecordRef<'_, V, M>>
         ensures { result ≡ value_at id self.now }
     {
-        match self.changes.get(id) {
+        match change_at(&self.changes, id) {
             Some(change) => change.record(),
             None => self.given.given(id, near),
         }
@@ -172,6 +173,17 @@ fn found<'a, V: Drop, M: Drop>(
         add_if_any(&mut all, *id, record)?;
     }
     Ok(all)
+}
+
+/// What is changed of a vertex, if anything is. Where nothing is changed it costs O(1).
+#[inline(always)]
+fn change_at<V, M>(changes: &Map<Change<V, M>>, id: VertexId) -> Option<&Change<V, M>>
+    ensures { option_copied result ≡ value_at id changes.now }
+{
+    if changes.len() == 0 {
+        return None;
+    }
+    changes.get(id)
 }
 
 /// The record of a vertex, if there is one: what is changed, else what is given.

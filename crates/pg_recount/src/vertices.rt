@@ -61,6 +61,7 @@ impl Turned {
 
     /// With one vertex more, which has this state as the superstep begins, if any, and as the next one begins that which
     /// this record leaves, or else the same. Costs O(1).
+    #[inline(always)]
     pub fn with<V: Plain, M>(
         self,
         before: &Option<StateRef<'_, V>>,

@@ -12,7 +12,7 @@ returns-in-Some g c =
     let given = arc_value c.self.inside.given in
     c.record.ensures
     ∙ value_over c.self.inside.changes (with_changes given []) id c.self.invariant.1 (given_rises given)
-    (sym c.get.ensures ∙ ap option_copied c.in-Some.is) (value_given given c.self.invariant.0 id)
+    (sym c.change_at.ensures ∙ ap option_copied c.in-Some.is) (value_given given c.self.invariant.0 id)
     ∙ ap (value_at id) c.self.view_is
 
 pub returns-in-None : goal.returns-in-None
@@ -21,5 +21,5 @@ returns-in-None g c =
     let given = arc_value c.self.inside.given in
     c.given.ensures ∙ ap (given_to id) c.deref.ensures
     ∙ value_over c.self.inside.changes (with_changes given []) id c.self.invariant.1 (given_rises given)
-    (sym c.get.ensures ∙ ap option_copied c.in-None.is) (value_given given c.self.invariant.0 id)
+    (sym c.change_at.ensures ∙ ap option_copied c.in-None.is) (value_given given c.self.invariant.0 id)
     ∙ ap (value_at id) c.self.view_is
