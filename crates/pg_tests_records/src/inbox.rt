@@ -2,7 +2,10 @@ ghost use Rattle.std.specs.Prelude.{◌≡◌};
 
 use pg_global::AnyCombiner;
 use pg_graph::{Memory, PartitionId, Superstep, VertexId};
-use pg_inbox::{Bundle, Logged, Logs, Sends, SendsRef, bundle, changed_targets, inbox, patch};
+use pg_inbox::{
+    Bundle, BundleFinder, Logged, Logs, Sends, SendsRef, add_receivers, bundle, changed_targets,
+    inbox, patch,
+};
 use std::alloc::Global;
 use std::fmt::Write;
 
@@ -118,6 +121,64 @@ fn ordered_by_sender(rt: HostRuntime) -> Result<(), Memory> {
 fn combined_over_bundles(rt: HostRuntime) -> Result<(), Memory> {
     let text = inbox_of_both(rt.alloc(), AnyCombiner::Min)?;
     assert_eq!(rt; text.as_str(), "2,");
+    Ok(())
+}
+
+// Which of the targets 5, 3, 4 and 9 receive something of two bundles, each with a comma.
+fn receivers_of_both(alloc: Global) -> Result<String, Memory> {
+    let mut bundles = Vec::with_capacity(alloc, 2)?;
+    bundles.push(three(alloc, AnyCombiner::NoCombiner)?)?;
+    bundles.push(bundle_of(alloc, &[(2, 9, 1)], AnyCombiner::NoCombiner)?)?;
+    let mut receivers = Vec::new(alloc);
+    let ids = [id(5), id(3), id(4), id(9)];
+    add_receivers(&mut receivers, &ids, bundles.as_slice())?;
+    let mut text = String::new(alloc);
+    write_ids(&mut text, receivers.as_slice())?;
+    Ok(text)
+}
+
+#[test]
+fn receivers_are_those_that_a_bundle_has_a_message_to(rt: HostRuntime) -> Result<(), Memory> {
+    let text = receivers_of_both(rt.alloc())?;
+    assert_eq!(rt; text.as_str(), "5,4,9,");
+    Ok(())
+}
+
+// The bundle with one message to each even target from 2 to 120.
+fn bundle_of_even(alloc: Global) -> Result<Bundle<i64>, Memory> {
+    let mut sends = Sends::with_room(alloc, 60)?;
+    for half in 1..61u32 {
+        sends.push(id(1), id(half * 2), i64::from(half))?;
+    }
+    bundle(alloc, &sends.lend(), &AnyCombiner::NoCombiner)
+}
+
+// Whether a target from 0 to 130 has one message where it is even and from 2 to 120, and else none.
+fn is_found(finder: &mut BundleFinder<'_, i64>, target: u32) -> bool {
+    let is_even = target % 2 == 0 && target >= 2 && target <= 120;
+    finder.messages_to(id(target)) == usize::from(is_even)
+}
+
+// How many targets are found as they should be, of those that rise by steps and then of all that fall.
+fn found_by_steps(alloc: Global, step: u32) -> Result<u32, Memory> {
+    let bundle = bundle_of_even(alloc)?;
+    let mut finder = bundle.finder();
+    let mut found = 0u32;
+    for place in 0..131u32 {
+        let target = place.wrapping_mul(step) % 131;
+        found = found.saturating_add(u32::from(is_found(&mut finder, target)));
+    }
+    for place in 0..131u32 {
+        found = found.saturating_add(u32::from(is_found(&mut finder, 130 - place)));
+    }
+    Ok(found)
+}
+
+#[test]
+fn targets_are_found_wherever_the_one_before_lies(rt: HostRuntime) -> Result<(), Memory> {
+    for step in [1, 2, 7, 40] {
+        assert_eq!(rt; found_by_steps(rt.alloc(), step)?, 262);
+    }
     Ok(())
 }
 
