@@ -301,7 +301,7 @@ fn ids_of_both<V: Drop, M: Drop>(
     let mut ids = Vec::with_capacity(alloc, given.len())?;
     add_given_ids(&mut ids, given)?;
     add_ids(&mut ids, changes)?;
-    ids.sort_unstable();
+    ids.sort()?;
     ids.dedup();
     Ok(ids)
 }

@@ -225,7 +225,7 @@ impl<V: Drop, M: Drop> Trace<V, M> {
     }
 
     /// What the vertices contribute in a superstep, by rising id and of each in the order given; nothing where it hasn't
-    /// that superstep. Costs a look at each record; where the superstep was changed, a sort of their ids and a look-up of each
+    /// that superstep. Costs a look at each record; where the superstep was changed, a merge of their ids and a look-up of each
     /// besides.
     pub fn contributions(
         &self,

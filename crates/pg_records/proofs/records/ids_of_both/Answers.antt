@@ -6,8 +6,8 @@ use Rattle.pg_records.proofs.records.ids_of_both.Goals as goal
 
 pub returns-clause-rise : goal.returns-clause-rise
 returns-clause-rise g c =
-    ordered-rising c.add_ids.new.ids.items c.sort_unstable.new.self.items c.dedup.new.self.items
-    c.sort_unstable.ensures.permutation c.dedup.ensures.filtered c.sort_unstable.ensures.sorted
+    ordered-rising c.add_ids.new.ids.items c.sort.new.self.items c.dedup.new.self.items
+    c.in_ok-sort.ensures.permutation c.dedup.ensures.filtered c.in_ok-sort.ensures.sorted
 
 pub returns-clause-given : goal.returns-clause-given
 returns-clause-given g c id none =
@@ -15,7 +15,7 @@ returns-clause-given g c id none =
     let all = c.in_ok-add_ids.ensures ∙ ap (λ l. l ++ keys_of c.args.changes.now) (c.in_ok-add_given_ids.ensures
     ∙ ap (λ l. l ++ keys_of c.args.given.now) c.in_ok-ids.ensures.items) in
     not_first c.args.given.now c.args.changes.now ids c.dedup.new.self.items all
-    (ordered-same ids c.sort_unstable.new.self.items c.dedup.new.self.items c.sort_unstable.ensures.permutation c.dedup.ensures.filtered) id none
+    (ordered-same ids c.sort.new.self.items c.dedup.new.self.items c.in_ok-sort.ensures.permutation c.dedup.ensures.filtered) id none
 
 pub returns-clause-changes : goal.returns-clause-changes
 returns-clause-changes g c id none =
@@ -23,4 +23,4 @@ returns-clause-changes g c id none =
     let all = c.in_ok-add_ids.ensures ∙ ap (λ l. l ++ keys_of c.args.changes.now) (c.in_ok-add_given_ids.ensures
     ∙ ap (λ l. l ++ keys_of c.args.given.now) c.in_ok-ids.ensures.items) in
     not_second c.args.given.now c.args.changes.now ids c.dedup.new.self.items all
-    (ordered-same ids c.sort_unstable.new.self.items c.dedup.new.self.items c.sort_unstable.ensures.permutation c.dedup.ensures.filtered) id none
+    (ordered-same ids c.sort.new.self.items c.dedup.new.self.items c.in_ok-sort.ensures.permutation c.dedup.ensures.filtered) id none
