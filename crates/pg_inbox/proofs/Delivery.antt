@@ -30,6 +30,7 @@ use Rattle.pg_inbox.specs.Holding.{HoldsAt}
 use Rattle.pg_inbox.specs.Ordered.{in_order}
 use Rattle.pg_inbox.specs.Inboxes.{AreInboxes, Delivers, contents_to, each_inbox, inboxes_of, is_receiver, letters_at, received_of}
 use Rattle.pg_inbox.specs.Sends.{AreAllOf, RiseBySender, Sends, letters_to, sent_by, without_senders}
+use Rattle.pg_inbox.proofs.Among.{or_false}
 use Rattle.pg_inbox.proofs.Bundling.{at_id, rises-values, value_at-bundle_of, value_at-values}
 use Rattle.pg_inbox.proofs.Senders.{from, in_order-from, in_order-up, permutation_by_number, same_by_number}
 
@@ -299,13 +300,13 @@ module _ {M : Type 0} (id : ℕ) where
       by None h later = later h
       by (Some c) h later = absurd cc
 
-  -- what none of the first bundles and not the next has a message to, none of one more has
-  pub no_receiver_more : (bundles : List (Parcels M)) (i : ℕ) (b : Parcels M) → i < length bundles → b ≡ get_or bundles i b
-      → is_receiver (take i bundles) id ≡ false → value_at id b ≡ None → is_receiver (take (i + 1) bundles) id ≡ false
-  no_receiver_more bundles i b within is before none =
+  -- a target to which one of the first bundles or the next has a message
+  pub is_receiver-more : (bundles : List (Parcels M)) (i : ℕ) (b : Parcels M) → i < length bundles → b ≡ get_or bundles i b
+      → is_receiver (take (i + 1) bundles) id ≡ (is_receiver (take i bundles) id || is_some (value_at id b))
+  is_receiver-more bundles i b within is =
       ap (λ l. is_receiver l id) (take_more bundles i b within ∙ ap (λ x. take i bundles ++ x ∷ []) (sym is))
       ∙ list_any-append (λ b. is_some (value_at id b)) (take i bundles) (b ∷ [])
-      ∙ ap₂ ◌||◌ before (ap (λ (o : Option (Contents M)). is_some o || false) none)
+      ∙ ap (λ c. is_receiver (take i bundles) id || c) (or_false (is_some (value_at id b)))
 
   -- where no bundle has a message to a target, nothing is delivered to it
   pub delivers_nothing : (bundles : List (Parcels M)) → is_receiver bundles id ≡ false → (combining : Option (Combining M)) → Delivers combining id bundles []

@@ -1,13 +1,12 @@
 //! Inboxes: what a vertex receives of the bundles to its partition.
-ghost use Rattle.std.specs.Prelude.{◌≡◌, ◌++◌, ◌∷◌, ◌||◌, ℕ, [], map, false, true, is_some, Option, None, IsSome, IfSome, IfOk, OnOk};
+ghost use Rattle.std.specs.Prelude.{◌≡◌, ◌==◌, ◌++◌, ◌∷◌, ◌||◌, ◌&&◌, ℕ, [], map, false, true, is_some, IsSome, IfSome, IfOk, OnOk};
 ghost use Rattle.std.specs.List.{AllByRecursion, flat_map, fold};
 ghost use Rattle.std.specs.Option.{option_to_list};
 ghost use Rattle.pg_map.specs.Entries.{value_at};
-ghost use Rattle.pg_model.specs.Job.{Combining};
 ghost use Rattle.pg_model.specs.Superstep.{combined, has_id};
 ghost use Rattle.pg_parcel.specs.Contents.{messages};
 ghost use Rattle.pg_inbox.specs.Holding.{HoldsAt};
-ghost use Rattle.pg_inbox.specs.Inboxes.{Delivers, contents_to, folded_of, received_of};
+ghost use Rattle.pg_inbox.specs.Inboxes.{Delivers, contents_to, folded_of, is_receiver, received_of};
 ghost use Rattle.pg_inbox.specs.Ordered.{in_order};
 
 use crate::{Bundle, BundleFinder};
@@ -59,8 +58,8 @@ pub fn add_receivers<M: Plain>(
     ids: &[VertexId],
     bundles: &[Bundle<M>],
 ) -> Result<(), Memory>
-    ensures { OnOk result ((id : ℕ) → has_id receivers.new.items id ≡ false → (has_id receivers.old.items id ≡ false)
-        × (has_id ids.now id ≡ true → (combining : Option (Combining M)) → Delivers combining id bundles.now [])) }
+    ensures { OnOk result ((id : ℕ) → has_id receivers.new.items id
+        ≡ (has_id receivers.old.items id || (has_id ids.now id && is_receiver bundles.now id))) }
 {
     for bundle in bundles {
         add_receivers_of(receivers, ids, bundle)?;
@@ -74,8 +73,8 @@ fn add_receivers_of<M: Plain>(
     ids: &[VertexId],
     bundle: &Bundle<M>,
 ) -> Result<(), Memory>
-    ensures { OnOk result ((id : ℕ) → has_id receivers.new.items id ≡ false → (has_id receivers.old.items id ≡ false)
-        × (has_id ids.now id ≡ true → value_at id bundle.now ≡ None)) }
+    ensures { OnOk result ((id : ℕ) → has_id receivers.new.items id
+        ≡ (has_id receivers.old.items id || (has_id ids.now id && is_some (value_at id bundle.now)))) }
 {
     let mut finder = bundle.finder();
     for id in ids {
@@ -90,8 +89,8 @@ fn add_if_receiving<M: Plain>(
     bundle: &mut BundleFinder<'_, M>,
     id: VertexId,
 ) -> Result<(), Memory>
-    ensures added { OnOk result ((q : ℕ) → has_id receivers.new.items q ≡ false → (has_id receivers.old.items q ≡ false)
-        × (q ≡ id → value_at q bundle.old ≡ None)) }
+    ensures added { OnOk result ((q : ℕ) → has_id receivers.new.items q
+        ≡ (has_id receivers.old.items q || ((id == q) && is_some (value_at q bundle.old)))) }
     ensures same { bundle.new ≡ bundle.old }
 {
     if bundle.parcel(id).is_some() {

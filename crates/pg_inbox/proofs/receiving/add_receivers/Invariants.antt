@@ -1,9 +1,9 @@
-use Rattle.std.proofs.Common.{◌≡◌, ℕ, true, false, take}
+use Rattle.std.proofs.Common.{◌≡◌, ℕ, ◌||◌, ◌&&◌, take}
 use Rattle.pg_model.specs.Superstep.{has_id}
 use Rattle.pg_inbox.specs.Inboxes.{is_receiver}
 use Rattle.pg_inbox.proofs.receiving.add_receivers.Given as goal
 
 abbrev pub invariant-loop-bundle : goal.invariant-loop-bundle
 invariant-loop-bundle g l =
-    (q : ℕ) → has_id l.receivers.items q ≡ false → (has_id l.initial.receivers.items q ≡ false)
-    × (has_id l.ids q ≡ true → is_receiver (take l.bundle-index l.bundles) q ≡ false)
+    (q : ℕ) → has_id l.receivers.items q
+    ≡ (has_id l.initial.receivers.items q || (has_id l.ids q && is_receiver (take l.bundle-index l.bundles) q))
