@@ -31,8 +31,8 @@ pub fn is_same_view(old: &View, new: &View) -> bool
 
 /// The vertices whose states may differ from those of the old run, but for those that rest in both and receive nothing;
 /// those to which something else may be sent; and where the old run saw something else all that aren't halted: by rising
-/// id. Costs a sort of them, a look at each bundle, and for each vertex that rests a look-up in each bundle, near the one
-/// before.
+/// id. Costs a sort of them, a look at each bundle, and for each vertex that rests a look-up in each bundle, near the
+/// one before.
 pub fn looked_at<V: Plain, M: Plain>(
     alloc: Global,
     partitions: Partitioner,

@@ -3,7 +3,8 @@ ghost use Rattle.std.specs.Prelude.{◌≡◌, ◌++◌, [], ◌∷◌, true, If
 ghost use Rattle.std.specs.List.Sorted.{IsStrictlySortedBy};
 ghost use Rattle.std.specs.Option.{option_eq};
 ghost use Rattle.std.specs.Ordering.{nat_cmp};
-ghost use Rattle.pg_compute.specs.Differing.{AreTold, HaveSameIds, are_resting, has_same_rest, is_resting, is_same_state, resting_among, restless_among, without};
+ghost use Rattle.pg_compute.specs.Differing.{AreTold, HaveSameIds, are_resting, has_same_rest, is_resting, is_same_state};
+ghost use Rattle.pg_compute.specs.Differing.{resting_among, restless_among, without};
 
 use crate::ids::{merged, without};
 use pg_graph::{Memory, Superstep, VertexId};
@@ -45,8 +46,8 @@ pub fn differing_after<V: Plain, M: Plain>(
 ) -> Result<Differing, Memory>
     requires { IsStrictlySortedBy nat_cmp looked_at.now }
     ensures restless { IfOk result (λ after. after.restless.items ≡ restless_among V.PartialEq.eq old.now new.now superstep looked_at.now) }
-    ensures resting { IfOk result (λ after. HaveSameIds after.resting.items
-        (without before.now.resting.items looked_at.now ++ resting_among V.PartialEq.eq old.now new.now superstep looked_at.now)) }
+    ensures resting { IfOk result (λ after. HaveSameIds after.resting.items (without before.now.resting.items looked_at.now
+        ++ resting_among V.PartialEq.eq old.now new.now superstep looked_at.now)) }
     ensures told { IfOk result (λ _. AreTold V.PartialEq.eq old.now new.now superstep looked_at.now) }
 {
     let Differing { restless, resting } = differing_among(alloc, old, new, superstep, looked_at)?;

@@ -79,7 +79,8 @@ pub(crate) fn without(
     Ok(rest)
 }
 
-/// Whether an id is among these, which rise. `near` is a guess at how many of them are below it, and is then how many are.
+/// Whether an id is among these, which rise. `near` is a guess at how many of them are below it, and is then how many
+/// are.
 fn is_among(ids: &[VertexId], near: &mut usize, id: VertexId) -> bool
     requires { IsStrictlySortedBy nat_cmp ids.now }
     ensures { result ≡ has_id ids.now id }
@@ -89,8 +90,8 @@ fn is_among(ids: &[VertexId], near: &mut usize, id: VertexId) -> bool
     place < ids.len() && ids[place] == id
 }
 
-/// How many of these ids, which rise, are below one. `near` is a guess at it, and costs no search where it is right, or a
-/// few too low.
+/// How many of these ids, which rise, are below one. `near` is a guess at it, and costs no search where it is right, or
+/// a few too low.
 fn count_below(ids: &[VertexId], near: usize, id: VertexId) -> usize
     requires { IsStrictlySortedBy nat_cmp ids.now }
     ensures { IsPartitionPoint (λ k. nat_lt k id ≡ true) (λ k. nat_lt k id ≡ false) ids.now result }

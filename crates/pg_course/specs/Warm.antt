@@ -37,7 +37,8 @@ module _ {V M : Type 0} (value_eq : V → V → Bool) (course : Holding V M) (ol
   -- those that do are, in whatever order, those that did and weren't looked at, and those that are found to
   abbrev pub AreTheResting : List ℕ → Type 0
   AreTheResting resting =
-      HaveSameIds resting (without course.resting looked_at ++ resting_among value_eq old trace_after (course.place + 1) looked_at)
+      HaveSameIds resting
+      (without course.resting looked_at ++ resting_among value_eq old trace_after (course.place + 1) looked_at)
 
   -- and where states are found the same, they are
   abbrev pub AreCompared : Type 0

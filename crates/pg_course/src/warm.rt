@@ -147,8 +147,10 @@ fn further<V: Plain, M: Plain>(
     requires rise { ChangesRise changes }
     requires looked_at_rise { IsStrictlySortedBy nat_cmp looked_at.items }
     requires counts { course.place + 1 < 2 ^ 32 }
-    ensures further { IfOk result (λ after. after ≡ further V.PartialEq.eq course old looked_at.items changes after.resting) }
-    ensures resting { IfOk result (λ after. AreTheResting V.PartialEq.eq course old looked_at.items changes after.resting) }
+    ensures further { IfOk result (λ after.
+        after ≡ further V.PartialEq.eq course old looked_at.items changes after.resting) }
+    ensures resting { IfOk result (λ after.
+        AreTheResting V.PartialEq.eq course old looked_at.items changes after.resting) }
     ensures told { IfOk result (λ _. AreCompared V.PartialEq.eq course old looked_at.items changes) }
 {
     let Course {

@@ -4,7 +4,6 @@ ghost use Rattle.std.specs.List.{AllByRecursion};
 ghost use Rattle.std.specs.List.Sorted.{IsNonDecreasingBy};
 ghost use Rattle.pg_graph.specs.Rows.{row_at};
 ghost use Rattle.pg_inbox.specs.Counting.{messages_where};
-ghost use Rattle.pg_inbox.specs.Inboxes.{letters_at};
 ghost use Rattle.pg_inbox.specs.Sound.{sent_parcels};
 
 use crate::Bundle;
@@ -14,16 +13,6 @@ use pg_program::Plain;
 use std::alloc::{AllocError, Global};
 
 impl<M: Plain> Bundle<M> {
-    /// How many messages there are to a target. Costs a few binary searches, and as much as there are.
-    pub fn messages_to(&self, target: VertexId) -> usize
-        ensures { result ≡ length (letters_at target self.now) }
-    {
-        match self.parcel(target) {
-            Some(parcel) => parcel.len(),
-            None => 0,
-        }
-    }
-
     /// How many messages there are. Costs O(1) where the bundle is as it was made of messages that aren't combined;
     /// else a look at each message and a list of the targets.
     pub fn messages(&self, alloc: Global) -> Result<u64, Memory>

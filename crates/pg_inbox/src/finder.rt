@@ -114,7 +114,8 @@ fn letters_near<'a, X>(
 fn count_below<X>(letters: &[(VertexId, X)], near: usize, target: VertexId) -> usize
     requires { IsNonDecreasingBy (λ l. l.0) letters.now }
     ensures bound { result ≤ length letters.now }
-    ensures parts { IsPartitionPoint (λ l. nat_lt l.0 target ≡ true) (λ l. nat_lt l.0 target ≡ false) letters.now result }
+    ensures parts { IsPartitionPoint (λ l. nat_lt l.0 target ≡ true)
+        (λ l. nat_lt l.0 target ≡ false) letters.now result }
 {
     let near = near.min(letters.len());
     let (_, from) = letters.split_at(near);

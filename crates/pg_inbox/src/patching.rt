@@ -66,7 +66,8 @@ pub fn patch<M: Plain, C: MessageCombiner<M>>(
     })
 }
 
-/// What is done, beside the target that it is done to, by rising target: to each what is withdrawn, and then what is added.
+/// What is done, beside the target that it is done to, by rising target: to each what is withdrawn, and then what is
+/// added.
 fn mends_by_target<M: Plain>(
     alloc: Global,
     withdrawn: &[(VertexId, VertexId)],
@@ -308,7 +309,8 @@ fn withdrawn_senders<M: Plain>(
     mends: &[(VertexId, Mend<M>)],
 ) -> Result<Vec<VertexId>, Memory>
     ensures rise { IfOk result (λ senders. IsStrictlySortedBy nat_cmp senders.items) }
-    ensures same { IfOk result (λ senders. (id : ℕ) → has_id senders.items id ≡ has_id (senders_of (map (λ m. m.1) mends.now)) id) }
+    ensures same { IfOk result (λ senders.
+        (id : ℕ) → has_id senders.items id ≡ has_id (senders_of (map (λ m. m.1) mends.now)) id) }
 {
     let mut senders = senders_in(alloc, mends)?;
     senders.sort_unstable();

@@ -1,5 +1,6 @@
 //! Inboxes: what a vertex receives of the bundles to its partition.
-ghost use Rattle.std.specs.Prelude.{◌≡◌, ◌==◌, ◌++◌, ◌∷◌, ◌||◌, ◌&&◌, ℕ, [], map, false, true, is_some, IsSome, IfSome, IfOk, OnOk};
+ghost use Rattle.std.specs.Prelude.{◌≡◌, ◌==◌, ◌++◌, ◌∷◌, ◌||◌, ◌&&◌, ℕ, [], map, false, true, is_some};
+ghost use Rattle.std.specs.Prelude.{IsSome, IfSome, IfOk, OnOk};
 ghost use Rattle.std.specs.List.{AllByRecursion, flat_map, fold};
 ghost use Rattle.std.specs.Option.{option_to_list};
 ghost use Rattle.pg_map.specs.Entries.{value_at};
@@ -51,8 +52,8 @@ fn inbox_of<M: Plain, C: MessageCombiner<M>>(
     }
 }
 
-/// Adds those of these vertices to which one of the bundles has a message, one of them more than once where several have.
-/// Costs a look-up in each bundle for each, near the one before.
+/// Adds those of these vertices to which one of the bundles has a message, more than once where several have. Costs a
+/// look-up in each bundle for each, near the one before.
 pub fn add_receivers<M: Plain>(
     receivers: &mut Vec<VertexId>,
     ids: &[VertexId],

@@ -63,7 +63,7 @@ fn write_target(
     target: u32,
     combiner: AnyCombiner,
 ) -> Result<(), Memory> {
-    let count = bundle.messages_to(id(target));
+    let count = bundle.finder().messages_to(id(target));
     let messages = inbox_of(alloc, &[bundle], target, combiner)?;
     write!(text, "{target}:{count}[{messages}]")?;
     Ok(())
