@@ -1,7 +1,7 @@
 -- The edits of one vertex after another.
 use Rattle.std.proofs.Common.{◌≡◌, ℕ, zero, suc, ◌+◌, ◌<◌, ◌≤◌, inl, inr, Bool, true, false, cond, List, [], ◌∷◌, ◌++◌, length}
 use Rattle.std.proofs.Common.{get_or, take, drop, Option, None, Some, Result, Ok, Err, MatchResult, MatchOption, leb, refl, sym, ap, ◌∙◌, subst}
-use Rattle.std.proofs.Common.{⊎_elim, arith}
+use Rattle.std.proofs.Common.{◌⊎◌, ⊎_elim, arith}
 use Rattle.std.specs.BTreeMap.{is_at}
 use Rattle.std.specs.List.{AllByRecursion}
 use Rattle.std.specs.Ordering.{nat_cmp}
@@ -19,9 +19,9 @@ use Rattle.pg_edits.specs.ChangedRows.{Changes}
 use Rattle.pg_edits.specs.ChangedRows.{degree_of}
 use Rattle.pg_graph.specs.Changes.{changed_row_at}
 use Rattle.pg_graph.specs.Edit.{all_edited}
-use Rattle.pg_graph.specs.Grouped.{RiseBySource, AreGrouped, IsNoLater, IsLeft, IsDone, AreDealt, earlier_of, AreMade, IsFirst}
+use Rattle.pg_graph.specs.Grouped.{RiseBySource, AreGrouped, RowRises, EditedRowsRise, IsNoLater, IsLeft, IsDone, AreDealt, earlier_of, AreMade, IsFirst}
 use Rattle.pg_edits.specs.RowEdit.{Places, source_of, vertex_after}
-use Rattle.pg_graph.specs.RowEdit.{HasRoom, placed, edits_of, is_of}
+use Rattle.pg_graph.specs.RowEdit.{HasRoom, IsEarliestFault, placed, edits_of, is_of, vertices_added, edges_added}
 use Rattle.pg_graph.specs.Rows.{Rows, HasRisingIds, row_at, vertex_count, edge_count}
 use Rattle.pg_edits.specs.declared.row.Row.{Row}
 use Rattle.pg_edits.specs.declared.edit.Edit.{Edit}
@@ -168,7 +168,8 @@ module _ (rows : Rows) (all left here later rest : Places) (first : ℕ × Edit)
       (subst (AllByRecursion (λ e. AllByRecursion (λ c. c.0 < source_of e.1) changes)) turn.whole dealt.below)
 
   -- a row was found
-  module _ (row : Option Row) (made : Ok row ≡ vertex_after (row_at id rows) here) (changes' : Changes) (grown : changes' ≡ changes ++ (id, row) ∷ []) where
+  module _ (rises : RowRises (row_at id rows)) (row : Option Row) (made : Ok row ≡ vertex_after (row_at id rows) here)
+      (changes' : Changes) (grown : changes' ≡ changes ++ (id, row) ∷ []) where
     at_id : (q : ℕ) → q ≡ id → value_at q changes' ≡ Some row
     at_id q same =
         ap (value_at q) grown ∙ find-right q changes ((id, row) ∷ []) (none_yet q same)
@@ -190,6 +191,7 @@ module _ (rows : Rows) (all left here later rest : Places) (first : ℕ × Edit)
       seen = λ q. ⊎_elim
           (λ (same : q ≡ id). inr (record {
             edits = none_later q same;
+            rises = subst (λ k. RowRises (row_at k rows)) (sym same) rises;
             told = subst (λ r. MatchResult r (λ x. value_at q changes' ≡ Some x) (IsNoLater fault))
                 (made ∙ ap (λ k. vertex_after (row_at k rows) here) (sym same) ∙ ap (vertex_after (row_at q rows)) (here_is q same)) (at_id q same);
           }))
@@ -197,6 +199,7 @@ module _ (rows : Rows) (all left here later rest : Places) (first : ℕ × Edit)
           (λ (l : IsLeft q all left changes). inl (record { edits = sym (same_later q apart) ∙ l.edits; change = elsewhere q apart ∙ l.change }))
           (λ (d : IsDone rows q all left changes fault). inr (record {
             edits = sym (same_later q apart) ∙ d.edits;
+            rises = d.rises;
             told = still q (vertex_after (row_at q rows) (edits_of q all)) (elsewhere q apart) d.told;
           }))
           (dealt.seen q))
@@ -210,7 +213,7 @@ module _ (rows : Rows) (all left here later rest : Places) (first : ℕ × Edit)
         still q (Err f) same told = told
 
   -- a fault was found
-  module _ (found : EditFault) (made : Err found ≡ vertex_after (row_at id rows) here) where
+  module _ (rises : RowRises (row_at id rows)) (found : EditFault) (made : Err found ≡ vertex_after (row_at id rows) here) where
     pub fault_found : AreDealt rows all later changes (Some (earlier_of fault found))
     fault_found = record {
       left_rise = later_rise;
@@ -219,6 +222,7 @@ module _ (rows : Rows) (all left here later rest : Places) (first : ℕ × Edit)
       seen = λ q. ⊎_elim
           (λ (same : q ≡ id). inr (record {
             edits = none_later q same;
+            rises = subst (λ k. RowRises (row_at k rows)) (sym same) rises;
             told = subst (λ r. MatchResult r (λ x. value_at q changes ≡ Some x) (IsNoLater (Some (earlier_of fault found))))
                 (made ∙ ap (λ k. vertex_after (row_at k rows) here) (sym same) ∙ ap (vertex_after (row_at q rows)) (here_is q same))
                 (earlier_found fault found);
@@ -227,6 +231,7 @@ module _ (rows : Rows) (all left here later rest : Places) (first : ℕ × Edit)
           (λ (l : IsLeft q all left changes). inl (record { edits = sym (same_later q apart) ∙ l.edits; change = l.change }))
           (λ (d : IsDone rows q all left changes fault). inr (record {
             edits = sym (same_later q apart) ∙ d.edits;
+            rises = d.rises;
             told = still q (vertex_after (row_at q rows) (edits_of q all)) d.told;
           }))
           (dealt.seen q))
@@ -284,15 +289,22 @@ Ok_same : {X E : Type 0} {x y : X} → ◌≡◌ {A = Result X E} (Ok x) (Ok y) 
 Ok_same h = cc
 
 module _ (rows : Rows) (edits : List Edit) (all : Places) (rising : HasRisingIds rows)
-    (room : HasRoom (vertex_count rows) (edge_count rows) (length edits)) (grouped : AreGrouped edits all) where
+    (room : HasRoom (vertex_count rows) (edge_count rows) (vertices_added edits) (edges_added edits)) (grouped : AreGrouped edits all)
+    (rise : EditedRowsRise rows all) where
   -- the edits of a vertex, as the law names them
   placed_is : (q : ℕ) (r : Result (Option Row) EditFault) → vertex_after (row_at q rows) (edits_of q (placed 1 edits)) ≡ r
       → vertex_after (row_at q rows) (edits_of q all) ≡ r
   placed_is q r h = ap (vertex_after (row_at q rows)) (grouped.same q) ∙ h
 
+  placed_rise : EditedRowsRise rows (placed 1 edits)
+  placed_rise q = subst (λ es. (es ≡ []) ⊎ RowRises (row_at q rows)) (grouped.same q) (rise q)
+
+  by_rows : IsByRows 1 rows edits (all_edited 1 rows edits)
+  by_rows = batch_by_rows 1 rows edits rising placed_rise room
+
   pub made_of_all : (changes : Changes) → AreMade rows all changes
       → MakesRows 1 rows edits (with_changes changes rows) × (all_edited 1 rows edits ≡ Ok (with_changes changes rows))
-  made_of_all changes made = by (all_edited 1 rows edits) refl (batch_by_rows 1 rows edits rising room)
+  made_of_all changes made = by (all_edited 1 rows edits) refl by_rows
     where
       same : (now : Rows) → MakesRows 1 rows edits now → now ≡ with_changes changes rows
       same now makes =
@@ -305,7 +317,7 @@ module _ (rows : Rows) (edits : List Edit) (all : Places) (rising : HasRisingIds
       by (Err fault) e first = absurd (Ok_not_Err (sym (made.told first.vertex) ∙ placed_is first.vertex _ first.there))
 
   pub first_is : (fault : EditFault) → IsFirst rows all fault → all_edited 1 rows edits ≡ Err fault
-  first_is fault found = by (all_edited 1 rows edits) refl (batch_by_rows 1 rows edits rising room)
+  first_is fault found = by (all_edited 1 rows edits) refl by_rows
     where
       there : vertex_after (row_at found.vertex rows) (edits_of found.vertex (placed 1 edits)) ≡ Err fault
       there = ap (vertex_after (row_at found.vertex rows)) (sym (grouped.same found.vertex)) ∙ found.there
@@ -324,6 +336,13 @@ module _ (rows : Rows) (edits : List Edit) (all : Places) (rising : HasRisingIds
       by : (r : Result Rows EditFault) → all_edited 1 rows edits ≡ r → IsByRows 1 rows edits r → all_edited 1 rows edits ≡ Err fault
       by (Ok now) e makes = absurd (Ok_not_Err (sym (makes.seen found.vertex) ∙ there))
       by (Err other) e first = e ∙ ap (λ f. Err f) (same other first)
+
+  pub earliest_is : (fault : EditFault) → IsFirst rows all fault → IsEarliestFault rows edits fault
+  earliest_is fault found = record {
+    vertex = found.vertex;
+    there = ap (vertex_after (row_at found.vertex rows)) (sym (grouped.same found.vertex)) ∙ found.there;
+    first = λ q other why. found.first q other (placed_is q _ why);
+  }
 
 -- ---- the edges are counted
 

@@ -4,8 +4,8 @@ pub mod Drafting
 pub mod Edited
 pub mod InOrder
 pub mod Laws
+pub mod Neighbours
 pub mod RowLaw
-pub mod RowsMade
 pub mod Search
 pub mod Stretch
 pub mod Taken

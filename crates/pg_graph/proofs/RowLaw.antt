@@ -2,24 +2,28 @@
 use Rattle.std.proofs.Common.{◌≡◌, ℕ, ℤ, ◌+◌, ◌<◌, ◌≤◌, Bool, true, false, cond, List, [], ◌∷◌, length, Option, None, Some, Ordering, is_some, Result}
 use Rattle.std.proofs.Common.{Ok, Err, MatchResult, ◌⊎◌, inl, inr, eqb, refl, sym, ap, ◌∙◌, subst, ⊎_elim, arith}
 use Rattle.std.specs.List.{AllByRecursion}
+use Rattle.std.specs.List.Sorted.{IsStrictlySortedBy}
 use Rattle.std.specs.declared.cmp.Ordering.TheVariants.{Less, Equal, Greater}
 use Rattle.std.specs.Ordering.{nat_cmp, match_ordering}
 use Rattle.std.specs.BTreeMap.{is_at}
 use Rattle.std.proofs.lemmas.Bool.{cases_eq}
 use Rattle.std.proofs.lemmas.Bool.Decides.{nat_tests}
+use Rattle.std.proofs.lemmas.List.Sums.{sum_by-cons}
 use Rattle.pg_map.specs.Entries.{with_change}
 use Rattle.pg_map.proofs.Changing.{rises-change, change_same, change_other}
-use Rattle.pg_map.proofs.Rising.{length-insert_absent, length-insert_present, length-remove_present}
+use Rattle.pg_map.proofs.Rising.{length-insert_absent, length-insert_present, length-remove_present, rises-insert, rises-remove}
 use Rattle.pg_edits.specs.ChangedRows.{degree_of}
-use Rattle.pg_edits.specs.EdgeList.{EdgeList, weight_at, with_edge, without_edge}
+use Rattle.pg_edits.specs.EdgeList.{EdgeList, IsRising, weight_at, with_edge, without_edge}
 use Rattle.pg_graph.specs.Edit.{edited, all_edited, vertex_limit, edge_limit}
 use Rattle.pg_edits.specs.RowEdit.{source_of, row_edited, none_edited, vertex_edited, Places, vertex_after}
-use Rattle.pg_graph.specs.RowEdit.{placed, is_of, edits_of, HasRoom}
+use Rattle.pg_graph.specs.Grouped.{EditedRowsRise, RowRises}
+use Rattle.pg_graph.specs.RowEdit.{placed, is_of, edits_of, adds_vertex, adds_edge, vertices_added, edges_added, HasRoom}
 use Rattle.pg_graph.specs.Rows.{Rows, HasRisingIds, row_at, vertex_count, edge_count}
 use Rattle.pg_edits.specs.declared.row.Row.{Row}
 use Rattle.pg_edits.specs.declared.edit.Edit.{Edit}
 use Rattle.pg_edits.specs.declared.edit.Edit.TheVariants.{AddVertex, RemoveVertex, SetInput, AddEdge, SetEdge, RemoveEdge}
 use Rattle.pg_edits.specs.declared.edit.EditKind.{EditKind}
+use Rattle.pg_edits.specs.declared.edit.EditKind.TheVariants.{NoEdge}
 use Rattle.pg_edits.specs.declared.edit.EditFault.{EditFault}
 use Rattle.pg_edits.proofs.AtPlace.{cut_absent}
 use Rattle.pg_graph.proofs.Batches.{after, first_edit, all_edited-nil, Err_not_Ok, Ok_not_Err, Err_same}
@@ -36,16 +40,16 @@ stepped id rows (Ok change) = Ok (with_change id change rows)
 stepped id rows (Err kind) = Err kind
 
 module _ (rows : Rows) where
-  edited-none : (edit : Edit) → row_at (source_of edit) rows ≡ None → vertex_count rows < vertex_limit
+  edited-none : (edit : Edit) → row_at (source_of edit) rows ≡ None → (adds_vertex edit ≡ true → vertex_count rows < vertex_limit)
       → edited rows edit ≡ stepped (source_of edit) rows (none_edited edit)
-  edited-none (AddVertex id input) gone room = AddVertex-ok rows id input (ap is_some gone) room
+  edited-none (AddVertex id input) gone room = AddVertex-ok rows id input (ap is_some gone) (room refl)
   edited-none (RemoveVertex id) gone room = RemoveVertex-missing rows id gone
   edited-none (SetInput id input) gone room = SetInput-missing rows id gone input
   edited-none (AddEdge id target weight) gone room = AddEdge-missing rows id gone target weight
   edited-none (SetEdge id target weight) gone room = SetEdge-missing rows id gone target weight
   edited-none (RemoveEdge id target) gone room = RemoveEdge-missing rows id gone target
 
-  edited-some : (edit : Edit) (row : Row) → row_at (source_of edit) rows ≡ Some row → edge_count rows < edge_limit
+  edited-some : (edit : Edit) (row : Row) → row_at (source_of edit) rows ≡ Some row → (adds_edge edit ≡ true → edge_count rows < edge_limit)
       → edited rows edit ≡ stepped (source_of edit) rows (row_edited row edit)
   edited-some (AddVertex id input) row there room = AddVertex-exists rows id input (ap is_some there)
   edited-some (RemoveVertex id) row there room = RemoveVertex-ok rows id row there
@@ -55,7 +59,7 @@ module _ (rows : Rows) where
       by : (b : Bool) → is_some (weight_at target row.edges) ≡ b
           → edited rows (AddEdge id target weight) ≡ stepped id rows (row_edited row (AddEdge id target weight))
       by true e = rw e (AddEdge-exists rows id row there target weight e)
-      by false e = rw e (AddEdge-ok rows id row there target weight e room)
+      by false e = rw e (AddEdge-ok rows id row there target weight e (room refl))
   edited-some (SetEdge id target weight) row there room = by (is_some (weight_at target row.edges)) refl
     where
       by : (b : Bool) → is_some (weight_at target row.edges) ≡ b
@@ -69,7 +73,7 @@ module _ (rows : Rows) where
       by true e = rw e (RemoveEdge-ok rows id row there target e)
       by false e = rw e (RemoveEdge-none rows id row there target e)
 
-  pub edited-vertex : (edit : Edit) → vertex_count rows < vertex_limit → edge_count rows < edge_limit
+  pub edited-vertex : (edit : Edit) → (adds_vertex edit ≡ true → vertex_count rows < vertex_limit) → (adds_edge edit ≡ true → edge_count rows < edge_limit)
       → edited rows edit ≡ stepped (source_of edit) rows (vertex_edited (row_at (source_of edit) rows) edit)
   edited-vertex edit vertices edges = by (row_at (source_of edit) rows) refl
     where
@@ -135,6 +139,24 @@ of_new : (P : Option Row → Type 0) (b : Bool) (kind : EditKind) (x change : Op
 of_new P true kind x change made here = absurd (Err_not_Ok made)
 of_new P false kind x change made here = subst P (Ok_same made) here
 
+ones-le : (row : Option Row) → ones row ≤ 1
+ones-le None = omega arith
+ones-le (Some row) = omega arith
+
+-- one where it is such an edit
+abbrev one_if : Bool → ℕ
+one_if b = cond b 1 0
+
+-- a vertex more only where the edit adds one
+few_vertices : (row : Option Row) (edit : Edit) (change : Option Row) → vertex_edited row edit ≡ Ok change → ones change ≤ ones row + one_if (adds_vertex edit)
+few_vertices None (AddVertex id input) change made = ones-le change
+few_vertices None (RemoveVertex id) change made = absurd (Err_not_Ok made)
+few_vertices None (SetInput id input) change made = absurd (Err_not_Ok made)
+few_vertices None (AddEdge id target weight) change made = absurd (Err_not_Ok made)
+few_vertices None (SetEdge id target weight) change made = absurd (Err_not_Ok made)
+few_vertices None (RemoveEdge id target) change made = absurd (Err_not_Ok made)
+few_vertices (Some row) edit change made = omega (arith, ones-le change)
+
 module _ (n : ℕ) where
   -- so many edges at most
   abbrev FewEdges : Option Row → Type 0
@@ -148,30 +170,74 @@ module _ (n : ℕ) where
   few_none (SetEdge id target weight) change made = absurd (Err_not_Ok made)
   few_none (RemoveEdge id target) change made = absurd (Err_not_Ok made)
 
-  few_some : (row : Row) (edit : Edit) (change : Option Row) → length row.edges + 1 ≤ n → row_edited row edit ≡ Ok change → FewEdges change
-  few_some row (AddVertex id input) change room made = absurd (Err_not_Ok made)
-  few_some row (RemoveVertex id) change room made = subst FewEdges (Ok_same made) (omega arith)
-  few_some row (SetInput id input) change room made = subst FewEdges (Ok_same made) (omega (arith, room))
-  few_some row (AddEdge id target weight) change room made = of_new FewEdges _ _ _ change made (omega (arith, room, length-put row.edges target weight))
-  few_some row (SetEdge id target weight) change room made = of_put FewEdges _ _ _ change made (omega (arith, room, length-put row.edges target weight))
-  few_some row (RemoveEdge id target) change room made = of_put FewEdges _ _ _ change made (omega (arith, room, length-cut row.edges target))
+  -- where edges rise, a weight is set in its place
+  few_set : (row : Row) (target : ℕ) (weight : ℤ) (change : Option Row) (there : Option ℤ) → weight_at target row.edges ≡ there → IsRising row.edges
+      → length row.edges ≤ n
+      → cond (is_some there) (Ok (Some (record row { edges = with_edge target weight row.edges }))) (Err NoEdge) ≡ Ok change → FewEdges change
+  few_set row target weight change None here rising room made = absurd (Err_not_Ok made)
+  few_set row target weight change (Some old) here rising room made =
+      subst FewEdges (Ok_same made) (omega (arith, room, length-insert_present row.edges target old weight rising here))
 
-few_edges : (row : Option Row) (edit : Edit) (change : Option Row) → vertex_edited row edit ≡ Ok change → degree_of change ≤ degree_of row + 1
-few_edges None edit change made = few_none 1 edit change made
-few_edges (Some row) edit change made = few_some (length row.edges + 1) row edit change (omega arith) made
+  few_some : (row : Row) (edit : Edit) (change : Option Row) → IsRising row.edges → length row.edges + one_if (adds_edge edit) ≤ n
+      → row_edited row edit ≡ Ok change → FewEdges change
+  few_some row (AddVertex id input) change rising room made = absurd (Err_not_Ok made)
+  few_some row (RemoveVertex id) change rising room made = subst FewEdges (Ok_same made) (omega arith)
+  few_some row (SetInput id input) change rising room made = subst FewEdges (Ok_same made) (omega (arith, room))
+  few_some row (AddEdge id target weight) change rising room made =
+      of_new FewEdges _ _ _ change made (omega (arith, room, length-put row.edges target weight))
+  few_some row (SetEdge id target weight) change rising room made =
+      few_set row target weight change (weight_at target row.edges) refl rising (omega (arith, room)) made
+  few_some row (RemoveEdge id target) change rising room made = of_put FewEdges _ _ _ change made (omega (arith, room, length-cut row.edges target))
 
-ones-le : (row : Option Row) → ones row ≤ 1
-ones-le None = omega arith
-ones-le (Some row) = omega arith
+-- an edge more only where the edit adds one
+few_edges : (row : Option Row) (edit : Edit) (change : Option Row) → RowRises row → vertex_edited row edit ≡ Ok change
+    → degree_of change ≤ degree_of row + one_if (adds_edge edit)
+few_edges None edit change rises made = few_none (degree_of None + one_if (adds_edge edit)) edit change made
+few_edges (Some row) edit change rises made = few_some (length row.edges + one_if (adds_edge edit)) row edit change rises (omega arith) made
 
--- after an edit there is room for one fewer
-room-step : (rows : Rows) (edit : Edit) (change : Option Row) (n : ℕ) → HasRisingIds rows
-    → vertex_edited (row_at (source_of edit) rows) edit ≡ Ok change → HasRoom (vertex_count rows) (edge_count rows) (n + 1)
-    → HasRoom (vertex_count (with_change (source_of edit) change rows)) (edge_count (with_change (source_of edit) change rows)) n
-room-step rows edit change n rising made room = record {
-  vertices_fit = omega (arith, room.vertices_fit, vertices-change rows rising (source_of edit) change, ones-le change);
-  edges_fit = omega (arith, room.edges_fit, edges-change rows rising (source_of edit) change, few_edges (row_at (source_of edit) rows) edit change made);
-}
+-- the edges of a row rise still
+none_rise : IsRising []
+unfolding IsStrictlySortedBy
+none_rise = tt
+
+row_rises : (row : Option Row) (edit : Edit) (change : Option Row) → RowRises row → vertex_edited row edit ≡ Ok change → RowRises change
+row_rises None (AddVertex id input) change rises made = subst RowRises (Ok_same made) none_rise
+row_rises None (RemoveVertex id) change rises made = absurd (Err_not_Ok made)
+row_rises None (SetInput id input) change rises made = absurd (Err_not_Ok made)
+row_rises None (AddEdge id target weight) change rises made = absurd (Err_not_Ok made)
+row_rises None (SetEdge id target weight) change rises made = absurd (Err_not_Ok made)
+row_rises None (RemoveEdge id target) change rises made = absurd (Err_not_Ok made)
+row_rises (Some row) (AddVertex id input) change rises made = absurd (Err_not_Ok made)
+row_rises (Some row) (RemoveVertex id) change rises made = subst RowRises (Ok_same made) tt
+row_rises (Some row) (SetInput id input) change rises made = subst RowRises (Ok_same made) rises
+row_rises (Some row) (AddEdge id target weight) change rises made = of_new RowRises _ _ _ change made (rises-insert row.edges target weight rises)
+row_rises (Some row) (SetEdge id target weight) change rises made = of_put RowRises _ _ _ change made (rises-insert row.edges target weight rises)
+row_rises (Some row) (RemoveEdge id target) change rises made = of_put RowRises _ _ _ change made (rises-remove target row.edges rises)
+
+-- after an edit there is room for the others
+room-step : (rows : Rows) (edit : Edit) (change : Option Row) (edits : List Edit) → HasRisingIds rows → RowRises (row_at (source_of edit) rows)
+    → vertex_edited (row_at (source_of edit) rows) edit ≡ Ok change
+    → HasRoom (vertex_count rows) (edge_count rows) (vertices_added (edit ∷ edits)) (edges_added (edit ∷ edits))
+    → HasRoom (vertex_count (with_change (source_of edit) change rows)) (edge_count (with_change (source_of edit) change rows))
+    (vertices_added edits) (edges_added edits)
+room-step rows edit change edits rising rises made room =
+    let row = row_at (source_of edit) rows in
+    record {
+      vertices_fit = omega (
+        arith,
+        room.vertices_fit,
+        sum_by-cons (λ e. one_if (adds_vertex e)) edit edits,
+        vertices-change rows rising (source_of edit) change,
+        few_vertices row edit change made,
+      );
+      edges_fit = omega (
+        arith,
+        room.edges_fit,
+        sum_by-cons (λ e. one_if (adds_edge e)) edit edits,
+        edges-change rows rising (source_of edit) change,
+        few_edges row edit change rises made,
+      );
+    }
 
 -- ---- all edits, seen from one vertex
 
@@ -204,6 +270,30 @@ step_seen rows position edit edits change q rising made =
     (λ (n : q ≡ source_of edit → ⊥).
     ap (vertex_after (row_at q rows)) (of_other q position edit edits n)
     ∙ sym (ap (λ r. vertex_after r (edits_of q edits)) (change_other (source_of edit) change rows q n)))
+    (cases_eq q (source_of edit))
+
+-- the row of the first edit rises
+first_rises : (rows : Rows) (position : ℕ) (edit : Edit) (edits : Places) → EditedRowsRise rows ((position, edit) ∷ edits)
+    → RowRises (row_at (source_of edit) rows)
+first_rises rows position edit edits rise =
+    ⊎_elim
+    (λ (none : edits_of (source_of edit) ((position, edit) ∷ edits) ≡ []).
+    absurd (let h : (position, edit) ∷ edits_of (source_of edit) edits ≡ [] = sym (of_same (source_of edit) position edit edits refl) ∙ none in cc))
+    (λ (rises : RowRises (row_at (source_of edit) rows)). rises)
+    (rise (source_of edit))
+
+-- and those of the others still do once it is made
+next_rise : (rows : Rows) (position : ℕ) (edit : Edit) (edits : Places) (change : Option Row) → HasRisingIds rows → RowRises change
+    → EditedRowsRise rows ((position, edit) ∷ edits) → EditedRowsRise (with_change (source_of edit) change rows) edits
+next_rise rows position edit edits change rising rises rise q =
+    let rows' = with_change (source_of edit) change rows in
+    ⊎_elim
+    (λ (e : q ≡ source_of edit). inr (subst RowRises (sym (ap (λ k. row_at k rows') e ∙ change_same (source_of edit) change rows rising)) rises))
+    (λ (n : q ≡ source_of edit → ⊥).
+    ⊎_elim
+    (λ (none : edits_of q ((position, edit) ∷ edits) ≡ []). inl (sym (of_other q position edit edits n) ∙ none))
+    (λ (rises : RowRises (row_at q rows)). inr (subst RowRises (sym (change_other (source_of edit) change rows q n)) rises))
+    (rise q))
     (cases_eq q (source_of edit))
 
 -- a fault is at a place of the edits
@@ -277,7 +367,7 @@ faults_apart p q q' (e ∷ edits) row row' f f' apart why why' same =
 pub record MakesRows (p : ℕ) (rows : Rows) (edits : List Edit) (now : Rows) : Type 0 where
   pub seen : (q : ℕ) → vertex_after (row_at q rows) (edits_of q (placed p edits)) ≡ Ok (row_at q now)
   pub rise : HasRisingIds now
-  pub room : HasRoom (vertex_count now) (edge_count now) 0
+  pub room : HasRoom (vertex_count now) (edge_count now) 0 0
 
 pub record IsFirstFault (p : ℕ) (rows : Rows) (edits : List Edit) (fault : EditFault) : Type 0 where
   pub vertex : ℕ
@@ -311,23 +401,28 @@ module _ (p : ℕ) (rows : Rows) (edit : Edit) (edits : List Edit) (rising : Has
         (all_from-of p q (placed p (edit ∷ edits)) (all_from-placed p (edit ∷ edits))) w;
   }
 
-pub batch_by_rows : (p : ℕ) (rows : Rows) (edits : List Edit) → HasRisingIds rows → HasRoom (vertex_count rows) (edge_count rows) (length edits)
-    → IsByRows p rows edits (all_edited p rows edits)
-batch_by_rows p rows [] rising room = subst (IsByRows p rows []) (sym (all_edited-nil p rows)) (record { seen = λ q. refl; rise = rising; room = room })
-batch_by_rows p rows (edit ∷ edits) rising room =
+pub batch_by_rows : (p : ℕ) (rows : Rows) (edits : List Edit) → HasRisingIds rows → EditedRowsRise rows (placed p edits)
+    → HasRoom (vertex_count rows) (edge_count rows) (vertices_added edits) (edges_added edits) → IsByRows p rows edits (all_edited p rows edits)
+batch_by_rows p rows [] rising rise room = subst (IsByRows p rows []) (sym (all_edited-nil p rows)) (record { seen = λ q. refl; rise = rising; room = room })
+batch_by_rows p rows (edit ∷ edits) rising rise room =
     subst (IsByRows p rows (edit ∷ edits))
     (sym (first_edit p rows edit edits
-    ∙ ap (after p rows edits) (edited-vertex rows edit (omega (arith, room.vertices_fit)) (omega (arith, room.edges_fit)))))
-    (by (vertex_edited (row_at (source_of edit) rows) edit) refl (λ rows' rising' room'. batch_by_rows (p + 1) rows' edits rising' room'))
+    ∙ ap (after p rows edits)
+    (edited-vertex rows edit
+    (λ adds. omega (arith, room.vertices_fit, sum_by-cons (λ e. one_if (adds_vertex e)) edit edits, ap one_if adds))
+    (λ adds. omega (arith, room.edges_fit, sum_by-cons (λ e. one_if (adds_edge e)) edit edits, ap one_if adds)))))
+    (by (vertex_edited (row_at (source_of edit) rows) edit) refl (λ rows' rising' rise' room'. batch_by_rows (p + 1) rows' edits rising' rise' room'))
   where
     by : (r : Result (Option Row) EditKind) → vertex_edited (row_at (source_of edit) rows) edit ≡ r
-        → ((rows' : Rows) → HasRisingIds rows' → HasRoom (vertex_count rows') (edge_count rows') (length edits)
+        → ((rows' : Rows) → HasRisingIds rows' → EditedRowsRise rows' (placed (p + 1) edits)
+        → HasRoom (vertex_count rows') (edge_count rows') (vertices_added edits) (edges_added edits)
         → IsByRows (p + 1) rows' edits (all_edited (p + 1) rows' edits))
         → IsByRows p rows (edit ∷ edits) (after p rows edits (stepped (source_of edit) rows r))
     by (Ok change) e later =
         let rows' = with_change (source_of edit) change rows in
+        let rises = first_rises rows p edit (placed (p + 1) edits) rise in
         further p rows edit edits rising change e (all_edited (p + 1) rows' edits)
         (later rows' (rises-change (source_of edit) change rows rising)
-        (room-step rows edit change (length edits) rising e
-        (let more : length (edit ∷ edits) ≡ length edits + 1 = omega arith in subst (λ n. HasRoom (vertex_count rows) (edge_count rows) n) more room)))
+        (next_rise rows p edit (placed (p + 1) edits) change rising (row_rises (row_at (source_of edit) rows) edit change rises e) rise)
+        (room-step rows edit change edits rising rises e room))
     by (Err kind) e later = refused_here p rows edit edits rising kind e

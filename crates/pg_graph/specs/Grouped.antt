@@ -4,6 +4,7 @@ use Rattle.std.specs.List.{AllByRecursion}
 use Rattle.std.specs.List.Sorted.{IsNonDecreasingBy}
 use Rattle.pg_map.specs.Entries.{ChangesRise, value_at, with_changes}
 use Rattle.pg_edits.specs.ChangedRows.{Changes}
+use Rattle.pg_edits.specs.EdgeList.{IsRising}
 use Rattle.pg_graph.specs.Changes.{changed_row_at}
 use Rattle.pg_edits.specs.RowEdit.{Places, source_of, vertex_after}
 use Rattle.pg_graph.specs.RowEdit.{edits_of, placed}
@@ -11,6 +12,7 @@ use Rattle.pg_graph.specs.Rows.{Rows, edge_count, row_at}
 use Rattle.pg_graph.specs.declared.draft.Changes.{Changes as Changing}
 use Rattle.pg_edits.specs.declared.edit.Edit.{Edit}
 use Rattle.pg_edits.specs.declared.edit.EditFault.{EditFault}
+use Rattle.pg_edits.specs.declared.row.Row.{Row}
 
 abbrev pub RiseBySource : Places → Type 0
 RiseBySource edits = IsNonDecreasingBy (λ e. source_of e.1) edits
@@ -19,6 +21,15 @@ RiseBySource edits = IsNonDecreasingBy (λ e. source_of e.1) edits
 pub record AreGrouped (edits : List Edit) (grouped : Places) : Type 0 where
   pub rise : RiseBySource grouped
   pub same : (q : ℕ) → edits_of q grouped ≡ edits_of q (placed 1 edits)
+
+-- the edges of a row rise, if it is there
+abbrev pub RowRises : Option Row → Type 0
+RowRises None = Unit {0}
+RowRises (Some row) = IsRising row.edges
+
+-- so do those of each row that these edits are of
+abbrev pub EditedRowsRise : Rows → Places → Type 0
+EditedRowsRise rows edits = (q : ℕ) → (edits_of q edits ≡ []) ⊎ RowRises (row_at q rows)
 
 -- a fault that was found is no later than this one
 abbrev pub IsNoLater : Option EditFault → EditFault → Type 0
@@ -33,6 +44,7 @@ pub record IsLeft (q : ℕ) (all left : Places) (changes : Changes) : Type 0 whe
 -- or none is, and what they make is among the changes, or a fault
 pub record IsDone (rows : Rows) (q : ℕ) (all left : Places) (changes : Changes) (fault : Option EditFault) : Type 0 where
   pub edits : edits_of q left ≡ []
+  pub rises : RowRises (row_at q rows)
   pub told : MatchResult (vertex_after (row_at q rows) (edits_of q all)) (λ row. value_at q changes ≡ Some row) (IsNoLater fault)
 
 pub record AreDealt (rows : Rows) (all left : Places) (changes : Changes) (fault : Option EditFault) : Type 0 where

@@ -1,11 +1,12 @@
 -- A batch, seen from one vertex: what its edits make of that row.
-use Rattle.std.specs.Prelude.{◌≡◌, ℕ, ◌+◌, ◌≤◌, Bool, nat_eq, List, [], ◌∷◌, Option, Result, Ok, Err}
-use Rattle.std.specs.List.{filter}
+use Rattle.std.specs.Prelude.{◌≡◌, ℕ, ◌+◌, ◌≤◌, Bool, true, false, nat_eq, List, [], ◌∷◌, Option, Result, Ok, Err}
+use Rattle.std.specs.List.{count_by, filter}
 use Rattle.pg_graph.specs.Edit.{vertex_limit, edge_limit}
 use Rattle.pg_edits.specs.RowEdit.{Places, source_of, vertex_after}
 use Rattle.pg_graph.specs.Rows.{Rows, row_at}
 use Rattle.pg_edits.specs.declared.row.Row.{Row}
 use Rattle.pg_edits.specs.declared.edit.Edit.{Edit}
+use Rattle.pg_edits.specs.declared.edit.Edit.TheVariants.{AddVertex, RemoveVertex, SetInput, AddEdge, SetEdge, RemoveEdge}
 use Rattle.pg_edits.specs.declared.edit.EditFault.{EditFault}
 
 -- edits numbered from `position`
@@ -24,10 +25,34 @@ edits_of id edits = filter (is_of id) edits
 abbrev pub row_by_batch : ℕ → Rows → List Edit → Result (Option Row) EditFault
 row_by_batch id rows edits = vertex_after (row_at id rows) (edits_of id (placed 1 edits))
 
--- in a graph with so many vertices and edges, so many edits can't meet a limit
-pub record HasRoom (vertices edges edits : ℕ) : Type 0 where
-  pub vertices_fit : vertices + edits ≤ vertex_limit
-  pub edges_fit : edges + edits ≤ edge_limit
+-- the edits that can add a vertex, and those that can add an edge
+abbrev pub adds_vertex : Edit → Bool
+adds_vertex (AddVertex id input) = true
+adds_vertex (RemoveVertex id) = false
+adds_vertex (SetInput id input) = false
+adds_vertex (AddEdge source target weight) = false
+adds_vertex (SetEdge source target weight) = false
+adds_vertex (RemoveEdge source target) = false
+
+abbrev pub adds_edge : Edit → Bool
+adds_edge (AddVertex id input) = false
+adds_edge (RemoveVertex id) = false
+adds_edge (SetInput id input) = false
+adds_edge (AddEdge source target weight) = true
+adds_edge (SetEdge source target weight) = false
+adds_edge (RemoveEdge source target) = false
+
+-- how many there are of each
+abbrev pub vertices_added : List Edit → ℕ
+vertices_added edits = count_by adds_vertex edits
+
+abbrev pub edges_added : List Edit → ℕ
+edges_added edits = count_by adds_edge edits
+
+-- in a graph with so many vertices and edges, so many more of each can't meet a limit
+pub record HasRoom (vertices edges vertices_more edges_more : ℕ) : Type 0 where
+  pub vertices_fit : vertices + vertices_more ≤ vertex_limit
+  pub edges_fit : edges + edges_more ≤ edge_limit
 
 -- each row is what the batch makes of it
 abbrev pub AreRowsMade : Rows → List Edit → Rows → Type 0

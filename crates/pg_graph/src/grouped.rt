@@ -1,14 +1,15 @@
 //! A batch that can't meet a limit: its edits are made of one vertex after another.
-ghost use Rattle.std.specs.Prelude.{◌≡◌, ◌+◌, ◌≤◌, true, false, length, map, nat_le, Ok, IfOk, IfErr, MatchResult};
+ghost use Rattle.std.specs.Prelude.{◌≡◌, ◌⊎◌, ◌+◌, ◌≤◌, true, false, length, map, nat_le, Ok, IfOk, IfErr, MatchResult};
 ghost use Rattle.pg_map.specs.Entries.{with_changes};
 ghost use Rattle.std.specs.List.Sorted.{IsPartitionPoint};
 ghost use Rattle.std.specs.Option.{option_copied};
 ghost use Rattle.pg_graph.specs.ById.{AreById, StandAt};
 ghost use Rattle.pg_edits.specs.ChangedRows.{degree_of};
+ghost use Rattle.pg_edits.specs.EditFault.{memory_fault};
 ghost use Rattle.pg_graph.specs.Draft.{Makes};
 ghost use Rattle.pg_graph.specs.Edit.{batch_edited, RefusesBatch, batch_limit};
-ghost use Rattle.pg_graph.specs.Grouped.{AreCounted, AreGrouped, IsFirst, RiseBySource, earlier_of};
-ghost use Rattle.pg_graph.specs.RowEdit.{HasRoom, placed};
+ghost use Rattle.pg_graph.specs.Grouped.{AreCounted, AreGrouped, EditedRowsRise, IsFirst, RiseBySource, RowRises, earlier_of};
+ghost use Rattle.pg_graph.specs.RowEdit.{AreRowsMade, HasRoom, IsEarliestFault, edges_added, placed, vertices_added};
 ghost use Rattle.pg_edits.specs.RowEdit.{source_of};
 ghost use Rattle.pg_graph.specs.Rows.{HasRisingIds, edge_count, vertex_count};
 
@@ -31,10 +32,12 @@ pub(crate) fn changes_by_vertex(
 ) -> Result<Changes, EditFault>
     requires rising { HasRisingIds graph.now }
     requires short { length batch.now ≤ batch_limit }
-    requires room { HasRoom (vertex_count graph.now) (edge_count graph.now) (length batch.now) }
+    requires room { HasRoom (vertex_count graph.now) (edge_count graph.now) (vertices_added batch.now) (edges_added batch.now) }
     ensures ok { IfOk result (λ changes. Makes graph.now (with_changes changes.rows.items graph.now) changes) }
     ensures made { IfOk result (λ changes. batch_edited graph.now batch.now ≡ Ok (with_changes changes.rows.items graph.now)) }
+    ensures rows { IfOk result (λ changes. AreRowsMade graph.now batch.now (with_changes changes.rows.items graph.now)) }
     ensures err { IfErr result (RefusesBatch graph.now batch.now) }
+    ensures first { IfErr result (λ fault. (fault ≡ memory_fault) ⊎ IsEarliestFault graph.now batch.now fault) }
 {
     let edits = by_vertex(alloc, batch)?;
     dealt_with(alloc, graph, edits.as_slice())?
@@ -75,7 +78,8 @@ fn dealt_with(
 ) -> Result<Result<Changes, EditFault>, Memory>
     requires rising { HasRisingIds graph.now }
     requires edits_rise { RiseBySource edits.now }
-    ensures { IfOk result (λ made. MatchResult made (AreCounted graph.now edits.now) (IsFirst graph.now edits.now)) }
+    ensures made { IfOk result (λ made. MatchResult made (AreCounted graph.now edits.now) (IsFirst graph.now edits.now)) }
+    ensures rows_rise { IfOk result (λ _. EditedRowsRise graph.now edits.now) }
 {
     let vertices = vertices_of(edits);
     let mut rows = ChangedRows::new(alloc, vertices, is_many(vertices as u64, graph.vertices()))?;
@@ -87,8 +91,9 @@ fn dealt_with(
         let id = first.1.source();
         let (here, later) = left.split_at(count_of(left, id));
         let row = finder.get(id);
+        let had = degree_of(row);
         match rows.edit(alloc, id, row, here)? {
-            Ok(degree) => edges = edges_with(edges, row, degree)?,
+            Ok(degree) => edges = edges_with(edges, had, degree)?,
             Err(found) => fault = Some(earlier(fault, found)),
         }
         left = later;
@@ -153,19 +158,18 @@ fn earlier(fault: Option<EditFault>, found: EditFault) -> EditFault
     }
 }
 
-/// How many edges there are, once one row is another of this degree.
-fn edges_with(edges: u64, row: Option<&Row>, degree: u64) -> Result<u64, Memory>
-    requires { degree_of (option_copied row) ≤ edges }
-    ensures { IfOk result (λ n. n + degree_of (option_copied row.entry) ≡ edges + degree) }
+/// How many edges there are, once a row that had so many has so many.
+fn edges_with(edges: u64, had: u64, has: u64) -> Result<u64, Memory>
+    requires { had ≤ edges }
+    ensures { IfOk result (λ n. n + had ≡ edges + has) }
 {
-    (edges - old_degree(row))
-        .checked_add(degree)
-        .ok_or(AllocError)
+    (edges - had).checked_add(has).ok_or(AllocError)
 }
 
-/// How many edges a row has, if it is there.
-fn old_degree(row: Option<&Row>) -> u64
-    ensures { result ≡ degree_of (option_copied row.entry) }
+/// How many edges a row has, if it is there. They rise, which no list of rows says.
+fn degree_of(row: Option<&Row>) -> u64
+    ensures degree { result ≡ degree_of (option_copied row.entry) }
+    ensures rises { RowRises (option_copied row.entry) }
 {
     match row {
         Some(row) => row.edges.as_slice().len() as u64,

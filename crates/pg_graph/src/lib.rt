@@ -8,12 +8,14 @@ mod entries;
 mod graph;
 mod grouped;
 mod missing;
+mod near;
 mod order;
 
 pub use batch::Batch;
 pub use by_id::{HasId, sorted_by_id};
 pub use graph::Graph;
 pub use missing::Missing;
+pub use near::count_below;
 pub use order::reordered_by_id;
 pub use pg_edits::{Edges, Edit, EditFault, EditKind, Row};
 pub use pg_map::{Edition, Finder, Ids, Iter, PartitionId, Superstep, VertexId, WorkerId};

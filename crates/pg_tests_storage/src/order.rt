@@ -9,8 +9,8 @@ struct Jumping {
     span: u64,
 }
 
-// Among the low ones and among high ones, always the same one, among all, and with 14 bits and with 28.
-const SPREADS: [Jumping; 6] = [
+// Among the low ones and among high ones, always the same one, among all, and with 8 bits, with 14 and with 28.
+const SPREADS: [Jumping; 7] = [
     Jumping {
         least: 0,
         span: (1 << 26) - 1,
@@ -26,6 +26,10 @@ const SPREADS: [Jumping; 6] = [
     },
     Jumping {
         least: 7,
+        span: (1 << 8) - 1,
+    },
+    Jumping {
+        least: 7,
         span: (1 << 14) - 1,
     },
     Jumping {
@@ -34,7 +38,7 @@ const SPREADS: [Jumping; 6] = [
     },
 ];
 
-// So many ids. A quarter of them stand twice, where not all are the same.
+// So many ids. A quarter of them stand twice, and more often where the span has fewer.
 fn jumping_ids(alloc: Global, count: u32, spread: Jumping) -> Result<Vec<VertexId>, Memory> {
     let different = count / 4 * 3 + 1;
     let mut ids = Vec::with_capacity(alloc, count as usize)?;

@@ -2,7 +2,7 @@
 ghost use Rattle.std.specs.Prelude.{◌≡◌, ◌⊎◌, ◌<◌, ◌≤◌, length, Ok, Err, IfOk, IfErr, IsTrue, OnOk, OnErr};
 ghost use Rattle.pg_graph.specs.Edit.{batch_edited, batch_limit, too_long_fault, RefusesBatch};
 ghost use Rattle.pg_edits.specs.EditFault.{memory_fault};
-ghost use Rattle.pg_graph.specs.RowEdit.{AreRowsMade, HasRoom, IsEarliestFault};
+ghost use Rattle.pg_graph.specs.RowEdit.{AreRowsMade, HasRoom, IsEarliestFault, edges_added, vertices_added};
 ghost use Rattle.pg_graph.specs.Rows.{HasRisingIds, edge_count, vertex_count};
 ghost use Rattle.pg_graph.specs.Draft.{Makes};
 ghost use Rattle.pg_map.specs.Entries.{with_changes};
@@ -10,7 +10,7 @@ ghost use Rattle.pg_map.specs.Entries.{with_changes};
 use super::Graph;
 use crate::draft::{BATCH_LIMIT, Changes, Draft, EDGE_LIMIT, VERTEX_LIMIT};
 use crate::grouped::{ROUNDS, changes_by_vertex};
-use crate::{Batch, EditFault, EditKind, Memory};
+use crate::{Batch, Edit, EditFault, EditKind, Memory};
 use std::alloc::Global;
 
 impl Graph {
@@ -21,22 +21,25 @@ impl Graph {
     /// each vertex that is edited, where d is how many edges it has or gets. Other edges stay as they are,
     /// but once twice as many rows have been changed as there are since `settle` last went over all: then it does
     /// so again, and may copy their edges.
-    /// The edits are made of one vertex after another, unless so many could meet a limit.
+    /// The edits are made of one vertex after another, unless those that add could meet a limit.
     pub fn apply(&mut self, alloc: Global, batch: &Batch) -> Result<(), EditFault>
         ensures ok { OnOk result (batch_edited self.old batch.now ≡ Ok self.new) }
         ensures refused { IfErr result (RefusesBatch self.old batch.now) }
         ensures too_long { batch_limit < length batch.now → result ≡ Err too_long_fault }
-        ensures rows { OnOk result (HasRoom (vertex_count self.old) (edge_count self.old) (length batch.now) → AreRowsMade self.old batch.now self.new) }
-        ensures first { IfErr result (λ fault. HasRoom (vertex_count self.old) (edge_count self.old) (length batch.now) → length batch.now ≤ batch_limit
-            → (fault ≡ memory_fault) ⊎ IsEarliestFault self.old batch.now fault) }
+        ensures rows { OnOk result (
+            HasRoom (vertex_count self.old) (edge_count self.old) (vertices_added batch.now) (edges_added batch.now)
+            → AreRowsMade self.old batch.now self.new) }
+        ensures first { IfErr result (λ fault.
+            HasRoom (vertex_count self.old) (edge_count self.old) (vertices_added batch.now) (edges_added batch.now)
+            → length batch.now ≤ batch_limit → (fault ≡ memory_fault) ⊎ IsEarliestFault self.old batch.now fault) }
         ensures position { IfErr result (λ fault. fault.position ≤ length batch.now) }
         ensures err { OnErr result (self.new ≡ self.old) }
     {
-        let edits = batch.as_slice().len();
-        if edits > BATCH_LIMIT {
+        let edits = batch.as_slice();
+        if edits.len() > BATCH_LIMIT {
             return Err(EditFault::at(BATCH_LIMIT as u64 + 1, EditKind::BatchTooLong));
         }
-        let changes = if self.has_room(edits as u64) {
+        let changes = if self.has_room(edits) {
             changes_by_vertex(alloc, self, batch)?
         } else {
             changes_in_order(alloc, self, batch)?
@@ -45,12 +48,17 @@ impl Graph {
         Ok(())
     }
 
-    /// Whether so many edits can't meet a limit, whichever they are.
-    fn has_room(&self, edits: u64) -> bool
-        ensures room { IsTrue result → HasRoom (vertex_count self.now) (edge_count self.now) edits }
+    /// Whether edits can't meet a limit: those that add vertices, and those that add edges. Costs a look at each.
+    fn has_room(&self, edits: &[Edit]) -> bool
+        requires { length edits.now ≤ batch_limit }
+        ensures room { IsTrue result
+            → HasRoom (vertex_count self.now) (edge_count self.now) (vertices_added edits.now) (edges_added edits.now) }
+        ensures full { HasRoom (vertex_count self.now) (edge_count self.now) (vertices_added edits.now) (edges_added edits.now)
+            → IsTrue result }
         ensures rising { HasRisingIds self.now }
     {
-        edits <= VERTEX_LIMIT - self.vertices() && edits <= EDGE_LIMIT - self.edges()
+        let (vertices, edges) = added_by(edits);
+        vertices <= VERTEX_LIMIT - self.vertices() && edges <= EDGE_LIMIT - self.edges()
     }
 
     /// Makes all changes, or none where a growth is refused.
@@ -69,6 +77,23 @@ impl Graph {
         }
         Ok(())
     }
+}
+
+/// How many edits add a vertex, and how many an edge.
+fn added_by(edits: &[Edit]) -> (u64, u64)
+    requires { length edits.now ≤ batch_limit }
+    ensures { result ≡ (vertices_added edits.now, edges_added edits.now) }
+{
+    let mut vertices = 0;
+    let mut edges = 0;
+    for edit in edits {
+        match edit {
+            Edit::AddVertex(_, _) => vertices += 1,
+            Edit::AddEdge(_, _, _) => edges += 1,
+            _ => {}
+        }
+    }
+    (vertices, edges)
 }
 
 /// What a batch changes, or the first of its edits that has no result, found edit by edit.

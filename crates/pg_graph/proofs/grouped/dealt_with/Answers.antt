@@ -4,7 +4,7 @@ use Rattle.std.specs.List.Sorted.{IsPartitionPoint}
 use Rattle.pg_map.specs.Entries.{with_changes}
 use Rattle.pg_edits.specs.ChangedRows.{degree_of}
 use Rattle.pg_edits.specs.RowEdit.{source_of, vertex_after}
-use Rattle.pg_graph.specs.Grouped.{AreDealt, AreMade}
+use Rattle.pg_graph.specs.Grouped.{AreDealt, AreMade, RowRises}
 use Rattle.pg_graph.specs.Rows.{edge_count, row_at}
 use Rattle.pg_graph.proofs.Dealing.{all_made, IsTurn, fewer_left, no_changes, none_dealt, row_found, fault_found, not_changed, next_counted, degree_fits}
 use Rattle.pg_graph.proofs.grouped.dealt_with.Goals as goal
@@ -36,7 +36,7 @@ edges_with-requires c =
     c.loop-first.invariant.dealt in
     let fits = degree_fits rows changes c.requires.rising c.loop-first.invariant.dealt.changes_rise _ none in
     let was = c.get-row.ensures.value ∙ ap (row_at c.source-id.result) c.loop-first.invariant.found ∙ ap (λ k. row_at k rows) id in
-    omega (arith, fits, ap degree_of was, c.loop-first.invariant.counted)
+    omega (arith, c.degree_of-had.ensures.degree, fits, ap degree_of was, c.loop-first.invariant.counted)
 
 pub loop-first-preserved-in_ok-edges-in-Ok : goal.loop-first-preserved-in_ok-edges-in-Ok
 loop-first-preserved-in_ok-edges-in-Ok c =
@@ -63,11 +63,12 @@ loop-first-preserved-in_ok-edges-in-Ok c =
     c.loop-first.invariant.dealt in
     let edges : c.in_ok-edges-in-Ok.edges + degree_of (row_at (source_of c.in-Some.first.now.1) rows) ≡ edge_count
     (with_changes changes rows) + degree_of changed =
-    omega (arith, c.in_ok-edges-in-Ok.ensures, ap degree_of was, told.3, c.loop-first.invariant.counted) in
+    omega (arith, c.in_ok-edges-in-Ok.ensures, c.degree_of-had.ensures.degree, ap degree_of was, told.3, c.loop-first.invariant.counted) in
+    let rises = subst RowRises was c.degree_of-had.ensures.rises in
     record {
       found = c.get-row.ensures.same ∙ c.loop-first.invariant.found;
       dealt = row_found rows c.args.edits.now left here _ _ c.in-Some.first.now c.count_of.result changes c.loop-first.fault turn
-          c.loop-first.invariant.dealt changed made _ grown;
+          c.loop-first.invariant.dealt rises changed made _ grown;
       counted =
           next_counted rows changes c.requires.rising c.loop-first.invariant.dealt.changes_rise _ none changed c.in_ok-edges-in-Ok.edges edges
           ∙ ap (λ l. edge_count (with_changes l rows)) (sym grown);
@@ -96,7 +97,7 @@ loop-first-preserved c =
       found = c.get-row.ensures.same ∙ c.loop-first.invariant.found;
       dealt = subst (λ f. AreDealt rows c.args.edits.now c.split_at.result.1.now changes (Some f)) (sym c.earlier.ensures)
           (fault_found rows c.args.edits.now left here _ _ c.in-Some.first.now c.count_of.result changes c.loop-first.fault turn
-          c.loop-first.invariant.dealt c.in-Err.found made);
+          c.loop-first.invariant.dealt (subst RowRises was c.degree_of-had.ensures.rises) c.in-Err.found made);
       counted = c.loop-first.invariant.counted;
     })
 
@@ -114,8 +115,8 @@ loop-first-smaller-in_ok-edges-in-Ok c =
           (λ e. leb (source_of e.1) k ≡ false) left c.count_of.result) id c.count_of.ensures.parts;
     })
 
-pub returns-in_ok-rows-in-None : goal.returns-in_ok-rows-in-None
-returns-in_ok-rows-in-None c =
+pub returns-in_ok-rows-in-None-clause-made : goal.returns-in_ok-rows-in-None-clause-made
+returns-in_ok-rows-in-None-clause-made c =
     let rows = c.args.graph.now in
     let none = nil_from_length c.loop-first.left.now c.in_default.ensures.cases in
     let dealt = subst (AreDealt rows c.args.edits.now c.loop-first.left.now c.loop-first.rows) c.in-None.is c.loop-first.invariant.dealt in
