@@ -4,7 +4,6 @@ pub mod Bundling
 pub mod Delivery
 pub mod Differing
 pub mod Merging
-pub mod Near
 pub mod Parting
 pub mod Replacing
 pub mod SameDelivery

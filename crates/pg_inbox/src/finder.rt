@@ -1,6 +1,6 @@
 //! Look-ups in a bundle that come near one another.
-ghost use Rattle.std.specs.Prelude.{◌≡◌, ◌≤◌, length, map, nat_lt, true, false, None, IsTrue};
-ghost use Rattle.std.specs.List.Sorted.{IsNonDecreasingBy, IsPartitionPoint};
+ghost use Rattle.std.specs.Prelude.{◌≡◌, length, map, None};
+ghost use Rattle.std.specs.List.Sorted.{IsNonDecreasingBy};
 ghost use Rattle.std.specs.Option.{option_map};
 ghost use Rattle.pg_map.specs.Entries.{value_at};
 ghost use Rattle.pg_parcel.specs.Contents.{contents_of};
@@ -9,7 +9,7 @@ ghost use Rattle.pg_inbox.specs.Holding.{HoldsAt};
 ghost use Rattle.pg_inbox.specs.Inboxes.{letters_at};
 
 use crate::Bundle;
-use pg_graph::VertexId;
+use pg_graph::{VertexId, count_below};
 use pg_map::Finder;
 use pg_parcel::{Change, ParcelRef, run_len};
 use pg_program::Plain;
@@ -107,55 +107,4 @@ fn letters_near<'a, X>(
     let (_, from) = letters.split_at(before);
     let (here, _) = from.split_at(run_len(from, target));
     here
-}
-
-/// How many of these letters are to targets below one. `near` is a guess at it: from there on it is looked for by steps
-/// that grow twofold, and among all letters if it is before that.
-fn count_below<X>(letters: &[(VertexId, X)], near: usize, target: VertexId) -> usize
-    requires { IsNonDecreasingBy (λ l. l.0) letters.now }
-    ensures bound { result ≤ length letters.now }
-    ensures parts { IsPartitionPoint (λ l. nat_lt l.0 target ≡ true)
-        (λ l. nat_lt l.0 target ≡ false) letters.now result }
-{
-    let near = near.min(letters.len());
-    let (_, from) = letters.split_at(near);
-    let (within, _) = from.split_at(reach(from, target));
-    let count = near + within.partition_point(|letter| is_below(letter.0, target));
-    if are_below(letters, count, target) {
-        return count;
-    }
-    letters.partition_point(|letter| is_below(letter.0, target))
-}
-
-/// Among how many of these letters to look for how many are to targets below one: found by steps that grow twofold.
-fn reach<X>(letters: &[(VertexId, X)], target: VertexId) -> usize
-    ensures { result ≤ length letters.now }
-{
-    let mut steps = 1usize;
-    while steps < letters.len() {
-        if !is_below(letters[steps].0, target) {
-            return steps;
-        }
-        steps += steps.min(letters.len() - steps);
-    }
-    letters.len()
-}
-
-/// Whether just so many of these letters are to targets below one.
-fn are_below<X>(letters: &[(VertexId, X)], count: usize, target: VertexId) -> bool
-    requires { IsNonDecreasingBy (λ l. l.0) letters.now }
-    ensures bound { IsTrue result → count ≤ length letters.now }
-    ensures parts { IsTrue result
-        → IsPartitionPoint (λ l. nat_lt l.0 target ≡ true) (λ l. nat_lt l.0 target ≡ false) letters.now count }
-{
-    if count > letters.len() || count > 0 && !is_below(letters[count - 1].0, target) {
-        return false;
-    }
-    count == letters.len() || !is_below(letters[count].0, target)
-}
-
-fn is_below(id: VertexId, other: VertexId) -> bool
-    ensures { result ≡ nat_lt id other }
-{
-    id < other
 }
