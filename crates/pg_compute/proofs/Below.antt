@@ -1,9 +1,9 @@
--- How many of rising ids are below one, told by the id before and the next, and whether it is then the next.
-use Rattle.std.proofs.Common.{◌≡◌, ℕ, ◌-◌, ◌<◌, ◌≤◌, Bool, List, length, get_or, ltb, nat_eq, true, false, inl, inr, ◌⊎◌, refl, sym, ap, ◌∙◌, arith}
+-- Of rising ids of which so many are below one: whether that is the next.
+use Rattle.std.proofs.Common.{◌≡◌, ℕ, ◌<◌, Bool, List, length, get_or, ltb, nat_eq, true, false, refl, sym, ap, ◌∙◌, arith}
 use Rattle.std.specs.List.Sorted.{IsPartitionPoint, IsStrictlySortedBy}
 use Rattle.std.specs.Ordering.{nat_cmp}
 use Rattle.std.specs.declared.cmp.Ordering.TheVariants.{Less, Greater}
-use Rattle.std.proofs.lemmas.Bool.{eqb-true, le-ltb, lt-ltb, ltb-false, ltb-true}
+use Rattle.std.proofs.lemmas.Bool.{eqb-true}
 use Rattle.std.proofs.lemmas.Bool.Decides.{nat_tests}
 use Rattle.std.proofs.lemmas.List.{get_or_default}
 use Rattle.std.proofs.lemmas.Map.Keys.{non_decreasing_from_sorted}
@@ -20,34 +20,7 @@ is_Greater a b h = grind (arith, nat_tests)
 above_then : (a b : ℕ) → ltb a b ≡ false → nat_eq a b ≡ false → b < a
 above_then a b h other = grind (arith, nat_tests)
 
-module _ (ids : List ℕ) (id n : ℕ) where
-  -- there is none before, or the last before is below
-  abbrev pub IsLastBelow : Type 0
-  IsLastBelow = (n ≡ 0) ⊎ ((x : ℕ) × (0 < n) × (x ≡ get_or ids (n - 1) x) × (ltb x id ≡ true))
-
-  -- there is no next, or it isn't below
-  abbrev pub IsNextPast : Type 0
-  IsNextPast = (n ≡ length ids) ⊎ ((x : ℕ) × (n < length ids) × (x ≡ get_or ids n x) × (ltb x id ≡ false))
-
 module _ (ids : List ℕ) (rise : IsStrictlySortedBy nat_cmp ids) (id n : ℕ) where
-  pub so_many_below : n ≤ length ids → IsLastBelow ids id n → IsNextPast ids id n
-      → IsPartitionPoint (λ k. ltb k id ≡ true) (λ k. ltb k id ≡ false) ids n
-  so_many_below within last next = (λ k d z h. low last k d h, λ k d h g. high next k d h g)
-    where
-      low : IsLastBelow ids id n → (k d : ℕ) → k < n → ltb (get_or ids k d) id ≡ true
-      low (inl none) k d h = absurd (omega (arith, none, h))
-      low (inr (x, some, x_is, below)) k d h =
-          let bound = non_decreasing_from_sorted ids rise k (n - 1) d (omega (arith, some, h)) (omega (arith, some, within)) in
-          let same = get_or_default ids (n - 1) d x (omega (arith, some, within)) ∙ sym x_is in
-          lt-ltb (get_or ids k d) id (omega (arith, bound, same, ltb-true x id below))
-
-      high : IsNextPast ids id n → (k d : ℕ) → n ≤ k → k < length ids → ltb (get_or ids k d) id ≡ false
-      high (inl all) k d h g = absurd (omega (arith, all, h, g))
-      high (inr (x, inside, x_is, past)) k d h g =
-          let bound = non_decreasing_from_sorted ids rise n k d h g in
-          let same = get_or_default ids n d x inside ∙ sym x_is in
-          le-ltb (get_or ids k d) id (omega (arith, bound, same, ltb-false x id past))
-
   module _ (parts : IsPartitionPoint (λ k. ltb k id ≡ true) (λ k. ltb k id ≡ false) ids n) where
     -- where there is no next, or it is another, it isn't there
     pub missing : ((d : ℕ) → n < length ids → nat_eq (get_or ids n d) id ≡ false) → has_id ids id ≡ false

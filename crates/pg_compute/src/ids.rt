@@ -1,15 +1,12 @@
 //! Lists of ids.
-ghost use Rattle.std.specs.Prelude.{◌≡◌, ℕ, ◌++◌, true, false, nat_lt, IfOk, IsTrue, OnOk};
-ghost use Rattle.std.specs.List.Sorted.{IsPartitionPoint, IsStrictlySortedBy};
+ghost use Rattle.std.specs.Prelude.{◌≡◌, ℕ, ◌++◌, IfOk, OnOk};
+ghost use Rattle.std.specs.List.Sorted.{IsStrictlySortedBy};
 ghost use Rattle.std.specs.Ordering.{nat_cmp};
 ghost use Rattle.pg_model.specs.Superstep.{has_id};
 ghost use Rattle.pg_compute.specs.Differing.{HaveSameIds, without};
 
-use pg_graph::{Memory, VertexId};
+use pg_graph::{Memory, VertexId, count_below};
 use std::alloc::Global;
-
-/// How many ids are passed one by one before a search among all.
-const STEPS: usize = 16;
 
 /// These ids by rising id, each once. Costs a sort.
 pub fn rising(ids: Vec<VertexId>) -> Vec<VertexId>
@@ -59,8 +56,7 @@ pub(crate) fn add_all(ids: &mut Vec<VertexId>, more: &[VertexId]) -> Result<(), 
     Ok(())
 }
 
-/// Those of these ids that aren't among others, which rise. Each costs a step for each of the others from the id before
-/// up to it, where these are few, else a binary search.
+/// Those of these ids that aren't among others, which rise. Each costs a look-up among the others, near the one before.
 pub(crate) fn without(
     alloc: Global,
     ids: &[VertexId],
@@ -88,46 +84,4 @@ fn is_among(ids: &[VertexId], near: &mut usize, id: VertexId) -> bool
     let place = count_below(ids, *near, id);
     *near = place;
     place < ids.len() && ids[place] == id
-}
-
-/// How many of these ids, which rise, are below one. `near` is a guess at it, and costs no search where it is right, or
-/// a few too low.
-fn count_below(ids: &[VertexId], near: usize, id: VertexId) -> usize
-    requires { IsStrictlySortedBy nat_cmp ids.now }
-    ensures { IsPartitionPoint (λ k. nat_lt k id ≡ true) (λ k. nat_lt k id ≡ false) ids.now result }
-{
-    let place = passed(ids, near, id);
-    if are_below(ids, place, id) {
-        return place;
-    }
-    ids.partition_point(|other| is_below(*other, id))
-}
-
-/// How far a few steps from a place on go, over ids below one.
-fn passed(ids: &[VertexId], place: usize, id: VertexId) -> usize {
-    let mut near = place;
-    for _ in 0..STEPS {
-        if near >= ids.len() || !is_below(ids[near], id) {
-            return near;
-        }
-        near += 1;
-    }
-    near
-}
-
-/// Whether just so many of these ids, which rise, are below one.
-fn are_below(ids: &[VertexId], count: usize, id: VertexId) -> bool
-    requires { IsStrictlySortedBy nat_cmp ids.now }
-    ensures { IsTrue result → IsPartitionPoint (λ k. nat_lt k id ≡ true) (λ k. nat_lt k id ≡ false) ids.now count }
-{
-    if count > ids.len() || count > 0 && !is_below(ids[count - 1], id) {
-        return false;
-    }
-    count == ids.len() || !is_below(ids[count], id)
-}
-
-fn is_below(id: VertexId, other: VertexId) -> bool
-    ensures { result ≡ nat_lt id other }
-{
-    id < other
 }
