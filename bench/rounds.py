@@ -13,51 +13,13 @@ import os
 import statistics
 import subprocess
 import sys
-import time
+
+from served import Program, commands
 
 BENCH = os.path.dirname(os.path.abspath(__file__))
 PREGELD = os.environ.get("PREGELD") or f"{BENCH}/../crates/pregeld_main/out/pregeld_main"
 FEW = 1_000
 GOAL = 0.010
-
-
-def commands(lines):
-    """Gives each command with the lines of its block, where it has one. All but `reweigh` have one line of answer."""
-    rest = iter(lines)
-    for line in rest:
-        length = int(line.split()[2]) if line.startswith("import") else 0
-        yield line, [next(rest) for _ in range(length)]
-
-
-class Program:
-    """The program on a session, with the time that it has taken."""
-
-    def __init__(self, words):
-        pipe = subprocess.PIPE
-        self.process = subprocess.Popen(words, stdin=pipe, stdout=pipe, text=True)
-
-    def waits(self):
-        """Whether it waits for a command, or has ended."""
-        with open(f"/proc/{self.process.pid}/stat") as it:
-            return it.read().rpartition(")")[2].split()[0] in "SZ"
-
-    def used(self):
-        """Its processor time once it waits for a command."""
-        while not self.waits():
-            time.sleep(0.0002)
-        with open(f"/proc/{self.process.pid}/schedstat") as it:
-            return int(it.read().split()[0]) / 1e9
-
-    def answer(self, lines):
-        """Its answer to a command of these lines, the seconds until that was there, and what it took of the processor."""
-        before, start = self.used(), time.perf_counter()
-        self.process.stdin.write("\n".join([*lines, ""]))
-        self.process.stdin.flush()
-        if lines[0].startswith("reweigh"):
-            return None
-        answer = self.process.stdout.readline()
-        answered = time.perf_counter() - start
-        return answer, answered, self.used() - before
 
 
 def told(seconds):
