@@ -185,17 +185,17 @@ module _ {X : Type 0} where
 
   -- ---- the items to one target
 
-  run_later : (q : ℕ) (items : List (ℕ × X)) → AllByRecursion (λ i. q + 1 ≤ i.0) items → filter (λ i. i.0 == q) items ≡ []
+  pub run_later : (q : ℕ) (items : List (ℕ × X)) → AllByRecursion (λ i. q + 1 ≤ i.0) items → filter (λ i. i.0 == q) items ≡ []
   run_later q [] all = refl
   run_later q (i ∷ items) all =
       ap (λ b. cond b (i ∷ filter (λ i. i.0 == q) items) (filter (λ i. i.0 == q) items)) (above_apart q i.0 all.0) ∙ run_later q items all.1
 
-  all_higher : (a b : ℕ) (items : List (ℕ × X)) → a ≤ b → AllByRecursion (λ i. b ≤ i.0) items → AllByRecursion (λ i. a ≤ i.0) items
+  pub all_higher : (a b : ℕ) (items : List (ℕ × X)) → a ≤ b → AllByRecursion (λ i. b ≤ i.0) items → AllByRecursion (λ i. a ≤ i.0) items
   all_higher a b [] h all = tt
   all_higher a b (i ∷ items) h all = (let k = all.0 in omega arith, all_higher a b items h all.1)
 
   -- where none is below a number, those of it stand at the beginning
-  run_is : (q : ℕ) (items : List (ℕ × X)) → AllByRecursion (λ i. q ≤ i.0) items → IsUp (λ i. i.0) items
+  pub run_is : (q : ℕ) (items : List (ℕ × X)) → AllByRecursion (λ i. q ≤ i.0) items → IsUp (λ i. i.0) items
       → take (run_len q items) items ≡ filter (λ i. i.0 == q) items
   run_is q [] all up = refl
   run_is q (i ∷ items) all up = by (i.0 == q) refl (run_is q items all.1 up.1)
@@ -205,12 +205,37 @@ module _ {X : Type 0} where
       by true e h = ap (λ l. i ∷ l) h
       by false e h = sym (run_later q items (all_higher (q + 1) i.0 items (higher q i.0 e all.0) up.0))
 
+  -- behind the items to a target that is the lowest, all are to higher ones
+  pub after_run : (q : ℕ) (items : List (ℕ × X)) → AllByRecursion (λ i. q ≤ i.0) items → IsUp (λ i. i.0) items
+      → AllByRecursion (λ i. q + 1 ≤ i.0) (drop (run_len q items) items)
+  after_run q [] all up = tt
+  after_run q (i ∷ items) all up = by (i.0 == q) refl (after_run q items all.1 up.1)
+    where
+      by : (b : Bool) → (i.0 == q) ≡ b → AllByRecursion (λ i. q + 1 ≤ i.0) (drop (run_len q items) items)
+          → AllByRecursion (λ i. q + 1 ≤ i.0) (drop (cond b (suc (run_len q items)) zero) (i ∷ items))
+      by true e later = later
+      by false e later = let h = higher q i.0 e all.0 in (h, all_higher (q + 1) i.0 items h up.0)
+
+  -- and those to others are all there
+  pub others_after_run : (q other : ℕ) → (q == other) ≡ false → (items : List (ℕ × X))
+      → filter (λ i. i.0 == other) (drop (run_len q items) items) ≡ filter (λ i. i.0 == other) items
+  others_after_run q other apart [] = refl
+  others_after_run q other apart (i ∷ items) = by (i.0 == q) refl (others_after_run q other apart items)
+    where
+      by : (b : Bool) → (i.0 == q) ≡ b → filter (λ i. i.0 == other) (drop (run_len q items) items) ≡ filter (λ i. i.0 == other) items
+          → filter (λ i. i.0 == other) (drop (cond b (suc (run_len q items)) zero) (i ∷ items)) ≡ filter (λ i. i.0 == other) (i ∷ items)
+      by true e later =
+          later
+          ∙ sym (ap (λ b. cond b (i ∷ filter (λ i. i.0 == other) items) (filter (λ i. i.0 == other) items))
+          (ap (λ k. k == other) (eqb-true i.0 q e) ∙ apart))
+      by false e later = refl
+
   below_none : (q : ℕ) (items : List (ℕ × X)) → AllByRecursion (λ i. i.0 + 1 ≤ q) items → filter (λ i. i.0 == q) items ≡ []
   below_none q [] all = refl
   below_none q (i ∷ items) all =
       ap (λ b. cond b (i ∷ filter (λ i. i.0 == q) items) (filter (λ i. i.0 == q) items)) (below_apart q i.0 all.0) ∙ below_none q items all.1
 
-  up_drop : (n : ℕ) (items : List (ℕ × X)) → IsUp (λ i. i.0) items → IsUp (λ i. i.0) (drop n items)
+  pub up_drop : (n : ℕ) (items : List (ℕ × X)) → IsUp (λ i. i.0) items → IsUp (λ i. i.0) (drop n items)
   up_drop zero items up = up
   up_drop (suc n) [] up = tt
   up_drop (suc n) (i ∷ items) up = up_drop n items up.1
