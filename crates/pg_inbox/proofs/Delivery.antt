@@ -141,7 +141,7 @@ module _ {M : Type 0} (id : ℕ) where
       ∙ same_flat_map (λ l. letters_at id (bundle_of combining l)) (letters_to id) (letters_at-bundle_of combining) lists)
 
   -- the messages of all bundles by sender, where they aren't combined
-  delivers_in_order : (bundles : List (Parcels M)) (sorted : List (ℕ × M)) → IsUp (λ x. x.0) sorted
+  pub delivers_in_order : (bundles : List (Parcels M)) (sorted : List (ℕ × M)) → IsUp (λ x. x.0) sorted
       → ((q : ℕ) → from q sorted ≡ from q (flat_map (letters_at id) bundles)) → Delivers None id bundles (messages sorted)
   delivers_in_order bundles sorted up same lists all are of =
       let is : sorted ≡ letters_to id all =

@@ -3,6 +3,7 @@ pub mod AtPlaces
 pub mod Bundling
 pub mod Delivery
 pub mod Differing
+pub mod Merged
 pub mod Merging
 pub mod Parting
 pub mod Replacing
@@ -10,4 +11,5 @@ pub mod SameDelivery
 pub mod Senders
 pub mod Sending
 pub mod Sent
+pub mod Slots
 pub mod Taking

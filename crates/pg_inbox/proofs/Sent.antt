@@ -119,7 +119,7 @@ module _ {M : Type 0} where
   pub sent_rise : (letters : List (ℕ × (ℕ × M))) → IsNonDecreasingBy (λ l. l.0) letters → HasRisingIds (sent_parcels letters)
   sent_rise letters rise = rises-values (contents_of None) (groups_of letters) (rises_groups letters (up_from (λ l. l.0) letters rise))
 
-  value_at_sent : (q : ℕ) (letters : List (ℕ × (ℕ × M))) → IsNonDecreasingBy (λ l. l.0) letters
+  pub value_at_sent : (q : ℕ) (letters : List (ℕ × (ℕ × M))) → IsNonDecreasingBy (λ l. l.0) letters
       → value_at q (sent_parcels letters) ≡ option_map (contents_of None) (any_of (items_to q letters))
   value_at_sent q letters rise =
       value_at-values (contents_of None) q (groups_of letters)

@@ -6,10 +6,12 @@ pub mod Holding
 pub mod Inboxes
 pub mod Logged
 pub mod Mending
+pub mod Merged
 pub mod Ordered
 pub mod Parts
 pub mod Patched
 pub mod Places
+pub mod Row
 pub mod Rows
 pub mod Sends
 pub mod Shared

@@ -1,5 +1,5 @@
 //! A bundle, as it is held.
-ghost use Rattle.std.specs.Prelude.{◌≡◌, [], IfOk, IfSome};
+ghost use Rattle.std.specs.Prelude.{◌≡◌, [], IfOk, IfSome, IsTrue};
 ghost use Rattle.std.specs.List.Sorted.{IsNonDecreasingBy};
 ghost use Rattle.std.specs.Option.{option_map};
 ghost use Rattle.std.specs.Prelude.{None};
@@ -66,6 +66,13 @@ impl<M: Plain> Bundle<M> {
         let letters = self.letters.share()?;
         let changes = self.changes.share()?;
         Ok(Bundle { letters, changes })
+    }
+
+    /// Whether it has no messages, as it lies in memory.
+    pub(crate) fn is_empty(&self) -> bool
+        ensures { IsTrue result → self.now ≡ [] }
+    {
+        self.changes.len() == 0 && self.letters.as_slice().is_empty()
     }
 
     /// Tells the prover that each of its messages is a value of its type, and that its targets rise.

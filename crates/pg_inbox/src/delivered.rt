@@ -165,6 +165,28 @@ impl<M: Plain> Inboxes<M> {
         add_by_sender(alloc, &mut messages, parcel)?;
         Inboxes::ended(messages, parts, id, first)
     }
+
+    /// The same with the messages of letters, by sender and then in their order. No letters are left.
+    #[inline(always)]
+    pub(crate) fn with_letters(
+        self,
+        alloc: Global,
+        id: VertexId,
+        letters: &mut Vec<(VertexId, M)>,
+    ) -> Result<Inboxes<M>, Memory>
+        ensures inboxes { IfOk result (λ inboxes. inboxes ≡ self ++ (id, messages (in_order letters.old.items)) ∷ []) }
+        ensures none { OnOk result (letters.new.items ≡ []) }
+    {
+        let Inboxes {
+            mut messages,
+            parts,
+        } = self;
+        let first = messages.len();
+        letters.sort_by_key(|letter| letter.0)?;
+        add_messages(alloc, &mut messages, letters.as_slice())?;
+        letters.clear();
+        Inboxes::ended(messages, parts, id, first)
+    }
 }
 
 /// Adds copies of messages.
@@ -172,6 +194,21 @@ fn add_copies<M: Plain>(alloc: Global, into: &mut Vec<M>, messages: &[M]) -> Res
     ensures { OnOk result (into.new.items ≡ into.old.items ++ messages.now) }
 {
     for message in messages {
+        into.push(message.copy(alloc)?)?;
+    }
+    Ok(())
+}
+
+/// Adds copies of messages without their senders.
+#[inline(always)]
+fn add_messages<M: Plain>(
+    alloc: Global,
+    into: &mut Vec<M>,
+    letters: &[(VertexId, M)],
+) -> Result<(), Memory>
+    ensures { OnOk result (into.new.items ≡ into.old.items ++ messages letters.now) }
+{
+    for (_, message) in letters {
         into.push(message.copy(alloc)?)?;
     }
     Ok(())

@@ -8,6 +8,7 @@ mod counting;
 mod delivered;
 mod finder;
 mod letters;
+mod lists;
 mod logs;
 mod making;
 mod parcels;
@@ -15,6 +16,7 @@ mod patching;
 mod places;
 mod receivers;
 mod receiving;
+mod row;
 mod sends;
 
 pub use alike::tell_alike;

@@ -6,6 +6,7 @@ ghost use Rattle.pg_inbox.specs.Places.{inside, value_in};
 
 use crate::Bundle;
 use crate::places::Places;
+use crate::row::Row;
 use pg_graph::{Memory, PartitionId, Superstep, VertexId};
 use pg_model::Sequence;
 use pg_program::Plain;
@@ -22,7 +23,7 @@ pub struct Logged<M: Plain> {
 
 /// The bundles of a run, by superstep and by the partitions that sent and receive them.
 pub struct Logs<M: Plain> {
-    senders: Places<Places<Places<Logged<M>>>>,
+    senders: Places<Places<Row<M>>>,
 }
 
 // By hand, so that it is let go by one call wherever that is, and not field by field.
@@ -60,8 +61,8 @@ impl<M: Plain> Logs<M> {
         ensures { option_copied result ≡ slot_at self.now superstep from to }
     {
         let supersteps = self.senders.get(from.number() as usize)?;
-        let targets = supersteps.get(superstep.number() as usize)?;
-        targets.get(to.number() as usize)
+        let row = supersteps.get(superstep.number() as usize)?;
+        row.get(to.number() as usize)
     }
 
     /// Puts what a partition sent to another in a superstep, in place of what was there. Nothing changes where
@@ -115,7 +116,7 @@ fn taken<X: Drop>(alloc: Global, places: &mut Places<Places<X>>, place: usize) -
 /// Puts what one partition sent.
 fn put_in<M: Plain>(
     alloc: Global,
-    supersteps: &mut Places<Places<Logged<M>>>,
+    supersteps: &mut Places<Row<M>>,
     superstep: Superstep,
     to: PartitionId,
     logged: Logged<M>,
@@ -125,30 +126,27 @@ fn put_in<M: Plain>(
 {
     let place = superstep.number() as usize;
     supersteps.grow(place)?;
-    let mut targets = taken(alloc, supersteps, place);
-    match put_at(&mut targets, to, logged) {
+    let mut row = taken_row(alloc, supersteps, place);
+    match row.put(to.number() as usize, logged) {
         Ok(()) => {
-            supersteps.set(place, targets);
+            supersteps.set(place, row);
             Ok(())
         }
         Err(refused) => {
-            supersteps.set(place, targets);
+            supersteps.set(place, row);
             Err(refused)
         }
     }
 }
 
-/// Puts what goes to one partition.
-fn put_at<M: Plain>(
-    targets: &mut Places<Logged<M>>,
-    to: PartitionId,
-    logged: Logged<M>,
-) -> Result<(), Memory>
-    ensures ok { OnOk result ((q : ℕ) → value_in q targets.new ≡ cond (to == q) (Some logged) (value_in q targets.old)) }
-    ensures err { OnErr result ((q : ℕ) → value_in q targets.new ≡ value_in q targets.old) }
+/// Takes what one partition sent in a superstep, or else no bundles.
+fn taken_row<M: Plain>(alloc: Global, supersteps: &mut Places<Row<M>>, place: usize) -> Row<M>
+    ensures value { (q : ℕ) → value_in q result ≡ inside q (value_in place supersteps.old) }
+    ensures others { (other : ℕ) → value_in other supersteps.new ≡ cond (place == other) None (value_in other supersteps.old) }
+    ensures len { length supersteps.new ≡ length supersteps.old }
 {
-    let place = to.number() as usize;
-    targets.grow(place)?;
-    targets.set(place, logged);
-    Ok(())
+    match supersteps.take(place) {
+        Some(row) => row,
+        None => Row::new(alloc),
+    }
 }

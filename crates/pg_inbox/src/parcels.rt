@@ -80,7 +80,7 @@ fn add_changed<'a, M: Plain>(
 }
 
 /// Whether an id is below another.
-fn is_below(id: VertexId, other: VertexId) -> bool
+pub(crate) fn is_below(id: VertexId, other: VertexId) -> bool
     ensures { result ≡ nat_lt id other }
 {
     id < other

@@ -7,6 +7,7 @@ ghost use Rattle.pg_inbox.specs.Holding.{HoldAll};
 ghost use Rattle.pg_inbox.specs.Inboxes.{AreInboxes, each_inbox, inboxes_of};
 ghost use Rattle.pg_inbox.specs.Sound.{sent_parcels};
 
+use crate::lists::{all_unchanged, inboxes_merged};
 use crate::receiving::received;
 use crate::{Bundle, Inboxes};
 use pg_global::MessageCombiner;
@@ -17,8 +18,9 @@ use std::alloc::Global;
 
 /// What each vertex receives to which a bundle has a message, by rising id.
 ///
-/// Costs O(t log n) for t targets in n bundles, since those of a bundle rise already and the stable sort merges such
-/// runs, and of each vertex what its inbox costs beside the searches. One bundle is gone through where it is.
+/// Where messages aren't combined and lie as they were sent, it costs a copy of each and a sort of each inbox by sender,
+/// and for each of t targets a look at each of n bundles. Else it costs O(t log n), and what each inbox costs without the
+/// searches. One bundle is gone through where it is.
 pub fn inboxes<M: Plain, C: MessageCombiner<M>>(
     alloc: Global,
     bundles: &[&Bundle<M>],
@@ -26,10 +28,13 @@ pub fn inboxes<M: Plain, C: MessageCombiner<M>>(
 ) -> Result<Inboxes<M>, Memory>
     ensures { IfOk result (λ inboxes. AreInboxes (C.combining combiner.now) (map (λ b. b.now) bundles.now) inboxes) }
 {
-    if let [bundle] = bundles {
-        if !combiner.combines() {
+    if !combiner.combines() {
+        if let [bundle] = bundles {
             let inboxes = inboxes_in(alloc, bundle)?;
             return Ok(inboxes);
+        }
+        if let Some(lists) = all_unchanged(alloc, bundles)? {
+            return inboxes_merged(alloc, lists);
         }
     }
     let parcels = all_parcels(alloc, bundles)?;

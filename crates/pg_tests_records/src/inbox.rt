@@ -4,7 +4,7 @@ use pg_global::AnyCombiner;
 use pg_graph::{Memory, PartitionId, Superstep, VertexId};
 use pg_inbox::{
     Bundle, BundleFinder, Logged, Logs, Sends, SendsRef, add_receivers, bundle, changed_targets,
-    inbox, patch,
+    inbox, inboxes, patch,
 };
 use std::alloc::Global;
 use std::fmt::Write;
@@ -121,6 +121,41 @@ fn ordered_by_sender(rt: HostRuntime) -> Result<(), Memory> {
 fn combined_over_bundles(rt: HostRuntime) -> Result<(), Memory> {
     let text = inbox_of_both(rt.alloc(), AnyCombiner::Min)?;
     assert_eq!(rt; text.as_str(), "2,");
+    Ok(())
+}
+
+// What each target receives of three bundles, as `target[message,]`.
+fn inboxes_of_three(alloc: Global) -> Result<String, Memory> {
+    let combiner = AnyCombiner::NoCombiner;
+    let first = bundle_of(
+        alloc,
+        &[(1, 4, 10), (1, 4, 11), (5, 4, 50), (5, 9, 51)],
+        combiner,
+    )?;
+    let second = bundle_of(alloc, &[(2, 3, 20), (2, 4, 21), (6, 4, 60)], combiner)?;
+    let third = bundle_of(alloc, &[(3, 4, 30), (3, 9, 31), (3, 9, 32)], combiner)?;
+    let received = inboxes(alloc, &[&first, &second, &third], &combiner)?;
+    let mut text = String::new(alloc);
+    for place in 0..received.len() {
+        let (target, messages) = received.at(place);
+        write!(text, "{target}[")?;
+        write_messages(&mut text, messages)?;
+    }
+    Ok(text)
+}
+
+fn write_messages(text: &mut String, messages: &[i64]) -> Result<(), Memory> {
+    for message in messages {
+        write!(text, "{message},")?;
+    }
+    text.push(']')?;
+    Ok(())
+}
+
+#[test]
+fn inboxes_by_target_and_sender(rt: HostRuntime) -> Result<(), Memory> {
+    let text = inboxes_of_three(rt.alloc())?;
+    assert_eq!(rt; text.as_str(), "3[20,]4[10,11,21,30,50,60,]9[31,32,51,]");
     Ok(())
 }
 
@@ -322,6 +357,64 @@ fn forget_one(alloc: Global) -> Result<bool, Memory> {
 #[test]
 fn logs_forget(rt: HostRuntime) -> Result<(), Memory> {
     assert!(rt; forget_one(rt.alloc())?);
+    Ok(())
+}
+
+fn put_empty(alloc: Global, logs: &mut Logs<i64>, place: Place) -> Result<(), Memory> {
+    let logged = Logged {
+        bundle: bundle_of(alloc, &[], AnyCombiner::Min)?,
+        changed: None,
+    };
+    let (s, p, q) = place;
+    logs.put(
+        alloc,
+        Superstep::new(s),
+        PartitionId::new(p),
+        PartitionId::new(q),
+        logged,
+    )
+}
+
+// Slots of one sender in a superstep: a message, a point for an empty bundle, a dash for none.
+fn slots_of(alloc: Global, logs: &Logs<i64>) -> Result<String, Memory> {
+    let mut text = String::new(alloc);
+    for q in 0..7u32 {
+        match logs.get(Superstep::new(0), PartitionId::new(0), PartitionId::new(q)) {
+            Some(_) => write_slot(alloc, &mut text, logs, q)?,
+            None => text.push('-')?,
+        }
+    }
+    Ok(text)
+}
+
+fn write_slot(alloc: Global, text: &mut String, logs: &Logs<i64>, q: u32) -> Result<(), Memory> {
+    match message_in(alloc, logs, (0, 0, q))? {
+        -1 => text.push('.')?,
+        message => write!(text, "{message}")?,
+    }
+    Ok(())
+}
+
+// Empty bundles to 0, 1 and 3, messages to 2 and 5; then a message to 1, and an empty bundle to 2.
+fn mostly_empty(alloc: Global) -> Result<String, Memory> {
+    let mut logs = Logs::new(alloc);
+    put_empty(alloc, &mut logs, (0, 0, 0))?;
+    put_empty(alloc, &mut logs, (0, 0, 1))?;
+    put(alloc, &mut logs, (0, 0, 2), 2)?;
+    put_empty(alloc, &mut logs, (0, 0, 3))?;
+    put(alloc, &mut logs, (0, 0, 5), 5)?;
+    let mut text = slots_of(alloc, &logs)?;
+    put(alloc, &mut logs, (0, 0, 1), 7)?;
+    put_empty(alloc, &mut logs, (0, 0, 2))?;
+    let later = slots_of(alloc, &logs)?;
+    write!(text, " {}", later.as_str())?;
+    Ok(text)
+}
+
+#[test]
+fn logs_keep_empty_bundles(rt: HostRuntime) -> Result<(), Memory> {
+    let text = mostly_empty(rt.alloc())?;
+    assert_eq!(rt; text.as_str(), "..2.-5- .7..-5-");
     Ok(())
 }
 

@@ -1,4 +1,4 @@
-use Rattle.std.proofs.Common.{map, refl, subst₂, sym, ap₂, ◌++◌, ◌∙◌}
+use Rattle.std.proofs.Common.{refl, subst₂, sym, ap₂, ◌++◌, ◌∙◌}
 use Rattle.std.proofs.lemmas.List.{map-id}
 use Rattle.std.proofs.lemmas.Result.{IfOk-weaker}
 use Rattle.pg_graph.specs.ById.{AreById, StandAt}

@@ -1,4 +1,4 @@
-use Rattle.std.proofs.Common.{◌≡◌, ◌∙◌, ap, arith, length, map, subst, sym}
+use Rattle.std.proofs.Common.{◌≡◌, ◌∙◌, IfSome, ap, arith, length, map, subst, sym}
 use Rattle.std.specs.List.{AllByRecursion}
 use Rattle.std.proofs.lemmas.Result.{IfOk-weaker}
 use Rattle.std.specs.Map.{values_of}
@@ -10,6 +10,9 @@ use Rattle.pg_parcel.specs.Contents.{Holds}
 use Rattle.pg_inbox.specs.Holding.{HoldAll}
 use Rattle.pg_inbox.specs.Inboxes.{AreInboxes, inboxes_of}
 use Rattle.pg_inbox.proofs.Delivery.{are_inboxes, flat_map-of_map, inboxes_of_one, only_one}
+use Rattle.pg_inbox.specs.Merged.{StandByTarget}
+use Rattle.pg_inbox.specs.Sound.{sent_parcels}
+use Rattle.pg_inbox.proofs.Merged.{merged_inboxes}
 use Rattle.pg_inbox.proofs.receivers.inboxes.Goals as goal
 
 pub returns : goal.returns
@@ -31,8 +34,8 @@ returns g c =
     let made = ap (λ l. inboxes_of combining (groups_of l)) c.as_slice.ensures.value in
     IfOk-weaker c.inboxes_of.result _ _ (λ inboxes is. subst (AreInboxes combining bundles) (sym (is ∙ made)) are) c.inboxes_of.ensures
 
-pub returns-then-not-combines : goal.returns-then-not-combines
-returns-then-not-combines g c =
+pub returns-in-len1 : goal.returns-in-len1
+returns-in-len1 g c =
     let is_value = g.M.Plain.is_value in
     let combining = g.C.MessageCombiner.combining c.args.combiner.now in
     let laws = g.met.C.MessageCombiner g.world.𝓛 g.world.𝓜 g.world.𝓡 ((λ s x. x), (λ x. x), (λ x. x), λ x. x) in
@@ -44,3 +47,13 @@ returns-then-not-combines g c =
     (sym c.combines.ensures ∙ c.if-not-combines.true) bundle.now (ap (map (λ b. b.now)) (only_one bundles bundle one c.bundle-item.is))
     c.in_ok-inboxes.ensures.rise
     (all_from_map (λ e. e.1) (Holds is_value) bundle.now (recursion_from_All (Holds is_value) (values_of bundle.now) c.in_ok-inboxes.ensures.hold)))
+
+pub returns-in-Some : goal.returns-in-Some
+returns-in-Some g c =
+    let bundles = map (λ b. b.now) c.args.bundles.now in
+    let lists = map (λ l. l.now) c.in-Some.lists.items in
+    IfOk-weaker c.inboxes_merged.result _ _ (λ inboxes merged.
+    merged_inboxes lists bundles
+    (subst (λ o. IfSome o (λ l. bundles ≡ map sent_parcels (map (λ l. l.now) l.items))) c.in-Some.is c.in_ok-lists.ensures.bundles)
+    (subst (λ o. IfSome o (λ l. StandByTarget (map (λ l. l.now) l.items))) c.in-Some.is c.in_ok-lists.ensures.stand)
+    inboxes merged (g.C.MessageCombiner.combining c.args.combiner.now) (sym c.combines.ensures ∙ c.if-not-combines.true)) c.inboxes_merged.ensures

@@ -1,4 +1,4 @@
-use Rattle.std.proofs.Common.{◌||◌, ◌&&◌, false, is_some, take, ap, ◌∙◌, sym}
+use Rattle.std.proofs.Common.{◌||◌, ◌&&◌, is_some, take, ap, ◌∙◌, sym}
 use Rattle.std.proofs.lemmas.List.{take_all}
 use Rattle.pg_map.specs.Entries.{value_at}
 use Rattle.pg_model.specs.Superstep.{has_id}

@@ -1,7 +1,6 @@
 use Rattle.std.proofs.Common.{◌∷◌, [], ap, ◌∙◌, ◌++◌, ◌||◌, false, is_some, subst, sym}
 use Rattle.std.proofs.lemmas.Result.{IfOk-weaker}
 use Rattle.std.specs.Option.{option_to_list}
-use Rattle.pg_map.specs.Entries.{value_at}
 use Rattle.pg_inbox.specs.Inboxes.{Delivers, received_of}
 use Rattle.pg_inbox.proofs.Delivery.{delivers_nothing, delivers_received}
 use Rattle.pg_inbox.proofs.receiving.inbox_of.Goals as goal

@@ -1,4 +1,4 @@
-use Rattle.std.proofs.Common.{None, ap, ◌∙◌, option_map, subst, sym}
+use Rattle.std.proofs.Common.{ap, ◌∙◌, subst, sym}
 use Rattle.std.specs.Option.{option_copied}
 use Rattle.pg_map.specs.Entries.{value_at}
 use Rattle.pg_inbox.specs.Holding.{HoldsAt}
