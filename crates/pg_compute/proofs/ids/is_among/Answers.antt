@@ -4,8 +4,8 @@ use Rattle.std.proofs.lemmas.Map.Keys.{non_decreasing_from_sorted}
 use Rattle.pg_compute.proofs.Below.{missing, next_is}
 use Rattle.pg_compute.proofs.ids.is_among.Goals as goal
 
-pub count_below-requires : goal.count_below-requires
-count_below-requires c = non_decreasing_from_sorted c.args.ids.now c.requires
+pub count_below-place-requires : goal.count_below-place-requires
+count_below-place-requires c = non_decreasing_from_sorted c.args.ids.now c.requires
 
 pub returns-then-place-ids : goal.returns-then-place-ids
 returns-then-place-ids c =
