@@ -1,7 +1,7 @@
 // Refreshes on workers that fall, with checkpoints. All was found by hand.
 use crate::hops::{Line, Paths, accepted, limits_of, refreshed, told_on, two_hops};
 use crate::shelves::{NthShelf, ShortShelf};
-use pg_service::{Fate, Limits, MemShelf, NoFate, Shelf};
+use pg_service::{Fate, Limits, MemShelf, NoFate, NoGate, Shelf};
 use pg_tests_rounds::{AllFall, Strike, Strikes};
 use std::alloc::Global;
 use std::process::Abort;
@@ -23,7 +23,7 @@ fn first<R: Threads + Wait + Sync, F: Fate>(
 ) -> Result<String, Fail> {
     let mut service = two_hops(rt, alloc, limits)?;
     let mut shelf = MemShelf::new(alloc);
-    let told = told_on(rt, alloc, &mut service, &mut shelf, fate);
+    let told = told_on(rt, alloc, &mut service, &mut shelf, fate, &NoGate);
     service.close(rt);
     told
 }
@@ -50,7 +50,7 @@ fn short_checkpoints_are_of_no_use(rt: HostRuntime) -> Result<(), Fail> {
     let alloc = rt.alloc();
     let mut service = two_hops(&rt, alloc, limits_of(3, 2, 1, 16)?)?;
     let mut shelf = ShortShelf::new(alloc);
-    let told = told_on(&rt, alloc, &mut service, &mut shelf, &falls_once());
+    let told = told_on(&rt, alloc, &mut service, &mut shelf, &falls_once(), &NoGate);
     service.close(&rt);
     assert_eq!(rt;
         told?.as_str(),
@@ -70,9 +70,9 @@ fn shortcut<R: Threads + Wait + Sync>(
     accepted(alloc, service, &[Line::Edge(1, 3, 2)])?;
     let fate = Strikes::once(Strike::at(0, 0, 0, 2));
     let mut shelf = MemShelf::new(alloc);
-    let told = told_on(rt, alloc, service, &mut shelf, &fate)?;
+    let told = told_on(rt, alloc, service, &mut shelf, &fate, &NoGate)?;
     accepted(alloc, service, &[])?;
-    let again = told_on(rt, alloc, service, &mut shelf, &NoFate)?;
+    let again = told_on(rt, alloc, service, &mut shelf, &NoFate, &NoGate)?;
     Ok((told, again))
 }
 
@@ -103,8 +103,8 @@ fn refused<R: Threads + Wait + Sync>(
     let _first = refreshed(rt, alloc, service)?;
     accepted(alloc, service, &[])?;
     let mut shelf = MemShelf::new(alloc);
-    let told = told_on(rt, alloc, service, &mut shelf, &AllFall)?;
-    let next = told_on(rt, alloc, service, &mut shelf, &NoFate)?;
+    let told = told_on(rt, alloc, service, &mut shelf, &AllFall, &NoGate)?;
+    let next = told_on(rt, alloc, service, &mut shelf, &NoFate, &NoGate)?;
     Ok((told, next))
 }
 
@@ -145,7 +145,7 @@ fn fourth_put<R: Threads + Wait + Sync>(
     let _first = refreshed(rt, alloc, service)?;
     accepted(alloc, service, &[])?;
     let mut shelf = NthShelf::new(alloc, 4);
-    let told = told_on(rt, alloc, service, &mut shelf, &NoFate)?;
+    let told = told_on(rt, alloc, service, &mut shelf, &NoFate, &NoGate)?;
     Ok((told, refreshed(rt, alloc, service)?))
 }
 
@@ -180,10 +180,10 @@ fn two_runs<R: Threads + Wait + Sync>(
     service: &mut Paths,
 ) -> Result<(bool, bool), Fail> {
     let mut shelf = MemShelf::new(alloc);
-    let _first = told_on(rt, alloc, service, &mut shelf, &NoFate)?;
+    let _first = told_on(rt, alloc, service, &mut shelf, &NoFate, &NoGate)?;
     let first = names_run(alloc, &mut shelf, 1)?;
     accepted(alloc, service, &[Line::Edge(1, 3, 2)])?;
-    let _second = told_on(rt, alloc, service, &mut shelf, &NoFate)?;
+    let _second = told_on(rt, alloc, service, &mut shelf, &NoFate, &NoGate)?;
     Ok((first, names_run(alloc, &mut shelf, 2)?))
 }
 
@@ -207,7 +207,7 @@ fn beside_failing<R: Threads + Wait + Sync>(
     let _first = refreshed(rt, alloc, service)?;
     accepted(alloc, service, &[Line::Edge(1, 3, 2)])?;
     let mut shelf = NthShelf::new(alloc, call);
-    let told = told_on(rt, alloc, service, &mut shelf, &falls_once())?;
+    let told = told_on(rt, alloc, service, &mut shelf, &falls_once(), &NoGate)?;
     Ok((told, shelf.calls(), refreshed(rt, alloc, service)?))
 }
 

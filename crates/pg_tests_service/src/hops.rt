@@ -199,8 +199,34 @@ fn tell_refusal(text: &mut String, fault: &RefreshFault) -> Result<(), Memory> {
     }
 }
 
-// What a refresh tells on workers that fall by this fate and pass this gate, with checkpoints on this shelf.
-fn refreshed_at<
+// The report or the refusal of a refresh on workers that fall by this fate and pass this gate, with checkpoints on this
+// shelf, whose device hasn't failed before.
+pub(crate) fn refresh_on<
+    R: Threads + Wait + Sync,
+    P: Computation,
+    C: MessageCombiner<P::Message>,
+    M: MasterCompute,
+    S: Shelf,
+    F: Fate,
+    G: Gate,
+>(
+    rt: &R,
+    alloc: Global,
+    service: &mut Service<P, C, M>,
+    shelf: &mut S,
+    fate: &F,
+    gate: &G,
+) -> Result<Result<Report, RefreshFault>, Fail>
+    requires { (S.state shelf.old).is_honest ≡ true }
+{
+    if shelf.failures() > 0 {
+        return Err(Fail::from("the device has failed before"));
+    }
+    Ok(service.refresh(rt, alloc, shelf, fate, gate))
+}
+
+// What such a refresh tells.
+pub(crate) fn refreshed_on<
     R: Threads + Wait + Sync,
     P: Computation,
     C: MessageCombiner<P::Message>,
@@ -218,38 +244,15 @@ fn refreshed_at<
 ) -> Result<String, Fail>
     requires { (S.state shelf.old).is_honest ≡ true }
 {
-    if shelf.failures() > 0 {
-        return Err(Fail::from("the device has failed before"));
-    }
     let mut text = String::new(alloc);
-    match service.refresh(rt, alloc, shelf, fate, gate) {
+    match refresh_on(rt, alloc, service, shelf, fate, gate)? {
         Ok(report) => tell_report(&mut text, &report)?,
         Err(fault) => tell_refusal(&mut text, &fault)?,
     }
     Ok(text)
 }
 
-// What a refresh tells on workers that fall by this fate, with checkpoints on this shelf.
-pub(crate) fn refreshed_on<
-    R: Threads + Wait + Sync,
-    P: Computation,
-    C: MessageCombiner<P::Message>,
-    M: MasterCompute,
-    S: Shelf,
-    F: Fate,
->(
-    rt: &R,
-    alloc: Global,
-    service: &mut Service<P, C, M>,
-    shelf: &mut S,
-    fate: &F,
-) -> Result<String, Fail>
-    requires { (S.state shelf.old).is_honest ≡ true }
-{
-    refreshed_at(rt, alloc, service, shelf, fate, &NoGate)
-}
-
-// The same with nobody made to fall, and checkpoints in memory.
+// What a refresh tells in which nobody is made to fall, with checkpoints in memory.
 pub(crate) fn refreshed<
     R: Threads + Wait + Sync,
     P: Computation,
@@ -257,7 +260,7 @@ pub(crate) fn refreshed<
     M: MasterCompute,
 >(rt: &R, alloc: Global, service: &mut Service<P, C, M>) -> Result<String, Fail> {
     let mut shelf = MemShelf::new(alloc);
-    refreshed_on(rt, alloc, service, &mut shelf, &NoFate)
+    refreshed_on(rt, alloc, service, &mut shelf, &NoFate, &NoGate)
 }
 
 // What is published: the values by rising id.
@@ -280,7 +283,7 @@ fn tell_values<P: Computation, C: MessageCombiner<P::Message>, M: MasterCompute>
 
 // What a refresh tells on workers that fall by this fate and pass this gate, with checkpoints on this shelf, and what is
 // published after it, with its edition.
-pub(crate) fn told_at<
+pub(crate) fn told_on<
     R: Threads + Wait + Sync,
     P: Computation,
     C: MessageCombiner<P::Message>,
@@ -298,32 +301,12 @@ pub(crate) fn told_at<
 ) -> Result<String, Fail>
     requires { (S.state shelf.old).is_honest ≡ true }
 {
-    let mut text = refreshed_at(rt, alloc, service, shelf, fate, gate)?;
+    let mut text = refreshed_on(rt, alloc, service, shelf, fate, gate)?;
     tell_values(service, &mut text)?;
     Ok(text)
 }
 
-// The same with no gate.
-pub(crate) fn told_on<
-    R: Threads + Wait + Sync,
-    P: Computation,
-    C: MessageCombiner<P::Message>,
-    M: MasterCompute,
-    S: Shelf,
-    F: Fate,
->(
-    rt: &R,
-    alloc: Global,
-    service: &mut Service<P, C, M>,
-    shelf: &mut S,
-    fate: &F,
-) -> Result<String, Fail>
-    requires { (S.state shelf.old).is_honest ≡ true }
-{
-    told_at(rt, alloc, service, shelf, fate, &NoGate)
-}
-
-// The same of a refresh after each of these batches, with nobody made to fall.
+// What is told so of a refresh after each of these batches, with nobody made to fall.
 fn told_after_each<R: Threads + Wait + Sync>(
     rt: &R,
     alloc: Global,
@@ -334,13 +317,13 @@ fn told_after_each<R: Threads + Wait + Sync>(
     for lines in batches {
         accepted(alloc, service, lines)?;
         let mut shelf = MemShelf::new(alloc);
-        let told = told_on(rt, alloc, service, &mut shelf, &NoFate)?;
+        let told = told_on(rt, alloc, service, &mut shelf, &NoFate, &NoGate)?;
         text.push_str(told.as_str())?;
     }
     Ok(text)
 }
 
-// The same of a service with these limits.
+// What is told so of a service with these limits.
 pub(crate) fn told<R: Threads + Wait + Sync>(
     rt: &R,
     alloc: Global,

@@ -1,5 +1,5 @@
 // Workers of a refresh work at the same time: each of two waits for the other, at the gate or within compute.
-use crate::hops::{Line, batch_of, empty, limits_of, master, program, service_of, told_at};
+use crate::hops::{Line, batch_of, empty, limits_of, master, program, service_of, told_on};
 use pg_global::{AnyCombiner, MasterCompute, MessageCombiner};
 use pg_program::Computation;
 use pg_service::{Gate, MemShelf, NoFate, NoGate, Service};
@@ -24,7 +24,7 @@ fn refreshed_two<
         .edit(alloc, &batch)
         .map_err(|_| "a batch that is refused")?;
     let mut shelf = MemShelf::new(alloc);
-    told_at(rt, alloc, service, &mut shelf, &NoFate, gate)
+    told_on(rt, alloc, service, &mut shelf, &NoFate, gate)
 }
 
 const TWO_VERTICES: &str = "calls 2 supersteps 1 losses; of 1: 1=0 2=9223372036854775807\n";

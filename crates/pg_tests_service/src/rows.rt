@@ -4,7 +4,7 @@ use crate::hops::{
     two_hops,
 };
 use pg_graph::{EditKind, Missing};
-use pg_service::{MemShelf, NoFate};
+use pg_service::{MemShelf, NoFate, NoGate};
 use std::alloc::Global;
 use std::process::Abort;
 use std::sync::Wait;
@@ -100,7 +100,7 @@ fn beside_a_refused_batch<R: Threads + Wait + Sync>(
     Ok((
         refused,
         edition,
-        told_on(rt, alloc, service, &mut shelf, &NoFate)?,
+        told_on(rt, alloc, service, &mut shelf, &NoFate, &NoGate)?,
     ))
 }
 

@@ -2,7 +2,7 @@
 // what the rounds come to as they are played with plain numbers.
 ghost use Rattle.std.specs.Prelude.{◌≡◌, true, length, IfOk, IfSome};
 
-use crate::hops::{Paths, is_run_on, service_of};
+use crate::hops::{Paths, is_run_on, refresh_on, service_of};
 use crate::shelves::{EmptyShelf, NthShelf, ShortShelf};
 use crate::trials::{Keeping, Trials};
 use pg_global::{AnyCombiner, MasterCompute, MessageCombiner};
@@ -74,10 +74,7 @@ fn refreshed<
 ) -> Result<Played, Fail>
     requires { (S.state shelf.old).is_honest ≡ true }
 {
-    if shelf.failures() > 0 {
-        return Err(Fail::from("the device has failed before"));
-    }
-    match service.refresh(rt, alloc, shelf, fate, &NoGate) {
+    match refresh_on(rt, alloc, service, shelf, fate, &NoGate)? {
         Ok(report) => Ok(reported(alloc, &report)?),
         Err(fault) => Ok(refused(alloc, &fault)?),
     }

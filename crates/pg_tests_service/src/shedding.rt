@@ -9,7 +9,7 @@ use pg_global::{AnyCombiner, MasterCompute, MessageCombiner, NoMaster};
 use pg_graph::Missing;
 use pg_model::Ending;
 use pg_program::{Computation, Shed};
-use pg_service::{Fate, Limits, MemShelf, NoFate, Service};
+use pg_service::{Fate, Limits, MemShelf, NoFate, NoGate, Service};
 use pg_tests_rounds::{Strike, Strikes};
 use std::alloc::Global;
 use std::process::Abort;
@@ -45,7 +45,7 @@ fn told_after<
         .edit(alloc, &batch_of(alloc, lines)?)
         .map_err(|_| "a batch that is refused")?;
     let mut shelf = MemShelf::new(alloc);
-    told_on(rt, alloc, service, &mut shelf, fate)
+    told_on(rt, alloc, service, &mut shelf, fate, &NoGate)
 }
 
 // What a first refresh tells where workers fall by this fate, and one after a further edge.
@@ -279,7 +279,7 @@ fn counted<
     M: MasterCompute,
 >(rt: &R, alloc: Global, service: &mut Service<P, C, M>) -> Result<(String, u64), Fail> {
     let mut shelf = NthShelf::new(alloc, 0);
-    let told = refreshed_on(rt, alloc, service, &mut shelf, &NoFate)?;
+    let told = refreshed_on(rt, alloc, service, &mut shelf, &NoFate, &NoGate)?;
     Ok((told, shelf.calls()))
 }
 
@@ -316,7 +316,7 @@ fn fallen_once<
 >(rt: &R, alloc: Global, service: &mut Service<P, C, M>) -> Result<(String, String), Fail> {
     let fate = Strikes::once(Strike::at(1, 0, 1, 1));
     let mut shelf = MemShelf::new(alloc);
-    let told = refreshed_on(rt, alloc, service, &mut shelf, &fate)?;
+    let told = refreshed_on(rt, alloc, service, &mut shelf, &fate, &NoGate)?;
     Ok((told, refreshed(rt, alloc, service)?))
 }
 

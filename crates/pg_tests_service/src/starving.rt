@@ -4,7 +4,7 @@ use crate::hops::{
 };
 use pg_global::{AnyCombiner, MasterCompute, MessageCombiner};
 use pg_program::Computation;
-use pg_service::{Limits, MemShelf, NoFate, Service};
+use pg_service::{Limits, MemShelf, NoFate, NoGate, Service};
 use pg_tests_kit::{Heard, Starving};
 use std::alloc::Global;
 use std::process::Abort;
@@ -23,7 +23,14 @@ fn refreshed_twice<
     service
         .edit(alloc, &batch)
         .map_err(|_| "a batch that is refused")?;
-    let first = told_on(rt, alloc, service, &mut MemShelf::new(alloc), &NoFate)?;
+    let first = told_on(
+        rt,
+        alloc,
+        service,
+        &mut MemShelf::new(alloc),
+        &NoFate,
+        &NoGate,
+    )?;
     Ok((first, refreshed(rt, alloc, service)?))
 }
 

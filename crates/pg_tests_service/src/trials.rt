@@ -1,7 +1,7 @@
-// What sessions draw at random, and counts of what came of their refreshes.
+// What sessions draw at random, and what came of their refreshes.
 use pg_service::Limits;
 use pg_tests_kit::Random;
-use pg_tests_rounds::Played;
+use pg_tests_rounds::{Played, RunCounts, random_limits};
 use std::test::Fail;
 
 // What a shelf keeps of what it is given.
@@ -14,29 +14,18 @@ pub(crate) enum Keeping {
     Nothing,
 }
 
-// Numbers at random, and what came of them: how many refreshes there were and how many of them ended, how many workers
-// fell, and how many refreshes were refused for each reason.
+// Numbers at random, and what came of the refreshes.
 #[derive(Drop)]
 pub(crate) struct Trials {
     pub(crate) random: Random,
-    refreshes: u32,
-    ended: u32,
-    losses: u32,
-    too_many: u32,
-    no_workers: u32,
-    device: u32,
+    counts: RunCounts,
 }
 
 impl Trials {
     pub(crate) fn new(seed: u64) -> Trials {
         Trials {
             random: Random::new(seed),
-            refreshes: 0,
-            ended: 0,
-            losses: 0,
-            too_many: 0,
-            no_workers: 0,
-            device: 0,
+            counts: RunCounts::new(),
         }
     }
 
@@ -60,60 +49,25 @@ impl Trials {
         }
     }
 
-    // 1 to 5 partitions on 1 to 5 workers, saved after 0 to 3 supersteps, with 1, 2 or 16 losses borne, in at most 8
-    // supersteps.
     pub(crate) fn limits(&mut self) -> Result<Limits, Fail> {
-        let (partitions, workers) = (self.below(5), self.below(5));
-        let most = match self.below(6) {
-            0 => 1,
-            1 => 2,
-            _ => 16,
-        };
-        let every = self.below(4);
-        let limits = Limits::new(
-            partitions.saturating_add(1),
-            workers.saturating_add(1),
-            8,
-            every,
-            most,
-        );
-        Ok(limits.ok_or("no such limits")?)
+        random_limits(5, &mut self.random)
     }
 
     // Whether enough refreshes ended, enough workers fell, and enough refreshes were refused for each reason. In all
     // three tests there are 648 refreshes, in which 424 workers fall: 512 end, 25 are refused as too many workers fell,
     // 99 as none was left, and 12 as the device failed.
     pub(crate) fn is_enough(&self) -> bool {
-        self.refreshes == 216
-            && self.ended > 120
-            && self.losses > 100
-            && self.too_many > 5
-            && self.no_workers > 20
-            && self.device > 2
+        let counts = self.counts;
+        counts.runs == 216
+            && counts.ended > 120
+            && counts.losses > 100
+            && counts.too_many > 5
+            && counts.no_workers > 20
+            && counts.device > 2
     }
 
     // Counts a refresh.
     pub(crate) fn count(&mut self, played: &Played) {
-        self.refreshes = self.refreshes.saturating_add(1);
-        let losses = match played {
-            Played::Ended(_, _, losses) => {
-                self.ended = self.ended.saturating_add(1);
-                losses
-            }
-            Played::Refused(2, losses) => {
-                self.too_many = self.too_many.saturating_add(1);
-                losses
-            }
-            Played::Refused(3, losses) => {
-                self.no_workers = self.no_workers.saturating_add(1);
-                losses
-            }
-            Played::Refused(_, losses) => {
-                self.device = self.device.saturating_add(1);
-                losses
-            }
-        };
-        let more = u32::try_from(losses.len()).unwrap_or(0);
-        self.losses = self.losses.saturating_add(more);
+        self.counts.count(played);
     }
 }

@@ -8,7 +8,9 @@ use pg_global::AnyCombiner;
 use pg_graph::{Graph, Memory, Missing, VertexId};
 use pg_ready::{Cc, Indegree, MaxValue, Pagerank, Peel, ReadyMaster, ReadyProgram, Sssp};
 use pg_tests_kit::{GraphSize, Random, edited, id, random_graph};
-use pg_tests_rounds::{Calls, Play, Played, Table, unlost, unlost_beside};
+use pg_tests_rounds::{
+    Calls, Play, Played, RunCounts, Table, random_limits, unlost, unlost_beside,
+};
 use pg_workers::{Limits, NoGate, Traces};
 use std::alloc::Global;
 use std::fmt::Write;
@@ -17,16 +19,11 @@ use std::sync::Wait;
 use std::test::Fail;
 use std::thread::Threads;
 
-// Numbers at random, and what came of them: how many runs there were and how many of them ended, how many workers fell,
-// and how many runs were refused for each reason.
+// Numbers at random, and what came of the runs.
 #[derive(Drop)]
 struct Trials {
     random: Random,
-    runs: u32,
-    ended: u32,
-    losses: u32,
-    too_many: u32,
-    no_workers: u32,
+    counts: RunCounts,
 }
 
 impl Trials {
@@ -48,54 +45,18 @@ impl Trials {
         }
     }
 
-    // 1 to 7 partitions on 1 to 5 workers, saved after 0 to 3 supersteps, with 1, 2 or 16 losses borne, in at most 8
-    // supersteps.
     fn limits(&mut self) -> Result<Limits, Fail> {
-        let (partitions, workers) = (self.below(7), self.below(5));
-        let most = match self.below(6) {
-            0 => 1,
-            1 => 2,
-            _ => 16,
-        };
-        let every = self.below(4);
-        let limits = Limits::new(
-            partitions.saturating_add(1),
-            workers.saturating_add(1),
-            8,
-            every,
-            most,
-        );
-        Ok(limits.ok_or("no such limits")?)
+        random_limits(7, &mut self.random)
     }
 
     // Whether enough runs ended, enough workers fell, and enough runs were refused for each reason.
     fn is_enough(&self) -> bool {
-        self.runs == 180
-            && self.ended > 100
-            && self.losses > 100
-            && self.too_many > 5
-            && self.no_workers > 10
-    }
-
-    // Counts a run.
-    fn count(&mut self, played: &Played) {
-        self.runs = self.runs.saturating_add(1);
-        let losses = match played {
-            Played::Ended(_, _, losses) => {
-                self.ended = self.ended.saturating_add(1);
-                losses
-            }
-            Played::Refused(2, losses) => {
-                self.too_many = self.too_many.saturating_add(1);
-                losses
-            }
-            Played::Refused(_, losses) => {
-                self.no_workers = self.no_workers.saturating_add(1);
-                losses
-            }
-        };
-        let more = u32::try_from(losses.len()).unwrap_or(0);
-        self.losses = self.losses.saturating_add(more);
+        let counts = self.counts;
+        counts.runs == 180
+            && counts.ended > 100
+            && counts.losses > 100
+            && counts.too_many > 5
+            && counts.no_workers > 10
     }
 }
 
@@ -174,7 +135,7 @@ fn tried_first<R: Threads + Wait + Sync>(
     let warm = Vec::new(alloc);
     let calls = Calls { warm, cold };
     let (told, puts) = (told.as_str(), shelf.puts());
-    trials.count(&as_played(alloc, setting, false, &calls, &fate, told, puts)?);
+    trials.counts.count(&as_played(alloc, setting, false, &calls, &fate, told, puts)?);
     Ok(match left {
         Some(left) => Some((left, unlost)),
         None => None,
@@ -211,7 +172,7 @@ fn tried_beside<R: Threads + Wait + Sync>(
     )?;
     let calls = Calls { warm, cold };
     let (told, puts) = (told.as_str(), shelf.puts());
-    trials.count(&as_played(alloc, setting, true, &calls, &fate, told, puts)?);
+    trials.counts.count(&as_played(alloc, setting, true, &calls, &fate, told, puts)?);
     Ok(match left {
         Some(left) => Some((left, plain)),
         None => None,
@@ -313,11 +274,7 @@ fn two_tried<R: Threads + Wait + Sync>(
 ) -> Result<Trials, Fail> {
     let mut trials = Trials {
         random: Random::new(1),
-        runs: 0,
-        ended: 0,
-        losses: 0,
-        too_many: 0,
-        no_workers: 0,
+        counts: RunCounts::new(),
     };
     each_tried(rt, alloc, &one, &mut trials)?;
     each_tried(rt, alloc, &other, &mut trials)?;
