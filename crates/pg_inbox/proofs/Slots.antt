@@ -6,7 +6,7 @@ use Rattle.std.proofs.lemmas.Bool.Decides.{nat_tests}
 use Rattle.std.proofs.lemmas.List.{get_or_append_left, get_or_push, length-append, length-map, length-take-le, take_more}
 use Rattle.pg_model.proofs.LawsLists.{all-append, all_weaker}
 use Rattle.pg_inbox.specs.Places.{value_in}
-use Rattle.pg_inbox.specs.Row.{AreBelow, IsLastAt, last_at, slot_in, slots_in}
+use Rattle.pg_inbox.specs.SentRow.{AreBelow, IsLastAt, last_at, slot_in, slots_in}
 use Rattle.pg_inbox.specs.declared.logs.Logged.{Logged}
 
 module _ {X : Type 0} where

@@ -11,8 +11,8 @@ pub mod Ordered
 pub mod Parts
 pub mod Patched
 pub mod Places
-pub mod Row
 pub mod Rows
 pub mod Sends
+pub mod SentRow
 pub mod Shared
 pub mod Sound

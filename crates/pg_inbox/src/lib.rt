@@ -16,8 +16,8 @@ mod patching;
 mod places;
 mod receivers;
 mod receiving;
-mod row;
 mod sends;
+mod sent_row;
 
 pub use alike::tell_alike;
 pub use bundles::Bundle;

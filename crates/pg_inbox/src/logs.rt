@@ -6,7 +6,7 @@ ghost use Rattle.pg_inbox.specs.Places.{inside, value_in};
 
 use crate::Bundle;
 use crate::places::Places;
-use crate::row::Row;
+use crate::sent_row::SentRow;
 use pg_graph::{Memory, PartitionId, Superstep, VertexId};
 use pg_model::Sequence;
 use pg_program::Plain;
@@ -23,7 +23,7 @@ pub struct Logged<M: Plain> {
 
 /// The bundles of a run, by superstep and by the partitions that sent and receive them.
 pub struct Logs<M: Plain> {
-    senders: Places<Places<Row<M>>>,
+    senders: Places<Places<SentRow<M>>>,
 }
 
 // By hand, so that it is let go by one call wherever that is, and not field by field.
@@ -116,7 +116,7 @@ fn taken<X: Drop>(alloc: Global, places: &mut Places<Places<X>>, place: usize) -
 /// Puts what one partition sent.
 fn put_in<M: Plain>(
     alloc: Global,
-    supersteps: &mut Places<Row<M>>,
+    supersteps: &mut Places<SentRow<M>>,
     superstep: Superstep,
     to: PartitionId,
     logged: Logged<M>,
@@ -140,13 +140,17 @@ fn put_in<M: Plain>(
 }
 
 /// Takes what one partition sent in a superstep, or else no bundles.
-fn taken_row<M: Plain>(alloc: Global, supersteps: &mut Places<Row<M>>, place: usize) -> Row<M>
+fn taken_row<M: Plain>(
+    alloc: Global,
+    supersteps: &mut Places<SentRow<M>>,
+    place: usize,
+) -> SentRow<M>
     ensures value { (q : ℕ) → value_in q result ≡ inside q (value_in place supersteps.old) }
     ensures others { (other : ℕ) → value_in other supersteps.new ≡ cond (place == other) None (value_in other supersteps.old) }
     ensures len { length supersteps.new ≡ length supersteps.old }
 {
     match supersteps.take(place) {
         Some(row) => row,
-        None => Row::new(alloc),
+        None => SentRow::new(alloc),
     }
 }

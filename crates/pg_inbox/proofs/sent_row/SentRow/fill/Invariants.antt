@@ -1,7 +1,7 @@
 use Rattle.std.proofs.Common.{◌≡◌, ℕ, ◌-◌}
 use Rattle.pg_inbox.specs.Places.{value_in}
-use Rattle.pg_inbox.specs.Row.{AreBelow, slots_in}
-use Rattle.pg_inbox.proofs.row.Row.fill.Given as goal
+use Rattle.pg_inbox.specs.SentRow.{AreBelow, slots_in}
+use Rattle.pg_inbox.proofs.sent_row.SentRow.fill.Given as goal
 
 abbrev pub invariant-loop-self : goal.invariant-loop-self
 invariant-loop-self g l = record {

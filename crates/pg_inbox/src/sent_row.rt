@@ -2,7 +2,7 @@
 ghost use Rattle.std.specs.Prelude.{◌≡◌, ◌==◌, ◌<◌, ◌≤◌, ◌⊎◌, ◌+◌, ℕ, [], length, cond, None, Some, IsTrue, OnOk, OnErr};
 ghost use Rattle.std.specs.Option.{option_copied};
 ghost use Rattle.pg_inbox.specs.Places.{value_in};
-ghost use Rattle.pg_inbox.specs.Row.{AreNone, IsLastAt};
+ghost use Rattle.pg_inbox.specs.SentRow.{AreNone, IsLastAt};
 
 use crate::{Bundle, Logged};
 use pg_graph::Memory;
@@ -12,15 +12,15 @@ use std::marker::Model;
 
 /// Bundles by the partition that receives them, from 0 on. An empty one takes no memory where it is like the first.
 #[derive(Drop)]
-pub(crate) struct Row<M: Plain> {
+pub(crate) struct SentRow<M: Plain> {
     count: usize,
     usual: Logged<M>,
     others: Vec<(usize, Option<Logged<M>>)>,
 }
 
-impl<M: Plain> Model for Row<M> {
+impl<M: Plain> Model for SentRow<M> {
     ghost use Rattle.std.specs.Prelude.{List, Option};
-    ghost use Rattle.pg_inbox.specs.Row.{AreBelow, slots_in};
+    ghost use Rattle.pg_inbox.specs.SentRow.{AreBelow, slots_in};
     ghost use Rattle.pg_inbox.specs.declared.logs.Logged.{Logged};
 
     ghost Value = { List (Option (Logged M)) };
@@ -30,12 +30,12 @@ impl<M: Plain> Model for Row<M> {
     ghost invariant = { λ r. AreBelow r.count r.others.items };
 }
 
-impl<M: Plain> Row<M> {
+impl<M: Plain> SentRow<M> {
     /// No bundles. Takes no memory.
-    pub(crate) fn new(alloc: Global) -> Row<M>
+    pub(crate) fn new(alloc: Global) -> SentRow<M>
         ensures { result ≡ [] }
     {
-        Row {
+        SentRow {
             count: 0,
             usual: Logged {
                 bundle: Bundle::new(),

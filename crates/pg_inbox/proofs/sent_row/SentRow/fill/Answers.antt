@@ -1,8 +1,8 @@
 use Rattle.std.proofs.Common.{◌+◌, ◌≤◌, ap, arith, subst, sym, ◌∙◌}
 use Rattle.pg_inbox.specs.Places.{value_in}
-use Rattle.pg_inbox.specs.Row.{AreBelow, slots_in}
+use Rattle.pg_inbox.specs.SentRow.{AreBelow, slots_in}
 use Rattle.pg_inbox.proofs.Slots.{below_push, length-slots, put_none}
-use Rattle.pg_inbox.proofs.row.Row.fill.Goals as goal
+use Rattle.pg_inbox.proofs.sent_row.SentRow.fill.Goals as goal
 
 pub loop-self-preserved : goal.loop-self-preserved
 loop-self-preserved g c =

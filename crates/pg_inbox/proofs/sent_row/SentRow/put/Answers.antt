@@ -1,8 +1,8 @@
 use Rattle.std.proofs.Common.{◌+◌, ◌≤◌, ◌==◌, [], cond, length, Some, ap, arith, subst, sym, ◌∙◌}
 use Rattle.pg_inbox.specs.Places.{value_in}
-use Rattle.pg_inbox.specs.Row.{AreBelow, slots_in}
+use Rattle.pg_inbox.specs.SentRow.{AreBelow, slots_in}
 use Rattle.pg_inbox.proofs.Slots.{below_more, below_push, length-slots, put_other, put_usual}
-use Rattle.pg_inbox.proofs.row.Row.put.Goals as goal
+use Rattle.pg_inbox.proofs.sent_row.SentRow.put.Goals as goal
 
 pub returns-then-is_empty-clause-ok : goal.returns-then-is_empty-clause-ok
 returns-then-is_empty-clause-ok g c = λ q.

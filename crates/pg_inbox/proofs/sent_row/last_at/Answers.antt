@@ -1,8 +1,8 @@
 use Rattle.std.proofs.Common.{◌+◌, ap, subst, sym, take, ◌∙◌}
-use Rattle.pg_inbox.specs.Row.{IsLastAt}
+use Rattle.pg_inbox.specs.SentRow.{IsLastAt}
 use Rattle.pg_inbox.proofs.Slots.{last_here, last_still}
-use Rattle.pg_inbox.proofs.row.last_at.Goals.{then-entries-place, else-entries-place}
-use Rattle.pg_inbox.proofs.row.last_at.Goals as goal
+use Rattle.pg_inbox.proofs.sent_row.last_at.Goals.{then-entries-place, else-entries-place}
+use Rattle.pg_inbox.proofs.sent_row.last_at.Goals as goal
 
 pub loop-place-preserved : goal.loop-place-preserved
 loop-place-preserved g c =

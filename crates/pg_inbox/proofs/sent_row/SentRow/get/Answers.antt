@@ -1,8 +1,8 @@
 use Rattle.std.proofs.Common.{◌≡◌, Some, ap, get_or, sym, ◌∙◌}
 use Rattle.pg_inbox.specs.Places.{value_in}
-use Rattle.pg_inbox.specs.Row.{last_at}
+use Rattle.pg_inbox.specs.SentRow.{last_at}
 use Rattle.pg_inbox.proofs.Slots.{slot_other, slot_past, slot_usual}
-use Rattle.pg_inbox.proofs.row.Row.get.Goals as goal
+use Rattle.pg_inbox.proofs.sent_row.SentRow.get.Goals as goal
 
 pub returns-then-to-self : goal.returns-then-to-self
 returns-then-to-self g c =
