@@ -8,6 +8,7 @@ pub mod InParts
 pub mod InPlace
 pub mod Moved
 pub mod Parts
+pub mod Passed
 pub mod Replaced
 pub mod Rising
 pub mod Search

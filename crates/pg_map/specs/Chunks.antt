@@ -1,5 +1,5 @@
 -- How a map lies in memory: its entries cut into chunks, and these into groups.
-use Rattle.std.specs.Prelude.{◌≡◌, ℕ, ◌<◌, ◌≤◌, Option, List, [], ◌∷◌, length, true, None, Some, is_some}
+use Rattle.std.specs.Prelude.{◌≡◌, ℕ, ◌<◌, ◌≤◌, ◌⊎◌, Option, List, [], ◌∷◌, length, get_or, true, None, Some, is_some}
 use Rattle.std.specs.Arc.{arc_value}
 use Rattle.std.specs.List.{AllByRecursion, flat_map}
 use Rattle.pg_map.specs.Entries.{HasRisingIds, value_at}
@@ -54,6 +54,11 @@ pub record AreSound {V : Type 0} (groups : List (Part (Part (ℕ × V)))) (len :
 abbrev pub AreCut : {T X : Type 0} → List (Part T) → List (ℕ × Option X) → List (ℕ × Option X) → Type 0
 AreCut [] here later = later ≡ []
 AreCut (p ∷ ps) here later = AllByRecursion (λ x. x.0 < p.first) here × AllByRecursion (λ x. p.first ≤ x.0) later
+
+-- no change falls into the first parts, so many
+abbrev pub ArePast : {T X : Type 0} → ℕ → List (Part T) → List (ℕ × Option X) → Type 0
+ArePast n parts [] = Unit {0}
+ArePast n parts (c ∷ cs) = (n ≡ 0) ⊎ ((n < length parts) × ((p : Part _) → (get_or parts n p).first ≤ c.0))
 
 -- each change gives a value to an id that is there
 abbrev pub AreThere : {V : Type 0} → List (ℕ × Option V) → List (ℕ × V) → Type 0

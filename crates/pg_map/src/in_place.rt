@@ -1,21 +1,22 @@
 //! Changes made in the memory that a map has.
-ghost use Rattle.std.specs.Prelude.{◌≡◌, ◌+◌, length, true, is_some, IfSome, IfNone, IsTrue};
+ghost use Rattle.std.specs.List.Sorted.{IsNonDecreasingBy};
+ghost use Rattle.std.specs.Prelude.{◌≡◌, ◌+◌, ◌≤◌, length, true, is_some, IfSome, IfNone, IsTrue};
 ghost use Rattle.std.specs.BTreeMap.{insert_entry};
 ghost use Rattle.std.specs.Ordering.{nat_cmp};
-ghost use Rattle.pg_map.specs.Chunks.{AreChunks, AreGroups, AreThere, IsPart, all_of, entries_of, groups_of, listed};
+ghost use Rattle.pg_map.specs.Chunks.{AreChunks, AreGroups, ArePast, AreThere, IsPart, all_of, entries_of, groups_of, listed};
 ghost use Rattle.pg_map.specs.Entries.{ChangesRise, HasRisingIds, value_at, with_changes};
 
-use crate::find::{count_below, value_near};
+use crate::find::{begun, count_below, value_near};
 use crate::gather::Gathering;
 use crate::merge::cut_of;
-use crate::part::{Chunk, Group};
+use crate::part::{Chunk, Group, Part, counted};
 use crate::spine::Spine;
 use crate::{Share, VertexId};
 use std::alloc::Global;
 use std::sync::Arc;
 
-/// So many calls at most wait for each other, each of which takes half a kilobyte of the stack.
-const DEPTH: usize = 2048;
+/// So many calls at most wait for each other, each of which takes some 400 bytes of the stack.
+const DEPTH: usize = 4096;
 
 /// How many entries there are up to the end of a group, and up to the end of the last one.
 #[derive(Drop)]
@@ -28,7 +29,8 @@ struct Counts {
 /// shares what would change, a chunk would be cut or end up small, there are too many parts, or memory is refused.
 ///
 /// Each call holds one group or chunk and has what follows it changed first: so all that could be in the way has shown
-/// before the first change is made. Whether there are too many parts shows before the first call.
+/// before the first change is made. Parts into which no change falls are passed over, so that the depth goes by the parts
+/// that change, however large the map is.
 pub(crate) fn change_in_place<V: Share>(
     alloc: Global,
     spine: &mut Spine<V>,
@@ -47,20 +49,56 @@ pub(crate) fn change_in_place<V: Share>(
         return None;
     };
     let groups = Arc::get_mut(shared)?;
-    let mut calls: usize = 1;
-    for group in groups.iter() {
-        calls = calls.saturating_add(group.items.len()).saturating_add(2);
-    }
-    if calls > DEPTH {
+    if most_calls(groups, changes.len()) > DEPTH {
         return None;
     }
     change_groups(alloc, groups, changes, 0, DEPTH)
 }
 
+/// How many calls may wait for each other while so many changes are made: for each chunk into which one falls, and two for
+/// each group. A hint, so no contract tells it.
+fn most_calls<V>(groups: &[Group<V>], changes: usize) -> usize {
+    let mut chunks = 0usize;
+    for group in groups {
+        chunks = chunks.saturating_add(group.items.len());
+    }
+    let calls = groups.len().min(changes).saturating_mul(2);
+    calls.saturating_add(chunks.min(changes)).saturating_add(1)
+}
+
 /// Makes all changes of these groups or none, and says how many entries there are then up to the end of the last, where so
-/// many stand before the first.
+/// many stand before the first. The groups into which no change falls are passed over.
 #[cycle(in_place)]
 fn change_groups<V: Share>(
+    alloc: Global,
+    groups: &mut [Group<V>],
+    changes: &mut [(VertexId, Option<V>)],
+    before: usize,
+    depth: usize,
+) -> Option<usize>
+    requires groups { AreGroups groups.old }
+    requires rise { HasRisingIds (all_of groups.old) }
+    requires changes_rise { ChangesRise changes.old }
+    ensures groups { AreGroups groups.new }
+    ensures made { IfSome result (λ n. all_of groups.new ≡ with_changes changes.old (all_of groups.old)) }
+    ensures counted { IfSome result (λ n. n ≡ before + length (all_of groups.new)) }
+    ensures none { IfNone result (all_of groups.new ≡ all_of groups.old) }
+    ensures left { IfNone result (changes.new ≡ changes.old) }
+{
+    let passed = untouched(groups, changes);
+    let (front, _) = groups.split_at(passed);
+    let Ok(entries) = counted(front) else {
+        return None;
+    };
+    let before = before.checked_add(entries)?;
+    let (_, others) = groups.split_at_mut(passed);
+    let all = change_first_group(alloc, others, changes, before, depth)?;
+    Some(all)
+}
+
+/// The same, of the first group and then of those behind it.
+#[cycle(in_place)]
+fn change_first_group<V: Share>(
     alloc: Global,
     groups: &mut [Group<V>],
     changes: &mut [(VertexId, Option<V>)],
@@ -96,9 +134,49 @@ fn change_groups<V: Share>(
     Some(counts.all)
 }
 
-/// Makes all changes of these chunks, which end a group, and of the groups behind it, or none.
+/// Makes all changes of these chunks, which end a group, and of the groups behind it, or none. The chunks into which no
+/// change falls are passed over.
 #[cycle(in_place)]
 fn change_chunks<V: Share>(
+    alloc: Global,
+    chunks: &mut [Chunk<V>],
+    here: &mut [(VertexId, Option<V>)],
+    groups: &mut [Group<V>],
+    later: &mut [(VertexId, Option<V>)],
+    before: usize,
+    depth: usize,
+) -> Option<Counts>
+    requires chunks { AreChunks chunks.old }
+    requires chunks_rise { HasRisingIds (entries_of chunks.old) }
+    requires here_rise { ChangesRise here.old }
+    requires groups { AreGroups groups.old }
+    requires groups_rise { HasRisingIds (all_of groups.old) }
+    requires later_rise { ChangesRise later.old }
+    ensures chunks { AreChunks chunks.new }
+    ensures groups { AreGroups groups.new }
+    ensures here { IfSome result (λ counts. entries_of chunks.new ≡ with_changes here.old (entries_of chunks.old)) }
+    ensures later { IfSome result (λ counts. all_of groups.new ≡ with_changes later.old (all_of groups.old)) }
+    ensures group { IfSome result (λ counts. counts.group ≡ before + length (entries_of chunks.new)) }
+    ensures all { IfSome result (λ counts. counts.all ≡ before + length (entries_of chunks.new) + length (all_of groups.new)) }
+    ensures no_chunks { IfNone result (entries_of chunks.new ≡ entries_of chunks.old) }
+    ensures no_groups { IfNone result (all_of groups.new ≡ all_of groups.old) }
+    ensures here_left { IfNone result (here.new ≡ here.old) }
+    ensures later_left { IfNone result (later.new ≡ later.old) }
+{
+    let passed = untouched(chunks, here);
+    let (front, _) = chunks.split_at(passed);
+    let Ok(entries) = counted(front) else {
+        return None;
+    };
+    let before = before.checked_add(entries)?;
+    let (_, others) = chunks.split_at_mut(passed);
+    let counts = change_first_chunk(alloc, others, here, groups, later, before, depth)?;
+    Some(counts)
+}
+
+/// The same, of the first chunk and then of those behind it.
+#[cycle(in_place)]
+fn change_first_chunk<V: Share>(
     alloc: Global,
     chunks: &mut [Chunk<V>],
     here: &mut [(VertexId, Option<V>)],
@@ -150,6 +228,18 @@ fn change_chunks<V: Share>(
     let counts = change_chunks(alloc, others, after, groups, later, before, depth)?;
     *chunk = made;
     Some(counts)
+}
+
+/// How many of these parts stand before the first into which a change falls: all, if there is no change.
+fn untouched<T, V>(parts: &[Part<T>], changes: &[(VertexId, Option<V>)]) -> usize
+    requires { IsNonDecreasingBy (λ part. part.first) parts.now }
+    ensures bound { result ≤ length parts.now }
+    ensures past { ArePast result parts.now changes.now }
+{
+    match changes.split_first() {
+        Some((change, _)) => begun(parts, 0, change.0).saturating_sub(1),
+        None => parts.len(),
+    }
 }
 
 /// Whether all changes give values to ids that are there.

@@ -193,13 +193,13 @@ impl<V: Share> Map<V> {
     }
 
     /// Makes all changes as `change` does, in the memory that the map has where that can be: where no copy shares what would
-    /// change, no chunk would be cut or end up small, and there aren't very many groups and chunks. Where all changes
+    /// change, no chunk would be cut or end up small, and the changes don't fall into very many chunks. Where all changes
     /// of a chunk give values to ids that it has, the values are moved there and the other entries aren't touched; another
     /// chunk is made anew.
     ///
-    /// It costs a step for each group, and for each chunk of a group that a change falls into; for each change a search or two
-    /// in its chunk; and a copy of each chunk that gets or loses an id. Where something is in the way it costs up to as much
-    /// in vain, and then what `change` costs.
+    /// It costs a step for each group, and for each chunk of a group that a change falls into; a call for each of these into
+    /// which one does; for each change a search or two in its chunk; and a copy of each chunk that gets or loses an id.
+    /// Where something is in the way it costs up to as much in vain, and then what `change` costs.
     pub fn change_own(
         &mut self,
         alloc: Global,
