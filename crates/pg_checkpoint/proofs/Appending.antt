@@ -3,7 +3,7 @@ use Rattle.std.proofs.Common.{◌≡◌, ℕ, ◌+◌, ◌<◌, ◌≤◌, List,
 use Rattle.std.specs.List.{AllByRecursion, flat_map}
 use Rattle.std.proofs.lemmas.List.{map-append, take_all, take_more}
 use Rattle.pg_model.proofs.LawsLists.{all-append}
-use Rattle.pg_routing.proofs.Listing.{flat_map-push}
+use Rattle.pg_part_routing.proofs.Listing.{flat_map-push}
 
 -- six parts, one after another
 pub six_parts : {X E : Type 0} (r : Result X E) (old one two three four five six a b c d e f : List ℕ) → a ≡ old ++ one → b ≡ a ++ two
@@ -20,8 +20,8 @@ six_parts (Ok x) old one two three four five six a b c d e f p q r s t u =
 -- what was appended, seen as the coding of another list
 pub parts_are : {X E L : Type 0} (r : Result X E) (coding : L → List ℕ) (old new : List ℕ) (xs ys : L) → OnOk r (new ≡ old ++ coding xs) → xs ≡ ys
     → OnOk r (new ≡ old ++ coding ys)
-parts_are (Err x) coding old new xs ys told same = tt
-parts_are (Ok x) coding old new xs ys told same = told ∙ ap (λ l. old ++ coding l) same
+parts_are (Err x) coding old new xs ys stated same = tt
+parts_are (Ok x) coding old new xs ys stated same = stated ∙ ap (λ l. old ++ coding l) same
 
 -- one item more, behind what stands there
 module _ {X : Type 0} (xs : List X) (i : ℕ) (x : X) (within : i < length xs) (is : x ≡ get_or xs i x) where

@@ -11,11 +11,11 @@ use Rattle.std.specs.Ordering.{is_lt, nat_cmp}
 use Rattle.std.specs.declared.cmp.Ordering.TheVariants.{Less}
 use Rattle.std.proofs.lemmas.List.{take_all}
 use Rattle.pg_checkpoint.specs.Records.{Supersteps, edges_behind, ids_behind}
-use Rattle.pg_index.specs.Records.{last_record}
+use Rattle.pg_trace_index.specs.Records.{last_record}
 use Rattle.pg_model.specs.Superstep.{has_id}
 use Rattle.pg_model.specs.declared.configuration.VertexState.{VertexState}
-use Rattle.pg_recount.specs.Census.{states_among}
-use Rattle.pg_stats.specs.Stats.{census_of}
+use Rattle.pg_stats_counts.specs.VertexCounts.{states_among}
+use Rattle.pg_stats.specs.Stats.{vertex_counts_of}
 use Rattle.pg_trace.specs.Trace.{Trace, left_by, state_of}
 
 abbrev marked : ℕ → ℕ × Unit {0}
@@ -85,7 +85,7 @@ module _ {V M : Type 0} (initial : List (VertexState V)) (xs : Supersteps V M) w
   pub edges_are : (p n : ℕ) (unsorted sorted : List ℕ) → n ≡ length (take p xs)
       → unsorted ≡ map (λ x. x.id) initial ++ flat_map keys_of (take n xs) → IsStrictlySortedBy nat_cmp sorted
       → ((id : ℕ) → has_id sorted id ≡ has_id unsorted id)
-      → (census_of (states_among n sorted (trace_of xs))).edges ≡ edges_behind initial (take p xs)
+      → (vertex_counts_of (states_among n sorted (trace_of xs))).edges ≡ edges_behind initial (take p xs)
   edges_are p n unsorted sorted is ids rise same =
       let few : take n xs ≡ take p xs = those_taken p n is in
       let all : take (length (take p xs)) (take p xs) ≡ take p xs = take_all (length (take p xs)) (take p xs) (omega arith) in

@@ -20,17 +20,17 @@ digits : (a b c d e f g h : ℕ) → a < 256 → b < 256 → c < 256 → d < 256
 digits a b c d e f g h p q r s t u v w = omega (arith, p, q, r, s, t, u, v, w)
 
 -- the number that stands there, which is this one where it fits
-pub told : ℕ → ℕ
-told n = from_le_bytes w64 (to_le_bytes w64 n)
+pub stated : ℕ → ℕ
+stated n = from_le_bytes w64 (to_le_bytes w64 n)
 
-pub told_fits : (n : ℕ) → told n < 2 ^ 64
-unfolding told
-told_fits n = digits _ _ _ _ _ _ _ _ (small n 0) (small n 1) (small n 2) (small n 3) (small n 4) (small n 5) (small n 6) (small n 7)
+pub stated_fits : (n : ℕ) → stated n < 2 ^ 64
+unfolding stated
+stated_fits n = digits _ _ _ _ _ _ _ _ (small n 0) (small n 1) (small n 2) (small n 3) (small n 4) (small n 5) (small n 6) (small n 7)
 
-pub told_same : (n : ℕ) → natural_coding (told n) ≡ natural_coding n
-unfolding told
-told_same n = le_bytes_8 (to_le_bytes w64 n) _ refl (small n) refl
+pub stated_same : (n : ℕ) → natural_coding (stated n) ≡ natural_coding n
+unfolding stated
+stated_same n = le_bytes_8 (to_le_bytes w64 n) _ refl (small n) refl
 
-pub told_is : (n : ℕ) → n < 2 ^ 64 → told n ≡ n
-unfolding told
-told_is n fits = from_le_bytes-to_le_bytes_8 n fits
+pub stated_is : (n : ℕ) → n < 2 ^ 64 → stated n ≡ n
+unfolding stated
+stated_is n fits = from_le_bytes-to_le_bytes_8 n fits

@@ -55,16 +55,16 @@ same_opening o p a b c d e =
 
 module _ {V M : Type 0} (is_value : V → Type 0) (value : V → List ℕ) (is_message : M → Type 0) (message : M → List ℕ) (run partition : ℕ) (bytes : List ℕ)
     (short : length bytes < 2 ^ 64) (run_fits : run < 2 ^ 64) (partition_fits : partition < 2 ^ 32) where
-  abbrev Told : Result (Contents V M) Unread → Type 0
-  Told = Says is_value value is_message message run partition bytes
+  abbrev Stated : Result (Contents V M) Unread → Type 0
+  Stated = Says is_value value is_message message run partition bytes
 
   abbrev Codes : Option ℕ → Supersteps V M → Type 0
   Codes edges records = bytes ≡ coding_in value message run partition edges records
 
-  told : (found : Option (Opening × List ℕ)) → IsRead IsOpening opening_coding bytes found → (edges : Option ℕ) (records : Supersteps V M)
+  stated : (found : Option (Opening × List ℕ)) → IsRead IsOpening opening_coding bytes found → (edges : Option ℕ) (records : Supersteps V M)
       → AreCodable is_value is_message records → Codes edges records
       → found ≡ Some (opening_of value message run partition edges records, behind value message run partition edges records)
-  told found h edges records codable is =
+  stated found h edges records codable is =
       let fits : IsOpening (opening_of value message run partition edges records) = record {
         magic = magic_fits edges;
         len = subst (λ n. n < 2 ^ 64) (ap length is ∙ long value message run partition edges records) short;
@@ -76,20 +76,20 @@ module _ {V M : Type 0} (is_value : V → Type 0) (value : V → List ℕ) (is_m
       (is ∙ opens value message run partition edges records)
 
   -- there is no opening
-  pub not_opened : (e : Unread) (left : List ℕ) → Reads IsOpening opening_coding bytes (Err e) left → Told (Err e)
+  pub not_opened : (e : Unread) (left : List ℕ) → Reads IsOpening opening_coding bytes (Err e) left → Stated (Err e)
   not_opened Memory left h = tt
-  not_opened Damaged left h = λ edges records small codable is. none_some _ (told None h edges records codable is)
+  not_opened Damaged left h = λ edges records small codable is. none_some _ (stated None h edges records codable is)
 
   module _ (o : Opening) (rest : List ℕ) (h : IsRead IsOpening opening_coding bytes (Some (o, rest))) where
     same : (edges : Option ℕ) (records : Supersteps V M) → AreCodable is_value is_message records → Codes edges records
         → (o ≡ opening_of value message run partition edges records) × (rest ≡ behind value message run partition edges records)
     same edges records codable is =
         let e = some_is (o, rest) (opening_of value message run partition edges records, behind value message run partition edges records)
-        (told (Some (o, rest)) h edges records codable is) in
+        (stated (Some (o, rest)) h edges records codable is) in
         (ap (λ (x : Opening × List ℕ). x.0) e, ap (λ (x : Opening × List ℕ). x.1) e)
 
     -- it is of other bytes, or of another run or partition
-    pub not_this : (o.len ≡ length bytes → o.run ≡ run → o.partition ≡ partition → ⊥) → Told (Err Damaged)
+    pub not_this : (o.len ≡ length bytes → o.run ≡ run → o.partition ≡ partition → ⊥) → Stated (Err Damaged)
     not_this fails edges records small codable is =
         let s = same edges records codable is in
         fails (ap (λ x. x.len) s.0 ∙ sym (ap length is ∙ long value message run partition edges records)) (ap (λ x. x.run) s.0)
@@ -114,12 +114,12 @@ module _ {V M : Type 0} (is_value : V → Type 0) (value : V → List ℕ) (is_m
         }) (s.1 ∙ sym whole ∙ sym (append-nil (rest_coding value message (contents_of edges records))))
 
     -- what is to stand behind it doesn't
-    pub not_behind : (e : Unread) (left : List ℕ) → Reads (IsRest is_value is_message o) (rest_coding value message) rest (Err e) left → Told (Err e)
+    pub not_behind : (e : Unread) (left : List ℕ) → Reads (IsRest is_value is_message o) (rest_coding value message) rest (Err e) left → Stated (Err e)
     not_behind Memory left r = tt
     not_behind Damaged left r = λ edges records small codable is. none_some _ (found_rest None r edges records small codable is)
 
     -- something stands behind that
-    pub not_done : (contents : Contents V M) (left : List ℕ) → Rest (Some (contents, left)) → (left ≡ [] → ⊥) → Told (Err Damaged)
+    pub not_done : (contents : Contents V M) (left : List ℕ) → Rest (Some (contents, left)) → (left ≡ [] → ⊥) → Stated (Err Damaged)
     not_done contents left r fails edges records small codable is =
         fails (ap (λ (x : Contents V M × List ℕ). x.1) (some_is _ _ (found_rest _ r edges records small codable is)))
 

@@ -44,8 +44,8 @@ has_put key bytes s t kept others = record {
 }
 
 pub has_got : {X : Type 0} (s : MemShelf) (r : Result X ShelfFault) → is_device r ≡ false → IsGot (mem_state s) r (mem_state s)
-has_got s r told = record {
-  counted = record { honest = refl; failures = rw told refl };
+has_got s r stated = record {
+  counted = record { honest = refl; failures = rw stated refl };
   fades = λ _ key. stays (at_key (mem_state s) key);
 }
 

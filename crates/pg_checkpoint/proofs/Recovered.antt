@@ -11,7 +11,7 @@ use Rattle.pg_model.specs.Job.{Job}
 use Rattle.pg_model.specs.Run.{run_length}
 use Rattle.pg_model.specs.declared.configuration.VertexState.{VertexState}
 use Rattle.pg_part.specs.Part.{HoldsShare, PartState}
-use Rattle.pg_routing.proofs.Beginning.{begun_holds}
+use Rattle.pg_part_routing.proofs.Beginning.{begun_holds}
 
 module _ {V M : Type 0} (is_value : V → Type 0) (value : V → List ℕ) (is_message : M → Type 0) (message : M → List ℕ) (asked : Asked V M)
     (job : Job V M) (kept : Option Rows) (r : ℕ) (saved : PartState V M) where
@@ -19,11 +19,11 @@ module _ {V M : Type 0} (is_value : V → Type 0) (value : V → List ℕ) (is_m
   Holds kept part = HoldsShare job kept asked.rows.graph asked.rows.partitions asked.rows.partition r part
 
   -- it has begun as one that is asked for
-  initial_is : job.program ≡ asked.program → Holds kept saved → saved.course.trace.initial ≡ initial_of asked
+  initial_is : job.program ≡ asked.program → Holds kept saved → saved.part_run.trace.initial ≡ initial_of asked
   initial_is program holds =
       let rows : Rows = asked.rows.graph in
-      holds.course.run.initial
-      ∙ sym (begun_holds job rows asked.rows.partitions asked.rows.partition holds.course.run.rise asked.program program).initial
+      holds.part_run.run.initial
+      ∙ sym (begun_holds job rows asked.rows.partitions asked.rows.partition holds.part_run.run.rise asked.program program).initial
 
   -- what has faded of its coding and is a checkpoint is its coding
   whole : (bytes : List ℕ) (records : Supersteps V M) → length (part_coding value message asked.run saved) < 2 ^ 64
@@ -31,7 +31,7 @@ module _ {V M : Type 0} (is_value : V → Type 0) (value : V → List ℕ) (is_m
       → bytes ≡ part_coding value message asked.run saved
   whole bytes records fits faded is =
       let own : Supersteps V M = own_records saved in
-      let left : List ℕ = second_rest value message asked.run saved.course.partition (edges_behind saved.course.trace.initial own) own in
+      let left : List ℕ = second_rest value message asked.run saved.part_run.partition (edges_behind saved.part_run.trace.initial own) own in
       let many : length (part_coding value message asked.run saved) ≡ 12 + length left = framed_length second_magic left refl in
       let cut : length (part_coding value message asked.run saved) ≡ length bytes + length (drop faded.0 (part_coding value message asked.run saved)) =
       ap length (sym (take-append-drop faded.0 (part_coding value message asked.run saved)))
@@ -61,10 +61,10 @@ module _ {V M : Type 0} (is_value : V → Type 0) (value : V → List ℕ) (is_m
       → IsFound is_value value is_message message asked bytes found → Holds None found
   found_holds found bytes program missing aggregators within holds codable fits faded is =
       let own : Supersteps V M = own_records saved in
-      let bytes_are : bytes ≡ part_coding value message asked.run saved = whole bytes found.course.trace.records fits faded is.coded in
+      let bytes_are : bytes ≡ part_coding value message asked.run saved = whole bytes found.part_run.trace.records fits faded is.coded in
       let as_asked : part_coding value message asked.run saved
       ≡ second_coding value message asked.run asked.rows.partition (edges_behind (initial_of asked) own) own =
-      (λ i. second_coding value message asked.run (holds.course.partition_is i) (edges_behind (initial_is program holds i) own) own) in
-      let same : own ≡ found.course.trace.records = is.only own codable (inr (bytes_are ∙ as_asked)) in
-      let place : own ≡ take r saved.course.trace.records = ap (λ (k : ℕ). take k saved.course.trace.records) holds.course.place_is in
+      (λ i. second_coding value message asked.run (holds.part_run.partition_is i) (edges_behind (initial_is program holds i) own) own) in
+      let same : own ≡ found.part_run.trace.records = is.only own codable (inr (bytes_are ∙ as_asked)) in
+      let place : own ≡ take r saved.part_run.trace.records = ap (λ (k : ℕ). take k saved.part_run.trace.records) holds.part_run.place_is in
       is.again job kept r saved program missing aggregators within holds (sym same ∙ place)

@@ -11,8 +11,8 @@ use Rattle.pg_checkpoint.specs.Records.{AreCodable, Supersteps, edges_behind}
 use Rattle.pg_checkpoint.specs.declared.contents.Contents.{Contents}
 use Rattle.pg_checkpoint.specs.declared.reading.Unread.{Unread}
 use Rattle.pg_checkpoint.specs.declared.reading.Unread.TheVariants.{Damaged, Memory}
-use Rattle.pg_checkpoint.proofs.Fitting.{told, told_fits, told_is, told_same}
-use Rattle.pg_course.specs.Course.{HasBegun, IsResumed}
+use Rattle.pg_checkpoint.proofs.Fitting.{stated, stated_fits, stated_is, stated_same}
+use Rattle.pg_part_run.specs.PartRun.{HasBegun, IsResumed}
 use Rattle.pg_graph.specs.Rows.{Rows}
 use Rattle.pg_graph.specs.declared.missing.Missing.{Missing as Policy}
 use Rattle.pg_model.specs.Job.{Job}
@@ -20,8 +20,8 @@ use Rattle.pg_model.specs.Run.{run_length}
 use Rattle.pg_model.specs.declared.configuration.VertexState.{VertexState}
 use Rattle.pg_part.specs.Part.{HoldsShare, PartState}
 use Rattle.pg_program.specs.Coding.{natural_coding}
-use Rattle.pg_routing.specs.Starting.{PartRows}
-use Rattle.pg_routing.proofs.Beginning.{begun_holds}
+use Rattle.pg_part_routing.specs.Starting.{PartRows}
+use Rattle.pg_part_routing.proofs.Beginning.{begun_holds}
 
 -- the number of out-edges that is told, where it is told and fits
 abbrev Agrees : Option ℕ → ℕ → Type 0
@@ -61,11 +61,11 @@ module _ {V M : Type 0} (is_value : V → Type 0) (value : V → List ℕ) (is_m
   as_coded : (records : Supersteps V M) → Checks records → IsCoded records
   as_coded records (inl is) = record { edges = None; fits = tt; coded = is; agrees = tt }
   as_coded records (inr is) = record {
-    edges = Some (told (edges_in records));
-    fits = told_fits (edges_in records);
+    edges = Some (stated (edges_in records));
+    fits = stated_fits (edges_in records);
     coded = is ∙ ap (λ (l : List ℕ). framed second_magic (natural_coding run ++ (half_coding partition ++ (half_coding (length records)
-        ++ (l ++ flat_map (superstep_coding value message) records))))) (sym (told_same (edges_in records)));
-    agrees = told_is (edges_in records);
+        ++ (l ++ flat_map (superstep_coding value message) records))))) (sym (stated_same (edges_in records)));
+    agrees = stated_is (edges_in records);
   }
 
   abbrev Taken : Result (PartState V M) Unread → Type 0
@@ -110,10 +110,10 @@ module _ {V M : Type 0} (is_value : V → Type 0) (value : V → List ℕ) (is_m
         by (Some m) n h a = h.1 (a h.0)
 
     module _ (records : Supersteps V M) (are : records ≡ those) (held : MayHoldFrom (limits_of asked) 0 those) (begun part : PartState V M)
-        (begins : HasBegun asked.rows asked.missing begun.course) (none : begun.course.trace.records ≡ [])
+        (begins : HasBegun asked.rows asked.missing begun.part_run) (none : begun.part_run.trace.records ≡ [])
         (holds : (job : Job V M) → job.program ≡ asked.program → job.missing ≡ asked.missing → job.aggregators ≡ asked.aggregators
         → HoldsShare job None asked.rows.graph asked.rows.partitions asked.rows.partition 0 begun)
-        (resumed : IsResumed records begun.course part.course) where
+        (resumed : IsResumed records begun.part_run part.part_run) where
       abbrev a_job : Job V M
       a_job = record {
         program = asked.program;
@@ -124,22 +124,22 @@ module _ {V M : Type 0} (is_value : V → Type 0) (value : V → List ℕ) (is_m
         limit = 0;
       }
 
-      pub first_is : part.course.trace.initial ≡ initial_of asked
+      pub first_is : part.part_run.trace.initial ≡ initial_of asked
       first_is =
-          let run = (holds a_job refl refl refl).course.run in
+          let run = (holds a_job refl refl refl).part_run.run in
           ap (λ t. t.initial) resumed.trace_is ∙ run.initial
           ∙ sym (begun_holds a_job asked.rows.graph asked.rows.partitions asked.rows.partition run.rise asked.program refl).initial
 
-      resumed_are : part.course.trace.records ≡ records
+      resumed_are : part.part_run.trace.records ≡ records
       resumed_are = ap (λ t. t.records) resumed.trace_is ∙ ap (λ l. l ++ records) none
 
-      pub records_are : part.course.trace.records ≡ those
+      pub records_are : part.part_run.trace.records ≡ those
       records_are = resumed_are ∙ are
 
-      pub is_found : IsCount contents.edges (edges_behind part.course.trace.initial part.course.trace.records) true
+      pub is_found : IsCount contents.edges (edges_behind part.part_run.trace.initial part.part_run.trace.records) true
           → ((job : Job V M) (kept : Option Rows) (rows : Rows) (n p r : ℕ) (before : PartState V M) → job.aggregators ≡ asked.aggregators
           → HoldsShare job None rows n p 0 begun → r ≤ run_length job rows → HoldsShare job kept rows n p r before
-          → records ≡ take r before.course.trace.records → HoldsShare job None rows n p r part)
+          → records ≡ take r before.part_run.trace.records → HoldsShare job None rows n p r part)
           → IsFound is_value value is_message message asked bytes part
       is_found count again = record {
         partition_is = resumed.partition_stays ∙ begins.partition_is;
@@ -155,8 +155,8 @@ module _ {V M : Type 0} (is_value : V → Type 0) (value : V → List ℕ) (is_m
         codable = subst (λ (l : Supersteps V M). AreCodable is_value is_message l) (sym records_are) said.codable;
         held = subst (λ (l : Supersteps V M). MayHoldFrom (limits_of asked) 0 l) (sym records_are) held;
         coded = subst (λ (l : Supersteps V M). Checks l) (sym records_are)
-            (by contents.edges (edges_behind part.course.trace.initial part.course.trace.records) count
-            (ap (λ (l : List (VertexState V)). edges_behind l part.course.trace.records) first_is ∙ ap edges_in records_are) said.coded);
+            (by contents.edges (edges_behind part.part_run.trace.initial part.part_run.trace.records) count
+            (ap (λ (l : List (VertexState V)). edges_behind l part.part_run.trace.records) first_is ∙ ap edges_in records_are) said.coded);
         only = λ others codable is. let c = as_coded others is in (said.only c.edges others c.fits codable c.coded).1 ∙ sym records_are;
         again = λ job kept r before program missing aggregators within held is.
             again job kept asked.rows.graph asked.rows.partitions asked.rows.partition r before aggregators (holds job program missing aggregators) within held

@@ -4,5 +4,5 @@ use Rattle.std.specs.Prelude.{◌≡◌, ℕ, ◌<◌, ◌^◌, Bool, false, tru
 -- where a number is told, it is this one, which fits eight bytes, or it is not
 abbrev pub IsCount : Option ℕ → ℕ → Bool → Type 0
 IsCount None n is = is ≡ true
-IsCount (Some told) n true = told ≡ n
-IsCount (Some told) n false = (n < 2 ^ 64) × (told ≡ n → ⊥)
+IsCount (Some stated) n true = stated ≡ n
+IsCount (Some stated) n false = (n < 2 ^ 64) × (stated ≡ n → ⊥)

@@ -14,7 +14,7 @@ use Rattle.pg_model.specs.Job.{Aggregating, Job, Program}
 use Rattle.pg_model.specs.Run.{run_length}
 use Rattle.pg_model.specs.declared.configuration.VertexState.{VertexState}
 use Rattle.pg_part.specs.Part.{HoldsShare, PartState}
-use Rattle.pg_routing.specs.Starting.{PartRows, first_states}
+use Rattle.pg_part_routing.specs.Starting.{PartRows, first_states}
 
 -- the letter p, and the number of the partition in decimal
 abbrev pub key_of : ℕ → List ℕ
@@ -23,7 +23,8 @@ key_of partition = 112 ∷ decimal partition
 -- the bytes of a part of a run, in format 2
 abbrev pub part_coding : {V M : Type 0} → (V → List ℕ) → (M → List ℕ) → ℕ → PartState V M → List ℕ
 part_coding value message run part =
-    second_coding value message run part.course.partition (edges_behind part.course.trace.initial (own_records part))
+    second_coding value message run part.part_run.partition
+    (edges_behind part.part_run.trace.initial (own_records part))
     (own_records part)
 
 -- the run and the partition of which a part is asked for, and its job as far as records hang on it
@@ -54,25 +55,25 @@ module _ {V M : Type 0} (is_value : V → Type 0) (value : V → List ℕ) (is_m
       (edges_behind (initial_of asked) records) records)
 
   -- this is the part whose coding the bytes are: its records may be held, and stand there, and no others do; and it
-  -- holds its share of a run, of whatever job, in which a part has recorded them that held its share, beside an old run
-  -- or not
+  -- holds its share of a run, of whatever job, in which a part has recorded them that held its share, against an old
+  -- run or not
   pub record IsFound (bytes : List ℕ) (part : PartState V M) : Type 0 where
-    pub partition_is : part.course.partition ≡ asked.rows.partition
-    pub partitions_are : part.course.partitions ≡ asked.rows.partitions
-    pub missing_is : part.course.missing ≡ asked.missing
-    pub place_is : part.course.place ≡ length part.course.trace.records
-    pub cold : part.course.kept ≡ None
-    pub initial_is : part.course.trace.initial ≡ initial_of asked
-    pub codable : AreCodable is_value is_message part.course.trace.records
-    pub held : MayHoldFrom (limits_of asked) 0 part.course.trace.records
-    pub coded : IsCheckpoint part.course.trace.records bytes
+    pub partition_is : part.part_run.partition ≡ asked.rows.partition
+    pub partitions_are : part.part_run.partitions ≡ asked.rows.partitions
+    pub missing_is : part.part_run.missing ≡ asked.missing
+    pub place_is : part.part_run.place ≡ length part.part_run.trace.records
+    pub cold : part.part_run.kept ≡ None
+    pub initial_is : part.part_run.trace.initial ≡ initial_of asked
+    pub codable : AreCodable is_value is_message part.part_run.trace.records
+    pub held : MayHoldFrom (limits_of asked) 0 part.part_run.trace.records
+    pub coded : IsCheckpoint part.part_run.trace.records bytes
     pub only : (others : Supersteps V M) → AreCodable is_value is_message others → IsCheckpoint others bytes
-        → others ≡ part.course.trace.records
+        → others ≡ part.part_run.trace.records
     pub again : (job : Job V M) (kept : Option Rows) (r : ℕ) (before : PartState V M)
         → job.program ≡ asked.program → job.missing ≡ asked.missing → job.aggregators ≡ asked.aggregators
         → r ≤ run_length job asked.rows.graph
         → HoldsShare job kept asked.rows.graph asked.rows.partitions asked.rows.partition r before
-        → part.course.trace.records ≡ take r before.course.trace.records
+        → part.part_run.trace.records ≡ take r before.part_run.trace.records
         → HoldsShare job None asked.rows.graph asked.rows.partitions asked.rows.partition r part
 
   -- the bytes are the coding of no records that may be held

@@ -48,4 +48,4 @@ module _ {V M : Type 0} where
 
 -- what a part has recorded itself: the supersteps below its place
 abbrev pub own_records : {V M : Type 0} → PartState V M → Supersteps V M
-own_records part = take part.course.place part.course.trace.records
+own_records part = take part.part_run.place part.part_run.trace.records

@@ -11,7 +11,7 @@ ghost use Rattle.pg_model.specs.Job.{has_place};
 use crate::reading::{RecordParts, Unread};
 use pg_graph::{Edges, Graph, Missing, VertexId};
 use pg_model::{Place, Record, Sequence};
-use pg_routing::Share;
+use pg_part_routing::PartitionOf;
 use std::alloc::Global;
 use std::marker::Model;
 
@@ -19,7 +19,7 @@ use std::marker::Model;
 #[derive(Drop)]
 pub struct Bounds<'a> {
     pub graph: &'a Graph,
-    pub share: Share,
+    pub share: PartitionOf,
     pub missing: Missing,
     /// The places to which the program contributes.
     pub writes: u16,

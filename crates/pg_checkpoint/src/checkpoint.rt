@@ -7,11 +7,11 @@ ghost use Rattle.pg_checkpoint.specs.Shelf.{IsPut};
 
 use crate::shelf::{Shelf, ShelfFault};
 use crate::writing::{Header, header_bytes, header_room, put_supersteps, with_front};
-use pg_course::rising;
 use pg_graph::{Memory, PartitionId, Superstep};
 use pg_part::Part;
+use pg_part_run::rising;
 use pg_program::{Coded, Plain};
-use pg_recount::census_among;
+use pg_stats_counts::vertex_counts_among;
 use pg_trace::Trace;
 use std::alloc::Global;
 
@@ -26,7 +26,7 @@ pub fn save<V: Coded, M: Coded, S: Shelf>(
     run: u64,
 ) -> Result<(), ShelfFault>
     requires counts { (S.state shelf.old).failures + 1 < 2 ^ 64 }
-    ensures put { IsPut (key_of part.now.course.partition) (part_coding V.coding M.coding run part.now)
+    ensures put { IsPut (key_of part.now.part_run.partition) (part_coding V.coding M.coding run part.now)
         (S.state shelf.old) result (S.state shelf.new) }
     ensures codable { OnOk result (AreCodable V.is_value M.is_value (own_records part.now)) }
     ensures fits { OnOk result (length (part_coding V.coding M.coding run part.now) < 2 ^ 64) }
@@ -73,7 +73,7 @@ fn bytes_of<V: Coded, M: Coded>(
     let mut bytes = header_room(alloc)?;
     let ids = put_supersteps(alloc, &mut bytes, trace, supersteps)?;
     let ids = rising(ids);
-    let edges = census_among(trace, Superstep::new(supersteps), ids.as_slice())?.edges;
+    let edges = vertex_counts_among(trace, Superstep::new(supersteps), ids.as_slice())?.edges;
     let header = Header {
         len: bytes.len() as u64,
         run,

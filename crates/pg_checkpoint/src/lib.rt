@@ -2,13 +2,13 @@
 #![tactic(auto)]
 
 mod bounds;
-mod census;
 mod checkpoint;
 mod contents;
 mod loading;
 mod mem_shelf;
 mod reading;
 mod shelf;
+mod vertex_counts;
 mod writing;
 
 pub use checkpoint::save;

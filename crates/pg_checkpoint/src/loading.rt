@@ -7,17 +7,17 @@ ghost use Rattle.pg_checkpoint.specs.Counted.{IsCount};
 ghost use Rattle.pg_stats.specs.GlobalStats.{aggregators_of};
 
 use crate::bounds::{Bounds, records_within};
-use crate::census::edges_of;
 use crate::checkpoint::key_of;
 use crate::contents::{Contents, contents_in};
 use crate::reading::Unread;
 use crate::shelf::{Shelf, ShelfFault};
-use pg_course::Rows;
+use crate::vertex_counts::edges_of;
 use pg_global::Registry;
 use pg_graph::{Memory, Missing};
 use pg_part::Part;
+use pg_part_routing::PartitionOf;
+use pg_part_run::Rows;
 use pg_program::{Coded, Computation, Plain};
-use pg_routing::Share;
 use pg_trace::Trace;
 use std::alloc::Global;
 
@@ -122,7 +122,7 @@ fn taken<V: Coded, M: Coded, P: Computation<Value = V, Message = M>>(
     let Contents { edges, supersteps } = contents;
     let bounds = Bounds {
         graph: rows.graph(),
-        share: Share {
+        share: PartitionOf {
             partition: rows.partition,
             partitions: rows.partitions,
         },

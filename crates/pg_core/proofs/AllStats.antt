@@ -6,12 +6,12 @@ use Rattle.std.specs.Option.{IsSome, option_to_list}
 use Rattle.std.proofs.lemmas.Bool.{and_parts, true≢false}
 use Rattle.std.proofs.lemmas.List.{length-map}
 use Rattle.std.proofs.lemmas.List.Sums.{AllPass-from_list_all}
-use Rattle.pg_machine.specs.Machine.{State, is_allowed, is_at, place_at}
+use Rattle.pg_core_machine.specs.Machine.{State, is_allowed, is_at, place_at}
 use Rattle.pg_core.specs.Progress.{HoldsAt, IsRight, Progress, kept_for, part_at}
 use Rattle.pg_core.specs.Together.{stats_here}
-use Rattle.pg_machine.specs.declared.event.Closed.TheVariants.{Next}
-use Rattle.pg_machine.specs.declared.event.Event.TheVariants.{Close}
-use Rattle.pg_machine.proofs.LawsMachine.{at_superstep}
+use Rattle.pg_core_machine.specs.declared.event.Closed.TheVariants.{Next}
+use Rattle.pg_core_machine.specs.declared.event.Event.TheVariants.{Close}
+use Rattle.pg_core_machine.proofs.LawsMachine.{at_superstep}
 use Rattle.pg_core.proofs.Parts.{slice_get-made}
 use Rattle.pg_global.specs.Registry.{Registered, aggregating_of}
 use Rattle.pg_graph.specs.Rows.{Rows}
@@ -60,7 +60,7 @@ place_at_close state n many allowed p within =
 module _ {V M : Type 0} (job : Job V M) (kept : Option Rows) (rows : Rows) (n p r : ℕ) where
   stats_here_are : (part : PartState V M) → HoldsShare job kept rows n p r part → stats_here (Some part) ≡ stats_at job rows n p r ∷ []
   stats_here_are part holds =
-      ap option_to_list (ap₂ slice_get holds.stats.stats_are holds.course.place_is ∙ slice_get-made (stats_at job rows n p) (r + 1) r (omega arith))
+      ap option_to_list (ap₂ slice_get holds.stats.stats_are holds.part_run.place_is ∙ slice_get-made (stats_at job rows n p) (r + 1) r (omega arith))
 
 -- so all parts are here, with what they have come to
 module _ {P C A V M : Type 0} (job : Job V M) (kept : Option Rows) (core : Progress P C A V M) (right : IsRight job kept core)

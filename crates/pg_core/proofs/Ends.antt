@@ -8,15 +8,15 @@ use Rattle.std.proofs.lemmas.List.{length_push}
 use Rattle.std.proofs.lemmas.List.Elements.{All-push}
 use Rattle.std.proofs.lemmas.List.FromFn.{map-range_with_len_more}
 use Rattle.pg_core.specs.Closing.{with_end, with_next}
-use Rattle.pg_machine.specs.Limits.{Limits}
-use Rattle.pg_machine.specs.Machine.{Reaches, State, after, first_state, is_allowed}
-use Rattle.pg_core.specs.Progress.{IsLawful, IsRight, Progress, kept_for, tally_at}
-use Rattle.pg_machine.specs.declared.event.Closed.TheVariants.{Next, Ended}
-use Rattle.pg_machine.specs.declared.event.Event.{Event}
-use Rattle.pg_machine.specs.declared.event.Event.TheVariants.{Close}
-use Rattle.pg_core.specs.declared.tally.Tally.{Tally}
+use Rattle.pg_core_machine.specs.Limits.{Limits}
+use Rattle.pg_core_machine.specs.Machine.{Reaches, State, after, first_state, is_allowed}
+use Rattle.pg_core.specs.Progress.{IsLawful, IsRight, Progress, kept_for, run_totals_at}
+use Rattle.pg_core_machine.specs.declared.event.Closed.TheVariants.{Next, Ended}
+use Rattle.pg_core_machine.specs.declared.event.Event.{Event}
+use Rattle.pg_core_machine.specs.declared.event.Event.TheVariants.{Close}
+use Rattle.pg_core.specs.declared.run_totals.RunTotals.{RunTotals}
 use Rattle.pg_core.proofs.Keeping.{IsRightWith-same, kept_more}
-use Rattle.pg_machine.proofs.LawsMachine.{Reaches-push}
+use Rattle.pg_core_machine.proofs.LawsMachine.{Reaches-push}
 use Rattle.pg_global.specs.Registry.{Registered}
 use Rattle.pg_graph.specs.Rows.{Rows}
 use Rattle.pg_model.specs.Job.{Job}
@@ -35,11 +35,11 @@ use Rattle.pg_stats.proofs.LawsStats.{are_stats_after}
 -- ---- what is so of every run
 
 module _ {V M : Type 0} {limits : Limits} {declared : Declared} {registered registry : Registered} {state : State} {history : List Event}
-    {parts : List (Option (PartState V M))} {shown : List Visible} {tally : Tally}
-    (lawful : IsLawful limits declared registered registry state history parts shown tally) where
+    {parts : List (Option (PartState V M))} {shown : List Visible} {run_totals : RunTotals}
+    (lawful : IsLawful limits declared registered registry state history parts shown run_totals) where
   -- something was shown that isn't taken in yet
   pub IsLawful-shown : (visible : Visible) → length visible.values ≡ length registered
-      → IsLawful limits declared registered registry state history parts (shown ++ visible ∷ []) tally
+      → IsLawful limits declared registered registry state history parts (shown ++ visible ∷ []) run_totals
   IsLawful-shown visible places = record {
     limits_are = lawful.limits_are;
     registry_is = lawful.registry_is;
@@ -55,7 +55,7 @@ module _ {V M : Type 0} {limits : Limits} {declared : Declared} {registered regi
     gathered_places = lawful.gathered_places;
   }
 
-  module _ (allowed : is_allowed state (Close Next) ≡ true) (counted : Tally) (places : length counted.gathered ≡ length registered) where
+  module _ (allowed : is_allowed state (Close Next) ≡ true) (counted : RunTotals) (places : length counted.gathered ≡ length registered) where
     pub IsLawful-end : IsLawful limits declared registered registry (after state (Close Ended)) (history ++ Close Ended ∷ []) parts shown counted
     IsLawful-end = record {
       limits_are = lawful.limits_are;
@@ -105,28 +105,28 @@ not_ended state event allowed = not-true _ (and_parts _ _ allowed).0
 
 module _ {P C A V M : Type 0} (job : Job V M) (kept : Option Rows) (core : Progress P C A V M) (right : IsRight job kept core)
     (events : Reaches (first_state core.limits.partitions core.limits.workers) core.history core.state) where
-  pub IsRight-end : (ending : Ending) (tally : Tally) → core.state.current + 1 ≡ run_length job core.graph
-      → ending_after job core.graph core.state.current ≡ Some ending → tally ≡ tally_at job core.graph (core.state.current + 1)
-      → IsRight job kept (with_end ending tally core)
-  IsRight-end ending tally last ends counts =
-      IsRightWith-same job kept (kept_for kept core) _ (with_end ending tally core) (λ p. kept_more kept core (Close Ended) p events refl) (record {
+  pub IsRight-end : (ending : Ending) (run_totals : RunTotals) → core.state.current + 1 ≡ run_length job core.graph
+      → ending_after job core.graph core.state.current ≡ Some ending → run_totals ≡ run_totals_at job core.graph (core.state.current + 1)
+      → IsRight job kept (with_end ending run_totals core)
+  IsRight-end ending run_totals last ends counts =
+      IsRightWith-same job kept (kept_for kept core) _ (with_end ending run_totals core) (λ p. kept_more kept core (Close Ended) p events refl) (record {
         within = right.within;
         parts = right.parts;
         logs = right.logs;
         shown = right.shown;
-        tally = counts;
+        run_totals = counts;
         ending = sym ends;
         at_end = λ ended. last;
-        beside = right.beside;
+        warm = right.warm;
       })
 
-  pub IsRight-next : (visible : Visible) (tally : Tally) → core.state.ended ≡ false → core.state.current + 1 < run_length job core.graph
-      → visible ≡ visible_at job core.graph (core.state.current + 1) → tally ≡ tally_at job core.graph (core.state.current + 1)
-      → IsRight job kept (with_next visible tally core)
-  IsRight-next visible tally on within shows counts =
+  pub IsRight-next : (visible : Visible) (run_totals : RunTotals) → core.state.ended ≡ false → core.state.current + 1 < run_length job core.graph
+      → visible ≡ visible_at job core.graph (core.state.current + 1) → run_totals ≡ run_totals_at job core.graph (core.state.current + 1)
+      → IsRight job kept (with_next visible run_totals core)
+  IsRight-next visible run_totals on within shows counts =
       let s : ℕ = core.state.current + 1 in
       let none : 0 + s ≡ s = omega arith in
-      IsRightWith-same job kept (kept_for kept core) _ (with_next visible tally core) (λ p. kept_more kept core (Close Next) p events refl) (record {
+      IsRightWith-same job kept (kept_for kept core) _ (with_next visible run_totals core) (λ p. kept_more kept core (Close Next) p events refl) (record {
         within = within;
         parts = right.parts;
         logs = record { sent = right.logs.sent; no_more = right.logs.no_more };
@@ -134,12 +134,12 @@ module _ {P C A V M : Type 0} (job : Job V M) (kept : Option Rows) (core : Progr
             ap (λ l. l ++ visible ∷ []) right.shown
             ∙ (ap (λ v. map (visible_at job core.graph) (range_with_len 0 s) ++ v ∷ []) shows
             ∙ sym (map-range_with_len_more (visible_at job core.graph) 0 s s none));
-        tally = counts ∙ ap (λ b. tally_at job core.graph (cond b (s + 1) s)) (sym on);
+        run_totals = counts ∙ ap (λ b. run_totals_at job core.graph (cond b (s + 1) s)) (sym on);
         ending =
             right.ending
             ∙ (ap (λ b. cond b (ending_after job core.graph core.state.current) None) on ∙ sym (ap (λ b. cond b (ending_after job core.graph s) None) on));
         at_end = λ ended. absurd (true≢false (sym ended ∙ on));
-        beside = right.beside;
+        warm = right.warm;
       })
 
 -- ---- what stats say
@@ -147,13 +147,13 @@ module _ {P C A V M : Type 0} (job : Job V M) (kept : Option Rows) (core : Progr
 module _ {V M : Type 0} (job : Job V M) (rows : Rows) (s : ℕ) (stats : GlobalStats)
     (are : AreStatsBetween (configuration job rows s) (configuration job rows (s + 1)) stats) where
   -- what the run has counted after superstep s
-  pub tally_next : (before counted : Tally) → before ≡ tally_at job rows s → counted.gathered ≡ stats.gathered
+  pub run_totals_next : (before counted : RunTotals) → before ≡ run_totals_at job rows s → counted.gathered ≡ stats.gathered
       → counted.sent ≡ capped (before.sent + stats.sent) → counted.dropped ≡ capped (before.dropped + stats.dropped)
-      → counted ≡ tally_at job rows (s + 1)
-  tally_next before counted so_far gathered sent dropped = λ i. record {
+      → counted ≡ run_totals_at job rows (s + 1)
+  run_totals_next before counted so_far gathered sent dropped = λ i. record {
     gathered = (gathered ∙ are.left.gathered) i;
-    sent = (sent ∙ (ap (λ (t : Tally). capped (t.sent + stats.sent)) so_far ∙ are.sent)) i;
-    dropped = (dropped ∙ (ap (λ (t : Tally). capped (t.dropped + stats.dropped)) so_far ∙ are.dropped)) i;
+    sent = (sent ∙ (ap (λ (t : RunTotals). capped (t.sent + stats.sent)) so_far ∙ are.sent)) i;
+    dropped = (dropped ∙ (ap (λ (t : RunTotals). capped (t.dropped + stats.dropped)) so_far ∙ are.dropped)) i;
   }
 
   -- what the master shows next
@@ -172,6 +172,6 @@ pub stats_between : {V M : Type 0} (job : Job V M) (rows : Rows) (n : ℕ) → 0
     → stats ≡ stats_of_all (aggregators_of registered) visible (map (λ p. stats_at job rows n p (s + 1)) (range_with_len 0 n))
     → AreStatsBetween (configuration job rows s) (configuration job rows (s + 1)) stats
 stats_between job rows n some registered are s visible stats shows fit is =
-    let together = is ∙ (λ i. stats_of_all (sym are i) (shows i) (map (λ p. stats_at job rows n p (s + 1)) (range_with_len 0 n))) in
-    subst (AreStatsBetween (configuration job rows s) (configuration job rows (s + 1))) (sym together)
+    let combined_stats = is ∙ (λ i. stats_of_all (sym are i) (shows i) (map (λ p. stats_at job rows n p (s + 1)) (range_with_len 0 n))) in
+    subst (AreStatsBetween (configuration job rows s) (configuration job rows (s + 1))) (sym combined_stats)
     (are_stats_after job rows n some registered are s (subst (All (FitsSigned w64)) shows fit))

@@ -1,12 +1,12 @@
--- Beside which rows each partition goes on as events happen.
+-- Against which rows each partition goes on as events happen.
 use Rattle.std.proofs.Common.{◌≡◌, ℕ, Bool, true, false, cond, List, [], ◌∷◌, ◌++◌, Option, None, refl, ap, sym, ◌∙◌, subst}
 use Rattle.pg_core.specs.Progress.{HoldsAt, IsRightWith, Progress, has_lost, kept_for}
-use Rattle.pg_course.specs.Course.{IsSentTo}
+use Rattle.pg_part_run.specs.PartRun.{IsSentTo}
 use Rattle.pg_graph.specs.Rows.{Rows}
-use Rattle.pg_inbox.specs.Logged.{slot_at}
-use Rattle.pg_machine.specs.Machine.{Reaches, State, after_all, first_state, place_at, takes}
-use Rattle.pg_machine.specs.declared.event.Event.{Event}
-use Rattle.pg_machine.proofs.LawsMachine.{was_lost-stays}
+use Rattle.pg_inbox.specs.LoggedBundle.{slot_at}
+use Rattle.pg_core_machine.specs.Machine.{Reaches, State, after_all, first_state, place_at, takes}
+use Rattle.pg_core_machine.specs.declared.event.Event.{Event}
+use Rattle.pg_core_machine.proofs.LawsMachine.{was_lost-stays}
 use Rattle.pg_model.specs.Job.{Job}
 
 either_same : {X : Type 0} (b : Bool) (x : X) → cond b x x ≡ x
@@ -30,7 +30,7 @@ module _ {P C A V M : Type 0} where
       ap (λ (b : Bool). cond b None kept)
       (sym (was_lost-stays p (first_state core.limits.partitions core.limits.workers) core.state core.history event events stays))
 
-  -- what is right beside some rows is so beside the same ones
+  -- what is right against some rows is so against the same ones
   pub IsRightWith-same : (job : Job V M) (kept : Option Rows) (a b : ℕ → Option Rows) (core : Progress P C A V M) → ((p : ℕ) → a p ≡ b p)
       → IsRightWith job kept a core → IsRightWith job kept b core
   IsRightWith-same job kept a b core same right = record {
@@ -43,8 +43,8 @@ module _ {P C A V M : Type 0} where
       no_more = right.logs.no_more;
     };
     shown = right.shown;
-    tally = right.tally;
+    run_totals = right.run_totals;
     ending = right.ending;
     at_end = right.at_end;
-    beside = right.beside;
+    warm = right.warm;
   }

@@ -1,6 +1,6 @@
 pub mod Ends
 pub mod Keeping
-pub mod Left
+pub mod RetainedPart
 pub mod Needs
 pub mod Onward
 pub mod Opened

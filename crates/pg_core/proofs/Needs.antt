@@ -4,9 +4,9 @@ use Rattle.std.specs.List.{range_with_len, sum_by}
 use Rattle.std.proofs.lemmas.List.Sums.{sum_by-cons}
 use Rattle.pg_core.specs.Driving.{calls_in, losses_of, needs_of}
 use Rattle.pg_core.specs.Progress.{IsRight, Progress}
-use Rattle.pg_machine.specs.Machine.{Reaches, first_state}
-use Rattle.pg_machine.proofs.LawsCounts.{unlost_counts}
-use Rattle.pg_machine.proofs.Sums.{sum_more, sum_none, sum_same}
+use Rattle.pg_core_machine.specs.Machine.{Reaches, first_state}
+use Rattle.pg_core_machine.proofs.LawsCounts.{unlost_counts}
+use Rattle.pg_core_machine.proofs.Sums.{sum_more, sum_none, sum_same}
 use Rattle.pg_graph.specs.Rows.{Rows}
 use Rattle.pg_model.specs.Job.{Job}
 use Rattle.pg_model.specs.Needed.{needed_below, needed_count, needed_in}
@@ -41,7 +41,7 @@ module _ {V M : Type 0} (value_eq : V → V → Bool) (message_eq : M → M → 
 
 -- ---- what the history of a run that has ended tells of
 
--- where nobody fell, just the executions that the run needs beside the kept one, if any
+-- where nobody fell, just the executions that the run needs against the kept one, if any
 pub unlost_calls : {P C A V M : Type 0} (value_eq : V → V → Bool) (message_eq : M → M → Bool) (job : Job V M) (kept : Option Rows)
     (core : Progress P C A V M) → 0 < core.limits.partitions
     → Reaches (first_state core.limits.partitions core.limits.workers) core.history core.state

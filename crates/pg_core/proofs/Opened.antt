@@ -3,25 +3,25 @@ use Rattle.std.proofs.Common.{◌≡◌, ℕ, ◌<◌, true, List, [], length, m
 use Rattle.std.specs.Option.{IsSome}
 use Rattle.std.proofs.lemmas.Bool.{ltb-true, true≢false}
 use Rattle.std.proofs.lemmas.List.{length-map}
-use Rattle.pg_core.specs.Beginning.{AreFirst, HasBegun, HasStarted, IsFirst, IsHereFirst, HaveBegun, HaveBegunBeside, first_visible}
-use Rattle.pg_core.specs.declared.beginning.Start.{Start}
-use Rattle.pg_machine.specs.Limits.{AreLimits, Limits}
-use Rattle.pg_machine.specs.Machine.{State, first_state, place_at}
-use Rattle.pg_core.specs.Progress.{HoldsAt, IsLawful, IsOpened, IsRight, Progress, job_by, is_past, tally_at}
-use Rattle.pg_core.specs.Traces.{IsLeftBy, KeepsCommon, Traces, shown_below}
-use Rattle.pg_core.specs.declared.tally.Tally.{Tally}
-use Rattle.pg_machine.proofs.LawsMachine.{Reaches-none, length-first, some_within, starts_at}
+use Rattle.pg_core.specs.Beginning.{AreFirst, HasBegun, HasStarted, IsFirst, IsHereFirst, HaveBegun, HaveBegunWarm, first_visible}
+use Rattle.pg_core.specs.declared.beginning.InitialCore.{InitialCore}
+use Rattle.pg_core_machine.specs.Limits.{AreLimits, Limits}
+use Rattle.pg_core_machine.specs.Machine.{State, first_state, place_at}
+use Rattle.pg_core.specs.Progress.{HoldsAt, IsLawful, IsOpened, IsRight, Progress, job_of_core, is_past, run_totals_at}
+use Rattle.pg_core.specs.Traces.{IsRetainedBy, KeepsRetainedRun, Traces, shown_below}
+use Rattle.pg_core.specs.declared.run_totals.RunTotals.{RunTotals}
+use Rattle.pg_core_machine.proofs.LawsMachine.{Reaches-none, length-first, some_within, starts_at}
 use Rattle.pg_core.proofs.Opening.{beginning-edges}
 use Rattle.pg_global.specs.Master.{Master, is_registered, job_of}
 use Rattle.pg_global.specs.Registry.{Registered}
 use Rattle.pg_graph.specs.Rows.{Rows, edge_count}
-use Rattle.pg_inbox.specs.Logged.{slot_at}
+use Rattle.pg_inbox.specs.LoggedBundle.{slot_at}
 use Rattle.pg_model.proofs.LawsLength.{run_length_pos}
 use Rattle.pg_model.specs.Job.{Combining, Job, Program}
 use Rattle.pg_model.specs.Run.{beginning, configuration, first, visible_at}
 use Rattle.pg_model.specs.Superstep.{capped, edges_of, visible_in}
 use Rattle.pg_model.specs.declared.view.Visible.{Visible}
-use Rattle.pg_course.specs.Course.{AreTouched}
+use Rattle.pg_part_run.specs.PartRun.{AreTouched}
 use Rattle.pg_part.specs.Part.{HoldsShare, PartState}
 use Rattle.pg_stats.specs.GlobalStats.{aggregators_of}
 
@@ -30,16 +30,16 @@ module _ {V M : Type 0} (job : Job V M) (rows : Rows) where
   pub visible_first : (gathered : List ℤ) → gathered ≡ map (λ a. a.initial) job.aggregators → first_visible job.deciding rows gathered ≡ visible_at job rows 0
   unfolding configuration first
   visible_first gathered are =
-      let standings = map (beginning job.program) rows in
-      let edges : ℕ = capped (edges_of standings) in
-      let totals : record { vertices = length rows; edges = capped (edge_count rows) } ≡ record { vertices = length standings; edges = edges } =
+      let with_inboxes = map (beginning job.program) rows in
+      let edges : ℕ = capped (edges_of with_inboxes) in
+      let totals : record { vertices = length rows; edges = capped (edge_count rows) } ≡ record { vertices = length with_inboxes; edges = edges } =
       (λ i. record { vertices = sym (length-map rows (beginning job.program)) i; edges = capped (sym (beginning-edges job.program rows) i) }) in
       (λ i. visible_in job.deciding (totals i) 0 (are i))
 
   -- and what is counted
-  pub tally_first : (tally : Tally) → tally ≡ record { gathered = map (λ a. a.initial) job.aggregators; sent = 0; dropped = 0 } → tally ≡ tally_at job rows 0
+  pub run_totals_first : (run_totals : RunTotals) → run_totals ≡ record { gathered = map (λ a. a.initial) job.aggregators; sent = 0; dropped = 0 } → run_totals ≡ run_totals_at job rows 0
   unfolding configuration first
-  tally_first tally is = is
+  run_totals_first run_totals is = is
 
 -- where a run begins
 first_place : (limits : Limits) (p r : ℕ) → place_at p (first_state limits.partitions limits.workers) ≡ Some r → (p < limits.partitions) × (r ≡ 0)
@@ -64,12 +64,12 @@ module _ {V M : Type 0} (program : Program V M) (master : Master) (limits : Limi
       by None h = absurd h
       by (Some part) h = refl
 
-  pub IsLawful-opened : (start : Start) → HasStarted master rows limits start → is_registered program master ≡ true
-      → IsLawful limits program.declared master.registrations start.registry start.state [] parts start.shown.items start.tally
+  pub IsLawful-opened : (start : InitialCore) → HasStarted master rows limits start → is_registered program master ≡ true
+      → IsLawful limits program.declared master.registrations start.registry start.state [] parts start.shown.items start.run_totals
   IsLawful-opened start started registered =
       let n : ℕ = limits.partitions in
       let start_state : State = first_state n limits.workers in
-      let lawful : IsLawful limits program.declared master.registrations start.registry start_state [] parts start.shown.items start.tally = record {
+      let lawful : IsLawful limits program.declared master.registrations start.registry start_state [] parts start.shown.items start.run_totals = record {
         limits_are = started.limits_are;
         registry_is = started.registry_is;
         few = started.few;
@@ -88,9 +88,9 @@ module _ {V M : Type 0} (program : Program V M) (master : Master) (limits : Limi
         within = started.limits_are.limit_least;
         shown_so_far = subst (λ (l : List Visible). 0 < length l) (sym started.shown_is) (omega arith);
         shown_places = started.places;
-        gathered_places = ap (λ (t : Tally). length t.gathered) started.tally_is ∙ (length-map _ _ ∙ length-map _ _);
+        gathered_places = ap (λ (t : RunTotals). length t.gathered) started.run_totals_is ∙ (length-map _ _ ∙ length-map _ _);
       } in
-      subst (λ (s : State). IsLawful limits program.declared master.registrations start.registry s [] parts start.shown.items start.tally)
+      subst (λ (s : State). IsLawful limits program.declared master.registrations start.registry s [] parts start.shown.items start.run_totals)
       (sym started.state_is) lawful
 
 -- a part that is among those that have begun
@@ -107,8 +107,8 @@ module _ {V M : Type 0} (program : Program V M) (master : Master) (combining : O
   pub IsRight-opened : {P C A : Type 0} (core : Progress P C A V M) → AreLimits limits → core.graph ≡ rows → core.limits ≡ limits
       → core.parts ≡ parts → core.state ≡ first_state limits.partitions limits.workers → core.history ≡ [] → ((s p q : ℕ) → slot_at core.logs s p q ≡ None)
       → core.shown ≡ shown_below (job_of program combining master limits.missing limits.limit) rows 1
-      → core.tally ≡ tally_at (job_of program combining master limits.missing limits.limit) rows 0 → core.ending ≡ None
-      → KeepsCommon (job_of program combining master limits.missing limits.limit) old limits.partitions core.kept
+      → core.run_totals ≡ run_totals_at (job_of program combining master limits.missing limits.limit) rows 0 → core.ending ≡ None
+      → KeepsRetainedRun (job_of program combining master limits.missing limits.limit) old limits.partitions core.kept
       → IsRight (job_of program combining master limits.missing limits.limit) old core
   IsRight-opened {P} {C} {A} core are graph_is limits_are parts_are state_is history_is empty shows counts goes_on keeps =
       let job : Job V M = job_of program combining master limits.missing limits.limit in
@@ -124,10 +124,10 @@ module _ {V M : Type 0} (program : Program V M) (master : Master) (combining : O
             subst (λ place. HoldsAt job rows old n p place part) (sym (starts_at n limits.workers p within)) (begun_part p part at);
         logs = record { sent = λ s p q past within. absurd (not_past s p past); no_more = λ s p q not_yet. empty s p q };
         shown = shows;
-        tally = counts;
+        run_totals = counts;
         ending = goes_on;
         at_end = λ ended. absurd (true≢false (sym ended));
-        beside = keeps;
+        warm = keeps;
       })
     where
       by_place : (s p : ℕ) (place : Option ℕ) → place_at p (first_state limits.partitions limits.workers) ≡ place → is_past s place ≡ true → ⊥
@@ -138,7 +138,7 @@ module _ {V M : Type 0} (program : Program V M) (master : Master) (combining : O
 pub job_as_opened : {P C A V M : Type 0} (program_of : P → Program V M) (combining_of : C → Option (Combining M)) (master_of : A → Master)
     {core : Progress P C A V M} {program : P} {combiner : C} {master : A} {graph : Rows} {limits : Limits} {run : ℕ}
     → IsOpened core program combiner master graph limits run
-    → job_of (program_of program) (combining_of combiner) (master_of master) limits.missing limits.limit ≡ job_by program_of combining_of master_of core
+    → job_of (program_of program) (combining_of combiner) (master_of master) limits.missing limits.limit ≡ job_of_core program_of combining_of master_of core
 job_as_opened program_of combining_of master_of opened = λ i.
     let l : Limits = sym opened.limits_are i in
     job_of (program_of (sym opened.program_is i)) (combining_of (sym opened.combiner_is i)) (master_of (sym opened.master_is i)) l.missing l.limit
@@ -151,14 +151,14 @@ module _ {V M : Type 0} (program : Program V M) (combining : Option (Combining M
       → HasBegun (job_of program combining master limits.missing limits.limit) None rows limits.partitions p (get_or parts p None)
   have_begun begun = begun (job_of program combining master limits.missing limits.limit) refl refl (ap aggregators_of (sym same))
 
-  -- the same beside the run on the kept rows
-  pub have_begun_beside : (touched : List ℕ) (old : Traces V M) (kept : Rows)
-      → HaveBegunBeside program limits.missing registered rows touched old.graph old.lefts limits.partitions limits.partitions parts
-      → IsLeftBy (job_of program combining master limits.missing limits.limit) kept limits.partitions old → AreTouched touched kept rows
+  -- the same against the run on the kept rows
+  pub have_begun_warm : (touched : List ℕ) (old : Traces V M) (kept : Rows)
+      → HaveBegunWarm program limits.missing registered rows touched old.graph old.retained_parts limits.partitions limits.partitions parts
+      → IsRetainedBy (job_of program combining master limits.missing limits.limit) kept limits.partitions old → AreTouched touched kept rows
       → (p : ℕ) → p < limits.partitions → HasBegun (job_of program combining master limits.missing limits.limit)
       (Some kept) rows limits.partitions p (get_or parts p None)
-  have_begun_beside touched old kept begun left untouched =
+  have_begun_warm touched old kept begun retained untouched =
       let job : Job V M = job_of program combining master limits.missing limits.limit in
-      let begins = subst (λ (r : Rows). HaveBegunBeside program limits.missing registered rows touched r old.lefts limits.partitions limits.partitions parts)
-      left.graph_is begun in
-      begins job refl refl (ap aggregators_of (sym same)) untouched left.whole
+      let begins = subst (λ (r : Rows). HaveBegunWarm program limits.missing registered rows touched r old.retained_parts limits.partitions limits.partitions parts)
+      retained.graph_is begun in
+      begins job refl refl (ap aggregators_of (sym same)) untouched retained.whole

@@ -6,15 +6,15 @@ use Rattle.std.specs.Option.{option_map}
 use Rattle.std.proofs.lemmas.List.{get_or_append_left, get_or_push}
 use Rattle.std.proofs.lemmas.List.Sums.{sum_by-cons}
 use Rattle.pg_core.specs.Beginning.{IsFirst}
-use Rattle.pg_course.specs.Course as courses
+use Rattle.pg_part_run.specs.PartRun as part_runs
 use Rattle.pg_graph.specs.Rows.{Rows, edge_count}
 use Rattle.pg_graph.specs.declared.missing.Missing.{Missing}
-use Rattle.pg_edits.specs.declared.row.Row.{Row}
+use Rattle.pg_graph_rows.specs.declared.row.Row.{Row}
 use Rattle.pg_model.specs.Job.{Program}
 use Rattle.pg_model.specs.Run.{beginning}
 use Rattle.pg_model.specs.Superstep.{edges_of}
 use Rattle.pg_part.specs.Part.{PartState}
-use Rattle.pg_routing.specs.Starting.{PartRows}
+use Rattle.pg_part_routing.specs.Starting.{PartRows}
 
 module _ {E X Y : Type 0} (part : E → X) (made : X → Y) where
   next_taken : (es : List E) (i : ℕ) (x : X) → option_map part (slice_get es i) ≡ Some x
@@ -48,7 +48,7 @@ one_more {X} Is before after x k many so_far pushed here p within =
     ])
 
 -- a part that has begun is at superstep 0
-pub first_of : {V M : Type 0} (rows : PartRows) (missing : Missing) (n p : ℕ) (part : PartState V M) → courses.HasBegun rows missing part.course
+pub first_of : {V M : Type 0} (rows : PartRows) (missing : Missing) (n p : ℕ) (part : PartState V M) → part_runs.HasBegun rows missing part.part_run
     → rows.partitions ≡ n → rows.partition ≡ p → IsFirst n p part
 first_of rows missing n p part begun many is = record {
   partition_is = begun.partition_is ∙ is;

@@ -6,8 +6,8 @@ use Rattle.std.specs.List.{slice_get}
 use Rattle.std.proofs.lemmas.Bool.{cases_order, cond-true, cond-false, eq-eqb, ne_eqb, lt-ltb, le-ltb}
 use Rattle.std.proofs.lemmas.List.{length_push}
 use Rattle.pg_core.specs.Progress.{HasPut}
-use Rattle.pg_inbox.specs.Logged.{Slots, is_pair, slot_at}
-use Rattle.pg_inbox.specs.declared.logs.Logged.{Logged}
+use Rattle.pg_inbox.specs.LoggedBundle.{Slots, is_pair, slot_at}
+use Rattle.pg_inbox.specs.declared.logs.LoggedBundle.{LoggedBundle}
 
 pub slice_get_pushed : {X : Type 0} (xs : List X) (x : X) → slice_get (xs ++ x ∷ []) (length xs) ≡ Some x
 slice_get_pushed [] x = refl
@@ -52,7 +52,7 @@ one_more true true xs x q old mid new so_far put =
     ]
 
 module _ {M : Type 0} (s p : ℕ) where
-  pub HasPut-more : (bundles : List (Logged M)) (bundle : Logged M) (old mid new : Slots M) → HasPut s p bundles old mid
+  pub HasPut-more : (bundles : List (LoggedBundle M)) (bundle : LoggedBundle M) (old mid new : Slots M) → HasPut s p bundles old mid
       → ((t other q : ℕ) → slot_at new t other q ≡ cond (is_pair s p (length bundles) t other q) (Some bundle) (slot_at mid t other q))
       → HasPut s p (bundles ++ bundle ∷ []) old new
   HasPut-more bundles bundle old mid new so_far put t other q =

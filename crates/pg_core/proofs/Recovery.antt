@@ -10,19 +10,19 @@ use Rattle.std.proofs.lemmas.List.Elements.{All-cons, All-nil}
 use Rattle.std.proofs.lemmas.Option.{none-some, same_Some}
 use Rattle.pg_core.specs.Losing.{AreLost, IsAsFound, IsForgotten, IsOf, place_found, with_event}
 use Rattle.pg_core.specs.Progress.{HoldsAt, IsLawful, IsPartAt, IsRight, Progress, is_past, is_ready, kept_for, part_at, ready_of}
-use Rattle.pg_core.specs.declared.tally.Tally.{Tally}
+use Rattle.pg_core.specs.declared.run_totals.RunTotals.{RunTotals}
 use Rattle.pg_core.proofs.Keeping.{IsRightWith-same, kept_more}
-use Rattle.pg_course.specs.Course.{IsSentTo}
+use Rattle.pg_part_run.specs.PartRun.{IsSentTo}
 use Rattle.pg_global.specs.Registry.{Registered}
 use Rattle.pg_graph.specs.Rows.{Rows}
-use Rattle.pg_inbox.specs.Logged.{Slots, slot_at}
-use Rattle.pg_machine.specs.Limits.{Limits}
-use Rattle.pg_machine.specs.Machine.{Reaches, State, after, first_state, host_of, is_alive, is_allowed, is_partition, place_at}
-use Rattle.pg_machine.specs.declared.event.Event.{Event}
-use Rattle.pg_machine.specs.declared.event.Event.TheVariants.{Step, Lose, Host, Restore, Save}
-use Rattle.pg_machine.proofs.LawsLosses.{host_is_alive}
-use Rattle.pg_machine.proofs.LawsMachine.{Reaches-push, length-hosts_all, length-hosts_first, lost_where_nowhere, place_after_lose, some_within}
-use Rattle.pg_machine.proofs.LawsSteps.{StepsFrom-from_allowed, length-places_lawful}
+use Rattle.pg_inbox.specs.LoggedBundle.{Slots, slot_at}
+use Rattle.pg_core_machine.specs.Limits.{Limits}
+use Rattle.pg_core_machine.specs.Machine.{Reaches, State, after, first_state, host_of, is_alive, is_allowed, is_partition, place_at}
+use Rattle.pg_core_machine.specs.declared.event.Event.{Event}
+use Rattle.pg_core_machine.specs.declared.event.Event.TheVariants.{Step, Lose, Host, Restore, Save}
+use Rattle.pg_core_machine.proofs.LawsLosses.{host_is_alive}
+use Rattle.pg_core_machine.proofs.LawsMachine.{Reaches-push, length-hosts_all, length-hosts_first, lost_where_nowhere, place_after_lose, some_within}
+use Rattle.pg_core_machine.proofs.LawsSteps.{StepsFrom-from_allowed, length-places_lawful}
 use Rattle.pg_model.specs.Job.{Job}
 use Rattle.pg_model.specs.declared.view.Declared.{Declared}
 use Rattle.pg_model.specs.declared.view.Visible.{Visible}
@@ -123,19 +123,19 @@ all_lost {X} w n host before now many are p =
     ]
 
 -- the place of the part that a restored partition has
-pub as_found_place : {V M : Type 0} (found : Option (PartState V M)) (part : PartState V M) → IsAsFound found part → place_found found ≡ part.course.place
+pub as_found_place : {V M : Type 0} (found : Option (PartState V M)) (part : PartState V M) → IsAsFound found part → place_found found ≡ part.part_run.place
 as_found_place None part is = sym is
-as_found_place (Some found) part is = ap (λ (p : PartState _ _). p.course.place) (sym is)
+as_found_place (Some found) part is = ap (λ (p : PartState _ _). p.part_run.place) (sym is)
 
 -- ---- what is so of every run
 
 module _ {V M : Type 0} {limits : Limits} {declared : Declared} {registered registry : Registered} {state : State} {history : List Event}
-    {parts : List (Option (PartState V M))} {shown : List Visible} {tally : Tally}
-    (lawful : IsLawful limits declared registered registry state history parts shown tally) where
+    {parts : List (Option (PartState V M))} {shown : List Visible} {run_totals : RunTotals}
+    (lawful : IsLawful limits declared registered registry state history parts shown run_totals) where
   -- a partition has another host, or was saved
   pub IsLawful-event : (event : Event) → is_allowed state event ≡ true → ((p : ℕ) → place_at p (after state event) ≡ place_at p state)
       → (after state event).current ≡ state.current
-      → IsLawful limits declared registered registry (after state event) (history ++ event ∷ []) parts shown tally
+      → IsLawful limits declared registered registry (after state event) (history ++ event ∷ []) parts shown run_totals
   IsLawful-event event allowed there current = record {
     limits_are = lawful.limits_are;
     registry_is = lawful.registry_is;
@@ -156,7 +156,7 @@ module _ {V M : Type 0} {limits : Limits} {declared : Declared} {registered regi
   }
 
   pub IsLawful-lose : (w : ℕ) (left : List (Option (PartState V M))) → is_allowed state (Lose w) ≡ true → AreLost w state parts left
-      → IsLawful limits declared registered registry (after state (Lose w)) (history ++ Lose w ∷ []) left shown tally
+      → IsLawful limits declared registered registry (after state (Lose w)) (history ++ Lose w ∷ []) left shown run_totals
   IsLawful-lose w left allowed lost = record {
     limits_are = lawful.limits_are;
     registry_is = lawful.registry_is;
@@ -186,11 +186,11 @@ module _ {V M : Type 0} {limits : Limits} {declared : Declared} {registered regi
     gathered_places = lawful.gathered_places;
   }
 
-  pub IsLawful-restore : (p : ℕ) (part : PartState V M) → is_allowed state (Restore p part.course.place) ≡ true → IsOf limits.partitions p part
-      → IsLawful limits declared registered registry (after state (Restore p part.course.place)) (history ++ Restore p part.course.place ∷ [])
-      (set parts p (Some part)) shown tally
+  pub IsLawful-restore : (p : ℕ) (part : PartState V M) → is_allowed state (Restore p part.part_run.place) ≡ true → IsOf limits.partitions p part
+      → IsLawful limits declared registered registry (after state (Restore p part.part_run.place)) (history ++ Restore p part.part_run.place ∷ [])
+      (set parts p (Some part)) shown run_totals
   IsLawful-restore p part allowed own =
-      let r : ℕ = part.course.place in
+      let r : ℕ = part.part_run.place in
       let within : p < length parts = omega (arith, restored_within limits state history lawful.events p r allowed, lawful.each) in
       let mine : get_or (set parts p (Some part)) p None ≡ Some part = get_or-set_same parts p (Some part) None within in
       let others : (q : ℕ) → q ≢ p → get_or (set parts p (Some part)) q None ≡ get_or parts q None =
@@ -272,10 +272,10 @@ module _ {P C A V M : Type 0} (job : Job V M) (kept : Option Rows) (core : Progr
     parts = right.parts;
     logs = record { sent = right.logs.sent; no_more = right.logs.no_more };
     shown = right.shown;
-    tally = right.tally;
+    run_totals = right.run_totals;
     ending = right.ending;
     at_end = right.at_end;
-    beside = right.beside;
+    warm = right.warm;
   })
 
   pub IsRight-save : (p : ℕ) → IsRight job kept (with_event (Save p) core)
@@ -284,10 +284,10 @@ module _ {P C A V M : Type 0} (job : Job V M) (kept : Option Rows) (core : Progr
     parts = right.parts;
     logs = record { sent = right.logs.sent; no_more = right.logs.no_more };
     shown = right.shown;
-    tally = right.tally;
+    run_totals = right.run_totals;
     ending = right.ending;
     at_end = right.at_end;
-    beside = right.beside;
+    warm = right.warm;
   })
 
   module _ (w : ℕ) (parts : List (Option (PartState V M))) (logs : Slots M) (lost : AreLost w core.state core.parts parts)
@@ -343,13 +343,13 @@ module _ {P C A V M : Type 0} (job : Job V M) (kept : Option Rows) (core : Progr
         ];
       };
       shown = right.shown;
-      tally = right.tally;
+      run_totals = right.run_totals;
       ending = right.ending;
       at_end = right.at_end;
-      beside = right.beside;
+      warm = right.warm;
     }
 
-  -- partition p is restored at r, beside nothing, and what it sent on its way is put back
+  -- partition p is restored at r, from scratch, and what it sent on its way is put back
   module _ (p r : ℕ) (part : PartState V M) (logs : Slots M) (allowed : is_allowed core.state (Restore p r) ≡ true)
       (inside : p < length core.parts) (share : HoldsShare job None core.graph core.limits.partitions p r part)
       (put : (s q : ℕ) → s < r → q < core.limits.partitions → IsSentTo job None core.graph core.limits.partitions p q s (slot_at logs s p q))
@@ -417,8 +417,8 @@ module _ {P C A V M : Type 0} (job : Job V M) (kept : Option Rows) (core : Progr
         ];
       };
       shown = right.shown;
-      tally = right.tally;
+      run_totals = right.run_totals;
       ending = right.ending;
       at_end = right.at_end;
-      beside = right.beside;
+      warm = right.warm;
     }

@@ -5,15 +5,15 @@ use Rattle.std.specs.List.{slice_get}
 use Rattle.std.proofs.lemmas.Bool.{and_cases, and_left, and_right, cases_eq, cond-false, cond-true, eq-eqb, le-ltb, lt-ltb, ltb-false, ne_eqb}
 use Rattle.pg_core.specs.Losing.{HasSentAgain, HasSentIn}
 use Rattle.pg_core.specs.Progress.{HasPut}
-use Rattle.pg_inbox.specs.Logged.{Slots, slot_at}
-use Rattle.pg_inbox.specs.declared.logs.Logged.{Logged}
+use Rattle.pg_inbox.specs.LoggedBundle.{Slots, slot_at}
+use Rattle.pg_inbox.specs.declared.logs.LoggedBundle.{LoggedBundle}
 use Rattle.pg_model.specs.Job.{Combining}
-use Rattle.pg_routing.specs.Sending.{IsFresh, items_to, sends_by_records}
+use Rattle.pg_part_routing.specs.Sending.{IsFresh, items_to, sends_by_records}
 use Rattle.pg_trace.specs.Trace.{Trace, records_of}
 
 module _ {V M : Type 0} (combining : Option (Combining M)) (n p : ℕ) (trace : Trace V M) where
   -- fresh bundles that were put into the logs of a superstep are what was sent there
-  pub sent_in : (s : ℕ) (bundles : List (Logged M)) (before now : Slots M) → length bundles ≡ n
+  pub sent_in : (s : ℕ) (bundles : List (LoggedBundle M)) (before now : Slots M) → length bundles ≡ n
       → ((q : ℕ) → q < n → IsFresh combining (items_to n q (sends_by_records (records_of s trace))) (slice_get bundles q))
       → HasPut s p bundles before now → HasSentIn combining n p s trace before now
   sent_in s bundles before now many fresh put = record {

@@ -8,58 +8,58 @@ use Rattle.std.proofs.lemmas.Bool.{eq-eqb, le-ltb, leb-true, lt-ltb, ltb-false, 
 use Rattle.std.proofs.lemmas.List.FromFn.{length-map-range_with_len}
 use Rattle.std.proofs.lemmas.List.{get_or-set_other, get_or-set_same, length-set, take_all}
 use Rattle.std.proofs.lemmas.Option.{same_Some}
-use Rattle.pg_machine.specs.Limits.{Limits}
-use Rattle.pg_machine.specs.Machine.{Reaches, State, after, first_state, is_allowed, is_from, place_at}
-use Rattle.pg_core.specs.Progress.{HasPut, HoldsAt, IsLawful, IsNext, IsPartAt, IsRight, IsStepFrom, IsStepLent, IsStepOf}
+use Rattle.pg_core_machine.specs.Limits.{Limits}
+use Rattle.pg_core_machine.specs.Machine.{Reaches, State, after, first_state, is_allowed, is_from, place_at}
+use Rattle.pg_core.specs.Progress.{HasPut, HoldsAt, IsLawful, IsNext, IsPartAt, IsRight, IsStepFrom, HasStepInput, IsStepOf}
 use Rattle.pg_core.specs.Progress.{LogsHold, Progress, TakesIn, has_lost, is_past, kept_for, part_at, without_part}
-use Rattle.pg_core.specs.Traces.{KeepsCommon, Common, logs_in, visible_in}
-use Rattle.pg_machine.specs.declared.event.Event.{Event}
-use Rattle.pg_machine.specs.declared.event.Event.TheVariants.{Step}
-use Rattle.pg_core.specs.declared.tally.Tally.{Tally}
+use Rattle.pg_core.specs.Traces.{KeepsRetainedRun, RetainedRun, logs_in, visible_in}
+use Rattle.pg_core_machine.specs.declared.event.Event.{Event}
+use Rattle.pg_core_machine.specs.declared.event.Event.TheVariants.{Step}
+use Rattle.pg_core.specs.declared.run_totals.RunTotals.{RunTotals}
 use Rattle.pg_core.proofs.Keeping.{IsRightWith-same, kept_more}
 use Rattle.pg_core.proofs.Parts.{slice_get-made}
-use Rattle.pg_machine.proofs.LawsMachine.{Reaches-push, some_within}
-use Rattle.pg_machine.proofs.LawsSteps.{StepsFrom-from_allowed, length-places_lawful, place_after_other, place_after_own}
+use Rattle.pg_core_machine.proofs.LawsMachine.{Reaches-push, some_within}
+use Rattle.pg_core_machine.proofs.LawsSteps.{StepsFrom-from_allowed, length-places_lawful, place_after_other, place_after_own}
 use Rattle.pg_global.specs.Registry.{Registered}
 use Rattle.pg_graph.specs.Rows.{Rows}
-use Rattle.pg_inbox.specs.Bundles.{Parcels, parcels_in}
+use Rattle.pg_inbox.specs.Bundles.{MessageLists, message_lists_in}
 use Rattle.pg_inbox.specs.Changed.{AreChanged}
-use Rattle.pg_inbox.specs.Logged.{Slots, slot_at}
-use Rattle.pg_inbox.specs.declared.logs.Logged.{Logged}
+use Rattle.pg_inbox.specs.LoggedBundle.{Slots, slot_at}
+use Rattle.pg_inbox.specs.declared.logs.LoggedBundle.{LoggedBundle}
 use Rattle.pg_model.specs.Job.{Job}
 use Rattle.pg_model.specs.Run.{run_length, visible_at}
 use Rattle.pg_model.specs.declared.view.Declared.{Declared}
 use Rattle.pg_model.specs.declared.view.Visible.{Visible}
-use Rattle.pg_routing.specs.Routes.{HasMessages, TellsAt, TellsFrom, bundle_in, bundle_sent}
-use Rattle.pg_course.specs.Lent.{IsLent, IsLentBeside, LendsLogs}
-use Rattle.pg_course.specs.Course.{IsFurther, IsSentTo}
+use Rattle.pg_part_routing.specs.Routes.{HasMessages, TellsAt, TellsFrom, bundle_in, bundle_sent}
+use Rattle.pg_part_run.specs.StepInput.{IsStepInput, IsOldStepInput, LendsLogs}
+use Rattle.pg_part_run.specs.PartRun.{IsAdvanced, IsSentTo}
 use Rattle.pg_part.specs.Part as parts_of
 use Rattle.pg_part.specs.Part.{HoldsShare, PartState}
 
 -- ---- the partition that steps
 
 -- a part that made a step is the next of its partition
-pub IsNext-from_IsFurther : {V M : Type 0} (partitions : ℕ) (state : State) (p : ℕ) (before after : PartState V M)
-    → IsPartAt partitions state p before → IsFurther before.course after.course → IsNext partitions state p after
-IsNext-from_IsFurther partitions state p before after at further = record {
-  partition_is = further.partition_stays ∙ at.partition_is;
-  partitions_are = further.partitions_stay ∙ at.partitions_are;
+pub IsNext-from_IsAdvanced : {V M : Type 0} (partitions : ℕ) (state : State) (p : ℕ) (before after : PartState V M)
+    → IsPartAt partitions state p before → IsAdvanced before.part_run after.part_run → IsNext partitions state p after
+IsNext-from_IsAdvanced partitions state p before after at advanced = record {
+  partition_is = advanced.partition_stays ∙ at.partition_is;
+  partitions_are = advanced.partitions_stay ∙ at.partitions_are;
   place_is =
-      λ r is. let same : before.course.place ≡ r = same_Some before.course.place r (sym at.place_is ∙ is) in further.place_is ∙ ap (λ (k : ℕ). k + 1) same;
+      λ r is. let same : before.part_run.place ≡ r = same_Some before.part_run.place r (sym at.place_is ∙ is) in advanced.place_is ∙ ap (λ (k : ℕ). k + 1) same;
 }
 
 -- ---- what is so of every run
 
 module _ {V M : Type 0} {limits : Limits} {declared : Declared} {registered registry : Registered} {state : State} {history : List Event}
-    {parts : List (Option (PartState V M))} {shown : List Visible} {tally : Tally}
-    (lawful : IsLawful limits declared registered registry state history parts shown tally) (p : ℕ)
+    {parts : List (Option (PartState V M))} {shown : List Visible} {run_totals : RunTotals}
+    (lawful : IsLawful limits declared registered registry state history parts shown run_totals) (p : ℕ)
     (allowed : is_allowed state (Step p) ≡ true) where
   -- there is a place for the part of a partition that is somewhere
   pub part_within : (q r : ℕ) → place_at q state ≡ Some r → q < length parts
   part_within q r at =
       omega (arith, some_within state.places q r at, length-places_lawful limits state history lawful.events, lawful.each)
 
-  pub IsLawful-take : IsLawful limits declared registered registry state history (set parts p None) shown tally
+  pub IsLawful-take : IsLawful limits declared registered registry state history (set parts p None) shown run_totals
   IsLawful-take =
       let steps = StepsFrom-from_allowed state p allowed in
       let within : p < length parts = part_within p steps.from steps.at in
@@ -90,7 +90,7 @@ module _ {V M : Type 0} {limits : Limits} {declared : Declared} {registered regi
       }
 
   pub IsLawful-step : (part : PartState V M) → IsNext limits.partitions state p part
-      → IsLawful limits declared registered registry (after state (Step p)) (history ++ Step p ∷ []) (set parts p (Some part)) shown tally
+      → IsLawful limits declared registered registry (after state (Step p)) (history ++ Step p ∷ []) (set parts p (Some part)) shown run_totals
   IsLawful-step part next =
       let steps = StepsFrom-from_allowed state p allowed in
       let within : p < length parts = part_within p steps.from steps.at in
@@ -137,19 +137,19 @@ module _ {V M : Type 0} {limits : Limits} {declared : Declared} {registered regi
 -- ---- what is so of a right one
 
 -- one that tells where it differs; one that may
-abbrev Tells : {M : Type 0} → Parcels M → Parcels M → Option (List ℕ) → Type 0
+abbrev Tells : {M : Type 0} → MessageLists M → MessageLists M → Option (List ℕ) → Type 0
 Tells old new changed = elim changed [ None ↦ ⊥ | Some ids ↦ AreChanged old new ids ]
 
-abbrev MayTell : {M : Type 0} → Parcels M → Parcels M → Option (List ℕ) → Type 0
+abbrev MayTell : {M : Type 0} → MessageLists M → MessageLists M → Option (List ℕ) → Type 0
 MayTell old new changed = elim changed [ None ↦ Unit {0} | Some ids ↦ AreChanged old new ids ]
 
--- what is sent beside a kept run tells where it differs from what that sent; where a loss took the sender, nothing is told
-TellsAt-from_sent : {V M : Type 0} (job : Job V M) (old rows : Rows) (lost : Bool) (n q p s : ℕ) (old_slot slot : Option (Logged M))
+-- what is sent against a kept run tells where it differs from what that sent; where a loss took the sender, nothing is told
+TellsAt-from_sent : {V M : Type 0} (job : Job V M) (old rows : Rows) (lost : Bool) (n q p s : ℕ) (old_slot slot : Option (LoggedBundle M))
     → s < run_length job old → bundle_in old_slot ≡ Some (bundle_sent job old n q p s)
     → IsSentTo job (cond lost None (Some old)) rows n q p s slot → TellsAt old_slot slot
 TellsAt-from_sent job old rows lost n q p s old_slot None within had h = absurd h
 TellsAt-from_sent job old rows true n q p s old_slot (Some logged) within had h =
-    subst (MayTell (parcels_in (bundle_in old_slot)) logged.bundle) (sym h.1) tt
+    subst (MayTell (message_lists_in (bundle_in old_slot)) logged.bundle) (sym h.1) tt
 TellsAt-from_sent job old rows false n q p s old_slot (Some logged) within had h =
     subst (λ b. TellsFrom b logged) (sym had) (by logged.changed (h.1 within))
   where
@@ -158,13 +158,13 @@ TellsAt-from_sent job old rows false n q p s old_slot (Some logged) within had h
     by (Some ids) h = h
 
 -- what a step is lent of the kept run: what it reads there, and its logs tell, if anything, where they differ
-IsLentBeside-old : {V M : Type 0} (job : Job V M) (old : Option Rows) (lost : ℕ → Bool) (rows : Rows) (n p r : ℕ) (logs : Slots M)
-    (kept : Option (Common V M)) → p < n → KeepsCommon job old n kept
+IsOldStepInput-old : {V M : Type 0} (job : Job V M) (old : Option Rows) (lost : ℕ → Bool) (rows : Rows) (n p r : ℕ) (logs : Slots M)
+    (kept : Option (RetainedRun V M)) → p < n → KeepsRetainedRun job old n kept
     → ((s q : ℕ) → s + 1 ≡ r → q < n → IsSentTo job (cond (lost q) None old) rows n q p s (slot_at logs s q p))
-    → IsLentBeside job old n p r logs (logs_in r kept) (visible_in r kept)
-IsLentBeside-old job None lost rows n p r logs kept mine keeps sent = tt
-IsLentBeside-old job (Some old) lost rows n p r logs None mine keeps sent = absurd keeps
-IsLentBeside-old {V} {M} job (Some old) lost rows n p r logs (Some kept) mine keeps sent =
+    → IsOldStepInput job old n p r logs (logs_in r kept) (visible_in r kept)
+IsOldStepInput-old job None lost rows n p r logs kept mine keeps sent = tt
+IsOldStepInput-old job (Some old) lost rows n p r logs None mine keeps sent = absurd keeps
+IsOldStepInput-old {V} {M} job (Some old) lost rows n p r logs (Some kept) mine keeps sent =
     elim (cases_lt r (run_length job old)) [
       | inl less ↦ (
           let there : logs_in r (Some kept) ≡ Some kept.logs =
@@ -175,16 +175,16 @@ IsLentBeside-old {V} {M} job (Some old) lost rows n p r logs (Some kept) mine ke
             there = less;
             received = λ s q before within. keeps.sent s q p (omega (arith, before, less)) within mine;
             sent = λ q within. keeps.sent r p q less mine within;
-            told =
+            lists_changes =
                 λ s q before within. TellsAt-from_sent job old rows (lost q) n q p s (slot_at kept.logs s q p) (slot_at logs s q p)
                 (omega (arith, before, less)) (keeps.sent s q p (omega (arith, before, less)) within mine) (sent s q before within);
           } in
-          subst₂ (IsLentBeside job (Some old) n p r logs) (sym there) (sym shows) (lends, refl)
+          subst₂ (IsOldStepInput job (Some old) n p r logs) (sym there) (sym shows) (lends, refl)
           )
       | inr more ↦ (
           let gone : logs_in r (Some kept) ≡ None =
           cond-false (nat_lt r (length kept.shown)) (Some kept.logs) None (le-ltb r (length kept.shown) (omega (arith, many, more))) in
-          subst (λ o. IsLentBeside job (Some old) n p r logs o (visible_in r (Some kept))) (sym gone) more
+          subst (λ o. IsOldStepInput job (Some old) n p r logs o (visible_in r (Some kept))) (sym gone) more
           )
     ]
   where
@@ -192,15 +192,15 @@ IsLentBeside-old {V} {M} job (Some old) lost rows n p r logs (Some kept) mine ke
     many = ap length keeps.shown ∙ length-map-range_with_len (visible_at job old) 0 (run_length job old)
 
 -- one that a loss took is cold, and may be lent anything
-IsLentBeside-kept : {V M : Type 0} (job : Job V M) (old : Option Rows) (lost : ℕ → Bool) (rows : Rows) (n p r : ℕ) (logs : Slots M)
-    (kept : Option (Common V M)) → p < n → KeepsCommon job old n kept
+IsOldStepInput-kept : {V M : Type 0} (job : Job V M) (old : Option Rows) (lost : ℕ → Bool) (rows : Rows) (n p r : ℕ) (logs : Slots M)
+    (kept : Option (RetainedRun V M)) → p < n → KeepsRetainedRun job old n kept
     → ((s q : ℕ) → s + 1 ≡ r → q < n → IsSentTo job (cond (lost q) None old) rows n q p s (slot_at logs s q p))
-    → IsLentBeside job (cond (lost p) None old) n p r logs (logs_in r kept) (visible_in r kept)
-IsLentBeside-kept {V} {M} job old lost rows n p r logs kept mine keeps sent = by (lost p)
+    → IsOldStepInput job (cond (lost p) None old) n p r logs (logs_in r kept) (visible_in r kept)
+IsOldStepInput-kept {V} {M} job old lost rows n p r logs kept mine keeps sent = by (lost p)
   where
-    by : (b : Bool) → IsLentBeside job (cond b None old) n p r logs (logs_in r kept) (visible_in r kept)
+    by : (b : Bool) → IsOldStepInput job (cond b None old) n p r logs (logs_in r kept) (visible_in r kept)
     by true = tt
-    by false = IsLentBeside-old job old lost rows n p r logs kept mine keeps sent
+    by false = IsOldStepInput-old job old lost rows n p r logs kept mine keeps sent
 
 module _ {V M : Type 0} (job : Job V M) (kept : Option Rows) {P C A : Type 0} (core : Progress P C A V M) (p : ℕ)
     (right : IsRight job kept core) (allowed : is_allowed core.state (Step p) ≡ true) where
@@ -218,35 +218,35 @@ module _ {V M : Type 0} (job : Job V M) (kept : Option Rows) {P C A : Type 0} (c
         ];
         logs = right.logs;
         shown = right.shown;
-        tally = right.tally;
+        run_totals = right.run_totals;
         ending = right.ending;
         at_end = right.at_end;
-        beside = right.beside;
+        warm = right.warm;
       }
 
   -- a step is lent what it reads of the run
-  pub IsStepLent-taken : (many : length core.state.places ≡ core.limits.partitions) (part : PartState V M) → part_at p core ≡ Some part
-      → IsStepLent job kept core p part.course.place part
-  IsStepLent-taken many part at =
+  pub HasStepInput-taken : (many : length core.state.places ≡ core.limits.partitions) (part : PartState V M) → part_at p core ≡ Some part
+      → HasStepInput job kept core p part.part_run.place part
+  HasStepInput-taken many part at =
       let steps = StepsFrom-from_allowed core.state p allowed in
       let n : ℕ = core.limits.partitions in
       let holds : HoldsShare job (keeps p) core.graph n p steps.from part =
       subst (λ place. HoldsAt job core.graph (keeps p) n p place part) steps.at (right.parts p part at) in
       let p_within : p < n = subst (λ (k : ℕ). p < k) many (some_within core.state.places p steps.from steps.at) in
-      let is : steps.from ≡ part.course.place = sym holds.course.place_is in
+      let is : steps.from ≡ part.part_run.place = sym holds.part_run.place_is in
       let sent : (s q : ℕ) → s + 1 ≡ steps.from → q < n → IsSentTo job (keeps q) core.graph n q p s (slot_at core.logs s q p) =
       (λ s q before within. right.logs.sent s q p
       (past s q before (place_at q core.state) (steps.others q (subst (λ (k : ℕ). q < k) (sym many) within))) p_within) in
-      let lent : HasMessages job core.graph n p steps.from core.logs =
+      let step_input : HasMessages job core.graph n p steps.from core.logs =
       (λ s q before within. sent_is s q (slot_at core.logs s q p) (sent s q before within)) in
-      subst (λ (r : ℕ). IsStepLent job kept core p r part) is (record {
+      subst (λ (r : ℕ). HasStepInput job kept core p r part) is (record {
         holds = holds;
-        lent = record { within = omega (arith, steps.open_or_before, right.within); messages = lent; sees = refl };
-        beside = IsLentBeside-kept job kept (has_lost core) core.graph n p steps.from core.logs core.kept p_within right.beside sent;
+        step_input = record { within = omega (arith, steps.open_or_before, right.within); messages = step_input; sees = refl };
+        warm = IsOldStepInput-kept job kept (has_lost core) core.graph n p steps.from core.logs core.kept p_within right.warm sent;
         open_or_before = steps.open_or_before;
       })
     where
-      sent_is : (s q : ℕ) (slot : Option (Logged M)) → IsSentTo job (keeps q) core.graph core.limits.partitions q p s slot
+      sent_is : (s q : ℕ) (slot : Option (LoggedBundle M)) → IsSentTo job (keeps q) core.graph core.limits.partitions q p s slot
           → bundle_in slot ≡ Some (bundle_sent job core.graph core.limits.partitions q p s)
       sent_is s q None h = absurd h
       sent_is s q (Some logged) h = ap Some h.0
@@ -256,7 +256,7 @@ module _ {V M : Type 0} (job : Job V M) (kept : Option Rows) {P C A : Type 0} (c
       past s q before None from = absurd (true≢false (sym from))
       past s q before (Some r) from = lt-ltb s r (omega (arith, before, leb-true _ r from))
 
-  module _ (part : PartState V M) (sent : List (Logged M)) (new : Progress P C A V M) (is_step : IsStepOf job kept core p part sent)
+  module _ (part : PartState V M) (sent : List (LoggedBundle M)) (new : Progress P C A V M) (is_step : IsStepOf job kept core p part sent)
       (takes : TakesIn p part sent core new) where
     LogsHold-step : LogsHold job core.graph keeps core.limits.partitions (after core.state (Step p)).places new.logs
     LogsHold-step =
@@ -265,7 +265,7 @@ module _ {V M : Type 0} (job : Job V M) (kept : Option Rows) {P C A : Type 0} (c
         let r : ℕ = steps.from in
         let made = is_step r steps.at in
         let all : take n sent ≡ sent = take_all n sent (omega (arith, made.to_each)) in
-        let put : HasPut r p sent core.logs new.logs = subst (λ (l : List (Logged M)). HasPut r p l core.logs new.logs) all (takes.logs_are r steps.at) in
+        let put : HasPut r p sent core.logs new.logs = subst (λ (l : List (LoggedBundle M)). HasPut r p l core.logs new.logs) all (takes.logs_are r steps.at) in
         -- other slots are as they were
         let other : (s u q : ℕ) → ((p == u) && ((r == s) && nat_lt q (length sent))) ≡ false → slot_at new.logs s u q ≡ slot_at core.logs s u q =
         λ s u q apart. put s u q ∙ cond-false _ (slice_get sent q) (slot_at core.logs s u q) apart in
@@ -343,35 +343,35 @@ module _ {V M : Type 0} (job : Job V M) (kept : Option Rows) {P C A : Type 0} (c
           ];
           logs = LogsHold-step;
           shown = right.shown;
-          tally = right.tally;
+          run_totals = right.run_totals;
           ending = right.ending;
           at_end = right.at_end;
-          beside = right.beside;
+          warm = right.warm;
         }))
 
 -- what a part's step promises is what a step taken in asks for
 pub IsStepOf-from_HasMadeStep : {V M : Type 0} (job : Job V M) (kept : Option Rows) {P C A : Type 0} (core : Progress P C A V M) (p r : ℕ)
-    (part : PartState V M) (sent : List (Logged M)) (value_eq : V → V → Bool) (message_eq : M → M → Bool) (calls calls_after : ℕ)
+    (part : PartState V M) (sent : List (LoggedBundle M)) (value_eq : V → V → Bool) (message_eq : M → M → Bool) (calls calls_after : ℕ)
     → place_at p core.state ≡ Some r
     → parts_of.HasMadeStep job value_eq message_eq (kept_for kept core p) core.graph core.limits.partitions p r part sent calls calls_after
     → IsStepOf job kept core p part sent
 IsStepOf-from_HasMadeStep job kept core p r part sent value_eq message_eq calls calls_after at stepped s is =
     let made : IsStepFrom job (kept_for kept core p) core.graph core.limits.partitions p r part sent = record {
-      holds = record { course = stepped.course.holds; stats = stepped.stats };
-      to_each = stepped.course.to_each;
-      sends = stepped.course.sends;
+      holds = record { part_run = stepped.part_run.holds; stats = stepped.stats };
+      to_each = stepped.part_run.to_each;
+      sends = stepped.part_run.sends;
     } in
     subst (λ (s : ℕ). IsStepFrom job (kept_for kept core p) core.graph core.limits.partitions p s part sent) (same_Some r s (sym at ∙ is)) made
 
 -- what a step was lent is what it asks for: the same by other names
 module _ {V M : Type 0} (job : Job V M) (kept : Option Rows) {P C A : Type 0} (core : Progress P C A V M) (p r : ℕ) (part : PartState V M)
-    (lent : IsStepLent job kept core p r part) (logs : Slots M) (visible : Visible) (old_logs : Option (Slots M))
+    (step_input : HasStepInput job kept core p r part) (logs : Slots M) (visible : Visible) (old_logs : Option (Slots M))
     (old_visible : Option Visible) where
-  pub lent_run : logs ≡ core.logs → visible ≡ visible_at job core.graph r → IsLent job core.graph core.limits.partitions p r logs visible
-  lent_run same shows = subst₂ (IsLent job core.graph core.limits.partitions p r) (sym same) (sym shows) lent.lent
+  pub lent_run : logs ≡ core.logs → visible ≡ visible_at job core.graph r → IsStepInput job core.graph core.limits.partitions p r logs visible
+  lent_run same shows = subst₂ (IsStepInput job core.graph core.limits.partitions p r) (sym same) (sym shows) step_input.step_input
 
-  pub lent_beside : logs ≡ core.logs → old_logs ≡ logs_in r core.kept → old_visible ≡ visible_in r core.kept
-      → IsLentBeside job (kept_for kept core p) core.limits.partitions p r logs old_logs old_visible
-  lent_beside same old shows =
-      subst (λ logs. IsLentBeside job (kept_for kept core p) core.limits.partitions p r logs old_logs old_visible) (sym same)
-      (subst₂ (IsLentBeside job (kept_for kept core p) core.limits.partitions p r core.logs) (sym old) (sym shows) lent.beside)
+  pub lent_warm : logs ≡ core.logs → old_logs ≡ logs_in r core.kept → old_visible ≡ visible_in r core.kept
+      → IsOldStepInput job (kept_for kept core p) core.limits.partitions p r logs old_logs old_visible
+  lent_warm same old shows =
+      subst (λ logs. IsOldStepInput job (kept_for kept core p) core.limits.partitions p r logs old_logs old_visible) (sym same)
+      (subst₂ (IsOldStepInput job (kept_for kept core p) core.limits.partitions p r core.logs) (sym old) (sym shows) step_input.warm)

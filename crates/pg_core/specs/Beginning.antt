@@ -1,11 +1,11 @@
 -- The parts as a run opens.
 use Rattle.std.specs.Prelude.{◌≡◌, ℕ, ℤ, ◌<◌, ◌≤◌, List, [], ◌∷◌, length, map, All, Option, None, Some, slice_index_or}
 use Rattle.std.specs.List.{slice_get}
-use Rattle.pg_machine.specs.Limits.{AreLimits, Limits}
-use Rattle.pg_machine.specs.Machine.{first_state}
-use Rattle.pg_core.specs.declared.beginning.Start.{Start}
-use Rattle.pg_core.specs.Traces.{HasLeft}
-use Rattle.pg_course.specs.Course.{AreTouched}
+use Rattle.pg_core_machine.specs.Limits.{AreLimits, Limits}
+use Rattle.pg_core_machine.specs.Machine.{first_state}
+use Rattle.pg_core.specs.declared.beginning.InitialCore.{InitialCore}
+use Rattle.pg_core.specs.Traces.{HasRetained}
+use Rattle.pg_part_run.specs.PartRun.{AreTouched}
 use Rattle.pg_global.specs.Master.{Master}
 use Rattle.pg_global.specs.Registry.{Registered}
 use Rattle.pg_graph.specs.Rows.{Rows, edge_count}
@@ -13,27 +13,29 @@ use Rattle.pg_graph.specs.declared.missing.Missing.{Missing}
 use Rattle.pg_model.specs.Job.{Deciding, Job, Program}
 use Rattle.pg_model.specs.Superstep.{capped, visible_in}
 use Rattle.pg_model.specs.declared.view.Visible.{Visible}
-use Rattle.pg_part.specs.Part.{HoldsShare, LeftOf, PartState}
-use Rattle.pg_recount.specs.Traffic.{AreMoved}
+use Rattle.pg_part.specs.Part.{HoldsShare, RetainedPartOf, PartState}
+use Rattle.pg_stats_counts.specs.MessageCounts.{AreMemberChanges}
 use Rattle.pg_stats.specs.GlobalStats.{aggregators_of}
 
 -- what a master shows in superstep 0 of a run on this graph, where these are the initial values
 abbrev pub first_visible : Deciding → Rows → List ℤ → Visible
-first_visible deciding rows gathered = visible_in deciding (record { vertices = length rows; edges = capped (edge_count rows) }) 0 gathered
+first_visible deciding rows gathered =
+    visible_in deciding (record { vertices = length rows; edges = capped (edge_count rows) }) 0 gathered
 
--- what a run has as it opens, besides its parts: the master's aggregators, the first state, what is shown in superstep 0,
--- and the initial values as all that was counted
-pub record HasStarted (master : Master) (rows : Rows) (limits : Limits) (start : Start) : Type 0 where
+-- what a run has as it opens, besides its parts: the master's aggregators, the first state, what is shown in superstep
+-- 0, and the initial values as all that was counted
+pub record HasStarted (master : Master) (rows : Rows) (limits : Limits) (start : InitialCore) : Type 0 where
   pub limits_are : AreLimits limits
   pub registry_is : start.registry ≡ master.registrations
   pub few : length master.registrations ≤ 16
   pub state_is : start.state ≡ first_state limits.partitions limits.workers
-  pub tally_is : start.tally ≡ record { gathered = map (λ a. a.initial) (aggregators_of master.registrations); sent = 0; dropped = 0 }
-  pub shown_is : start.shown.items ≡ first_visible master.deciding rows start.tally.gathered ∷ []
+  pub run_totals_is : start.run_totals
+      ≡ record { gathered = map (λ a. a.initial) (aggregators_of master.registrations); sent = 0; dropped = 0 }
+  pub shown_is : start.shown.items ≡ first_visible master.deciding rows start.run_totals.gathered ∷ []
   pub places : All (λ v. length v.values ≡ length master.registrations) start.shown.items
 
 module _ {V M : Type 0} where
-  -- a part is here, and holds its share as superstep 0 begins, beside the kept run, if any
+  -- a part is here, and holds its share as superstep 0 begins, against the kept run, if any
   abbrev pub HasBegun : Job V M → Option Rows → Rows → ℕ → ℕ → Option (PartState V M) → Type 0
   HasBegun job kept rows n p None = ⊥
   HasBegun job kept rows n p (Some part) = HoldsShare job kept rows n p 0 part
@@ -44,28 +46,31 @@ module _ {V M : Type 0} where
       (job : Job V M) → job.program ≡ program → job.missing ≡ missing → job.aggregators ≡ aggregators_of registered
       → (p : ℕ) → p < m → HasBegun job None rows n p (slice_index_or parts p None)
 
-  -- and beside the run on the kept rows where this is what its partitions left, all rows but those of the touched ids are
-  -- as they were, and those are the ids that came or went
-  abbrev pub HaveBegunWith : Program V M → Missing → Registered → Rows → List ℕ → List ℕ → List (LeftOf V M) → ℕ → ℕ → List (Option (PartState V M)) → Type 0
-  HaveBegunWith program missing registered rows touched moved lefts n m parts =
-      (job : Job V M) (kept : Rows) → job.program ≡ program → job.missing ≡ missing → job.aggregators ≡ aggregators_of registered
-      → AreTouched touched kept rows → AreMoved moved kept rows
-      → ((p : ℕ) → p < m → HasLeft job kept n p (slice_get lefts p))
+  -- and against the run on the kept rows where this is what its partitions left, all rows but those of the touched ids
+  -- are as they were, and those are the ids that came or went
+  abbrev pub HaveBegunWith : Program V M → Missing → Registered → Rows → List ℕ → List ℕ → List (RetainedPartOf V M) → ℕ
+      → ℕ → List (Option (PartState V M)) → Type 0
+  HaveBegunWith program missing registered rows touched member_changes retained_parts n m parts =
+      (job : Job V M) (kept : Rows) → job.program ≡ program → job.missing ≡ missing
+      → job.aggregators ≡ aggregators_of registered
+      → AreTouched touched kept rows → AreMemberChanges member_changes kept rows
+      → ((p : ℕ) → p < m → HasRetained job kept n p (slice_get retained_parts p))
       → (p : ℕ) → p < m → HasBegun job (Some kept) rows n p (slice_index_or parts p None)
 
   -- the same where no ids are given that came or went
-  abbrev pub HaveBegunBeside : Program V M → Missing → Registered → Rows → List ℕ → Rows → List (LeftOf V M) → ℕ → ℕ → List (Option (PartState V M)) → Type 0
-  HaveBegunBeside program missing registered rows touched kept lefts n m parts =
+  abbrev pub HaveBegunWarm : Program V M → Missing → Registered → Rows → List ℕ → Rows → List (RetainedPartOf V M) → ℕ
+      → ℕ → List (Option (PartState V M)) → Type 0
+  HaveBegunWarm program missing registered rows touched kept retained_parts n m parts =
       (job : Job V M) → job.program ≡ program → job.missing ≡ missing → job.aggregators ≡ aggregators_of registered
       → AreTouched touched kept rows
-      → ((p : ℕ) → p < m → HasLeft job kept n p (slice_get lefts p))
+      → ((p : ℕ) → p < m → HasRetained job kept n p (slice_get retained_parts p))
       → (p : ℕ) → p < m → HasBegun job (Some kept) rows n p (slice_index_or parts p None)
 
   -- a part is of partition p of n, and at superstep 0
   pub record IsFirst (n p : ℕ) (part : PartState V M) : Type 0 where
-    pub partition_is : part.course.partition ≡ p
-    pub partitions_are : part.course.partitions ≡ n
-    pub place_is : part.course.place ≡ 0
+    pub partition_is : part.part_run.partition ≡ p
+    pub partitions_are : part.part_run.partitions ≡ n
+    pub place_is : part.part_run.place ≡ 0
 
   -- it is here
   abbrev pub IsHereFirst : ℕ → ℕ → Option (PartState V M) → Type 0

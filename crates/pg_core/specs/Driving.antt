@@ -1,15 +1,16 @@
 -- What stays of a run over partitions as it is driven on, and the calls and the losses that its history tells of.
 use Rattle.std.specs.Prelude.{◌≡◌, ℕ, Bool, false, cond, List, Option, None}
-use Rattle.pg_machine.specs.Losses.{counts_in, losses_in}
-use Rattle.pg_machine.specs.Machine.{first_state}
+use Rattle.pg_core_machine.specs.Losses.{counts_in, losses_in}
+use Rattle.pg_core_machine.specs.Machine.{first_state}
 use Rattle.pg_core.specs.Progress.{Progress}
 use Rattle.pg_graph.specs.Rows.{Rows}
 use Rattle.pg_model.specs.Job.{Job}
 use Rattle.pg_model.specs.Needed.{needed_in}
 use Rattle.pg_model.specs.Share.{belongs}
 
-module _ {V M : Type 0} (value_eq : V → V → Bool) (message_eq : M → M → Bool) (job : Job V M) (rows : Rows) (n : ℕ) where
-  -- how many executions of partition p of n are needed in superstep r: beside the kept run, if any, unless a loss took
+module _ {V M : Type 0} (value_eq : V → V → Bool) (message_eq : M → M → Bool) (job : Job V M) (rows : Rows)
+    (n : ℕ) where
+  -- how many executions of partition p of n are needed in superstep r: against the kept run, if any, unless a loss took
   -- the partition, and all then
   abbrev pub needs_of : Option Rows → Bool → ℕ → ℕ → ℕ
   needs_of kept lost p r = needed_in value_eq message_eq job (cond lost None kept) rows (belongs n p) r

@@ -8,4 +8,4 @@ use Rattle.pg_stats.specs.declared.stats.PartitionStats.{PartitionStats}
 -- what a part that is here has come to as its superstep begins
 abbrev pub stats_here : {V M : Type 0} → Option (PartState V M) → List PartitionStats
 stats_here None = []
-stats_here (Some part) = option_to_list (slice_get part.stats part.course.place)
+stats_here (Some part) = option_to_list (slice_get part.stats part.part_run.place)

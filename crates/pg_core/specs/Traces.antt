@@ -1,39 +1,39 @@
--- What a whole run over partitions leaves, for a run beside it.
+-- What a whole run over partitions leaves, for a warm run after it.
 use Rattle.std.specs.Prelude.{◌≡◌, ℕ, ◌<◌, nat_lt, cond, List, map, length, slice_index_or, Option, None, Some}
 use Rattle.std.specs.List.{range_with_len, slice_get}
 use Rattle.pg_graph.specs.Rows.{Rows}
-use Rattle.pg_inbox.specs.Logged.{Slots, slot_at}
+use Rattle.pg_inbox.specs.LoggedBundle.{Slots, slot_at}
 use Rattle.pg_model.specs.Job.{Job}
 use Rattle.pg_model.specs.Run.{configuration, run_length, values_of, visible_at}
 use Rattle.pg_model.specs.declared.view.Visible.{Visible}
-use Rattle.pg_routing.specs.Routes.{bundle_in, bundle_sent}
-use Rattle.pg_part.specs.Part.{IsLeft, LeftOf, PartState}
-use Rattle.pg_values.specs.Values.{Ended, HasEnded}
+use Rattle.pg_part_routing.specs.Routes.{bundle_in, bundle_sent}
+use Rattle.pg_part.specs.Part.{IsRetained, RetainedPartOf, PartState}
+use Rattle.pg_core_values.specs.Values.{Ended, HasEnded}
 
 -- what all partitions of a run have in common: what they sent, what the master showed in each superstep, and the values
 -- with which the vertices ended
-pub record Common (V M : Type 0) : Type 0 where
+pub record RetainedRun (V M : Type 0) : Type 0 where
   pub logs : Slots M
   pub shown : List Visible
   pub values : List (ℕ × V)
 
 -- what the partitions left, by partition, the graph, and what all partitions have in common
 pub record Traces (V M : Type 0) : Type 0 where
-  pub lefts : List (LeftOf V M)
+  pub retained_parts : List (RetainedPartOf V M)
   pub graph : Rows
-  pub common : Common V M
+  pub retained_run : RetainedRun V M
 
 -- what a step in superstep s is lent of a kept run: its logs and what was visible, where that run has the superstep
-abbrev pub logs_in : {V M : Type 0} → ℕ → Option (Common V M) → Option (Slots M)
+abbrev pub logs_in : {V M : Type 0} → ℕ → Option (RetainedRun V M) → Option (Slots M)
 logs_in s None = None
 logs_in s (Some kept) = cond (nat_lt s (length kept.shown)) (Some kept.logs) None
 
-abbrev pub visible_in : {V M : Type 0} → ℕ → Option (Common V M) → Option Visible
+abbrev pub visible_in : {V M : Type 0} → ℕ → Option (RetainedRun V M) → Option Visible
 visible_in s None = None
 visible_in s (Some kept) = slice_get kept.shown s
 
 -- how it ended
-abbrev pub ended_by : {V M : Type 0} → Common V M → Ended V
+abbrev pub ended_by : {V M : Type 0} → RetainedRun V M → Ended V
 ended_by kept = record { values = kept.values; supersteps = length kept.shown }
 
 module _ {V M : Type 0} (job : Job V M) where
@@ -41,35 +41,36 @@ module _ {V M : Type 0} (job : Job V M) where
   abbrev pub shown_below : Rows → ℕ → List Visible
   shown_below rows s = map (visible_at job rows) (range_with_len 0 s)
 
-  -- this is what n partitions have in common of the whole run: what each of them sent in each superstep, all that was shown,
-  -- and the values of the answer
-  pub record IsCommonOf (rows : Rows) (n : ℕ) (kept : Common V M) : Type 0 where
-    pub sent : (s p q : ℕ) → s < run_length job rows → p < n → q < n → bundle_in (slot_at kept.logs s p q) ≡ Some (bundle_sent job rows n p q s)
+  -- this is what n partitions have in common of the whole run: what each of them sent in each superstep, all that was
+  -- shown, and the values of the answer
+  pub record IsRetainedRunOf (rows : Rows) (n : ℕ) (kept : RetainedRun V M) : Type 0 where
+    pub sent : (s p q : ℕ) → s < run_length job rows → p < n → q < n
+        → bundle_in (slot_at kept.logs s p q) ≡ Some (bundle_sent job rows n p q s)
     pub shown : kept.shown ≡ shown_below rows (run_length job rows)
     pub values : kept.values ≡ values_of job rows (configuration job rows (run_length job rows))
 
   -- those of the kept run, where there is one
-  abbrev pub KeepsCommon : Option Rows → ℕ → Option (Common V M) → Type 0
-  KeepsCommon None n kept = kept ≡ None
-  KeepsCommon (Some rows) n None = ⊥
-  KeepsCommon (Some rows) n (Some kept) = IsCommonOf rows n kept
+  abbrev pub KeepsRetainedRun : Option Rows → ℕ → Option (RetainedRun V M) → Type 0
+  KeepsRetainedRun None n kept = kept ≡ None
+  KeepsRetainedRun (Some rows) n None = ⊥
+  KeepsRetainedRun (Some rows) n (Some kept) = IsRetainedRunOf rows n kept
 
   -- this is what partition p of n leaves
-  abbrev pub HasLeft : Rows → ℕ → ℕ → Option (LeftOf V M) → Type 0
-  HasLeft rows n p None = ⊥
-  HasLeft rows n p (Some left) = IsLeft job rows n p left
+  abbrev pub HasRetained : Rows → ℕ → ℕ → Option (RetainedPartOf V M) → Type 0
+  HasRetained rows n p None = ⊥
+  HasRetained rows n p (Some retained) = IsRetained job rows n p retained
 
   -- this is what the run on these rows leaves, over n partitions
-  pub record IsLeftBy (rows : Rows) (n : ℕ) (left : Traces V M) : Type 0 where
-    pub each : length left.lefts ≡ n
-    pub whole : (p : ℕ) → p < n → HasLeft rows n p (slice_get left.lefts p)
-    pub graph_is : left.graph ≡ rows
-    pub common : IsCommonOf rows n left.common
+  pub record IsRetainedBy (rows : Rows) (n : ℕ) (retained : Traces V M) : Type 0 where
+    pub each : length retained.retained_parts ≡ n
+    pub whole : (p : ℕ) → p < n → HasRetained rows n p (slice_get retained.retained_parts p)
+    pub graph_is : retained.graph ≡ rows
+    pub retained_run : IsRetainedRunOf rows n retained.retained_run
 
--- parts that have ended a run of s supersteps, each beside the run that is kept for it, if any, left this, by partition, as
--- far as m partitions
-abbrev pub HaveLeft : {V M : Type 0} → ℕ → List (Option (PartState V M)) → ℕ → List (LeftOf V M) → Type 0
-HaveLeft {V} {M} s parts m lefts =
+-- parts that have ended a run of s supersteps, each against the run that is kept for it, if any, left this, by
+-- partition, as far as m partitions
+abbrev pub HaveRetained : {V M : Type 0} → ℕ → List (Option (PartState V M)) → ℕ → List (RetainedPartOf V M) → Type 0
+HaveRetained {V} {M} s parts m retained_parts =
     (job : Job V M) (keeps : ℕ → Option Rows) (rows : Rows) (n : ℕ) → s ≡ run_length job rows
     → ((p : ℕ) → p < m → HasEnded job (keeps p) rows n p (slice_index_or parts p None))
-    → (p : ℕ) → p < m → HasLeft job rows n p (slice_get lefts p)
+    → (p : ℕ) → p < m → HasRetained job rows n p (slice_get retained_parts p)

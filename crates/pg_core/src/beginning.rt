@@ -1,37 +1,37 @@
 //! What stands as a run over partitions opens.
 ghost use Rattle.std.specs.Prelude.{◌≡◌, ◌≤◌, length, map, [], ◌∷◌, All, None, IfOk, OnOk};
-ghost use Rattle.pg_core.specs.Beginning.{AreFirst, HasStarted, HaveBegun, HaveBegunBeside, HaveBegunWith, first_visible};
+ghost use Rattle.pg_core.specs.Beginning.{AreFirst, HasStarted, HaveBegun, HaveBegunWarm, HaveBegunWith, first_visible};
 ghost use Rattle.pg_global.specs.Registry.{aggregating_of, first_refusal};
 ghost use Rattle.pg_model.specs.Superstep.{visible_in};
 
 use crate::running::partitioner_of;
-use crate::traces::Common;
-use crate::{Limits, State, Tally, Traces};
+use crate::traces::RetainedRun;
+use crate::{Limits, RunTotals, State, Traces};
 use pg_global::{Aggregator, MasterCompute, MasterState, Registry, Visible};
 use pg_graph::{Graph, Memory, PartitionId, Superstep, VertexId};
 use pg_model::Sequence;
-use pg_part::{Left, Part, moved};
+use pg_part::{Part, RetainedPart, member_changes};
 use pg_program::Computation;
 use std::alloc::{AllocError, Global};
 
 /// What a run has as it opens, besides its parts: the master's aggregators, where it stands, what the master shows in
 /// superstep 0, and what was counted.
 #[derive(Drop)]
-pub(crate) struct Start {
+pub(crate) struct InitialCore {
     pub(crate) registry: Registry,
     pub(crate) state: State,
     pub(crate) shown: Vec<Visible>,
-    pub(crate) tally: Tally,
+    pub(crate) run_totals: RunTotals,
 }
 
-impl Start {
+impl InitialCore {
     /// What a run on a graph has.
     pub(crate) fn of<M: MasterCompute>(
         alloc: Global,
         graph: &Graph,
         master: &M,
         limits: Limits,
-    ) -> Result<Start, Memory>
+    ) -> Result<InitialCore, Memory>
         requires { first_refusal [] (M.master master.now).registrations ≡ None }
         ensures { IfOk result (λ start. HasStarted (M.master master.now) graph.now limits start) }
     {
@@ -39,16 +39,16 @@ impl Start {
         let gathered = initial_values(alloc, &registry)?;
         let shown = first_shown(alloc, graph, master, &gathered)?;
         let state = State::first(alloc, limits.partitions(), limits.workers())?;
-        let tally = Tally {
+        let run_totals = RunTotals {
             gathered,
             sent: 0,
             dropped: 0,
         };
-        Ok(Start {
+        Ok(InitialCore {
             registry,
             state,
             shown,
-            tally,
+            run_totals,
         })
     }
 }
@@ -147,10 +147,10 @@ pub(crate) fn begun_parts<P: Computation>(
     Ok(parts)
 }
 
-/// The same beside an old run, with all that it left and with ids outside of which the graph's rows are those of its
-/// graph; and what the old run's partitions have in common. Costs a sort of k such ids, k look-ups for each partition, and
-/// a count a superstep of the old run.
-pub(crate) fn begun_parts_beside<P: Computation>(
+/// The same against an old run, with all that it left and with ids outside of which the graph's rows are those of its
+/// graph; and what the old run's partitions have in common. Costs a sort of k such ids, k look-ups for each partition,
+/// and a count a superstep of the old run.
+pub(crate) fn begun_parts_warm<P: Computation>(
     alloc: Global,
     graph: &Graph,
     limits: Limits,
@@ -161,24 +161,31 @@ pub(crate) fn begun_parts_beside<P: Computation>(
 ) -> Result<
     (
         Vec<Option<Part<P::Value, P::Message>>>,
-        Common<P::Value, P::Message>,
+        RetainedRun<P::Value, P::Message>,
     ),
     Memory,
 >
-    requires { length old.lefts ≡ limits.partitions }
+    requires { length old.retained_parts ≡ limits.partitions }
     ensures each { IfOk result (λ begun. length begun.0.items ≡ limits.partitions) }
     ensures first { IfOk result (λ begun. AreFirst limits.partitions limits.partitions begun.0.items) }
-    ensures begun { IfOk result (λ begun. HaveBegunBeside (P.program program.now) limits.missing registry.now
-        graph.now touched.now old.graph old.lefts limits.partitions limits.partitions begun.0.items) }
-    ensures common { IfOk result (λ begun. begun.1 ≡ old.common) }
+    ensures begun { IfOk result (λ begun. HaveBegunWarm (P.program program.now) limits.missing registry.now
+        graph.now touched.now old.graph old.retained_parts limits.partitions limits.partitions begun.0.items) }
+    ensures retained_run { IfOk result (λ begun. begun.1 ≡ old.retained_run) }
 {
-    let (lefts, before, common) = old.into_parts();
-    let moved = moved(alloc, &before, graph, touched)?;
-    let moved = moved.as_slice();
+    let (retained_parts, before, retained_run) = old.into_parts();
+    let member_changes = member_changes(alloc, &before, graph, touched)?;
+    let member_changes = member_changes.as_slice();
     let parts = begun_with(
-        alloc, graph, limits, registry, lefts, touched, moved, program,
+        alloc,
+        graph,
+        limits,
+        registry,
+        retained_parts,
+        touched,
+        member_changes,
+        program,
     )?;
-    Ok((parts, common))
+    Ok((parts, retained_run))
 }
 
 /// The same, where these of the ids are a vertex of just one of the two graphs.
@@ -187,32 +194,32 @@ fn begun_with<P: Computation>(
     graph: &Graph,
     limits: Limits,
     registry: &Registry,
-    lefts: Vec<Left<P::Value, P::Message>>,
+    retained_parts: Vec<RetainedPart<P::Value, P::Message>>,
     touched: &[VertexId],
-    moved: &[VertexId],
+    member_changes: &[VertexId],
     program: &P,
 ) -> Result<Vec<Option<Part<P::Value, P::Message>>>, Memory>
-    requires { length lefts.items ≡ limits.partitions }
+    requires { length retained_parts.items ≡ limits.partitions }
     ensures each { IfOk result (λ parts. length parts.items ≡ limits.partitions) }
     ensures first { IfOk result (λ parts. AreFirst limits.partitions limits.partitions parts.items) }
     ensures begun { IfOk result (λ parts. HaveBegunWith (P.program program.now) limits.missing registry.now
-        graph.now touched.now moved.now lefts.items limits.partitions limits.partitions parts.items) }
+        graph.now touched.now member_changes.now retained_parts.items limits.partitions limits.partitions parts.items) }
 {
     let partitioner = partitioner_of(limits);
     // Tells the prover that there are at most 64.
     partitioner.partitions();
     let mut parts = Vec::new(alloc);
     let mut partition = 0u32;
-    for left in lefts {
+    for retained in retained_parts {
         let rows = partitioner.rows(graph, PartitionId::new(partition));
-        let part = Part::begin_beside(
+        let part = Part::begin_warm(
             alloc,
             rows,
             limits.missing(),
             registry,
-            left,
+            retained,
             touched,
-            moved,
+            member_changes,
             program,
         )?;
         parts.push(Some(part))?;

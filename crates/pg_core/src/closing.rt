@@ -1,16 +1,16 @@
 //! Closing the open superstep of a run over partitions.
 ghost use Rattle.std.specs.Prelude.{◌≡◌, ◌+◌, ◌<◌, ◌≤◌, ◌==◌, true, cond, length, None, Option, Some, IfOk, OnOk};
 ghost use Rattle.pg_core.specs.Closing.{ClosesRight, HasClosed, with_end, with_next};
-ghost use Rattle.pg_machine.specs.Machine.{is_allowed};
-ghost use Rattle.pg_core.specs.Progress.{IsRight, job_by};
+ghost use Rattle.pg_core_machine.specs.Machine.{is_allowed};
+ghost use Rattle.pg_core.specs.Progress.{IsRight, job_of_core};
 ghost use Rattle.pg_graph.specs.Rows.{Rows};
 ghost use Rattle.pg_model.specs.Run.{configuration, ending_after};
 ghost use Rattle.pg_model.specs.Superstep.{visible_in};
 ghost use Rattle.pg_stats.specs.GlobalStats.{AreStatsBetween};
 
 use crate::beginning::{copied, shown_in};
-use crate::together::together;
-use crate::{Closed, Core, Event, Tally};
+use crate::combined_stats::combined_stats;
+use crate::{Closed, Core, Event, RunTotals};
 use pg_global::{MasterCompute, MessageCombiner};
 use pg_graph::{Memory, Superstep};
 use pg_model::Ending;
@@ -34,20 +34,20 @@ impl<'a, P: Computation, C: MessageCombiner<P::Message>, M: MasterCompute> Core<
     pub fn close(&mut self, alloc: Global) -> Result<Closed, Memory>
         requires { is_allowed self.old.state (Event.Close Closed.Next) ≡ true }
         ensures core { IfOk result (λ closed. HasClosed closed self.old self.new) }
-        ensures right { let job = job_by P.program C.combining M.master self.old in
+        ensures right { let job = job_of_core P.program C.combining M.master self.old in
             IfOk result (λ closed. (kept : Option Rows) → IsRight job kept self.old
             → ClosesRight job kept closed self.old self.new) }
     {
-        let stats = self.come_to(alloc)?;
+        let stats = self.current_stats(alloc)?;
         self.close_with(alloc, stats)
     }
 
     /// What the partitions have come to in the open superstep, together.
-    fn come_to(&self, alloc: Global) -> Result<GlobalStats, Memory>
+    fn current_stats(&self, alloc: Global) -> Result<GlobalStats, Memory>
         requires { is_allowed self.now.state (Event.Close Closed.Next) ≡ true }
         ensures places { IfOk result
             (λ stats. length stats.gathered ≡ length (M.master self.now.master).registrations) }
-        ensures right { let job = job_by P.program C.combining M.master self.now in
+        ensures right { let job = job_of_core P.program C.combining M.master self.now in
             IfOk result (λ stats. (kept : Option Rows) → IsRight job kept self.now
             → AreStatsBetween (configuration job self.now.graph self.now.state.current)
             (configuration job self.now.graph (self.now.state.current + 1)) stats) }
@@ -56,7 +56,7 @@ impl<'a, P: Computation, C: MessageCombiner<P::Message>, M: MasterCompute> Core<
         self.limits.limit();
         let visible = self.visible(self.state.current());
         let seen = visible.values.as_slice();
-        let stats = together(alloc, &self.registry, seen, self.parts.as_slice())?;
+        let stats = combined_stats(alloc, &self.registry, seen, self.parts.as_slice())?;
         Ok(stats)
     }
 
@@ -66,7 +66,7 @@ impl<'a, P: Computation, C: MessageCombiner<P::Message>, M: MasterCompute> Core<
         requires allowed { is_allowed self.old.state (Event.Close Closed.Next) ≡ true }
         requires places { length stats.gathered ≡ length (M.master self.old.master).registrations }
         ensures core { IfOk result (λ closed. HasClosed closed self.old self.new) }
-        ensures right { let job = job_by P.program C.combining M.master self.old in
+        ensures right { let job = job_of_core P.program C.combining M.master self.old in
             IfOk result (λ closed. (kept : Option Rows) → IsRight job kept self.old
             → AreStatsBetween (configuration job self.old.graph self.old.state.current)
             (configuration job self.old.graph (self.old.state.current + 1)) stats
@@ -74,14 +74,14 @@ impl<'a, P: Computation, C: MessageCombiner<P::Message>, M: MasterCompute> Core<
     {
         let ending = self.ending_with(&stats);
         let (vertices, edges) = (stats.vertices, stats.edges);
-        let tally = self.tally.after(stats);
+        let run_totals = self.run_totals.after(stats);
         match ending {
             Some(ending) => {
-                self.end(ending, tally)?;
+                self.end(ending, run_totals)?;
                 Ok(Closed::Ended)
             }
             None => {
-                self.open_next(alloc, vertices, edges, tally)?;
+                self.open_next(alloc, vertices, edges, run_totals)?;
                 Ok(Closed::Next)
             }
         }
@@ -90,7 +90,7 @@ impl<'a, P: Computation, C: MessageCombiner<P::Message>, M: MasterCompute> Core<
     /// Why the run ends with the open superstep, if it does, where this is what the partitions have come to.
     fn ending_with(&self, stats: &GlobalStats) -> Option<Ending>
         ensures goes_on { result ≡ None → self.now.state.current + 1 < self.now.limits.limit }
-        ensures right { let job = job_by P.program C.combining M.master self.now in
+        ensures right { let job = job_of_core P.program C.combining M.master self.now in
             (kept : Option Rows) → IsRight job kept self.now
             → AreStatsBetween (configuration job self.now.graph self.now.state.current)
             (configuration job self.now.graph (self.now.state.current + 1)) stats.now
@@ -103,16 +103,16 @@ impl<'a, P: Computation, C: MessageCombiner<P::Message>, M: MasterCompute> Core<
     }
 
     /// The run has ended with the open superstep.
-    fn end(&mut self, ending: Ending, tally: Tally) -> Result<(), Memory>
+    fn end(&mut self, ending: Ending, run_totals: RunTotals) -> Result<(), Memory>
         requires allowed { is_allowed self.old.state (Event.Close Closed.Next) ≡ true }
-        requires places { length tally.gathered ≡ length (M.master self.old.master).registrations }
-        ensures { OnOk result (self.new ≡ with_end ending tally self.old) }
+        requires places { length run_totals.gathered ≡ length (M.master self.old.master).registrations }
+        ensures { OnOk result (self.new ≡ with_end ending run_totals self.old) }
     {
         // Tells the prover the most that it may be.
         self.limits.limit();
         self.history.push(Event::Close(Closed::Ended))?;
         self.state.close(Closed::Ended);
-        self.tally = tally;
+        self.run_totals = run_totals;
         self.ending = Some(ending);
         Ok(())
     }
@@ -123,23 +123,23 @@ impl<'a, P: Computation, C: MessageCombiner<P::Message>, M: MasterCompute> Core<
         alloc: Global,
         vertices: u64,
         edges: u64,
-        tally: Tally,
+        run_totals: RunTotals,
     ) -> Result<(), Memory>
         requires allowed { is_allowed self.old.state (Event.Close Closed.Next) ≡ true }
         requires goes_on { self.old.state.current + 1 < self.old.limits.limit }
-        requires places { length tally.gathered ≡ length (M.master self.old.master).registrations }
+        requires places { length run_totals.gathered ≡ length (M.master self.old.master).registrations }
         ensures { let visible = visible_in (M.master self.old.master).deciding
             (record { vertices = vertices; edges = edges })
-            (self.old.state.current + 1) tally.gathered in
-            OnOk result (self.new ≡ with_next visible tally self.old) }
+            (self.old.state.current + 1) run_totals.gathered in
+            OnOk result (self.new ≡ with_next visible run_totals self.old) }
     {
         let next = self.next_superstep();
-        let seen = copied(alloc, &tally.gathered)?;
+        let seen = copied(alloc, &run_totals.gathered)?;
         let visible = shown_in(alloc, self.master, next, vertices, edges, seen)?;
         self.shown.push(visible)?;
         self.history.push(Event::Close(Closed::Next))?;
         self.state.close(Closed::Next);
-        self.tally = tally;
+        self.run_totals = run_totals;
         Ok(())
     }
 

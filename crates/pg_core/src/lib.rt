@@ -3,15 +3,15 @@
 
 mod beginning;
 mod closing;
+mod combined_stats;
 mod finishing;
 mod losing;
+mod run_totals;
 mod running;
-mod tally;
-mod together;
 mod traces;
 
 pub use finishing::Finished;
-pub use pg_machine::{Closed, Event, Limits, State};
+pub use pg_core_machine::{Closed, Event, Limits, State};
+pub use run_totals::RunTotals;
 pub use running::Core;
-pub use tally::Tally;
-pub use traces::{Spent, Traces};
+pub use traces::{DeferredDrop, Traces};

@@ -1,11 +1,13 @@
 //! Workers that fall, and the recovery of the partitions that they hosted.
-ghost use Rattle.std.specs.Prelude.{◌≡◌, ℕ, ◌<◌, ◌≤◌, ◌==◌, ◌&&◌, true, cond, length, None, Option, Some, IfOk, IfSome, OnOk, slice_index_or};
-ghost use Rattle.pg_core.specs.Losing.{AreLost, HasFallen, HasSentAgain, HasSentIn, IsAsFound, IsForgotten, IsOf, IsRestored, IsShareFound};
+ghost use Rattle.std.specs.Prelude.{◌≡◌, ℕ, ◌<◌, ◌≤◌, ◌==◌, ◌&&◌, true, cond, length, None, Option, Some, IfOk, IfSome};
+ghost use Rattle.std.specs.Prelude.{OnOk, slice_index_or};
+ghost use Rattle.pg_core.specs.Losing.{AreLost, HasFallen, HasSentAgain, HasSentIn, IsAsFound, IsForgotten, IsOf};
+ghost use Rattle.pg_core.specs.Losing.{IsRestored, IsShareFound};
 ghost use Rattle.pg_core.specs.Losing.{place_found, with_event};
-ghost use Rattle.pg_core.specs.Progress.{IsRight, job_by};
+ghost use Rattle.pg_core.specs.Progress.{IsRight, job_of_core};
 ghost use Rattle.pg_graph.specs.Rows.{Rows};
-ghost use Rattle.pg_inbox.specs.Logged.{slot_at};
-ghost use Rattle.pg_machine.specs.Machine.{is_allowed};
+ghost use Rattle.pg_inbox.specs.LoggedBundle.{slot_at};
+ghost use Rattle.pg_core_machine.specs.Machine.{is_allowed};
 
 use crate::running::{partitioner_of, put_all, put_part};
 use crate::{Core, Event, State};
@@ -22,7 +24,7 @@ impl<'a, P: Computation, C: MessageCombiner<P::Message>, M: MasterCompute> Core<
     pub fn lose(&mut self, worker: WorkerId) -> Result<(), Memory>
         requires { is_allowed self.old.state (Event.Lose worker) ≡ true }
         ensures core { OnOk result (HasFallen worker self.old self.new) }
-        ensures right { let job = job_by P.program C.combining M.master self.old in
+        ensures right { let job = job_of_core P.program C.combining M.master self.old in
             OnOk result ((kept : Option Rows)
             → IsRight job kept self.old → IsRight job kept self.new) }
     {
@@ -43,7 +45,7 @@ impl<'a, P: Computation, C: MessageCombiner<P::Message>, M: MasterCompute> Core<
     pub fn host(&mut self, partition: PartitionId, worker: WorkerId) -> Result<(), Memory>
         requires { is_allowed self.old.state (Event.Host partition worker) ≡ true }
         ensures core { OnOk result (self.new ≡ with_event (Event.Host partition worker) self.old) }
-        ensures right { let job = job_by P.program C.combining M.master self.old in
+        ensures right { let job = job_of_core P.program C.combining M.master self.old in
             OnOk result ((kept : Option Rows)
             → IsRight job kept self.old → IsRight job kept self.new) }
     {
@@ -56,7 +58,7 @@ impl<'a, P: Computation, C: MessageCombiner<P::Message>, M: MasterCompute> Core<
     pub fn saved(&mut self, partition: PartitionId) -> Result<(), Memory>
         requires { is_allowed self.old.state (Event.Save partition) ≡ true }
         ensures core { OnOk result (self.new ≡ with_event (Event.Save partition) self.old) }
-        ensures right { let job = job_by P.program C.combining M.master self.old in
+        ensures right { let job = job_of_core P.program C.combining M.master self.old in
             OnOk result ((kept : Option Rows)
             → IsRight job kept self.old → IsRight job kept self.new) }
     {
@@ -65,7 +67,7 @@ impl<'a, P: Computation, C: MessageCombiner<P::Message>, M: MasterCompute> Core<
         Ok(())
     }
 
-    /// A lost partition goes on from the part that was found, or from superstep 0 where none was, beside no old run.
+    /// A lost partition goes on from the part that was found, or from superstep 0 where none was, without an old run.
     /// What the part has sent on its way is sent again, to be read by partitions that are behind and by the next run.
     /// Costs a copy of each message that the part has recorded; from superstep 0 on, one walk over the graph's rows.
     /// Where memory is refused the core is to be given up.
@@ -78,7 +80,7 @@ impl<'a, P: Computation, C: MessageCombiner<P::Message>, M: MasterCompute> Core<
         requires allowed { is_allowed self.old.state (Event.Restore partition (place_found found)) ≡ true }
         requires own { IfSome found (IsOf self.old.limits.partitions partition) }
         ensures core { OnOk result (IsRestored (C.combining self.old.combiner) partition found self.old self.new) }
-        ensures right { let job = job_by P.program C.combining M.master self.old in
+        ensures right { let job = job_of_core P.program C.combining M.master self.old in
             OnOk result ((kept : Option Rows) → IsRight job kept self.old
             → IsShareFound job self.old partition found → IsRight job kept self.new) }
     {
@@ -102,7 +104,7 @@ impl<'a, P: Computation, C: MessageCombiner<P::Message>, M: MasterCompute> Core<
         requires own { IfSome found (IsOf self.now.limits.partitions partition) }
         ensures found { IfOk result (IsAsFound found) }
         ensures own { IfOk result (IsOf self.now.limits.partitions partition) }
-        ensures share { let job = job_by P.program C.combining M.master self.now in
+        ensures share { let job = job_of_core P.program C.combining M.master self.now in
             IfOk result (λ part. IsShareFound job self.now partition found
             → IsShareFound job self.now partition (Some part)) }
     {
@@ -169,9 +171,9 @@ fn send_again<V: Plain, M: Plain, C: MessageCombiner<M>>(
     part: &Part<V, M>,
     combiner: &C,
 ) -> Result<(), Memory>
-    requires { part.now.course.partitions ≤ 64 }
-    ensures { OnOk result (HasSentAgain (C.combining combiner.now) part.now.course.partitions partition
-        part.now.course.place part.now.course.trace logs.old logs.new) }
+    requires { part.now.part_run.partitions ≤ 64 }
+    ensures { OnOk result (HasSentAgain (C.combining combiner.now) part.now.part_run.partitions partition
+        part.now.part_run.place part.now.part_run.trace logs.old logs.new) }
 {
     for number in 0..part.place().number() {
         send_again_in(
@@ -195,10 +197,10 @@ fn send_again_in<V: Plain, M: Plain, C: MessageCombiner<M>>(
     superstep: Superstep,
     combiner: &C,
 ) -> Result<(), Memory>
-    requires few { part.now.course.partitions ≤ 64 }
-    requires before { superstep < part.now.course.place }
-    ensures { OnOk result (HasSentIn (C.combining combiner.now) part.now.course.partitions partition
-        superstep part.now.course.trace logs.old logs.new) }
+    requires few { part.now.part_run.partitions ≤ 64 }
+    requires before { superstep < part.now.part_run.place }
+    ensures { OnOk result (HasSentIn (C.combining combiner.now) part.now.part_run.partitions partition
+        superstep part.now.part_run.trace logs.old logs.new) }
 {
     let sent = part.sent_in(alloc, superstep, combiner)?;
     put_all(alloc, logs, superstep, partition, sent.into_bundles())

@@ -1,32 +1,34 @@
 //! The core: a run over partitions between two events.
-ghost use Rattle.std.specs.Prelude.{◌≡◌, ℕ, ◌+◌, ◌<◌, ◌≤◌, ◌∷◌, ◌++◌, [], true, cond, is_some, length, All, Option, None, Some, IsSome};
+ghost use Rattle.std.specs.Prelude.{◌≡◌, ℕ, ◌+◌, ◌<◌, ◌≤◌, ◌∷◌, ◌++◌, [], true, cond, is_some, length, All, Option};
+ghost use Rattle.std.specs.Prelude.{None, Some, IsSome};
 ghost use Rattle.std.specs.Prelude.{IfErr, IfOk, IfSome, OnOk, slice_get, slice_index_or, slice_set, take};
-ghost use Rattle.pg_machine.specs.Machine.{Reaches, RestoresFollowLosses, StepsTell, first_state, host_of, is_alive, is_allowed};
-ghost use Rattle.pg_core.specs.Progress.{HasPut, IsNext, IsOpened, IsPartAt, IsRight, IsStepLent, IsStepOf, TakesIn};
-ghost use Rattle.pg_core.specs.Progress.{is_ready as ready_test, job_by, part_at, ready_of, without_part};
+ghost use Rattle.pg_core_machine.specs.Machine.{Reaches, RestoresFollowLosses, StepsTell, first_state, host_of};
+ghost use Rattle.pg_core_machine.specs.Machine.{is_alive, is_allowed};
+ghost use Rattle.pg_core.specs.Progress.{HasPut, IsNext, IsOpened, IsPartAt, IsRight, HasStepInput, IsStepOf, TakesIn};
+ghost use Rattle.pg_core.specs.Progress.{is_ready as ready_test, job_of_core, part_at, ready_of, without_part};
 ghost use Rattle.pg_core.specs.Beginning.{AreFirst, HasBegun, HasStarted};
 ghost use Rattle.pg_core.specs.Closing.{IsFinished};
 ghost use Rattle.pg_core.specs.Driving.{calls_in, losses_of};
 ghost use Rattle.pg_global.specs.Master.{has_places, is_registered, job_of};
 ghost use Rattle.pg_global.specs.Registry.{first_refusal};
-ghost use Rattle.pg_core.specs.Traces.{IsLeftBy, KeepsCommon, logs_in, visible_in};
-ghost use Rattle.pg_course.specs.Course.{AreTouched};
+ghost use Rattle.pg_core.specs.Traces.{IsRetainedBy, KeepsRetainedRun, logs_in, visible_in};
+ghost use Rattle.pg_part_run.specs.PartRun.{AreTouched};
 ghost use Rattle.std.specs.Option.{option_copied};
 ghost use Rattle.pg_graph.specs.Rows.{Rows};
 ghost use Rattle.pg_model.specs.Needed.{needed_count};
 ghost use Rattle.pg_model.specs.Run.{configuration, values_of, visible_at};
 
-use crate::beginning::{Start, begun_parts, begun_parts_beside};
+use crate::beginning::{InitialCore, begun_parts, begun_parts_warm};
 use crate::finishing::{Finished, finished};
-use crate::traces::Common;
-use crate::{Event, Limits, State, Tally, Traces};
+use crate::traces::RetainedRun;
+use crate::{Event, Limits, RunTotals, State, Traces};
+use pg_core_values::Values;
 use pg_global::{MasterCompute, MessageCombiner, Registry, Visible};
 use pg_graph::{Graph, Memory, PartitionId, Superstep, VertexId, WorkerId};
-use pg_inbox::{Logged, Logs};
+use pg_inbox::{LoggedBundle, Logs};
 use pg_model::Ending;
 use pg_part::{Part, Partitioner, Sent};
 use pg_program::{Computation, Plain};
-use pg_values::Values;
 use std::alloc::Global;
 use std::marker::Model;
 
@@ -44,10 +46,10 @@ pub struct Core<'a, P: Computation, C: MessageCombiner<P::Message>, M: MasterCom
     pub(crate) parts: Vec<Option<Part<P::Value, P::Message>>>,
     pub(crate) logs: Logs<P::Message>,
     pub(crate) shown: Vec<Visible>,
-    pub(crate) tally: Tally,
+    pub(crate) run_totals: RunTotals,
     pub(crate) registry: Registry,
     pub(crate) ending: Option<Ending>,
-    pub(crate) kept: Option<Common<P::Value, P::Message>>,
+    pub(crate) kept: Option<RetainedRun<P::Value, P::Message>>,
 }
 
 // By hand, so that it is let go by one call wherever that is, and not field by field.
@@ -66,7 +68,7 @@ impl<'a, P: Computation, C: MessageCombiner<P::Message>, M: MasterCompute> Drop
             parts: _,
             logs: _,
             shown: _,
-            tally: _,
+            run_totals: _,
             registry: _,
             ending: _,
             kept: _,
@@ -92,14 +94,14 @@ impl<'a, P: Computation, C: MessageCombiner<P::Message>, M: MasterCompute> Model
       parts = c.parts.items;
       logs = c.logs;
       shown = c.shown.items;
-      tally = c.tally;
+      run_totals = c.run_totals;
       ending = c.ending;
       kept = c.kept;
     } };
 
     ghost invariant = { λ c. IsLawful c.limits (P.program c.program.now).declared
         (M.master c.master.now).registrations c.registry c.state c.history.items c.parts.items
-        c.shown.items c.tally };
+        c.shown.items c.run_totals };
 }
 
 impl<'a, P: Computation, C: MessageCombiner<P::Message>, M: MasterCompute> Core<'a, P, C, M> {
@@ -119,19 +121,20 @@ impl<'a, P: Computation, C: MessageCombiner<P::Message>, M: MasterCompute> Core<
         ensures opened { IfOk result
             (λ core. IsOpened core program.now combiner.now master.now graph.now limits run) }
         ensures right { IfOk result
-            (λ core. IsRight (job_by P.program C.combining M.master core) None core) }
+            (λ core. IsRight (job_of_core P.program C.combining M.master core) None core) }
     {
-        let start = Start::of(alloc, graph, master, limits)?;
+        let start = InitialCore::of(alloc, graph, master, limits)?;
         let parts = begun_parts(alloc, graph, limits, &start.registry, program)?;
         Ok(open_with(
             alloc, graph, program, combiner, master, limits, run, start, parts, None,
         ))
     }
 
-    /// A core to which nothing has happened, beside an old run over as many partitions: with all that it left, and with
-    /// ids outside of which the graph's rows are those of its graph. Its partitions execute only what differs from the
-    /// old run. Costs a sort of k such ids, k look-ups for each partition, and one count a superstep of the old run.
-    pub fn open_beside(
+    /// A core to which nothing has happened, against an old run over as many partitions: with all that it left, and
+    /// with ids outside of which the graph's rows are those of its graph. Its partitions execute only what differs from
+    /// the old run. Costs a sort of k such ids, k look-ups for each partition, and one count a superstep of the old
+    /// run.
+    pub fn open_warm(
         alloc: Global,
         graph: &'a Graph,
         old: Traces<P::Value, P::Message>,
@@ -144,17 +147,17 @@ impl<'a, P: Computation, C: MessageCombiner<P::Message>, M: MasterCompute> Core<
     ) -> Result<Core<'a, P, C, M>, Memory>
         requires lawful { first_refusal [] (M.master master.now).registrations ≡ None }
         requires registered { is_registered (P.program program.now) (M.master master.now) ≡ true }
-        requires each { length old.lefts ≡ limits.partitions }
+        requires each { length old.retained_parts ≡ limits.partitions }
         ensures opened { IfOk result
             (λ core. IsOpened core program.now combiner.now master.now graph.now limits run) }
         ensures right { let job = job_of (P.program program.now) (C.combining combiner.now)
             (M.master master.now) limits.missing limits.limit in
-            IfOk result (λ core. (kept : Rows) → IsLeftBy job kept limits.partitions old
+            IfOk result (λ core. (kept : Rows) → IsRetainedBy job kept limits.partitions old
             → AreTouched touched.now kept graph.now
-            → IsRight (job_by P.program C.combining M.master core) (Some kept) core) }
+            → IsRight (job_of_core P.program C.combining M.master core) (Some kept) core) }
     {
-        let start = Start::of(alloc, graph, master, limits)?;
-        let (parts, common) = begun_parts_beside(
+        let start = InitialCore::of(alloc, graph, master, limits)?;
+        let (parts, retained_run) = begun_parts_warm(
             alloc,
             graph,
             limits,
@@ -163,7 +166,7 @@ impl<'a, P: Computation, C: MessageCombiner<P::Message>, M: MasterCompute> Core<
             touched,
             program,
         )?;
-        let kept = Some(common);
+        let kept = Some(retained_run);
         Ok(open_with(
             alloc, graph, program, combiner, master, limits, run, start, parts, kept,
         ))
@@ -187,7 +190,7 @@ impl<'a, P: Computation, C: MessageCombiner<P::Message>, M: MasterCompute> Core<
             (first_state self.now.limits.partitions self.now.limits.workers) self.now.history }
         ensures steps { StepsTell self.now.limits.partitions
             (first_state self.now.limits.partitions self.now.limits.workers) self.now.history self.now.state }
-        ensures unlost { let job = job_by P.program C.combining M.master self.now in
+        ensures unlost { let job = job_of_core P.program C.combining M.master self.now in
             (kept : Option Rows) → IsRight job kept self.now
             → self.now.state.ended ≡ true → losses_of self.now ≡ []
             → calls_in P.Value.PartialEq.eq P.Message.PartialEq.eq job kept self.now
@@ -210,7 +213,7 @@ impl<'a, P: Computation, C: MessageCombiner<P::Message>, M: MasterCompute> Core<
         ensures few { length result.now.values ≤ 16 }
         ensures declared { has_places (P.program self.now.program).declared (length result.now.values) ≡ true }
         ensures places { length result.now.values ≡ length (M.master self.now.master).registrations }
-        ensures right { let job = job_by P.program C.combining M.master self.now in
+        ensures right { let job = job_of_core P.program C.combining M.master self.now in
             (kept : Option Rows) → IsRight job kept self.now
             → result.now ≡ visible_at job self.now.graph superstep }
     {
@@ -228,7 +231,8 @@ impl<'a, P: Computation, C: MessageCombiner<P::Message>, M: MasterCompute> Core<
         }
     }
 
-    /// What the master showed in a superstep of the kept run. `None` where it hasn't that superstep, or no run was kept.
+    /// What the master showed in a superstep of the kept run. `None` where it hasn't that superstep, or no run was
+    /// kept.
     pub fn old_visible(&self, superstep: Superstep) -> Option<&Visible>
         ensures value { option_copied result ≡ visible_in superstep self.now.kept }
         ensures few { IfSome (option_copied result) (λ v. length v.values ≤ 16) }
@@ -268,7 +272,8 @@ impl<'a, P: Computation, C: MessageCombiner<P::Message>, M: MasterCompute> Core<
         partition: PartitionId,
     ) -> Result<(), Memory>
         ensures { OnOk result (ready.new.items
-            ≡ ready.old.items ++ cond (ready_test self.now partition) ((host_of partition self.now.state, partition) ∷ []) []) }
+            ≡ ready.old.items ++ cond (ready_test self.now partition)
+            ((host_of partition self.now.state, partition) ∷ []) []) }
     {
         if self.is_ready(partition) {
             ready.push((self.state.host(partition), partition))?;
@@ -291,18 +296,19 @@ impl<'a, P: Computation, C: MessageCombiner<P::Message>, M: MasterCompute> Core<
         place < self.parts.len() && self.parts[place].is_some()
     }
 
-    /// Takes the part of a partition that is ready. A step of it is lent the logs, and what is visible in its superstep.
+    /// Takes the part of a partition that is ready. A step of it is lent the logs, and what is visible in its
+    /// superstep.
     pub fn take(&mut self, partition: PartitionId) -> Part<P::Value, P::Message>
         requires { ready_test self.old partition ≡ true }
         ensures core { self.new ≡ without_part partition self.old }
         ensures part { part_at partition self.old ≡ Some result }
         ensures gone { part_at partition self.new ≡ None }
-        ensures reached { result.course.place ≤ self.old.state.current }
+        ensures reached { result.part_run.place ≤ self.old.state.current }
         ensures small { self.old.state.current < 10000 }
         ensures at { IsPartAt self.old.limits.partitions self.old.state partition result }
-        ensures right { let job = job_by P.program C.combining M.master self.old in
+        ensures right { let job = job_of_core P.program C.combining M.master self.old in
             (kept : Option Rows) → IsRight job kept self.old
-            → IsRight job kept self.new × IsStepLent job kept self.old partition result.course.place result }
+            → IsRight job kept self.new × HasStepInput job kept self.old partition result.part_run.place result }
     {
         // Tells the prover the least and the most that they may be.
         self.limits.limit();
@@ -321,7 +327,7 @@ impl<'a, P: Computation, C: MessageCombiner<P::Message>, M: MasterCompute> Core<
         requires allowed { is_allowed self.old.state (Event.Step partition) ≡ true }
         requires next { IsNext self.old.limits.partitions self.old.state partition part }
         ensures core { OnOk result (TakesIn partition part sent self.old self.new) }
-        ensures right { let job = job_by P.program C.combining M.master self.old in
+        ensures right { let job = job_of_core P.program C.combining M.master self.old in
             OnOk result ((kept : Option Rows) → IsRight job kept self.old
             → IsStepOf job kept self.old partition part sent → IsRight job kept self.new) }
     {
@@ -382,18 +388,18 @@ impl<'a, P: Computation, C: MessageCombiner<P::Message>, M: MasterCompute> Core<
         self.run
     }
 
-    /// The answer of a run that has ended, all that it leaves, and what it has no more use for, where these are the values
-    /// with which the vertices ended.
+    /// The answer of a run that has ended, all that it leaves, and what it has no more use for, where these are the
+    /// values with which the vertices ended.
     pub(crate) fn finish_with(
         self,
         alloc: Global,
         values: Values<P::Value>,
     ) -> Result<Finished<P::Value, P::Message>, Memory>
         requires { self.state.ended ≡ true }
-        ensures each { IfOk result (λ done. length done.1.lefts ≡ self.entry.limits.partitions) }
+        ensures each { IfOk result (λ done. length done.1.retained_parts ≡ self.entry.limits.partitions) }
         ensures places { IfOk result
             (λ done. length done.0.aggregates ≡ length (M.master self.entry.master).registrations) }
-        ensures finished { let job = job_by P.program C.combining M.master self.entry in
+        ensures finished { let job = job_of_core P.program C.combining M.master self.entry in
             IfOk result (λ done. (kept : Option Rows) → IsRight job kept self.entry
             → values ≡ values_of job self.entry.graph
             (configuration job self.entry.graph (self.entry.state.current + 1))
@@ -412,17 +418,26 @@ impl<'a, P: Computation, C: MessageCombiner<P::Message>, M: MasterCompute> Core<
             parts,
             logs,
             shown,
-            tally,
+            run_totals,
             registry: _,
             ending,
             kept,
         } = self;
-        let common = Common {
+        let retained_run = RetainedRun {
             logs,
             shown,
             values,
         };
-        finished(alloc, graph, parts, common, tally, ending, supersteps, kept)
+        finished(
+            alloc,
+            graph,
+            parts,
+            retained_run,
+            run_totals,
+            ending,
+            supersteps,
+            kept,
+        )
     }
 }
 
@@ -466,7 +481,7 @@ pub(crate) fn put_all<M: Plain>(
     logs: &mut Logs<M>,
     superstep: Superstep,
     from: PartitionId,
-    bundles: Vec<Logged<M>>,
+    bundles: Vec<LoggedBundle<M>>,
 ) -> Result<(), Memory>
     requires { length bundles.items ≤ 64 }
     ensures { OnOk result (HasPut superstep from bundles.items logs.old logs.new) }
@@ -496,9 +511,9 @@ fn open_with<'a, P: Computation, C: MessageCombiner<P::Message>, M: MasterComput
     master: &'a M,
     limits: Limits,
     run: u64,
-    start: Start,
+    start: InitialCore,
     parts: Vec<Option<Part<P::Value, P::Message>>>,
-    kept: Option<Common<P::Value, P::Message>>,
+    kept: Option<RetainedRun<P::Value, P::Message>>,
 ) -> Core<'a, P, C, M>
     requires started { HasStarted (M.master master.now) graph.now limits start }
     requires registered { is_registered (P.program program.now) (M.master master.now) ≡ true }
@@ -507,16 +522,16 @@ fn open_with<'a, P: Computation, C: MessageCombiner<P::Message>, M: MasterComput
     ensures opened { IsOpened result program.now combiner.now master.now graph.now limits run }
     ensures right { let job = job_of (P.program program.now) (C.combining combiner.now)
         (M.master master.now) limits.missing limits.limit in
-        (old : Option Rows) → KeepsCommon job old limits.partitions kept
+        (old : Option Rows) → KeepsRetainedRun job old limits.partitions kept
         → ((p : ℕ) → p < limits.partitions
         → HasBegun job old graph.now limits.partitions p (slice_index_or parts.items p None))
         → IsRight job old result }
 {
-    let Start {
+    let InitialCore {
         registry,
         state,
         shown,
-        tally,
+        run_totals,
     } = start;
     Core {
         program,
@@ -530,7 +545,7 @@ fn open_with<'a, P: Computation, C: MessageCombiner<P::Message>, M: MasterComput
         parts,
         logs: Logs::new(alloc),
         shown,
-        tally,
+        run_totals,
         registry,
         ending: None,
         kept,

@@ -1,28 +1,28 @@
-//! What a whole run over partitions leaves, for a run beside it.
+//! What a whole run over partitions leaves, for a warm run after it.
 ghost use Rattle.std.specs.Prelude.{◌≡◌, ◌≤◌, length, Some, IfSome, option_map};
 ghost use Rattle.std.specs.Option.{option_copied};
 ghost use Rattle.pg_core.specs.Traces.{ended_by, logs_in, visible_in};
 
+use pg_core_values::{Ended, Values};
 use pg_global::Visible;
 use pg_graph::{Graph, Superstep};
 use pg_inbox::Logs;
-use pg_part::{Left, Spent as SpentByPart};
+use pg_part::{DeferredPartDrop, RetainedPart};
 use pg_program::Plain;
-use pg_values::{Ended, Values};
 use std::marker::Model;
 
 /// What all partitions of a whole run have in common: what they sent, what the master showed in each superstep, and the
 /// values with which the vertices ended, by rising id.
-pub(crate) struct Common<V, M: Plain> {
+pub(crate) struct RetainedRun<V, M: Plain> {
     pub(crate) logs: Logs<M>,
     pub(crate) shown: Vec<Visible>,
     pub(crate) values: Values<V>,
 }
 
 // By hand, so that it is let go by one call wherever that is, and not field by field.
-impl<V: Drop, M: Plain> Drop for Common<V, M> {
+impl<V: Drop, M: Plain> Drop for RetainedRun<V, M> {
     fn drop(self) {
-        let Common {
+        let RetainedRun {
             logs: _,
             shown: _,
             values: _,
@@ -30,18 +30,18 @@ impl<V: Drop, M: Plain> Drop for Common<V, M> {
     }
 }
 
-impl<V, M: Plain> Model for Common<V, M> {
+impl<V, M: Plain> Model for RetainedRun<V, M> {
     ghost use Rattle.std.specs.Prelude.{All, length, ◌≤◌};
-    ghost use Rattle.pg_core.specs.Traces.{Common};
+    ghost use Rattle.pg_core.specs.Traces.{RetainedRun};
 
-    ghost Value = { Common V M };
+    ghost Value = { RetainedRun V M };
 
     ghost view = { λ k. record { logs = k.logs; shown = k.shown.items; values = k.values } };
 
     ghost invariant = { λ k. All (λ v. length v.values ≤ 16) k.shown.items };
 }
 
-impl<V, M: Plain> Common<V, M> {
+impl<V, M: Plain> RetainedRun<V, M> {
     /// What was sent, for a step in a superstep that the run has.
     pub(crate) fn logs_in(&self, superstep: Superstep) -> Option<&Logs<M>>
         ensures { option_copied result ≡ logs_in superstep (Some self.now) }
@@ -63,7 +63,7 @@ impl<V, M: Plain> Common<V, M> {
 }
 
 /// How the kept run ended, if there is one.
-pub(crate) fn ended_of<V, M: Plain>(kept: &Option<Common<V, M>>) -> Option<Ended<'_, V>>
+pub(crate) fn ended_of<V, M: Plain>(kept: &Option<RetainedRun<V, M>>) -> Option<Ended<'_, V>>
     ensures { result ≡ option_map ended_by kept.now }
 {
     match kept {
@@ -72,21 +72,21 @@ pub(crate) fn ended_of<V, M: Plain>(kept: &Option<Common<V, M>>) -> Option<Ended
     }
 }
 
-/// What a whole run leaves: what each partition leaves, the graph, what the partitions sent, what the master showed, and
-/// the values with which the vertices ended. A run on another graph opens beside it.
+/// What a whole run leaves: what each partition leaves, the graph, what the partitions sent, what the master showed,
+/// and the values with which the vertices ended. A run on another graph opens warm on it.
 pub struct Traces<V, M: Plain> {
-    pub(crate) lefts: Vec<Left<V, M>>,
+    pub(crate) retained_parts: Vec<RetainedPart<V, M>>,
     pub(crate) graph: Graph,
-    pub(crate) common: Common<V, M>,
+    pub(crate) retained_run: RetainedRun<V, M>,
 }
 
 // By hand, so that it is let go by one call wherever that is, and not field by field.
 impl<V: Drop, M: Plain> Drop for Traces<V, M> {
     fn drop(self) {
         let Traces {
-            lefts: _,
+            retained_parts: _,
             graph: _,
-            common: _,
+            retained_run: _,
         } = self;
     }
 }
@@ -96,49 +96,57 @@ impl<V, M: Plain> Model for Traces<V, M> {
 
     ghost Value = { Traces V M };
 
-    ghost view = { λ t. record { lefts = t.lefts.items; graph = t.graph; common = t.common } };
+    ghost view = { λ t. record {
+      retained_parts = t.retained_parts.items;
+      graph = t.graph;
+      retained_run = t.retained_run;
+    } };
 }
 
 impl<V, M: Plain> Traces<V, M> {
     /// What each partition leaves, the graph, and what all have in common.
-    pub(crate) fn into_parts(self) -> (Vec<Left<V, M>>, Graph, Common<V, M>)
-        ensures lefts { result.0.items ≡ self.lefts }
+    pub(crate) fn into_parts(self) -> (Vec<RetainedPart<V, M>>, Graph, RetainedRun<V, M>)
+        ensures retained_parts { result.0.items ≡ self.retained_parts }
         ensures graph { result.1 ≡ self.graph }
-        ensures common { result.2 ≡ self.common }
+        ensures retained_run { result.2 ≡ self.retained_run }
     {
         let Traces {
-            lefts,
+            retained_parts,
             graph,
-            common,
+            retained_run,
         } = self;
-        (lefts, graph, common)
+        (retained_parts, graph, retained_run)
     }
 }
 
-/// What a run has no more use for once it has ended: of the run beside which it was made, what each partition recorded,
-/// what the partitions sent, and the values with which it ended, as far as the two differ. It is good for nothing but to
-/// be let go of when nobody waits, which costs as much as it was to make what differs. A contract sees nothing of it.
-pub struct Spent<V, M: Plain> {
-    parts: Vec<SpentByPart<V, M>>,
-    kept: Option<Common<V, M>>,
+/// What is dropped only once the answer is out: of the run against which it was made, what each partition recorded,
+/// what the partitions sent, and the values with which it ended, as far as the two differ. It is good for nothing but
+/// to be let go of when nobody waits, which costs as much as it was to make what differs. A contract sees nothing of
+/// it.
+pub struct DeferredDrop<V, M: Plain> {
+    parts: Vec<DeferredPartDrop<V, M>>,
+    kept: Option<RetainedRun<V, M>>,
 }
 
 // By hand, so that it is let go by one call wherever that is, and not field by field.
-impl<V: Drop, M: Plain> Drop for Spent<V, M> {
+impl<V: Drop, M: Plain> Drop for DeferredDrop<V, M> {
     fn drop(self) {
-        let Spent { parts: _, kept: _ } = self;
+        let DeferredDrop { parts: _, kept: _ } = self;
     }
 }
 
-impl<V, M: Plain> Model for Spent<V, M> {
+impl<V, M: Plain> Model for DeferredDrop<V, M> {
     ghost Value = { Unit {0} };
 
     ghost view = { λ _. tt };
 }
 
-impl<V, M: Plain> Spent<V, M> {
-    /// What the partitions have no more use for, and what the run keeps of the one beside which it was made.
-    pub(crate) fn of(parts: Vec<SpentByPart<V, M>>, kept: Option<Common<V, M>>) -> Spent<V, M> {
-        Spent { parts, kept }
+impl<V, M: Plain> DeferredDrop<V, M> {
+    /// What the partitions have no more use for, and what the run keeps of the one against which it was made.
+    pub(crate) fn of(
+        parts: Vec<DeferredPartDrop<V, M>>,
+        kept: Option<RetainedRun<V, M>>,
+    ) -> DeferredDrop<V, M> {
+        DeferredDrop { parts, kept }
     }
 }

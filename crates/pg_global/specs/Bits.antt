@@ -1,5 +1,6 @@
 -- Bit by bit, `and` and `or` of whole numbers of 64 bits are commutative monoids.
-use Rattle.std.proofs.Common.{◌≡◌, refl, ℕ, ◌<◌, ◌≤◌, ◌^◌, ℤ, pos, negsuc, ap, sym, ◌∙◌, w64, of_z, to_z, arith, rules, max}
+use Rattle.std.proofs.Common.{◌≡◌, refl, ℕ, ◌<◌, ◌≤◌, ◌^◌, ℤ, pos, negsuc, ap, sym, ◌∙◌, w64, of_z, to_z, arith, rules}
+use Rattle.std.proofs.Common.{max}
 use Rattle.std.specs.Int.{bit_at, int_bit_and, int_bit_or}
 use Rattle.std.specs.Prelude.{bit_and, bit_or, FitsSigned}
 use Rattle.std.proofs.Math.Facts.{Fits-of_z, sfits_to_z}
@@ -20,14 +21,16 @@ or_assoc a b c =
     ∙ sym (ap (λ n. max (bit_at a i) n) (bit_at_or b c i))
     ∙ sym (bit_at_or a (bit_or b c) i))
 
--- an operation on numbers below 2^64 that is associative, commutative and has a neutral one is so on the whole numbers with these bits
+-- an operation on numbers below 2^64 that is associative, commutative and has a neutral one is so on the whole numbers
+-- with these bits
 module _ (f : ℕ → ℕ → ℕ) (below : (m n : ℕ) → m < 2 ^ 64 → n < 2 ^ 64 → f m n < 2 ^ 64) where
   IsCommutativeMonoid-on_bits : (initial : ℤ) → FitsSigned w64 initial → ((m n k : ℕ) → f (f m n) k ≡ f m (f n k))
       → ((m n : ℕ) → f m n ≡ f n m) → ((n : ℕ) → n < 2 ^ 64 → f (of_z w64 initial) n ≡ n)
       → IsCommutativeMonoid (FitsSigned w64) (λ a b. to_z w64 (f (of_z w64 a) (of_z w64 b))) initial
   IsCommutativeMonoid-on_bits initial begins associative commutative neutral =
       let bits_below = λ (a : ℤ) (p : FitsSigned w64 a). (Fits-of_z {w = w64} p).fits in
-      let result_below = λ (a b : ℤ) (p : FitsSigned w64 a) (q : FitsSigned w64 b). below (of_z w64 a) (of_z w64 b) (bits_below a p) (bits_below b q) in
+      let result_below = λ (a b : ℤ) (p : FitsSigned w64 a) (q : FitsSigned w64 b). below (of_z w64 a) (of_z w64 b)
+      (bits_below a p) (bits_below b q) in
       record {
         begins = begins;
         stays = λ a b p q. sfits_to_z (record { fits = result_below a b p q });
@@ -36,7 +39,8 @@ module _ (f : ℕ → ℕ → ℕ) (below : (m n : ℕ) → m < 2 ^ 64 → n < 2
         associative = λ a b c p q r.
             ap (λ n. to_z w64 (f n (of_z w64 c))) (of_z-to_z w64 (f (of_z w64 a) (of_z w64 b)) (result_below a b p q))
             ∙ ap (to_z w64) (associative (of_z w64 a) (of_z w64 b) (of_z w64 c))
-            ∙ sym (ap (λ n. to_z w64 (f (of_z w64 a) n)) (of_z-to_z w64 (f (of_z w64 b) (of_z w64 c)) (result_below b c q r)));
+            ∙ sym (ap (λ n. to_z w64 (f (of_z w64 a) n))
+            (of_z-to_z w64 (f (of_z w64 b) (of_z w64 c)) (result_below b c q r)));
       }
 
 and_below : (m n : ℕ) → m < 2 ^ 64 → n < 2 ^ 64 → bit_and m n < 2 ^ 64
@@ -53,4 +57,5 @@ or_zero : (n : ℕ) → n < 2 ^ 64 → bit_or (of_z w64 (pos 0)) n ≡ n
 or_zero n p = refl
 
 pub IsCommutativeMonoid-int_bit_or : IsCommutativeMonoid (FitsSigned w64) (int_bit_or w64) (pos 0)
-IsCommutativeMonoid-int_bit_or = IsCommutativeMonoid-on_bits bit_or (or_lt 64) (pos 0) (search rules) or_assoc or_comm or_zero
+IsCommutativeMonoid-int_bit_or =
+    IsCommutativeMonoid-on_bits bit_or (or_lt 64) (pos 0) (search rules) or_assoc or_comm or_zero

@@ -7,7 +7,8 @@ use Rattle.pg_model.specs.Job.{Combining}
 use Rattle.pg_global.specs.declared.combiner.AnyCombiner.{AnyCombiner}
 use Rattle.pg_global.specs.declared.combiner.AnyCombiner.TheVariants.{NoCombiner, Min, Max, Sum}
 
--- the laws, where it combines: it is associative and commutative, the initial message is neutral, and both stay among the values
+-- the laws, where it combines: it is associative and commutative, the initial message is neutral, and both stay among
+-- the values
 abbrev pub IsLawful : {M : Type 0} → (M → Type 0) → Option (Combining M) → Type 0
 IsLawful is_value combining = IfSome combining (λ c. IsCommutativeMonoid is_value c.combine c.initial)
 

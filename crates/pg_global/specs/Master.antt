@@ -22,7 +22,8 @@ pub record MasterView : Type 0 where
 -- the state as the master's decision leaves it
 abbrev pub decided : Master → MasterView → MasterView
 decided master state =
-    let decision : Decision = master.deciding state.superstep (record { vertices = state.total_vertices; edges = state.total_edges }) state.values in
+    let decision : Decision = master.deciding state.superstep
+    (record { vertices = state.total_vertices; edges = state.total_edges }) state.values in
     record state { values = decision.values; halt = decision.halt }
 
 -- a master that sets nothing and never halts

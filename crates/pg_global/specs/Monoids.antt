@@ -2,7 +2,8 @@
 use Rattle.std.specs.Prelude.{FitsSigned}
 use Rattle.std.specs.Int.{w64}
 use Rattle.pg_model.specs.Folds.{IsCommutativeMonoid}
-use Rattle.pg_model.proofs.LawsFolds.{IsCommutativeMonoid-int_max, IsCommutativeMonoid-int_min, IsCommutativeMonoid-int_wrapping_add}
+use Rattle.pg_model.proofs.LawsFolds.{IsCommutativeMonoid-int_max, IsCommutativeMonoid-int_min}
+use Rattle.pg_model.proofs.LawsFolds.{IsCommutativeMonoid-int_wrapping_add}
 use Rattle.pg_global.specs.Bits.{IsCommutativeMonoid-int_bit_and, IsCommutativeMonoid-int_bit_or}
 use Rattle.pg_global.specs.AnyAggregator.{operation_of, initial_of}
 use Rattle.pg_global.specs.Combiner.{IsLawful, combining_of}

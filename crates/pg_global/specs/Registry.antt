@@ -1,5 +1,6 @@
 -- Aggregators by name, in the order of registration.
-use Rattle.std.specs.Prelude.{ℕ, ◌==◌, Bool, cond, not, ◌&&◌, ◌||◌, List, [], ◌∷◌, ◌++◌, length, nat_le, Option, None, Some, is_some, map}
+use Rattle.std.specs.Prelude.{ℕ, ◌==◌, Bool, cond, not, ◌&&◌, ◌||◌, List, [], ◌∷◌, ◌++◌, length, nat_le, Option, None}
+use Rattle.std.specs.Prelude.{Some, is_some, map}
 use Rattle.std.specs.Char.{is_ascii_alphanumeric}
 use Rattle.std.specs.List.{list_all, position_from}
 use Rattle.std.specs.Str.{bytes_eq}
@@ -29,7 +30,8 @@ place_of name registered = position_from (bytes_eq name) 0 (map (λ e. e.0) regi
 unfoldable pub refusal_of : Registered → List ℕ → Option RegisterFault
 refusal_of registered name =
     cond (not (is_name name)) (Some BadName)
-    (cond (is_some (place_of name registered)) (Some NameTaken) (cond (nat_le 16 (length registered)) (Some TooMany) None))
+    (cond (is_some (place_of name registered)) (Some NameTaken)
+    (cond (nat_le 16 (length registered)) (Some TooMany) None))
 
 -- the first name of a list that is refused after those before it, and why
 unfoldable pub first_refusal : Registered → Registered → Option RegisterFault

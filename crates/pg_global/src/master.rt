@@ -55,7 +55,13 @@ impl MasterState {
         gathered: Sequence<i64>,
     ) -> MasterState
         ensures { result
-            ≡ record { superstep = superstep; total_vertices = total_vertices; total_edges = total_edges; values = gathered; halt = false } }
+            ≡ record {
+              superstep = superstep;
+              total_vertices = total_vertices;
+              total_edges = total_edges;
+              values = gathered;
+              halt = false;
+            } }
     {
         MasterState {
             superstep,
@@ -69,7 +75,12 @@ impl MasterState {
     /// What the vertices are going to see.
     pub fn into_parts(self) -> Visible
         ensures { result
-            ≡ record { values = self.values; halt = self.halt; total_vertices = self.total_vertices; total_edges = self.total_edges } }
+            ≡ record {
+              values = self.values;
+              halt = self.halt;
+              total_vertices = self.total_vertices;
+              total_edges = self.total_edges;
+            } }
     {
         let MasterState {
             superstep: _,

@@ -1,5 +1,6 @@
 //! The aggregators of a job, by name.
-ghost use Rattle.std.specs.Prelude.{◌≡◌, [], ◌∷◌, ◌++◌, ◌⊎◌, ◌≤◌, ◌<◌, length, slice_get, None, Some, true, false, ◌≢◌, IfNone, IfOk, IfErr, OnErr};
+ghost use Rattle.std.specs.Prelude.{◌≡◌, [], ◌∷◌, ◌++◌, ◌⊎◌, ◌≤◌, ◌<◌, length, slice_get, None, Some, true, false, ◌≢◌};
+ghost use Rattle.std.specs.Prelude.{IfNone, IfOk, IfErr, OnErr};
 ghost use Rattle.std.specs.List.{list_all};
 ghost use Rattle.std.specs.Option.{option_map};
 ghost use Rattle.pg_global.specs.Registry.{refusal_of, place_of, is_name as name_test, is_name_byte};

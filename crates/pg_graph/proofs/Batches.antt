@@ -3,12 +3,12 @@ use Rattle.std.proofs.Common.{◌≡◌, ℕ, ◌+◌, ◌<◌, ◌≤◌, ◌�
 use Rattle.std.proofs.lemmas.Bool.{lt-ltb, le-ltb, cases_lt}
 use Rattle.std.proofs.lemmas.List.{at_drop_more, at_drop_all}
 use Rattle.pg_graph.specs.Edit.{edited, all_edited, batch_edited, batch_limit, RefusesBatch}
-use Rattle.pg_edits.specs.EditFault.{memory_fault}
+use Rattle.pg_graph_rows.specs.EditFault.{memory_fault}
 use Rattle.pg_graph.specs.Rows.{Rows}
-use Rattle.pg_edits.specs.declared.edit.Edit.{Edit}
-use Rattle.pg_edits.specs.declared.edit.EditFault.{EditFault}
-use Rattle.pg_edits.specs.declared.edit.EditKind.{EditKind}
-use Rattle.pg_edits.specs.declared.edit.EditKind.TheVariants.{Memory, VertexExists, NoVertex, EdgeExists, NoEdge, BatchTooLong, Full}
+use Rattle.pg_graph_rows.specs.declared.edit.Edit.{Edit}
+use Rattle.pg_graph_rows.specs.declared.edit.EditFault.{EditFault}
+use Rattle.pg_graph_rows.specs.declared.edit.EditKind.{EditKind}
+use Rattle.pg_graph_rows.specs.declared.edit.EditKind.TheVariants.{Memory, VertexExists, NoVertex, EdgeExists, NoEdge, BatchTooLong, Full}
 
 pub Err_not_Ok : {X E : Type 0} {x : X} {e : E} → ◌≡◌ {A = Result X E} (Err e) (Ok x) → ⊥
 Err_not_Ok h = cc
@@ -92,7 +92,7 @@ fault_within position rows (edit ∷ edits) fault why =
 
 -- a refused batch names one of its edits, or a place past none
 pub refused_within : (rows : Rows) (edits : List Edit) (fault : EditFault) → RefusesBatch rows edits fault → fault.position ≤ length edits
-refused_within rows edits fault told =
+refused_within rows edits fault stated =
     ⊎_elim
     (λ (m : fault ≡ memory_fault). omega (arith, ap (λ (x : EditFault). x.position) m))
     (λ (why : batch_edited rows edits ≡ Err fault).
@@ -100,7 +100,7 @@ refused_within rows edits fault told =
     (λ (long : batch_limit < length edits). omega (arith, ap (λ (x : EditFault). x.position) (Err_same (sym (too_long rows edits long) ∙ why))))
     (λ (short : length edits ≤ batch_limit). let w = fault_within 1 rows edits fault (sym (short_enough rows edits short) ∙ why) in omega (arith, w.1))
     (cases_lt batch_limit (length edits)))
-    told
+    stated
 
 -- ---- the fault
 
@@ -117,12 +117,12 @@ cases_memory Full = inr (λ (e : Full ≡ Memory). cc)
 pub refused_at : (rows : Rows) (edits : List Edit) (position : ℕ) (kind : EditKind) (fault : EditFault)
     → (kind ≡ Memory → fault ≡ memory_fault) → ((kind ≡ Memory → ⊥) → fault ≡ record { position = position; kind = kind })
     → (kind ≡ Memory) ⊎ (batch_edited rows edits ≡ Err (record { position = position; kind = kind })) → RefusesBatch rows edits fault
-refused_at rows edits position kind fault memory edit told =
+refused_at rows edits position kind fault memory edit stated =
     ⊎_elim
     (λ (m : kind ≡ Memory). inl (memory m))
     (λ (other : kind ≡ Memory → ⊥).
     ⊎_elim
     (λ (m : kind ≡ Memory). inl (memory m))
     (λ (why : batch_edited rows edits ≡ Err (record { position = position; kind = kind })). inr (why ∙ ap (λ f. Err f) (sym (edit other))))
-    told)
+    stated)
     (cases_memory kind)

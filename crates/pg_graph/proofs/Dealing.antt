@@ -15,17 +15,17 @@ use Rattle.pg_map.specs.Entries.{ChangesRise, value_at, with_change, with_change
 use Rattle.pg_map.proofs.Changing.{rises-changes, value_at-with_changes}
 use Rattle.pg_map.proofs.Parts.{split_all, rises_push, find-left, find-right}
 use Rattle.pg_map.proofs.Rising.{at_same, at_other, same_entries}
-use Rattle.pg_edits.specs.ChangedRows.{Changes}
-use Rattle.pg_edits.specs.ChangedRows.{degree_of}
-use Rattle.pg_graph.specs.Changes.{changed_row_at}
+use Rattle.pg_graph_rows.specs.ChangedRows.{RowChanges}
+use Rattle.pg_graph_rows.specs.ChangedRows.{degree_of}
+use Rattle.pg_graph.specs.RowChanges.{changed_row_at}
 use Rattle.pg_graph.specs.Edit.{all_edited}
-use Rattle.pg_graph.specs.Grouped.{RiseBySource, AreGrouped, RowRises, EditedRowsRise, IsNoLater, IsLeft, IsDone, AreDealt, earlier_of, AreMade, IsFirst}
-use Rattle.pg_edits.specs.RowEdit.{Places, source_of, vertex_after}
+use Rattle.pg_graph.specs.Grouped.{RiseBySource, AreGrouped, RowRises, EditedRowsRise, IsNoLater, IsRest, IsDone, AreDealt, earlier_of, AreMade, IsFirst}
+use Rattle.pg_graph_rows.specs.RowEdit.{Places, source_of, vertex_after}
 use Rattle.pg_graph.specs.RowEdit.{HasRoom, IsEarliestFault, placed, edits_of, is_of, vertices_added, edges_added}
 use Rattle.pg_graph.specs.Rows.{Rows, HasRisingIds, row_at, vertex_count, edge_count}
-use Rattle.pg_edits.specs.declared.row.Row.{Row}
-use Rattle.pg_edits.specs.declared.edit.Edit.{Edit}
-use Rattle.pg_edits.specs.declared.edit.EditFault.{EditFault}
+use Rattle.pg_graph_rows.specs.declared.row.Row.{Row}
+use Rattle.pg_graph_rows.specs.declared.edit.Edit.{Edit}
+use Rattle.pg_graph_rows.specs.declared.edit.EditFault.{EditFault}
 use Rattle.pg_graph.proofs.Batches.{Ok_not_Err, Err_same}
 use Rattle.pg_graph.proofs.Drafting.{edges-without_row}
 use Rattle.pg_graph.proofs.RowLaw.{of_same, of_other, edges-change, faults_apart, MakesRows, IsFirstFault, IsByRows, batch_by_rows}
@@ -110,7 +110,7 @@ fewer_left left here later rest first n turn = omega (arith, ap length turn.back
         by zero e = absurd (none e)
         by (suc k) e = omega (arith, e)
 
-module _ (rows : Rows) (all left here later rest : Places) (first : ℕ × Edit) (n : ℕ) (changes : Changes) (fault : Option EditFault)
+module _ (rows : Rows) (all left here later rest : Places) (first : ℕ × Edit) (n : ℕ) (changes : RowChanges) (fault : Option EditFault)
     (turn : IsTurn left here later rest first n) (dealt : AreDealt rows all left changes fault) where
   abbrev id : ℕ
   id = source_of first.1
@@ -148,8 +148,8 @@ module _ (rows : Rows) (all left here later rest : Places) (first : ℕ × Edit)
   not_done : edits_of id left ≡ [] → ⊥
   not_done none = let h : first ∷ edits_of id rest ≡ [] = sym (ap (edits_of id) turn.next ∙ of_same id first.0 first.1 rest refl) ∙ none in cc
 
-  is_left : IsLeft id all left changes
-  is_left = ⊎_elim (λ (l : IsLeft id all left changes). l) (λ (d : IsDone rows id all left changes fault). absurd (not_done d.edits)) (dealt.seen id)
+  is_left : IsRest id all left changes
+  is_left = ⊎_elim (λ (l : IsRest id all left changes). l) (λ (d : IsDone rows id all left changes fault). absurd (not_done d.edits)) (dealt.seen id)
 
   pub not_changed : value_at id changes ≡ None
   not_changed = is_left.change
@@ -169,7 +169,7 @@ module _ (rows : Rows) (all left here later rest : Places) (first : ℕ × Edit)
 
   -- a row was found
   module _ (rises : RowRises (row_at id rows)) (row : Option Row) (made : Ok row ≡ vertex_after (row_at id rows) here)
-      (changes' : Changes) (grown : changes' ≡ changes ++ (id, row) ∷ []) where
+      (changes' : RowChanges) (grown : changes' ≡ changes ++ (id, row) ∷ []) where
     at_id : (q : ℕ) → q ≡ id → value_at q changes' ≡ Some row
     at_id q same =
         ap (value_at q) grown ∙ find-right q changes ((id, row) ∷ []) (none_yet q same)
@@ -192,15 +192,15 @@ module _ (rows : Rows) (all left here later rest : Places) (first : ℕ × Edit)
           (λ (same : q ≡ id). inr (record {
             edits = none_later q same;
             rises = subst (λ k. RowRises (row_at k rows)) (sym same) rises;
-            told = subst (λ r. MatchResult r (λ x. value_at q changes' ≡ Some x) (IsNoLater fault))
+            stated = subst (λ r. MatchResult r (λ x. value_at q changes' ≡ Some x) (IsNoLater fault))
                 (made ∙ ap (λ k. vertex_after (row_at k rows) here) (sym same) ∙ ap (vertex_after (row_at q rows)) (here_is q same)) (at_id q same);
           }))
           (λ (apart : q ≡ id → ⊥). ⊎_elim
-          (λ (l : IsLeft q all left changes). inl (record { edits = sym (same_later q apart) ∙ l.edits; change = elsewhere q apart ∙ l.change }))
+          (λ (l : IsRest q all left changes). inl (record { edits = sym (same_later q apart) ∙ l.edits; change = elsewhere q apart ∙ l.change }))
           (λ (d : IsDone rows q all left changes fault). inr (record {
             edits = sym (same_later q apart) ∙ d.edits;
             rises = d.rises;
-            told = still q (vertex_after (row_at q rows) (edits_of q all)) (elsewhere q apart) d.told;
+            stated = still q (vertex_after (row_at q rows) (edits_of q all)) (elsewhere q apart) d.stated;
           }))
           (dealt.seen q))
           (cases_eq q id);
@@ -209,8 +209,8 @@ module _ (rows : Rows) (all left here later rest : Places) (first : ℕ × Edit)
       where
         still : (q : ℕ) (r : Result (Option Row) EditFault) → value_at q changes' ≡ value_at q changes
             → MatchResult r (λ x. value_at q changes ≡ Some x) (IsNoLater fault) → MatchResult r (λ x. value_at q changes' ≡ Some x) (IsNoLater fault)
-        still q (Ok x) same told = same ∙ told
-        still q (Err f) same told = told
+        still q (Ok x) same stated = same ∙ stated
+        still q (Err f) same stated = stated
 
   -- a fault was found
   module _ (rises : RowRises (row_at id rows)) (found : EditFault) (made : Err found ≡ vertex_after (row_at id rows) here) where
@@ -223,16 +223,16 @@ module _ (rows : Rows) (all left here later rest : Places) (first : ℕ × Edit)
           (λ (same : q ≡ id). inr (record {
             edits = none_later q same;
             rises = subst (λ k. RowRises (row_at k rows)) (sym same) rises;
-            told = subst (λ r. MatchResult r (λ x. value_at q changes ≡ Some x) (IsNoLater (Some (earlier_of fault found))))
+            stated = subst (λ r. MatchResult r (λ x. value_at q changes ≡ Some x) (IsNoLater (Some (earlier_of fault found))))
                 (made ∙ ap (λ k. vertex_after (row_at k rows) here) (sym same) ∙ ap (vertex_after (row_at q rows)) (here_is q same))
                 (earlier_found fault found);
           }))
           (λ (apart : q ≡ id → ⊥). ⊎_elim
-          (λ (l : IsLeft q all left changes). inl (record { edits = sym (same_later q apart) ∙ l.edits; change = l.change }))
+          (λ (l : IsRest q all left changes). inl (record { edits = sym (same_later q apart) ∙ l.edits; change = l.change }))
           (λ (d : IsDone rows q all left changes fault). inr (record {
             edits = sym (same_later q apart) ∙ d.edits;
             rises = d.rises;
-            told = still q (vertex_after (row_at q rows) (edits_of q all)) d.told;
+            stated = still q (vertex_after (row_at q rows) (edits_of q all)) d.stated;
           }))
           (dealt.seen q))
           (cases_eq q id);
@@ -242,17 +242,17 @@ module _ (rows : Rows) (all left here later rest : Places) (first : ℕ × Edit)
       where
         still : (q : ℕ) (r : Result (Option Row) EditFault) → MatchResult r (λ x. value_at q changes ≡ Some x) (IsNoLater fault)
             → MatchResult r (λ x. value_at q changes ≡ Some x) (IsNoLater (Some (earlier_of fault found)))
-        still q (Ok x) told = told
-        still q (Err f) told = earlier_keeps fault found f told
+        still q (Ok x) stated = stated
+        still q (Err f) stated = earlier_keeps fault found f stated
 
 -- ---- none is dealt with, and all are
 
-pub no_changes : (changes : Changes) → changes ≡ [] → ChangesRise changes
+pub no_changes : (changes : RowChanges) → changes ≡ [] → ChangesRise changes
 unfolding IsStrictlySortedBy
 no_changes [] none = tt
 no_changes (c ∷ changes) none = cc
 
-pub none_dealt : (rows : Rows) (all : Places) (changes : Changes) → changes ≡ [] → ChangesRise changes → RiseBySource all → AreDealt rows all all changes None
+pub none_dealt : (rows : Rows) (all : Places) (changes : RowChanges) → changes ≡ [] → ChangesRise changes → RiseBySource all → AreDealt rows all all changes None
 none_dealt rows all changes none rising rise = record {
   left_rise = rise;
   changes_rise = rising;
@@ -265,23 +265,23 @@ none_dealt rows all changes none rising rise = record {
     nothing [] = tt
     nothing (e ∷ l) = (subst (AllByRecursion (λ c. c.0 < source_of e.1)) (sym none) tt, nothing l)
 
-module _ (rows : Rows) (all left : Places) (changes : Changes) (empty : left ≡ []) where
+module _ (rows : Rows) (all left : Places) (changes : RowChanges) (empty : left ≡ []) where
   untouched : (q : ℕ) → edits_of q left ≡ edits_of q all → vertex_after (row_at q rows) (edits_of q all) ≡ Ok (row_at q rows)
   untouched q same = ap (vertex_after (row_at q rows)) (sym same ∙ ap (edits_of q) empty)
 
   pub all_made : AreDealt rows all left changes None → AreMade rows all changes
   all_made dealt = record {
     rise = dealt.changes_rise;
-    told = λ q. ⊎_elim
-        (λ (l : IsLeft q all left changes). untouched q l.edits ∙ ap (λ o. Ok (unwrap_or o (row_at q rows))) (sym l.change))
-        (λ (d : IsDone rows q all left changes None). by q (vertex_after (row_at q rows) (edits_of q all)) d.told)
+    stated = λ q. ⊎_elim
+        (λ (l : IsRest q all left changes). untouched q l.edits ∙ ap (λ o. Ok (unwrap_or o (row_at q rows))) (sym l.change))
+        (λ (d : IsDone rows q all left changes None). by q (vertex_after (row_at q rows) (edits_of q all)) d.stated)
         (dealt.seen q);
   }
     where
       by : (q : ℕ) (r : Result (Option Row) EditFault) → MatchResult r (λ x. value_at q changes ≡ Some x) (IsNoLater None)
           → r ≡ Ok (changed_row_at q changes rows)
-      by q (Ok x) told = ap (λ o. Ok (unwrap_or o (row_at q rows))) (sym told)
-      by q (Err f) told = absurd told
+      by q (Ok x) stated = ap (λ o. Ok (unwrap_or o (row_at q rows))) (sym stated)
+      by q (Err f) stated = absurd stated
 
 -- ---- what is made of the vertices is made of the graph
 
@@ -302,19 +302,19 @@ module _ (rows : Rows) (edits : List Edit) (all : Places) (rising : HasRisingIds
   by_rows : IsByRows 1 rows edits (all_edited 1 rows edits)
   by_rows = batch_by_rows 1 rows edits rising placed_rise room
 
-  pub made_of_all : (changes : Changes) → AreMade rows all changes
+  pub made_of_all : (changes : RowChanges) → AreMade rows all changes
       → MakesRows 1 rows edits (with_changes changes rows) × (all_edited 1 rows edits ≡ Ok (with_changes changes rows))
   made_of_all changes made = by (all_edited 1 rows edits) refl by_rows
     where
       same : (now : Rows) → MakesRows 1 rows edits now → now ≡ with_changes changes rows
       same now makes =
           same_entries now (with_changes changes rows) makes.rise (rises-changes changes rows rising)
-          (λ q. Ok_same (sym (placed_is q _ (makes.seen q)) ∙ made.told q) ∙ sym (value_at-with_changes changes rows q made.rise rising))
+          (λ q. Ok_same (sym (placed_is q _ (makes.seen q)) ∙ made.stated q) ∙ sym (value_at-with_changes changes rows q made.rise rising))
 
       by : (r : Result Rows EditFault) → all_edited 1 rows edits ≡ r → IsByRows 1 rows edits r
           → MakesRows 1 rows edits (with_changes changes rows) × (all_edited 1 rows edits ≡ Ok (with_changes changes rows))
       by (Ok now) e makes = (subst (MakesRows 1 rows edits) (same now makes) makes, e ∙ ap (λ l. Ok l) (same now makes))
-      by (Err fault) e first = absurd (Ok_not_Err (sym (made.told first.vertex) ∙ placed_is first.vertex _ first.there))
+      by (Err fault) e first = absurd (Ok_not_Err (sym (made.stated first.vertex) ∙ placed_is first.vertex _ first.there))
 
   pub first_is : (fault : EditFault) → IsFirst rows all fault → all_edited 1 rows edits ≡ Err fault
   first_is fault found = by (all_edited 1 rows edits) refl by_rows
@@ -346,13 +346,13 @@ module _ (rows : Rows) (edits : List Edit) (all : Places) (rising : HasRisingIds
 
 -- ---- the edges are counted
 
-with_changes-push : (changes : Changes) (rows : Rows) (key : ℕ) (change : Option Row)
+with_changes-push : (changes : RowChanges) (rows : Rows) (key : ℕ) (change : Option Row)
     → with_changes (changes ++ (key, change) ∷ []) rows ≡ with_change key change (with_changes changes rows)
 with_changes-push [] rows key change = refl
 with_changes-push (c ∷ changes) rows key change = with_changes-push changes (with_change c.0 c.1 rows) key change
 
 -- one row after the others
-module _ (rows : Rows) (changes : Changes) (rising : HasRisingIds rows) (rise : ChangesRise changes) (id : ℕ) (none : value_at id changes ≡ None) where
+module _ (rows : Rows) (changes : RowChanges) (rising : HasRisingIds rows) (rise : ChangesRise changes) (id : ℕ) (none : value_at id changes ≡ None) where
   abbrev so_far : Rows
   so_far = with_changes changes rows
 

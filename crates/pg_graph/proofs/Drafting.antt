@@ -6,16 +6,16 @@ use Rattle.std.specs.BTreeMap.{insert_entry, is_at}
 use Rattle.std.specs.Map.{remove_entry}
 use Rattle.std.specs.Option.{option_map, unwrap_or}
 use Rattle.pg_map.specs.Entries.{ChangesRise, with_change, with_changes}
-use Rattle.pg_edits.specs.ChangedRows.{Changes}
-use Rattle.pg_edits.specs.ChangedRows.{degree_of}
-use Rattle.pg_graph.specs.Changes.{changed_row_at}
+use Rattle.pg_graph_rows.specs.ChangedRows.{RowChanges}
+use Rattle.pg_graph_rows.specs.ChangedRows.{degree_of}
+use Rattle.pg_graph.specs.RowChanges.{changed_row_at}
 use Rattle.pg_graph.specs.Draft.{IsCounted, BecomesBy, RefusesEdit}
 use Rattle.pg_graph.specs.Edit.{edited, vertex_limit, edge_limit}
 use Rattle.pg_graph.specs.Rows.{Rows, HasRisingIds, row_at, with_row, without_row, vertex_count, edge_count}
-use Rattle.pg_edits.specs.declared.edit.Edit.{Edit}
-use Rattle.pg_edits.specs.declared.edit.EditKind.{EditKind}
-use Rattle.pg_edits.specs.declared.edit.EditKind.TheVariants.{Memory, NoVertex}
-use Rattle.pg_edits.specs.declared.row.Row.{Row}
+use Rattle.pg_graph_rows.specs.declared.edit.Edit.{Edit}
+use Rattle.pg_graph_rows.specs.declared.edit.EditKind.{EditKind}
+use Rattle.pg_graph_rows.specs.declared.edit.EditKind.TheVariants.{Memory, NoVertex}
+use Rattle.pg_graph_rows.specs.declared.row.Row.{Row}
 use Rattle.pg_map.proofs.Changing.{rises-changes, value_at-with_changes, with_changes-insert, insert-remove}
 use Rattle.pg_map.proofs.Rising.{rises-insert, length-insert_absent, length-insert_present, length-remove_present, sum-insert, sum-remove}
 
@@ -58,19 +58,19 @@ none_there (Some x) gone = absurd (let f : true ≡ false = gone in cc)
 
 -- ---- of a draft
 
-module _ (graph : Rows) (changes : Changes) (vertices edges : ℕ) (before : IsCounted graph changes vertices edges) (id : ℕ) where
+module _ (graph : Rows) (changes : RowChanges) (vertices edges : ℕ) (before : IsCounted graph changes vertices edges) (id : ℕ) where
   abbrev now : Rows
   now = with_changes changes graph
 
   -- the changes without that of the vertex
-  abbrev others : Changes
+  abbrev others : RowChanges
   others = remove_entry (is_at (nat_cmp id)) changes
 
   now_rises : HasRisingIds now
   now_rises = rises-changes changes graph before.graph_rises
 
   pub row_now : (row : Option Row) → changed_row_at id changes graph ≡ row → row_at id now ≡ row
-  row_now row told = value_at-with_changes changes graph id before.changes_rise before.graph_rises ∙ told
+  row_now row stated = value_at-with_changes changes graph id before.changes_rise before.graph_rises ∙ stated
 
   pub vertex_left : (row : Row) → row_at id now ≡ Some row → 1 ≤ vertices
   vertex_left row there = omega (arith, some_vertex now id row there, before.vertices_counted)
@@ -94,7 +94,7 @@ module _ (graph : Rows) (changes : Changes) (vertices edges : ℕ) (before : IsC
   }
 
   -- where the change of the vertex was taken out, and this one was put in
-  module _ (taken changes' : Changes) (change : Option Row) (took : taken ≡ others) (put : changes' ≡ insert_entry nat_cmp taken id change) where
+  module _ (taken changes' : RowChanges) (change : Option Row) (took : taken ≡ others) (put : changes' ≡ insert_entry nat_cmp taken id change) where
     in_place : changes' ≡ insert_entry nat_cmp changes id change
     in_place = put ∙ ap (λ l. insert_entry nat_cmp l id change) took ∙ insert-remove changes id change before.changes_rise
 
@@ -133,7 +133,7 @@ module _ (graph : Rows) (changes : Changes) (vertices edges : ℕ) (before : IsC
 
   -- of the draft as a contract sees it
   module _ (value : Rows × Rows) (view : (graph, now) ≡ value) (edit : Edit) where
-    pub becomes : (changes' : Changes) (rows' : Rows) → edited now edit ≡ Ok rows' → with_changes changes' graph ≡ rows'
+    pub becomes : (changes' : RowChanges) (rows' : Rows) → edited now edit ≡ Ok rows' → with_changes changes' graph ≡ rows'
         → BecomesBy edit value (graph, with_changes changes' graph)
     becomes changes' rows' made same = subst (λ v. BecomesBy edit v (graph, with_changes changes' graph)) view (refl, made ∙ ap (λ rows. Ok rows) (sym same))
 
@@ -142,8 +142,8 @@ module _ (graph : Rows) (changes : Changes) (vertices edges : ℕ) (before : IsC
 
     pub refused_row : (kind : EditKind) → (row_at id now ≡ None → edited now edit ≡ Err NoVertex)
         → (kind ≡ Memory) ⊎ ((kind ≡ NoVertex) × (changed_row_at id changes graph ≡ None)) → RefusesEdit edit value kind
-    refused_row kind missing told =
+    refused_row kind missing stated =
         ⊎_elim
         (λ (e : kind ≡ Memory). inl e)
         (λ (p : (kind ≡ NoVertex) × (changed_row_at id changes graph ≡ None)). refused kind (missing (row_now None p.1) ∙ ap (λ k. Err k) (sym p.0)))
-        told
+        stated

@@ -1,12 +1,12 @@
 -- What one edit makes of a graph, case by case.
 use Rattle.std.proofs.Common.{◌≡◌, ℕ, ℤ, ◌<◌, ◌≤◌, [], true, false, None, Some, Ok, Err, is_some, refl}
 use Rattle.std.proofs.lemmas.Bool.{le-leb, lt-leb}
-use Rattle.pg_edits.specs.EdgeList.{weight_at, with_edge, without_edge}
+use Rattle.pg_graph_rows.specs.EdgeList.{weight_at, with_edge, without_edge}
 use Rattle.pg_graph.specs.Edit.{at_row, edited, vertex_limit, edge_limit}
 use Rattle.pg_graph.specs.Rows.{Rows, row_at, with_row, without_row, vertex_count, edge_count}
-use Rattle.pg_edits.specs.declared.row.Row.{Row}
-use Rattle.pg_edits.specs.declared.edit.Edit.TheVariants.{AddVertex, RemoveVertex, SetInput, AddEdge, SetEdge, RemoveEdge}
-use Rattle.pg_edits.specs.declared.edit.EditKind.TheVariants.{VertexExists, NoVertex, EdgeExists, NoEdge, Full}
+use Rattle.pg_graph_rows.specs.declared.row.Row.{Row}
+use Rattle.pg_graph_rows.specs.declared.edit.Edit.TheVariants.{AddVertex, RemoveVertex, SetInput, AddEdge, SetEdge, RemoveEdge}
+use Rattle.pg_graph_rows.specs.declared.edit.EditKind.TheVariants.{VertexExists, NoVertex, EdgeExists, NoEdge, Full}
 
 module _ (rows : Rows) (id : ℕ) where
   -- ---- a new vertex

@@ -12,20 +12,20 @@ use Rattle.std.proofs.lemmas.List.Sums.{sum_by-cons}
 use Rattle.pg_map.specs.Entries.{with_change}
 use Rattle.pg_map.proofs.Changing.{rises-change, change_same, change_other}
 use Rattle.pg_map.proofs.Rising.{length-insert_absent, length-insert_present, length-remove_present, rises-insert, rises-remove}
-use Rattle.pg_edits.specs.ChangedRows.{degree_of}
-use Rattle.pg_edits.specs.EdgeList.{EdgeList, IsRising, weight_at, with_edge, without_edge}
+use Rattle.pg_graph_rows.specs.ChangedRows.{degree_of}
+use Rattle.pg_graph_rows.specs.EdgeList.{EdgeList, IsRising, weight_at, with_edge, without_edge}
 use Rattle.pg_graph.specs.Edit.{edited, all_edited, vertex_limit, edge_limit}
-use Rattle.pg_edits.specs.RowEdit.{source_of, row_edited, none_edited, vertex_edited, Places, vertex_after}
+use Rattle.pg_graph_rows.specs.RowEdit.{source_of, row_edited, none_edited, vertex_edited, Places, vertex_after}
 use Rattle.pg_graph.specs.Grouped.{EditedRowsRise, RowRises}
 use Rattle.pg_graph.specs.RowEdit.{placed, is_of, edits_of, adds_vertex, adds_edge, vertices_added, edges_added, HasRoom}
 use Rattle.pg_graph.specs.Rows.{Rows, HasRisingIds, row_at, vertex_count, edge_count}
-use Rattle.pg_edits.specs.declared.row.Row.{Row}
-use Rattle.pg_edits.specs.declared.edit.Edit.{Edit}
-use Rattle.pg_edits.specs.declared.edit.Edit.TheVariants.{AddVertex, RemoveVertex, SetInput, AddEdge, SetEdge, RemoveEdge}
-use Rattle.pg_edits.specs.declared.edit.EditKind.{EditKind}
-use Rattle.pg_edits.specs.declared.edit.EditKind.TheVariants.{NoEdge}
-use Rattle.pg_edits.specs.declared.edit.EditFault.{EditFault}
-use Rattle.pg_edits.proofs.AtPlace.{cut_absent}
+use Rattle.pg_graph_rows.specs.declared.row.Row.{Row}
+use Rattle.pg_graph_rows.specs.declared.edit.Edit.{Edit}
+use Rattle.pg_graph_rows.specs.declared.edit.Edit.TheVariants.{AddVertex, RemoveVertex, SetInput, AddEdge, SetEdge, RemoveEdge}
+use Rattle.pg_graph_rows.specs.declared.edit.EditKind.{EditKind}
+use Rattle.pg_graph_rows.specs.declared.edit.EditKind.TheVariants.{NoEdge}
+use Rattle.pg_graph_rows.specs.declared.edit.EditFault.{EditFault}
+use Rattle.pg_graph_rows.proofs.AtPlace.{cut_absent}
 use Rattle.pg_graph.proofs.Batches.{after, first_edit, all_edited-nil, Err_not_Ok, Ok_not_Err, Err_same}
 use Rattle.pg_graph.proofs.Drafting.{edges-with_row, edges-without_row}
 use Rattle.pg_graph.proofs.Edited.{AddVertex-exists, AddVertex-ok, RemoveVertex-missing, SetInput-missing, AddEdge-missing, SetEdge-missing}

@@ -1,21 +1,21 @@
 -- A draft: a graph, and what its edits so far have made of it.
 use Rattle.std.specs.Prelude.{◌≡◌, ℕ, ◌≤◌, ◌⊎◌, Ok, Err}
 use Rattle.pg_map.specs.Entries.{ChangesRise, with_changes}
-use Rattle.pg_edits.specs.ChangedRows.{Changes}
+use Rattle.pg_graph_rows.specs.ChangedRows.{RowChanges}
 use Rattle.pg_graph.specs.Edit.{edited, vertex_limit, edge_limit}
 use Rattle.pg_graph.specs.Rows.{Rows, HasRisingIds, vertex_count, edge_count}
-use Rattle.pg_graph.specs.declared.draft.Changes.{Changes as Changing}
+use Rattle.pg_graph.specs.declared.draft.RowChanges.{RowChanges as Changing}
 use Rattle.pg_graph.specs.declared.draft.Draft.TheInside.{Inside}
-use Rattle.pg_edits.specs.declared.edit.Edit.{Edit}
-use Rattle.pg_edits.specs.declared.edit.EditKind.{EditKind}
-use Rattle.pg_edits.specs.declared.edit.EditKind.TheVariants.{Memory}
+use Rattle.pg_graph_rows.specs.declared.edit.Edit.{Edit}
+use Rattle.pg_graph_rows.specs.declared.edit.EditKind.{EditKind}
+use Rattle.pg_graph_rows.specs.declared.edit.EditKind.TheVariants.{Memory}
 
 -- the graph with the changes
 abbrev pub rows_in : Inside → Rows
 rows_in draft = with_changes draft.changes.entries draft.graph.now
 
 -- the draft's numbers are those of the graph with the changes
-pub record IsCounted (graph : Rows) (changes : Changes) (vertices edges : ℕ) : Type 0 where
+pub record IsCounted (graph : Rows) (changes : RowChanges) (vertices edges : ℕ) : Type 0 where
   pub graph_rises : HasRisingIds graph
   pub changes_rise : ChangesRise changes
   pub vertices_counted : vertices ≡ vertex_count (with_changes changes graph)

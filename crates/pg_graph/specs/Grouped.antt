@@ -1,18 +1,19 @@
 -- The edits of a batch by vertex, and how far they are dealt with.
-use Rattle.std.specs.Prelude.{◌≡◌, ℕ, nat_le, cond, ◌<◌, ◌≤◌, ◌⊎◌, List, [], Option, None, Some, MatchOption, Ok, Err, MatchResult}
+use Rattle.std.specs.Prelude.{◌≡◌, ℕ, nat_le, cond, ◌<◌, ◌≤◌, ◌⊎◌, List, [], Option, None, Some, MatchOption, Ok, Err}
+use Rattle.std.specs.Prelude.{MatchResult}
 use Rattle.std.specs.List.{AllByRecursion}
 use Rattle.std.specs.List.Sorted.{IsNonDecreasingBy}
 use Rattle.pg_map.specs.Entries.{ChangesRise, value_at, with_changes}
-use Rattle.pg_edits.specs.ChangedRows.{Changes}
-use Rattle.pg_edits.specs.EdgeList.{IsRising}
-use Rattle.pg_graph.specs.Changes.{changed_row_at}
-use Rattle.pg_edits.specs.RowEdit.{Places, source_of, vertex_after}
+use Rattle.pg_graph_rows.specs.ChangedRows.{RowChanges}
+use Rattle.pg_graph_rows.specs.EdgeList.{IsRising}
+use Rattle.pg_graph.specs.RowChanges.{changed_row_at}
+use Rattle.pg_graph_rows.specs.RowEdit.{Places, source_of, vertex_after}
 use Rattle.pg_graph.specs.RowEdit.{edits_of, placed}
 use Rattle.pg_graph.specs.Rows.{Rows, edge_count, row_at}
-use Rattle.pg_graph.specs.declared.draft.Changes.{Changes as Changing}
-use Rattle.pg_edits.specs.declared.edit.Edit.{Edit}
-use Rattle.pg_edits.specs.declared.edit.EditFault.{EditFault}
-use Rattle.pg_edits.specs.declared.row.Row.{Row}
+use Rattle.pg_graph.specs.declared.draft.RowChanges.{RowChanges as Changing}
+use Rattle.pg_graph_rows.specs.declared.edit.Edit.{Edit}
+use Rattle.pg_graph_rows.specs.declared.edit.EditFault.{EditFault}
+use Rattle.pg_graph_rows.specs.declared.row.Row.{Row}
 
 abbrev pub RiseBySource : Places → Type 0
 RiseBySource edits = IsNonDecreasingBy (λ e. source_of e.1) edits
@@ -37,21 +38,23 @@ IsNoLater None other = ⊥
 IsNoLater (Some fault) other = fault.position ≤ other.position
 
 -- the edits of a vertex are all left
-pub record IsLeft (q : ℕ) (all left : Places) (changes : Changes) : Type 0 where
+pub record IsRest (q : ℕ) (all left : Places) (changes : RowChanges) : Type 0 where
   pub edits : edits_of q left ≡ edits_of q all
   pub change : value_at q changes ≡ None
 
 -- or none is, and what they make is among the changes, or a fault
-pub record IsDone (rows : Rows) (q : ℕ) (all left : Places) (changes : Changes) (fault : Option EditFault) : Type 0 where
+pub record IsDone (rows : Rows) (q : ℕ) (all left : Places) (changes : RowChanges)
+    (fault : Option EditFault) : Type 0 where
   pub edits : edits_of q left ≡ []
   pub rises : RowRises (row_at q rows)
-  pub told : MatchResult (vertex_after (row_at q rows) (edits_of q all)) (λ row. value_at q changes ≡ Some row) (IsNoLater fault)
+  pub stated : MatchResult (vertex_after (row_at q rows) (edits_of q all)) (λ row. value_at q changes ≡ Some row)
+      (IsNoLater fault)
 
-pub record AreDealt (rows : Rows) (all left : Places) (changes : Changes) (fault : Option EditFault) : Type 0 where
+pub record AreDealt (rows : Rows) (all left : Places) (changes : RowChanges) (fault : Option EditFault) : Type 0 where
   pub left_rise : RiseBySource left
   pub changes_rise : ChangesRise changes
   pub below : AllByRecursion (λ e. AllByRecursion (λ c. c.0 < source_of e.1) changes) left
-  pub seen : (q : ℕ) → IsLeft q all left changes ⊎ IsDone rows q all left changes fault
+  pub seen : (q : ℕ) → IsRest q all left changes ⊎ IsDone rows q all left changes fault
   pub found : MatchOption fault (Unit {0}) (λ f. (q : ℕ) × (vertex_after (row_at q rows) (edits_of q all) ≡ Err f))
 
 -- of two faults the earlier one, if there is a first
@@ -60,9 +63,9 @@ earlier_of None found = found
 earlier_of (Some fault) found = cond (nat_le fault.position found.position) fault found
 
 -- each vertex has what its edits make of it, or what it had
-pub record AreMade (rows : Rows) (all : Places) (changes : Changes) : Type 0 where
+pub record AreMade (rows : Rows) (all : Places) (changes : RowChanges) : Type 0 where
   pub rise : ChangesRise changes
-  pub told : (q : ℕ) → vertex_after (row_at q rows) (edits_of q all) ≡ Ok (changed_row_at q changes rows)
+  pub stated : (q : ℕ) → vertex_after (row_at q rows) (edits_of q all) ≡ Ok (changed_row_at q changes rows)
 
 -- and the number is that of the edges of the graph with the changes
 pub record AreCounted (rows : Rows) (all : Places) (changes : Changing) : Type 0 where
@@ -73,4 +76,5 @@ pub record AreCounted (rows : Rows) (all : Places) (changes : Changing) : Type 0
 pub record IsFirst (rows : Rows) (all : Places) (fault : EditFault) : Type 0 where
   pub vertex : ℕ
   pub there : vertex_after (row_at vertex rows) (edits_of vertex all) ≡ Err fault
-  pub first : (q : ℕ) (other : EditFault) → vertex_after (row_at q rows) (edits_of q all) ≡ Err other → fault.position ≤ other.position
+  pub first : (q : ℕ) (other : EditFault) → vertex_after (row_at q rows) (edits_of q all) ≡ Err other
+      → fault.position ≤ other.position

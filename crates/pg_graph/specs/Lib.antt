@@ -1,8 +1,8 @@
 pub mod ById
-pub mod Changes
 pub mod Draft
 pub mod Edit
 pub mod Grouped
+pub mod RowChanges
 pub mod RowEdit
 pub mod Rows
 pub use Rattle.pg_map.specs.Entries

@@ -2,12 +2,13 @@
 use Rattle.std.specs.Prelude.{◌≡◌, ℕ, ◌+◌, ◌≤◌, Bool, true, false, nat_eq, List, [], ◌∷◌, Option, Result, Ok, Err}
 use Rattle.std.specs.List.{count_by, filter}
 use Rattle.pg_graph.specs.Edit.{vertex_limit, edge_limit}
-use Rattle.pg_edits.specs.RowEdit.{Places, source_of, vertex_after}
+use Rattle.pg_graph_rows.specs.RowEdit.{Places, source_of, vertex_after}
 use Rattle.pg_graph.specs.Rows.{Rows, row_at}
-use Rattle.pg_edits.specs.declared.row.Row.{Row}
-use Rattle.pg_edits.specs.declared.edit.Edit.{Edit}
-use Rattle.pg_edits.specs.declared.edit.Edit.TheVariants.{AddVertex, RemoveVertex, SetInput, AddEdge, SetEdge, RemoveEdge}
-use Rattle.pg_edits.specs.declared.edit.EditFault.{EditFault}
+use Rattle.pg_graph_rows.specs.declared.row.Row.{Row}
+use Rattle.pg_graph_rows.specs.declared.edit.Edit.{Edit}
+use Rattle.pg_graph_rows.specs.declared.edit.Edit.TheVariants.{AddVertex, RemoveVertex, SetInput, AddEdge, SetEdge}
+use Rattle.pg_graph_rows.specs.declared.edit.Edit.TheVariants.{RemoveEdge}
+use Rattle.pg_graph_rows.specs.declared.edit.EditFault.{EditFault}
 
 -- edits numbered from `position`
 abbrev pub placed : ℕ → List Edit → Places

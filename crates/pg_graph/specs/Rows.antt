@@ -5,7 +5,7 @@ use Rattle.std.specs.BTreeMap.{insert_entry, is_at}
 use Rattle.std.specs.List.{sum_by}
 use Rattle.std.specs.Map.{keys_of, lookup, remove_entry}
 use Rattle.std.specs.List.Sorted.{IsStrictlySortedBy}
-use Rattle.pg_edits.specs.declared.row.Row.{Row}
+use Rattle.pg_graph_rows.specs.declared.row.Row.{Row}
 
 -- ids with their rows, by rising id
 abbrev pub Rows : Type 0

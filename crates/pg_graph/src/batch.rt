@@ -19,7 +19,7 @@ impl Drop for Batch {
 
 impl Model for Batch {
     ghost use Rattle.std.specs.Prelude.{List};
-    ghost use Rattle.pg_edits.specs.declared.edit.Edit.{Edit};
+    ghost use Rattle.pg_graph_rows.specs.declared.edit.Edit.{Edit};
 
     ghost Value = { List Edit };
 

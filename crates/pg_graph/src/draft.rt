@@ -3,11 +3,11 @@ ghost use Rattle.std.specs.Prelude.{◌≡◌, ◌≤◌, ◌⊎◌, length, is_
 ghost use Rattle.std.specs.BTreeMap.{is_at};
 ghost use Rattle.std.specs.Map.{remove_entry};
 ghost use Rattle.std.specs.Ordering.{nat_cmp};
-ghost use Rattle.pg_graph.specs.Changes.{changed_row_at};
+ghost use Rattle.pg_graph.specs.RowChanges.{changed_row_at};
 
 use crate::entries::put;
 use crate::{Batch, Edit, EditFault, EditKind, Graph, Memory, Row, VertexId};
-use pg_edits::DraftRow;
+use pg_graph_rows::DraftRow;
 use std::alloc::Global;
 use std::collections::BTreeMap;
 use std::marker::Model;
@@ -24,7 +24,7 @@ pub(crate) const BATCH_LIMIT: usize = 100_000;
 /// What becomes of vertices, by rising id: a row, or none where a vertex is removed. It says how many
 /// edges the graph has then.
 #[derive(Drop)]
-pub(crate) struct Changes {
+pub(crate) struct RowChanges {
     pub(crate) rows: Vec<(VertexId, Option<Row>)>,
     pub(crate) edges: u64,
 }
@@ -89,14 +89,14 @@ impl<'a> Draft<'a> {
     }
 
     /// What becomes of the vertices that were changed, with edges as a graph holds them.
-    pub(crate) fn into_changes(self, alloc: Global) -> Result<Changes, Memory>
+    pub(crate) fn into_changes(self, alloc: Global) -> Result<RowChanges, Memory>
         ensures { IfOk result (Makes self.entry.0 self.entry.1) }
     {
         let mut changes = Vec::with_capacity(alloc, self.changes.len())?;
         for (id, change) in self.changes {
             changes.push((id, finished(alloc, change)?))?;
         }
-        Ok(Changes {
+        Ok(RowChanges {
             rows: changes,
             edges: self.edges,
         })
@@ -234,7 +234,9 @@ fn take_row(
 ) -> Result<DraftRow, EditKind>
     ensures row { IfOk result (λ row. changed_row_at id changes.old.entries graph.now ≡ Some row) }
     ensures taken { changes.new.entries ≡ remove_entry (is_at (nat_cmp id)) changes.old.entries }
-    ensures err { IfErr result (λ kind. (kind ≡ EditKind.Memory) ⊎ ((kind ≡ EditKind.NoVertex) × (changed_row_at id changes.old.entries graph.now ≡ None))) }
+    ensures err { IfErr result
+        (λ kind. (kind ≡ EditKind.Memory)
+        ⊎ ((kind ≡ EditKind.NoVertex) × (changed_row_at id changes.old.entries graph.now ≡ None))) }
 {
     match changes.remove(&id) {
         Some(Some(row)) => Ok(row),

@@ -8,17 +8,17 @@ mod apply;
 
 use crate::grouped::is_many;
 use crate::{Memory, Row, VertexId};
-use pg_map::{Finder, Ids, Iter, Map};
+use pg_map::{Cursor, Ids, Iter, Map};
 use std::alloc::Global;
 use std::marker::Model;
 
 /// A graph: a finite map from ids to rows. A contract sees the list of (id, row) by rising id.
 ///
-/// It counts how often a row was changed since `settle` last went over all.
+/// It counts how often a row was changed since `compact` last went over all.
 pub struct Graph {
     rows: Map<Row>,
     total_edges: u64,
-    loose: u64,
+    rows_since_compaction: u64,
 }
 
 // By hand, so that it is let go by one call wherever that is, and not field by field.
@@ -27,7 +27,7 @@ impl Drop for Graph {
         let Graph {
             rows: _,
             total_edges: _,
-            loose: _,
+            rows_since_compaction: _,
         } = self;
     }
 }
@@ -40,7 +40,8 @@ impl Model for Graph {
 
     ghost view = { λ g. g.rows };
 
-    ghost invariant = { λ g. (g.total_edges ≡ edge_count g.rows) × (vertex_count g.rows ≤ 2 ^ 20) × (g.total_edges ≤ 2 ^ 24) };
+    ghost invariant = { λ g. (g.total_edges ≡ edge_count g.rows) × (vertex_count g.rows ≤ 2 ^ 20)
+        × (g.total_edges ≤ 2 ^ 24) };
 }
 
 impl Graph {
@@ -53,7 +54,7 @@ impl Graph {
         Graph {
             rows: Map::new(),
             total_edges: 0,
-            loose: 0,
+            rows_since_compaction: 0,
         }
     }
 
@@ -65,25 +66,25 @@ impl Graph {
     }
 
     /// Look-ups of rows, which cost less where ids come near one another.
-    pub fn finder(&self) -> Finder<'_, Row>
+    pub fn cursor(&self) -> Cursor<'_, Row>
         ensures { result ≡ self.now }
     {
-        self.rows.finder()
+        self.rows.cursor()
     }
 
-    /// Whether each id from one to another is a vertex. It says no, too, wherever the graph leaves out an id between its
-    /// first and its last. Costs a few binary searches.
+    /// Whether each id from one to another is a vertex. It says no, too, wherever the graph leaves out an id between
+    /// its first and its last. Costs a few binary searches.
     pub fn has_all(&self, first: VertexId, last: VertexId) -> bool
         ensures { IsTrue result → (id : ℕ) → first ≤ id → id ≤ last → IsSome (row_at id self.now) }
     {
-        match self.stretch() {
+        match self.contiguous_range() {
             Some((least, greatest)) => least <= first && last <= greatest,
             None => false,
         }
     }
 
     /// The first id and the last of the graph, if none between them is left out.
-    fn stretch(&self) -> Option<(VertexId, VertexId)>
+    fn contiguous_range(&self) -> Option<(VertexId, VertexId)>
         ensures { IfSome result (λ s. (id : ℕ) → s.0 ≤ id → id ≤ s.1 → IsSome (row_at id self.now)) }
     {
         let (first, _) = self.rows.iter().next()?;
@@ -127,25 +128,26 @@ impl Graph {
     pub fn copy(&self, _alloc: Global) -> Result<Graph, Memory>
         ensures { IfOk result (λ graph. graph ≡ self.now) }
     {
-        let rows = self.rows.share()?;
+        let rows = self.rows.cheap_clone()?;
         Ok(Graph {
             rows,
             total_edges: self.total_edges,
-            loose: self.loose,
+            rows_since_compaction: self.rows_since_compaction,
         })
     }
 
     /// Lays rows anew in memory, so that the edges of rows that stand side by side lie side by side: as far as there is
-    /// memory for it and no copy shares them, and where many rows were changed since the last time. What is made of rows
-    /// afterwards waits less for memory. What it has to leave as it is, it doesn't try again before as many have changed.
+    /// memory for it and no copy shares them, and where many rows were changed since the last time. What is made of
+    /// rows afterwards waits less for memory. What it has to leave as it is, it doesn't try again before as many have
+    /// changed.
     ///
     /// It costs a walk over all rows, and a copy of the edges of rows that stand beside changed ones.
-    pub fn settle(&mut self, alloc: Global)
+    pub fn compact(&mut self, alloc: Global)
         ensures { self.new ≡ self.old }
     {
-        if is_many(self.loose, self.vertices()) {
+        if is_many(self.rows_since_compaction, self.vertices()) {
             self.rows.pack(alloc);
-            self.loose = 0;
+            self.rows_since_compaction = 0;
         }
     }
 

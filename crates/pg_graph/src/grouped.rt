@@ -4,18 +4,19 @@ ghost use Rattle.pg_map.specs.Entries.{with_changes};
 ghost use Rattle.std.specs.List.Sorted.{IsPartitionPoint};
 ghost use Rattle.std.specs.Option.{option_copied};
 ghost use Rattle.pg_graph.specs.ById.{AreById, StandAt};
-ghost use Rattle.pg_edits.specs.ChangedRows.{degree_of};
-ghost use Rattle.pg_edits.specs.EditFault.{memory_fault};
+ghost use Rattle.pg_graph_rows.specs.ChangedRows.{degree_of};
+ghost use Rattle.pg_graph_rows.specs.EditFault.{memory_fault};
 ghost use Rattle.pg_graph.specs.Draft.{Makes};
 ghost use Rattle.pg_graph.specs.Edit.{batch_edited, RefusesBatch, batch_limit};
-ghost use Rattle.pg_graph.specs.Grouped.{AreCounted, AreGrouped, EditedRowsRise, IsFirst, RiseBySource, RowRises, earlier_of};
+ghost use Rattle.pg_graph.specs.Grouped.{AreCounted, AreGrouped, EditedRowsRise, IsFirst, RiseBySource, RowRises};
+ghost use Rattle.pg_graph.specs.Grouped.{earlier_of};
 ghost use Rattle.pg_graph.specs.RowEdit.{AreRowsMade, HasRoom, IsEarliestFault, edges_added, placed, vertices_added};
-ghost use Rattle.pg_edits.specs.RowEdit.{source_of};
+ghost use Rattle.pg_graph_rows.specs.RowEdit.{source_of};
 ghost use Rattle.pg_graph.specs.Rows.{HasRisingIds, edge_count, vertex_count};
 
-use crate::draft::Changes;
+use crate::draft::RowChanges;
 use crate::{Batch, Edit, EditFault, Graph, Memory, Row, VertexId, sorted_by_id};
-use pg_edits::ChangedRows;
+use pg_graph_rows::ChangedRows;
 use std::alloc::{AllocError, Global};
 
 /// Each changed row pays for a look at so many.
@@ -29,13 +30,16 @@ pub(crate) fn changes_by_vertex(
     alloc: Global,
     graph: &Graph,
     batch: &Batch,
-) -> Result<Changes, EditFault>
+) -> Result<RowChanges, EditFault>
     requires rising { HasRisingIds graph.now }
     requires short { length batch.now ≤ batch_limit }
-    requires room { HasRoom (vertex_count graph.now) (edge_count graph.now) (vertices_added batch.now) (edges_added batch.now) }
+    requires room { HasRoom (vertex_count graph.now) (edge_count graph.now) (vertices_added batch.now)
+        (edges_added batch.now) }
     ensures ok { IfOk result (λ changes. Makes graph.now (with_changes changes.rows.items graph.now) changes) }
-    ensures made { IfOk result (λ changes. batch_edited graph.now batch.now ≡ Ok (with_changes changes.rows.items graph.now)) }
-    ensures rows { IfOk result (λ changes. AreRowsMade graph.now batch.now (with_changes changes.rows.items graph.now)) }
+    ensures made { IfOk result
+        (λ changes. batch_edited graph.now batch.now ≡ Ok (with_changes changes.rows.items graph.now)) }
+    ensures rows { IfOk result
+        (λ changes. AreRowsMade graph.now batch.now (with_changes changes.rows.items graph.now)) }
     ensures err { IfErr result (RefusesBatch graph.now batch.now) }
     ensures first { IfErr result (λ fault. (fault ≡ memory_fault) ⊎ IsEarliestFault graph.now batch.now fault) }
 {
@@ -75,22 +79,23 @@ fn dealt_with(
     alloc: Global,
     graph: &Graph,
     edits: &[(u64, Edit)],
-) -> Result<Result<Changes, EditFault>, Memory>
+) -> Result<Result<RowChanges, EditFault>, Memory>
     requires rising { HasRisingIds graph.now }
     requires edits_rise { RiseBySource edits.now }
-    ensures made { IfOk result (λ made. MatchResult made (AreCounted graph.now edits.now) (IsFirst graph.now edits.now)) }
+    ensures made { IfOk result
+        (λ made. MatchResult made (AreCounted graph.now edits.now) (IsFirst graph.now edits.now)) }
     ensures rows_rise { IfOk result (λ _. EditedRowsRise graph.now edits.now) }
 {
     let vertices = vertices_of(edits);
     let mut rows = ChangedRows::new(alloc, vertices, is_many(vertices as u64, graph.vertices()))?;
-    let mut finder = graph.finder();
+    let mut cursor = graph.cursor();
     let mut edges = graph.edges();
     let mut fault = None;
     let mut left = edits;
     while let Some((first, _)) = left.split_first() {
         let id = first.1.source();
         let (here, later) = left.split_at(count_of(left, id));
-        let row = finder.get(id);
+        let row = cursor.get(id);
         let had = degree_of(row);
         match rows.edit(alloc, id, row, here)? {
             Ok(degree) => edges = edges_with(edges, had, degree)?,
@@ -102,7 +107,7 @@ fn dealt_with(
         Some(fault) => Ok(Err(fault)),
         None => {
             let rows = rows.finish(alloc)?;
-            Ok(Ok(Changes { rows, edges }))
+            Ok(Ok(RowChanges { rows, edges }))
         }
     }
 }
@@ -131,7 +136,8 @@ fn vertices_of(edits: &[(u64, Edit)]) -> usize {
 fn count_of(edits: &[(u64, Edit)], id: VertexId) -> usize
     requires { RiseBySource edits.now }
     ensures bound { result ≤ length edits.now }
-    ensures parts { IsPartitionPoint (λ e. nat_le (source_of e.1) id ≡ true) (λ e. nat_le (source_of e.1) id ≡ false) edits.now result }
+    ensures parts { IsPartitionPoint (λ e. nat_le (source_of e.1) id ≡ true) (λ e. nat_le (source_of e.1) id ≡ false)
+        edits.now result }
 {
     for (count, edit) in edits.iter().enumerate() {
         if !is_at_most(edit.1.source(), id) {

@@ -17,6 +17,6 @@ pub use graph::Graph;
 pub use missing::Missing;
 pub use near::count_below;
 pub use order::reordered_by_id;
-pub use pg_edits::{Edges, Edit, EditFault, EditKind, Row};
-pub use pg_map::{Edition, Finder, Ids, Iter, PartitionId, Superstep, VertexId, WorkerId};
+pub use pg_graph_rows::{Edges, Edit, EditFault, EditKind, Row};
+pub use pg_map::{Cursor, Edition, Ids, Iter, PartitionId, Superstep, VertexId, WorkerId};
 pub use std::alloc::AllocError as Memory;

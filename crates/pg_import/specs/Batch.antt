@@ -1,11 +1,12 @@
 -- The batch that brings the edges of a list into a graph, and what it makes of the graph.
-use Rattle.std.specs.Prelude.{◌≡◌, ◌⊎◌, ℕ, pos, ◌<◌, Bool, if◌then◌else◌, List, [], ◌∷◌, ◌++◌, length, fold, None, Some, is_some, option_and_then, MatchResult}
+use Rattle.std.specs.Prelude.{◌≡◌, ◌⊎◌, ℕ, pos, ◌<◌, Bool, if◌then◌else◌, List, [], ◌∷◌, ◌++◌, length, fold, None, Some}
+use Rattle.std.specs.Prelude.{is_some, option_and_then, MatchResult}
 use Rattle.pg_graph.specs.Edit.{batch_edited, batch_limit, edge_limit, vertex_limit}
-use Rattle.pg_edits.specs.EdgeList.{weight_at, with_edge}
+use Rattle.pg_graph_rows.specs.EdgeList.{weight_at, with_edge}
 use Rattle.pg_graph.specs.Rows.{Rows, edge_count, row_at, vertex_count, with_row}
-use Rattle.pg_edits.specs.declared.edit.Edit.{Edit}
-use Rattle.pg_edits.specs.declared.edit.Edit.TheVariants.{AddVertex, AddEdge, SetEdge}
-use Rattle.pg_edits.specs.declared.edit.EditKind.TheVariants.{BatchTooLong, Full}
+use Rattle.pg_graph_rows.specs.declared.edit.Edit.{Edit}
+use Rattle.pg_graph_rows.specs.declared.edit.Edit.TheVariants.{AddVertex, AddEdge, SetEdge}
+use Rattle.pg_graph_rows.specs.declared.edit.EditKind.TheVariants.{BatchTooLong, Full}
 use Rattle.pg_import.specs.declared.line.Line.{Line}
 
 -- whether a graph has a vertex
@@ -46,12 +47,14 @@ vertex_edits id rows = if has_vertex id rows then [] else AddVertex id (pos 0) �
 -- the edit of the edge of a line, by whether it is there
 unfoldable pub edge_edit : Line → Rows → Edit
 edge_edit line rows =
-    if has_edge line.source line.target rows then SetEdge line.source line.target line.weight else AddEdge line.source line.target line.weight
+    if has_edge line.source line.target rows then SetEdge line.source line.target line.weight else AddEdge line.source
+    line.target line.weight
 
 -- the edits of a line: its source, then its target, then its edge
 abbrev pub line_edits : Line → Rows → List Edit
 line_edits line rows =
-    vertex_edits line.source rows ++ vertex_edits line.target (with_vertex line.source rows) ++ edge_edit line (with_ends line rows) ∷ []
+    vertex_edits line.source rows ++ vertex_edits line.target (with_vertex line.source rows)
+    ++ edge_edit line (with_ends line rows) ∷ []
 
 -- the batch of a list of edges, each line on the graph as the ones before it leave it, limits aside
 unfoldable pub batch_of : List Line → Rows → List Edit

@@ -1,5 +1,6 @@
 -- The comma form of an edge list: a record for each edge, and perhaps a header before them.
-use Rattle.std.specs.Prelude.{ℕ, Bool, false, ◌&&◌, not, if◌then◌else◌, List, [], ◌∷◌, map, reverse, None, Some, Result, Ok}
+use Rattle.std.specs.Prelude.{ℕ, Bool, false, ◌&&◌, not, if◌then◌else◌, List, [], ◌∷◌, map, reverse, None, Some, Result}
+use Rattle.std.specs.Prelude.{Ok}
 use Rattle.std.specs.Char.{is_ascii_digit}
 use Rattle.csv.specs.Reading.{default_config, records, strip_bom}
 use Rattle.pg_import.specs.Import.{◌>>=◌, Reading, begins_with, edge_of, edges_from}
@@ -24,7 +25,8 @@ reading_of_record fields = edge_of fields >>= λ line. Ok (Some line)
 -- what records say: a header can only be the first of them
 unfoldable pub readings_of : List (List (List ℕ)) → List Reading
 readings_of [] = []
-readings_of (first ∷ others) = (if is_header first then Ok None else reading_of_record first) ∷ map reading_of_record others
+readings_of (first ∷ others) = (if is_header first then Ok None else reading_of_record first) ∷ map reading_of_record
+    others
 
 -- a text in comma form: the records that `csv` states, with commas, double quotes and no header row of its own
 unfoldable pub csv_of : List ℕ → Result (List Line) ImportFault

@@ -1,5 +1,6 @@
 -- What a list of edges means: its edges in order, or its first faulty line.
-use Rattle.std.specs.Prelude.{◌≡◌, ◌⊎◌, ℕ, pos, ◌+◌, ◌<◌, length, Bool, false, ◌==◌, if◌then◌else◌, List, [], ◌∷◌, ◌++◌, map, Option, None, Some, Result, Ok, Err}
+use Rattle.std.specs.Prelude.{◌≡◌, ◌⊎◌, ℕ, pos, ◌+◌, ◌<◌, length, Bool, false, ◌==◌, if◌then◌else◌, List, [], ◌∷◌, ◌++◌}
+use Rattle.std.specs.Prelude.{map, Option, None, Some, Result, Ok, Err}
 use Rattle.pg_import.specs.Number.{id_of, weight_of}
 use Rattle.pg_import.specs.Text.{line_of, raw_lines, words_of}
 use Rattle.pg_import.specs.declared.line.Line.{Line}
@@ -39,7 +40,8 @@ begins_with test (b ∷ rest) = test b
 -- a line of no words says nothing, nor does one that begins with `#`
 unfoldable pub reading_of : List (List ℕ) → Reading
 reading_of [] = Ok None
-reading_of (word ∷ words) = if begins_with (λ b. b == 35) word then Ok None else (edge_of (word ∷ words) >>= λ line. Ok (Some line))
+reading_of (word ∷ words) = if begins_with (λ b. b == 35) word then Ok None else
+    (edge_of (word ∷ words) >>= λ line. Ok (Some line))
 
 -- the first line of a text says so, and this comes after it
 pub record ReadsLine (text : List ℕ) (reading : Reading) (rest : List ℕ) : Type 0 where

@@ -12,7 +12,8 @@ is_edge source target edge = is_at (nat_cmp edge.source) source && is_at (nat_cm
 -- whether the edge between two vertices is there: as its entry says, and where it has none as it is elsewhere
 abbrev pub there_in : ℕ → ℕ → Bool → List NamedEdge → Bool
 there_in source target elsewhere [] = elsewhere
-there_in source target elsewhere (edge ∷ edges) = if is_edge source target edge then edge.there else there_in source target elsewhere edges
+there_in source target elsewhere (edge ∷ edges) =
+    if is_edge source target edge then edge.there else there_in source target elsewhere edges
 
 -- what the entries say of each edge is what `has` says
 abbrev pub AreThereAs : (ℕ → ℕ → Bool) → List NamedEdge → Type 0
@@ -34,4 +35,5 @@ AreDistinct (edge ∷ edges) = IsApart edge.source edge.target edges × AreDisti
 
 -- all edges come before a source and a target
 abbrev pub AreBefore : ℕ → ℕ → List NamedEdge → Type 0
-AreBefore source target edges = AllByRecursion (λ edge. (edge.source < source) ⊎ ((edge.source ≡ source) × (edge.target < target))) edges
+AreBefore source target edges =
+    AllByRecursion (λ edge. (edge.source < source) ⊎ ((edge.source ≡ source) × (edge.target < target))) edges

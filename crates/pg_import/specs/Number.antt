@@ -1,5 +1,6 @@
 -- The numbers of a list: ASCII digits in base ten, with leading zeros or without.
-use Rattle.std.specs.Prelude.{ℕ, ℤ, pos, neg_ℤ, ◌+◌, ◌-◌, ◌*◌, Bool, ◌&&◌, ◌==◌, nat_lt, if◌then◌else◌, List, [], ◌∷◌, length, fold, Result, Ok, Err}
+use Rattle.std.specs.Prelude.{ℕ, ℤ, pos, neg_ℤ, ◌+◌, ◌-◌, ◌*◌, Bool, ◌&&◌, ◌==◌, nat_lt, if◌then◌else◌, List, [], ◌∷◌}
+use Rattle.std.specs.Prelude.{length, fold, Result, Ok, Err}
 use Rattle.std.specs.Char.{is_ascii_digit}
 use Rattle.std.specs.List.{list_all}
 use Rattle.pg_import.specs.declared.line.ImportKind.{ImportKind}
@@ -16,7 +17,8 @@ read_on n digits = fold (λ m digit. m * 10 + (digit - 48)) n digits
 -- the number that a word writes, which has to be a numeral, and at most the limit
 unfoldable pub number_up_to : ℕ → List ℕ → Result ℕ ImportKind
 number_up_to limit word =
-    if is_numeral word then (if nat_lt limit (read_on 0 word) then Err OutOfRange else Ok (read_on 0 word)) else Err NotNumber
+    if is_numeral word then (if nat_lt limit (read_on 0 word) then Err OutOfRange else Ok (read_on 0 word)) else Err
+    NotNumber
 
 -- an id: at most 2^63 - 1
 unfoldable pub id_of : List ℕ → Result ℕ ImportKind

@@ -25,4 +25,5 @@ AreKnown rows (id ∷ ids) (rank ∷ ranks) = IsKnown rows id rank × AreKnown r
 
 -- and of the ends of each line
 abbrev pub EndsAreKnown : Rows → List Line → Ranks → Type 0
-EndsAreKnown rows lines ranks = AreKnown rows (sources_of lines) ranks.sources × AreKnown rows (targets_of lines) ranks.targets
+EndsAreKnown rows lines ranks =
+    AreKnown rows (sources_of lines) ranks.sources × AreKnown rows (targets_of lines) ranks.targets

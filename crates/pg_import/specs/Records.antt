@@ -12,7 +12,8 @@ module _ {R : Type 0} (remaining : R → Option (List ℕ)) where
 
   -- the records that it has left
   unfoldable pub records_left : Reader R → List (List (List ℕ))
-  records_left reader = records_from default_config (length (bytes_left reader) + 1) (reader_state reader) (bytes_left reader)
+  records_left reader = records_from default_config (length (bytes_left reader) + 1) (reader_state reader)
+      (bytes_left reader)
 
   -- a reader of known bytes, with the settings of the comma form, that stands between two records
   pub record IsBetweenRecords (reader : Reader R) : Type 0 where

@@ -1,7 +1,8 @@
 //! The batch of edits that brings the edges of a list into a graph.
 ghost use Rattle.std.specs.Prelude.{◌≡◌, ◌∷◌, ◌++◌, [], true, not, IfOk, IsNone, OnOk};
 ghost use Rattle.pg_graph.specs.Rows.{Rows};
-ghost use Rattle.pg_import.specs.Batch.{Makes, batch_of, edge_edit, has_edge, has_vertex, vertex_edits, with_line_edge, with_lines, with_vertex};
+ghost use Rattle.pg_import.specs.Batch.{Makes, batch_of, edge_edit, has_edge, has_vertex, vertex_edits, with_line_edge};
+ghost use Rattle.pg_import.specs.Batch.{with_lines, with_vertex};
 ghost use Rattle.pg_import.specs.Named.{Shows};
 
 use crate::looked_up::{has_edge_to, is_there};
@@ -44,7 +45,8 @@ pub fn into_batch(alloc: Global, lines: &[Line], graph: &Graph) -> Result<Batch,
 // Adds a vertex by an edit where it is new.
 #[tactic(auto, unfolding(crate::specs::Batch::vertex_edits))]
 fn push_vertex(batch: &mut Batch, id: VertexId, is_new: bool) -> Result<(), Memory>
-    ensures { OnOk result ((rows : Rows) → is_new ≡ not (has_vertex id rows) → batch.new ≡ batch.old ++ vertex_edits id rows) }
+    ensures { OnOk result ((rows : Rows) → is_new ≡ not (has_vertex id rows) → batch.new ≡ batch.old ++ vertex_edits id
+        rows) }
 {
     if is_new {
         batch.push(Edit::AddVertex(id, 0))?;
@@ -74,8 +76,8 @@ struct Named {
 }
 
 impl Named {
-    // Names an end of a line, and says whether it wasn't there yet. It is expected at this rank, if it has one; else the
-    // graph has it.
+    // Names an end of a line, and says whether it wasn't there yet. It is expected at this rank, if it has one; else
+    // the graph has it.
     fn name_vertex(
         &mut self,
         graph: &Graph,
@@ -109,8 +111,10 @@ impl Named {
 
     // Names the edge of a line, and says whether it wasn't there yet. It is expected at this rank.
     fn name_edge(&mut self, graph: &Graph, line: &Line, rank: u32) -> Result<bool, Memory>
-        ensures { IfOk result (λ added. (rows : Rows) → Shows graph.now self.old rows → has_vertex line.now.source rows ≡ true
-            → (added ≡ not (has_edge line.now.source line.now.target rows)) × Shows graph.now self.new (with_line_edge line.now rows)) }
+        ensures { IfOk result (λ added. (rows : Rows) → Shows graph.now self.old rows → has_vertex line.now.source rows
+            ≡ true
+            → (added ≡ not (has_edge line.now.source line.now.target rows))
+            × Shows graph.now self.new (with_line_edge line.now rows)) }
     {
         match self.edges.name(line.source, line.target, rank as usize) {
             Some(added) => Ok(added),

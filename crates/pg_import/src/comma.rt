@@ -46,7 +46,8 @@ pub fn read_csv(alloc: Global, text: &[u8]) -> Result<Vec<Line>, ImportFault>
 fn next_record<R: Read>(reader: &mut Reader<R>, row: &mut ByteRecord) -> Result<bool, ImportFault>
     requires { IsBetweenRecords R.remaining reader.old }
     ensures ok { IfOk result (λ found.
-        MatchBool found (TakesRecord R.remaining reader.old reader.new (fields_of row.new)) (records_left R.remaining reader.old ≡ [])) }
+        MatchBool found (TakesRecord R.remaining reader.old reader.new (fields_of row.new))
+        (records_left R.remaining reader.old ≡ [])) }
     ensures err { IfErr result (λ fault. fault ≡ no_memory) }
 {
     reader

@@ -1,7 +1,8 @@
 //! The list form: a line for each edge, with blanks and tabs between its fields.
 ghost use Rattle.std.specs.Prelude.{◌≡◌, ◌⊎◌, ◌<◌, ◌∷◌, length, List, pos, Ok, Err, Some, Result, OnOk, IfErr, IfSome};
 ghost use Rattle.std.specs.Option.{option_copied, option_to_list};
-ghost use Rattle.pg_import.specs.Import.{Gives, ReadsLine, at_line, edge_of, followed_by, list_of, no_memory, reading_of};
+ghost use Rattle.pg_import.specs.Import.{Gives, ReadsLine, at_line, edge_of, followed_by, list_of, no_memory};
+ghost use Rattle.pg_import.specs.Import.{reading_of};
 ghost use Rattle.pg_import.specs.Text.{words_of};
 ghost use Rattle.pg_import.specs.declared.line.ImportFault.{ImportFault};
 ghost use Rattle.pg_import.specs.declared.line.Line.{Line};

@@ -2,7 +2,7 @@
 //! in memory come one after another.
 ghost use Rattle.std.specs.Prelude.{◌≡◌, true, is_some, option_and_then, IfOk, IsNone};
 ghost use Rattle.std.specs.Option.{option_copied};
-ghost use Rattle.pg_edits.specs.EdgeList.{weight_at};
+ghost use Rattle.pg_graph_rows.specs.EdgeList.{weight_at};
 ghost use Rattle.pg_import.specs.Batch.{has_edge, has_vertex};
 ghost use Rattle.pg_import.specs.NamedEdges.{AreThereAs};
 
@@ -16,8 +16,8 @@ use sources::Sources;
 use std::alloc::Global;
 use std::marker::Model;
 
-/// Vertices that lines mention and a graph doesn't have, and edges that lines mention with whether it has them: by rising
-/// id, each once; a vertex as the edge to itself. A contract sees the graph.
+/// Vertices that lines mention and a graph doesn't have, and edges that lines mention with whether it has them: by
+/// rising id, each once; a vertex as the edge to itself. A contract sees the graph.
 #[derive(Drop)]
 pub(crate) struct LookedUp<'a> {
     vertices: EdgesOnce,
@@ -50,8 +50,8 @@ impl<'a> LookedUp<'a> {
         })
     }
 
-    /// Looks up a vertex, which is the last one or comes after it. One that the graph has is left out, and no place told;
-    /// of another it says where it stands. One that comes before is left out, and the last place told.
+    /// Looks up a vertex, which is the last one or comes after it. One that the graph has is left out, and no place
+    /// told; of another it says where it stands. One that comes before is left out, and the last place told.
     pub(crate) fn add_vertex(&mut self, id: VertexId) -> Result<Option<u32>, Memory>
         ensures there { IfOk result (λ place. IsNone place → has_vertex id self.old ≡ true) }
         ensures same { self.new ≡ self.old }
@@ -75,8 +75,9 @@ impl<'a> LookedUp<'a> {
         self.add_vertex(id)
     }
 
-    /// Adds an edge, which is the last one or comes after it, and says where it stands. One that comes before is left out,
-    /// and the last place told. It costs no look-up among the rows where sources come in the order in which they were added.
+    /// Adds an edge, which is the last one or comes after it, and says where it stands. One that comes before is left
+    /// out, and the last place told. It costs no look-up among the rows where sources come in the order in which they
+    /// were added.
     pub(crate) fn add_edge(&mut self, source: VertexId, target: VertexId) -> Result<u32, Memory>
         ensures { self.new ≡ self.old }
     {
@@ -97,8 +98,8 @@ impl<'a> LookedUp<'a> {
     }
 }
 
-/// A place, as it is kept for each line. One that doesn't fit is kept as the greatest, which costs a search and changes no
-/// answer.
+/// A place, as it is kept for each line. One that doesn't fit is kept as the greatest, which costs a search and changes
+/// no answer.
 fn kept(place: usize) -> u32 {
     u32::try_from(place).unwrap_or(u32::MAX)
 }

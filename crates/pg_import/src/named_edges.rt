@@ -1,5 +1,6 @@
 //! The edges that the lines of a list mention, each once, and which of them are there by now.
-ghost use Rattle.std.specs.Prelude.{◌≡◌, ◌<◌, ◌≤◌, ◌⊎◌, ◌&&◌, ℕ, Bool, [], true, cond, not, IfOk, IfSome, IsNone, IsTrue, OnErr, OnOk};
+ghost use Rattle.std.specs.Prelude.{◌≡◌, ◌<◌, ◌≤◌, ◌⊎◌, ◌&&◌, ℕ, Bool, [], true, cond, not, IfOk, IfSome, IsNone};
+ghost use Rattle.std.specs.Prelude.{IsTrue, OnErr, OnOk};
 ghost use Rattle.std.specs.BTreeMap.{is_at};
 ghost use Rattle.std.specs.Ordering.{nat_cmp};
 ghost use Rattle.pg_import.specs.NamedEdges.{AreThereAs, IsApart, StandsAt, is_edge, there_in};
@@ -53,7 +54,8 @@ impl NamedEdges {
         target: VertexId,
         expected: usize,
     ) -> Option<bool>
-        ensures added { IfSome result (λ added. (elsewhere : Bool) → added ≡ not (there_in source target elsewhere self.old)) }
+        ensures added { IfSome result
+            (λ added. (elsewhere : Bool) → added ≡ not (there_in source target elsewhere self.old)) }
         ensures named { IfSome result (λ _. (s t : ℕ) (elsewhere : Bool) → there_in s t elsewhere self.new
             ≡ cond (is_at (nat_cmp source) s && is_at (nat_cmp target) t) true (there_in s t elsewhere self.old)) }
         ensures apart { IsNone result → IsApart source target self.old }
@@ -174,7 +176,8 @@ impl EdgesOnce {
         there: bool,
     ) -> Result<(), Memory>
         requires { (self.old.0 < source) ⊎ ((self.old.0 ≡ source) × (self.old.1 ≤ target)) }
-        ensures ok { OnOk result ((has : ℕ → ℕ → Bool) → there ≡ has source target → AreThereAs has self.old.2 → AreThereAs has self.new.2) }
+        ensures ok { OnOk result
+            ((has : ℕ → ℕ → Bool) → there ≡ has source target → AreThereAs has self.old.2 → AreThereAs has self.new.2) }
         ensures err { OnErr result (self.new ≡ self.old) }
     {
         self.edges.push(NamedEdge {

@@ -15,8 +15,8 @@ use pg_graph::{Graph, VertexId, reordered_by_id};
 use std::alloc::Global;
 use std::marker::Model;
 
-/// The vertices that the lines of a list mention and a graph doesn't have, the edges that they mention with whether it has
-/// them, each once, and where the ends and the edge of each line stand among these.
+/// The vertices that the lines of a list mention and a graph doesn't have, the edges that they mention with whether it
+/// has them, each once, and where the ends and the edge of each line stand among these.
 #[derive(Drop)]
 pub(crate) struct Mentioned {
     /// Each as the edge to itself.
@@ -142,8 +142,8 @@ impl EndRanks {
         }
     }
 
-    /// Looks up the first of these ids, which rise, as far as their numbers aren't above this one, sets where they stand,
-    /// and hands back the others.
+    /// Looks up the first of these ids, which rise, as far as their numbers aren't above this one, sets where they
+    /// stand, and hands back the others.
     fn look_up_to<'a>(
         &mut self,
         looked_up: &mut LookedUp<'_>,
@@ -193,7 +193,8 @@ impl Ranks {
     /// Those of the line at a place.
     pub(crate) fn at(&self, place: usize) -> LineRanks
         ensures { (rows : Rows) (lines : List Line) (line : Line) → slice_get lines place ≡ Some line
-            → EndsAreKnown rows lines self.now → IsKnown rows line.source result.source × IsKnown rows line.target result.target }
+            → EndsAreKnown rows lines self.now
+            → IsKnown rows line.source result.source × IsKnown rows line.target result.target }
     {
         LineRanks {
             source: self.sources.at(place),
@@ -227,8 +228,8 @@ impl Ranks {
         Ok(())
     }
 
-    /// Looks up the edges of lines, by their sources with their places, by rising source and target, and sets where they
-    /// stand.
+    /// Looks up the edges of lines, by their sources with their places, by rising source and target, and sets where
+    /// they stand.
     fn look_up_edges(
         &mut self,
         looked_up: &mut LookedUp<'_>,
@@ -250,7 +251,8 @@ impl Ranks {
 
     /// Sets where the edge of a line stands.
     fn set_edge(&mut self, place: usize, edge: u32)
-        ensures { (rows : Rows) (lines : List Line) → EndsAreKnown rows lines self.old → EndsAreKnown rows lines self.new }
+        ensures { (rows : Rows) (lines : List Line) → EndsAreKnown rows lines self.old
+            → EndsAreKnown rows lines self.new }
     {
         if place < self.edges.len() {
             self.edges[place] = edge;

@@ -84,7 +84,8 @@ pub(crate) fn after_blank(text: &[u8]) -> Option<&[u8]>
     }
 }
 
-/// What comes after the end of a line that a text begins with: a line feed, a carriage return and one, or the text's own end.
+/// What comes after the end of a line that a text begins with: a line feed, a carriage return and one, or the text's
+/// own end.
 pub(crate) fn after_line(text: &[u8]) -> Option<&[u8]>
     ensures { IfSome result (λ rest. IsAfterLine text.now rest.now) }
 {

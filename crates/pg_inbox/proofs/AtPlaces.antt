@@ -2,7 +2,7 @@
 use Rattle.std.proofs.Common.{◌≡◌, ℕ, zero, suc, ◌<◌, ◌≤◌, ◌==◌, Bool, true, false, cond, List, [], ◌∷◌}
 use Rattle.std.proofs.Common.{◌++◌, length, get_or, set, Option, None, refl, sym, ap, ◌∙◌, arith}
 use Rattle.std.proofs.lemmas.Bool.Decides.{nat_tests}
-use Rattle.pg_inbox.specs.Places.{value_in}
+use Rattle.pg_inbox.specs.SparseVec.{value_in}
 
 sucs : (a b : ℕ) → (suc a == suc b) ≡ (a == b)
 sucs a b = grind (arith, nat_tests)

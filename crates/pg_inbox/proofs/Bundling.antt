@@ -20,12 +20,12 @@ use Rattle.pg_map.proofs.Rising.{at_other, at_same, none_past, same_entries}
 use Rattle.pg_model.specs.Job.{Combining}
 use Rattle.pg_model.specs.Superstep.{has_id, is_empty, targets}
 use Rattle.pg_model.proofs.LawsMade.{has_id-targets, targets-rise}
-use Rattle.pg_parcel.specs.Contents.{contents_of}
-use Rattle.pg_parcel.specs.Grouping.{AreGroups, any_of, groups_of, items_to}
-use Rattle.pg_parcel.proofs.Grouping.{groups_of_same, some_not_empty}
-use Rattle.pg_inbox.specs.Bundles.{Parcels, bundle_of}
-use Rattle.pg_inbox.specs.Sends.{as_item}
-use Rattle.pg_inbox.specs.Sends.{Sends, letters_to, without_senders}
+use Rattle.pg_inbox_messages.specs.Contents.{contents_of}
+use Rattle.pg_inbox_messages.specs.Grouping.{AreGroups, any_of, groups_of, items_to}
+use Rattle.pg_inbox_messages.proofs.Grouping.{groups_of_same, some_not_empty}
+use Rattle.pg_inbox.specs.Bundles.{MessageLists, bundle_of}
+use Rattle.pg_inbox.specs.Outbox.{as_item}
+use Rattle.pg_inbox.specs.Outbox.{Outbox, envelopes_to, without_senders}
 
 pub at_id : (q id : ℕ) → is_at (nat_cmp q) id ≡ (id == q)
 at_id q id = grind (arith, nat_tests)
@@ -69,70 +69,70 @@ module _ {Y : Type 0} (f : ℕ → Y) where
 
 module _ {M : Type 0} where
   -- some message goes to it, or none does
-  no_letters : List (ℕ × M) → Bool
-  no_letters l = is_empty l
+  no_envelopes : List (ℕ × M) → Bool
+  no_envelopes l = is_empty l
 
-  has_target : (q : ℕ) (sent : Sends M) → has_id (map (λ m. m.0) (without_senders sent)) q ≡ not (no_letters (letters_to q sent))
-  unfolding no_letters
+  has_target : (q : ℕ) (sent : Outbox M) → has_id (map (λ m. m.0) (without_senders sent)) q ≡ not (no_envelopes (envelopes_to q sent))
+  unfolding no_envelopes
   has_target q [] = refl
   has_target q (s ∷ sent) = by (s.1 == q) (has_target q sent)
     where
       front : ℕ × M
       front = (s.0, s.2)
 
-      by : (b : Bool) → has_id (map (λ m. m.0) (without_senders sent)) q ≡ not (no_letters (letters_to q sent))
+      by : (b : Bool) → has_id (map (λ m. m.0) (without_senders sent)) q ≡ not (no_envelopes (envelopes_to q sent))
           → (b || has_id (map (λ m. m.0) (without_senders sent)) q) ≡ not
-          (no_letters (map (λ s. (s.0, s.2)) (cond b (s ∷ filter (λ s. s.1 == q) sent) (filter (λ s. s.1 == q) sent))))
-      by true h = ap not (sym (some_not_empty front (letters_to q sent)))
+          (no_envelopes (map (λ s. (s.0, s.2)) (cond b (s ∷ filter (λ s. s.1 == q) sent) (filter (λ s. s.1 == q) sent))))
+      by true h = ap not (sym (some_not_empty front (envelopes_to q sent)))
       by false h = h
 
-  some_or_none : {Y : Type 0} (f : List (ℕ × M) → Y) (l : List (ℕ × M)) → cond (not (no_letters l)) (Some (f l)) None ≡ option_map f (any_of l)
-  unfolding no_letters
+  some_or_none : {Y : Type 0} (f : List (ℕ × M) → Y) (l : List (ℕ × M)) → cond (not (no_envelopes l)) (Some (f l)) None ≡ option_map f (any_of l)
+  unfolding no_envelopes
   some_or_none f [] = refl
   some_or_none f (x ∷ l) = ap (λ b. cond (not b) (Some (f (x ∷ l))) None) (some_not_empty x l)
 
   module _ (combining : Option (Combining M)) where
     -- each target has what goes to it
-    pub value_at-bundle_of : (q : ℕ) (sent : Sends M)
-        → value_at q (bundle_of combining sent) ≡ option_map (contents_of combining) (any_of (letters_to q sent))
+    pub value_at-bundle_of : (q : ℕ) (sent : Outbox M)
+        → value_at q (bundle_of combining sent) ≡ option_map (contents_of combining) (any_of (envelopes_to q sent))
     value_at-bundle_of q sent =
-        value_at-ids (λ target. contents_of combining (letters_to target sent)) q (targets (without_senders sent))
-        ∙ (ap (λ b. cond b (Some (contents_of combining (letters_to q sent))) None) (has_id-targets (without_senders sent) q ∙ has_target q sent)
-        ∙ some_or_none (contents_of combining) (letters_to q sent))
+        value_at-ids (λ target. contents_of combining (envelopes_to target sent)) q (targets (without_senders sent))
+        ∙ (ap (λ b. cond b (Some (contents_of combining (envelopes_to q sent))) None) (has_id-targets (without_senders sent) q ∙ has_target q sent)
+        ∙ some_or_none (contents_of combining) (envelopes_to q sent))
 
-    pub rises-bundle_of : (sent : Sends M) → HasRisingIds (bundle_of combining sent)
+    pub rises-bundle_of : (sent : Outbox M) → HasRisingIds (bundle_of combining sent)
     rises-bundle_of sent =
         subst (IsStrictlySortedBy nat_cmp)
-        (sym (keys-ids (λ target. contents_of combining (letters_to target sent)) (targets (without_senders sent))))
+        (sym (keys-ids (λ target. contents_of combining (envelopes_to target sent)) (targets (without_senders sent))))
         (targets-rise (without_senders sent))
 
     -- and that tells the bundle
-    pub is_bundle_of : (parcels : Parcels M) (sent : Sends M) → HasRisingIds parcels
-        → ((q : ℕ) → value_at q parcels ≡ option_map (contents_of combining) (any_of (letters_to q sent)))
-        → parcels ≡ bundle_of combining sent
-    is_bundle_of parcels sent rise told =
-        same_entries parcels (bundle_of combining sent) rise (rises-bundle_of sent) (λ q. told q ∙ sym (value_at-bundle_of q sent))
+    pub is_bundle_of : (message_lists : MessageLists M) (sent : Outbox M) → HasRisingIds message_lists
+        → ((q : ℕ) → value_at q message_lists ≡ option_map (contents_of combining) (any_of (envelopes_to q sent)))
+        → message_lists ≡ bundle_of combining sent
+    is_bundle_of message_lists sent rise stated =
+        same_entries message_lists (bundle_of combining sent) rise (rises-bundle_of sent) (λ q. stated q ∙ sym (value_at-bundle_of q sent))
 
-  items-letters : (q : ℕ) (sent : Sends M) → items_to q (map as_item sent) ≡ letters_to q sent
-  items-letters q [] = refl
-  items-letters q (s ∷ sent) = by (s.1 == q) (items-letters q sent)
+  items-envelopes : (q : ℕ) (sent : Outbox M) → items_to q (map as_item sent) ≡ envelopes_to q sent
+  items-envelopes q [] = refl
+  items-envelopes q (s ∷ sent) = by (s.1 == q) (items-envelopes q sent)
     where
-      by : (b : Bool) → items_to q (map as_item sent) ≡ letters_to q sent
+      by : (b : Bool) → items_to q (map as_item sent) ≡ envelopes_to q sent
           → map (λ i. i.1) (cond b (as_item s ∷ filter (λ i. i.0 == q) (map as_item sent)) (filter (λ i. i.0 == q) (map as_item sent))) ≡ map
           (λ s. (s.0, s.2)) (cond b (s ∷ filter (λ s. s.1 == q) sent) (filter (λ s. s.1 == q) sent))
       by true h = ap (λ l. (s.0, s.2) ∷ l) h
       by false h = h
 
   -- the contents of groups are the bundle
-  pub bundle_from_groups : (combining : Option (Combining M)) (sent : Sends M)
-      {groups : List (ℕ × List (ℕ × M))} {parcels : Parcels M}
-      → AreGroups (map as_item sent) groups → parcels ≡ map (λ g. (g.0, contents_of combining g.1)) groups
-      → (parcels ≡ bundle_of combining sent) × HasRisingIds parcels
-  bundle_from_groups combining sent {groups} {parcels} grouped made =
-      let rise : HasRisingIds parcels = subst HasRisingIds (sym made) (rises-values (contents_of combining) groups grouped.rise) in (
-        is_bundle_of combining parcels sent rise (λ q. ap (value_at q) made
+  pub bundle_from_groups : (combining : Option (Combining M)) (sent : Outbox M)
+      {groups : List (ℕ × List (ℕ × M))} {message_lists : MessageLists M}
+      → AreGroups (map as_item sent) groups → message_lists ≡ map (λ g. (g.0, contents_of combining g.1)) groups
+      → (message_lists ≡ bundle_of combining sent) × HasRisingIds message_lists
+  bundle_from_groups combining sent {groups} {message_lists} grouped made =
+      let rise : HasRisingIds message_lists = subst HasRisingIds (sym made) (rises-values (contents_of combining) groups grouped.rise) in (
+        is_bundle_of combining message_lists sent rise (λ q. ap (value_at q) made
             ∙ (value_at-values (contents_of combining) q groups
-            ∙ ap (option_map (contents_of combining)) (grouped.told q ∙ ap any_of (items-letters q sent)))),
+            ∙ ap (option_map (contents_of combining)) (grouped.stated q ∙ ap any_of (items-envelopes q sent)))),
         rise,
       )
 
@@ -153,28 +153,28 @@ module _ {X : Type 0} (items : List (ℕ × X)) (order : List (ℕ × ℕ)) (tak
         ∙ taken_same (λ i. i.0) items order taken by_id zip q
         ∙ sym (filter_agree (λ i. i.0 == q) (λ i. eqb q i.0) (λ i. turned i.0 q) items))
 
-module _ {M : Type 0} (sent : Sends M) (order : List (ℕ × ℕ)) (letters : List (ℕ × (ℕ × M))) where
-  module _ (by_id : AreById (map (λ s. s.1) sent) order) (zip : StandAt (map as_item sent) order letters) where
+module _ {M : Type 0} (sent : Outbox M) (order : List (ℕ × ℕ)) (envelopes : List (ℕ × (ℕ × M))) where
+  module _ (by_id : AreById (map (λ s. s.1) sent) order) (zip : StandAt (map as_item sent) order envelopes) where
     keyed : AreById (map (λ i. i.0) (map as_item sent)) order
     keyed = subst (λ l. AreById l order) (sym (map-map (λ i. i.0) as_item sent)) by_id
 
-    pub rise_by_id : IsNonDecreasingBy (λ i. i.0) letters
-    rise_by_id = rise_taken (map as_item sent) order letters keyed zip
+    pub rise_by_id : IsNonDecreasingBy (λ i. i.0) envelopes
+    rise_by_id = rise_taken (map as_item sent) order envelopes keyed zip
 
     -- what stands at the places of the targets in order
-    pub groups_by_id : AreGroups (map as_item sent) (groups_of letters)
-    groups_by_id = groups_taken (map as_item sent) order letters keyed zip
+    pub groups_by_id : AreGroups (map as_item sent) (groups_of envelopes)
+    groups_by_id = groups_taken (map as_item sent) order envelopes keyed zip
 
 -- ---- each entry, from the look-ups
 
 module _ {X : Type 0} (P : ℕ × X → Type 0) where
   pub all_from_lookups : (es : List (ℕ × X)) → HasRisingIds es → ((q : ℕ) (x : X) → value_at q es ≡ Some x → P (q, x)) → AllByRecursion P es
-  all_from_lookups [] rise told = tt
-  all_from_lookups (e ∷ es) rise told = (
-    told e.0 e.1 (lookup_head (is_at (nat_cmp e.0)) e es (at_same e.0)),
+  all_from_lookups [] rise stated = tt
+  all_from_lookups (e ∷ es) rise stated = (
+    stated e.0 e.1 (lookup_head (is_at (nat_cmp e.0)) e es (at_same e.0)),
     all_from_lookups es (rises_after e es rise) (λ q x h. ⊎_elim
         (λ (same : q ≡ e.0). absurd (none_some x (sym (none_past q e es rise (ap (λ k. is_at (nat_cmp k) e.0) same ∙ at_same e.0)) ∙ h)))
-        (λ (apart : q ≡ e.0 → ⊥). told q x (lookup_tail (is_at (nat_cmp q)) e es (at_other q e.0 apart) ∙ h))
+        (λ (apart : q ≡ e.0 → ⊥). stated q x (lookup_tail (is_at (nat_cmp q)) e es (at_other q e.0 apart) ∙ h))
         (cases_eq q e.0)),
   )
     where

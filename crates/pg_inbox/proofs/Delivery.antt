@@ -22,14 +22,14 @@ use Rattle.pg_model.specs.Folds.{IsCommutativeMonoid}
 use Rattle.pg_model.specs.Job.{Combining}
 use Rattle.pg_model.specs.Superstep.{combined, messages_to}
 use Rattle.pg_global.specs.Combiner.{IsLawful}
-use Rattle.pg_parcel.specs.Contents.{contents_of, messages, Holds}
-use Rattle.pg_parcel.specs.Grouping.{AreGroups, any_of, items_to}
-use Rattle.pg_parcel.specs.declared.parcel.Contents.{Contents}
-use Rattle.pg_inbox.specs.Bundles.{Parcels, bundle_of}
+use Rattle.pg_inbox_messages.specs.Contents.{contents_of, messages, Holds}
+use Rattle.pg_inbox_messages.specs.Grouping.{AreGroups, any_of, items_to}
+use Rattle.pg_inbox_messages.specs.declared.message_list.Contents.{Contents}
+use Rattle.pg_inbox.specs.Bundles.{MessageLists, bundle_of}
 use Rattle.pg_inbox.specs.Holding.{HoldsAt}
 use Rattle.pg_inbox.specs.Ordered.{in_order}
-use Rattle.pg_inbox.specs.Inboxes.{AreInboxes, Delivers, contents_to, each_inbox, inboxes_of, is_receiver, letters_at, received_of}
-use Rattle.pg_inbox.specs.Sends.{AreAllOf, RiseBySender, Sends, letters_to, sent_by, without_senders}
+use Rattle.pg_inbox.specs.Inboxes.{AreInboxes, Delivers, contents_to, each_inbox, inboxes_of, is_receiver, envelopes_at, received_of}
+use Rattle.pg_inbox.specs.Outbox.{AreAllOf, RiseBySender, Outbox, envelopes_to, sent_by, without_senders}
 use Rattle.pg_inbox.proofs.Among.{or_false}
 use Rattle.pg_inbox.proofs.Bundling.{at_id, rises-values, value_at-bundle_of, value_at-values}
 use Rattle.pg_inbox.proofs.Senders.{from, in_order-from, in_order-up, permutation_by_number, same_by_number}
@@ -58,18 +58,18 @@ module _ {X Y : Type 0} where
   list_any-of_map p f (x ∷ xs) = ap (λ b. p (f x) || b) (list_any-of_map p f xs)
 
 -- what the messages to a target in one bundle come to
-abbrev pub folded_at : {M : Type 0} → ℕ → Parcels M → List M
-folded_at id parcels = elim (value_at id parcels) [ None ↦ [] | Some contents ↦ option_to_list contents.folded ]
+abbrev pub folded_at : {M : Type 0} → ℕ → MessageLists M → List M
+folded_at id message_lists = elim (value_at id message_lists) [ None ↦ [] | Some contents ↦ option_to_list contents.folded ]
 
 -- ---- the messages to one target
 
 module _ {M : Type 0} (id : ℕ) where
-  letters-from : (q : ℕ) (sent : Sends M) → from q (letters_to id sent) ≡ letters_to id (sent_by q sent)
-  letters-from q [] = refl
-  letters-from q (s ∷ sent) = by (s.1 == id) (s.0 == q) refl refl (letters-from q sent)
+  envelopes-from : (q : ℕ) (sent : Outbox M) → from q (envelopes_to id sent) ≡ envelopes_to id (sent_by q sent)
+  envelopes-from q [] = refl
+  envelopes-from q (s ∷ sent) = by (s.1 == id) (s.0 == q) refl refl (envelopes-from q sent)
     where
-      letter : ℕ × M
-      letter = (s.0, s.2)
+      envelope : ℕ × M
+      envelope = (s.0, s.2)
 
       pairs : List (ℕ × ℕ × M) → List (ℕ × M)
       pairs l = map (λ s. (s.0, s.2)) l
@@ -77,46 +77,46 @@ module _ {M : Type 0} (id : ℕ) where
       mine : List (ℕ × ℕ × M)
       mine = filter (λ s. s.1 == id) sent
 
-      by : (a b : Bool) → (s.1 == id) ≡ a → (s.0 == q) ≡ b → from q (letters_to id sent) ≡ letters_to id (sent_by q sent)
-          → from q (pairs (cond a (s ∷ mine) mine)) ≡ letters_to id (cond b (s ∷ sent_by q sent) (sent_by q sent))
+      by : (a b : Bool) → (s.1 == id) ≡ a → (s.0 == q) ≡ b → from q (envelopes_to id sent) ≡ envelopes_to id (sent_by q sent)
+          → from q (pairs (cond a (s ∷ mine) mine)) ≡ envelopes_to id (cond b (s ∷ sent_by q sent) (sent_by q sent))
       by true true e f h =
-          ap (λ b. cond b (letter ∷ from q (letters_to id sent)) (from q (letters_to id sent))) f
-          ∙ (ap (λ l. letter ∷ l) h
+          ap (λ b. cond b (envelope ∷ from q (envelopes_to id sent)) (from q (envelopes_to id sent))) f
+          ∙ (ap (λ l. envelope ∷ l) h
           ∙ sym (ap (λ a. pairs (cond a (s ∷ filter (λ s. s.1 == id) (sent_by q sent)) (filter (λ s. s.1 == id) (sent_by q sent)))) e))
-      by true false e f h = ap (λ b. cond b (letter ∷ from q (letters_to id sent)) (from q (letters_to id sent))) f ∙ h
+      by true false e f h = ap (λ b. cond b (envelope ∷ from q (envelopes_to id sent)) (from q (envelopes_to id sent))) f ∙ h
       by false true e f h = h ∙ sym (ap (λ a. pairs (cond a (s ∷ filter (λ s. s.1 == id) (sent_by q sent)) (filter (λ s. s.1 == id) (sent_by q sent)))) e)
       by false false e f h = h
 
-  letters-append : (a b : Sends M) → letters_to id (a ++ b) ≡ letters_to id a ++ letters_to id b
-  letters-append a b =
+  envelopes-append : (a b : Outbox M) → envelopes_to id (a ++ b) ≡ envelopes_to id a ++ envelopes_to id b
+  envelopes-append a b =
       ap (map (λ (s : ℕ × ℕ × M). (s.0, s.2))) (filter-append (λ (s : ℕ × ℕ × M). s.1 == id) a b)
       ∙ map-append (λ (s : ℕ × ℕ × M). (s.0, s.2)) (filter (λ s. s.1 == id) a) (filter (λ s. s.1 == id) b)
 
   -- the messages of one sender are those of the lists
-  sender_in_lists : (q : ℕ) (lists : List (Sends M)) → letters_to id (flat_map (sent_by q) lists) ≡ from q (flat_map (letters_to id) lists)
+  sender_in_lists : (q : ℕ) (lists : List (Outbox M)) → envelopes_to id (flat_map (sent_by q) lists) ≡ from q (flat_map (envelopes_to id) lists)
   sender_in_lists q [] = refl
   sender_in_lists q (l ∷ lists) =
-      letters-append (sent_by q l) (flat_map (sent_by q) lists)
-      ∙ (ap (λ x. x ++ letters_to id (flat_map (sent_by q) lists)) (sym (letters-from q l))
-      ∙ (ap (λ x. from q (letters_to id l) ++ x) (sender_in_lists q lists)
-      ∙ sym (filter-append (λ (x : ℕ × M). x.0 == q) (letters_to id l) (flat_map (letters_to id) lists))))
+      envelopes-append (sent_by q l) (flat_map (sent_by q) lists)
+      ∙ (ap (λ x. x ++ envelopes_to id (flat_map (sent_by q) lists)) (sym (envelopes-from q l))
+      ∙ (ap (λ x. from q (envelopes_to id l) ++ x) (sender_in_lists q lists)
+      ∙ sym (filter-append (λ (x : ℕ × M). x.0 == q) (envelopes_to id l) (flat_map (envelopes_to id) lists))))
 
-  pub same_letters : (lists : List (Sends M)) (all : Sends M) → AreAllOf lists all → (q : ℕ)
-      → from q (letters_to id all) ≡ from q (flat_map (letters_to id) lists)
-  same_letters lists all are q = letters-from q all ∙ (ap (letters_to id) (are.same q) ∙ sender_in_lists q lists)
+  pub same_envelopes : (lists : List (Outbox M)) (all : Outbox M) → AreAllOf lists all → (q : ℕ)
+      → from q (envelopes_to id all) ≡ from q (flat_map (envelopes_to id) lists)
+  same_envelopes lists all are q = envelopes-from q all ∙ (ap (envelopes_to id) (are.same q) ∙ sender_in_lists q lists)
 
-  pairs_up : (l : Sends M) → IsUp (λ (s : ℕ × ℕ × M). s.0) l → IsUp (λ (x : ℕ × M). x.0) (map (λ s. (s.0, s.2)) l)
+  pairs_up : (l : Outbox M) → IsUp (λ (s : ℕ × ℕ × M). s.0) l → IsUp (λ (x : ℕ × M). x.0) (map (λ s. (s.0, s.2)) l)
   pairs_up [] h = tt
   pairs_up (s ∷ l) h = (all_to_map (λ s. (s.0, s.2)) (λ x. s.0 ≤ x.0) l h.0, pairs_up l h.1)
 
-  pub up_letters : (all : Sends M) → RiseBySender all → IsUp (λ (x : ℕ × M). x.0) (letters_to id all)
-  up_letters all rise = pairs_up (filter (λ s. s.1 == id) all) (up-filter (λ s. s.0) (λ s. s.1 == id) all (up_from (λ s. s.0) all rise))
+  pub up_envelopes : (all : Outbox M) → RiseBySender all → IsUp (λ (x : ℕ × M). x.0) (envelopes_to id all)
+  up_envelopes all rise = pairs_up (filter (λ s. s.1 == id) all) (up-filter (λ s. s.0) (λ s. s.1 == id) all (up_from (λ s. s.0) all rise))
 
-  messages-letters : (sent : Sends M) → messages (letters_to id sent) ≡ messages_to id (without_senders sent)
-  messages-letters [] = refl
-  messages-letters (s ∷ sent) = by (s.1 == id) (messages-letters sent)
+  messages-envelopes : (sent : Outbox M) → messages (envelopes_to id sent) ≡ messages_to id (without_senders sent)
+  messages-envelopes [] = refl
+  messages-envelopes (s ∷ sent) = by (s.1 == id) (messages-envelopes sent)
     where
-      by : (b : Bool) → messages (letters_to id sent) ≡ messages_to id (without_senders sent)
+      by : (b : Bool) → messages (envelopes_to id sent) ≡ messages_to id (without_senders sent)
           → messages (map (λ s. (s.0, s.2)) (cond b (s ∷ filter (λ s. s.1 == id) sent) (filter (λ s. s.1 == id) sent))) ≡ map (λ m. m.1)
           (cond b ((s.1, s.2) ∷ filter (λ m. m.0 == id) (without_senders sent)) (filter (λ m. m.0 == id) (without_senders sent)))
       by true h = ap (λ l. s.2 ∷ l) h
@@ -124,30 +124,30 @@ module _ {M : Type 0} (id : ℕ) where
 
   -- ---- in the bundles
 
-  any_letters : (combining : Option (Combining M)) (l : List (ℕ × M))
-      → elim (option_map (contents_of combining) (any_of l)) [ None ↦ [] | Some contents ↦ contents.letters ] ≡ l
-  any_letters combining [] = refl
-  any_letters combining (x ∷ l) = refl
+  any_envelopes : (combining : Option (Combining M)) (l : List (ℕ × M))
+      → elim (option_map (contents_of combining) (any_of l)) [ None ↦ [] | Some contents ↦ contents.envelopes ] ≡ l
+  any_envelopes combining [] = refl
+  any_envelopes combining (x ∷ l) = refl
 
-  pub letters_at-bundle_of : (combining : Option (Combining M)) (sent : Sends M) → letters_at id (bundle_of combining sent) ≡ letters_to id sent
-  letters_at-bundle_of combining sent =
-      ap (λ (o : Option (Contents M)). elim o [ None ↦ [] | Some contents ↦ contents.letters ]) (value_at-bundle_of combining id sent)
-      ∙ any_letters combining (letters_to id sent)
+  pub envelopes_at-bundle_of : (combining : Option (Combining M)) (sent : Outbox M) → envelopes_at id (bundle_of combining sent) ≡ envelopes_to id sent
+  envelopes_at-bundle_of combining sent =
+      ap (λ (o : Option (Contents M)). elim o [ None ↦ [] | Some contents ↦ contents.envelopes ]) (value_at-bundle_of combining id sent)
+      ∙ any_envelopes combining (envelopes_to id sent)
 
-  letters_in_bundles : (combining : Option (Combining M)) (bundles : List (Parcels M)) (lists : List (Sends M))
-      → bundles ≡ map (bundle_of combining) lists → flat_map (letters_at id) bundles ≡ flat_map (letters_to id) lists
-  letters_in_bundles combining bundles lists are =
-      ap (flat_map (letters_at id)) are ∙ (flat_map-of_map (letters_at id) (bundle_of combining) lists
-      ∙ same_flat_map (λ l. letters_at id (bundle_of combining l)) (letters_to id) (letters_at-bundle_of combining) lists)
+  envelopes_in_bundles : (combining : Option (Combining M)) (bundles : List (MessageLists M)) (lists : List (Outbox M))
+      → bundles ≡ map (bundle_of combining) lists → flat_map (envelopes_at id) bundles ≡ flat_map (envelopes_to id) lists
+  envelopes_in_bundles combining bundles lists are =
+      ap (flat_map (envelopes_at id)) are ∙ (flat_map-of_map (envelopes_at id) (bundle_of combining) lists
+      ∙ same_flat_map (λ l. envelopes_at id (bundle_of combining l)) (envelopes_to id) (envelopes_at-bundle_of combining) lists)
 
   -- the messages of all bundles by sender, where they aren't combined
-  pub delivers_in_order : (bundles : List (Parcels M)) (sorted : List (ℕ × M)) → IsUp (λ x. x.0) sorted
-      → ((q : ℕ) → from q sorted ≡ from q (flat_map (letters_at id) bundles)) → Delivers None id bundles (messages sorted)
+  pub delivers_in_order : (bundles : List (MessageLists M)) (sorted : List (ℕ × M)) → IsUp (λ x. x.0) sorted
+      → ((q : ℕ) → from q sorted ≡ from q (flat_map (envelopes_at id) bundles)) → Delivers None id bundles (messages sorted)
   delivers_in_order bundles sorted up same lists all are of =
-      let is : sorted ≡ letters_to id all =
-      same_by_number sorted (letters_to id all) up (up_letters all of.rise)
-      (λ q. same q ∙ (ap (from q) (letters_in_bundles None bundles lists are) ∙ sym (same_letters lists all of q))) in
-      ap messages is ∙ messages-letters all
+      let is : sorted ≡ envelopes_to id all =
+      same_by_number sorted (envelopes_to id all) up (up_envelopes all of.rise)
+      (λ q. same q ∙ (ap (from q) (envelopes_in_bundles None bundles lists are) ∙ sym (same_envelopes lists all of q))) in
+      ap messages is ∙ messages-envelopes all
 
 -- ---- where they are combined
 
@@ -213,45 +213,45 @@ module _ {M : Type 0} {is_value : M → Type 0} (c : Combining M) (law : IsCommu
   any_folded (x ∷ l) = refl
 
   module _ (id : ℕ) where
-    values_at : (o : Option (Contents M)) → HoldsAt is_value o → IsValues (elim o [ None ↦ [] | Some contents ↦ contents.letters ])
+    values_at : (o : Option (Contents M)) → HoldsAt is_value o → IsValues (elim o [ None ↦ [] | Some contents ↦ contents.envelopes ])
     values_at None h = tt
     values_at (Some contents) h = h.1
 
-    all_parts : (lists : List (Sends M)) → AllByRecursion (λ l. HoldsAt is_value (value_at id (bundle_of (Some c) l))) lists
-        → AllByRecursion IsValues (map (letters_to id) lists)
+    all_parts : (lists : List (Outbox M)) → AllByRecursion (λ l. HoldsAt is_value (value_at id (bundle_of (Some c) l))) lists
+        → AllByRecursion IsValues (map (envelopes_to id) lists)
     all_parts [] h = tt
     all_parts (l ∷ lists) h =
-        (subst IsValues (letters_at-bundle_of id (Some c) l) (values_at (value_at id (bundle_of (Some c) l)) h.0), all_parts lists h.1)
+        (subst IsValues (envelopes_at-bundle_of id (Some c) l) (values_at (value_at id (bundle_of (Some c) l)) h.0), all_parts lists h.1)
 
-    folded_in_bundles : (bundles : List (Parcels M)) (lists : List (Sends M)) → bundles ≡ map (bundle_of (Some c)) lists
-        → flat_map (folded_at id) bundles ≡ flat_map one_fold (map (letters_to id) lists)
+    folded_in_bundles : (bundles : List (MessageLists M)) (lists : List (Outbox M)) → bundles ≡ map (bundle_of (Some c)) lists
+        → flat_map (folded_at id) bundles ≡ flat_map one_fold (map (envelopes_to id) lists)
     folded_in_bundles bundles lists are =
         ap (flat_map (folded_at id)) are
         ∙ (flat_map-of_map (folded_at id) (bundle_of (Some c)) lists
-        ∙ (same_flat_map (λ l. folded_at id (bundle_of (Some c) l)) (λ l. one_fold (letters_to id l)) (λ l.
+        ∙ (same_flat_map (λ l. folded_at id (bundle_of (Some c) l)) (λ l. one_fold (envelopes_to id l)) (λ l.
         ap (λ (o : Option (Contents M)). elim o [ None ↦ [] | Some contents ↦ option_to_list contents.folded ])
-        (value_at-bundle_of (Some c) id l) ∙ any_folded (letters_to id l)) lists
-        ∙ sym (flat_map-of_map one_fold (letters_to id) lists)))
+        (value_at-bundle_of (Some c) id l) ∙ any_folded (envelopes_to id l)) lists
+        ∙ sym (flat_map-of_map one_fold (envelopes_to id) lists)))
 
-    delivers_some : (bundles : List (Parcels M)) → AllByRecursion (λ b. HoldsAt is_value (value_at id b)) bundles
+    delivers_some : (bundles : List (MessageLists M)) → AllByRecursion (λ b. HoldsAt is_value (value_at id b)) bundles
         → Delivers (Some c) id bundles (combined (Some c) (flat_map (folded_at id) bundles))
     delivers_some bundles hold lists all are of =
-        let parts : List (List (ℕ × M)) = map (letters_to id) lists in
-        let joined : flat_map (λ (l : List (ℕ × M)). l) parts ≡ flat_map (letters_to id) lists = flat_map-of_map (λ l. l) (letters_to id) lists in
+        let parts : List (List (ℕ × M)) = map (envelopes_to id) lists in
+        let joined : flat_map (λ (l : List (ℕ × M)). l) parts ≡ flat_map (envelopes_to id) lists = flat_map-of_map (λ l. l) (envelopes_to id) lists in
         let values : AllByRecursion IsValues parts =
         all_parts lists (all_from_map (bundle_of (Some c)) (λ b. HoldsAt is_value (value_at id b)) lists
         (subst (AllByRecursion (λ b. HoldsAt is_value (value_at id b))) are hold)) in
-        let moved : IsPermutation (messages (flat_map (letters_to id) lists)) (messages (letters_to id all)) =
-        IsPermutation-map (λ x. x.1) (flat_map (letters_to id) lists) (letters_to id all)
-        (permutation_by_number (flat_map (letters_to id) lists) (letters_to id all) (up_letters id all of.rise) (same_letters id lists all of)) in
-        let each : All is_value (messages (flat_map (letters_to id) lists)) =
+        let moved : IsPermutation (messages (flat_map (envelopes_to id) lists)) (messages (envelopes_to id all)) =
+        IsPermutation-map (λ x. x.1) (flat_map (envelopes_to id) lists) (envelopes_to id all)
+        (permutation_by_number (flat_map (envelopes_to id) lists) (envelopes_to id all) (up_envelopes id all of.rise) (same_envelopes id lists all of)) in
+        let each : All is_value (messages (flat_map (envelopes_to id) lists)) =
         subst (λ l. All is_value (messages l)) joined (all_values (flat_map (λ l. l) parts) (all_joined parts values)) in
         ap (combined (Some c)) (folded_in_bundles bundles lists are)
         ∙ (combined_by (flat_map one_fold parts) (messages (flat_map (λ l. l) parts)) (nil_parts parts) (fold_parts c.initial parts law.begins values)
         ∙ (ap (λ l. combined (Some c) (messages l)) joined
-        ∙ (combined_by (messages (flat_map (letters_to id) lists)) (messages (letters_to id all)) (nil_permutation _ _ moved)
+        ∙ (combined_by (messages (flat_map (envelopes_to id) lists)) (messages (envelopes_to id all)) (nil_permutation _ _ moved)
         (sym (fold-IsPermutation law c.initial _ _ law.begins each moved))
-        ∙ ap (combined (Some c)) (messages-letters id all))))
+        ∙ ap (combined (Some c)) (messages-envelopes id all))))
       where
         all_joined : (parts : List (List (ℕ × M))) → AllByRecursion IsValues parts → IsValues (flat_map (λ l. l) parts)
         all_joined [] h = tt
@@ -260,17 +260,17 @@ module _ {M : Type 0} {is_value : M → Type 0} (c : Combining M) (law : IsCommu
 -- ---- the inbox of one target
 
 module _ {M : Type 0} (id : ℕ) where
-  pub letters_of_all : (bundles : List (Parcels M)) → flat_map (λ c. c.letters) (contents_to id bundles) ≡ flat_map (letters_at id) bundles
-  letters_of_all [] = refl
-  letters_of_all (b ∷ bundles) =
-      flat_map-append (λ (c : Contents M). c.letters) (option_to_list (value_at id b)) (contents_to id bundles)
-      ∙ ap₂ ◌++◌ (by (value_at id b)) (letters_of_all bundles)
+  pub envelopes_of_all : (bundles : List (MessageLists M)) → flat_map (λ c. c.envelopes) (contents_to id bundles) ≡ flat_map (envelopes_at id) bundles
+  envelopes_of_all [] = refl
+  envelopes_of_all (b ∷ bundles) =
+      flat_map-append (λ (c : Contents M). c.envelopes) (option_to_list (value_at id b)) (contents_to id bundles)
+      ∙ ap₂ ◌++◌ (by (value_at id b)) (envelopes_of_all bundles)
     where
-      by : (o : Option (Contents M)) → flat_map (λ c. c.letters) (option_to_list o) ≡ elim o [ None ↦ [] | Some contents ↦ contents.letters ]
+      by : (o : Option (Contents M)) → flat_map (λ c. c.envelopes) (option_to_list o) ≡ elim o [ None ↦ [] | Some contents ↦ contents.envelopes ]
       by None = refl
-      by (Some c) = append-nil c.letters
+      by (Some c) = append-nil c.envelopes
 
-  pub folded_of_all : (bundles : List (Parcels M)) → flat_map (λ c. option_to_list c.folded) (contents_to id bundles) ≡ flat_map (folded_at id) bundles
+  pub folded_of_all : (bundles : List (MessageLists M)) → flat_map (λ c. option_to_list c.folded) (contents_to id bundles) ≡ flat_map (folded_at id) bundles
   folded_of_all [] = refl
   folded_of_all (b ∷ bundles) =
       flat_map-append (λ (c : Contents M). option_to_list c.folded) (option_to_list (value_at id b)) (contents_to id bundles)
@@ -282,26 +282,26 @@ module _ {M : Type 0} (id : ℕ) where
       by (Some c) = append-nil (option_to_list c.folded)
 
   -- an inbox made of what bundles have for a target is what they deliver
-  pub delivers_received : (is_value : M → Type 0) (combining : Option (Combining M)) → IsLawful is_value combining → (bundles : List (Parcels M))
+  pub delivers_received : (is_value : M → Type 0) (combining : Option (Combining M)) → IsLawful is_value combining → (bundles : List (MessageLists M))
       → AllByRecursion (λ b. HoldsAt is_value (value_at id b)) bundles → Delivers combining id bundles (received_of combining (contents_to id bundles))
   delivers_received is_value None law bundles hold =
-      let letters : List (ℕ × M) = flat_map (λ c. c.letters) (contents_to id bundles) in
-      delivers_in_order id bundles (in_order letters) (in_order-up letters) (λ q. in_order-from q letters ∙ ap (from q) (letters_of_all bundles))
+      let envelopes : List (ℕ × M) = flat_map (λ c. c.envelopes) (contents_to id bundles) in
+      delivers_in_order id bundles (in_order envelopes) (in_order-up envelopes) (λ q. in_order-from q envelopes ∙ ap (from q) (envelopes_of_all bundles))
   delivers_received is_value (Some c) law bundles hold =
       subst (λ l. Delivers (Some c) id bundles (combined (Some c) l)) (sym (folded_of_all bundles)) (delivers_some c law id bundles hold)
 
-  nothing_at : (bundles : List (Parcels M)) → is_receiver bundles id ≡ false → flat_map (letters_at id) bundles ≡ []
+  nothing_at : (bundles : List (MessageLists M)) → is_receiver bundles id ≡ false → flat_map (envelopes_at id) bundles ≡ []
   nothing_at [] none = refl
   nothing_at (b ∷ bundles) none = by (value_at id b) none (nothing_at bundles)
     where
       by : (o : Option (Contents M)) → (is_some o || is_receiver bundles id) ≡ false
-          → (is_receiver bundles id ≡ false → flat_map (letters_at id) bundles ≡ [])
-          → elim o [ None ↦ [] | Some contents ↦ contents.letters ] ++ flat_map (letters_at id) bundles ≡ []
+          → (is_receiver bundles id ≡ false → flat_map (envelopes_at id) bundles ≡ [])
+          → elim o [ None ↦ [] | Some contents ↦ contents.envelopes ] ++ flat_map (envelopes_at id) bundles ≡ []
       by None h later = later h
       by (Some c) h later = absurd cc
 
   -- a target to which one of the first bundles or the next has a message
-  pub is_receiver-more : (bundles : List (Parcels M)) (i : ℕ) (b : Parcels M) → i < length bundles → b ≡ get_or bundles i b
+  pub is_receiver-more : (bundles : List (MessageLists M)) (i : ℕ) (b : MessageLists M) → i < length bundles → b ≡ get_or bundles i b
       → is_receiver (take (i + 1) bundles) id ≡ (is_receiver (take i bundles) id || is_some (value_at id b))
   is_receiver-more bundles i b within is =
       ap (λ l. is_receiver l id) (take_more bundles i b within ∙ ap (λ x. take i bundles ++ x ∷ []) (sym is))
@@ -309,19 +309,19 @@ module _ {M : Type 0} (id : ℕ) where
       ∙ ap (λ c. is_receiver (take i bundles) id || c) (or_false (is_some (value_at id b)))
 
   -- where no bundle has a message to a target, nothing is delivered to it
-  pub delivers_nothing : (bundles : List (Parcels M)) → is_receiver bundles id ≡ false → (combining : Option (Combining M)) → Delivers combining id bundles []
+  pub delivers_nothing : (bundles : List (MessageLists M)) → is_receiver bundles id ≡ false → (combining : Option (Combining M)) → Delivers combining id bundles []
   delivers_nothing bundles none combining lists all are of =
-      let is : [] ≡ letters_to id all =
-      same_by_number [] (letters_to id all) tt (up_letters id all of.rise)
-      (λ q. ap (from q) (sym (nothing_at bundles none) ∙ letters_in_bundles id combining bundles lists are) ∙ sym (same_letters id lists all of q)) in
-      sym (combined_nothing combining) ∙ ap (combined combining) (ap messages is ∙ messages-letters id all)
+      let is : [] ≡ envelopes_to id all =
+      same_by_number [] (envelopes_to id all) tt (up_envelopes id all of.rise)
+      (λ q. ap (from q) (sym (nothing_at bundles none) ∙ envelopes_in_bundles id combining bundles lists are) ∙ sym (same_envelopes id lists all of q)) in
+      sym (combined_nothing combining) ∙ ap (combined combining) (ap messages is ∙ messages-envelopes id all)
     where
       combined_nothing : (combining : Option (Combining M)) → combined combining [] ≡ []
       combined_nothing None = refl
       combined_nothing (Some c) = refl
 
   pub received_in_order : (combining : Option (Combining M)) → is_some combining ≡ false → (contents : List (Contents M))
-      → received_of combining contents ≡ messages (in_order (flat_map (λ c. c.letters) contents))
+      → received_of combining contents ≡ messages (in_order (flat_map (λ c. c.envelopes) contents))
   received_in_order None h contents = refl
   received_in_order (Some c) h contents = absurd cc
 
@@ -378,7 +378,7 @@ singles es = map (λ e. (e.0, e.1 ∷ [])) es
 single_groups : {X : Type 0} (es : List (ℕ × X)) → HasRisingIds es → AreGroups es (singles es)
 single_groups {X} es rise = record {
   rise = rises-values (λ x. x ∷ []) es rise;
-  told = λ q. value_at-values (λ x. x ∷ []) q es ∙ (by (value_at q es) ∙ ap any_of (sym (item_once q es rise)));
+  stated = λ q. value_at-values (λ x. x ∷ []) q es ∙ (by (value_at q es) ∙ ap any_of (sym (item_once q es rise)));
 }
   where
     by : (o : Option X) → option_map (λ x. x ∷ []) o ≡ any_of (option_to_list o)
@@ -389,7 +389,7 @@ abbrev opened : {M : Type 0} → Option (List M) → List M
 opened o = elim o [ None ↦ [] | Some inbox ↦ inbox ]
 
 module _ {M : Type 0} (is_value : M → Type 0) where
-  hold_at : (id : ℕ) (b : Parcels M) → AllByRecursion (λ e. Holds is_value e.1) b → HoldsAt is_value (value_at id b)
+  hold_at : (id : ℕ) (b : MessageLists M) → AllByRecursion (λ e. Holds is_value e.1) b → HoldsAt is_value (value_at id b)
   hold_at id [] h = tt
   hold_at id (e ∷ b) h = by (is_at (nat_cmp id) e.0) (hold_at id b h.1)
     where
@@ -397,12 +397,12 @@ module _ {M : Type 0} (is_value : M → Type 0) where
       by true later = h.0
       by false later = later
 
-  hold_in_all : (id : ℕ) (bundles : List (Parcels M)) → AllByRecursion (λ b. AllByRecursion (λ e. Holds is_value e.1) b) bundles
+  hold_in_all : (id : ℕ) (bundles : List (MessageLists M)) → AllByRecursion (λ b. AllByRecursion (λ e. Holds is_value e.1) b) bundles
       → AllByRecursion (λ b. HoldsAt is_value (value_at id b)) bundles
   hold_in_all id [] h = tt
   hold_in_all id (b ∷ bundles) h = (hold_at id b h.0, hold_in_all id bundles h.1)
 
-  module _ (combining : Option (Combining M)) (law : IsLawful is_value combining) (bundles : List (Parcels M)) where
+  module _ (combining : Option (Combining M)) (law : IsLawful is_value combining) (bundles : List (MessageLists M)) where
     -- the inboxes made of what all bundles have, by target
     pub are_inboxes : (groups : List (ℕ × List (Contents M))) → AreGroups (flat_map (λ b. b) bundles) groups
         → AllByRecursion HasRisingIds bundles → AllByRecursion (λ b. AllByRecursion (λ e. Holds is_value e.1) b) bundles
@@ -410,7 +410,7 @@ module _ {M : Type 0} (is_value : M → Type 0) where
     are_inboxes groups grouped rise hold = record {
       rise = rises-values (received_of combining) groups grouped.rise;
       receivers = λ id. ap is_some (here id) ∙ (is_some-map (any_of (contents_to id bundles)) ∙ any_of_all id bundles);
-      told = λ id. subst (Delivers combining id bundles) (sym (ap opened (here id) ∙ whole (contents_to id bundles)))
+      stated = λ id. subst (Delivers combining id bundles) (sym (ap opened (here id) ∙ whole (contents_to id bundles)))
           (delivers_received id is_value combining law bundles (hold_in_all id bundles hold));
     }
       where
@@ -418,7 +418,7 @@ module _ {M : Type 0} (is_value : M → Type 0) where
             → value_at id (map (λ g. (g.0, received_of combining g.1)) groups) ≡ option_map (received_of combining) (any_of (contents_to id bundles))
         here id =
             value_at-values (received_of combining) id groups
-            ∙ ap (option_map (received_of combining)) (grouped.told id ∙ ap any_of (items_of_all id bundles rise))
+            ∙ ap (option_map (received_of combining)) (grouped.stated id ∙ ap any_of (items_of_all id bundles rise))
 
         is_some-map : (o : Option (List (Contents M))) → is_some (option_map (received_of combining) o) ≡ is_some o
         is_some-map None = refl
@@ -428,8 +428,8 @@ module _ {M : Type 0} (is_value : M → Type 0) where
         whole [] = sym (received_nothing 0 combining)
         whole (c ∷ l) = refl
 
-    -- those of one bundle, each of one parcel
-    pub inboxes_of_one : is_some combining ≡ false → (b : Parcels M) → bundles ≡ b ∷ [] → HasRisingIds b → AllByRecursion (λ e. Holds is_value e.1) b
+    -- those of one bundle, each of one message list
+    pub inboxes_of_one : is_some combining ≡ false → (b : MessageLists M) → bundles ≡ b ∷ [] → HasRisingIds b → AllByRecursion (λ e. Holds is_value e.1) b
         → AreInboxes combining bundles (each_inbox b)
     inboxes_of_one none b one rise hold =
         let all : flat_map (λ b. b) bundles ≡ b = ap (flat_map (λ b. b)) one ∙ append-nil b in
@@ -437,7 +437,7 @@ module _ {M : Type 0} (is_value : M → Type 0) where
         (are_inboxes (singles b) (subst (λ l. AreGroups l (singles b)) (sym all) (single_groups b rise))
         (subst (AllByRecursion HasRisingIds) (sym one) (rise, tt)) (subst (AllByRecursion (λ b. AllByRecursion (λ e. Holds is_value e.1) b)) (sym one) (hold, tt)))
       where
-        each : (es : Parcels M) → inboxes_of combining (singles es) ≡ each_inbox es
+        each : (es : MessageLists M) → inboxes_of combining (singles es) ≡ each_inbox es
         each [] = refl
         each (e ∷ es) =
-            ap₂ ◌∷◌ (ap (λ l. (e.0, l)) (received_in_order 0 combining none (e.1 ∷ []) ∙ ap (λ l. messages (in_order l)) (append-nil e.1.letters))) (each es)
+            ap₂ ◌∷◌ (ap (λ l. (e.0, l)) (received_in_order 0 combining none (e.1 ∷ []) ∙ ap (λ l. messages (in_order l)) (append-nil e.1.envelopes))) (each es)

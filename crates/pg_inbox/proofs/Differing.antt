@@ -12,8 +12,8 @@ use Rattle.std.proofs.Math.Bool.{or-false, or_assoc}
 use Rattle.std.proofs.lemmas.Bool.{or_cases}
 use Rattle.pg_map.specs.Entries.{value_at}
 use Rattle.pg_model.specs.Superstep.{has_id, is_empty}
-use Rattle.pg_parcel.specs.declared.parcel.Contents.{Contents}
-use Rattle.pg_inbox.specs.Bundles.{Entry, Parcels, each_entry, entries_of}
+use Rattle.pg_inbox_messages.specs.declared.message_list.Contents.{Contents}
+use Rattle.pg_inbox.specs.Bundles.{Entry, MessageLists, each_entry, entries_of}
 use Rattle.pg_inbox.specs.Changed.{AreChanged, AreSameAt, DifferAt, IsAdded}
 
 has_id-push : (ids : List ℕ) (id q : ℕ) → has_id (ids ++ id ∷ []) q ≡ (has_id ids q || (id == q))
@@ -39,15 +39,15 @@ rises-more old new found found' rest id rise (inl same) = subst (λ l. IsStrictl
 rises-more old new found found' rest id rise (inr differ) =
     subst (IsStrictlySortedBy nat_cmp) (sym (ap (λ l. l ++ rest) differ.1 ∙ append_assoc found (id ∷ []) rest)) rise
 
-module _ {M : Type 0} (old new : Parcels M) where
+module _ {M : Type 0} (old new : MessageLists M) where
   -- where the bundles differ at each id found, and at no other that was looked at
-  abbrev pub AreTold : List ℕ → List ℕ → Type 0
-  AreTold found seen =
+  abbrev pub AreFoundChanges : List ℕ → List ℕ → Type 0
+  AreFoundChanges found seen =
       (q : ℕ) → (has_id found q ≡ true → DifferAt old new q) × (has_id found q ≡ false → has_id seen q ≡ true → AreSameAt old new q)
 
-  pub told-more : (found found' seen : List ℕ) (id : ℕ) → AreTold found seen
-      → IsAdded id (value_at id old) (value_at id new) found found' → AreTold found' (seen ++ id ∷ [])
-  told-more found found' seen id so_far (inl same) q = (
+  pub stated-more : (found found' seen : List ℕ) (id : ℕ) → AreFoundChanges found seen
+      → IsAdded id (value_at id old) (value_at id new) found found' → AreFoundChanges found' (seen ++ id ∷ [])
+  stated-more found found' seen id so_far (inl same) q = (
     λ h. (so_far q).0 (sym (ap (λ l. has_id l q) same.1) ∙ h),
     λ other h. by (sym (ap (λ l. has_id l q) same.1) ∙ other) (or_cases (has_id seen q) (id == q) (sym (has_id-push seen id q) ∙ h)),
   )
@@ -55,7 +55,7 @@ module _ {M : Type 0} (old new : Parcels M) where
       by : has_id found q ≡ false → (has_id seen q ≡ true) ⊎ ((id == q) ≡ true) → AreSameAt old new q
       by other (inl k) = (so_far q).1 other k
       by other (inr k) = subst (AreSameAt old new) (eqb-true id q k) same.0
-  told-more found found' seen id so_far (inr differ) q = (
+  stated-more found found' seen id so_far (inr differ) q = (
     λ h. by (or_cases (has_id found q) (id == q) (sym more ∙ h)),
     λ other h. back (has_id found q) refl (sym more ∙ other) (or_cases (has_id seen q) (id == q) (sym (has_id-push seen id q) ∙ h)),
   )
@@ -73,40 +73,40 @@ module _ {M : Type 0} (old new : Parcels M) where
       back false e other (inr k) = absurd (true≢false (sym k ∙ other))
 
   pub changed_all : (ids found : List ℕ) → ((id : ℕ) → has_id ids id ≡ false → AreSameAt old new id) → IsStrictlySortedBy nat_cmp (found ++ [])
-      → AreTold found ids → AreChanged old new found
-  changed_all ids found elsewhere rise told = record {
+      → AreFoundChanges found ids → AreChanged old new found
+  changed_all ids found elsewhere rise stated = record {
     rise = subst (IsStrictlySortedBy nat_cmp) (append-nil found) rise;
-    differ = λ id. (told id).0;
+    differ = λ id. (stated id).0;
     others = λ id other. by id other (has_id ids id) refl;
   }
     where
       by : (id : ℕ) → has_id found id ≡ false → (b : Bool) → has_id ids id ≡ b → AreSameAt old new id
-      by id other true e = (told id).1 other e
+      by id other true e = (stated id).1 other e
       by id other false e = elsewhere id e
 
 -- ---- entries tell what they are made of
 
 module _ {M : Type 0} (target : ℕ) where
   abbrev seen_in : Option M → List (ℕ × M) → List (Entry M)
-  seen_in folded letters = elim folded [
-    | None ↦ each_entry target letters
-    | Some m ↦ record { target = target; from = None; message = m; count = length letters } ∷ []
+  seen_in folded envelopes = elim folded [
+    | None ↦ each_entry target envelopes
+    | Some m ↦ record { target = target; from = None; message = m; count = length envelopes } ∷ []
   ]
 
-  pub letter_of : Entry M → ℕ × M
-  letter_of e = (unwrap_or e.from 0, e.message)
+  pub envelope_of : Entry M → ℕ × M
+  envelope_of e = (unwrap_or e.from 0, e.message)
 
-  pub letters_back : (l : List (ℕ × M)) → map letter_of (each_entry target l) ≡ l
-  unfolding letter_of
-  letters_back [] = refl
-  letters_back (x ∷ l) = ap (λ k. x ∷ k) (letters_back l)
+  pub envelopes_back : (l : List (ℕ × M)) → map envelope_of (each_entry target l) ≡ l
+  unfolding envelope_of
+  envelopes_back [] = refl
+  envelopes_back (x ∷ l) = ap (λ k. x ∷ k) (envelopes_back l)
 
-  pub same_by_letters : (a b : Contents M) → a.folded ≡ None → b.folded ≡ None → (a.letters ≡ b.letters) ↔ (entries_of target a ≡ entries_of target b)
-  same_by_letters a b p q =
-      let at_a : entries_of target a ≡ each_entry target a.letters = ap (λ f. seen_in f a.letters) p in
-      let at_b : entries_of target b ≡ each_entry target b.letters = ap (λ f. seen_in f b.letters) q in (
+  pub same_by_envelopes : (a b : Contents M) → a.folded ≡ None → b.folded ≡ None → (a.envelopes ≡ b.envelopes) ↔ (entries_of target a ≡ entries_of target b)
+  same_by_envelopes a b p q =
+      let at_a : entries_of target a ≡ each_entry target a.envelopes = ap (λ f. seen_in f a.envelopes) p in
+      let at_b : entries_of target b ≡ each_entry target b.envelopes = ap (λ f. seen_in f b.envelopes) q in (
         (λ h. at_a ∙ (ap (each_entry target) h ∙ sym at_b)),
-        λ h. sym (letters_back a.letters) ∙ (ap (map letter_of) (sym at_a ∙ (h ∙ at_b)) ∙ letters_back b.letters),
+        λ h. sym (envelopes_back a.envelopes) ∙ (ap (map envelope_of) (sym at_a ∙ (h ∙ at_b)) ∙ envelopes_back b.envelopes),
       )
 
   first_from : List (Entry M) → Option ℕ
@@ -119,7 +119,7 @@ module _ {M : Type 0} (target : ℕ) where
   not_folded m n [] some h = absurd cc
   not_folded m n (x ∷ l) some h = let k : None ≡ Some x.0 = ap first_from h in absurd cc
 
-  pub fold_apart : (a b : Contents M) (x : M) → a.folded ≡ Some x → b.folded ≡ None → is_empty b.letters ≡ false
+  pub fold_apart : (a b : Contents M) (x : M) → a.folded ≡ Some x → b.folded ≡ None → is_empty b.envelopes ≡ false
       → entries_of target a ≡ entries_of target b → ⊥
   fold_apart a b x p q some h =
-      not_folded x (length a.letters) b.letters some (sym (ap (λ f. seen_in f a.letters) p) ∙ (h ∙ ap (λ f. seen_in f b.letters) q))
+      not_folded x (length a.envelopes) b.envelopes some (sym (ap (λ f. seen_in f a.envelopes) p) ∙ (h ∙ ap (λ f. seen_in f b.envelopes) q))

@@ -1,4 +1,4 @@
--- Lists of letters by target, merged one target after another.
+-- Lists of envelopes by target, merged one target after another.
 use Rattle.std.proofs.Common.{◌≡◌, ℕ, zero, suc, ◌+◌, ◌≤◌, ◌<◌, ◌==◌, ◌⊎◌, inl, inr, Bool, true, false, cond, List, [], ◌∷◌, ◌++◌, length, map, take, drop}
 use Rattle.std.proofs.Common.{get_or, slice_set, Option, None, Some, is_some, ◌||◌, refl, sym, ap, ap₂, ◌∙◌, subst, arith, ltb, true≢false, eq-eqb, eqb-true, filter, flat_map}
 use Rattle.std.specs.List.{AllByRecursion}
@@ -16,14 +16,14 @@ use Rattle.pg_model.proofs.LawsByNumber.{up_from}
 use Rattle.pg_model.proofs.LawsLists.{all-append, all_weaker}
 use Rattle.pg_model.specs.Job.{Combining}
 use Rattle.pg_model.specs.Superstep.{is_empty}
-use Rattle.pg_parcel.proofs.Grouping.{after_run, all_higher, any_of_some, others_after_run, run_is, run_later, some_not_empty}
-use Rattle.pg_parcel.specs.Contents.{contents_of, messages}
-use Rattle.pg_parcel.specs.Grouping.{any_of, items_to, run_len}
-use Rattle.pg_inbox.specs.Bundles.{Parcels}
-use Rattle.pg_inbox.specs.Inboxes.{AreInboxes, Delivers, inbox_at, is_receiver, letters_at, letters_in}
+use Rattle.pg_inbox_messages.proofs.Grouping.{after_run, all_higher, any_of_some, others_after_run, run_is, run_later, some_not_empty}
+use Rattle.pg_inbox_messages.specs.Contents.{contents_of, messages}
+use Rattle.pg_inbox_messages.specs.Grouping.{any_of, items_to, run_len}
+use Rattle.pg_inbox.specs.Bundles.{MessageLists}
+use Rattle.pg_inbox.specs.Inboxes.{AreInboxes, Delivers, inbox_at, is_receiver, envelopes_at, envelopes_in}
 use Rattle.pg_inbox.specs.Merged.{AreMerged, IsLowest, IsLowestOf, StandByTarget, StandFrom, all_to, inbox_by_sender, lists_after}
 use Rattle.pg_inbox.specs.Ordered.{in_order}
-use Rattle.pg_inbox.specs.Sound.{sent_parcels}
+use Rattle.pg_inbox.specs.Sound.{sent_message_lists}
 use Rattle.pg_inbox.proofs.Delivery.{delivers_in_order}
 use Rattle.pg_inbox.proofs.Senders.{from, in_order-from, in_order-up}
 use Rattle.pg_inbox.proofs.Sent.{value_at_sent}
@@ -228,7 +228,7 @@ module _ {M : Type 0} (lists : List (List (ℕ × (ℕ × M)))) where
   abbrev IsToCome : List (List (ℕ × (ℕ × M))) → List (ℕ × List M) → ℕ → Type 0
   IsToCome left inboxes id = (all_to id left ≡ all_to id lists) × (value_at id inboxes ≡ None)
 
-  -- the targets below a bound have their inboxes, and all letters to the others are left
+  -- the targets below a bound have their inboxes, and all envelopes to the others are left
   pub record AreMergedSoFar (left : List (List (ℕ × (ℕ × M)))) (inboxes : List (ℕ × List M)) : Type 0 where
     pub bound : ℕ
     pub below : Below bound inboxes
@@ -312,28 +312,28 @@ module _ {M : Type 0} (lists : List (List (ℕ × (ℕ × M)))) where
 
   -- ---- of bundles in which nothing is changed
 
-  module _ (bundles : List (Parcels M)) (are : bundles ≡ map sent_parcels lists) (stand : StandByTarget lists) (inboxes : List (ℕ × List M))
+  module _ (bundles : List (MessageLists M)) (are : bundles ≡ map sent_message_lists lists) (stand : StandByTarget lists) (inboxes : List (ℕ × List M))
       (merged : AreMerged lists inboxes) where
-    letters_at_all : (id : ℕ) (lists : List (List (ℕ × (ℕ × M)))) → StandByTarget lists
-        → flat_map (letters_at id) (map sent_parcels lists) ≡ all_to id lists
-    letters_at_all id [] stand = refl
-    letters_at_all id (l ∷ lists) stand =
-        ap₂ ◌++◌ (ap letters_in (value_at_sent id l stand.0) ∙ any_letters (items_to id l)) (letters_at_all id lists stand.1)
+    envelopes_at_all : (id : ℕ) (lists : List (List (ℕ × (ℕ × M)))) → StandByTarget lists
+        → flat_map (envelopes_at id) (map sent_message_lists lists) ≡ all_to id lists
+    envelopes_at_all id [] stand = refl
+    envelopes_at_all id (l ∷ lists) stand =
+        ap₂ ◌++◌ (ap envelopes_in (value_at_sent id l stand.0) ∙ any_envelopes (items_to id l)) (envelopes_at_all id lists stand.1)
       where
-        any_letters : (l : List (ℕ × M)) → letters_in (option_map (contents_of None) (any_of l)) ≡ l
-        any_letters [] = refl
-        any_letters (x ∷ l) = refl
+        any_envelopes : (l : List (ℕ × M)) → envelopes_in (option_map (contents_of None) (any_of l)) ≡ l
+        any_envelopes [] = refl
+        any_envelopes (x ∷ l) = refl
 
     receivers_of_all : (id : ℕ) (lists : List (List (ℕ × (ℕ × M)))) → StandByTarget lists
-        → is_some (inbox_by_sender (all_to id lists)) ≡ is_receiver (map sent_parcels lists) id
+        → is_some (inbox_by_sender (all_to id lists)) ≡ is_receiver (map sent_message_lists lists) id
     receivers_of_all id [] stand = refl
     receivers_of_all id (l ∷ lists) stand =
         by (items_to id l) (receivers_of_all id lists stand.1)
-        ∙ ap (λ o. is_some o || is_receiver (map sent_parcels lists) id) (sym (value_at_sent id l stand.0))
+        ∙ ap (λ o. is_some o || is_receiver (map sent_message_lists lists) id) (sym (value_at_sent id l stand.0))
       where
-        by : (x : List (ℕ × M)) → is_some (inbox_by_sender (all_to id lists)) ≡ is_receiver (map sent_parcels lists) id
+        by : (x : List (ℕ × M)) → is_some (inbox_by_sender (all_to id lists)) ≡ is_receiver (map sent_message_lists lists) id
             → is_some (inbox_by_sender (x ++ all_to id lists))
-            ≡ (is_some (option_map (contents_of None) (any_of x)) || is_receiver (map sent_parcels lists) id)
+            ≡ (is_some (option_map (contents_of None) (any_of x)) || is_receiver (map sent_message_lists lists) id)
         by [] h = h
         by (y ∷ x) h = refl
 
@@ -349,9 +349,9 @@ module _ {M : Type 0} (lists : List (List (ℕ × (ℕ × M)))) where
     merged_inboxes None none = record {
       rise = merged.rise;
       receivers = λ id. ap is_some (merged.each id) ∙ receivers_of_all id lists stand ∙ ap (λ b. is_receiver b id) (sym are);
-      told = λ id.
-          let letters = all_to id lists in
-          subst (Delivers None id bundles) (sym (inbox_of id (inbox_by_sender letters) (merged.each id) ∙ opened_by_sender letters))
-          (delivers_in_order id bundles (in_order letters) (in_order-up letters)
-          (λ q. in_order-from q letters ∙ ap (from q) (sym (letters_at_all id lists stand) ∙ ap (flat_map (letters_at id)) (sym are))));
+      stated = λ id.
+          let envelopes = all_to id lists in
+          subst (Delivers None id bundles) (sym (inbox_of id (inbox_by_sender envelopes) (merged.each id) ∙ opened_by_sender envelopes))
+          (delivers_in_order id bundles (in_order envelopes) (in_order-up envelopes)
+          (λ q. in_order-from q envelopes ∙ ap (from q) (sym (envelopes_at_all id lists stand) ∙ ap (flat_map (envelopes_at id)) (sym are))));
     }

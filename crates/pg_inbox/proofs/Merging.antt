@@ -1,4 +1,4 @@
--- Parcels of two bundles by rising target, gone through side by side.
+-- Message lists of two bundles by rising target, gone through side by side.
 use Rattle.std.proofs.Common.{◌≡◌, ℕ, zero, suc, ◌+◌, ◌<◌, ◌≤◌, ◌==◌, ◌||◌, Bool, true, false, cond, List, [], ◌∷◌, ◌++◌, length, take, drop, slice_get, get_or}
 use Rattle.std.proofs.Common.{Option, None, Some, refl, sym, ap, ap₂, ◌∙◌, subst, subst₂, inl, inr, eqb, eqb-true, ltb, is_lt, is_some, append_assoc}
 use Rattle.std.proofs.Common.{⊎_elim, arith}
@@ -21,9 +21,9 @@ use Rattle.pg_map.specs.Entries.{HasRisingIds, value_at}
 use Rattle.pg_map.proofs.Parts.{From, above_first, from_first, from_weaker, is_less, none_from, rises_right}
 use Rattle.pg_map.proofs.Rising.{at_other, at_same}
 use Rattle.pg_model.specs.Superstep.{has_id}
-use Rattle.pg_parcel.specs.Contents.{Holds}
-use Rattle.pg_parcel.specs.declared.parcel.Contents.{Contents}
-use Rattle.pg_inbox.specs.Bundles.{Parcels, entries_in}
+use Rattle.pg_inbox_messages.specs.Contents.{Holds}
+use Rattle.pg_inbox_messages.specs.declared.message_list.Contents.{Contents}
+use Rattle.pg_inbox.specs.Bundles.{MessageLists, entries_in}
 use Rattle.pg_inbox.specs.Changed.{AreChanged, AreSameAt, IsAdded, lower}
 use Rattle.pg_inbox.specs.Holding.{HoldAll, HoldsAt}
 use Rattle.pg_inbox.proofs.SameDelivery.{holds_at}
@@ -203,7 +203,7 @@ all_among P (id ∷ ids) each = (
   all_among P ids (λ q among. each q (ap (λ b. (id == q) || b) among ∙ or-true (id == q))),
 )
 
-module _ {M : Type 0} (id : ℕ) (old new old_later new_later : Parcels M) (low : IsLowest id old new) (old_past : IsPast id old old_later)
+module _ {M : Type 0} (id : ℕ) (old new old_later new_later : MessageLists M) (low : IsLowest id old new) (old_past : IsPast id old old_later)
     (new_past : IsPast id new new_later) where
   none_past : (q : ℕ) → q ≤ id → AreSameAt old_later new_later q
   none_past q below =
@@ -257,15 +257,15 @@ module _ {M : Type 0} (id : ℕ) (old new old_later new_later : Parcels M) (low 
   )
 
 module _ {M : Type 0} (is_value : M → Type 0) where
-  pub held_from : (id place : ℕ) (parcels : Parcels M) {found : Option (Contents M)} → HoldAll is_value parcels
-      → found ≡ value_at id (drop place parcels) → HoldsAt is_value found
-  held_from id place parcels hold is =
-      subst (HoldsAt is_value) (sym is) (holds_at is_value id (drop place parcels)
-      (subst (All (Holds is_value)) (drop-map (λ p. p.1) place parcels) (All-drop (Holds is_value) place (values_of parcels) hold)))
+  pub held_from : (id place : ℕ) (message_lists : MessageLists M) {found : Option (Contents M)} → HoldAll is_value message_lists
+      → found ≡ value_at id (drop place message_lists) → HoldsAt is_value found
+  held_from id place message_lists hold is =
+      subst (HoldsAt is_value) (sym is) (holds_at is_value id (drop place message_lists)
+      (subst (All (Holds is_value)) (drop-map (λ p. p.1) place message_lists) (All-drop (Holds is_value) place (values_of message_lists) hold)))
 
-module _ {M : Type 0} (old new : Parcels M) where
+module _ {M : Type 0} (old new : MessageLists M) where
   -- what is found, with just the ids at which the rests differ, is just the ids at which all differ
-  abbrev pub AreFoundBefore : Parcels M → Parcels M → List ℕ → Type 0
+  abbrev pub AreFoundBefore : MessageLists M → MessageLists M → List ℕ → Type 0
   AreFoundBefore old_left new_left found = (ids : List ℕ) → AreChanged old_left new_left ids → AreChanged old new (found ++ ids)
 
   pub found_more : (i j id a b : ℕ) (found found' : List ℕ) {before after : Option (Contents M)} → HasRisingIds old → HasRisingIds new

@@ -11,29 +11,29 @@ use Rattle.pg_global.specs.Combiner.{IsLawful}
 use Rattle.pg_map.specs.Entries.{value_at, with_changes}
 use Rattle.pg_model.specs.Job.{Combining}
 use Rattle.pg_model.specs.Superstep.{combined}
-use Rattle.pg_parcel.specs.Contents.{contents_of, messages, Holds}
-use Rattle.pg_parcel.specs.Grouping.{any_of}
-use Rattle.pg_parcel.specs.declared.parcel.Contents.{Contents}
+use Rattle.pg_inbox_messages.specs.Contents.{contents_of, messages, Holds}
+use Rattle.pg_inbox_messages.specs.Grouping.{any_of}
+use Rattle.pg_inbox_messages.specs.declared.message_list.Contents.{Contents}
 use Rattle.pg_inbox.specs.Alike.{AllSameAt, DeliverAlike}
-use Rattle.pg_inbox.specs.Bundles.{Entry, Parcels, bundle_of, entries_in, entries_to}
+use Rattle.pg_inbox.specs.Bundles.{Entry, MessageLists, bundle_of, entries_in, entries_to}
 use Rattle.pg_inbox.specs.Holding.{HoldAll, HoldsAt}
-use Rattle.pg_inbox.specs.Inboxes.{contents_to, letters_at, received_of}
+use Rattle.pg_inbox.specs.Inboxes.{contents_to, envelopes_at, received_of}
 use Rattle.pg_inbox.specs.Ordered.{in_order}
-use Rattle.pg_inbox.specs.Sends.{Sends, letters_to}
+use Rattle.pg_inbox.specs.Outbox.{Outbox, envelopes_to}
 use Rattle.pg_inbox.proofs.Bundling.{value_at-bundle_of}
-use Rattle.pg_inbox.proofs.Delivery.{delivers_received, folded_at, folded_of_all, letters_at-bundle_of, letters_of_all}
+use Rattle.pg_inbox.proofs.Delivery.{delivers_received, folded_at, folded_of_all, envelopes_at-bundle_of, envelopes_of_all}
 use Rattle.pg_model.proofs.LawsLists.{all_to_map}
-use Rattle.pg_inbox.proofs.Differing.{letter_of, letters_back}
+use Rattle.pg_inbox.proofs.Differing.{envelope_of, envelopes_back}
 
 -- ---- what is held
 
 module _ {M : Type 0} (is_value : M → Type 0) where
   -- of each target
-  pub hold-all : (parcels : Parcels M) → AllByRecursion (λ e. Holds is_value e.1) parcels → HoldAll is_value parcels
-  hold-all parcels hold = All-from_recursion (Holds is_value) (values_of parcels) (all_to_map (λ e. e.1) (Holds is_value) parcels hold)
+  pub hold-all : (message_lists : MessageLists M) → AllByRecursion (λ e. Holds is_value e.1) message_lists → HoldAll is_value message_lists
+  hold-all message_lists hold = All-from_recursion (Holds is_value) (values_of message_lists) (all_to_map (λ e. e.1) (Holds is_value) message_lists hold)
 
   -- after changes that hold
-  pub hold-changes : (changes : List (ℕ × Option (Contents M))) (old : Parcels M) → AllByRecursion (λ c. HoldsAt is_value c.1) changes
+  pub hold-changes : (changes : List (ℕ × Option (Contents M))) (old : MessageLists M) → AllByRecursion (λ c. HoldsAt is_value c.1) changes
       → HoldAll is_value old → HoldAll is_value (with_changes changes old)
   hold-changes [] old h before = before
   hold-changes ((id, None) ∷ changes) old h before =
@@ -41,14 +41,14 @@ module _ {M : Type 0} (is_value : M → Type 0) where
   hold-changes ((id, Some contents) ∷ changes) old h before =
       hold-changes changes (insert_entry nat_cmp old id contents) h.1 (All-values-insert_entry nat_cmp id contents (Holds is_value) old before h.0)
 
-  pub holds_at : (id : ℕ) (b : Parcels M) → HoldAll is_value b → HoldsAt is_value (value_at id b)
+  pub holds_at : (id : ℕ) (b : MessageLists M) → HoldAll is_value b → HoldsAt is_value (value_at id b)
   holds_at id b h = by (value_at id b) (IfSome-lookup_from_All (Holds is_value) (is_at (nat_cmp id)) b h)
     where
       by : (o : Option (Contents M)) → IfSome o (Holds is_value) → HoldsAt is_value o
       by None h = tt
       by (Some c) h = h
 
-  all_hold : (id : ℕ) (bundles : List (Parcels M)) → AllByRecursion (HoldAll is_value) bundles
+  all_hold : (id : ℕ) (bundles : List (MessageLists M)) → AllByRecursion (HoldAll is_value) bundles
       → AllByRecursion (λ b. HoldsAt is_value (value_at id b)) bundles
   all_hold id [] h = tt
   all_hold id (b ∷ bundles) h = (holds_at id b h.0, all_hold id bundles h.1)
@@ -60,61 +60,61 @@ module _ {M : Type 0} (id : ℕ) where
   heard : List (Entry M) → List M
   heard entries = map (λ e. e.message) entries
 
-  letters_heard : List (Entry M) → List (ℕ × M)
-  letters_heard entries = map (letter_of id) entries
+  envelopes_heard : List (Entry M) → List (ℕ × M)
+  envelopes_heard entries = map (envelope_of id) entries
 
   -- where messages aren't combined, entries tell them
-  told_apart : (l : List (ℕ × M)) → letters_heard (entries_in id (option_map (contents_of None) (any_of l))) ≡ l
-  unfolding letters_heard
-  told_apart [] = refl
-  told_apart (x ∷ l) = letters_back id (x ∷ l)
+  stated_apart : (l : List (ℕ × M)) → envelopes_heard (entries_in id (option_map (contents_of None) (any_of l))) ≡ l
+  unfolding envelopes_heard
+  stated_apart [] = refl
+  stated_apart (x ∷ l) = envelopes_back id (x ∷ l)
 
   -- where they are, what they come to
-  told_together : (c : Combining M) (l : List (ℕ × M))
+  stated_together : (c : Combining M) (l : List (ℕ × M))
       → heard (entries_in id (option_map (contents_of (Some c)) (any_of l)))
       ≡ elim (option_map (contents_of (Some c)) (any_of l)) [ None ↦ [] | Some contents ↦ option_to_list contents.folded ]
   unfolding heard
-  told_together c [] = refl
-  told_together c (x ∷ l) = refl
+  stated_together c [] = refl
+  stated_together c (x ∷ l) = refl
 
-  letters_told : (sent : Sends M) → letters_at id (bundle_of None sent) ≡ letters_heard (entries_to id (bundle_of None sent))
-  letters_told sent =
-      letters_at-bundle_of id None sent
-      ∙ (sym (told_apart (letters_to id sent))
-      ∙ sym (ap (λ o. letters_heard (entries_in id o)) (value_at-bundle_of None id sent)))
+  envelopes_stated : (sent : Outbox M) → envelopes_at id (bundle_of None sent) ≡ envelopes_heard (entries_to id (bundle_of None sent))
+  envelopes_stated sent =
+      envelopes_at-bundle_of id None sent
+      ∙ (sym (stated_apart (envelopes_to id sent))
+      ∙ sym (ap (λ o. envelopes_heard (entries_in id o)) (value_at-bundle_of None id sent)))
 
-  fold_told : (c : Combining M) (sent : Sends M) → folded_at id (bundle_of (Some c) sent) ≡ heard (entries_to id (bundle_of (Some c) sent))
-  fold_told c sent =
+  fold_stated : (c : Combining M) (sent : Outbox M) → folded_at id (bundle_of (Some c) sent) ≡ heard (entries_to id (bundle_of (Some c) sent))
+  fold_stated c sent =
       ap (λ (o : Option (Contents M)). elim o [ None ↦ [] | Some contents ↦ option_to_list contents.folded ]) (value_at-bundle_of (Some c) id sent)
-      ∙ (sym (told_together c (letters_to id sent))
+      ∙ (sym (stated_together c (envelopes_to id sent))
       ∙ sym (ap (λ o. heard (entries_in id o)) (value_at-bundle_of (Some c) id sent)))
 
   -- what is read of each of two lists of bundles is the same where their entries tell it and are the same
-  same_read : {X : Type 0} (made : Sends M → Parcels M) (read : Parcels M → List X) (tell : List (Entry M) → List X)
-      → ((sent : Sends M) → read (made sent) ≡ tell (entries_to id (made sent)))
-      → (lists lists' : List (Sends M)) → AllSameAt id (map made lists) (map made lists')
+  same_read : {X : Type 0} (made : Outbox M → MessageLists M) (read : MessageLists M → List X) (tell : List (Entry M) → List X)
+      → ((sent : Outbox M) → read (made sent) ≡ tell (entries_to id (made sent)))
+      → (lists lists' : List (Outbox M)) → AllSameAt id (map made lists) (map made lists')
       → flat_map read (map made lists) ≡ flat_map read (map made lists')
-  same_read made read tell told [] [] h = refl
-  same_read made read tell told [] (l ∷ lists') h = absurd h
-  same_read made read tell told (l ∷ lists) [] h = absurd h
-  same_read made read tell told (l ∷ lists) (l' ∷ lists') h =
-      ap₂ ◌++◌ (told l ∙ (ap tell h.0 ∙ sym (told l'))) (same_read made read tell told lists lists' h.1)
+  same_read made read tell stated [] [] h = refl
+  same_read made read tell stated [] (l ∷ lists') h = absurd h
+  same_read made read tell stated (l ∷ lists) [] h = absurd h
+  same_read made read tell stated (l ∷ lists) (l' ∷ lists') h =
+      ap₂ ◌++◌ (stated l ∙ (ap tell h.0 ∙ sym (stated l'))) (same_read made read tell stated lists lists' h.1)
 
-  same_received : (combining : Option (Combining M)) (lists lists' : List (Sends M))
+  same_received : (combining : Option (Combining M)) (lists lists' : List (Outbox M))
       → AllSameAt id (map (bundle_of combining) lists) (map (bundle_of combining) lists')
       → received_of combining (contents_to id (map (bundle_of combining) lists)) ≡ received_of combining (contents_to id (map (bundle_of combining) lists'))
   same_received None lists lists' h =
       ap (λ l. messages (in_order l))
-      (letters_of_all id (map (bundle_of None) lists)
-      ∙ (same_read (bundle_of None) (letters_at id) letters_heard letters_told lists lists' h
-      ∙ sym (letters_of_all id (map (bundle_of None) lists'))))
+      (envelopes_of_all id (map (bundle_of None) lists)
+      ∙ (same_read (bundle_of None) (envelopes_at id) envelopes_heard envelopes_stated lists lists' h
+      ∙ sym (envelopes_of_all id (map (bundle_of None) lists'))))
   same_received (Some c) lists lists' h =
       ap (combined (Some c))
       (folded_of_all id (map (bundle_of (Some c)) lists)
-      ∙ (same_read (bundle_of (Some c)) (folded_at id) heard (fold_told c) lists lists' h
+      ∙ (same_read (bundle_of (Some c)) (folded_at id) heard (fold_stated c) lists lists' h
       ∙ sym (folded_of_all id (map (bundle_of (Some c)) lists'))))
 
-  pub alike : (is_value : M → Type 0) (combining : Option (Combining M)) → IsLawful is_value combining → (old new : List (Parcels M))
+  pub alike : (is_value : M → Type 0) (combining : Option (Combining M)) → IsLawful is_value combining → (old new : List (MessageLists M))
       → AllByRecursion (HoldAll is_value) old → AllByRecursion (HoldAll is_value) new → DeliverAlike combining id old new
   alike is_value combining law old new hold hold' lists lists' all all' are are' of of' same =
       sym (delivers_received id is_value combining law old (all_hold is_value id old hold) lists all are of)

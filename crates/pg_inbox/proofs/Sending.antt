@@ -1,6 +1,6 @@
 -- Messages beside their targets, and the senders at the same places.
 use Rattle.std.proofs.Common.{◌≡◌, ◌<◌, ℕ, zero, suc, List, [], ◌∷◌, ◌++◌, length, map, get_or, refl, ap, arith}
-use Rattle.pg_inbox.specs.Sends.{sends_in}
+use Rattle.pg_inbox.specs.Outbox.{sends_in}
 
 module _ {M : Type 0} where
   pub length-sends_in : (senders : List ℕ) (sent : List (ℕ × M)) → length senders ≡ length sent → length (sends_in senders sent) ≡ length sent

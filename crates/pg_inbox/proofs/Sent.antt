@@ -1,4 +1,4 @@
--- Bundles as they lie in memory: letters by target, and what is changed of them.
+-- Bundles as they lie in memory: envelopes by target, and what is changed of them.
 use Rattle.std.proofs.Common.{◌≡◌, ℕ, ◌+◌, ◌<◌, ◌≤◌, ◌==◌, suc, Bool, true, false, cond, List, [], ◌∷◌, ◌++◌, length, map, take, drop, get_or}
 use Rattle.std.proofs.Common.{Option, None, Some, option_map, unwrap_or, refl, sym, ap, ap₂, ◌∙◌, subst, arith, append_assoc, ltb, leb}
 use Rattle.std.specs.List.{AllByRecursion, sum_by}
@@ -17,14 +17,14 @@ use Rattle.pg_map.proofs.Turns.{put, removed, skipped}
 use Rattle.pg_model.proofs.LawsByNumber.{up_from}
 use Rattle.pg_model.proofs.LawsLists.{all_to_map, all_weaker}
 use Rattle.pg_model.specs.Superstep.{is_empty}
-use Rattle.pg_parcel.specs.Contents.{Holds, as_changes, contents_of}
-use Rattle.pg_parcel.specs.Grouping.{any_of, before_groups, groups_of, items_to}
-use Rattle.pg_parcel.specs.declared.parcel.Contents.{Contents}
-use Rattle.pg_parcel.proofs.Grouping.{any_of_none, from_groups, rises_groups, some_not_empty, told_groups}
-use Rattle.pg_inbox.specs.Bundles.{Parcels}
+use Rattle.pg_inbox_messages.specs.Contents.{Holds, as_changes, contents_of}
+use Rattle.pg_inbox_messages.specs.Grouping.{any_of, before_groups, groups_of, items_to}
+use Rattle.pg_inbox_messages.specs.declared.message_list.Contents.{Contents}
+use Rattle.pg_inbox_messages.proofs.Grouping.{any_of_none, from_groups, rises_groups, some_not_empty, stated_groups}
+use Rattle.pg_inbox.specs.Bundles.{MessageLists}
 use Rattle.pg_inbox.specs.Counting.{messages_where}
 use Rattle.pg_inbox.specs.Holding.{HoldAll, HoldsAt}
-use Rattle.pg_inbox.specs.Sound.{IsSound, needed, parcels_with, sent_parcels}
+use Rattle.pg_inbox.specs.Sound.{IsSound, needed, message_lists_with, sent_message_lists}
 use Rattle.pg_inbox.proofs.Bundling.{rises-values, value_at-values}
 use Rattle.pg_inbox.proofs.Replacing.{value_at-made}
 use Rattle.pg_inbox.proofs.SameDelivery.{hold-all, hold-changes}
@@ -110,130 +110,130 @@ module _ {X : Type 0} where
   below_groups m [] all = tt
   below_groups m (i ∷ items) all = below_before m i (groups_of items) all.0 (below_groups m items all.1)
 
--- ---- the parcels of letters
+-- ---- the message lists of envelopes
 
 module _ {M : Type 0} where
-  abbrev parcel_of : ℕ × List (ℕ × M) → ℕ × Contents M
-  parcel_of g = (g.0, contents_of None g.1)
+  abbrev message_list_of : ℕ × List (ℕ × M) → ℕ × Contents M
+  message_list_of g = (g.0, contents_of None g.1)
 
-  pub sent_rise : (letters : List (ℕ × (ℕ × M))) → IsNonDecreasingBy (λ l. l.0) letters → HasRisingIds (sent_parcels letters)
-  sent_rise letters rise = rises-values (contents_of None) (groups_of letters) (rises_groups letters (up_from (λ l. l.0) letters rise))
+  pub sent_rise : (envelopes : List (ℕ × (ℕ × M))) → IsNonDecreasingBy (λ l. l.0) envelopes → HasRisingIds (sent_message_lists envelopes)
+  sent_rise envelopes rise = rises-values (contents_of None) (groups_of envelopes) (rises_groups envelopes (up_from (λ l. l.0) envelopes rise))
 
-  pub value_at_sent : (q : ℕ) (letters : List (ℕ × (ℕ × M))) → IsNonDecreasingBy (λ l. l.0) letters
-      → value_at q (sent_parcels letters) ≡ option_map (contents_of None) (any_of (items_to q letters))
-  value_at_sent q letters rise =
-      value_at-values (contents_of None) q (groups_of letters)
-      ∙ ap (option_map (contents_of None)) (told_groups q letters (up_from (λ l. l.0) letters rise))
+  pub value_at_sent : (q : ℕ) (envelopes : List (ℕ × (ℕ × M))) → IsNonDecreasingBy (λ l. l.0) envelopes
+      → value_at q (sent_message_lists envelopes) ≡ option_map (contents_of None) (any_of (items_to q envelopes))
+  value_at_sent q envelopes rise =
+      value_at-values (contents_of None) q (groups_of envelopes)
+      ∙ ap (option_map (contents_of None)) (stated_groups q envelopes (up_from (λ l. l.0) envelopes rise))
 
   sent_apart : (m : ℕ) (xs ys : List (ℕ × (ℕ × M))) → AllByRecursion (λ l. l.0 < m) xs → AllByRecursion (λ l. m ≤ l.0) ys
-      → sent_parcels (xs ++ ys) ≡ sent_parcels xs ++ sent_parcels ys
+      → sent_message_lists (xs ++ ys) ≡ sent_message_lists xs ++ sent_message_lists ys
   sent_apart m xs ys below from =
-      ap (map parcel_of) (groups_apart m xs ys below (from_groups m ys from)) ∙ map-append parcel_of (groups_of xs) (groups_of ys)
+      ap (map message_list_of) (groups_apart m xs ys below (from_groups m ys from)) ∙ map-append message_list_of (groups_of xs) (groups_of ys)
 
-  sent_from : (m : ℕ) (letters : List (ℕ × (ℕ × M))) → AllByRecursion (λ l. m ≤ l.0) letters → From m (sent_parcels letters)
-  sent_from m letters all = all_to_map parcel_of (λ e. m ≤ e.0) (groups_of letters) (from_groups m letters all)
+  sent_from : (m : ℕ) (envelopes : List (ℕ × (ℕ × M))) → AllByRecursion (λ l. m ≤ l.0) envelopes → From m (sent_message_lists envelopes)
+  sent_from m envelopes all = all_to_map message_list_of (λ e. m ≤ e.0) (groups_of envelopes) (from_groups m envelopes all)
 
-  sent_below : (m : ℕ) (letters : List (ℕ × (ℕ × M))) → AllByRecursion (λ l. l.0 < m) letters → Below m (sent_parcels letters)
-  sent_below m letters all = all_to_map parcel_of (λ e. e.0 < m) (groups_of letters) (below_groups m letters all)
+  sent_below : (m : ℕ) (envelopes : List (ℕ × (ℕ × M))) → AllByRecursion (λ l. l.0 < m) envelopes → Below m (sent_message_lists envelopes)
+  sent_below m envelopes all = all_to_map message_list_of (λ e. e.0 < m) (groups_of envelopes) (below_groups m envelopes all)
 
   -- how many messages they have
   abbrev count : ℕ × Contents M → ℕ
-  count p = length p.1.letters
+  count p = length p.1.envelopes
 
   counted_before : (i : ℕ × (ℕ × M)) (gs : List (ℕ × List (ℕ × M)))
-      → sum_by count (map parcel_of (before_groups i gs)) ≡ suc (sum_by count (map parcel_of gs))
-  counted_before i [] = sum_by-cons count (parcel_of (i.0, i.1 ∷ [])) [] ∙ one_more (sum_by count [])
+      → sum_by count (map message_list_of (before_groups i gs)) ≡ suc (sum_by count (map message_list_of gs))
+  counted_before i [] = sum_by-cons count (message_list_of (i.0, i.1 ∷ [])) [] ∙ one_more (sum_by count [])
   counted_before i (g ∷ gs) = by (g.0 == i.0)
     where
       rest : List (ℕ × Contents M)
-      rest = map parcel_of gs
+      rest = map message_list_of gs
 
-      by : (b : Bool) → sum_by count (map parcel_of (cond b ((i.0, i.1 ∷ g.1) ∷ gs) ((i.0, i.1 ∷ []) ∷ g ∷ gs)))
-          ≡ suc (sum_by count (map parcel_of (g ∷ gs)))
-      by true = sum_by-cons count (parcel_of (i.0, i.1 ∷ g.1)) rest ∙ suc_more (length g.1) (sum_by count rest) ∙ ap suc (sym (sum_by-cons count (parcel_of g) rest))
-      by false = sum_by-cons count (parcel_of (i.0, i.1 ∷ [])) (parcel_of g ∷ rest) ∙ one_more (sum_by count (parcel_of g ∷ rest))
+      by : (b : Bool) → sum_by count (map message_list_of (cond b ((i.0, i.1 ∷ g.1) ∷ gs) ((i.0, i.1 ∷ []) ∷ g ∷ gs)))
+          ≡ suc (sum_by count (map message_list_of (g ∷ gs)))
+      by true = sum_by-cons count (message_list_of (i.0, i.1 ∷ g.1)) rest ∙ suc_more (length g.1) (sum_by count rest) ∙ ap suc (sym (sum_by-cons count (message_list_of g) rest))
+      by false = sum_by-cons count (message_list_of (i.0, i.1 ∷ [])) (message_list_of g ∷ rest) ∙ one_more (sum_by count (message_list_of g ∷ rest))
 
-  pub messages_sent : (letters : List (ℕ × (ℕ × M))) → messages_where (λ _. true) (sent_parcels letters) ≡ length letters
+  pub messages_sent : (envelopes : List (ℕ × (ℕ × M))) → messages_where (λ _. true) (sent_message_lists envelopes) ≡ length envelopes
   messages_sent [] = refl
-  messages_sent (l ∷ letters) = counted_before l (groups_of letters) ∙ ap suc (messages_sent letters)
+  messages_sent (l ∷ envelopes) = counted_before l (groups_of envelopes) ∙ ap suc (messages_sent envelopes)
 
   -- ---- with changes
 
-  module _ (changes : List (ℕ × Option (Contents M))) (letters : List (ℕ × (ℕ × M))) (rise : IsNonDecreasingBy (λ l. l.0) letters) where
-    pub with_rise : HasRisingIds (parcels_with changes letters)
-    with_rise = rises-changes changes (sent_parcels letters) (sent_rise letters rise)
+  module _ (changes : List (ℕ × Option (Contents M))) (envelopes : List (ℕ × (ℕ × M))) (rise : IsNonDecreasingBy (λ l. l.0) envelopes) where
+    pub with_rise : HasRisingIds (message_lists_with changes envelopes)
+    with_rise = rises-changes changes (sent_message_lists envelopes) (sent_rise envelopes rise)
 
     module _ (changes_rise : ChangesRise changes) (q : ℕ) where
       -- a target that is changed
-      pub value_changed : {o : Option (Contents M)} → value_at q changes ≡ Some o → value_at q (parcels_with changes letters) ≡ o
+      pub value_changed : {o : Option (Contents M)} → value_at q changes ≡ Some o → value_at q (message_lists_with changes envelopes) ≡ o
       value_changed is =
-          value_at-with_changes changes (sent_parcels letters) q changes_rise (sent_rise letters rise)
-          ∙ ap (λ o. unwrap_or o (value_at q (sent_parcels letters))) is
+          value_at-with_changes changes (sent_message_lists envelopes) q changes_rise (sent_rise envelopes rise)
+          ∙ ap (λ o. unwrap_or o (value_at q (sent_message_lists envelopes))) is
 
       -- and one that isn't
-      pub value_sent : value_at q changes ≡ None → value_at q (parcels_with changes letters) ≡ option_map (contents_of None) (any_of (items_to q letters))
+      pub value_sent : value_at q changes ≡ None → value_at q (message_lists_with changes envelopes) ≡ option_map (contents_of None) (any_of (items_to q envelopes))
       value_sent is =
-          value_at-with_changes changes (sent_parcels letters) q changes_rise (sent_rise letters rise)
-          ∙ ap (λ o. unwrap_or o (value_at q (sent_parcels letters))) is
-          ∙ value_at_sent q letters rise
+          value_at-with_changes changes (sent_message_lists envelopes) q changes_rise (sent_rise envelopes rise)
+          ∙ ap (λ o. unwrap_or o (value_at q (sent_message_lists envelopes))) is
+          ∙ value_at_sent q envelopes rise
 
   -- ---- more changes
 
-  module _ (letters : List (ℕ × (ℕ × M))) (letters_rise : IsNonDecreasingBy (λ l. l.0) letters) (more : List (ℕ × Option (Contents M)))
+  module _ (envelopes : List (ℕ × (ℕ × M))) (envelopes_rise : IsNonDecreasingBy (λ l. l.0) envelopes) (more : List (ℕ × Option (Contents M)))
       (rise : ChangesRise more) where
-    pub needed_rise : ChangesRise (map (needed letters) more)
-    needed_rise = subst (IsStrictlySortedBy nat_cmp) (sym (map-map (λ c. c.0) (needed letters) more)) rise
+    pub needed_rise : ChangesRise (map (needed envelopes) more)
+    needed_rise = subst (IsStrictlySortedBy nat_cmp) (sym (map-map (λ c. c.0) (needed envelopes) more)) rise
 
     -- what they give is put over the changes that are there
     pub changed_over : (changes : List (ℕ × Option (Contents M))) → ChangesRise changes
-        → parcels_with (with_changes (map (needed letters) more) changes) letters ≡ with_changes more (parcels_with changes letters)
+        → message_lists_with (with_changes (map (needed envelopes) more) changes) envelopes ≡ with_changes more (message_lists_with changes envelopes)
     changed_over changes changes_rise =
         same_entries (with_changes (with_changes given changes) base) (with_changes more (with_changes changes base))
         (rises-changes (with_changes given changes) base base_rise) (rises-changes more (with_changes changes base) both)
         (λ q. value_at-with_changes (with_changes given changes) base q (rises-changes given changes changes_rise) base_rise
         ∙ ap (λ o. unwrap_or o (value_at q base))
         (value_at-with_changes given changes q needed_rise changes_rise
-        ∙ ap (λ o. unwrap_or o (value_at q changes)) (value_at-made (λ c. (needed letters c).1) q more))
+        ∙ ap (λ o. unwrap_or o (value_at q changes)) (value_at-made (λ c. (needed envelopes c).1) q more))
         ∙ by q (value_at q more)
         ∙ sym (value_at-with_changes more (with_changes changes base) q rise both
         ∙ ap (λ x. unwrap_or (value_at q more) x) (value_at-with_changes changes base q changes_rise base_rise)))
       where
-        base : Parcels M
-        base = sent_parcels letters
+        base : MessageLists M
+        base = sent_message_lists envelopes
 
         given : List (ℕ × Option (Option (Contents M)))
-        given = map (needed letters) more
+        given = map (needed envelopes) more
 
         base_rise : HasRisingIds base
-        base_rise = sent_rise letters letters_rise
+        base_rise = sent_rise envelopes envelopes_rise
 
         both : HasRisingIds (with_changes changes base)
         both = rises-changes changes base base_rise
 
-        none_by : (q : ℕ) (b : Bool) → is_empty (items_to q letters) ≡ b
+        none_by : (q : ℕ) (b : Bool) → is_empty (items_to q envelopes) ≡ b
             → unwrap_or (unwrap_or (Some (cond b None (Some None))) (value_at q changes)) (value_at q base) ≡ None
-        none_by q true e = value_at_sent q letters letters_rise ∙ ap (option_map (contents_of None)) (any_of_none (items_to q letters) e)
+        none_by q true e = value_at_sent q envelopes envelopes_rise ∙ ap (option_map (contents_of None)) (any_of_none (items_to q envelopes) e)
         none_by q false e = refl
 
         by : (q : ℕ) (o : Option (Option (Contents M)))
-            → unwrap_or (unwrap_or (option_map (λ x. (needed letters (q, x)).1) o) (value_at q changes)) (value_at q base)
+            → unwrap_or (unwrap_or (option_map (λ x. (needed envelopes (q, x)).1) o) (value_at q changes)) (value_at q base)
             ≡ unwrap_or o (unwrap_or (value_at q changes) (value_at q base))
         by q None = refl
-        by q (Some None) = none_by q (is_empty (items_to q letters)) refl
+        by q (Some None) = none_by q (is_empty (items_to q envelopes)) refl
         by q (Some (Some contents)) = refl
 
-  -- ---- the next change, and the letters up to its target
+  -- ---- the next change, and the envelopes up to its target
 
   module _ (id : ℕ) (change : Option (Contents M)) (todo : List (ℕ × Option (Contents M))) (rise : ChangesRise ((id, change) ∷ todo)) where
     -- what stands at its target makes no difference
-    skip_all : (es others : Parcels M) → HasRisingIds (es ++ others) → From id es → Below (id + 1) es
+    skip_all : (es others : MessageLists M) → HasRisingIds (es ++ others) → From id es → Below (id + 1) es
         → with_changes ((id, change) ∷ todo) (es ++ others) ≡ with_changes ((id, change) ∷ todo) others
     skip_all [] others rises from below = refl
     skip_all (e ∷ es) others rises from below =
         skipped (id, change) todo rise e (es ++ others) (one_alone e.0 id from.0 below.0) rises
         ∙ skip_all es others (rises_after e (es ++ others) rises) from.1 below.1
 
-    turn : (others : Parcels M) → From (id + 1) others
+    turn : (others : MessageLists M) → From (id + 1) others
         → with_changes ((id, change) ∷ todo) others ≡ with_change id change [] ++ with_changes todo others
     turn others from = by change refl
       where
@@ -241,52 +241,52 @@ module _ {M : Type 0} where
         by None is = removed (id, change) todo rise others from is
         by (Some v) is = put (id, change) todo rise others from v is
 
-    parcels_turn : (here middle later : List (ℕ × (ℕ × M))) → HasRisingIds (sent_parcels (here ++ (middle ++ later)))
+    message_lists_turn : (here middle later : List (ℕ × (ℕ × M))) → HasRisingIds (sent_message_lists (here ++ (middle ++ later)))
         → AllByRecursion (λ l. l.0 < id) here → AllByRecursion (λ l. id ≤ l.0) (middle ++ later)
         → AllByRecursion (λ l. l.0 < id + 1) middle → AllByRecursion (λ l. id + 1 ≤ l.0) later
-        → parcels_with ((id, change) ∷ todo) (here ++ (middle ++ later)) ≡ sent_parcels here ++ (with_change id change [] ++ parcels_with todo later)
-    parcels_turn here middle later rises below from at past =
-        let cut : sent_parcels (here ++ (middle ++ later)) ≡ sent_parcels here ++ sent_parcels (middle ++ later) = sent_apart id here (middle ++ later) below from in
-        let cut' : sent_parcels (middle ++ later) ≡ sent_parcels middle ++ sent_parcels later = sent_apart (id + 1) middle later at past in
+        → message_lists_with ((id, change) ∷ todo) (here ++ (middle ++ later)) ≡ sent_message_lists here ++ (with_change id change [] ++ message_lists_with todo later)
+    message_lists_turn here middle later rises below from at past =
+        let cut : sent_message_lists (here ++ (middle ++ later)) ≡ sent_message_lists here ++ sent_message_lists (middle ++ later) = sent_apart id here (middle ++ later) below from in
+        let cut' : sent_message_lists (middle ++ later) ≡ sent_message_lists middle ++ sent_message_lists later = sent_apart (id + 1) middle later at past in
         ap (with_changes ((id, change) ∷ todo)) cut
-        ∙ changes-right id ((id, change) ∷ todo) (sent_parcels here) (sent_parcels (middle ++ later)) (sent_below id here below) (from_first (id, change) todo rise)
-        ∙ ap (λ l. sent_parcels here ++ l)
+        ∙ changes-right id ((id, change) ∷ todo) (sent_message_lists here) (sent_message_lists (middle ++ later)) (sent_below id here below) (from_first (id, change) todo rise)
+        ∙ ap (λ l. sent_message_lists here ++ l)
         (ap (with_changes ((id, change) ∷ todo)) cut'
-        ∙ skip_all (sent_parcels middle) (sent_parcels later)
-        (subst HasRisingIds cut' (rises_right (sent_parcels here) (sent_parcels (middle ++ later)) (subst HasRisingIds cut rises)))
+        ∙ skip_all (sent_message_lists middle) (sent_message_lists later)
+        (subst HasRisingIds cut' (rises_right (sent_message_lists here) (sent_message_lists (middle ++ later)) (subst HasRisingIds cut rises)))
         (sent_from id middle (all_first (λ l. id ≤ l.0) middle later from)) (sent_below (id + 1) middle at)
-        ∙ turn (sent_parcels later) (sent_from (id + 1) later past))
+        ∙ turn (sent_message_lists later) (sent_from (id + 1) later past))
 
-  module _ (id : ℕ) (change : Option (Contents M)) (letters here from later : List (ℕ × (ℕ × M))) (n k : ℕ)
-      (rise : IsNonDecreasingBy (λ l. l.0) letters) (within : n ≤ length letters)
-      (parts : IsPartitionPoint (λ l. ltb l.0 id ≡ true) (λ l. ltb l.0 id ≡ false) letters n)
-      (front : here ≡ take n letters) (back : from ≡ drop n letters)
+  module _ (id : ℕ) (change : Option (Contents M)) (envelopes here from later : List (ℕ × (ℕ × M))) (n k : ℕ)
+      (rise : IsNonDecreasingBy (λ l. l.0) envelopes) (within : n ≤ length envelopes)
+      (parts : IsPartitionPoint (λ l. ltb l.0 id ≡ true) (λ l. ltb l.0 id ≡ false) envelopes n)
+      (front : here ≡ take n envelopes) (back : from ≡ drop n envelopes)
       (within' : k ≤ length from) (parts' : IsPartitionPoint (λ l. leb l.0 id ≡ true) (λ l. leb l.0 id ≡ false) from k)
       (rest : later ≡ drop k from) where
     -- in two searches
-    pub parcels_up_to : (before after : Parcels M) → after ≡ (before ++ sent_parcels here) ++ with_change id change []
+    pub message_lists_up_to : (before after : MessageLists M) → after ≡ (before ++ sent_message_lists here) ++ with_change id change []
         → (todo : List (ℕ × Option (Contents M))) → ChangesRise ((id, change) ∷ todo)
-        → after ++ parcels_with todo later ≡ before ++ parcels_with ((id, change) ∷ todo) letters
-    parcels_up_to before after grown todo todo_rise =
-        let low = split_all (λ l. l.0 < id) (λ l. id ≤ l.0) letters n within
-        (λ i d h. is_below (get_or letters i d).0 id (parts.0 i d (omega (arith, h, within)) h))
-        (λ i d h g. is_from (get_or letters i d).0 id (parts.1 i d h g)) in
+        → after ++ message_lists_with todo later ≡ before ++ message_lists_with ((id, change) ∷ todo) envelopes
+    message_lists_up_to before after grown todo todo_rise =
+        let low = split_all (λ l. l.0 < id) (λ l. id ≤ l.0) envelopes n within
+        (λ i d h. is_below (get_or envelopes i d).0 id (parts.0 i d (omega (arith, h, within)) h))
+        (λ i d h g. is_from (get_or envelopes i d).0 id (parts.1 i d h g)) in
         let high = split_all (λ l. l.0 < id + 1) (λ l. id + 1 ≤ l.0) from k within'
         (λ i d h. is_up_to (get_or from i d).0 id (parts'.0 i d (omega (arith, h, within')) h))
         (λ i d h g. is_past (get_or from i d).0 id (parts'.1 i d h g)) in
         let middle = take k from in
         let cut : middle ++ later ≡ from = ap (λ l. middle ++ l) rest ∙ take-append-drop k from in
-        let whole : here ++ (middle ++ later) ≡ letters = ap₂ ◌++◌ front (cut ∙ back) ∙ take-append-drop n letters in
+        let whole : here ++ (middle ++ later) ≡ envelopes = ap₂ ◌++◌ front (cut ∙ back) ∙ take-append-drop n envelopes in
         let made =
-        parcels_turn id change todo todo_rise here middle later
-        (subst (λ l. HasRisingIds (sent_parcels l)) (sym whole) (sent_rise letters rise))
+        message_lists_turn id change todo todo_rise here middle later
+        (subst (λ l. HasRisingIds (sent_message_lists l)) (sym whole) (sent_rise envelopes rise))
         (subst (AllByRecursion (λ l. l.0 < id)) (sym front) low.0)
         (subst (AllByRecursion (λ l. id ≤ l.0)) (sym (cut ∙ back)) low.1)
         high.0 (subst (AllByRecursion (λ l. id + 1 ≤ l.0)) (sym rest) high.1) in
-        ap (λ l. l ++ parcels_with todo later) grown
-        ∙ append_assoc (before ++ sent_parcels here) (with_change id change []) (parcels_with todo later)
-        ∙ append_assoc before (sent_parcels here) (with_change id change [] ++ parcels_with todo later)
-        ∙ ap (λ l. before ++ l) (sym made ∙ ap (parcels_with ((id, change) ∷ todo)) whole)
+        ap (λ l. l ++ message_lists_with todo later) grown
+        ∙ append_assoc (before ++ sent_message_lists here) (with_change id change []) (message_lists_with todo later)
+        ∙ append_assoc before (sent_message_lists here) (with_change id change [] ++ message_lists_with todo later)
+        ∙ ap (λ l. before ++ l) (sym made ∙ ap (message_lists_with ((id, change) ∷ todo)) whole)
 
   -- ---- what they hold
 
@@ -303,25 +303,25 @@ module _ {M : Type 0} where
         by true = ((some_not_empty i.1 g.1, (here, all.0.1)), all.1)
         by false = ((some_not_empty i.1 [], (here, tt)), all)
 
-    groups_hold : (letters : List (ℕ × (ℕ × M))) → AllByRecursion (λ l. is_value l.1.1) letters → AllByRecursion GroupHolds (groups_of letters)
+    groups_hold : (envelopes : List (ℕ × (ℕ × M))) → AllByRecursion (λ l. is_value l.1.1) envelopes → AllByRecursion GroupHolds (groups_of envelopes)
     groups_hold [] all = tt
-    groups_hold (l ∷ letters) all = before_holds l (groups_of letters) all.0 (groups_hold letters all.1)
+    groups_hold (l ∷ envelopes) all = before_holds l (groups_of envelopes) all.0 (groups_hold envelopes all.1)
 
-    -- letters that were sent, with no change
-    pub sound_sent : (letters : List (ℕ × (ℕ × M))) → IsNonDecreasingBy (λ l. l.0) letters → AllByRecursion (λ l. is_value l.1.1) letters
-        → IsSound is_value [] letters
-    sound_sent letters rise values = record {
-      letters_rise = rise;
+    -- envelopes that were sent, with no change
+    pub sound_sent : (envelopes : List (ℕ × (ℕ × M))) → IsNonDecreasingBy (λ l. l.0) envelopes → AllByRecursion (λ l. is_value l.1.1) envelopes
+        → IsSound is_value [] envelopes
+    sound_sent envelopes rise values = record {
+      envelopes_rise = rise;
       changes_rise = nothing_rises (Option (Contents M));
-      hold = hold-all is_value (sent_parcels letters)
-          (all_to_map parcel_of (λ e. Holds is_value e.1) (groups_of letters) (groups_hold letters values));
+      hold = hold-all is_value (sent_message_lists envelopes)
+          (all_to_map message_list_of (λ e. Holds is_value e.1) (groups_of envelopes) (groups_hold envelopes values));
     }
 
-    -- changes of no letters
+    -- changes of no envelopes
     pub sound_changes : (changes : List (ℕ × Option (Contents M))) → ChangesRise changes → AllByRecursion (λ c. IfSome c.1 (Holds is_value)) changes
         → IsSound is_value changes []
     sound_changes changes rise hold = record {
-      letters_rise = λ i j d le within. absurd (omega (arith, within));
+      envelopes_rise = λ i j d le within. absurd (omega (arith, within));
       changes_rise = rise;
       hold = hold-changes is_value changes [] (all_weaker (λ c. IfSome c.1 (Holds is_value)) (λ c. HoldsAt is_value c.1) (λ c h. at c.1 h) changes hold)
           (hold-all is_value [] tt);
@@ -332,11 +332,11 @@ module _ {M : Type 0} where
         at (Some contents) h = h
 
     -- more changes
-    pub sound_more : (more changes : List (ℕ × Option (Contents M))) (letters : List (ℕ × (ℕ × M))) → IsSound is_value changes letters → ChangesRise more
-        → AllByRecursion (λ c. HoldsAt is_value c.1) more → IsSound is_value (with_changes (map (needed letters) more) changes) letters
-    sound_more more changes letters sound rise hold = record {
-      letters_rise = sound.letters_rise;
-      changes_rise = rises-changes (map (needed letters) more) changes sound.changes_rise;
-      hold = subst (HoldAll is_value) (sym (changed_over letters sound.letters_rise more rise changes sound.changes_rise))
-          (hold-changes is_value more (parcels_with changes letters) hold sound.hold);
+    pub sound_more : (more changes : List (ℕ × Option (Contents M))) (envelopes : List (ℕ × (ℕ × M))) → IsSound is_value changes envelopes → ChangesRise more
+        → AllByRecursion (λ c. HoldsAt is_value c.1) more → IsSound is_value (with_changes (map (needed envelopes) more) changes) envelopes
+    sound_more more changes envelopes sound rise hold = record {
+      envelopes_rise = sound.envelopes_rise;
+      changes_rise = rises-changes (map (needed envelopes) more) changes sound.changes_rise;
+      hold = subst (HoldAll is_value) (sym (changed_over envelopes sound.envelopes_rise more rise changes sound.changes_rise))
+          (hold-changes is_value more (message_lists_with changes envelopes) hold sound.hold);
     }

@@ -5,9 +5,9 @@ use Rattle.std.specs.List.{range_with_len}
 use Rattle.std.proofs.lemmas.Bool.Decides.{nat_tests}
 use Rattle.std.proofs.lemmas.List.{get_or_append_left, get_or_push, length-append, length-map, length-take-le, take_more}
 use Rattle.pg_model.proofs.LawsLists.{all-append, all_weaker}
-use Rattle.pg_inbox.specs.Places.{value_in}
+use Rattle.pg_inbox.specs.SparseVec.{value_in}
 use Rattle.pg_inbox.specs.SentRow.{AreBelow, IsLastAt, last_at, slot_in, slots_in}
-use Rattle.pg_inbox.specs.declared.logs.Logged.{Logged}
+use Rattle.pg_inbox.specs.declared.logs.LoggedBundle.{LoggedBundle}
 
 module _ {X : Type 0} where
   pub last_at-push : (number : ℕ) (es : List (ℕ × X)) (e : ℕ × X)
@@ -91,23 +91,23 @@ module _ {X : Type 0} where
 
 module _ {M : Type 0} where
   -- what is in a slot
-  pub value_in-slots : (count : ℕ) (usual : Logged M) (others : List (ℕ × Option (Logged M))) (q : ℕ)
+  pub value_in-slots : (count : ℕ) (usual : LoggedBundle M) (others : List (ℕ × Option (LoggedBundle M))) (q : ℕ)
       → value_in q (slots_in count usual others) ≡ cond (ltb q count) (slot_in usual others q) None
   value_in-slots count usual others q =
       let same : 0 + q ≡ q = omega arith in
       in_range (slot_in usual others) 0 count q ∙ ap (λ k. cond (ltb q count) (slot_in usual others k) None) same
 
-  pub length-slots : (count : ℕ) (usual : Logged M) (others : List (ℕ × Option (Logged M))) → length (slots_in count usual others) ≡ count
+  pub length-slots : (count : ℕ) (usual : LoggedBundle M) (others : List (ℕ × Option (LoggedBundle M))) → length (slots_in count usual others) ≡ count
   length-slots count usual others = length-map (range_with_len 0 count) (slot_in usual others) ∙ many 0 count
     where
       many : (start n : ℕ) → length (range_with_len start n) ≡ n
       many start zero = refl
       many start (suc n) = ap suc (many (start + 1) n)
 
-  module _ (usual : Logged M) (others : List (ℕ × Option (Logged M))) where
-    slot_in-push : (k : ℕ) (o : Option (Logged M)) (q : ℕ) → slot_in usual (others ++ (k, o) ∷ []) q ≡ cond (k == q) o (slot_in usual others q)
+  module _ (usual : LoggedBundle M) (others : List (ℕ × Option (LoggedBundle M))) where
+    slot_in-push : (k : ℕ) (o : Option (LoggedBundle M)) (q : ℕ) → slot_in usual (others ++ (k, o) ∷ []) q ≡ cond (k == q) o (slot_in usual others q)
     slot_in-push k o q =
-        ap (λ (x : Option (Option (Logged M))). elim x [ None ↦ Some usual | Some slot ↦ slot ]) (last_at-push q others (k, o)) ∙ by (k == q)
+        ap (λ (x : Option (Option (LoggedBundle M))). elim x [ None ↦ Some usual | Some slot ↦ slot ]) (last_at-push q others (k, o)) ∙ by (k == q)
       where
         by : (b : Bool) → elim (cond b (Some o) (last_at q others)) [ None ↦ Some usual | Some slot ↦ slot ] ≡ cond b o (slot_in usual others q)
         by true = refl
@@ -130,11 +130,11 @@ module _ {M : Type 0} where
 
       pub slot_usual : (q : ℕ) → q < count → last_at q others ≡ None → value_in q (slots_in count usual others) ≡ Some usual
       slot_usual q within none =
-          slot_within q within ∙ ap (λ (x : Option (Option (Logged M))). elim x [ None ↦ Some usual | Some slot ↦ slot ]) none
+          slot_within q within ∙ ap (λ (x : Option (Option (LoggedBundle M))). elim x [ None ↦ Some usual | Some slot ↦ slot ]) none
 
-      pub slot_other : (q : ℕ) (slot : Option (Logged M)) → q < count → last_at q others ≡ Some slot → value_in q (slots_in count usual others) ≡ slot
+      pub slot_other : (q : ℕ) (slot : Option (LoggedBundle M)) → q < count → last_at q others ≡ Some slot → value_in q (slots_in count usual others) ≡ slot
       slot_other q slot within some =
-          slot_within q within ∙ ap (λ (x : Option (Option (Logged M))). elim x [ None ↦ Some usual | Some slot ↦ slot ]) some
+          slot_within q within ∙ ap (λ (x : Option (Option (LoggedBundle M))). elim x [ None ↦ Some usual | Some slot ↦ slot ]) some
 
       -- ---- what is put
 
@@ -142,7 +142,7 @@ module _ {M : Type 0} where
         pub below_more : (m : ℕ) → count ≤ m → AreBelow m others
         below_more m le = all_weaker (λ e. e.0 < count) (λ e. e.0 < m) (λ e h. omega (arith, h, le)) others below
 
-        pub below_push : (m k : ℕ) (o : Option (Logged M)) → count ≤ m → k < m → AreBelow m (others ++ (k, o) ∷ [])
+        pub below_push : (m k : ℕ) (o : Option (LoggedBundle M)) → count ≤ m → k < m → AreBelow m (others ++ (k, o) ∷ [])
         below_push m k o le within = all-append (λ e. e.0 < m) others ((k, o) ∷ []) (below_more m le) (within, tt)
 
         -- one more usual one
@@ -168,7 +168,7 @@ module _ {M : Type 0} where
                 let here : q ≡ count = at count q e in
                 value_in-slots (count + 1) usual others q
                 ∙ ap (λ b. cond b (slot_in usual others q) None) (within q (count + 1) (omega (arith, here)))
-                ∙ ap (λ (x : Option (Option (Logged M))). elim x [ None ↦ Some usual | Some slot ↦ slot ])
+                ∙ ap (λ (x : Option (Option (LoggedBundle M))). elim x [ None ↦ Some usual | Some slot ↦ slot ])
                 (last_past q others (subst (λ n. AreBelow n others) (sym here) below))
             by false e true f =
                 value_in-slots (count + 1) usual others q
@@ -180,7 +180,7 @@ module _ {M : Type 0} where
                 ∙ sym (value_in-slots count usual others q ∙ ap (λ b. cond b (slot_in usual others q) None) f)
 
         -- one entry more, of a slot that is there or comes next
-        pub put_other : (m to : ℕ) (o : Option (Logged M)) → to ≤ count → count ≤ m → to < m → (m ≤ count) ⊎ (m ≤ to + 1) → (q : ℕ)
+        pub put_other : (m to : ℕ) (o : Option (LoggedBundle M)) → to ≤ count → count ≤ m → to < m → (m ≤ count) ⊎ (m ≤ to + 1) → (q : ℕ)
             → value_in q (slots_in m usual (others ++ (to, o) ∷ [])) ≡ cond (to == q) o (value_in q (slots_in count usual others))
         put_other m to o le more within most q =
             value_in-slots m usual (others ++ (to, o) ∷ []) q

@@ -12,11 +12,11 @@ use Rattle.std.proofs.Math.Bool.{or-false}
 use Rattle.pg_graph.specs.Rows.{Rows, row_at}
 use Rattle.pg_model.specs.Job.{Combining}
 use Rattle.pg_model.specs.Superstep.{combined, is_empty}
-use Rattle.pg_parcel.specs.Contents.{contents_of, parcels_of}
-use Rattle.pg_parcel.specs.Grouping.{before_groups, groups_of}
-use Rattle.pg_parcel.proofs.Grouping.{some_not_empty}
+use Rattle.pg_inbox_messages.specs.Contents.{contents_of, message_lists_of}
+use Rattle.pg_inbox_messages.specs.Grouping.{before_groups, groups_of}
+use Rattle.pg_inbox_messages.proofs.Grouping.{some_not_empty}
 use Rattle.pg_inbox.specs.Counting.{messages_where}
-use Rattle.pg_inbox.specs.Sound.{sent_parcels}
+use Rattle.pg_inbox.specs.Sound.{sent_message_lists}
 
 module _ {X : Type 0} where
   pub counted_one : (f : X → ℕ) (rest : List X) (before : ℕ) {x : X} {left : List X} {after whole : ℕ} → left ≡ x ∷ rest
@@ -28,8 +28,8 @@ module _ {X : Type 0} where
       let over : sum_by f left ≡ 0 = ap (sum_by f) none in
       omega (arith, so_far, over)
 
-abbrev pub is_astray : Rows → ℕ → Bool
-is_astray rows id = not (is_some (row_at id rows))
+abbrev pub is_undeliverable : Rows → ℕ → Bool
+is_undeliverable rows id = not (is_some (row_at id rows))
 
 pub none_or_any : (any empty : Bool) {b : Bool} → any ≡ not empty → any ≡ b → empty ≡ not b
 none_or_any any true is h = ap not (sym is ∙ h)
@@ -63,7 +63,7 @@ module _ {M : Type 0} where
   any_more (t ∷ taken) (Some m) before after was is =
       is ∙ ap (λ b. b || true) (was ∙ ap not (some_not_empty t taken)) ∙ ap not (sym (some_not_empty t (taken ++ m ∷ [])))
 
--- ---- no message is astray
+-- ---- no message is undeliverable
 
 module _ {X : Type 0} (P : ℕ → Type 0) where
   groups_all : (items : List (ℕ × X)) → AllByRecursion (λ i. P i.0) items → AllByRecursion (λ g. P g.0) (groups_of items)
@@ -93,12 +93,12 @@ module _ {X : Type 0} (P : ℕ → Type 0) where
 
 module _ {M : Type 0} (rows : Rows) where
   none_in : (groups : List (ℕ × List (ℕ × M))) → AllByRecursion (λ g. IsSome (row_at g.0 rows)) groups
-      → messages_where (is_astray rows) (parcels_of None groups) ≡ 0
+      → messages_where (is_undeliverable rows) (message_lists_of None groups) ≡ 0
   none_in [] all = refl
   none_in (g ∷ groups) all =
-      sum_by-cons (λ p. cond (is_astray rows p.0) (length p.1.letters) 0) (g.0, contents_of None g.1) (parcels_of None groups)
+      sum_by-cons (λ p. cond (is_undeliverable rows p.0) (length p.1.envelopes) 0) (g.0, contents_of None g.1) (message_lists_of None groups)
       ∙ ap₂ ◌+◌ (ap (λ b. cond (not b) (length g.1) 0) all.0) (none_in groups all.1)
 
-  pub none_astray : (letters : List (ℕ × (ℕ × M))) → AllByRecursion (λ l. IsSome (row_at l.0 rows)) letters
-      → 0 ≡ messages_where (is_astray rows) (sent_parcels letters)
-  none_astray letters all = sym (none_in (groups_of letters) (groups_all (λ id. IsSome (row_at id rows)) letters all))
+  pub none_undeliverable : (envelopes : List (ℕ × (ℕ × M))) → AllByRecursion (λ l. IsSome (row_at l.0 rows)) envelopes
+      → 0 ≡ messages_where (is_undeliverable rows) (sent_message_lists envelopes)
+  none_undeliverable envelopes all = sym (none_in (groups_of envelopes) (groups_all (λ id. IsSome (row_at id rows)) envelopes all))

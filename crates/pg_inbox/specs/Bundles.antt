@@ -4,13 +4,13 @@ use Rattle.std.specs.List.{flat_map}
 use Rattle.pg_map.specs.Entries.{value_at}
 use Rattle.pg_model.specs.Job.{Combining}
 use Rattle.pg_model.specs.Superstep.{targets}
-use Rattle.pg_parcel.specs.Contents.{contents_of}
-use Rattle.pg_parcel.specs.declared.parcel.Contents.{Contents}
-use Rattle.pg_inbox.specs.Sends.{Sends, letters_to, without_senders}
+use Rattle.pg_inbox_messages.specs.Contents.{contents_of}
+use Rattle.pg_inbox_messages.specs.declared.message_list.Contents.{Contents}
+use Rattle.pg_inbox.specs.Outbox.{Outbox, envelopes_to, without_senders}
 
 -- the messages to each target, by rising target
-abbrev pub Parcels : Type 0 → Type 0
-Parcels M = List (ℕ × Contents M)
+abbrev pub MessageLists : Type 0 → Type 0
+MessageLists M = List (ℕ × Contents M)
 
 -- what others see of the messages to a target: each of them, or one for all where they are combined
 pub record Entry (M : Type 0) : Type 0 where
@@ -21,32 +21,33 @@ pub record Entry (M : Type 0) : Type 0 where
 
 module _ {M : Type 0} where
   -- what these sends are as a bundle
-  abbrev pub bundle_of : Option (Combining M) → Sends M → Parcels M
+  abbrev pub bundle_of : Option (Combining M) → Outbox M → MessageLists M
   bundle_of combining sent =
-      map (λ target. (target, contents_of combining (letters_to target sent))) (targets (without_senders sent))
+      map (λ target. (target, contents_of combining (envelopes_to target sent))) (targets (without_senders sent))
 
   abbrev pub each_entry : ℕ → List (ℕ × M) → List (Entry M)
-  each_entry target letters = map (λ l. record { target = target; from = Some l.0; message = l.1; count = 1 }) letters
+  each_entry target envelopes = map (λ l. record { target = target; from = Some l.0; message = l.1; count = 1 })
+      envelopes
 
   abbrev pub entries_of : ℕ → Contents M → List (Entry M)
   entries_of target contents = elim contents.folded [
-    | None ↦ each_entry target contents.letters
-    | Some m ↦ record { target = target; from = None; message = m; count = length contents.letters } ∷ []
+    | None ↦ each_entry target contents.envelopes
+    | Some m ↦ record { target = target; from = None; message = m; count = length contents.envelopes } ∷ []
   ]
 
   -- all entries of a bundle: by target, and those to one target by sender and order
-  abbrev pub entries : Parcels M → List (Entry M)
-  entries parcels = flat_map (λ p. entries_of p.0 p.1) parcels
+  abbrev pub entries : MessageLists M → List (Entry M)
+  entries message_lists = flat_map (λ p. entries_of p.0 p.1) message_lists
 
   -- those to one target, if there are any
   abbrev pub entries_in : ℕ → Option (Contents M) → List (Entry M)
   entries_in target None = []
   entries_in target (Some contents) = entries_of target contents
 
-  abbrev pub entries_to : ℕ → Parcels M → List (Entry M)
-  entries_to target parcels = entries_in target (value_at target parcels)
+  abbrev pub entries_to : ℕ → MessageLists M → List (Entry M)
+  entries_to target message_lists = entries_in target (value_at target message_lists)
 
   -- what there is of a bundle that may be missing
-  abbrev pub parcels_in : Option (Parcels M) → Parcels M
-  parcels_in None = []
-  parcels_in (Some parcels) = parcels
+  abbrev pub message_lists_in : Option (MessageLists M) → MessageLists M
+  message_lists_in None = []
+  message_lists_in (Some message_lists) = message_lists

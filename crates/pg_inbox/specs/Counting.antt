@@ -1,8 +1,8 @@
 -- How many messages a bundle has.
 use Rattle.std.specs.Prelude.{ℕ, Bool, cond, length}
 use Rattle.std.specs.List.{sum_by}
-use Rattle.pg_inbox.specs.Bundles.{Parcels}
+use Rattle.pg_inbox.specs.Bundles.{MessageLists}
 
 -- those to targets that a test picks
-abbrev pub messages_where : {M : Type 0} → (ℕ → Bool) → Parcels M → ℕ
-messages_where picks parcels = sum_by (λ p. cond (picks p.0) (length p.1.letters) 0) parcels
+abbrev pub messages_where : {M : Type 0} → (ℕ → Bool) → MessageLists M → ℕ
+messages_where picks message_lists = sum_by (λ p. cond (picks p.0) (length p.1.envelopes) 0) message_lists

@@ -5,38 +5,38 @@ use Rattle.std.specs.Option.{option_to_list}
 use Rattle.pg_map.specs.Entries.{HasRisingIds, value_at}
 use Rattle.pg_model.specs.Job.{Combining}
 use Rattle.pg_model.specs.Superstep.{combined, delivered}
-use Rattle.pg_parcel.specs.Contents.{messages}
-use Rattle.pg_parcel.specs.declared.parcel.Contents.{Contents}
-use Rattle.pg_inbox.specs.Bundles.{Parcels, bundle_of}
+use Rattle.pg_inbox_messages.specs.Contents.{messages}
+use Rattle.pg_inbox_messages.specs.declared.message_list.Contents.{Contents}
+use Rattle.pg_inbox.specs.Bundles.{MessageLists, bundle_of}
 use Rattle.pg_inbox.specs.Ordered.{in_order}
-use Rattle.pg_inbox.specs.Sends.{AreAllOf, Sends, without_senders}
+use Rattle.pg_inbox.specs.Outbox.{AreAllOf, Outbox, without_senders}
 
 module _ {M : Type 0} where
   -- the messages to a target, if there are any
-  abbrev pub letters_in : Option (Contents M) → List (ℕ × M)
-  letters_in contents = elim contents [ None ↦ [] | Some contents ↦ contents.letters ]
+  abbrev pub envelopes_in : Option (Contents M) → List (ℕ × M)
+  envelopes_in contents = elim contents [ None ↦ [] | Some contents ↦ contents.envelopes ]
 
   -- those in one bundle
-  abbrev pub letters_at : ℕ → Parcels M → List (ℕ × M)
-  letters_at id parcels = letters_in (value_at id parcels)
+  abbrev pub envelopes_at : ℕ → MessageLists M → List (ℕ × M)
+  envelopes_at id message_lists = envelopes_in (value_at id message_lists)
 
   -- of whatever sends these are the bundles: what the superstep delivers of all of them
-  abbrev pub Delivers : Option (Combining M) → ℕ → List (Parcels M) → List M → Type 0
+  abbrev pub Delivers : Option (Combining M) → ℕ → List (MessageLists M) → List M → Type 0
   Delivers combining id bundles inbox =
-      (lists : List (Sends M)) (all : Sends M) → bundles ≡ map (bundle_of combining) lists → AreAllOf lists all
+      (lists : List (Outbox M)) (all : Outbox M) → bundles ≡ map (bundle_of combining) lists → AreAllOf lists all
       → inbox ≡ delivered combining id (without_senders all)
 
   -- what bundles have for a target, bundle by bundle
-  abbrev pub contents_to : ℕ → List (Parcels M) → List (Contents M)
+  abbrev pub contents_to : ℕ → List (MessageLists M) → List (Contents M)
   contents_to id bundles = flat_map (λ b. option_to_list (value_at id b)) bundles
 
   -- what the messages to a target come to in each bundle, where they are combined
   abbrev pub folded_of : {T : Type 0} → List (T × Contents M) → List M
-  folded_of parcels = flat_map (λ c. option_to_list c.folded) (map (λ p. p.1) parcels)
+  folded_of message_lists = flat_map (λ c. option_to_list c.folded) (map (λ p. p.1) message_lists)
 
   -- an inbox made of that: the messages by sender, or the one that they come to
   abbrev pub received_of : Option (Combining M) → List (Contents M) → List M
-  received_of None contents = messages (in_order (flat_map (λ c. c.letters) contents))
+  received_of None contents = messages (in_order (flat_map (λ c. c.envelopes) contents))
   received_of (Some c) contents = combined (Some c) (flat_map (λ c. option_to_list c.folded) contents)
 
   -- the inboxes made of that of each target
@@ -44,19 +44,20 @@ module _ {M : Type 0} where
   inboxes_of combining groups = map (λ g. (g.0, received_of combining g.1)) groups
 
   -- those of one bundle, where messages aren't combined
-  abbrev pub each_inbox : Parcels M → List (ℕ × List M)
-  each_inbox parcels = map (λ p. (p.0, messages (in_order p.1.letters))) parcels
+  abbrev pub each_inbox : MessageLists M → List (ℕ × List M)
+  each_inbox message_lists = map (λ p. (p.0, messages (in_order p.1.envelopes))) message_lists
 
   -- the inbox at an id
   abbrev pub inbox_at : ℕ → List (ℕ × List M) → List M
   inbox_at id inboxes = elim (value_at id inboxes) [ None ↦ [] | Some inbox ↦ inbox ]
 
   -- one of the bundles has a message to a target
-  abbrev pub is_receiver : List (Parcels M) → ℕ → Bool
+  abbrev pub is_receiver : List (MessageLists M) → ℕ → Bool
   is_receiver bundles id = list_any (λ b. is_some (value_at id b)) bundles
 
   -- the inboxes of just the ids to which there is a message, by rising id
-  pub record AreInboxes (combining : Option (Combining M)) (bundles : List (Parcels M)) (inboxes : List (ℕ × List M)) : Type 0 where
+  pub record AreInboxes (combining : Option (Combining M)) (bundles : List (MessageLists M))
+      (inboxes : List (ℕ × List M)) : Type 0 where
     pub rise : HasRisingIds inboxes
     pub receivers : (id : ℕ) → is_some (value_at id inboxes) ≡ is_receiver bundles id
-    pub told : (id : ℕ) → Delivers combining id bundles (inbox_at id inboxes)
+    pub stated : (id : ℕ) → Delivers combining id bundles (inbox_at id inboxes)

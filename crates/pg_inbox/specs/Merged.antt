@@ -1,12 +1,12 @@
--- Lists of letters by target, and the inboxes that they make together.
+-- Lists of envelopes by target, and the inboxes that they make together.
 use Rattle.std.specs.Prelude.{◌≡◌, ℕ, ◌≤◌, false, List, [], map, drop, Option, MatchOption}
 use Rattle.std.specs.List.{AllByRecursion, flat_map}
 use Rattle.std.specs.List.Sorted.{IsNonDecreasingBy}
 use Rattle.std.specs.Option.{option_map}
 use Rattle.pg_map.specs.Entries.{HasRisingIds, value_at}
 use Rattle.pg_model.specs.Superstep.{is_empty}
-use Rattle.pg_parcel.specs.Contents.{messages}
-use Rattle.pg_parcel.specs.Grouping.{any_of, items_to, run_len}
+use Rattle.pg_inbox_messages.specs.Contents.{messages}
+use Rattle.pg_inbox_messages.specs.Grouping.{any_of, items_to, run_len}
 use Rattle.pg_inbox.specs.Ordered.{in_order}
 
 module _ {X : Type 0} where
@@ -24,7 +24,8 @@ module _ {X : Type 0} where
 
   -- and none has a lower target
   abbrev pub StandFrom : ℕ → List (List (ℕ × X)) → Type 0
-  StandFrom lowest lists = AllByRecursion (λ l. IsNonDecreasingBy (λ i. i.0) l × AllByRecursion (λ i. lowest ≤ i.0) l) lists
+  StandFrom lowest lists = AllByRecursion (λ l. IsNonDecreasingBy (λ i. i.0) l × AllByRecursion (λ i. lowest ≤ i.0) l)
+      lists
 
   -- it is the lowest target of all lists
   pub record IsLowest (lists : List (List (ℕ × X))) (target : ℕ) : Type 0 where
@@ -36,9 +37,9 @@ module _ {X : Type 0} where
   IsLowestOf lists lowest = MatchOption lowest (AllByRecursion (λ l. l ≡ []) lists) (IsLowest lists)
 
 module _ {M : Type 0} where
-  -- an inbox of these letters, if there are any
+  -- an inbox of these envelopes, if there are any
   abbrev pub inbox_by_sender : List (ℕ × M) → Option (List M)
-  inbox_by_sender letters = option_map (λ l. messages (in_order l)) (any_of letters)
+  inbox_by_sender envelopes = option_map (λ l. messages (in_order l)) (any_of envelopes)
 
   -- each target has an inbox of what all lists have for it, by rising target
   pub record AreMerged (lists : List (List (ℕ × (ℕ × M)))) (inboxes : List (ℕ × List M)) : Type 0 where

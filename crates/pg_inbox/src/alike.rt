@@ -10,7 +10,7 @@ use pg_program::Plain;
 
 /// Tells the prover that bundles of two runs deliver the same to a target, combined or not, where what others see
 /// of the messages to it is the same. Costs one step a bundle.
-pub fn tell_alike<M: Plain, C: MessageCombiner<M>>(
+pub fn same_delivery<M: Plain, C: MessageCombiner<M>>(
     old: &[Bundle<M>],
     new: &[Bundle<M>],
     combiner: &C,

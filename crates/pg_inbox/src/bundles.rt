@@ -4,15 +4,15 @@ ghost use Rattle.std.specs.List.Sorted.{IsNonDecreasingBy};
 ghost use Rattle.std.specs.Option.{option_map};
 ghost use Rattle.std.specs.Prelude.{None};
 ghost use Rattle.pg_map.specs.Entries.{HasRisingIds, value_at};
-ghost use Rattle.pg_parcel.specs.Contents.{contents_of};
-ghost use Rattle.pg_parcel.specs.Grouping.{any_of, items_to};
+ghost use Rattle.pg_inbox_messages.specs.Contents.{contents_of};
+ghost use Rattle.pg_inbox_messages.specs.Grouping.{any_of, items_to};
 ghost use Rattle.pg_inbox.specs.Holding.{HoldAll, HoldsAt};
-ghost use Rattle.pg_inbox.specs.Sound.{sent_parcels};
+ghost use Rattle.pg_inbox.specs.Sound.{sent_message_lists};
 
-use crate::letters::Letters;
+use crate::envelopes::Envelopes;
 use pg_graph::{Memory, VertexId};
+use pg_inbox_messages::{MessageListChange, MessageListRef, items_to};
 use pg_map::Map;
-use pg_parcel::{Change, ParcelRef, items_to};
 use pg_program::Plain;
 use std::marker::Model;
 
@@ -22,30 +22,30 @@ use std::marker::Model;
 /// Messages that aren't combined lie as they were sent, in one list by rising target, beside what is changed of it
 /// since; those that are combined are changes of no list.
 pub struct Bundle<M: Plain> {
-    pub(crate) letters: Letters<M>,
-    pub(crate) changes: Map<Change<M>>,
+    pub(crate) envelopes: Envelopes<M>,
+    pub(crate) changes: Map<MessageListChange<M>>,
 }
 
 // By hand, so that it is let go by one call wherever that is, and not field by field.
 impl<M: Plain> Drop for Bundle<M> {
     fn drop(self) {
         let Bundle {
-            letters: _,
+            envelopes: _,
             changes: _,
         } = self;
     }
 }
 
 impl<M: Plain> Model for Bundle<M> {
-    ghost use Rattle.pg_inbox.specs.Bundles.{Parcels};
-    ghost use Rattle.pg_inbox.specs.Shared.{letters_of};
-    ghost use Rattle.pg_inbox.specs.Sound.{IsSound, parcels_with};
+    ghost use Rattle.pg_inbox.specs.Bundles.{MessageLists};
+    ghost use Rattle.pg_inbox.specs.Shared.{envelopes_of};
+    ghost use Rattle.pg_inbox.specs.Sound.{IsSound, message_lists_with};
 
-    ghost Value = { Parcels M };
+    ghost Value = { MessageLists M };
 
-    ghost view = { λ b. parcels_with b.changes (letters_of b.letters) };
+    ghost view = { λ b. message_lists_with b.changes (envelopes_of b.envelopes) };
 
-    ghost invariant = { λ b. IsSound M.is_value b.changes (letters_of b.letters) };
+    ghost invariant = { λ b. IsSound M.is_value b.changes (envelopes_of b.envelopes) };
 }
 
 impl<M: Plain> Bundle<M> {
@@ -54,25 +54,25 @@ impl<M: Plain> Bundle<M> {
         ensures { result ≡ [] }
     {
         Bundle {
-            letters: Letters::new(),
+            envelopes: Envelopes::new(),
             changes: Map::new(),
         }
     }
 
     /// The same bundle, in the same memory. Costs O(1).
-    pub fn share(&self) -> Result<Bundle<M>, Memory>
+    pub fn cheap_clone(&self) -> Result<Bundle<M>, Memory>
         ensures { IfOk result (λ bundle. bundle ≡ self.now) }
     {
-        let letters = self.letters.share()?;
-        let changes = self.changes.share()?;
-        Ok(Bundle { letters, changes })
+        let envelopes = self.envelopes.cheap_clone()?;
+        let changes = self.changes.cheap_clone()?;
+        Ok(Bundle { envelopes, changes })
     }
 
     /// Whether it has no messages, as it lies in memory.
     pub(crate) fn is_empty(&self) -> bool
         ensures { IsTrue result → self.now ≡ [] }
     {
-        self.changes.len() == 0 && self.letters.as_slice().is_empty()
+        self.changes.len() == 0 && self.envelopes.as_slice().is_empty()
     }
 
     /// Tells the prover that each of its messages is a value of its type, and that its targets rise.
@@ -83,40 +83,41 @@ impl<M: Plain> Bundle<M> {
         let _ = &self.changes;
     }
 
-    /// The messages to a target. Costs a search among the changes and one among the letters, and as much as there are.
-    pub(crate) fn parcel(&self, target: VertexId) -> Option<ParcelRef<'_, M>>
+    /// The messages to a target. Costs a search among the changes and one among the envelopes, and as much as there
+    /// are.
+    pub(crate) fn message_list(&self, target: VertexId) -> Option<MessageListRef<'_, M>>
         ensures value { result ≡ value_at target self.now }
         ensures holds { HoldsAt M.is_value (value_at target self.now) }
     {
         match self.changes.get(target) {
-            Some(change) => change.parcel(),
-            None => sent_to(self.letters.as_slice(), target),
+            Some(change) => change.message_list(),
+            None => sent_to(self.envelopes.as_slice(), target),
         }
     }
 
-    /// The letters, where nothing is changed of them.
+    /// The envelopes, where nothing is changed of them.
     pub(crate) fn unchanged(&self) -> Option<&[(VertexId, (VertexId, M))]>
-        ensures parcels { IfSome result (λ letters. self.now ≡ sent_parcels letters.now) }
-        ensures rise { IfSome result (λ letters. IsNonDecreasingBy (λ l. l.0) letters.now) }
+        ensures message_lists { IfSome result (λ envelopes. self.now ≡ sent_message_lists envelopes.now) }
+        ensures rise { IfSome result (λ envelopes. IsNonDecreasingBy (λ l. l.0) envelopes.now) }
     {
         if self.changes.len() > 0 {
             return None;
         }
-        Some(self.letters.as_slice())
+        Some(self.envelopes.as_slice())
     }
 }
 
-/// The letters to a target, if there are any.
+/// The envelopes to a target, if there are any.
 fn sent_to<M: Plain>(
-    letters: &[(VertexId, (VertexId, M))],
+    envelopes: &[(VertexId, (VertexId, M))],
     target: VertexId,
-) -> Option<ParcelRef<'_, M>>
-    requires { IsNonDecreasingBy (λ i. i.0) letters.now }
-    ensures { result ≡ option_map (contents_of None) (any_of (items_to target letters.now)) }
+) -> Option<MessageListRef<'_, M>>
+    requires { IsNonDecreasingBy (λ i. i.0) envelopes.now }
+    ensures { result ≡ option_map (contents_of None) (any_of (items_to target envelopes.now)) }
 {
-    let here = items_to(letters, target);
+    let here = items_to(envelopes, target);
     if here.is_empty() {
         return None;
     }
-    Some(ParcelRef::of_sent(here))
+    Some(MessageListRef::of_sent(here))
 }

@@ -3,27 +3,28 @@ ghost use Rattle.std.specs.Prelude.{◌≡◌, ◌≤◌, ℕ, drop, slice_get, 
 ghost use Rattle.std.specs.List.{AllByRecursion};
 ghost use Rattle.std.specs.Option.{option_copied, option_map};
 ghost use Rattle.pg_map.specs.Entries.{HasRisingIds, value_at};
-ghost use Rattle.pg_parcel.specs.Contents.{Holds};
-ghost use Rattle.pg_inbox.specs.Bundles.{entries_in, entries_of, parcels_in};
+ghost use Rattle.pg_inbox_messages.specs.Contents.{Holds};
+ghost use Rattle.pg_inbox.specs.Bundles.{entries_in, entries_of, message_lists_in};
 ghost use Rattle.pg_inbox.specs.Changed.{AreChanged, IsAdded, lower};
 ghost use Rattle.pg_inbox.specs.Holding.{HoldAll, HoldsAt};
 
 use crate::Bundle;
 use pg_graph::{Memory, VertexId};
-use pg_parcel::ParcelRef;
+use pg_inbox_messages::MessageListRef;
 use pg_program::Plain;
 use std::alloc::Global;
 
 /// The targets at which two bundles differ as others see them, rising, each once. No bundle has no entry.
 ///
 /// Costs a look at each message of both, whose targets are gone through once, side by side, and for each change of a
-/// bundle two binary searches among its letters.
+/// bundle two binary searches among its envelopes.
 pub fn changed_targets<M: Plain>(
     alloc: Global,
     old: Option<&Bundle<M>>,
     new: Option<&Bundle<M>>,
 ) -> Result<Vec<VertexId>, Memory>
-    ensures { IfOk result (λ ids. AreChanged (parcels_in (option_copied old.entry)) (parcels_in (option_copied new.entry)) ids.items) }
+    ensures { IfOk result (λ ids. AreChanged (message_lists_in (option_copied old.entry))
+        (message_lists_in (option_copied new.entry)) ids.items) }
 {
     let none = Bundle::new();
     match old {
@@ -48,16 +49,16 @@ fn differing<M: Plain>(
 {
     old.holds();
     new.holds();
-    let before = old.parcels(alloc)?;
-    let after = new.parcels(alloc)?;
-    differing_parcels(alloc, before.as_slice(), after.as_slice())
+    let before = old.message_lists(alloc)?;
+    let after = new.message_lists(alloc)?;
+    differing_message_lists(alloc, before.as_slice(), after.as_slice())
 }
 
-/// The targets at which two lists of parcels by rising target differ. Goes through both once, side by side.
-fn differing_parcels<M: Plain>(
+/// The targets at which two lists of message lists by rising target differ. Goes through both once, side by side.
+fn differing_message_lists<M: Plain>(
     alloc: Global,
-    old: &[(VertexId, ParcelRef<'_, M>)],
-    new: &[(VertexId, ParcelRef<'_, M>)],
+    old: &[(VertexId, MessageListRef<'_, M>)],
+    new: &[(VertexId, MessageListRef<'_, M>)],
 ) -> Result<Vec<VertexId>, Memory>
     requires old_rise { HasRisingIds old.now }
     requires old_hold { HoldAll M.is_value old.now }
@@ -68,8 +69,8 @@ fn differing_parcels<M: Plain>(
     let mut changed = Vec::new(alloc);
     let (mut old_place, mut new_place) = (0, 0);
     while let Some(target) = lower(target_at(old, old_place), target_at(new, new_place)) {
-        let before = parcel_at(old, old_place, target);
-        let after = parcel_at(new, new_place, target);
+        let before = message_list_at(old, old_place, target);
+        let after = message_list_at(new, new_place, target);
         add_if_changed(&mut changed, target, before, after)?;
         old_place += usize::from(before.is_some());
         new_place += usize::from(after.is_some());
@@ -87,26 +88,29 @@ fn lower(id: Option<VertexId>, other: Option<VertexId>) -> Option<VertexId>
     }
 }
 
-/// The target of the parcel at a place, if there is one.
-fn target_at<M: Plain>(parcels: &[(VertexId, ParcelRef<'_, M>)], place: usize) -> Option<VertexId>
-    ensures { result ≡ option_map (λ p. p.0) (slice_get parcels.now place) }
+/// The target of the message list at a place, if there is one.
+fn target_at<M: Plain>(
+    message_lists: &[(VertexId, MessageListRef<'_, M>)],
+    place: usize,
+) -> Option<VertexId>
+    ensures { result ≡ option_map (λ p. p.0) (slice_get message_lists.now place) }
 {
-    let (target, _) = parcels.get(place)?;
+    let (target, _) = message_lists.get(place)?;
     Some(*target)
 }
 
-/// The messages to a target, of parcels by rising target from a place on. None of those is to a lower target.
-fn parcel_at<'a, 'b, M: Plain>(
-    parcels: &'a [(VertexId, ParcelRef<'b, M>)],
+/// The messages to a target, of message lists by rising target from a place on. None of those is to a lower target.
+fn message_list_at<'a, 'b, M: Plain>(
+    message_lists: &'a [(VertexId, MessageListRef<'b, M>)],
     place: usize,
     target: VertexId,
-) -> Option<&'a ParcelRef<'b, M>>
-    requires rise { HasRisingIds parcels.now }
-    requires from { AllByRecursion (λ p. target ≤ p.0) (drop place parcels.now) }
-    ensures { option_copied result ≡ value_at target (drop place parcels.now) }
+) -> Option<&'a MessageListRef<'b, M>>
+    requires rise { HasRisingIds message_lists.now }
+    requires from { AllByRecursion (λ p. target ≤ p.0) (drop place message_lists.now) }
+    ensures { option_copied result ≡ value_at target (drop place message_lists.now) }
 {
-    match parcels.get(place) {
-        Some((id, parcel)) if *id == target => Some(parcel),
+    match message_lists.get(place) {
+        Some((id, message_list)) if *id == target => Some(message_list),
         _ => None,
     }
 }
@@ -115,8 +119,8 @@ fn parcel_at<'a, 'b, M: Plain>(
 pub(crate) fn add_if_changed<M: Plain>(
     ids: &mut Vec<VertexId>,
     id: VertexId,
-    old: Option<&ParcelRef<'_, M>>,
-    new: Option<&ParcelRef<'_, M>>,
+    old: Option<&MessageListRef<'_, M>>,
+    new: Option<&MessageListRef<'_, M>>,
 ) -> Result<(), Memory>
     requires old { HoldsAt M.is_value (option_copied old) }
     requires new { HoldsAt M.is_value (option_copied new) }
@@ -129,10 +133,14 @@ pub(crate) fn add_if_changed<M: Plain>(
 }
 
 /// Whether others see the same of the messages to a target.
-fn is_same<M: Plain>(old: Option<&ParcelRef<'_, M>>, new: Option<&ParcelRef<'_, M>>) -> bool
+fn is_same<M: Plain>(
+    old: Option<&MessageListRef<'_, M>>,
+    new: Option<&MessageListRef<'_, M>>,
+) -> bool
     requires old { HoldsAt M.is_value (option_copied old) }
     requires new { HoldsAt M.is_value (option_copied new) }
-    ensures { (target : ℕ) → IsTrue result ↔ (entries_in target (option_copied old.entry) ≡ entries_in target (option_copied new.entry)) }
+    ensures { (target : ℕ) → IsTrue result ↔
+        (entries_in target (option_copied old.entry) ≡ entries_in target (option_copied new.entry)) }
 {
     match old {
         Some(old) => match new {
@@ -144,7 +152,7 @@ fn is_same<M: Plain>(old: Option<&ParcelRef<'_, M>>, new: Option<&ParcelRef<'_, 
 }
 
 /// The same of messages that are there.
-fn is_same_contents<M: Plain>(old: &ParcelRef<'_, M>, new: &ParcelRef<'_, M>) -> bool
+fn is_same_contents<M: Plain>(old: &MessageListRef<'_, M>, new: &MessageListRef<'_, M>) -> bool
     requires old { Holds M.is_value old.now }
     requires new { Holds M.is_value new.now }
     ensures { (target : ℕ) → IsTrue result ↔ (entries_of target old.now ≡ entries_of target new.now) }
@@ -156,27 +164,27 @@ fn is_same_contents<M: Plain>(old: &ParcelRef<'_, M>, new: &ParcelRef<'_, M>) ->
         },
         None => match new.folded() {
             Some(_) => false,
-            None => are_same_letters(old, new),
+            None => are_same_envelopes(old, new),
         },
     }
 }
 
 /// Whether messages are the same, with the same senders in the same order.
-fn are_same_letters<M: Plain>(old: &ParcelRef<'_, M>, new: &ParcelRef<'_, M>) -> bool
-    ensures { IsTrue result ↔ (old.now.letters ≡ new.now.letters) }
+fn are_same_envelopes<M: Plain>(old: &MessageListRef<'_, M>, new: &MessageListRef<'_, M>) -> bool
+    ensures { IsTrue result ↔ (old.now.envelopes ≡ new.now.envelopes) }
 {
     if old.len() != new.len() {
         return false;
     }
     for place in 0..old.len() {
-        if !is_same_letter(old.letter(place), new.letter(place)) {
+        if !is_same_envelope(old.envelope(place), new.envelope(place)) {
             return false;
         }
     }
     true
 }
 
-fn is_same_letter<M: Plain>(old: &(VertexId, M), new: &(VertexId, M)) -> bool
+fn is_same_envelope<M: Plain>(old: &(VertexId, M), new: &(VertexId, M)) -> bool
     ensures { IsTrue result ↔ (old.now ≡ new.now) }
 {
     if old.0 != new.0 {

@@ -4,11 +4,11 @@ ghost use Rattle.std.specs.List.{AllByRecursion};
 ghost use Rattle.std.specs.List.Sorted.{IsNonDecreasingBy};
 ghost use Rattle.pg_graph.specs.Rows.{row_at};
 ghost use Rattle.pg_inbox.specs.Counting.{messages_where};
-ghost use Rattle.pg_inbox.specs.Sound.{sent_parcels};
+ghost use Rattle.pg_inbox.specs.Sound.{sent_message_lists};
 
 use crate::Bundle;
-use pg_graph::{Finder, Graph, Memory, Row, VertexId};
-use pg_parcel::{ParcelRef, first_group};
+use pg_graph::{Cursor, Graph, Memory, Row, VertexId};
+use pg_inbox_messages::{MessageListRef, first_group};
 use pg_program::Plain;
 use std::alloc::{AllocError, Global};
 
@@ -19,7 +19,7 @@ impl<M: Plain> Bundle<M> {
         ensures { IfOk result (λ count. count ≡ messages_where (λ _. true) self.now) }
     {
         match self.unchanged() {
-            Some(letters) => Ok(letters.len() as u64),
+            Some(envelopes) => Ok(envelopes.len() as u64),
             None => self.messages_counted(alloc),
         }
     }
@@ -28,98 +28,101 @@ impl<M: Plain> Bundle<M> {
     fn messages_counted(&self, alloc: Global) -> Result<u64, Memory>
         ensures { IfOk result (λ count. count ≡ messages_where (λ _. true) self.now) }
     {
-        let parcels = self.parcels(alloc)?;
-        messages_listed(parcels.as_slice())
+        let message_lists = self.message_lists(alloc)?;
+        messages_listed(message_lists.as_slice())
     }
 
-    /// How many messages there are to ids that are no vertices of a graph. Costs a few binary searches where the bundle is
-    /// as it was made of messages that aren't combined, the graph leaves out no id from its first to its last, and there are
-    /// none. Else a look at each message, and one look-up in the graph for each target, each near the one before; and a list
-    /// of the targets where the bundle isn't as it was made of messages that aren't combined.
-    pub fn astray(&self, alloc: Global, graph: &Graph) -> Result<u64, Memory>
+    /// How many messages there are to ids that are no vertices of a graph. Costs a few binary searches where the bundle
+    /// is as it was made of messages that aren't combined, the graph leaves out no id from its first to its last, and
+    /// there are none. Else a look at each message, and one look-up in the graph for each target, each near the one
+    /// before; and a list of the targets where the bundle isn't as it was made of messages that aren't combined.
+    pub fn undeliverable(&self, alloc: Global, graph: &Graph) -> Result<u64, Memory>
         ensures { IfOk result
             (λ count. count ≡ messages_where (λ id. not (is_some (row_at id graph.now))) self.now) }
     {
         match self.unchanged() {
-            Some(letters) => astray_sent(letters, graph),
-            None => self.astray_counted(alloc, graph),
+            Some(envelopes) => undeliverable_sent(envelopes, graph),
+            None => self.undeliverable_counted(alloc, graph),
         }
     }
 
     /// The same from a list of the targets.
-    fn astray_counted(&self, alloc: Global, graph: &Graph) -> Result<u64, Memory>
+    fn undeliverable_counted(&self, alloc: Global, graph: &Graph) -> Result<u64, Memory>
         ensures { IfOk result
             (λ count. count ≡ messages_where (λ id. not (is_some (row_at id graph.now))) self.now) }
     {
-        let parcels = self.parcels(alloc)?;
-        astray_listed(parcels.as_slice(), graph)
+        let message_lists = self.message_lists(alloc)?;
+        undeliverable_listed(message_lists.as_slice(), graph)
     }
 }
 
-/// How many letters, by target, there are to ids that are no vertices of a graph.
-fn astray_sent<M: Plain>(
-    letters: &[(VertexId, (VertexId, M))],
+/// How many envelopes, by target, there are to ids that are no vertices of a graph.
+fn undeliverable_sent<M: Plain>(
+    envelopes: &[(VertexId, (VertexId, M))],
     graph: &Graph,
 ) -> Result<u64, Memory>
-    requires { IsNonDecreasingBy (λ l. l.0) letters.now }
+    requires { IsNonDecreasingBy (λ l. l.0) envelopes.now }
     ensures { IfOk result
-        (λ count. count ≡ messages_where (λ id. not (is_some (row_at id graph.now))) (sent_parcels letters.now)) }
+        (λ count. count ≡ messages_where (λ id. not (is_some (row_at id graph.now)))
+        (sent_message_lists envelopes.now)) }
 {
-    if are_to_vertices(letters, graph) {
+    if are_to_vertices(envelopes, graph) {
         return Ok(0);
     }
-    let mut rows = graph.finder();
+    let mut rows = graph.cursor();
     let mut count = 0u64;
-    let mut left = letters;
+    let mut left = envelopes;
     while let Some((target, here, later)) = first_group(left) {
-        count = with_astray(count, &mut rows, target, here.len())?;
+        count = with_undeliverable(count, &mut rows, target, here.len())?;
         left = later;
     }
     Ok(count)
 }
 
-/// Whether all letters, by rising target, are to vertices of a graph. It may say no where they are.
-fn are_to_vertices<M>(letters: &[(VertexId, (VertexId, M))], graph: &Graph) -> bool
-    requires { IsNonDecreasingBy (λ l. l.0) letters.now }
-    ensures { IsTrue result → AllByRecursion (λ l. IsSome (row_at l.0 graph.now)) letters.now }
+/// Whether all envelopes, by rising target, are to vertices of a graph. It may say no where they are.
+fn are_to_vertices<M>(envelopes: &[(VertexId, (VertexId, M))], graph: &Graph) -> bool
+    requires { IsNonDecreasingBy (λ l. l.0) envelopes.now }
+    ensures { IsTrue result → AllByRecursion (λ l. IsSome (row_at l.0 graph.now)) envelopes.now }
 {
-    match (letters.first(), letters.last()) {
+    match (envelopes.first(), envelopes.last()) {
         (Some(first), Some(last)) => graph.has_all(first.0, last.0),
         _ => false,
     }
 }
 
 /// How many messages there are.
-fn messages_listed<M: Plain>(parcels: &[(VertexId, ParcelRef<'_, M>)]) -> Result<u64, Memory>
-    ensures { IfOk result (λ count. count ≡ messages_where (λ _. true) parcels.now) }
+fn messages_listed<M: Plain>(
+    message_lists: &[(VertexId, MessageListRef<'_, M>)],
+) -> Result<u64, Memory>
+    ensures { IfOk result (λ count. count ≡ messages_where (λ _. true) message_lists.now) }
 {
     let mut count = 0u64;
-    for (_, parcel) in parcels {
-        count = with_messages(count, parcel)?;
+    for (_, message_list) in message_lists {
+        count = with_messages(count, message_list)?;
     }
     Ok(count)
 }
 
 /// How many messages there are to ids that are no vertices of a graph.
-fn astray_listed<M: Plain>(
-    parcels: &[(VertexId, ParcelRef<'_, M>)],
+fn undeliverable_listed<M: Plain>(
+    message_lists: &[(VertexId, MessageListRef<'_, M>)],
     graph: &Graph,
 ) -> Result<u64, Memory>
     ensures { IfOk result
-        (λ count. count ≡ messages_where (λ id. not (is_some (row_at id graph.now))) parcels.now) }
+        (λ count. count ≡ messages_where (λ id. not (is_some (row_at id graph.now))) message_lists.now) }
 {
-    let mut rows = graph.finder();
+    let mut rows = graph.cursor();
     let mut count = 0u64;
-    for (target, parcel) in parcels {
-        count = with_astray(count, &mut rows, *target, parcel.len())?;
+    for (target, message_list) in message_lists {
+        count = with_undeliverable(count, &mut rows, *target, message_list.len())?;
     }
     Ok(count)
 }
 
 /// A count with so many messages to a target, if that is no vertex. No memory holds more than fit the count.
-fn with_astray(
+fn with_undeliverable(
     count: u64,
-    rows: &mut Finder<'_, Row>,
+    rows: &mut Cursor<'_, Row>,
     target: VertexId,
     messages: usize,
 ) -> Result<u64, Memory>
@@ -133,8 +136,10 @@ fn with_astray(
 }
 
 /// A count with the messages to one target. No memory holds more than fit the count.
-fn with_messages<M: Plain>(count: u64, parcel: &ParcelRef<'_, M>) -> Result<u64, Memory>
-    ensures { IfOk result (λ after. after ≡ count + length parcel.now.letters) }
+fn with_messages<M: Plain>(count: u64, message_list: &MessageListRef<'_, M>) -> Result<u64, Memory>
+    ensures { IfOk result (λ after. after ≡ count + length message_list.now.envelopes) }
 {
-    count.checked_add(parcel.len() as u64).ok_or(AllocError)
+    count
+        .checked_add(message_list.len() as u64)
+        .ok_or(AllocError)
 }

@@ -1,17 +1,18 @@
 //! Inboxes of vertices, whose messages lie in one list.
-ghost use Rattle.std.specs.Prelude.{◌≡◌, ◌++◌, ◌∷◌, ◌<◌, ◌≤◌, ℕ, List, [], drop, length, map, slice_index_or, IfOk, OnOk};
-ghost use Rattle.pg_parcel.specs.Contents.{messages};
+ghost use Rattle.std.specs.Prelude.{◌≡◌, ◌++◌, ◌∷◌, ◌<◌, ◌≤◌, ℕ, List, [], drop, length, map, slice_index_or, IfOk};
+ghost use Rattle.std.specs.Prelude.{OnOk};
+ghost use Rattle.pg_inbox_messages.specs.Contents.{messages};
 ghost use Rattle.pg_inbox.specs.Ordered.{in_order};
 
 use crate::receiving::add_by_sender;
 use pg_graph::{Memory, VertexId};
-use pg_parcel::ParcelRef;
+use pg_inbox_messages::MessageListRef;
 use pg_program::Plain;
 use std::alloc::Global;
 use std::marker::Model;
 
-/// What vertices receive: each has an inbox, and the messages of all lie in one list, so that an inbox takes no memory of
-/// its own. A contract sees the list of (id, messages).
+/// What vertices receive: each has an inbox, and the messages of all lie in one list, so that an inbox takes no memory
+/// of its own. A contract sees the list of (id, messages).
 #[derive(Drop)]
 pub struct Inboxes<M> {
     messages: Vec<M>,
@@ -119,7 +120,8 @@ impl<M: Drop> Inboxes<M> {
     ) -> Result<Inboxes<M>, Memory>
         requires within { AreWithin messages.items parts.items }
         requires first { first ≤ length messages.items }
-        ensures { IfOk result (λ inboxes. inboxes ≡ inboxes_in messages.items parts.items ++ (id, drop first messages.items) ∷ []) }
+        ensures { IfOk result (λ inboxes. inboxes ≡ inboxes_in messages.items parts.items
+            ++ (id, drop first messages.items) ∷ []) }
     {
         let mut parts = parts;
         let count = messages.len() - first;
@@ -149,42 +151,43 @@ impl<M: Plain> Inboxes<M> {
 
     /// The same with the messages to one target of one bundle, by sender and then in the order sent.
     #[inline(always)]
-    pub(crate) fn with_parcel(
+    pub(crate) fn with_message_list(
         self,
         alloc: Global,
         id: VertexId,
-        parcel: &ParcelRef<'_, M>,
+        message_list: &MessageListRef<'_, M>,
     ) -> Result<Inboxes<M>, Memory>
-        ensures { IfOk result (λ inboxes. inboxes ≡ self ++ (id, messages (in_order parcel.now.letters)) ∷ []) }
+        ensures { IfOk result (λ inboxes. inboxes ≡ self ++ (id, messages (in_order message_list.now.envelopes)) ∷ []) }
     {
         let Inboxes {
             mut messages,
             parts,
         } = self;
         let first = messages.len();
-        add_by_sender(alloc, &mut messages, parcel)?;
+        add_by_sender(alloc, &mut messages, message_list)?;
         Inboxes::ended(messages, parts, id, first)
     }
 
-    /// The same with the messages of letters, by sender and then in their order. No letters are left.
+    /// The same with the messages of envelopes, by sender and then in their order. No envelopes are left.
     #[inline(always)]
-    pub(crate) fn with_letters(
+    pub(crate) fn with_envelopes(
         self,
         alloc: Global,
         id: VertexId,
-        letters: &mut Vec<(VertexId, M)>,
+        envelopes: &mut Vec<(VertexId, M)>,
     ) -> Result<Inboxes<M>, Memory>
-        ensures inboxes { IfOk result (λ inboxes. inboxes ≡ self ++ (id, messages (in_order letters.old.items)) ∷ []) }
-        ensures none { OnOk result (letters.new.items ≡ []) }
+        ensures inboxes { IfOk result
+            (λ inboxes. inboxes ≡ self ++ (id, messages (in_order envelopes.old.items)) ∷ []) }
+        ensures none { OnOk result (envelopes.new.items ≡ []) }
     {
         let Inboxes {
             mut messages,
             parts,
         } = self;
         let first = messages.len();
-        letters.sort_by_key(|letter| letter.0)?;
-        add_messages(alloc, &mut messages, letters.as_slice())?;
-        letters.clear();
+        envelopes.sort_by_key(|envelope| envelope.0)?;
+        add_messages(alloc, &mut messages, envelopes.as_slice())?;
+        envelopes.clear();
         Inboxes::ended(messages, parts, id, first)
     }
 }
@@ -204,11 +207,11 @@ fn add_copies<M: Plain>(alloc: Global, into: &mut Vec<M>, messages: &[M]) -> Res
 fn add_messages<M: Plain>(
     alloc: Global,
     into: &mut Vec<M>,
-    letters: &[(VertexId, M)],
+    envelopes: &[(VertexId, M)],
 ) -> Result<(), Memory>
-    ensures { OnOk result (into.new.items ≡ into.old.items ++ messages letters.now) }
+    ensures { OnOk result (into.new.items ≡ into.old.items ++ messages envelopes.now) }
 {
-    for (_, message) in letters {
+    for (_, message) in envelopes {
         into.push(message.copy(alloc)?)?;
     }
     Ok(())

@@ -3,36 +3,36 @@ ghost use Rattle.std.specs.Prelude.{◌≡◌, ◌++◌, [], map, IfOk, IfSome, 
 ghost use Rattle.std.specs.List.Sorted.{IsNonDecreasingBy};
 ghost use Rattle.std.specs.Prelude.{List, ℕ, ◌∷◌, Option};
 ghost use Rattle.pg_inbox.specs.Merged.{AreMerged, IsLowestOf, StandByTarget, StandFrom, all_to, lists_after};
-ghost use Rattle.pg_inbox.specs.Sound.{sent_parcels};
+ghost use Rattle.pg_inbox.specs.Sound.{sent_message_lists};
 
-use crate::parcels::is_below;
+use crate::message_lists::is_below;
 use crate::{Bundle, Inboxes};
 use pg_graph::{Memory, VertexId};
-use pg_parcel::run_len;
+use pg_inbox_messages::run_len;
 use pg_program::Plain;
 use std::alloc::Global;
 
-/// The letters of bundles, if nothing is changed of any.
+/// The envelopes of bundles, if nothing is changed of any.
 pub(crate) fn all_unchanged<'a, M: Plain>(
     alloc: Global,
     bundles: &[&'a Bundle<M>],
 ) -> Result<Option<Vec<&'a [(VertexId, (VertexId, M))]>>, Memory>
     ensures bundles { IfOk result (λ made. IfSome made (λ lists.
-        map (λ b. b.now) bundles.now ≡ map sent_parcels (map (λ l. l.now) lists.items))) }
+        map (λ b. b.now) bundles.now ≡ map sent_message_lists (map (λ l. l.now) lists.items))) }
     ensures stand { IfOk result (λ made. IfSome made (λ lists. StandByTarget (map (λ l. l.now) lists.items))) }
 {
     let mut lists = Vec::with_capacity(alloc, bundles.len())?;
     for bundle in bundles {
         match bundle.unchanged() {
-            Some(letters) => lists.push(letters)?,
+            Some(envelopes) => lists.push(envelopes)?,
             None => return Ok(None),
         }
     }
     Ok(Some(lists))
 }
 
-/// The inbox of each target of lists of letters by target. Costs a look at the first letter of each list for each target,
-/// and a copy of each letter; takes memory for all inboxes at once.
+/// The inbox of each target of lists of envelopes by target. Costs a look at the first envelope of each list for each
+/// target, and a copy of each envelope; takes memory for all inboxes at once.
 pub(crate) fn inboxes_merged<M: Plain>(
     alloc: Global,
     lists: Vec<&[(VertexId, (VertexId, M))]>,
@@ -40,19 +40,19 @@ pub(crate) fn inboxes_merged<M: Plain>(
     requires { StandByTarget (map (λ l. l.now) lists.items) }
     ensures { IfOk result (λ inboxes. AreMerged (map (λ l. l.now) lists.entry.items) inboxes) }
 {
-    let count = letters_in_all(lists.as_slice());
+    let count = envelopes_in_all(lists.as_slice());
     let mut inboxes = Inboxes::with_room(alloc, count, count)?;
     let mut left = lists;
-    let mut letters = Vec::new(alloc);
+    let mut envelopes = Vec::new(alloc);
     while let Some(target) = lowest_target(left.as_slice()) {
-        take_letters(alloc, &mut left, target, &mut letters)?;
-        inboxes = inboxes.with_letters(alloc, target, &mut letters)?;
+        take_envelopes(alloc, &mut left, target, &mut envelopes)?;
+        inboxes = inboxes.with_envelopes(alloc, target, &mut envelopes)?;
     }
     Ok(inboxes)
 }
 
-/// How many letters there are: for how many to make room, so no contract tells it.
-fn letters_in_all<M>(lists: &[&[(VertexId, (VertexId, M))]]) -> usize {
+/// How many envelopes there are: for how many to make room, so no contract tells it.
+fn envelopes_in_all<M>(lists: &[&[(VertexId, (VertexId, M))]]) -> usize {
     let mut count = 0usize;
     for list in lists {
         count = count.saturating_add(list.len());
@@ -60,7 +60,7 @@ fn letters_in_all<M>(lists: &[&[(VertexId, (VertexId, M))]]) -> usize {
     count
 }
 
-/// The lowest target of lists by target, if there is a letter.
+/// The lowest target of lists by target, if there is an envelope.
 fn lowest_target<M>(lists: &[&[(VertexId, (VertexId, M))]]) -> Option<VertexId>
     requires { StandByTarget (map (λ l. l.now) lists.now) }
     ensures { IsLowestOf (map (λ l. l.now) lists.now) result }
@@ -76,7 +76,8 @@ fn lowest_target<M>(lists: &[&[(VertexId, (VertexId, M))]]) -> Option<VertexId>
 #[inline(always)]
 fn lower<M>(lowest: Option<VertexId>, list: &[(VertexId, (VertexId, M))]) -> Option<VertexId>
     requires { IsNonDecreasingBy (λ l. l.0) list.now }
-    ensures { (lists : List (List (ℕ × (ℕ × M)))) → IsLowestOf lists lowest → IsLowestOf (lists ++ list.now ∷ []) result }
+    ensures { (lists : List (List (ℕ × (ℕ × M)))) → IsLowestOf lists lowest
+        → IsLowestOf (lists ++ list.now ∷ []) result }
 {
     let first = match list.split_first() {
         Some((first, _)) => first.0,
@@ -88,22 +89,23 @@ fn lower<M>(lowest: Option<VertexId>, list: &[(VertexId, (VertexId, M))]) -> Opt
     }
 }
 
-/// Takes the letters to a target from the beginning of each list, where no list has a lower one.
-fn take_letters<M: Plain>(
+/// Takes the envelopes to a target from the beginning of each list, where no list has a lower one.
+fn take_envelopes<M: Plain>(
     alloc: Global,
     lists: &mut Vec<&[(VertexId, (VertexId, M))]>,
     target: VertexId,
-    letters: &mut Vec<(VertexId, M)>,
+    envelopes: &mut Vec<(VertexId, M)>,
 ) -> Result<(), Memory>
     requires { StandFrom target (map (λ l. l.now) lists.old.items) }
-    ensures lists { OnOk result (map (λ l. l.now) lists.new.items ≡ lists_after target (map (λ l. l.now) lists.old.items)) }
-    ensures letters { OnOk result (letters.new.items
-        ≡ letters.old.items ++ all_to target (map (λ l. l.now) lists.old.items)) }
+    ensures lists { OnOk result
+        (map (λ l. l.now) lists.new.items ≡ lists_after target (map (λ l. l.now) lists.old.items)) }
+    ensures envelopes { OnOk result (envelopes.new.items
+        ≡ envelopes.old.items ++ all_to target (map (λ l. l.now) lists.old.items)) }
 {
     for place in 0..lists.len() {
         let list = lists[place];
         let (here, later) = list.split_at(run_len(list, target));
-        add_letters(alloc, letters, here)?;
+        add_envelopes(alloc, envelopes, here)?;
         lists[place] = later;
     }
     Ok(())
@@ -111,15 +113,15 @@ fn take_letters<M: Plain>(
 
 /// Adds copies of messages with their senders.
 #[inline(always)]
-fn add_letters<M: Plain>(
+fn add_envelopes<M: Plain>(
     alloc: Global,
-    letters: &mut Vec<(VertexId, M)>,
+    envelopes: &mut Vec<(VertexId, M)>,
     more: &[(VertexId, (VertexId, M))],
 ) -> Result<(), Memory>
-    ensures { OnOk result (letters.new.items ≡ letters.old.items ++ map (λ l. l.1) more.now) }
+    ensures { OnOk result (envelopes.new.items ≡ envelopes.old.items ++ map (λ l. l.1) more.now) }
 {
-    for (_, letter) in more {
-        letters.push((letter.0, letter.1.copy(alloc)?))?;
+    for (_, envelope) in more {
+        envelopes.push((envelope.0, envelope.1.copy(alloc)?))?;
     }
     Ok(())
 }

@@ -1,11 +1,11 @@
 //! The logs of a run: what each partition sent to each other, superstep by superstep.
 ghost use Rattle.std.specs.Prelude.{◌≡◌, ℕ, ◌==◌, ◌&&◌, cond, length, None, Some, OnOk, OnErr};
 ghost use Rattle.std.specs.Option.{option_copied};
-ghost use Rattle.pg_inbox.specs.Logged.{is_pair, slot_at, slot_of};
-ghost use Rattle.pg_inbox.specs.Places.{inside, value_in};
+ghost use Rattle.pg_inbox.specs.LoggedBundle.{is_pair, slot_at, slot_of};
+ghost use Rattle.pg_inbox.specs.SparseVec.{inside, value_in};
 
 use crate::Bundle;
-use crate::places::Places;
+use crate::places::SparseVec;
 use crate::sent_row::SentRow;
 use pg_graph::{Memory, PartitionId, Superstep, VertexId};
 use pg_model::Sequence;
@@ -16,14 +16,14 @@ use std::marker::Model;
 /// A bundle of a run, and, where they are known, the targets at which it differs from that of the run before,
 /// by rising id.
 #[derive(Drop)]
-pub struct Logged<M: Plain> {
+pub struct LoggedBundle<M: Plain> {
     pub bundle: Bundle<M>,
     pub changed: Option<Sequence<VertexId>>,
 }
 
 /// The bundles of a run, by superstep and by the partitions that sent and receive them.
 pub struct Logs<M: Plain> {
-    senders: Places<Places<SentRow<M>>>,
+    senders: SparseVec<SparseVec<SentRow<M>>>,
 }
 
 // By hand, so that it is let go by one call wherever that is, and not field by field.
@@ -34,7 +34,7 @@ impl<M: Plain> Drop for Logs<M> {
 }
 
 impl<M: Plain> Model for Logs<M> {
-    ghost use Rattle.pg_inbox.specs.Logged.{Slots};
+    ghost use Rattle.pg_inbox.specs.LoggedBundle.{Slots};
 
     ghost Value = { Slots M };
 
@@ -47,7 +47,7 @@ impl<M: Plain> Logs<M> {
         ensures { (s p q : ℕ) → slot_at result s p q ≡ None }
     {
         Logs {
-            senders: Places::new(alloc),
+            senders: SparseVec::new(alloc),
         }
     }
 
@@ -57,7 +57,7 @@ impl<M: Plain> Logs<M> {
         superstep: Superstep,
         from: PartitionId,
         to: PartitionId,
-    ) -> Option<&Logged<M>>
+    ) -> Option<&LoggedBundle<M>>
         ensures { option_copied result ≡ slot_at self.now superstep from to }
     {
         let supersteps = self.senders.get(from.number() as usize)?;
@@ -73,9 +73,11 @@ impl<M: Plain> Logs<M> {
         superstep: Superstep,
         from: PartitionId,
         to: PartitionId,
-        logged: Logged<M>,
+        logged: LoggedBundle<M>,
     ) -> Result<(), Memory>
-        ensures ok { OnOk result ((s p q : ℕ) → slot_at self.new s p q ≡ cond (is_pair superstep from to s p q) (Some logged) (slot_at self.old s p q)) }
+        ensures ok { OnOk result
+            ((s p q : ℕ) → slot_at self.new s p q ≡ cond (is_pair superstep from to s p q) (Some logged)
+            (slot_at self.old s p q)) }
         ensures err { OnErr result ((s p q : ℕ) → slot_at self.new s p q ≡ slot_at self.old s p q) }
     {
         let place = from.number() as usize;
@@ -102,26 +104,28 @@ impl<M: Plain> Logs<M> {
 }
 
 /// Takes what stands at a place, or else no values.
-fn taken<X: Drop>(alloc: Global, places: &mut Places<Places<X>>, place: usize) -> Places<X>
+fn taken<X: Drop>(alloc: Global, places: &mut SparseVec<SparseVec<X>>, place: usize) -> SparseVec<X>
     ensures value { (q : ℕ) → value_in q result ≡ inside q (value_in place places.old) }
     ensures others { (other : ℕ) → value_in other places.new ≡ cond (place == other) None (value_in other places.old) }
     ensures len { length places.new ≡ length places.old }
 {
     match places.take(place) {
         Some(values) => values,
-        None => Places::new(alloc),
+        None => SparseVec::new(alloc),
     }
 }
 
 /// Puts what one partition sent.
 fn put_in<M: Plain>(
     alloc: Global,
-    supersteps: &mut Places<SentRow<M>>,
+    supersteps: &mut SparseVec<SentRow<M>>,
     superstep: Superstep,
     to: PartitionId,
-    logged: Logged<M>,
+    logged: LoggedBundle<M>,
 ) -> Result<(), Memory>
-    ensures ok { OnOk result ((s q : ℕ) → slot_of supersteps.new s q ≡ cond ((superstep == s) && (to == q)) (Some logged) (slot_of supersteps.old s q)) }
+    ensures ok { OnOk result
+        ((s q : ℕ) → slot_of supersteps.new s q ≡ cond ((superstep == s) && (to == q)) (Some logged)
+        (slot_of supersteps.old s q)) }
     ensures err { OnErr result ((s q : ℕ) → slot_of supersteps.new s q ≡ slot_of supersteps.old s q) }
 {
     let place = superstep.number() as usize;
@@ -142,11 +146,12 @@ fn put_in<M: Plain>(
 /// Takes what one partition sent in a superstep, or else no bundles.
 fn taken_row<M: Plain>(
     alloc: Global,
-    supersteps: &mut Places<SentRow<M>>,
+    supersteps: &mut SparseVec<SentRow<M>>,
     place: usize,
 ) -> SentRow<M>
     ensures value { (q : ℕ) → value_in q result ≡ inside q (value_in place supersteps.old) }
-    ensures others { (other : ℕ) → value_in other supersteps.new ≡ cond (place == other) None (value_in other supersteps.old) }
+    ensures others { (other : ℕ) → value_in other supersteps.new ≡ cond (place == other) None
+        (value_in other supersteps.old) }
     ensures len { length supersteps.new ≡ length supersteps.old }
 {
     match supersteps.take(place) {

@@ -3,18 +3,18 @@ ghost use Rattle.std.specs.Prelude.{◌≡◌, map, IfOk};
 ghost use Rattle.std.specs.List.{AllByRecursion};
 ghost use Rattle.std.specs.List.Sorted.{IsNonDecreasingBy};
 ghost use Rattle.pg_graph.specs.ById.{AreById, StandAt};
-ghost use Rattle.pg_parcel.specs.Contents.{parcels_of};
-ghost use Rattle.pg_parcel.specs.Grouping.{AreGroups, groups_of};
+ghost use Rattle.pg_inbox_messages.specs.Contents.{message_lists_of};
+ghost use Rattle.pg_inbox_messages.specs.Grouping.{AreGroups, groups_of};
 ghost use Rattle.pg_inbox.specs.Bundles.{bundle_of};
-ghost use Rattle.pg_inbox.specs.Sends.{as_item};
-ghost use Rattle.pg_inbox.specs.Sound.{sent_parcels};
+ghost use Rattle.pg_inbox.specs.Outbox.{as_item};
+ghost use Rattle.pg_inbox.specs.Sound.{sent_message_lists};
 
-use crate::letters::Letters;
-use crate::{Bundle, SendsRef};
+use crate::envelopes::Envelopes;
+use crate::{Bundle, OutboxRef};
 use pg_global::MessageCombiner;
 use pg_graph::{Memory, VertexId, sorted_by_id};
+use pg_inbox_messages::message_lists_of;
 use pg_map::Map;
-use pg_parcel::parcels_of;
 use pg_program::Plain;
 use std::alloc::Global;
 
@@ -24,80 +24,80 @@ use std::alloc::Global;
 /// combiner combines, one more copy and one look at it.
 pub fn bundle<M: Plain, C: MessageCombiner<M>>(
     alloc: Global,
-    sent: &SendsRef<'_, M>,
+    sent: &OutboxRef<'_, M>,
     combiner: &C,
 ) -> Result<Bundle<M>, Memory>
     ensures { IfOk result (λ bundle. bundle ≡ bundle_of (C.combining combiner.now) sent.now) }
 {
-    let letters = letters_by_target(alloc, sent)?;
+    let envelopes = envelopes_by_target(alloc, sent)?;
     if combiner.combines() {
-        return combined_bundle(alloc, letters.as_slice(), combiner);
+        return combined_bundle(alloc, envelopes.as_slice(), combiner);
     }
-    sent_bundle(alloc, letters)
+    sent_bundle(alloc, envelopes)
 }
 
-/// The bundle of letters that aren't combined, in the memory that they lie in.
+/// The bundle of envelopes that aren't combined, in the memory that they lie in.
 fn sent_bundle<M: Plain>(
     alloc: Global,
-    letters: Vec<(VertexId, (VertexId, M))>,
+    envelopes: Vec<(VertexId, (VertexId, M))>,
 ) -> Result<Bundle<M>, Memory>
-    requires rise { IsNonDecreasingBy (λ l. l.0) letters.items }
-    requires values { AllByRecursion (λ l. M.is_value l.1.1) letters.items }
-    ensures { IfOk result (λ bundle. bundle ≡ sent_parcels letters.items) }
+    requires rise { IsNonDecreasingBy (λ l. l.0) envelopes.items }
+    requires values { AllByRecursion (λ l. M.is_value l.1.1) envelopes.items }
+    ensures { IfOk result (λ bundle. bundle ≡ sent_message_lists envelopes.items) }
 {
-    let letters = Letters::of(alloc, letters)?;
+    let envelopes = Envelopes::of(alloc, envelopes)?;
     Ok(Bundle {
-        letters,
+        envelopes,
         changes: Map::new(),
     })
 }
 
-/// The bundle of letters that are combined.
+/// The bundle of envelopes that are combined.
 fn combined_bundle<M: Plain, C: MessageCombiner<M>>(
     alloc: Global,
-    letters: &[(VertexId, (VertexId, M))],
+    envelopes: &[(VertexId, (VertexId, M))],
     combiner: &C,
 ) -> Result<Bundle<M>, Memory>
-    requires { IsNonDecreasingBy (λ l. l.0) letters.now }
-    ensures { IfOk result (λ bundle. bundle ≡ parcels_of (C.combining combiner.now) (groups_of letters.now)) }
+    requires { IsNonDecreasingBy (λ l. l.0) envelopes.now }
+    ensures { IfOk result (λ bundle. bundle ≡ message_lists_of (C.combining combiner.now) (groups_of envelopes.now)) }
 {
-    let parcels = parcels_of(alloc, letters, combiner)?;
-    let changes = Map::from_rising(alloc, parcels)?;
+    let message_lists = message_lists_of(alloc, envelopes, combiner)?;
+    let changes = Map::from_rising(alloc, message_lists)?;
     Ok(Bundle {
-        letters: Letters::new(),
+        envelopes: Envelopes::new(),
         changes,
     })
 }
 
 /// Each message with its sender, beside its target, by rising target; those to one target in their order.
-fn letters_by_target<M: Plain>(
+fn envelopes_by_target<M: Plain>(
     alloc: Global,
-    sent: &SendsRef<'_, M>,
+    sent: &OutboxRef<'_, M>,
 ) -> Result<Vec<(VertexId, (VertexId, M))>, Memory>
-    ensures groups { IfOk result (λ letters. AreGroups (map as_item sent.now) (groups_of letters.items)) }
-    ensures rise { IfOk result (λ letters. IsNonDecreasingBy (λ l. l.0) letters.items) }
-    ensures values { IfOk result (λ letters. AllByRecursion (λ l. M.is_value l.1.1) letters.items) }
+    ensures groups { IfOk result (λ envelopes. AreGroups (map as_item sent.now) (groups_of envelopes.items)) }
+    ensures rise { IfOk result (λ envelopes. IsNonDecreasingBy (λ l. l.0) envelopes.items) }
+    ensures values { IfOk result (λ envelopes. AllByRecursion (λ l. M.is_value l.1.1) envelopes.items) }
 {
     let order = sorted_by_id(alloc, sent.beside_targets())?;
-    letters_in_order(alloc, sent, order.as_slice())
+    envelopes_in_order(alloc, sent, order.as_slice())
 }
 
 /// Copies of the messages of the sends at these places, each with its sender, beside its target.
-fn letters_in_order<M: Plain>(
+fn envelopes_in_order<M: Plain>(
     alloc: Global,
-    sent: &SendsRef<'_, M>,
+    sent: &OutboxRef<'_, M>,
     order: &[(usize, VertexId)],
 ) -> Result<Vec<(VertexId, (VertexId, M))>, Memory>
     requires { AreById (map (λ s. s.1) sent.now) order.now }
-    ensures stand { IfOk result (λ letters. StandAt (map as_item sent.now) order.now letters.items) }
-    ensures values { IfOk result (λ letters. AllByRecursion (λ l. M.is_value l.1.1) letters.items) }
+    ensures stand { IfOk result (λ envelopes. StandAt (map as_item sent.now) order.now envelopes.items) }
+    ensures values { IfOk result (λ envelopes. AllByRecursion (λ l. M.is_value l.1.1) envelopes.items) }
 {
-    let mut letters = Vec::with_capacity(alloc, order.len())?;
+    let mut envelopes = Vec::with_capacity(alloc, order.len())?;
     for (place, _) in order {
         let (sender, target, message) = sent.at(*place);
-        letters.push((target, (sender, copied(alloc, message)?)))?;
+        envelopes.push((target, (sender, copied(alloc, message)?)))?;
     }
-    Ok(letters)
+    Ok(envelopes)
 }
 
 /// A copy of a message.

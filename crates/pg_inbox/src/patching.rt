@@ -7,28 +7,29 @@ ghost use Rattle.std.specs.Ordering.{nat_cmp};
 ghost use Rattle.pg_graph.specs.ById.{AreById, StandAt};
 ghost use Rattle.pg_map.specs.Entries.{ChangesRise, with_changes};
 ghost use Rattle.pg_model.specs.Superstep.{has_id};
-ghost use Rattle.pg_parcel.specs.Grouping.{AreGroups, groups_of};
+ghost use Rattle.pg_inbox_messages.specs.Grouping.{AreGroups, groups_of};
 ghost use Rattle.pg_inbox.specs.Changed.{AreChanged, IsAdded};
 ghost use Rattle.pg_inbox.specs.Holding.{HoldsAt};
-ghost use Rattle.pg_inbox.specs.Inboxes.{letters_in};
-ghost use Rattle.pg_inbox.specs.Mending.{additions, changes_of, mended, mended_in, mends_of, others, senders_of};
+ghost use Rattle.pg_inbox.specs.Inboxes.{envelopes_in};
+ghost use Rattle.pg_inbox.specs.MessageEdits.{inserted, changes_of, edited, edited_in, message_edits_of, others};
+ghost use Rattle.pg_inbox.specs.MessageEdits.{senders_of};
 ghost use Rattle.pg_inbox.specs.Patched.{IsPatched, TellsChanges};
 ghost use Rattle.pg_inbox.specs.Sound.{needed};
 
 use crate::changing::add_if_changed;
-use crate::{Bundle, Logged, SendsRef};
+use crate::{Bundle, LoggedBundle, OutboxRef};
 use pg_global::MessageCombiner;
 use pg_graph::{Memory, VertexId, sorted_by_id};
+use pg_inbox_messages::{MessageList, MessageListChange, MessageListRef, first_group, items_to};
 use pg_model::Sequence;
-use pg_parcel::{Change, Parcel, ParcelRef, first_group, items_to};
 use pg_program::Plain;
 use std::alloc::Global;
 
 /// What is done to the messages to a target.
 #[derive(Drop)]
-pub(crate) enum Mend<M> {
-    /// What this sender sent to it is withdrawn.
-    Withdrawn(VertexId),
+pub(crate) enum MessageEdit<M> {
+    /// What this sender sent to it is retracted.
+    Retracted(VertexId),
     /// This sender sends it one more.
     Added(VertexId, M),
 }
@@ -36,11 +37,11 @@ pub(crate) enum Mend<M> {
 /// What targets have afterwards, and those of them at which others see something else.
 #[derive(Drop)]
 struct After<M: Plain> {
-    changes: Vec<(VertexId, Change<M>)>,
+    changes: Vec<(VertexId, MessageListChange<M>)>,
     changed: Vec<VertexId>,
 }
 
-/// The bundle with what some senders sent to some targets, as (sender, target), withdrawn, and other messages added:
+/// The bundle with what some senders sent to some targets, as (sender, target), retracted, and other messages added:
 /// each after what stays of its sender. It comes with the targets at which it differs from the old one, and shares with
 /// that all else.
 ///
@@ -49,113 +50,117 @@ struct After<M: Plain> {
 pub fn patch<M: Plain, C: MessageCombiner<M>>(
     alloc: Global,
     old: &Bundle<M>,
-    withdrawn: &[(VertexId, VertexId)],
-    added: &SendsRef<'_, M>,
+    retracted: &[(VertexId, VertexId)],
+    added: &OutboxRef<'_, M>,
     combiner: &C,
-) -> Result<Logged<M>, Memory>
-    ensures bundle { IfOk result (λ logged. IsPatched (C.combining combiner.now) withdrawn.now added.now old.now logged.bundle) }
+) -> Result<LoggedBundle<M>, Memory>
+    ensures bundle { IfOk result
+        (λ logged. IsPatched (C.combining combiner.now) retracted.now added.now old.now logged.bundle) }
     ensures changed { IfOk result (λ logged. TellsChanges old.now logged) }
 {
-    let mends = mends_by_target(alloc, withdrawn, added)?;
-    let after = changes_at(alloc, old, mends.as_slice(), combiner)?;
+    let message_edits = message_edits_by_target(alloc, retracted, added)?;
+    let after = changes_at(alloc, old, message_edits.as_slice(), combiner)?;
     let After { changes, changed } = after;
-    let bundle = mended_bundle(alloc, old, changes)?;
-    Ok(Logged {
+    let bundle = edited_bundle(alloc, old, changes)?;
+    Ok(LoggedBundle {
         bundle,
         changed: Some(Sequence::from_vec(changed)),
     })
 }
 
-/// What is done, beside the target that it is done to, by rising target: to each what is withdrawn, and then what is
+/// What is done, beside the target that it is done to, by rising target: to each what is retracted, and then what is
 /// added.
-fn mends_by_target<M: Plain>(
+fn message_edits_by_target<M: Plain>(
     alloc: Global,
-    withdrawn: &[(VertexId, VertexId)],
-    added: &SendsRef<'_, M>,
-) -> Result<Vec<(VertexId, Mend<M>)>, Memory>
-    ensures { IfOk result (λ mends. AreGroups (mends_of withdrawn.now added.now) (groups_of mends.items)) }
+    retracted: &[(VertexId, VertexId)],
+    added: &OutboxRef<'_, M>,
+) -> Result<Vec<(VertexId, MessageEdit<M>)>, Memory>
+    ensures { IfOk result (λ message_edits. AreGroups (message_edits_of retracted.now added.now)
+        (groups_of message_edits.items)) }
 {
-    let targets = targets_of(alloc, withdrawn, added.beside_targets())?;
+    let targets = targets_of(alloc, retracted, added.beside_targets())?;
     let order = sorted_by_id(alloc, targets.as_slice())?;
-    mends_in_order(alloc, withdrawn, added, order.as_slice())
+    message_edits_in_order(alloc, retracted, added, order.as_slice())
 }
 
-/// The targets of what is withdrawn, and then of what is added.
+/// The targets of what is retracted, and then of what is added.
 fn targets_of<M>(
     alloc: Global,
-    withdrawn: &[(VertexId, VertexId)],
+    retracted: &[(VertexId, VertexId)],
     added: &[(VertexId, M)],
 ) -> Result<Vec<VertexId>, Memory>
-    ensures { IfOk result (λ targets. targets.items ≡ map (λ w. w.1) withdrawn.now ++ map (λ m. m.0) added.now) }
+    ensures { IfOk result (λ targets. targets.items ≡ map (λ w. w.1) retracted.now ++ map (λ m. m.0) added.now) }
 {
-    let mut targets = Vec::with_capacity(alloc, withdrawn.len().saturating_add(added.len()))?;
-    add_withdrawn(&mut targets, withdrawn)?;
+    let mut targets = Vec::with_capacity(alloc, retracted.len().saturating_add(added.len()))?;
+    add_retracted(&mut targets, retracted)?;
     for (target, _) in added {
         targets.push(*target)?;
     }
     Ok(targets)
 }
 
-/// Adds the targets of what is withdrawn.
-fn add_withdrawn(
+/// Adds the targets of what is retracted.
+fn add_retracted(
     targets: &mut Vec<VertexId>,
-    withdrawn: &[(VertexId, VertexId)],
+    retracted: &[(VertexId, VertexId)],
 ) -> Result<(), Memory>
-    ensures { OnOk result (targets.new.items ≡ targets.old.items ++ map (λ w. w.1) withdrawn.now) }
+    ensures { OnOk result (targets.new.items ≡ targets.old.items ++ map (λ w. w.1) retracted.now) }
 {
-    for (_, target) in withdrawn {
+    for (_, target) in retracted {
         targets.push(*target)?;
     }
     Ok(())
 }
 
-/// What is done at these places, of what is withdrawn and then what is added.
-fn mends_in_order<M: Plain>(
+/// What is done at these places, of what is retracted and then what is added.
+fn message_edits_in_order<M: Plain>(
     alloc: Global,
-    withdrawn: &[(VertexId, VertexId)],
-    added: &SendsRef<'_, M>,
+    retracted: &[(VertexId, VertexId)],
+    added: &OutboxRef<'_, M>,
     order: &[(usize, VertexId)],
-) -> Result<Vec<(VertexId, Mend<M>)>, Memory>
-    requires { AreById (map (λ m. m.0) (mends_of withdrawn.now added.now)) order.now }
-    ensures { IfOk result (λ mends. StandAt (mends_of withdrawn.now added.now) order.now mends.items) }
+) -> Result<Vec<(VertexId, MessageEdit<M>)>, Memory>
+    requires { AreById (map (λ m. m.0) (message_edits_of retracted.now added.now)) order.now }
+    ensures { IfOk result (λ message_edits. StandAt (message_edits_of retracted.now added.now) order.now
+        message_edits.items) }
 {
-    let mut mends = Vec::with_capacity(alloc, order.len())?;
+    let mut message_edits = Vec::with_capacity(alloc, order.len())?;
     for (place, _) in order {
-        mends.push(mend_at(alloc, withdrawn, added, *place)?)?;
+        message_edits.push(message_edit_at(alloc, retracted, added, *place)?)?;
     }
-    Ok(mends)
+    Ok(message_edits)
 }
 
-/// What is done at a place, of what is withdrawn and then what is added.
-fn mend_at<M: Plain>(
+/// What is done at a place, of what is retracted and then what is added.
+fn message_edit_at<M: Plain>(
     alloc: Global,
-    withdrawn: &[(VertexId, VertexId)],
-    added: &SendsRef<'_, M>,
+    retracted: &[(VertexId, VertexId)],
+    added: &OutboxRef<'_, M>,
     place: usize,
-) -> Result<(VertexId, Mend<M>), Memory>
-    requires { place < length withdrawn.now + length added.now }
-    ensures { IfOk result (λ mend. slice_get (mends_of withdrawn.now added.now) place ≡ Some mend) }
+) -> Result<(VertexId, MessageEdit<M>), Memory>
+    requires { place < length retracted.now + length added.now }
+    ensures { IfOk result (λ message_edit. slice_get (message_edits_of retracted.now added.now) place ≡ Some
+        message_edit) }
 {
-    if place < withdrawn.len() {
-        let (sender, target) = withdrawn[place];
-        return Ok((target, Mend::Withdrawn(sender)));
+    if place < retracted.len() {
+        let (sender, target) = retracted[place];
+        return Ok((target, MessageEdit::Retracted(sender)));
     }
-    let (sender, target, message) = added.at(place - withdrawn.len());
-    Ok((target, Mend::Added(sender, message.copy(alloc)?)))
+    let (sender, target, message) = added.at(place - retracted.len());
+    Ok((target, MessageEdit::Added(sender, message.copy(alloc)?)))
 }
 
 /// The old bundle with these changes; in its own memory where there are none.
-fn mended_bundle<M: Plain>(
+fn edited_bundle<M: Plain>(
     alloc: Global,
     old: &Bundle<M>,
-    changes: Vec<(VertexId, Change<M>)>,
+    changes: Vec<(VertexId, MessageListChange<M>)>,
 ) -> Result<Bundle<M>, Memory>
     requires rise { ChangesRise changes.items }
     requires hold { AllByRecursion (λ c. HoldsAt M.is_value c.1) changes.items }
     ensures { IfOk result (λ bundle. bundle ≡ with_changes changes.items old.now) }
 {
     if changes.is_empty() {
-        return old.share();
+        return old.cheap_clone();
     }
     changed_bundle(alloc, old, changes)
 }
@@ -164,45 +169,45 @@ fn mended_bundle<M: Plain>(
 fn changed_bundle<M: Plain>(
     alloc: Global,
     old: &Bundle<M>,
-    changes: Vec<(VertexId, Change<M>)>,
+    changes: Vec<(VertexId, MessageListChange<M>)>,
 ) -> Result<Bundle<M>, Memory>
     requires rise { ChangesRise changes.items }
     requires hold { AllByRecursion (λ c. HoldsAt M.is_value c.1) changes.items }
     ensures { IfOk result (λ bundle. bundle ≡ with_changes changes.items old.now) }
 {
-    let given = each_given(alloc, old.letters.as_slice(), changes)?;
-    let letters = old.letters.share()?;
-    let mut changes = old.changes.share()?;
+    let given = each_given(alloc, old.envelopes.as_slice(), changes)?;
+    let envelopes = old.envelopes.cheap_clone()?;
+    let mut changes = old.changes.cheap_clone()?;
     changes.change(alloc, given.as_slice())?;
-    Ok(Bundle { letters, changes })
+    Ok(Bundle { envelopes, changes })
 }
 
-/// What these changes give the map of a bundle with these letters.
+/// What these changes give the map of a bundle with these envelopes.
 fn each_given<M: Plain>(
     alloc: Global,
-    letters: &[(VertexId, (VertexId, M))],
-    changes: Vec<(VertexId, Change<M>)>,
-) -> Result<Vec<(VertexId, Option<Change<M>>)>, Memory>
-    requires { IsNonDecreasingBy (λ l. l.0) letters.now }
-    ensures { IfOk result (λ given. given.items ≡ map (needed letters.now) changes.items) }
+    envelopes: &[(VertexId, (VertexId, M))],
+    changes: Vec<(VertexId, MessageListChange<M>)>,
+) -> Result<Vec<(VertexId, Option<MessageListChange<M>>)>, Memory>
+    requires { IsNonDecreasingBy (λ l. l.0) envelopes.now }
+    ensures { IfOk result (λ given. given.items ≡ map (needed envelopes.now) changes.items) }
 {
     let mut given = Vec::with_capacity(alloc, changes.len())?;
     for (id, change) in changes {
-        given.push((id, needed(letters, id, change)))?;
+        given.push((id, needed(envelopes, id, change)))?;
     }
     Ok(given)
 }
 
-/// What a change gives the map: nothing where it leaves its target no messages and the letters have none to it.
+/// What a change gives the map: nothing where it leaves its target no messages and the envelopes have none to it.
 fn needed<M: Plain>(
-    letters: &[(VertexId, (VertexId, M))],
+    envelopes: &[(VertexId, (VertexId, M))],
     id: VertexId,
-    change: Change<M>,
-) -> Option<Change<M>>
-    requires { IsNonDecreasingBy (λ l. l.0) letters.now }
-    ensures { (id, result) ≡ needed letters.now (id, change) }
+    change: MessageListChange<M>,
+) -> Option<MessageListChange<M>>
+    requires { IsNonDecreasingBy (λ l. l.0) envelopes.now }
+    ensures { (id, result) ≡ needed envelopes.now (id, change) }
 {
-    if change.parcel().is_some() || !items_to(letters, id).is_empty() {
+    if change.message_list().is_some() || !items_to(envelopes, id).is_empty() {
         return Some(change);
     }
     None
@@ -212,22 +217,22 @@ fn needed<M: Plain>(
 fn changes_at<M: Plain, C: MessageCombiner<M>>(
     alloc: Global,
     old: &Bundle<M>,
-    mends: &[(VertexId, Mend<M>)],
+    message_edits: &[(VertexId, MessageEdit<M>)],
     combiner: &C,
 ) -> Result<After<M>, Memory>
     ensures items { IfOk result
-        (λ after. after.changes.items ≡ changes_of (C.combining combiner.now) old.now (groups_of mends.now)) }
+        (λ after. after.changes.items ≡ changes_of (C.combining combiner.now) old.now (groups_of message_edits.now)) }
     ensures hold { IfOk result (λ after. AllByRecursion (λ c. HoldsAt M.is_value c.1) after.changes.items) }
     ensures changed { IfOk result (λ after. ChangesRise after.changes.items
         → AreChanged old.now (with_changes after.changes.items old.now) after.changed.items) }
 {
     old.holds();
-    let mut changes = Vec::with_capacity(alloc, mends.len())?;
-    let mut changed = Vec::with_capacity(alloc, mends.len())?;
-    let mut finder = old.finder();
-    let mut left = mends;
+    let mut changes = Vec::with_capacity(alloc, message_edits.len())?;
+    let mut changed = Vec::with_capacity(alloc, message_edits.len())?;
+    let mut cursor = old.cursor();
+    let mut left = message_edits;
     while let Some((target, here, later)) = first_group(left) {
-        let before = finder.parcel(target);
+        let before = cursor.message_list(target);
         let seen = before.as_ref();
         let change = change_to(alloc, seen, here, combiner)?;
         note_if_changed(&mut changed, target, seen, &change)?;
@@ -241,93 +246,95 @@ fn changes_at<M: Plain, C: MessageCombiner<M>>(
 fn note_if_changed<M: Plain>(
     changed: &mut Vec<VertexId>,
     target: VertexId,
-    before: Option<&ParcelRef<'_, M>>,
-    change: &Change<M>,
+    before: Option<&MessageListRef<'_, M>>,
+    change: &MessageListChange<M>,
 ) -> Result<(), Memory>
     requires before { HoldsAt M.is_value (option_copied before) }
     requires after { HoldsAt M.is_value change.now }
     ensures { OnOk result (IsAdded target (option_copied before.entry) change.now changed.old.items changed.new.items) }
 {
-    let after = change.parcel();
+    let after = change.message_list();
     add_if_changed(changed, target, before, after.as_ref())
 }
 
 /// What becomes of the messages to a target.
 fn change_to<M: Plain, C: MessageCombiner<M>>(
     alloc: Global,
-    old: Option<&ParcelRef<'_, M>>,
-    mends: &[(VertexId, Mend<M>)],
+    old: Option<&MessageListRef<'_, M>>,
+    message_edits: &[(VertexId, MessageEdit<M>)],
     combiner: &C,
-) -> Result<Change<M>, Memory>
+) -> Result<MessageListChange<M>, Memory>
     ensures value { IfOk result
-        (λ change. change ≡ mended_in (C.combining combiner.now) (option_copied old.entry) (map (λ m. m.1) mends.now)) }
+        (λ change. change ≡ edited_in (C.combining combiner.now) (option_copied old.entry)
+        (map (λ m. m.1) message_edits.now)) }
     ensures holds { IfOk result (λ change. HoldsAt M.is_value change) }
 {
-    let parcel = parcel_after(alloc, old, mends, combiner)?;
-    Ok(Change::of(parcel))
+    let message_list = message_list_after(alloc, old, message_edits, combiner)?;
+    Ok(MessageListChange::of(message_list))
 }
 
 /// The messages to a target afterwards; nothing where none is left.
-fn parcel_after<M: Plain, C: MessageCombiner<M>>(
+fn message_list_after<M: Plain, C: MessageCombiner<M>>(
     alloc: Global,
-    old: Option<&ParcelRef<'_, M>>,
-    mends: &[(VertexId, Mend<M>)],
+    old: Option<&MessageListRef<'_, M>>,
+    message_edits: &[(VertexId, MessageEdit<M>)],
     combiner: &C,
-) -> Result<Option<Parcel<M>>, Memory>
+) -> Result<Option<MessageList<M>>, Memory>
     ensures value { IfOk result
-        (λ parcel. parcel ≡ mended_in (C.combining combiner.now) (option_copied old.entry) (map (λ m. m.1) mends.now)) }
-    ensures holds { IfOk result (λ parcel. HoldsAt M.is_value parcel) }
+        (λ message_list. message_list ≡ edited_in (C.combining combiner.now) (option_copied old.entry)
+        (map (λ m. m.1) message_edits.now)) }
+    ensures holds { IfOk result (λ message_list. HoldsAt M.is_value message_list) }
 {
-    let letters = mended_letters(alloc, old, mends)?;
-    if letters.is_empty() {
+    let envelopes = edited_envelopes(alloc, old, message_edits)?;
+    if envelopes.is_empty() {
         return Ok(None);
     }
-    let parcel = Parcel::of(alloc, letters, combiner)?;
-    Ok(Some(parcel))
+    let message_list = MessageList::of(alloc, envelopes, combiner)?;
+    Ok(Some(message_list))
 }
 
 /// The messages that stay and those that are added, by rising sender.
-fn mended_letters<M: Plain>(
+fn edited_envelopes<M: Plain>(
     alloc: Global,
-    old: Option<&ParcelRef<'_, M>>,
-    mends: &[(VertexId, Mend<M>)],
+    old: Option<&MessageListRef<'_, M>>,
+    message_edits: &[(VertexId, MessageEdit<M>)],
 ) -> Result<Vec<(VertexId, M)>, Memory>
     ensures items { IfOk result
-        (λ after. after.items ≡ mended (map (λ m. m.1) mends.now) (letters_in (option_copied old.entry))) }
+        (λ after. after.items ≡ edited (map (λ m. m.1) message_edits.now) (envelopes_in (option_copied old.entry))) }
     ensures values { IfOk result (λ after. AllByRecursion (λ l. M.is_value l.1) after.items) }
 {
-    let withdrawn = withdrawn_senders(alloc, mends)?;
-    let mut after = staying_in(alloc, old, withdrawn.as_slice(), mends.len())?;
-    add_letters(alloc, &mut after, mends)?;
-    after.sort_by_key(|letter| letter.0)?;
+    let retracted = retracted_senders(alloc, message_edits)?;
+    let mut after = staying_in(alloc, old, retracted.as_slice(), message_edits.len())?;
+    add_envelopes(alloc, &mut after, message_edits)?;
+    after.sort_by_key(|envelope| envelope.0)?;
     Ok(after)
 }
 
-/// The senders whose messages are withdrawn, rising.
-fn withdrawn_senders<M: Plain>(
+/// The senders whose messages are retracted, rising.
+fn retracted_senders<M: Plain>(
     alloc: Global,
-    mends: &[(VertexId, Mend<M>)],
+    message_edits: &[(VertexId, MessageEdit<M>)],
 ) -> Result<Vec<VertexId>, Memory>
     ensures rise { IfOk result (λ senders. IsStrictlySortedBy nat_cmp senders.items) }
     ensures same { IfOk result (λ senders.
-        (id : ℕ) → has_id senders.items id ≡ has_id (senders_of (map (λ m. m.1) mends.now)) id) }
+        (id : ℕ) → has_id senders.items id ≡ has_id (senders_of (map (λ m. m.1) message_edits.now)) id) }
 {
-    let mut senders = senders_in(alloc, mends)?;
+    let mut senders = senders_in(alloc, message_edits)?;
     senders.sort_unstable();
     senders.dedup();
     Ok(senders)
 }
 
-/// The senders whose messages are withdrawn, in their order.
+/// The senders whose messages are retracted, in their order.
 fn senders_in<M: Plain>(
     alloc: Global,
-    mends: &[(VertexId, Mend<M>)],
+    message_edits: &[(VertexId, MessageEdit<M>)],
 ) -> Result<Vec<VertexId>, Memory>
-    ensures { IfOk result (λ senders. senders.items ≡ senders_of (map (λ m. m.1) mends.now)) }
+    ensures { IfOk result (λ senders. senders.items ≡ senders_of (map (λ m. m.1) message_edits.now)) }
 {
-    let mut senders = Vec::with_capacity(alloc, mends.len())?;
-    for (_, mend) in mends {
-        if let Mend::Withdrawn(sender) = mend {
+    let mut senders = Vec::with_capacity(alloc, message_edits.len())?;
+    for (_, message_edit) in message_edits {
+        if let MessageEdit::Retracted(sender) = message_edit {
             senders.push(*sender)?;
         }
     }
@@ -337,34 +344,34 @@ fn senders_in<M: Plain>(
 /// The messages of all other senders to a target, if there are any, with room for more.
 fn staying_in<M: Plain>(
     alloc: Global,
-    old: Option<&ParcelRef<'_, M>>,
-    withdrawn: &[VertexId],
+    old: Option<&MessageListRef<'_, M>>,
+    retracted: &[VertexId],
     more: usize,
 ) -> Result<Vec<(VertexId, M)>, Memory>
-    requires { IsStrictlySortedBy nat_cmp withdrawn.now }
-    ensures items { IfOk result (λ after. after.items ≡ others withdrawn.now (letters_in (option_copied old.entry))) }
+    requires { IsStrictlySortedBy nat_cmp retracted.now }
+    ensures items { IfOk result (λ after. after.items ≡ others retracted.now (envelopes_in (option_copied old.entry))) }
     ensures values { IfOk result (λ after. AllByRecursion (λ l. M.is_value l.1) after.items) }
 {
     match old {
-        Some(parcel) => staying_letters(alloc, parcel, withdrawn, more),
+        Some(message_list) => staying_envelopes(alloc, message_list, retracted, more),
         None => Ok(Vec::with_capacity(alloc, more)?),
     }
 }
 
 /// The messages of all other senders, with room for more.
-fn staying_letters<M: Plain>(
+fn staying_envelopes<M: Plain>(
     alloc: Global,
-    letters: &ParcelRef<'_, M>,
-    withdrawn: &[VertexId],
+    envelopes: &MessageListRef<'_, M>,
+    retracted: &[VertexId],
     more: usize,
 ) -> Result<Vec<(VertexId, M)>, Memory>
-    requires { IsStrictlySortedBy nat_cmp withdrawn.now }
-    ensures items { IfOk result (λ after. after.items ≡ others withdrawn.now letters.now.letters) }
+    requires { IsStrictlySortedBy nat_cmp retracted.now }
+    ensures items { IfOk result (λ after. after.items ≡ others retracted.now envelopes.now.envelopes) }
     ensures values { IfOk result (λ after. AllByRecursion (λ l. M.is_value l.1) after.items) }
 {
-    let mut after = Vec::with_capacity(alloc, letters.len().saturating_add(more))?;
-    for place in 0..letters.len() {
-        add_if_staying(alloc, &mut after, letters.letter(place), withdrawn)?;
+    let mut after = Vec::with_capacity(alloc, envelopes.len().saturating_add(more))?;
+    for place in 0..envelopes.len() {
+        add_if_staying(alloc, &mut after, envelopes.envelope(place), retracted)?;
     }
     Ok(after)
 }
@@ -373,18 +380,18 @@ fn staying_letters<M: Plain>(
 fn add_if_staying<M: Plain>(
     alloc: Global,
     after: &mut Vec<(VertexId, M)>,
-    letter: &(VertexId, M),
-    withdrawn: &[VertexId],
+    envelope: &(VertexId, M),
+    retracted: &[VertexId],
 ) -> Result<(), Memory>
-    requires rise { IsStrictlySortedBy nat_cmp withdrawn.now }
+    requires rise { IsStrictlySortedBy nat_cmp retracted.now }
     requires values { AllByRecursion (λ l. M.is_value l.1) after.old.items }
-    ensures items { OnOk result (after.new.items ≡ after.old.items ++ others withdrawn.now (letter.now ∷ [])) }
+    ensures items { OnOk result (after.new.items ≡ after.old.items ++ others retracted.now (envelope.now ∷ [])) }
     ensures values { AllByRecursion (λ l. M.is_value l.1) after.new.items }
 {
-    if is_among(withdrawn, letter.0) {
+    if is_among(retracted, envelope.0) {
         return Ok(());
     }
-    add_letter(alloc, after, letter.0, &letter.1)
+    add_envelope(alloc, after, envelope.0, &envelope.1)
 }
 
 /// Whether a sender is among these, which rise.
@@ -399,36 +406,36 @@ fn is_among(senders: &[VertexId], sender: VertexId) -> bool
 }
 
 /// Adds the messages that are added.
-fn add_letters<M: Plain>(
+fn add_envelopes<M: Plain>(
     alloc: Global,
     after: &mut Vec<(VertexId, M)>,
-    mends: &[(VertexId, Mend<M>)],
+    message_edits: &[(VertexId, MessageEdit<M>)],
 ) -> Result<(), Memory>
     requires { AllByRecursion (λ l. M.is_value l.1) after.old.items }
-    ensures items { OnOk result (after.new.items ≡ after.old.items ++ additions (map (λ m. m.1) mends.now)) }
+    ensures items { OnOk result (after.new.items ≡ after.old.items ++ inserted (map (λ m. m.1) message_edits.now)) }
     ensures values { AllByRecursion (λ l. M.is_value l.1) after.new.items }
 {
-    for (_, mend) in mends {
-        if let Mend::Added(sender, message) = mend {
-            add_letter(alloc, after, *sender, message)?;
+    for (_, message_edit) in message_edits {
+        if let MessageEdit::Added(sender, message) = message_edit {
+            add_envelope(alloc, after, *sender, message)?;
         }
     }
     Ok(())
 }
 
 /// Adds a message with its sender.
-fn add_letter<M: Plain>(
+fn add_envelope<M: Plain>(
     alloc: Global,
-    letters: &mut Vec<(VertexId, M)>,
+    envelopes: &mut Vec<(VertexId, M)>,
     sender: VertexId,
     message: &M,
 ) -> Result<(), Memory>
-    requires { AllByRecursion (λ l. M.is_value l.1) letters.old.items }
-    ensures items { OnOk result (letters.new.items ≡ letters.old.items ++ (sender, message.now) ∷ []) }
-    ensures values { AllByRecursion (λ l. M.is_value l.1) letters.new.items }
+    requires { AllByRecursion (λ l. M.is_value l.1) envelopes.old.items }
+    ensures items { OnOk result (envelopes.new.items ≡ envelopes.old.items ++ (sender, message.now) ∷ []) }
+    ensures values { AllByRecursion (λ l. M.is_value l.1) envelopes.new.items }
 {
     let message = message.copy(alloc)?;
     message.fits();
-    letters.push((sender, message))?;
+    envelopes.push((sender, message))?;
     Ok(())
 }

@@ -1,7 +1,7 @@
 //! Numbered places, of which some have a value.
 ghost use Rattle.std.specs.Prelude.{◌≡◌, [], ℕ, ◌==◌, ◌<◌, cond, length, None, Some, OnOk};
 ghost use Rattle.std.specs.Option.{option_copied};
-ghost use Rattle.pg_inbox.specs.Places.{value_in};
+ghost use Rattle.pg_inbox.specs.SparseVec.{value_in};
 
 use pg_graph::Memory;
 use std::alloc::Global;
@@ -9,11 +9,11 @@ use std::marker::Model;
 
 /// Places from 0 on, each with a value or none.
 #[derive(Drop)]
-pub(crate) struct Places<X> {
+pub(crate) struct SparseVec<X> {
     values: Vec<Option<X>>,
 }
 
-impl<X> Model for Places<X> {
+impl<X> Model for SparseVec<X> {
     ghost use Rattle.std.specs.Prelude.{List, Option};
 
     ghost Value = { List (Option X) };
@@ -21,12 +21,12 @@ impl<X> Model for Places<X> {
     ghost view = { λ p. p.values.items };
 }
 
-impl<X: Drop> Places<X> {
+impl<X: Drop> SparseVec<X> {
     /// No place has a value.
-    pub(crate) fn new(alloc: Global) -> Places<X>
+    pub(crate) fn new(alloc: Global) -> SparseVec<X>
         ensures { result ≡ [] }
     {
-        Places {
+        SparseVec {
             values: Vec::new(alloc),
         }
     }

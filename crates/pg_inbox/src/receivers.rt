@@ -2,25 +2,25 @@
 ghost use Rattle.std.specs.Prelude.{◌≡◌, ◌++◌, ◌<◌, ◌≤◌, drop, length, map, IfOk, OnOk};
 ghost use Rattle.std.specs.List.{AllByRecursion, flat_map};
 ghost use Rattle.pg_map.specs.Entries.{HasRisingIds};
-ghost use Rattle.pg_parcel.specs.Grouping.{groups_of};
+ghost use Rattle.pg_inbox_messages.specs.Grouping.{groups_of};
 ghost use Rattle.pg_inbox.specs.Holding.{HoldAll};
 ghost use Rattle.pg_inbox.specs.Inboxes.{AreInboxes, each_inbox, inboxes_of};
-ghost use Rattle.pg_inbox.specs.Sound.{sent_parcels};
+ghost use Rattle.pg_inbox.specs.Sound.{sent_message_lists};
 
 use crate::lists::{all_unchanged, inboxes_merged};
 use crate::receiving::received;
 use crate::{Bundle, Inboxes};
 use pg_global::MessageCombiner;
 use pg_graph::{Memory, VertexId};
-use pg_parcel::{ParcelRef, by_target, first_group, run_len};
+use pg_inbox_messages::{MessageListRef, by_target, first_group, run_len};
 use pg_program::Plain;
 use std::alloc::Global;
 
 /// What each vertex receives to which a bundle has a message, by rising id.
 ///
-/// Where messages aren't combined and lie as they were sent, it costs a copy of each and a sort of each inbox by sender,
-/// and for each of t targets a look at each of n bundles. Else it costs O(t log n), and what each inbox costs without the
-/// searches. One bundle is gone through where it is.
+/// Where messages aren't combined and lie as they were sent, it costs a copy of each and a sort of each inbox by
+/// sender, and for each of t targets a look at each of n bundles. Else it costs O(t log n), and what each inbox costs
+/// without the searches. One bundle is gone through where it is.
 pub fn inboxes<M: Plain, C: MessageCombiner<M>>(
     alloc: Global,
     bundles: &[&Bundle<M>],
@@ -37,9 +37,9 @@ pub fn inboxes<M: Plain, C: MessageCombiner<M>>(
             return inboxes_merged(alloc, lists);
         }
     }
-    let parcels = all_parcels(alloc, bundles)?;
-    let parcels = by_target(parcels)?;
-    inboxes_of(alloc, parcels.as_slice(), combiner)
+    let message_lists = all_message_lists(alloc, bundles)?;
+    let message_lists = by_target(message_lists)?;
+    inboxes_of(alloc, message_lists.as_slice(), combiner)
 }
 
 /// The inbox of each target of one bundle, where messages aren't combined.
@@ -50,23 +50,23 @@ fn inboxes_in<M: Plain>(alloc: Global, bundle: &Bundle<M>) -> Result<Inboxes<M>,
 {
     bundle.holds();
     match bundle.unchanged() {
-        Some(letters) => inboxes_sent(alloc, letters),
+        Some(envelopes) => inboxes_sent(alloc, envelopes),
         None => inboxes_changed(alloc, bundle),
     }
 }
 
-/// The inbox of each target of letters by target. Takes memory for all at once.
+/// The inbox of each target of envelopes by target. Takes memory for all at once.
 fn inboxes_sent<M: Plain>(
     alloc: Global,
-    letters: &[(VertexId, (VertexId, M))],
+    envelopes: &[(VertexId, (VertexId, M))],
 ) -> Result<Inboxes<M>, Memory>
-    ensures { IfOk result (λ inboxes. inboxes ≡ each_inbox (sent_parcels letters.now)) }
+    ensures { IfOk result (λ inboxes. inboxes ≡ each_inbox (sent_message_lists envelopes.now)) }
 {
-    let mut inboxes = Inboxes::with_room(alloc, letters.len(), letters.len())?;
-    let mut left = letters;
+    let mut inboxes = Inboxes::with_room(alloc, envelopes.len(), envelopes.len())?;
+    let mut left = envelopes;
     while let Some((target, here, later)) = first_group(left) {
-        let parcel = ParcelRef::of_sent(here);
-        inboxes = inboxes.with_parcel(alloc, target, &parcel)?;
+        let message_list = MessageListRef::of_sent(here);
+        inboxes = inboxes.with_message_list(alloc, target, &message_list)?;
         left = later;
     }
     Ok(inboxes)
@@ -76,44 +76,44 @@ fn inboxes_sent<M: Plain>(
 fn inboxes_changed<M: Plain>(alloc: Global, bundle: &Bundle<M>) -> Result<Inboxes<M>, Memory>
     ensures { IfOk result (λ inboxes. inboxes ≡ each_inbox bundle.now) }
 {
-    let parcels = bundle.parcels(alloc)?;
-    inboxes_listed(alloc, parcels.as_slice())
+    let message_lists = bundle.message_lists(alloc)?;
+    inboxes_listed(alloc, message_lists.as_slice())
 }
 
-/// The inbox of each target of parcels.
+/// The inbox of each target of message lists.
 fn inboxes_listed<M: Plain>(
     alloc: Global,
-    parcels: &[(VertexId, ParcelRef<'_, M>)],
+    message_lists: &[(VertexId, MessageListRef<'_, M>)],
 ) -> Result<Inboxes<M>, Memory>
-    ensures { IfOk result (λ inboxes. inboxes ≡ each_inbox parcels.now) }
+    ensures { IfOk result (λ inboxes. inboxes ≡ each_inbox message_lists.now) }
 {
-    let mut inboxes = Inboxes::new(alloc, parcels.len())?;
-    for (target, parcel) in parcels {
-        inboxes = inboxes.with_parcel(alloc, *target, parcel)?;
+    let mut inboxes = Inboxes::new(alloc, message_lists.len())?;
+    for (target, message_list) in message_lists {
+        inboxes = inboxes.with_message_list(alloc, *target, message_list)?;
     }
     Ok(inboxes)
 }
 
 /// What all bundles have for each of their targets, bundle by bundle.
-fn all_parcels<'a, M: Plain>(
+fn all_message_lists<'a, M: Plain>(
     alloc: Global,
     bundles: &[&'a Bundle<M>],
-) -> Result<Vec<(VertexId, ParcelRef<'a, M>)>, Memory>
+) -> Result<Vec<(VertexId, MessageListRef<'a, M>)>, Memory>
     ensures items { IfOk result (λ all. all.items ≡ flat_map (λ b. b.now) bundles.now) }
     ensures rise { IfOk result (λ _. AllByRecursion (λ b. HasRisingIds b.now) bundles.now) }
     ensures hold { IfOk result (λ _. AllByRecursion (λ b. HoldAll M.is_value b.now) bundles.now) }
 {
     let mut all = Vec::new(alloc);
     for bundle in bundles {
-        add_parcels(alloc, &mut all, bundle)?;
+        add_message_lists(alloc, &mut all, bundle)?;
     }
     Ok(all)
 }
 
 /// Adds what a bundle has for each of its targets.
-fn add_parcels<'a, M: Plain>(
+fn add_message_lists<'a, M: Plain>(
     alloc: Global,
-    all: &mut Vec<(VertexId, ParcelRef<'a, M>)>,
+    all: &mut Vec<(VertexId, MessageListRef<'a, M>)>,
     bundle: &'a Bundle<M>,
 ) -> Result<(), Memory>
     ensures items { OnOk result (all.new.items ≡ all.old.items ++ bundle.now) }
@@ -121,23 +121,23 @@ fn add_parcels<'a, M: Plain>(
     ensures hold { HoldAll M.is_value bundle.now }
 {
     bundle.holds();
-    let mut parcels = bundle.parcels(alloc)?;
-    all.append(&mut parcels)?;
+    let mut message_lists = bundle.message_lists(alloc)?;
+    all.append(&mut message_lists)?;
     Ok(())
 }
 
-/// The inbox of each target, of parcels by rising target.
+/// The inbox of each target, of message lists by rising target.
 fn inboxes_of<M: Plain, C: MessageCombiner<M>>(
     alloc: Global,
-    parcels: &[(VertexId, ParcelRef<'_, M>)],
+    message_lists: &[(VertexId, MessageListRef<'_, M>)],
     combiner: &C,
 ) -> Result<Inboxes<M>, Memory>
-    ensures { IfOk result (λ inboxes. inboxes ≡ inboxes_of (C.combining combiner.now) (groups_of parcels.now)) }
+    ensures { IfOk result (λ inboxes. inboxes ≡ inboxes_of (C.combining combiner.now) (groups_of message_lists.now)) }
 {
-    let mut inboxes = Inboxes::new(alloc, parcels.len())?;
+    let mut inboxes = Inboxes::new(alloc, message_lists.len())?;
     let mut done = 0;
-    while done < parcels.len() {
-        let (_, left) = parcels.split_at(done);
+    while done < message_lists.len() {
+        let (_, left) = message_lists.split_at(done);
         let (more, count) = with_first(alloc, inboxes, left, combiner)?;
         inboxes = more;
         done += count;
@@ -145,22 +145,23 @@ fn inboxes_of<M: Plain, C: MessageCombiner<M>>(
     Ok(inboxes)
 }
 
-/// Inboxes with that of the first target of parcels by target, and how many parcels go to it. (`first_group` would give
-/// parts of the list of lent parcels, which the prover doesn't follow.)
+/// Inboxes with that of the first target of message lists by target, and how many message lists go to it.
+/// (`first_group` would give parts of the list of lent message lists, which the prover doesn't follow.)
 fn with_first<M: Plain, C: MessageCombiner<M>>(
     alloc: Global,
     inboxes: Inboxes<M>,
-    parcels: &[(VertexId, ParcelRef<'_, M>)],
+    message_lists: &[(VertexId, MessageListRef<'_, M>)],
     combiner: &C,
 ) -> Result<(Inboxes<M>, usize), Memory>
-    requires some { 0 < length parcels.now }
-    ensures count { IfOk result (λ r. (0 < r.1) × (r.1 ≤ length parcels.now)) }
-    ensures more { IfOk result (λ r. r.0 ++ inboxes_of (C.combining combiner.now) (groups_of (drop r.1 parcels.now))
-        ≡ inboxes ++ inboxes_of (C.combining combiner.now) (groups_of parcels.now)) }
+    requires some { 0 < length message_lists.now }
+    ensures count { IfOk result (λ r. (0 < r.1) × (r.1 ≤ length message_lists.now)) }
+    ensures more { IfOk result
+        (λ r. r.0 ++ inboxes_of (C.combining combiner.now) (groups_of (drop r.1 message_lists.now))
+        ≡ inboxes ++ inboxes_of (C.combining combiner.now) (groups_of message_lists.now)) }
 {
-    let target = parcels[0].0;
-    let count = run_len(parcels, target);
-    let (here, _) = parcels.split_at(count);
+    let target = message_lists[0].0;
+    let count = run_len(message_lists, target);
+    let (here, _) = message_lists.split_at(count);
     let inbox = received(alloc, here, combiner)?;
     let more = inboxes.with(target, inbox)?;
     Ok((more, count))

@@ -5,15 +5,15 @@ ghost use Rattle.std.specs.List.{AllByRecursion, flat_map, fold};
 ghost use Rattle.std.specs.Option.{option_to_list};
 ghost use Rattle.pg_map.specs.Entries.{value_at};
 ghost use Rattle.pg_model.specs.Superstep.{combined, has_id};
-ghost use Rattle.pg_parcel.specs.Contents.{messages};
+ghost use Rattle.pg_inbox_messages.specs.Contents.{messages};
 ghost use Rattle.pg_inbox.specs.Holding.{HoldsAt};
 ghost use Rattle.pg_inbox.specs.Inboxes.{Delivers, contents_to, folded_of, is_receiver, received_of};
 ghost use Rattle.pg_inbox.specs.Ordered.{in_order};
 
-use crate::{Bundle, BundleFinder};
+use crate::{Bundle, BundleCursor};
 use pg_global::MessageCombiner;
 use pg_graph::{Memory, VertexId};
-use pg_parcel::ParcelRef;
+use pg_inbox_messages::MessageListRef;
 use pg_program::Plain;
 use std::alloc::Global;
 
@@ -33,8 +33,8 @@ pub fn inbox<M: Plain, C: MessageCombiner<M>>(
     if let [bundle] = bundles {
         return inbox_of(alloc, bundle, id, combiner);
     }
-    let parcels = parcels_at(alloc, bundles, id)?;
-    received(alloc, parcels.as_slice(), combiner)
+    let message_lists = message_lists_at(alloc, bundles, id)?;
+    received(alloc, message_lists.as_slice(), combiner)
 }
 
 /// What a vertex receives of the only bundle.
@@ -46,8 +46,8 @@ fn inbox_of<M: Plain, C: MessageCombiner<M>>(
 ) -> Result<Vec<M>, Memory>
     ensures { IfOk result (λ inbox. Delivers (C.combining combiner.now) id (bundle.now ∷ []) inbox.items) }
 {
-    match bundle.parcel(id) {
-        Some(parcel) => received(alloc, &[(id, parcel)], combiner),
+    match bundle.message_list(id) {
+        Some(message_list) => received(alloc, &[(id, message_list)], combiner),
         None => Ok(Vec::new(alloc)),
     }
 }
@@ -77,9 +77,9 @@ fn add_receivers_of<M: Plain>(
     ensures { OnOk result ((id : ℕ) → has_id receivers.new.items id
         ≡ (has_id receivers.old.items id || (has_id ids.now id && is_some (value_at id bundle.now)))) }
 {
-    let mut finder = bundle.finder();
+    let mut cursor = bundle.cursor();
     for id in ids {
-        add_if_receiving(receivers, &mut finder, *id)?;
+        add_if_receiving(receivers, &mut cursor, *id)?;
     }
     Ok(())
 }
@@ -87,47 +87,49 @@ fn add_receivers_of<M: Plain>(
 /// Adds a vertex to which a bundle has a message.
 fn add_if_receiving<M: Plain>(
     receivers: &mut Vec<VertexId>,
-    bundle: &mut BundleFinder<'_, M>,
+    bundle: &mut BundleCursor<'_, M>,
     id: VertexId,
 ) -> Result<(), Memory>
     ensures added { OnOk result ((q : ℕ) → has_id receivers.new.items q
         ≡ (has_id receivers.old.items q || ((id == q) && is_some (value_at q bundle.old)))) }
     ensures same { bundle.new ≡ bundle.old }
 {
-    if bundle.parcel(id).is_some() {
+    if bundle.message_list(id).is_some() {
         receivers.push(id)?;
     }
     Ok(())
 }
 
 /// What the bundles have for a vertex, bundle by bundle.
-fn parcels_at<'a, M: Plain>(
+fn message_lists_at<'a, M: Plain>(
     alloc: Global,
     bundles: &[&'a Bundle<M>],
     id: VertexId,
-) -> Result<Vec<(VertexId, ParcelRef<'a, M>)>, Memory>
-    ensures items { IfOk result (λ parcels. map (λ p. p.1) parcels.items ≡ contents_to id (map (λ b. b.now) bundles.now)) }
+) -> Result<Vec<(VertexId, MessageListRef<'a, M>)>, Memory>
+    ensures items { IfOk result
+        (λ message_lists. map (λ p. p.1) message_lists.items ≡ contents_to id (map (λ b. b.now) bundles.now)) }
     ensures hold { IfOk result (λ _. AllByRecursion (λ b. HoldsAt M.is_value (value_at id b.now)) bundles.now) }
 {
-    let mut parcels = Vec::new(alloc);
+    let mut message_lists = Vec::new(alloc);
     for bundle in bundles {
-        add_parcel(&mut parcels, bundle, id)?;
+        add_message_list(&mut message_lists, bundle, id)?;
     }
-    Ok(parcels)
+    Ok(message_lists)
 }
 
 /// Adds what a bundle has for a vertex.
-fn add_parcel<'a, M: Plain>(
-    parcels: &mut Vec<(VertexId, ParcelRef<'a, M>)>,
+fn add_message_list<'a, M: Plain>(
+    message_lists: &mut Vec<(VertexId, MessageListRef<'a, M>)>,
     bundle: &'a Bundle<M>,
     id: VertexId,
 ) -> Result<(), Memory>
     ensures items { OnOk result
-        (map (λ p. p.1) parcels.new.items ≡ map (λ p. p.1) parcels.old.items ++ option_to_list (value_at id bundle.now)) }
+        (map (λ p. p.1) message_lists.new.items
+        ≡ map (λ p. p.1) message_lists.old.items ++ option_to_list (value_at id bundle.now)) }
     ensures holds { HoldsAt M.is_value (value_at id bundle.now) }
 {
-    if let Some(parcel) = bundle.parcel(id) {
-        parcels.push((id, parcel))?;
+    if let Some(message_list) = bundle.message_list(id) {
+        message_lists.push((id, message_list))?;
     }
     Ok(())
 }
@@ -135,30 +137,34 @@ fn add_parcel<'a, M: Plain>(
 /// What a vertex receives of these.
 pub(crate) fn received<M: Plain, C: MessageCombiner<M>>(
     alloc: Global,
-    parcels: &[(VertexId, ParcelRef<'_, M>)],
+    message_lists: &[(VertexId, MessageListRef<'_, M>)],
     combiner: &C,
 ) -> Result<Vec<M>, Memory>
-    ensures { IfOk result (λ inbox. inbox.items ≡ received_of (C.combining combiner.now) (map (λ p. p.1) parcels.now)) }
+    ensures { IfOk result (λ inbox. inbox.items ≡ received_of (C.combining combiner.now)
+        (map (λ p. p.1) message_lists.now)) }
 {
     if combiner.combines() {
-        return combined(alloc, parcels, combiner);
+        return combined(alloc, message_lists, combiner);
     }
-    match parcels {
+    match message_lists {
         [] => Ok(Vec::new(alloc)),
-        [(_, parcel)] => messages_by_sender(alloc, parcel),
+        [(_, message_list)] => messages_by_sender(alloc, message_list),
         _ => {
-            let letters = letters_in(alloc, parcels)?;
-            sorted_messages(alloc, letters)
+            let envelopes = envelopes_in(alloc, message_lists)?;
+            sorted_messages(alloc, envelopes)
         }
     }
 }
 
 /// The messages to one target of one bundle, by sender and then in the order sent.
-fn messages_by_sender<M: Plain>(alloc: Global, parcel: &ParcelRef<'_, M>) -> Result<Vec<M>, Memory>
-    ensures { IfOk result (λ inbox. inbox.items ≡ messages (in_order parcel.now.letters)) }
+fn messages_by_sender<M: Plain>(
+    alloc: Global,
+    message_list: &MessageListRef<'_, M>,
+) -> Result<Vec<M>, Memory>
+    ensures { IfOk result (λ inbox. inbox.items ≡ messages (in_order message_list.now.envelopes)) }
 {
-    let mut messages = Vec::with_capacity(alloc, parcel.len())?;
-    add_by_sender(alloc, &mut messages, parcel)?;
+    let mut messages = Vec::with_capacity(alloc, message_list.len())?;
+    add_by_sender(alloc, &mut messages, message_list)?;
     Ok(messages)
 }
 
@@ -167,42 +173,42 @@ fn messages_by_sender<M: Plain>(alloc: Global, parcel: &ParcelRef<'_, M>) -> Res
 pub(crate) fn add_by_sender<M: Plain>(
     alloc: Global,
     into: &mut Vec<M>,
-    parcel: &ParcelRef<'_, M>,
+    message_list: &MessageListRef<'_, M>,
 ) -> Result<(), Memory>
-    ensures { OnOk result (into.new.items ≡ into.old.items ++ messages (in_order parcel.now.letters)) }
+    ensures { OnOk result (into.new.items ≡ into.old.items ++ messages (in_order message_list.now.envelopes)) }
 {
-    if are_in_order(parcel) {
-        return add_messages(alloc, into, parcel);
+    if are_in_order(message_list) {
+        return add_messages(alloc, into, message_list);
     }
-    let mut letters = Vec::with_capacity(alloc, parcel.len())?;
-    copy_letters(alloc, &mut letters, parcel)?;
-    let mut messages = sorted_messages(alloc, letters)?;
+    let mut envelopes = Vec::with_capacity(alloc, message_list.len())?;
+    copy_envelopes(alloc, &mut envelopes, message_list)?;
+    let mut messages = sorted_messages(alloc, envelopes)?;
     into.append(&mut messages)?;
     Ok(())
 }
 
 /// Messages by sender, those of one sender in their order.
-fn sorted_messages<M: Plain>(alloc: Global, letters: Vec<(VertexId, M)>) -> Result<Vec<M>, Memory>
-    ensures { IfOk result (λ inbox. inbox.items ≡ messages (in_order letters.items)) }
+fn sorted_messages<M: Plain>(alloc: Global, envelopes: Vec<(VertexId, M)>) -> Result<Vec<M>, Memory>
+    ensures { IfOk result (λ inbox. inbox.items ≡ messages (in_order envelopes.items)) }
 {
-    let mut letters = letters;
-    letters.sort_by_key(|letter| letter.0)?;
-    messages_of(alloc, letters)
+    let mut envelopes = envelopes;
+    envelopes.sort_by_key(|envelope| envelope.0)?;
+    messages_of(alloc, envelopes)
 }
 
 /// One message for what those of each bundle come to, if there are any.
 fn combined<M: Plain, C: MessageCombiner<M>>(
     alloc: Global,
-    parcels: &[(VertexId, ParcelRef<'_, M>)],
+    message_lists: &[(VertexId, MessageListRef<'_, M>)],
     combiner: &C,
 ) -> Result<Vec<M>, Memory>
     requires { IsSome (C.combining combiner.now) }
-    ensures { IfOk result (λ inbox. inbox.items ≡ combined (C.combining combiner.now) (folded_of parcels.now)) }
+    ensures { IfOk result (λ inbox. inbox.items ≡ combined (C.combining combiner.now) (folded_of message_lists.now)) }
 {
     let mut so_far = combiner.initial_message(alloc)?;
     let mut is_any = false;
-    for (_, parcel) in parcels {
-        is_any = combine_folded(alloc, &mut so_far, is_any, parcel, combiner)?;
+    for (_, message_list) in message_lists {
+        is_any = combine_folded(alloc, &mut so_far, is_any, message_list, combiner)?;
     }
     if !is_any {
         return Ok(Vec::new(alloc));
@@ -217,15 +223,15 @@ fn combine_folded<M: Plain, C: MessageCombiner<M>>(
     alloc: Global,
     so_far: &mut M,
     is_any: bool,
-    parcel: &ParcelRef<'_, M>,
+    message_list: &MessageListRef<'_, M>,
     combiner: &C,
 ) -> Result<bool, Memory>
     requires { IsSome (C.combining combiner.now) }
-    ensures any { IfOk result (λ after. after ≡ (is_any || is_some parcel.now.folded)) }
+    ensures any { IfOk result (λ after. after ≡ (is_any || is_some message_list.now.folded)) }
     ensures more { OnOk result (IfSome (C.combining combiner.now)
-        (λ c. so_far.new ≡ fold c.combine so_far.old (option_to_list parcel.now.folded))) }
+        (λ c. so_far.new ≡ fold c.combine so_far.old (option_to_list message_list.now.folded))) }
 {
-    match parcel.folded() {
+    match message_list.folded() {
         Some(message) => {
             combiner.combine(alloc, so_far, message)?;
             Ok(true)
@@ -236,11 +242,11 @@ fn combine_folded<M: Plain, C: MessageCombiner<M>>(
 
 /// Whether messages stand by rising sender.
 #[inline(always)]
-fn are_in_order<M: Plain>(parcel: &ParcelRef<'_, M>) -> bool
-    ensures { result ≡ true → in_order parcel.now.letters ≡ parcel.now.letters }
+fn are_in_order<M: Plain>(message_list: &MessageListRef<'_, M>) -> bool
+    ensures { result ≡ true → in_order message_list.now.envelopes ≡ message_list.now.envelopes }
 {
-    for place in 1..parcel.len() {
-        if parcel.letter(place).0 < parcel.letter(place - 1).0 {
+    for place in 1..message_list.len() {
+        if message_list.envelope(place).0 < message_list.envelope(place - 1).0 {
             return false;
         }
     }
@@ -252,52 +258,53 @@ fn are_in_order<M: Plain>(parcel: &ParcelRef<'_, M>) -> bool
 fn add_messages<M: Plain>(
     alloc: Global,
     into: &mut Vec<M>,
-    parcel: &ParcelRef<'_, M>,
+    message_list: &MessageListRef<'_, M>,
 ) -> Result<(), Memory>
-    ensures { OnOk result (into.new.items ≡ into.old.items ++ messages parcel.now.letters) }
+    ensures { OnOk result (into.new.items ≡ into.old.items ++ messages message_list.now.envelopes) }
 {
-    for place in 0..parcel.len() {
-        into.push(parcel.letter(place).1.copy(alloc)?)?;
+    for place in 0..message_list.len() {
+        into.push(message_list.envelope(place).1.copy(alloc)?)?;
     }
     Ok(())
 }
 
 /// The messages of all bundles with their senders, bundle by bundle.
-fn letters_in<M: Plain>(
+fn envelopes_in<M: Plain>(
     alloc: Global,
-    parcels: &[(VertexId, ParcelRef<'_, M>)],
+    message_lists: &[(VertexId, MessageListRef<'_, M>)],
 ) -> Result<Vec<(VertexId, M)>, Memory>
-    ensures { IfOk result (λ letters. letters.items ≡ flat_map (λ c. c.letters) (map (λ p. p.1) parcels.now)) }
+    ensures { IfOk result (λ envelopes. envelopes.items ≡ flat_map (λ c. c.envelopes)
+        (map (λ p. p.1) message_lists.now)) }
 {
-    let mut letters = Vec::new(alloc);
-    for (_, parcel) in parcels {
-        copy_letters(alloc, &mut letters, parcel)?;
+    let mut envelopes = Vec::new(alloc);
+    for (_, message_list) in message_lists {
+        copy_envelopes(alloc, &mut envelopes, message_list)?;
     }
-    Ok(letters)
+    Ok(envelopes)
 }
 
 /// Adds copies of messages with their senders.
 #[inline(always)]
-fn copy_letters<M: Plain>(
+fn copy_envelopes<M: Plain>(
     alloc: Global,
-    letters: &mut Vec<(VertexId, M)>,
-    more: &ParcelRef<'_, M>,
+    envelopes: &mut Vec<(VertexId, M)>,
+    more: &MessageListRef<'_, M>,
 ) -> Result<(), Memory>
-    ensures { OnOk result (letters.new.items ≡ letters.old.items ++ more.now.letters) }
+    ensures { OnOk result (envelopes.new.items ≡ envelopes.old.items ++ more.now.envelopes) }
 {
     for place in 0..more.len() {
-        let letter = more.letter(place);
-        letters.push((letter.0, letter.1.copy(alloc)?))?;
+        let envelope = more.envelope(place);
+        envelopes.push((envelope.0, envelope.1.copy(alloc)?))?;
     }
     Ok(())
 }
 
 /// Messages without their senders.
-fn messages_of<M: Plain>(alloc: Global, letters: Vec<(VertexId, M)>) -> Result<Vec<M>, Memory>
-    ensures { IfOk result (λ inbox. inbox.items ≡ messages letters.items) }
+fn messages_of<M: Plain>(alloc: Global, envelopes: Vec<(VertexId, M)>) -> Result<Vec<M>, Memory>
+    ensures { IfOk result (λ inbox. inbox.items ≡ messages envelopes.items) }
 {
-    let mut inbox = Vec::with_capacity(alloc, letters.len())?;
-    for (_, message) in letters {
+    let mut inbox = Vec::with_capacity(alloc, envelopes.len())?;
+    for (_, message) in envelopes {
         inbox.push(message)?;
     }
     Ok(inbox)

@@ -1,10 +1,11 @@
 //! What one partition sent in a superstep, where most bundles may be empty.
-ghost use Rattle.std.specs.Prelude.{◌≡◌, ◌==◌, ◌<◌, ◌≤◌, ◌⊎◌, ◌+◌, ℕ, [], length, cond, None, Some, IsTrue, OnOk, OnErr};
+ghost use Rattle.std.specs.Prelude.{◌≡◌, ◌==◌, ◌<◌, ◌≤◌, ◌⊎◌, ◌+◌, ℕ, [], length, cond, None, Some, IsTrue, OnOk};
+ghost use Rattle.std.specs.Prelude.{OnErr};
 ghost use Rattle.std.specs.Option.{option_copied};
-ghost use Rattle.pg_inbox.specs.Places.{value_in};
+ghost use Rattle.pg_inbox.specs.SparseVec.{value_in};
 ghost use Rattle.pg_inbox.specs.SentRow.{AreNone, IsLastAt};
 
-use crate::{Bundle, Logged};
+use crate::{Bundle, LoggedBundle};
 use pg_graph::Memory;
 use pg_program::Plain;
 use std::alloc::Global;
@@ -14,16 +15,16 @@ use std::marker::Model;
 #[derive(Drop)]
 pub(crate) struct SentRow<M: Plain> {
     count: usize,
-    usual: Logged<M>,
-    others: Vec<(usize, Option<Logged<M>>)>,
+    usual: LoggedBundle<M>,
+    others: Vec<(usize, Option<LoggedBundle<M>>)>,
 }
 
 impl<M: Plain> Model for SentRow<M> {
     ghost use Rattle.std.specs.Prelude.{List, Option};
     ghost use Rattle.pg_inbox.specs.SentRow.{AreBelow, slots_in};
-    ghost use Rattle.pg_inbox.specs.declared.logs.Logged.{Logged};
+    ghost use Rattle.pg_inbox.specs.declared.logs.LoggedBundle.{LoggedBundle};
 
-    ghost Value = { List (Option (Logged M)) };
+    ghost Value = { List (Option (LoggedBundle M)) };
 
     ghost view = { λ r. slots_in r.count r.usual r.others.items };
 
@@ -37,7 +38,7 @@ impl<M: Plain> SentRow<M> {
     {
         SentRow {
             count: 0,
-            usual: Logged {
+            usual: LoggedBundle {
                 bundle: Bundle::new(),
                 changed: None,
             },
@@ -46,7 +47,7 @@ impl<M: Plain> SentRow<M> {
     }
 
     /// The bundle to a partition. Costs a look at each that isn't usual.
-    pub(crate) fn get(&self, to: usize) -> Option<&Logged<M>>
+    pub(crate) fn get(&self, to: usize) -> Option<&LoggedBundle<M>>
         ensures { option_copied result ≡ value_in to self.now }
     {
         if to >= self.count {
@@ -59,7 +60,7 @@ impl<M: Plain> SentRow<M> {
     }
 
     /// Puts the bundle to a partition. Nothing changes where memory is refused.
-    pub(crate) fn put(&mut self, to: usize, logged: Logged<M>) -> Result<(), Memory>
+    pub(crate) fn put(&mut self, to: usize, logged: LoggedBundle<M>) -> Result<(), Memory>
         requires { to < 4294967296 }
         ensures ok { OnOk result ((q : ℕ) → value_in q self.new ≡ cond (to == q) (Some logged) (value_in q self.old)) }
         ensures err { OnErr result ((q : ℕ) → value_in q self.new ≡ value_in q self.old) }
@@ -116,7 +117,7 @@ fn last_at<X>(entries: &[(usize, X)], number: usize) -> Option<usize>
 }
 
 /// Whether two bundles are empty and differ nowhere, or for both it isn't known where they do.
-fn is_like<M: Plain>(logged: &Logged<M>, other: &Logged<M>) -> bool
+fn is_like<M: Plain>(logged: &LoggedBundle<M>, other: &LoggedBundle<M>) -> bool
     ensures { IsTrue result → logged.now ≡ other.now }
 {
     if !is_empty(logged) || !is_empty(other) {
@@ -126,7 +127,7 @@ fn is_like<M: Plain>(logged: &Logged<M>, other: &Logged<M>) -> bool
 }
 
 /// Whether a bundle is empty, and differs nowhere if it is known where it does.
-fn is_empty<M: Plain>(logged: &Logged<M>) -> bool
+fn is_empty<M: Plain>(logged: &LoggedBundle<M>) -> bool
     ensures bundle { IsTrue result → logged.now.bundle ≡ [] }
     ensures changed { IsTrue result → AreNone logged.now.changed }
 {

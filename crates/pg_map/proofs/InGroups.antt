@@ -4,7 +4,7 @@ use Rattle.std.specs.List.{AllByRecursion}
 use Rattle.std.specs.List.Sorted.{IsPartitionPoint}
 use Rattle.pg_map.specs.Chunks.{AreChunks, AreGroups, all_of, chunks_in, entries_of, grouped}
 use Rattle.pg_map.specs.Entries.{HasRisingIds, entries_from, value_at}
-use Rattle.pg_map.specs.declared.part.Part.{Part}
+use Rattle.pg_map.specs.declared.part.Node.{Node}
 use Rattle.pg_map.proofs.InParts.{from_in, get_in, rises_in}
 
 all_at : {X : Type 0} (P : X → Type 0) (xs : List X) (i : ℕ) (d : X) → i < length xs → AllByRecursion P xs → P (get_or xs i d)
@@ -13,9 +13,9 @@ all_at P (x ∷ xs) zero d within all = all.0
 all_at P (x ∷ xs) (suc i) d within all = all_at P xs i d (omega arith) all.1
 
 -- where the last of the groups that begin at an id or below it has these chunks
-module _ {X : Type 0} (groups : List (Part (Part (ℕ × X)))) (are : AreGroups groups) (rising : HasRisingIds (all_of groups)) (id n : ℕ)
+module _ {X : Type 0} (groups : List (Node (Node (ℕ × X)))) (are : AreGroups groups) (rising : HasRisingIds (all_of groups)) (id n : ℕ)
     (parts : IsPartitionPoint (λ y. leb y.first id ≡ true) (λ y. leb y.first id ≡ false) groups n) (m : ℕ) (last : m + 1 ≡ n) (within : n ≤ length groups)
-    (group : Part (Part (ℕ × X))) (here : group ≡ get_or groups m group) (chunks : List (Part (ℕ × X))) (is : chunks ≡ chunks_in group) where
+    (group : Node (Node (ℕ × X))) (here : group ≡ get_or groups m group) (chunks : List (Node (ℕ × X))) (is : chunks ≡ chunks_in group) where
   pub are_there : AreChunks chunks
   are_there =
       subst AreChunks (sym is)

@@ -9,14 +9,14 @@ use Rattle.std.proofs.lemmas.Grind.{flat_map-append}
 use Rattle.std.proofs.lemmas.List.Sums.{sum_by-cons}
 use Rattle.pg_map.specs.Chunks.{AreCut, AreGroups, AreParts, AreSound, StartsAt, all_of, grouped}
 use Rattle.pg_map.specs.Entries.{HasRisingIds, ChangesRise, entries_from, with_changes}
-use Rattle.pg_map.specs.declared.part.Part.{Part}
+use Rattle.pg_map.specs.declared.part.Node.{Node}
 use Rattle.pg_map.proofs.Rising.{find}
 use Rattle.pg_map.proofs.Search.{rises}
 use Rattle.pg_map.proofs.Parts.{Below, From, from_weaker, from_first, below_middle, rises_left, rises_right, none_below, none_from, find-left}
 use Rattle.pg_map.proofs.Parts.{find-right, none_kept, all_kept, from-append, changes_in_parts, split_all}
 
-module _ {X T : Type 0} (listed : Part T → List (ℕ × X)) where
-  abbrev entries_of : List (Part T) → List (ℕ × X)
+module _ {X T : Type 0} (listed : Node T → List (ℕ × X)) where
+  abbrev entries_of : List (Node T) → List (ℕ × X)
   entries_of parts = flat_map listed parts
 
   -- ---- one part and the others
@@ -29,10 +29,10 @@ module _ {X T : Type 0} (listed : Part T → List (ℕ × X)) where
   below_start m a [] c starts rising = absurd starts
   below_start m a (e ∷ b) c starts rising = subst (λ k. Below k a) (sym starts) (below_middle a e (b ++ c) rising)
 
-  pub from_part : (c : Part T) (cs : List (Part T)) → AreParts listed (c ∷ cs) → HasRisingIds (entries_of (c ∷ cs)) → From c.first (entries_of (c ∷ cs))
+  pub from_part : (c : Node T) (cs : List (Node T)) → AreParts listed (c ∷ cs) → HasRisingIds (entries_of (c ∷ cs)) → From c.first (entries_of (c ∷ cs))
   from_part c cs are rising = from_start c.first (listed c) (entries_of cs) are.0.0 rising
 
-  pub below_part : (c d : Part T) (ds : List (Part T)) → AreParts listed (c ∷ d ∷ ds) → HasRisingIds (entries_of (c ∷ d ∷ ds)) → Below d.first (listed c)
+  pub below_part : (c d : Node T) (ds : List (Node T)) → AreParts listed (c ∷ d ∷ ds) → HasRisingIds (entries_of (c ∷ d ∷ ds)) → Below d.first (listed c)
   below_part c d ds are rising = below_start d.first (listed c) (listed d) (entries_of ds) are.1.0.0 rising
 
   -- ---- the parts' first ids rise
@@ -45,12 +45,12 @@ module _ {X T : Type 0} (listed : Part T → List (ℕ × X)) where
   from_rest k [] b from = from
   from_rest k (e ∷ a) b from = from_rest k a b from.1
 
-  first_within : (k : ℕ) (cs : List (Part T)) (j : ℕ) (d : Part T) → AreParts listed cs → From k (entries_of cs) → j < length cs → k ≤ (get_or cs j d).first
+  first_within : (k : ℕ) (cs : List (Node T)) (j : ℕ) (d : Node T) → AreParts listed cs → From k (entries_of cs) → j < length cs → k ≤ (get_or cs j d).first
   first_within k [] j d are from within = absurd (omega arith)
   first_within k (c ∷ cs) zero d are from within = start_within k c.first (listed c) (entries_of cs) are.0.0 from
   first_within k (c ∷ cs) (suc j) d are from within = first_within k cs j d are.1 (from_rest k (listed c) (entries_of cs) from) (omega arith)
 
-  pub firsts_rise : (cs : List (Part T)) → AreParts listed cs → HasRisingIds (entries_of cs) → IsNonDecreasingBy (λ c. c.first) cs
+  pub firsts_rise : (cs : List (Node T)) → AreParts listed cs → HasRisingIds (entries_of cs) → IsNonDecreasingBy (λ c. c.first) cs
   firsts_rise [] are rising i j d h within = absurd (omega arith)
   firsts_rise (c ∷ cs) are rising zero j d h within = first_within c.first (c ∷ cs) j d are (from_part c cs are rising) within
   firsts_rise (c ∷ cs) are rising (suc i) zero d h within = absurd (omega arith)
@@ -59,30 +59,30 @@ module _ {X T : Type 0} (listed : Part T → List (ℕ × X)) where
 
   -- ---- look-ups
 
-  pub rises_part : (cs : List (Part T)) (n : ℕ) (d : Part T) → HasRisingIds (entries_of cs) → n < length cs → HasRisingIds (listed (get_or cs n d))
+  pub rises_part : (cs : List (Node T)) (n : ℕ) (d : Node T) → HasRisingIds (entries_of cs) → n < length cs → HasRisingIds (listed (get_or cs n d))
   rises_part [] n d rising within = absurd (omega arith)
   rises_part (c ∷ cs) zero d rising within = rises_left (listed c) (entries_of cs) rising
   rises_part (c ∷ cs) (suc n) d rising within = rises_part cs n d (rises_right (listed c) (entries_of cs) rising) (omega arith)
 
   -- where all parts start above an id, nothing is there, and all entries are from it on
   module _ (q : ℕ) where
-    pub above_all : (cs : List (Part T)) → AreParts listed cs → HasRisingIds (entries_of cs)
-        → ((k : ℕ) (d : Part T) → k < length cs → q < (get_or cs k d).first) → From (q + 1) (entries_of cs)
+    pub above_all : (cs : List (Node T)) → AreParts listed cs → HasRisingIds (entries_of cs)
+        → ((k : ℕ) (d : Node T) → k < length cs → q < (get_or cs k d).first) → From (q + 1) (entries_of cs)
     above_all [] are rising high = tt
     above_all (c ∷ cs) are rising high =
         from_weaker (q + 1) c.first (entries_of (c ∷ cs)) (let h = high 0 c (omega arith) in omega arith) (from_part c cs are rising)
 
-    pub none_in : (cs : List (Part T)) → AreParts listed cs → HasRisingIds (entries_of cs)
-        → ((k : ℕ) (d : Part T) → k < length cs → q < (get_or cs k d).first) → find q (entries_of cs) ≡ None
+    pub none_in : (cs : List (Node T)) → AreParts listed cs → HasRisingIds (entries_of cs)
+        → ((k : ℕ) (d : Node T) → k < length cs → q < (get_or cs k d).first) → find q (entries_of cs) ≡ None
     none_in cs are rising high = none_from q (q + 1) (entries_of cs) (omega arith) (above_all cs are rising high)
 
-    pub all_in : (cs : List (Part T)) → AreParts listed cs → HasRisingIds (entries_of cs)
-        → ((k : ℕ) (d : Part T) → k < length cs → q < (get_or cs k d).first) → entries_from q (entries_of cs) ≡ entries_of cs
+    pub all_in : (cs : List (Node T)) → AreParts listed cs → HasRisingIds (entries_of cs)
+        → ((k : ℕ) (d : Node T) → k < length cs → q < (get_or cs k d).first) → entries_from q (entries_of cs) ≡ entries_of cs
     all_in cs are rising high = all_kept q (q + 1) (entries_of cs) (omega arith) (above_all cs are rising high)
 
     -- what is at the id is in the last part that starts at or below it
-    pub value_by_part : (cs : List (Part T)) (n : ℕ) (d : Part T) → AreParts listed cs → HasRisingIds (entries_of cs) → n < length cs
-        → ((k : ℕ) (x : Part T) → k ≤ n → (get_or cs k x).first ≤ q) → ((k : ℕ) (x : Part T) → n < k → k < length cs → q < (get_or cs k x).first)
+    pub value_by_part : (cs : List (Node T)) (n : ℕ) (d : Node T) → AreParts listed cs → HasRisingIds (entries_of cs) → n < length cs
+        → ((k : ℕ) (x : Node T) → k ≤ n → (get_or cs k x).first ≤ q) → ((k : ℕ) (x : Node T) → n < k → k < length cs → q < (get_or cs k x).first)
         → find q (entries_of cs) ≡ find q (listed (get_or cs n d))
     value_by_part [] n d are rising within low high = absurd (omega arith)
     value_by_part (c ∷ cs) zero d are rising within low high =
@@ -94,8 +94,8 @@ module _ {X T : Type 0} (listed : Part T → List (ℕ × X)) where
         ∙ value_by_part (b ∷ cs) n d are.1 (rises_right (listed c) (entries_of (b ∷ cs)) rising) (omega arith)
         (λ k x h. low (suc k) x (omega arith)) (λ k x h g. high (suc k) x (omega arith) (omega arith))
 
-    pub from_by_part : (cs : List (Part T)) (n : ℕ) (d : Part T) → AreParts listed cs → HasRisingIds (entries_of cs) → n < length cs
-        → ((k : ℕ) (x : Part T) → k ≤ n → (get_or cs k x).first ≤ q) → ((k : ℕ) (x : Part T) → n < k → k < length cs → q < (get_or cs k x).first)
+    pub from_by_part : (cs : List (Node T)) (n : ℕ) (d : Node T) → AreParts listed cs → HasRisingIds (entries_of cs) → n < length cs
+        → ((k : ℕ) (x : Node T) → k ≤ n → (get_or cs k x).first ≤ q) → ((k : ℕ) (x : Node T) → n < k → k < length cs → q < (get_or cs k x).first)
         → entries_from q (entries_of cs) ≡ entries_from q (listed (get_or cs n d)) ++ entries_of (drop (n + 1) cs)
     from_by_part [] n d are rising within low high = absurd (omega arith)
     from_by_part (c ∷ cs) zero d are rising within low high =
@@ -126,12 +126,12 @@ module _ {X T : Type 0} (listed : Part T → List (ℕ × X)) where
         ∙ sym (from-append q (e ∷ []) es ∙ ap (λ l. l ++ entries_from q es) (none_kept q q (e ∷ []) (omega arith) (low 0 e (omega arith), tt)))
 
     -- what a search for the id among the first ids tells
-    module _ (cs : List (Part T)) (n : ℕ) (are : AreParts listed cs) (rising : HasRisingIds (entries_of cs))
+    module _ (cs : List (Node T)) (n : ℕ) (are : AreParts listed cs) (rising : HasRisingIds (entries_of cs))
         (parts : IsPartitionPoint (λ y. leb y.first q ≡ true) (λ y. leb y.first q ≡ false) cs n) where
-      low_by : (k : ℕ) (x : Part T) → k < n → (get_or cs k x).first ≤ q
+      low_by : (k : ℕ) (x : Node T) → k < n → (get_or cs k x).first ≤ q
       low_by k x h = leb-true (get_or cs k x).first q (parts.0 k x (omega arith) h)
 
-      high_by : (k : ℕ) (x : Part T) → n ≤ k → k < length cs → q < (get_or cs k x).first
+      high_by : (k : ℕ) (x : Node T) → n ≤ k → k < length cs → q < (get_or cs k x).first
       high_by k x h g = leb-false (get_or cs k x).first q (parts.1 k x h g)
 
       pub get_before : n ≡ 0 → find q (entries_of cs) ≡ None
@@ -140,7 +140,7 @@ module _ {X T : Type 0} (listed : Part T → List (ℕ × X)) where
       pub from_before : n ≡ 0 → entries_from q (entries_of cs) ≡ entries_of cs
       from_before first = all_in cs are rising (λ k x h. high_by k x (omega arith) h)
 
-      module _ (m : ℕ) (last : m + 1 ≡ n) (within : n ≤ length cs) (c : Part T) (here : c ≡ get_or cs m c) where
+      module _ (m : ℕ) (last : m + 1 ≡ n) (within : n ≤ length cs) (c : Node T) (here : c ≡ get_or cs m c) where
         pub get_in : find q (entries_of cs) ≡ find q (listed c)
         get_in =
             value_by_part cs m c are rising (omega arith) (λ k x h. low_by k x (omega arith)) (λ k x h g. high_by k x (omega arith) g)
@@ -164,11 +164,11 @@ module _ {X T : Type 0} (listed : Part T → List (ℕ × X)) where
 
   -- ---- what is gathered
 
-  pub entries-push : (made : List (Part T)) (p : Part T) → entries_of (made ++ p ∷ []) ≡ entries_of made ++ listed p
+  pub entries-push : (made : List (Node T)) (p : Node T) → entries_of (made ++ p ∷ []) ≡ entries_of made ++ listed p
   entries-push made p = flat_map-append listed made (p ∷ []) ∙ ap (λ l. entries_of made ++ l) (append-nil (listed p))
 
   -- the front of what waits becomes a part
-  pub cut_keeps : (made made' : List (Part T)) (p : Part T) (waiting front later : List (ℕ × X)) → made' ≡ made ++ p ∷ []
+  pub cut_keeps : (made made' : List (Node T)) (p : Node T) (waiting front later : List (ℕ × X)) → made' ≡ made ++ p ∷ []
       → listed p ≡ front → front ++ later ≡ waiting → entries_of made' ++ later ≡ entries_of made ++ waiting
   cut_keeps made made' p waiting front later pushed is whole =
       ap (λ l. entries_of l ++ later) pushed
@@ -176,7 +176,7 @@ module _ {X T : Type 0} (listed : Part T → List (ℕ × X)) where
       ∙ append_assoc (entries_of made) (listed p) later
       ∙ ap (λ l. entries_of made ++ l) (ap (λ l. l ++ later) is ∙ whole)
 
-  pub counted_all : (cs : List (Part T)) → AreParts listed cs → sum_by (λ p. p.count) cs ≡ length (entries_of cs)
+  pub counted_all : (cs : List (Node T)) → AreParts listed cs → sum_by (λ p. p.count) cs ≡ length (entries_of cs)
   counted_all [] are = refl
   counted_all (c ∷ cs) are =
       omega (arith, sum_by-cons (λ p. p.count) c cs, are.0.1, counted_all cs are.1, length-append (listed c) (entries_of cs))
@@ -186,13 +186,13 @@ module _ {X T : Type 0} (listed : Part T → List (ℕ × X)) where
   starts-left m [] b starts = absurd starts
   starts-left m (e ∷ a) b starts = starts
 
-  pub starts_at_first : (cs : List (Part T)) (d : Part T) → 0 < length cs → AreParts listed cs → StartsAt (get_or cs 0 d).first (entries_of cs)
+  pub starts_at_first : (cs : List (Node T)) (d : Node T) → 0 < length cs → AreParts listed cs → StartsAt (get_or cs 0 d).first (entries_of cs)
   starts_at_first [] d some are = absurd (omega arith)
   starts_at_first (c ∷ cs) d some are = starts-left c.first (listed c) (entries_of cs) are.0.0
 
   -- ---- changes
 
-  pub changes_by_part : (c : Part T) (cs : List (Part T)) (here later : List (ℕ × Option X)) → AreParts listed (c ∷ cs)
+  pub changes_by_part : (c : Node T) (cs : List (Node T)) (here later : List (ℕ × Option X)) → AreParts listed (c ∷ cs)
       → HasRisingIds (entries_of (c ∷ cs)) → AreCut cs here later
       → with_changes (here ++ later) (entries_of (c ∷ cs)) ≡ with_changes here (listed c) ++ with_changes later (entries_of cs)
   changes_by_part c [] here later are rising cut =
@@ -206,7 +206,7 @@ module _ {X T : Type 0} (listed : Part T → List (ℕ × X)) where
       (from_part d ds are.1 (rises_right (listed c) (entries_of (d ∷ ds)) rising))
 
   -- the next part and the changes that fall into it
-  pub part_turn : (gathered gathered' : List (ℕ × X)) (left cs : List (Part T)) (c : Part T) (todo here later : List (ℕ × Option X)) (n : ℕ)
+  pub part_turn : (gathered gathered' : List (ℕ × X)) (left cs : List (Node T)) (c : Node T) (todo here later : List (ℕ × Option X)) (n : ℕ)
       → left ≡ c ∷ cs → todo ≡ here ++ later → here ≡ take n todo → later ≡ drop n todo
       → AreParts listed left → HasRisingIds (entries_of left) → AreCut cs (take n todo) (drop n todo) → gathered' ≡ gathered ++ with_changes here (listed c)
       → gathered' ++ with_changes later (entries_of cs) ≡ gathered ++ with_changes todo (entries_of left)
@@ -229,7 +229,7 @@ module _ {X : Type 0} where
   parted m cs i within low high = split_all (λ x. x.0 < m) (λ x. m ≤ x.0) cs i within low high
 
   -- where a search parts them
-  pub cut_at : {T : Type 0} (all : List (Part T)) (c : Part T) (cs : List (Part T)) (changes : List (ℕ × Option X)) (i : ℕ) → all ≡ c ∷ cs → i ≤ length changes
+  pub cut_at : {T : Type 0} (all : List (Node T)) (c : Node T) (cs : List (Node T)) (changes : List (ℕ × Option X)) (i : ℕ) → all ≡ c ∷ cs → i ≤ length changes
       → IsPartitionPoint (λ y. ltb y.0 c.first ≡ true) (λ y. ltb y.0 c.first ≡ false) changes i → AreCut all (take i changes) (drop i changes)
   cut_at all c cs changes i is within parts =
       subst (λ l. AreCut l (take i changes) (drop i changes)) (sym is)
@@ -246,10 +246,10 @@ module _ {X : Type 0} where
   unfolding IsStrictlySortedBy
   empty_sound = record { rise = tt; groups_are = (tt, tt); counted = refl }
 
-  pub none_sound : (groups : List (Part (Part (ℕ × X)))) → groups ≡ [] → AreSound groups 0
+  pub none_sound : (groups : List (Node (Node (ℕ × X)))) → groups ≡ [] → AreSound groups 0
   none_sound groups none = subst (λ l. AreSound l 0) (sym none) empty_sound
 
-  pub sound_of : (groups made : List (Part (Part (ℕ × X)))) (count : ℕ) → groups ≡ made → AreGroups made → HasRisingIds (all_of made)
+  pub sound_of : (groups made : List (Node (Node (ℕ × X)))) (count : ℕ) → groups ≡ made → AreGroups made → HasRisingIds (all_of made)
       → count ≡ sum_by (λ p. p.count) made → AreSound groups count
   sound_of groups made count same are rising counted =
       subst (λ l. AreSound l count) (sym same) (record { rise = rising; groups_are = are; counted = counted ∙ counted_all grouped made are.0 })

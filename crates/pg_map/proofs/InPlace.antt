@@ -18,7 +18,7 @@ use Rattle.pg_map.specs.Entries.{HasRisingIds, value_at, with_change, with_chang
 use Rattle.std.specs.Option.{option_copied}
 use Rattle.std.proofs.lemmas.List.{drop_more, nil_from_length}
 use Rattle.std.proofs.lemmas.Option.{get_or_from_slice_get, slice_get_within}
-use Rattle.pg_map.specs.declared.part.Part.{Part}
+use Rattle.pg_map.specs.declared.part.Node.{Node}
 use Rattle.pg_map.proofs.InParts.{part_turn}
 use Rattle.pg_map.proofs.Parts.{is_equal, is_greater, rises_after, rises_left, rises_right}
 use Rattle.pg_map.proofs.Search.{lookup_past}
@@ -145,7 +145,7 @@ copied_some None some = some
 copied_some (Some x) some = refl
 
 -- the first of some parts and the others, with the changes that fall into each
-module _ {X T : Type 0} (listed : Part T → List (ℕ × X)) (all : List (Part T)) (c : Part T) (cs : List (Part T)) (at : all ≡ c ∷ cs)
+module _ {X T : Type 0} (listed : Node T → List (ℕ × X)) (all : List (Node T)) (c : Node T) (cs : List (Node T)) (at : all ≡ c ∷ cs)
     (are : AreParts listed all) (rise : HasRisingIds (flat_map listed all)) where
   pub first_is : IsPart c.first c.count (listed c)
   first_is = (subst (AreParts listed) at are).0
@@ -172,7 +172,7 @@ module _ {X T : Type 0} (listed : Part T → List (ℕ × X)) (all : List (Part 
     others_made b none others = both_made (listed c) b (sym (ap (λ l. with_changes l (listed c)) (nil_from_length here none))) others
 
 -- the first of some groups and the others
-module _ {X : Type 0} (all : List (Part (Part (ℕ × X)))) (c : Part (Part (ℕ × X))) (cs : List (Part (Part (ℕ × X)))) (at : all ≡ c ∷ cs)
+module _ {X : Type 0} (all : List (Node (Node (ℕ × X)))) (c : Node (Node (ℕ × X))) (cs : List (Node (Node (ℕ × X)))) (at : all ≡ c ∷ cs)
     (are : AreGroups all) where
   pub first_chunks : AreChunks (chunks_in c)
   first_chunks = (subst AreGroups at are).1.0
@@ -183,7 +183,7 @@ module _ {X : Type 0} (all : List (Part (Part (ℕ × X)))) (c : Part (Part (ℕ
   pub some_chunks : 0 < length (chunks_in c)
   some_chunks = by (chunks_in c) (subst AreGroups at are).0.0.0
     where
-      by : (chunks : List (Part (ℕ × X))) → StartsAt c.first (entries_of chunks) → 0 < length chunks
+      by : (chunks : List (Node (ℕ × X))) → StartsAt c.first (entries_of chunks) → 0 < length chunks
       by [] starts = absurd starts
       by (x ∷ xs) starts = omega arith
 

@@ -12,5 +12,5 @@ pub mod Passed
 pub mod Replaced
 pub mod Rising
 pub mod Search
-pub mod Stretch
+pub mod Slice
 pub mod Turns

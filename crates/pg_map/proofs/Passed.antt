@@ -5,12 +5,12 @@ use Rattle.std.proofs.lemmas.Grind.{flat_map-append}
 use Rattle.std.proofs.lemmas.List.{length-append, take-append-drop}
 use Rattle.pg_map.specs.Chunks.{AreChunks, AreGroups, AreParts, ArePast, chunks_in, grouped}
 use Rattle.pg_map.specs.Entries.{ChangesRise, HasRisingIds, with_changes}
-use Rattle.pg_map.specs.declared.part.Part.{Part}
+use Rattle.pg_map.specs.declared.part.Node.{Node}
 use Rattle.pg_map.proofs.Cut.{all_front, all_later}
 use Rattle.pg_map.proofs.InParts.{below_part, counted_all, firsts_rise}
 use Rattle.pg_map.proofs.Parts.{Below, changes-right, from_first, from_weaker, rises_right}
 
-module _ {X T : Type 0} (listed : Part T → List (ℕ × X)) where
+module _ {X T : Type 0} (listed : Node T → List (ℕ × X)) where
   below_higher : (a b : ℕ) (es : List (ℕ × X)) → a ≤ b → Below a es → Below b es
   below_higher a b [] h all = tt
   below_higher a b (e ∷ es) h all = (omega (arith, all.0, h), below_higher a b es h all.1)
@@ -20,7 +20,7 @@ module _ {X T : Type 0} (listed : Part T → List (ℕ × X)) where
   below_both m (e ∷ a) b h g = (h.0, below_both m a b h.1 g)
 
   -- all entries before a part are below its first id
-  below_nth : (parts : List (Part T)) (n : ℕ) (d : Part T) → AreParts listed parts → HasRisingIds (flat_map listed parts) → n < length parts
+  below_nth : (parts : List (Node T)) (n : ℕ) (d : Node T) → AreParts listed parts → HasRisingIds (flat_map listed parts) → n < length parts
       → Below (get_or parts n d).first (flat_map listed (take n parts))
   below_nth [] n d are rise within = absurd (omega (arith, within))
   below_nth (c ∷ parts) zero d are rise within = tt
@@ -33,7 +33,7 @@ module _ {X T : Type 0} (listed : Part T → List (ℕ × X)) where
       (below_part listed c b parts are rise))
       (below_nth (b ∷ parts) n d are.1 later (omega (arith, within)))
 
-  module _ (all : List (Part T)) (n : ℕ) (are : AreParts listed all) (rise : HasRisingIds (flat_map listed all)) where
+  module _ (all : List (Node T)) (n : ℕ) (are : AreParts listed all) (rise : HasRisingIds (flat_map listed all)) where
     passed_whole : flat_map listed all ≡ flat_map listed (take n all) ++ flat_map listed (drop n all)
     passed_whole = ap (flat_map listed) (sym (take-append-drop n all)) ∙ flat_map-append listed (take n all) (drop n all)
 
@@ -57,7 +57,7 @@ module _ {X T : Type 0} (listed : Part T → List (ℕ × X)) where
         nothing : (n : ℕ) → n ≡ 0 → flat_map listed (take n all) ≡ []
         nothing n none = ap (λ k. flat_map listed (take k all)) none
 
-        some : (all : List (Part T)) → n < length all → Part T
+        some : (all : List (Node T)) → n < length all → Node T
         some [] within = absurd (omega (arith, within))
         some (p ∷ parts) within = p
 
@@ -73,16 +73,16 @@ module _ {X T : Type 0} (listed : Part T → List (ℕ × X)) where
             sym (changes-right m (c ∷ cs) front others (below_nth all n d are rise past.0)
             (from_weaker m c.0 (c ∷ cs) (past.1 d) (from_first c cs rises)))
 
-    module _ (front others : List (Part T)) (front_is : front ≡ take n all) (others_is : others ≡ drop n all) where
+    module _ (front others : List (Node T)) (front_is : front ≡ take n all) (others_is : others ≡ drop n all) where
       -- changes of the others are changes of all
-      pub passed_over : (changes : List (ℕ × Option X)) → ChangesRise changes → ArePast n all changes → (new : List (Part T))
+      pub passed_over : (changes : List (ℕ × Option X)) → ChangesRise changes → ArePast n all changes → (new : List (Node T))
           → flat_map listed new ≡ with_changes changes (flat_map listed others) → flat_map listed (front ++ new) ≡ with_changes changes (flat_map listed all)
       passed_over changes changes_rise past new made =
           flat_map-append listed front new
           ∙ (ap₂ ◌++◌ (ap (flat_map listed) front_is) (made ∙ ap (λ l. with_changes changes (flat_map listed l)) others_is)
           ∙ passed_made changes changes_rise past)
 
-      pub passed_counted : (entries : ℕ) → entries ≡ sum_by (λ p. p.count) front → (new : List (Part T))
+      pub passed_counted : (entries : ℕ) → entries ≡ sum_by (λ p. p.count) front → (new : List (Node T))
           → length (flat_map listed (front ++ new)) ≡ entries + length (flat_map listed new)
       passed_counted entries is new =
           let are_front = subst (AreParts listed) (sym front_is) (all_front _ (take n all) (drop n all) (subst (AreParts listed) (sym (take-append-drop n all)) are)) in
@@ -101,7 +101,7 @@ module _ {X T : Type 0} (listed : Part T → List (ℕ × X)) where
       others_rise_on = subst (λ l. HasRisingIds (flat_map listed l)) (sym others_is) passed_rise
 
 -- groups behind those that are passed over
-pub passed_groups : {X : Type 0} (all others : List (Part (Part (ℕ × X)))) (n : ℕ) → others ≡ drop n all → AreGroups all → AreGroups others
+pub passed_groups : {X : Type 0} (all others : List (Node (Node (ℕ × X)))) (n : ℕ) → others ≡ drop n all → AreGroups all → AreGroups others
 passed_groups all others n is are = (
   subst (AreParts grouped) (sym is) (all_later _ (take n all) (drop n all) (subst (AreParts grouped) (sym (take-append-drop n all)) are.0)),
   subst (AllByRecursion (λ g. AreChunks (chunks_in g))) (sym is)

@@ -18,9 +18,11 @@ value_at id entries = lookup (is_at (nat_cmp id)) entries
 abbrev pub Spans : {V : Type 0} → ℕ → List (ℕ × V) → Type 0
 Spans id entries = (AllByRecursion (λ e. id < e.0) entries → ⊥) × (AllByRecursion (λ e. e.0 < id) entries → ⊥)
 
--- some of all entries, which rise by id, and none between them is left out: what lies between two of them lies between two of all
-abbrev pub IsStretch : {V : Type 0} → List (ℕ × V) → List (ℕ × V) → Type 0
-IsStretch entries all = HasRisingIds entries × ((id : ℕ) → Spans id entries → Spans id all × (value_at id all ≡ value_at id entries))
+-- some of all entries, which rise by id, and none between them is left out: what lies between two of them lies between
+-- two of all
+abbrev pub IsSlice : {V : Type 0} → List (ℕ × V) → List (ℕ × V) → Type 0
+IsSlice entries all = HasRisingIds entries
+    × ((id : ℕ) → Spans id entries → Spans id all × (value_at id all ≡ value_at id entries))
 
 -- the entries from an id on
 abbrev pub entries_from : {V : Type 0} → ℕ → List (ℕ × V) → List (ℕ × V)

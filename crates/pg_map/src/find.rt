@@ -4,10 +4,10 @@ ghost use Rattle.std.specs.Prelude.{length, slice_index_or, IfSome, IsTrue};
 ghost use Rattle.std.specs.List.Sorted.{IsNonDecreasingBy, IsPartitionPoint};
 ghost use Rattle.std.specs.Option.{option_copied};
 ghost use Rattle.pg_map.specs.Chunks.{AreChunks, AreGroups, all_of, entries_of};
-ghost use Rattle.pg_map.specs.Entries.{HasRisingIds, IsStretch, Spans, value_at};
+ghost use Rattle.pg_map.specs.Entries.{HasRisingIds, IsSlice, Spans, value_at};
 
 use crate::VertexId;
-use crate::part::{Chunk, Group, Part, is_at_most, is_below};
+use crate::part::{Chunk, Group, Node, is_at_most, is_below};
 use std::marker::Model;
 
 /// How many entries are passed one by one before a search among all of a chunk.
@@ -20,7 +20,7 @@ const STEPS: usize = 16;
 ///
 /// A contract sees the entries of the map.
 #[derive(Drop)]
-pub struct Finder<'a, V> {
+pub struct Cursor<'a, V> {
     groups: &'a [Group<V>],
     groups_begun: usize,
     chunks_begun: usize,
@@ -29,27 +29,28 @@ pub struct Finder<'a, V> {
     entries_below: usize,
 }
 
-impl<'a, V> Model for Finder<'a, V> {
+impl<'a, V> Model for Cursor<'a, V> {
     ghost use Rattle.std.specs.Prelude.{ℕ, List};
 
     ghost Value = { List (ℕ × V) };
 
     ghost use Rattle.pg_map.specs.Chunks.{AreGroups, all_of};
-    ghost use Rattle.pg_map.specs.Entries.{HasRisingIds, IsStretch};
+    ghost use Rattle.pg_map.specs.Entries.{HasRisingIds, IsSlice};
 
     ghost view = { λ f. all_of f.groups.now };
 
-    ghost invariant = { λ f. AreGroups f.groups.now × HasRisingIds (all_of f.groups.now) × IsStretch f.entries.now (all_of f.groups.now) };
+    ghost invariant = { λ f. AreGroups f.groups.now × HasRisingIds (all_of f.groups.now)
+        × IsSlice f.entries.now (all_of f.groups.now) };
 }
 
-impl<'a, V> Finder<'a, V> {
+impl<'a, V> Cursor<'a, V> {
     /// Look-ups among these groups.
-    pub(crate) fn of(groups: &'a [Group<V>]) -> Finder<'a, V>
+    pub(crate) fn of(groups: &'a [Group<V>]) -> Cursor<'a, V>
         requires groups { AreGroups groups.now }
         requires rise { HasRisingIds (all_of groups.now) }
         ensures { result ≡ all_of groups.now }
     {
-        Finder {
+        Cursor {
             groups,
             groups_begun: 0,
             chunks_begun: 0,
@@ -71,7 +72,7 @@ impl<'a, V> Finder<'a, V> {
     /// The entries of the one chunk that may hold an id, which may be those that were asked last.
     fn entries_by(&mut self, id: VertexId) -> &'a [(VertexId, V)]
         ensures value { value_at id result.now ≡ value_at id self.old }
-        ensures stretch { IsStretch result.now self.old }
+        ensures slice { IsSlice result.now self.old }
         ensures same { self.new ≡ self.old }
     {
         if spans(self.entries, id) {
@@ -83,7 +84,7 @@ impl<'a, V> Finder<'a, V> {
     /// The same, found among all chunks.
     fn entries_found(&mut self, id: VertexId) -> &'a [(VertexId, V)]
         ensures value { value_at id result.now ≡ value_at id self.old }
-        ensures stretch { IsStretch result.now self.old }
+        ensures slice { IsSlice result.now self.old }
         ensures same { self.new ≡ self.old }
     {
         let groups = self.groups;
@@ -98,7 +99,7 @@ impl<'a, V> Finder<'a, V> {
 }
 
 /// How many of these parts begin at an id or below it, which may be as many as before.
-pub(crate) fn begun<T>(parts: &[Part<T>], before: usize, id: VertexId) -> usize
+pub(crate) fn begun<T>(parts: &[Node<T>], before: usize, id: VertexId) -> usize
     requires { IsNonDecreasingBy (λ part. part.first) parts.now }
     ensures bound { result ≤ length parts.now }
     ensures parts { IsPartitionPoint (λ p. nat_le p.first id ≡ true) (λ p. nat_le p.first id ≡ false) parts.now result }
@@ -110,10 +111,11 @@ pub(crate) fn begun<T>(parts: &[Part<T>], before: usize, id: VertexId) -> usize
 }
 
 /// Whether just so many of these parts begin at an id or below it. It may say no where they do.
-fn have_begun<T>(parts: &[Part<T>], count: usize, id: VertexId) -> bool
+fn have_begun<T>(parts: &[Node<T>], count: usize, id: VertexId) -> bool
     requires { IsNonDecreasingBy (λ part. part.first) parts.now }
     ensures bound { IsTrue result → count ≤ length parts.now }
-    ensures parts { IsTrue result → IsPartitionPoint (λ p. nat_le p.first id ≡ true) (λ p. nat_le p.first id ≡ false) parts.now count }
+    ensures parts { IsTrue result → IsPartitionPoint (λ p. nat_le p.first id ≡ true) (λ p. nat_le p.first id ≡ false)
+        parts.now count }
 {
     if count == 0 || count > parts.len() || !is_at_most(parts[count - 1].first, id) {
         return false;
@@ -129,9 +131,10 @@ fn entries_of_last<V>(chunks: &[Chunk<V>], count: usize) -> &[(VertexId, V)]
     requires chunks { AreChunks chunks.now }
     requires rise { HasRisingIds (entries_of chunks.now) }
     requires bound { count ≤ length chunks.now }
-    ensures values { (id : ℕ) → IsPartitionPoint (λ c. nat_le c.first id ≡ true) (λ c. nat_le c.first id ≡ false) chunks.now count
+    ensures values { (id : ℕ) → IsPartitionPoint (λ c. nat_le c.first id ≡ true) (λ c. nat_le c.first id ≡ false)
+        chunks.now count
         → value_at id result.now ≡ value_at id (entries_of chunks.now) }
-    ensures stretch { IsStretch result.now (entries_of chunks.now) }
+    ensures slice { IsSlice result.now (entries_of chunks.now) }
 {
     if count == 0 {
         return &[];
@@ -210,7 +213,8 @@ fn place_without_gaps<V>(entries: &[(VertexId, V)], id: VertexId) -> Option<usiz
     requires { HasRisingIds entries.now }
     ensures inside { IfSome result (λ place. place < length entries.now) }
     ensures here { IfSome result (λ place. (e : ℕ × V) → e ≡ slice_index_or entries.now place e → e.0 ≡ id) }
-    ensures parts { IfSome result (IsPartitionPoint (λ e. nat_lt e.0 id ≡ true) (λ e. nat_lt e.0 id ≡ false) entries.now) }
+    ensures parts { IfSome result
+        (IsPartitionPoint (λ e. nat_lt e.0 id ≡ true) (λ e. nat_lt e.0 id ≡ false) entries.now) }
 {
     if entries.is_empty() {
         return None;
@@ -247,7 +251,8 @@ fn passed<V>(entries: &[(VertexId, V)], place: usize, id: VertexId) -> usize {
 /// Whether just so many of these entries are below an id. It may say no where they are.
 fn are_below<V>(entries: &[(VertexId, V)], count: usize, id: VertexId) -> bool
     requires { HasRisingIds entries.now }
-    ensures { IsTrue result → IsPartitionPoint (λ e. nat_lt e.0 id ≡ true) (λ e. nat_lt e.0 id ≡ false) entries.now count }
+    ensures { IsTrue result → IsPartitionPoint (λ e. nat_lt e.0 id ≡ true) (λ e. nat_lt e.0 id ≡ false) entries.now
+        count }
 {
     if count == 0 || count > entries.len() || !is_below(entries[count - 1].0, id) {
         return false;

@@ -5,15 +5,15 @@ ghost use Rattle.pg_map.specs.Chunks.{AreChunks, AreGroups, IsPart, all_of, chun
 use crate::group::{FEW, Grouping};
 use crate::list::parted;
 use crate::part::{Chunk, Group, chunk_of};
-use crate::{Memory, Share, VertexId};
+use crate::{CheapClone, Memory, VertexId};
 use std::alloc::Global;
 use std::marker::Model;
 use std::mem;
 
 /// Chunks in groups, and a piece that becomes the next chunk. A contract sees all entries so far.
 ///
-/// A piece with twice as many entries as `Share::CHUNK` has so many cut off; one with less than a quarter as many takes in
-/// the next chunk, so that removals leave no tiny ones behind.
+/// A piece with twice as many entries as `CheapClone::CHUNK` has so many cut off; one with less than a quarter as many
+/// takes in the next chunk, so that removals leave no tiny ones behind.
 #[derive(Drop)]
 pub(crate) struct Gathering<V> {
     made: Grouping<V>,
@@ -28,7 +28,7 @@ impl<V> Model for Gathering<V> {
     ghost view = { λ g. g.made ++ g.piece.items };
 }
 
-impl<V: Share> Gathering<V> {
+impl<V: CheapClone> Gathering<V> {
     /// No entries.
     pub(crate) fn new(alloc: Global) -> Gathering<V>
         ensures { result ≡ [] }
@@ -75,7 +75,7 @@ impl<V: Share> Gathering<V> {
         ensures { OnOk result (self.new ≡ self.old ++ entries.now) }
     {
         for (id, value) in entries {
-            self.push(alloc, *id, value.share(alloc)?)?;
+            self.push(alloc, *id, value.cheap_clone(alloc)?)?;
         }
         Ok(())
     }
@@ -90,7 +90,7 @@ impl<V: Share> Gathering<V> {
             return self.extend(alloc, chunk.items.as_slice());
         }
         cut_chunk(alloc, &mut self.made, &mut self.piece, entries)?;
-        self.made.push(alloc, chunk.share()?)
+        self.made.push(alloc, chunk.cheap_clone()?)
     }
 
     /// Adds chunks.
@@ -115,7 +115,7 @@ impl<V: Share> Gathering<V> {
         }
         let entries = self.piece.len();
         cut_chunk(alloc, &mut self.made, &mut self.piece, entries)?;
-        self.made.add(alloc, group.share()?)
+        self.made.add(alloc, group.cheap_clone()?)
     }
 
     /// Whether what stands in no group yet is too little for one.
@@ -160,7 +160,7 @@ impl<V: Share> Gathering<V> {
 }
 
 /// Makes a chunk of the first so many entries of a piece, if any.
-fn cut_chunk<V: Share>(
+fn cut_chunk<V: CheapClone>(
     alloc: Global,
     made: &mut Grouping<V>,
     piece: &mut Vec<(VertexId, V)>,

@@ -111,7 +111,8 @@ fn cut_group<V: Drop>(
     requires chunks { AreChunks chunks.old.items }
     ensures groups { AreGroups made.new.items }
     ensures chunks { AreChunks chunks.new.items }
-    ensures entries { OnOk result (all_of made.new.items ++ entries_of chunks.new.items ≡ all_of made.old.items ++ entries_of chunks.old.items) }
+    ensures entries { OnOk result
+        (all_of made.new.items ++ entries_of chunks.new.items ≡ all_of made.old.items ++ entries_of chunks.old.items) }
     ensures left { OnOk result (length chunks.new.items + count ≡ length chunks.old.items) }
 {
     if count == 0 {

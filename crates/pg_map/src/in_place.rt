@@ -3,15 +3,16 @@ ghost use Rattle.std.specs.List.Sorted.{IsNonDecreasingBy};
 ghost use Rattle.std.specs.Prelude.{◌≡◌, ◌+◌, ◌≤◌, length, true, is_some, IfSome, IfNone, IsTrue};
 ghost use Rattle.std.specs.BTreeMap.{insert_entry};
 ghost use Rattle.std.specs.Ordering.{nat_cmp};
-ghost use Rattle.pg_map.specs.Chunks.{AreChunks, AreGroups, ArePast, AreThere, IsPart, all_of, entries_of, groups_of, listed};
+ghost use Rattle.pg_map.specs.Chunks.{AreChunks, AreGroups, ArePast, AreThere, IsPart, all_of, entries_of, groups_of};
+ghost use Rattle.pg_map.specs.Chunks.{listed};
 ghost use Rattle.pg_map.specs.Entries.{ChangesRise, HasRisingIds, value_at, with_changes};
 
 use crate::find::{begun, count_below, value_near};
 use crate::gather::Gathering;
+use crate::group_list::GroupList;
 use crate::merge::cut_of;
-use crate::part::{Chunk, Group, Part, counted};
-use crate::spine::Spine;
-use crate::{Share, VertexId};
+use crate::part::{Chunk, Group, Node, counted};
+use crate::{CheapClone, VertexId};
 use std::alloc::Global;
 use std::sync::Arc;
 
@@ -29,23 +30,24 @@ struct Counts {
 /// shares what would change, a chunk would be cut or end up small, there are too many parts, or memory is refused.
 ///
 /// Each call holds one group or chunk and has what follows it changed first: so all that could be in the way has shown
-/// before the first change is made. Parts into which no change falls are passed over, so that the depth goes by the parts
-/// that change, however large the map is.
-pub(crate) fn change_in_place<V: Share>(
+/// before the first change is made. Parts into which no change falls are passed over, so that the depth goes by the
+/// parts that change, however large the map is.
+pub(crate) fn change_in_place<V: CheapClone>(
     alloc: Global,
-    spine: &mut Spine<V>,
+    group_list: &mut GroupList<V>,
     changes: &mut [(VertexId, Option<V>)],
 ) -> Option<usize>
-    requires groups { AreGroups (groups_of spine.old) }
-    requires rise { HasRisingIds (all_of (groups_of spine.old)) }
+    requires groups { AreGroups (groups_of group_list.old) }
+    requires rise { HasRisingIds (all_of (groups_of group_list.old)) }
     requires changes_rise { ChangesRise changes.old }
-    ensures groups { AreGroups (groups_of spine.new) }
-    ensures made { IfSome result (λ n. all_of (groups_of spine.new) ≡ with_changes changes.old (all_of (groups_of spine.old))) }
-    ensures counted { IfSome result (λ n. n ≡ length (all_of (groups_of spine.new))) }
-    ensures none { IfNone result (all_of (groups_of spine.new) ≡ all_of (groups_of spine.old)) }
+    ensures groups { AreGroups (groups_of group_list.new) }
+    ensures made { IfSome result
+        (λ n. all_of (groups_of group_list.new) ≡ with_changes changes.old (all_of (groups_of group_list.old))) }
+    ensures counted { IfSome result (λ n. n ≡ length (all_of (groups_of group_list.new))) }
+    ensures none { IfNone result (all_of (groups_of group_list.new) ≡ all_of (groups_of group_list.old)) }
     ensures left { IfNone result (changes.new ≡ changes.old) }
 {
-    let Some(shared) = &mut spine.shared else {
+    let Some(shared) = &mut group_list.shared else {
         return None;
     };
     let groups = Arc::get_mut(shared)?;
@@ -55,8 +57,8 @@ pub(crate) fn change_in_place<V: Share>(
     change_groups(alloc, groups, changes, 0, DEPTH)
 }
 
-/// How many calls may wait for each other while so many changes are made: for each chunk into which one falls, and two for
-/// each group. A hint, so no contract tells it.
+/// How many calls may wait for each other while so many changes are made: for each chunk into which one falls, and two
+/// for each group. A hint, so no contract tells it.
 fn most_calls<V>(groups: &[Group<V>], changes: usize) -> usize {
     let mut chunks = 0usize;
     for group in groups {
@@ -66,10 +68,10 @@ fn most_calls<V>(groups: &[Group<V>], changes: usize) -> usize {
     calls.saturating_add(chunks.min(changes)).saturating_add(1)
 }
 
-/// Makes all changes of these groups or none, and says how many entries there are then up to the end of the last, where so
-/// many stand before the first. The groups into which no change falls are passed over.
+/// Makes all changes of these groups or none, and says how many entries there are then up to the end of the last, where
+/// so many stand before the first. The groups into which no change falls are passed over.
 #[cycle(in_place)]
-fn change_groups<V: Share>(
+fn change_groups<V: CheapClone>(
     alloc: Global,
     groups: &mut [Group<V>],
     changes: &mut [(VertexId, Option<V>)],
@@ -98,7 +100,7 @@ fn change_groups<V: Share>(
 
 /// The same, of the first group and then of those behind it.
 #[cycle(in_place)]
-fn change_first_group<V: Share>(
+fn change_first_group<V: CheapClone>(
     alloc: Global,
     groups: &mut [Group<V>],
     changes: &mut [(VertexId, Option<V>)],
@@ -137,7 +139,7 @@ fn change_first_group<V: Share>(
 /// Makes all changes of these chunks, which end a group, and of the groups behind it, or none. The chunks into which no
 /// change falls are passed over.
 #[cycle(in_place)]
-fn change_chunks<V: Share>(
+fn change_chunks<V: CheapClone>(
     alloc: Global,
     chunks: &mut [Chunk<V>],
     here: &mut [(VertexId, Option<V>)],
@@ -157,7 +159,8 @@ fn change_chunks<V: Share>(
     ensures here { IfSome result (λ counts. entries_of chunks.new ≡ with_changes here.old (entries_of chunks.old)) }
     ensures later { IfSome result (λ counts. all_of groups.new ≡ with_changes later.old (all_of groups.old)) }
     ensures group { IfSome result (λ counts. counts.group ≡ before + length (entries_of chunks.new)) }
-    ensures all { IfSome result (λ counts. counts.all ≡ before + length (entries_of chunks.new) + length (all_of groups.new)) }
+    ensures all { IfSome result
+        (λ counts. counts.all ≡ before + length (entries_of chunks.new) + length (all_of groups.new)) }
     ensures no_chunks { IfNone result (entries_of chunks.new ≡ entries_of chunks.old) }
     ensures no_groups { IfNone result (all_of groups.new ≡ all_of groups.old) }
     ensures here_left { IfNone result (here.new ≡ here.old) }
@@ -176,7 +179,7 @@ fn change_chunks<V: Share>(
 
 /// The same, of the first chunk and then of those behind it.
 #[cycle(in_place)]
-fn change_first_chunk<V: Share>(
+fn change_first_chunk<V: CheapClone>(
     alloc: Global,
     chunks: &mut [Chunk<V>],
     here: &mut [(VertexId, Option<V>)],
@@ -196,7 +199,8 @@ fn change_first_chunk<V: Share>(
     ensures here { IfSome result (λ counts. entries_of chunks.new ≡ with_changes here.old (entries_of chunks.old)) }
     ensures later { IfSome result (λ counts. all_of groups.new ≡ with_changes later.old (all_of groups.old)) }
     ensures group { IfSome result (λ counts. counts.group ≡ before + length (entries_of chunks.new)) }
-    ensures all { IfSome result (λ counts. counts.all ≡ before + length (entries_of chunks.new) + length (all_of groups.new)) }
+    ensures all { IfSome result
+        (λ counts. counts.all ≡ before + length (entries_of chunks.new) + length (all_of groups.new)) }
     ensures no_chunks { IfNone result (entries_of chunks.new ≡ entries_of chunks.old) }
     ensures no_groups { IfNone result (all_of groups.new ≡ all_of groups.old) }
     ensures here_left { IfNone result (here.new ≡ here.old) }
@@ -231,7 +235,7 @@ fn change_first_chunk<V: Share>(
 }
 
 /// How many of these parts stand before the first into which a change falls: all, if there is no change.
-fn untouched<T, V>(parts: &[Part<T>], changes: &[(VertexId, Option<V>)]) -> usize
+fn untouched<T, V>(parts: &[Node<T>], changes: &[(VertexId, Option<V>)]) -> usize
     requires { IsNonDecreasingBy (λ part. part.first) parts.now }
     ensures bound { result ≤ length parts.now }
     ensures past { ArePast result parts.now changes.now }
@@ -284,7 +288,7 @@ fn put_value<V: Drop>(entries: &mut [(VertexId, V)], below: &mut usize, id: Vert
 }
 
 /// A chunk with its changes beside it, if that is neither cut nor small.
-fn merged<V: Share>(
+fn merged<V: CheapClone>(
     alloc: Global,
     changes: &[(VertexId, Option<V>)],
     chunk: &Chunk<V>,

@@ -4,6 +4,7 @@
 mod find;
 mod gather;
 mod group;
+mod group_list;
 mod in_place;
 mod list;
 mod merge;
@@ -11,12 +12,11 @@ mod number;
 mod pack;
 mod part;
 mod shared;
-mod spine;
 mod walk;
 
-pub use find::Finder;
+pub use find::Cursor;
 pub use number::{Edition, PartitionId, Superstep, VertexId, WorkerId};
 pub use pack::Pack;
-pub use shared::{Map, Share};
+pub use shared::{CheapClone, Map};
 pub use std::alloc::AllocError as Memory;
 pub use walk::{Ids, Iter};

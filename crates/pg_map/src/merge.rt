@@ -1,14 +1,15 @@
 //! Changes made of groups, beside them.
 ghost use Rattle.std.specs.Prelude.{◌≡◌, ◌++◌, ◌≤◌, length, take, drop, IfOk, OnOk};
-ghost use Rattle.pg_map.specs.Chunks.{AreChunks, AreCut, AreGroups, IsPart, all_of, chunks_in, entries_of, grouped, listed};
+ghost use Rattle.pg_map.specs.Chunks.{AreChunks, AreCut, AreGroups, IsPart, all_of, chunks_in, entries_of, grouped};
+ghost use Rattle.pg_map.specs.Chunks.{listed};
 ghost use Rattle.pg_map.specs.Entries.{ChangesRise, HasRisingIds, with_changes};
 
 use crate::gather::Gathering;
-use crate::part::{Chunk, Group, Part, is_below};
-use crate::{Memory, Share, VertexId};
+use crate::part::{Chunk, Group, Node, is_below};
+use crate::{CheapClone, Memory, VertexId};
 use std::alloc::Global;
 
-impl<V: Share> Gathering<V> {
+impl<V: CheapClone> Gathering<V> {
     /// Adds entries with changes of them.
     pub(crate) fn merge(
         &mut self,
@@ -24,13 +25,13 @@ impl<V: Share> Gathering<V> {
         while let Some((change, later)) = todo.split_first() {
             match left.split_first() {
                 Some((entry, others)) if entry.0 < change.0 => {
-                    self.push(alloc, entry.0, entry.1.share(alloc)?)?;
+                    self.push(alloc, entry.0, entry.1.cheap_clone(alloc)?)?;
                     left = others;
                 }
                 Some((entry, others)) if entry.0 == change.0 => left = others,
                 _ => {
                     if let Some(value) = &change.1 {
-                        self.push(alloc, change.0, value.share(alloc)?)?;
+                        self.push(alloc, change.0, value.cheap_clone(alloc)?)?;
                     }
                     todo = later;
                 }
@@ -105,7 +106,7 @@ impl<V: Share> Gathering<V> {
 }
 
 /// The groups with all changes.
-pub(crate) fn changed<V: Share>(
+pub(crate) fn changed<V: CheapClone>(
     alloc: Global,
     groups: &[Group<V>],
     changes: &[(VertexId, Option<V>)],
@@ -130,7 +131,7 @@ pub(crate) fn changed<V: Share>(
 }
 
 /// How many of the changes fall before these parts.
-pub(crate) fn cut_of<T, V>(changes: &[(VertexId, Option<V>)], parts: &[Part<T>]) -> usize
+pub(crate) fn cut_of<T, V>(changes: &[(VertexId, Option<V>)], parts: &[Node<T>]) -> usize
     requires { ChangesRise changes.now }
     ensures bound { result ≤ length changes.now }
     ensures cut { AreCut parts.now (take result changes.now) (drop result changes.now) }

@@ -2,14 +2,14 @@
 ghost use Rattle.std.specs.Prelude.{◌≡◌, IfOk, IfSome};
 ghost use Rattle.pg_map.specs.Chunks.{AreChunks, AreGroups, all_of, chunks_in, entries_of, grouped, groups_of, listed};
 
-use crate::part::{Chunk, Group, Part};
-use crate::spine::Spine;
-use crate::{Memory, Share, VertexId};
+use crate::group_list::GroupList;
+use crate::part::{Chunk, Group, Node};
+use crate::{CheapClone, Memory, VertexId};
 use std::alloc::Global;
 use std::sync::Arc;
 
 /// Values that may lie side by side in memory, where their entries stand side by side.
-pub trait Pack: Share {
+pub trait Pack: CheapClone {
     /// The same entries with their values laid anew, or none where these lie well.
     fn packed(
         alloc: Global,
@@ -19,12 +19,12 @@ pub trait Pack: Share {
 }
 
 /// Lays the entries of each chunk anew. Groups that a copy shares stay as they are.
-pub(crate) fn pack_spine<V: Pack>(alloc: Global, spine: &mut Spine<V>)
-    requires { AreGroups (groups_of spine.old) }
-    ensures groups { AreGroups (groups_of spine.new) }
-    ensures entries { all_of (groups_of spine.new) ≡ all_of (groups_of spine.old) }
+pub(crate) fn pack_group_list<V: Pack>(alloc: Global, group_list: &mut GroupList<V>)
+    requires { AreGroups (groups_of group_list.old) }
+    ensures groups { AreGroups (groups_of group_list.new) }
+    ensures entries { all_of (groups_of group_list.new) ≡ all_of (groups_of group_list.old) }
 {
-    if let Some(shared) = &mut spine.shared {
+    if let Some(shared) = &mut group_list.shared {
         if let Some(groups) = Arc::get_mut(shared) {
             pack_groups(alloc, groups);
         }
@@ -77,7 +77,7 @@ fn packed_chunk<V: Pack>(alloc: Global, chunk: &Chunk<V>) -> Option<Chunk<V>>
     let Ok(items) = Arc::new(alloc, entries) else {
         return None;
     };
-    Some(Part {
+    Some(Node {
         first: chunk.first,
         count: chunk.count,
         items,

@@ -10,27 +10,27 @@ use std::sync::Arc;
 /// Some entries of a map, at least one, in what copies share. A part knows its first id and how many
 /// entries it has, so a search or a count among parts reads one vector alone.
 #[derive(Drop)]
-pub(crate) struct Part<T> {
+pub(crate) struct Node<T> {
     pub(crate) first: VertexId,
     pub(crate) count: usize,
     pub(crate) items: Arc<Vec<T>>,
 }
 
 /// Entries that lie side by side.
-pub(crate) type Chunk<V> = Part<(VertexId, V)>;
+pub(crate) type Chunk<V> = Node<(VertexId, V)>;
 
 /// Chunks one after another.
-pub(crate) type Group<V> = Part<Chunk<V>>;
+pub(crate) type Group<V> = Node<Chunk<V>>;
 
-impl<T> Part<T> {
+impl<T> Node<T> {
     /// The same part, in the same memory.
-    pub(crate) fn share(&self) -> Result<Part<T>, Memory>
+    pub(crate) fn cheap_clone(&self) -> Result<Node<T>, Memory>
         ensures first { IfOk result (λ part. part.first ≡ self.now.first) }
         ensures count { IfOk result (λ part. part.count ≡ self.now.count) }
         ensures items { IfOk result (λ part. arc_value part.items ≡ arc_value self.now.items) }
     {
         let items = Arc::try_clone(&self.items)?;
-        Ok(Part {
+        Ok(Node {
             first: self.first,
             count: self.count,
             items,
@@ -50,7 +50,7 @@ pub(crate) fn chunk_of<V: Drop>(
     let first = entries[0].0;
     let count = entries.len();
     let items = Arc::new(alloc, entries)?;
-    Ok(Part {
+    Ok(Node {
         first,
         count,
         items,
@@ -68,7 +68,7 @@ pub(crate) fn group_of<V: Drop>(alloc: Global, chunks: Vec<Chunk<V>>) -> Result<
     let first = chunks[0].first;
     let count = counted(chunks.as_slice())?;
     let items = Arc::new(alloc, chunks)?;
-    Ok(Part {
+    Ok(Node {
         first,
         count,
         items,
@@ -90,7 +90,7 @@ pub(crate) fn is_at_most(id: VertexId, other: VertexId) -> bool
 }
 
 /// How many entries these parts have.
-pub(crate) fn counted<T>(parts: &[Part<T>]) -> Result<usize, Memory>
+pub(crate) fn counted<T>(parts: &[Node<T>]) -> Result<usize, Memory>
     ensures { IfOk result (λ n. n ≡ sum_by (λ part. part.count) parts.now) }
 {
     let mut total: usize = 0;

@@ -6,29 +6,29 @@ ghost use Rattle.std.specs.Map.Iter.{ShowsInOrder, deref, deref_pair};
 
 use crate::find::begun;
 use crate::gather::Gathering;
+use crate::group_list::GroupList;
 use crate::in_place::change_in_place;
 use crate::merge::changed;
-use crate::pack::pack_spine;
+use crate::pack::pack_group_list;
 use crate::part::counted;
-use crate::spine::Spine;
 use crate::walk::chunks_from;
-use crate::{Finder, Ids, Iter, Memory, Pack, VertexId};
+use crate::{Cursor, Ids, Iter, Memory, Pack, VertexId};
 use std::alloc::Global;
 use std::marker::Model;
 
 /// Values that are copied by sharing: a copy is equal to its source.
-pub trait Share: Drop {
-    /// How many entries a chunk of a map has when it is cut off; it never has more than twice as many. A change copies the
-    /// chunks that it falls into, and a walk reads all of them.
+pub trait CheapClone: Drop {
+    /// How many entries a chunk of a map has when it is cut off; it never has more than twice as many. A change copies
+    /// the chunks that it falls into, and a walk reads all of them.
     const CHUNK: usize = 128;
 
     /// The same value. What is large in it is shared; what is copied costs no more than one small value.
-    fn share(&self, alloc: Global) -> Result<Self, Memory>
+    fn cheap_clone(&self, alloc: Global) -> Result<Self, Memory>
         ensures { IfOk result (λ copy. copy ≡ self.now) };
 }
 
-impl Share for i64 {
-    fn share(&self, _alloc: Global) -> Result<i64, Memory> {
+impl CheapClone for i64 {
+    fn cheap_clone(&self, _alloc: Global) -> Result<i64, Memory> {
         Ok(*self)
     }
 }
@@ -39,7 +39,7 @@ impl Share for i64 {
 /// change makes anew the chunks and the groups that it falls into, beside the others, or is made in them where no copy
 /// shares them (`change_own`).
 pub struct Map<V> {
-    groups: Spine<V>,
+    groups: GroupList<V>,
     count: usize,
 }
 
@@ -73,7 +73,7 @@ impl<V> Map<V> {
         ensures { result ≡ [] }
     {
         Map {
-            groups: Spine::new(),
+            groups: GroupList::new(),
             count: 0,
         }
     }
@@ -91,15 +91,15 @@ impl<V> Map<V> {
     pub fn get(&self, id: VertexId) -> Option<&V>
         ensures { option_copied result ≡ value_at id self.now }
     {
-        let mut finder = self.finder();
-        finder.get(id)
+        let mut cursor = self.cursor();
+        cursor.get(id)
     }
 
     /// Look-ups that come near one another.
-    pub fn finder(&self) -> Finder<'_, V>
+    pub fn cursor(&self) -> Cursor<'_, V>
         ensures { result ≡ self.now }
     {
-        Finder::of(self.groups.as_slice())
+        Cursor::of(self.groups.as_slice())
     }
 
     /// The entries, by rising id.
@@ -146,10 +146,10 @@ impl<V> Map<V> {
     }
 
     /// The same map, in the same memory. Costs O(1).
-    pub fn share(&self) -> Result<Map<V>, Memory>
+    pub fn cheap_clone(&self) -> Result<Map<V>, Memory>
         ensures { IfOk result (λ map. map ≡ self.now) }
     {
-        let groups = self.groups.share()?;
+        let groups = self.groups.cheap_clone()?;
         Ok(Map {
             groups,
             count: self.count,
@@ -157,7 +157,7 @@ impl<V> Map<V> {
     }
 }
 
-impl<V: Share> Map<V> {
+impl<V: CheapClone> Map<V> {
     ghost use Rattle.pg_map.specs.Entries.{HasRisingIds, ChangesRise, with_changes};
 
     /// The map of these entries, which stand by rising id.
@@ -171,15 +171,15 @@ impl<V: Share> Map<V> {
         }
         let made = gathering.finish(alloc)?;
         let count = counted(made.as_slice())?;
-        let groups = Spine::of(alloc, made)?;
+        let groups = GroupList::of(alloc, made)?;
         Ok(Map { groups, count })
     }
 
     /// Makes all changes, by rising id, or none where memory is refused: each id gets its value, or
     /// loses the one that it has.
     ///
-    /// With n entries and chunks of c it costs O(n / (32 c)), a copy of the list of each group that a change falls into, of at
-    /// most 64 chunks, and a copy of each chunk that one falls into.
+    /// With n entries and chunks of c it costs O(n / (32 c)), a copy of the list of each group that a change falls
+    /// into, of at most 64 chunks, and a copy of each chunk that one falls into.
     pub fn change(&mut self, alloc: Global, changes: &[(VertexId, Option<V>)]) -> Result<(), Memory>
         requires { ChangesRise changes.now }
         ensures ok { OnOk result (self.new ≡ with_changes changes.now self.old) }
@@ -187,19 +187,19 @@ impl<V: Share> Map<V> {
     {
         let made = changed(alloc, self.groups.as_slice(), changes)?;
         let count = counted(made.as_slice())?;
-        self.groups = Spine::of(alloc, made)?;
+        self.groups = GroupList::of(alloc, made)?;
         self.count = count;
         Ok(())
     }
 
-    /// Makes all changes as `change` does, in the memory that the map has where that can be: where no copy shares what would
-    /// change, no chunk would be cut or end up small, and the changes don't fall into very many chunks. Where all changes
-    /// of a chunk give values to ids that it has, the values are moved there and the other entries aren't touched; another
-    /// chunk is made anew.
+    /// Makes all changes as `change` does, in the memory that the map has where that can be: where no copy shares what
+    /// would change, no chunk would be cut or end up small, and the changes don't fall into very many chunks. Where all
+    /// changes of a chunk give values to ids that it has, the values are moved there and the other entries aren't
+    /// touched; another chunk is made anew.
     ///
-    /// It costs a step for each group, and for each chunk of a group that a change falls into; a call for each of these into
-    /// which one does; for each change a search or two in its chunk; and a copy of each chunk that gets or loses an id.
-    /// Where something is in the way it costs up to as much in vain, and then what `change` costs.
+    /// It costs a step for each group, and for each chunk of a group that a change falls into; a call for each of these
+    /// into which one does; for each change a search or two in its chunk; and a copy of each chunk that gets or loses
+    /// an id. Where something is in the way it costs up to as much in vain, and then what `change` costs.
     pub fn change_own(
         &mut self,
         alloc: Global,
@@ -224,6 +224,6 @@ impl<V: Pack> Map<V> {
     pub fn pack(&mut self, alloc: Global)
         ensures { self.new ≡ self.old }
     {
-        pack_spine(alloc, &mut self.groups);
+        pack_group_list(alloc, &mut self.groups);
     }
 }

@@ -10,10 +10,10 @@ use Rattle.pg_graph.specs.declared.missing.Missing.{Missing}
 use Rattle.pg_graph.specs.declared.missing.Missing.TheVariants.{Drop, Create}
 use Rattle.pg_model.specs.Affected.{HaveActive, StandsAlike, IsSeenAgain, IsUnaffected, AreCandidates, IsTakenOver, SendsAlike, ContributesAlike}
 use Rattle.pg_model.specs.Affected.{AllSendAlike, AllContributeAlike}
-use Rattle.pg_model.specs.ByIds.{state_first, outcome_in, made_of, read_off, standing_with, arriving, state_at, inbox_at, outcome_at, delivered_at}
+use Rattle.pg_model.specs.ByIds.{state_first, outcome_in, made_of, read_off, with_inbox_with, arriving, state_at, inbox_at, outcome_at, delivered_at}
 use Rattle.pg_model.specs.ByIds.{contributions_at, picked_at, messages_of, contributions_of, IsIdleAt}
 use Rattle.pg_model.specs.Job.{Job, Inputs, Aggregating}
-use Rattle.pg_model.specs.Needed.{standing_at, inputs_if_active, inputs_at, is_changed, IsNeeded, is_needed, needed_in}
+use Rattle.pg_model.specs.Needed.{with_inbox_at, inputs_if_active, inputs_at, is_changed, IsNeeded, is_needed, needed_in}
 use Rattle.pg_model.specs.Run.{configuration, present_at, visible_at, view_at, run_length}
 use Rattle.pg_model.specs.Superstep.{ids, is_active, has_id, inputs_of, messages_to, combined, at_place, gathered_at, gathered_from, outcome}
 use Rattle.pg_model.specs.Superstep.{state_after, sends, contributions, next}
@@ -23,11 +23,11 @@ use Rattle.pg_model.proofs.LawsIds.{ids_rise}
 use Rattle.pg_model.proofs.LawsInputs.{no_inputs_past, no_inputs_missing, no_inputs_idle}
 use Rattle.pg_model.proofs.LawsLists.{all_pass}
 use Rattle.pg_model.proofs.LawsNeeded.{unchanged}
-use Rattle.pg_model.proofs.LawsPresent.{standing_at-none, standing_at-state, state_at-first, inbox_at-first, IsIdleAt-from_inputs, state_at-next}
+use Rattle.pg_model.proofs.LawsPresent.{with_inbox_at-none, with_inbox_at-state, state_at-first, inbox_at-first, IsIdleAt-from_inputs, state_at-next}
 use Rattle.pg_model.proofs.LawsPresent.{inbox_at-next, inputs_within, missing_or_idle, flat_map-present}
 use Rattle.pg_model.proofs.LawsRising.{flat_map-rising, count-rising}
 use Rattle.pg_model.proofs.LawsShares.{at_place-contributions}
-use Rattle.pg_model.specs.declared.configuration.Standing.{Standing}
+use Rattle.pg_model.specs.declared.configuration.VertexWithInbox.{VertexWithInbox}
 use Rattle.pg_model.specs.declared.configuration.VertexState.{VertexState}
 use Rattle.pg_model.specs.declared.record.Record.{Record}
 use Rattle.pg_model.specs.declared.view.View.{View}
@@ -48,7 +48,7 @@ module _ {V M : Type 0} where
   read_at place (Some r) = refl
 
   -- a vertex that isn't active reads nothing
-  no_inputs_if_idle : (view : View) (x : Standing V M) → is_active x ≡ false → inputs_if_active view x ≡ None
+  no_inputs_if_idle : (view : View) (x : VertexWithInbox V M) → is_active x ≡ false → inputs_if_active view x ≡ None
   no_inputs_if_idle view x e = ap (λ (b : Bool). cond b (Some (inputs_of view x)) None) e
 
   -- what arrives depends on whether there's a state, and under `Create` not even on that
@@ -79,11 +79,11 @@ module _ {V M : Type 0} (job : Job V M) (old new : Rows) where
   -- ---- one vertex
 
   -- where an id stands alike in both runs, so does its vertex among those of the superstep
-  pub same_standing : (s id : ℕ) → StandsAlike job old new s id
-      → standing_at id (present_at job old s) ≡ standing_at id (present_at job new s)
-  same_standing s id h =
-      standing_at-state job old s id
-      ∙ ((λ i. standing_with job.program id (h.state i) (h.inbox i)) ∙ sym (standing_at-state job new s id))
+  pub same_with_inbox : (s id : ℕ) → StandsAlike job old new s id
+      → with_inbox_at id (present_at job old s) ≡ with_inbox_at id (present_at job new s)
+  same_with_inbox s id h =
+      with_inbox_at-state job old s id
+      ∙ ((λ i. with_inbox_with job.program id (h.state i) (h.inbox i)) ∙ sym (with_inbox_at-state job new s id))
 
   -- as the runs begin, an id stands alike where its row is the same, or there's none in both graphs
   pub StandsAlike-first : (id : ℕ) → row_at id old ≡ row_at id new → StandsAlike job old new 0 id
@@ -94,13 +94,13 @@ module _ {V M : Type 0} (job : Job V M) (old new : Rows) where
 
   module _ (s id : ℕ) (here : s < run_length job new) (h : IsUnaffected job old new s id) where
     -- what is read off view and vertex is the same in both runs, where an idle vertex doesn't read its view
-    read_alike : {Y : Type 0} (read : View → Option (Standing V M) → Y) → ((v w : View) → read v None ≡ read w None)
-        → ((v w : View) (x : Standing V M) → is_active x ≡ false → read v (Some x) ≡ read w (Some x))
+    read_alike : {Y : Type 0} (read : View → Option (VertexWithInbox V M) → Y) → ((v w : View) → read v None ≡ read w None)
+        → ((v w : View) (x : VertexWithInbox V M) → is_active x ≡ false → read v (Some x) ≡ read w (Some x))
         → s < run_length job old
-        → read (view_at job old s) (standing_at id (present_at job old s))
-        ≡ read (view_at job new s) (standing_at id (present_at job new s))
+        → read (view_at job old s) (with_inbox_at id (present_at job old s))
+        ≡ read (view_at job new s) (with_inbox_at id (present_at job new s))
     read_alike read missing idles there =
-        let same = same_standing s id (h.alike there) in
+        let same = same_with_inbox s id (h.alike there) in
         let v : View = view_at job old s in
         let w : View = view_at job new s in
         elim h.sees [
@@ -168,13 +168,13 @@ module _ {V M : Type 0} (job : Job V M) (old new : Rows) where
       alike = alike id picked other;
       sees = elim sees [
         | inl seen ↦ inl seen
-        | inr active ↦ inr (idles id picked other active (standing_at id (present_at job new s)) refl)
+        | inr active ↦ inr (idles id picked other active (with_inbox_at id (present_at job new s)) refl)
       ];
     };
   }
     where
       idles : (id : ℕ) → picks id ≡ true → has_id candidates id ≡ false → HaveActive job old new picks s candidates
-          → (o : Option (Standing V M)) → standing_at id (present_at job new s) ≡ o → inputs_at job new s id ≡ None
+          → (o : Option (VertexWithInbox V M)) → with_inbox_at id (present_at job new s) ≡ o → inputs_at job new s id ≡ None
       idles id picked other active None at = no_inputs_missing job new s id at
       idles id picked other active (Some x) at =
           no_inputs_idle job new s id x at (false_from_ne_true (is_active x) (λ e. true≢false (sym (active id x picked at e) ∙ other)))
@@ -218,9 +218,9 @@ module _ {V M : Type 0} (job : Job V M) (old new : Rows) where
           → needed_in value_eq message_eq job (Some old) new picks s
           ≡ count_by (is_needed value_eq message_eq job (Some old) new s) (filter picks candidates)
       needed_in-AreCandidates rising picks s candidates h =
-          let xs : List (Standing V M) = present_at job new s in
+          let xs : List (VertexWithInbox V M) = present_at job new s in
           count-rising (ids xs) candidates (ids_rise job new rising s) h.rise picks (is_needed value_eq message_eq job (Some old) new s)
-          (λ id picked gone. is_needed-no_inputs s id (no_inputs_missing job new s id (standing_at-none id xs gone)))
+          (λ id picked gone. is_needed-no_inputs s id (no_inputs_missing job new s id (with_inbox_at-none id xs gone)))
           (λ id picked other. is_needed-IsUnaffected s id (h.others id picked other))
 
   -- ---- what the vertices of a superstep give together
@@ -251,8 +251,8 @@ module _ {V M : Type 0} (job : Job V M) (old new : Rows) where
 
         nothing : (rows : Rows) (id : ℕ) → has_id (ids (present_at job rows s)) id ≡ false → has rows id ≡ []
         nothing rows id gone =
-            ap (λ (o : Option (Standing V M)). cond (picks id) (read_off (part id) (option_map (outcome_in job rows s) o)) [])
-            (standing_at-none id (present_at job rows s) gone)
+            ap (λ (o : Option (VertexWithInbox V M)). cond (picks id) (read_off (part id) (option_map (outcome_in job rows s) o)) [])
+            (with_inbox_at-none id (present_at job rows s) gone)
             ∙ cond_both (picks id) [] [] (λ (l : List X). l ≡ []) (λ _. refl) (λ _. refl)
 
     -- where each of them sends the same messages to an id, all of them do
@@ -275,7 +275,7 @@ module _ {V M : Type 0} (job : Job V M) (old new : Rows) where
 
   module _ (rising : HasRisingIds old) (rising' : HasRisingIds new) (s : ℕ) where
     -- all vertices are those that a test picks which all pass
-    of_all : {Y : Type 0} (f : Rows → List (Standing V M) → Y)
+    of_all : {Y : Type 0} (f : Rows → List (VertexWithInbox V M) → Y)
         → f old (picked_at job old (λ id. true) s) ≡ f new (picked_at job new (λ id. true) s)
         → f old (present_at job old s) ≡ f new (present_at job new s)
     of_all f same =
@@ -286,14 +286,14 @@ module _ {V M : Type 0} (job : Job V M) (old new : Rows) where
     pub same_delivered : (target : ℕ) → AllSendAlike job old new (λ id. true) s target
         → delivered_at job old s target ≡ delivered_at job new s target
     same_delivered target h =
-        let sent : Rows → List (Standing V M) → List M = λ rows xs. messages_to target (sends job.program (view_at job rows s) xs) in
+        let sent : Rows → List (VertexWithInbox V M) → List M = λ rows xs. messages_to target (sends job.program (view_at job rows s) xs) in
         ap (combined job.combining) (of_all sent (same_messages rising rising' (λ id. true) s target h))
 
     -- where each contributes the same at a place, so do all
     at_whole : (place : ℕ) → AllContributeAlike job old new (λ id. true) s place
         → contributions_at job old s place ≡ contributions_at job new s place
     at_whole place h =
-        let given : Rows → List (Standing V M) → List ℤ = λ rows xs. at_place place (contributions job.program (view_at job rows s) xs) in
+        let given : Rows → List (VertexWithInbox V M) → List ℤ = λ rows xs. at_place place (contributions job.program (view_at job rows s) xs) in
         of_all given (same_contributions rising rising' (λ id. true) s place h)
 
     -- and the same is gathered there; a persistent aggregator also has to begin alike
@@ -365,14 +365,14 @@ module _ {V M : Type 0} (job : Job V M) (old new : Rows) where
       → (has_id candidates id ≡ true → state_at job old (suc s) id ≡ state_at job new (suc s) id)
       → ((sender : ℕ) → has_id candidates sender ≡ true → SendsAlike job old new s id sender)
       → StandsAlike job old new (suc s) id
-  StandsAlike-AreCandidates rising rising' s there here candidates h id states letters =
+  StandsAlike-AreCandidates rising rising' s there here candidates h id states envelopes =
       StandsAlike-next s id state (same_delivered rising rising' s id all)
     where
       everyone : ℕ → Bool
       everyone id = true
 
       all : AllSendAlike job old new everyone s id
-      all = AllSendAlike-AreCandidates s there here everyone candidates h id (λ sender picked one. letters sender one)
+      all = AllSendAlike-AreCandidates s there here everyone candidates h id (λ sender picked one. envelopes sender one)
 
       state : state_at job old (suc s) id ≡ state_at job new (suc s) id
       state =

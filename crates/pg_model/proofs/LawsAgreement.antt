@@ -8,9 +8,9 @@ use Rattle.pg_model.specs.Agreement.{IsSeenAlike}
 use Rattle.pg_model.specs.Job.{Job, Program, Inputs, has_place}
 use Rattle.pg_model.specs.Superstep.{is_active, idle, inputs_of, outcome, state_after, shown, view_of}
 use Rattle.pg_model.specs.Run.{present_at, view_at, run_length}
-use Rattle.pg_model.specs.Needed.{standing_at, inputs_if_active, inputs_at}
+use Rattle.pg_model.specs.Needed.{with_inbox_at, inputs_if_active, inputs_at}
 use Rattle.pg_model.proofs.LawsInputs.{executed_from_inputs}
-use Rattle.pg_model.specs.declared.configuration.Standing.{Standing}
+use Rattle.pg_model.specs.declared.configuration.VertexWithInbox.{VertexWithInbox}
 use Rattle.pg_model.specs.declared.view.Declared.{Declared}
 use Rattle.pg_model.specs.declared.view.View.{View}
 use Rattle.pg_model.specs.declared.view.Visible.{Visible}
@@ -95,41 +95,41 @@ seen_alike_from_view declared s a b e =
 
 module _ {V M : Type 0} where
   -- a vertex reads the same where its state, its inbox and what it sees are the same
-  pub same_inputs : (v w : View) (x y : Standing V M) → v ≡ w → x.state ≡ y.state → x.inbox ≡ y.inbox → inputs_of v x ≡ inputs_of w y
+  pub same_inputs : (v w : View) (x y : VertexWithInbox V M) → v ≡ w → x.state ≡ y.state → x.inbox ≡ y.inbox → inputs_of v x ≡ inputs_of w y
   same_inputs v w x y e state inbox = λ i. inputs_of (e i) (record { state = state i; inbox = inbox i })
 
   -- and the superstep makes the same of it
-  pub same_outcome : (program : Program V M) (v w : View) (x y : Standing V M) → v ≡ w → x.state ≡ y.state → x.inbox ≡ y.inbox
+  pub same_outcome : (program : Program V M) (v w : View) (x y : VertexWithInbox V M) → v ≡ w → x.state ≡ y.state → x.inbox ≡ y.inbox
       → outcome program v x ≡ outcome program w y
   same_outcome program v w x y e state inbox = λ i. outcome program (e i) (record { state = state i; inbox = inbox i })
 
   -- so its next state is the same
-  pub same_next_state : (program : Program V M) (v w : View) (x y : Standing V M) → v ≡ w → x.state ≡ y.state → x.inbox ≡ y.inbox
+  pub same_next_state : (program : Program V M) (v w : View) (x y : VertexWithInbox V M) → v ≡ w → x.state ≡ y.state → x.inbox ≡ y.inbox
       → state_after x.state (outcome program v x) ≡ state_after y.state (outcome program w y)
   same_next_state program v w x y e state inbox =
       let made = same_outcome program v w x y e state inbox in
       λ i. state_after (state i) (made i)
 
   -- what an execution gives is the program's step on its inputs, whatever else stands there
-  pub outcome-active : (program : Program V M) (view : View) (x : Standing V M) → is_active x ≡ true → outcome program view x ≡ program.step (inputs_of view x)
+  pub outcome-active : (program : Program V M) (view : View) (x : VertexWithInbox V M) → is_active x ≡ true → outcome program view x ≡ program.step (inputs_of view x)
   unfolding outcome
   outcome-active program view x e = ap (λ (b : Bool). cond b (program.step (inputs_of view x)) (idle x.state)) e
 
   -- a vertex that isn't executed leaves nothing but its state
-  pub outcome-idle : (program : Program V M) (view : View) (x : Standing V M) → is_active x ≡ false → outcome program view x ≡ idle x.state
+  pub outcome-idle : (program : Program V M) (view : View) (x : VertexWithInbox V M) → is_active x ≡ false → outcome program view x ≡ idle x.state
   unfolding outcome
   outcome-idle program view x e = ap (λ (b : Bool). cond b (program.step (inputs_of view x)) (idle x.state)) e
 
   -- which stays
-  pub state_after-idle : (program : Program V M) (view : View) (x : Standing V M) → is_active x ≡ false → state_after x.state (outcome program view x) ≡ x.state
+  pub state_after-idle : (program : Program V M) (view : View) (x : VertexWithInbox V M) → is_active x ≡ false → state_after x.state (outcome program view x) ≡ x.state
   state_after-idle program view x e = ap (state_after x.state) (outcome-idle program view x e)
 
 -- ---- two runs
 
 module _ {V M : Type 0} where
   -- an execution gives the program's step on its inputs
-  pub outcome_of_inputs : (job : Job V M) (rows : Rows) (s id : ℕ) (x : Standing V M) (i : Inputs V M)
-      → standing_at id (present_at job rows s) ≡ Some x → inputs_at job rows s id ≡ Some i
+  pub outcome_of_inputs : (job : Job V M) (rows : Rows) (s id : ℕ) (x : VertexWithInbox V M) (i : Inputs V M)
+      → with_inbox_at id (present_at job rows s) ≡ Some x → inputs_at job rows s id ≡ Some i
       → outcome job.program (view_at job rows s) x ≡ job.program.step i
   outcome_of_inputs job rows s id x i at e =
       let r = executed_from_inputs job rows s id i e in
@@ -137,8 +137,8 @@ module _ {V M : Type 0} where
       sym (ap (outcome job.program (view_at job rows s)) same) ∙ (outcome-active job.program (view_at job rows s) r.0 r.1.active ∙ ap job.program.step r.2)
 
   -- and leaves the state that this step says
-  pub next_state_of_inputs : (job : Job V M) (rows : Rows) (s id : ℕ) (x : Standing V M) (i : Inputs V M)
-      → standing_at id (present_at job rows s) ≡ Some x → inputs_at job rows s id ≡ Some i
+  pub next_state_of_inputs : (job : Job V M) (rows : Rows) (s id : ℕ) (x : VertexWithInbox V M) (i : Inputs V M)
+      → with_inbox_at id (present_at job rows s) ≡ Some x → inputs_at job rows s id ≡ Some i
       → state_after x.state (outcome job.program (view_at job rows s) x) ≡ record {
         id = i.id;
         value = (job.program.step i).value;
@@ -148,21 +148,21 @@ module _ {V M : Type 0} where
   next_state_of_inputs job rows s id x i at e =
       let r = executed_from_inputs job rows s id i e in
       let same : r.0 ≡ x = same_Some r.0 x (sym r.1.present ∙ at) in
-      let named : x.state.id ≡ i.id = sym (ap (λ (y : Standing V M). y.state.id) same) ∙ ap (λ (j : Inputs V M). j.id) r.2 in
+      let named : x.state.id ≡ i.id = sym (ap (λ (y : VertexWithInbox V M). y.state.id) same) ∙ ap (λ (j : Inputs V M). j.id) r.2 in
       let made = outcome_of_inputs job rows s id x i at e in
       λ j. record { id = named j; value = (made j).value; edges = (made j).edges; halted = (made j).halted }
 
   -- two runs of one program give the same record wherever an execution reads the same in both: this is why a record may be kept
-  pub same_record : (job job' : Job V M) (rows rows' : Rows) (s s' id id' : ℕ) (x x' : Standing V M) (i : Inputs V M)
-      → job.program ≡ job'.program → standing_at id (present_at job rows s) ≡ Some x → inputs_at job rows s id ≡ Some i
-      → standing_at id' (present_at job' rows' s') ≡ Some x' → inputs_at job' rows' s' id' ≡ Some i
+  pub same_record : (job job' : Job V M) (rows rows' : Rows) (s s' id id' : ℕ) (x x' : VertexWithInbox V M) (i : Inputs V M)
+      → job.program ≡ job'.program → with_inbox_at id (present_at job rows s) ≡ Some x → inputs_at job rows s id ≡ Some i
+      → with_inbox_at id' (present_at job' rows' s') ≡ Some x' → inputs_at job' rows' s' id' ≡ Some i
       → outcome job.program (view_at job rows s) x ≡ outcome job'.program (view_at job' rows' s') x'
   same_record job job' rows rows' s s' id id' x x' i program at e at' e' =
       outcome_of_inputs job rows s id x i at e ∙ (ap (λ (p : Program V M). p.step i) program ∙ sym (outcome_of_inputs job' rows' s' id' x' i at' e'))
 
   -- two runs of one job read the same at a vertex that stands alike in both and sees the same
   pub same_inputs_at : (job : Job V M) (rows rows' : Rows) (s id : ℕ) → s < run_length job rows → s < run_length job rows'
-      → view_at job rows s ≡ view_at job rows' s → standing_at id (present_at job rows s) ≡ standing_at id (present_at job rows' s)
+      → view_at job rows s ≡ view_at job rows' s → with_inbox_at id (present_at job rows s) ≡ with_inbox_at id (present_at job rows' s)
       → inputs_at job rows s id ≡ inputs_at job rows' s id
   unfolding inputs_at
   same_inputs_at job rows rows' s id within within' view at =

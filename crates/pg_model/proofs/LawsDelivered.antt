@@ -14,7 +14,7 @@ use Rattle.pg_model.proofs.LawsLists.{all-append, all_weaker, sorted-append, con
 use Rattle.pg_model.specs.Job.{Program}
 use Rattle.pg_model.specs.Superstep.{ids, outcome, sends, messages_to}
 use Rattle.pg_model.specs.Order.{Sending, sending_cmp, sendings_from, sendings, IsSent}
-use Rattle.pg_model.specs.declared.configuration.Standing.{Standing}
+use Rattle.pg_model.specs.declared.configuration.VertexWithInbox.{VertexWithInbox}
 use Rattle.pg_model.specs.declared.view.View.{View}
 
 -- ---- one inbox
@@ -93,7 +93,7 @@ module _ {M : Type 0} where
 
 module _ {V M : Type 0} (program : Program V M) (view : View) where
   -- a vertex gets what the first sender sent to it, then what the second did, and so on
-  pub messages_to-sends : (id : ℕ) (xs : List (Standing V M))
+  pub messages_to-sends : (id : ℕ) (xs : List (VertexWithInbox V M))
       → messages_to id (sends program view xs) ≡ flat_map (λ x. messages_to id (outcome program view x).sent) xs
   messages_to-sends id [] = refl
   messages_to-sends id (x ∷ xs) =
@@ -101,18 +101,18 @@ module _ {V M : Type 0} (program : Program V M) (view : View) where
       ∙ ap (◌++◌ (messages_to id (outcome program view x).sent)) (messages_to-sends id xs)
 
   -- the messages of a superstep are those with their senders, in that order
-  pub sendings-sends : (xs : List (Standing V M)) → map (λ t. (t.target, t.message)) (sendings program view xs) ≡ sends program view xs
+  pub sendings-sends : (xs : List (VertexWithInbox V M)) → map (λ t. (t.target, t.message)) (sendings program view xs) ≡ sends program view xs
   sendings-sends [] = refl
   sendings-sends (x ∷ xs) =
       map-append (λ (t : Sending M). (t.target, t.message)) (sendings_from x.state.id 0 (outcome program view x).sent) (sendings program view xs)
       ∙ ap₂ ◌++◌ (sent_of-from x.state.id 0 (outcome program view x).sent) (sendings-sends xs)
 
   -- a vertex gets the messages to it by sender and then by place
-  pub messages_to-sendings : (id : ℕ) (xs : List (Standing V M))
+  pub messages_to-sendings : (id : ℕ) (xs : List (VertexWithInbox V M))
       → map (λ t. t.message) (filter (λ t. t.target == id) (sendings program view xs)) ≡ messages_to id (sends program view xs)
   messages_to-sendings id xs = received id (sendings program view xs) ∙ ap (messages_to id) (sendings-sends xs)
 
-  later_senders : (u : ℕ) (xs : List (Standing V M)) → AllByRecursion (λ id. nat_cmp u id ≡ Less) (ids xs)
+  later_senders : (u : ℕ) (xs : List (VertexWithInbox V M)) → AllByRecursion (λ id. nat_cmp u id ≡ Less) (ids xs)
       → AllByRecursion (λ (t : Sending M). u < t.sender) (sendings program view xs)
   later_senders u [] h = tt
   later_senders u (x ∷ xs) h =
@@ -122,7 +122,7 @@ module _ {V M : Type 0} (program : Program V M) (view : View) where
       (from_one x.state.id 0 (outcome program view x).sent)) (later_senders u xs h.1)
 
   -- where ids rise, the messages rise by sender and then by place
-  pub sendings_rise : (xs : List (Standing V M)) → IsStrictlySortedBy nat_cmp (ids xs) → IsStrictlySortedBy sending_cmp (sendings program view xs)
+  pub sendings_rise : (xs : List (VertexWithInbox V M)) → IsStrictlySortedBy nat_cmp (ids xs) → IsStrictlySortedBy sending_cmp (sendings program view xs)
   unfolding IsStrictlySortedBy
   sendings_rise [] h = tt
   sendings_rise (x ∷ xs) h =
@@ -133,12 +133,12 @@ module _ {V M : Type 0} (program : Program V M) (view : View) where
       (from_one x.state.id 0 (outcome program view x).sent))
 
   -- and so do those to one vertex
-  pub received_rise : (id : ℕ) (xs : List (Standing V M)) → IsStrictlySortedBy nat_cmp (ids xs)
+  pub received_rise : (id : ℕ) (xs : List (VertexWithInbox V M)) → IsStrictlySortedBy nat_cmp (ids xs)
       → IsStrictlySortedBy sending_cmp (filter (λ t. t.target == id) (sendings program view xs))
   received_rise id xs h = IsStrictlySortedBy-filter sending_cmp (λ (t : Sending M). t.target == id) (sendings program view xs) (sendings_rise xs h)
 
   -- each message of a superstep was sent by a vertex, at its place
-  pub IsSent-from_Contains : (xs : List (Standing V M)) (t : Sending M) → Contains (sendings program view xs) t → IsSent program view xs t
+  pub IsSent-from_Contains : (xs : List (VertexWithInbox V M)) (t : Sending M) → Contains (sendings program view xs) t → IsSent program view xs t
   IsSent-from_Contains [] t h = absurd (omega (arith, h.1))
   IsSent-from_Contains (x ∷ xs) t h =
       elim (Contains-append_cases (sendings_from x.state.id 0 (outcome program view x).sent) (sendings program view xs) t h) [
@@ -156,19 +156,19 @@ module _ {V M : Type 0} (program : Program V M) (view : View) where
             record { vertex = r.vertex; present = contains_later x r.vertex xs r.present; by = r.by; nth = r.nth }
       ]
 
-  sent_is_there : (xs : List (Standing V M)) (t : Sending M) (v : Standing V M) → Contains xs v → v.state.id ≡ t.sender
+  sent_is_there : (xs : List (VertexWithInbox V M)) (t : Sending M) (v : VertexWithInbox V M) → Contains xs v → v.state.id ≡ t.sender
       → slice_get (outcome program view v).sent t.place ≡ Some (t.target, t.message) → Contains (sendings program view xs) t
   sent_is_there [] t v h a e = absurd (omega (arith, h.1))
   sent_is_there (x ∷ xs) t v h a e =
       elim (contains_cases x v xs h) [
         | inl same ↦
             Contains-append_left (sendings_from x.state.id 0 (outcome program view x).sent) (sendings program view xs) t
-            (in_place x.state.id 0 (outcome program view x).sent t.place t (ap (λ (y : Standing V M). y.state.id) same ∙ a) (omega arith)
-            (subst (λ (y : Standing V M). slice_get (outcome program view y).sent t.place ≡ Some (t.target, t.message)) (sym same) e))
+            (in_place x.state.id 0 (outcome program view x).sent t.place t (ap (λ (y : VertexWithInbox V M). y.state.id) same ∙ a) (omega arith)
+            (subst (λ (y : VertexWithInbox V M). slice_get (outcome program view y).sent t.place ≡ Some (t.target, t.message)) (sym same) e))
         | inr later ↦ Contains-append_right (sendings_from x.state.id 0 (outcome program view x).sent) (sendings program view xs) t
             (sent_is_there xs t v later a e)
       ]
 
   -- and each message that a vertex sent is there
-  pub Contains-from_IsSent : (xs : List (Standing V M)) (t : Sending M) → IsSent program view xs t → Contains (sendings program view xs) t
+  pub Contains-from_IsSent : (xs : List (VertexWithInbox V M)) (t : Sending M) → IsSent program view xs t → Contains (sendings program view xs) t
   Contains-from_IsSent xs t h = sent_is_there xs t h.vertex h.present h.by h.nth

@@ -9,18 +9,18 @@ use Rattle.std.specs.Map.{keys_of}
 use Rattle.std.specs.List.Sorted.{IsStrictlySortedBy}
 use Rattle.std.proofs.Math.Bool.{or-true}
 use Rattle.pg_graph.specs.Rows.{Rows, HasRisingIds}
-use Rattle.pg_edits.specs.declared.row.Row.{Row}
+use Rattle.pg_graph_rows.specs.declared.row.Row.{Row}
 use Rattle.pg_graph.specs.declared.missing.Missing.{Missing}
 use Rattle.pg_graph.specs.declared.missing.Missing.TheVariants.{Drop}
 use Rattle.pg_model.specs.InOrder.{AreWaiting, IsInOrder}
 use Rattle.pg_model.specs.Job.{Job, Program, Combining, Totals, Aggregating}
 use Rattle.pg_model.specs.Superstep.{ids, has_id, next, totals_of, present, visible_in, gathered_from, view_in, state_after, outcome, delivered}
-use Rattle.pg_model.specs.Superstep.{sends, astray, waiting_after}
-use Rattle.pg_model.specs.Needed.{standing_at}
+use Rattle.pg_model.specs.Superstep.{sends, undeliverable, waiting_after}
+use Rattle.pg_model.specs.Needed.{with_inbox_at}
 use Rattle.pg_model.specs.Run.{first, beginning, configuration, present_at, view_at}
-use Rattle.pg_model.specs.declared.configuration.Standing.{Standing}
+use Rattle.pg_model.specs.declared.configuration.VertexWithInbox.{VertexWithInbox}
 use Rattle.pg_model.proofs.LawsMade.{AreWaiting-none, AreWaiting-after, present-rise, present-none, has_id-present, waiting_sent}
-use Rattle.pg_model.proofs.LawsStandings.{standing_at-map}
+use Rattle.pg_model.proofs.LawsVerticesWithInbox.{with_inbox_at-map}
 use Rattle.pg_model.specs.declared.view.View.{View}
 use Rattle.pg_model.specs.declared.configuration.Configuration.{Configuration}
 
@@ -41,8 +41,8 @@ length-gathered_from place (a ∷ rest) (value ∷ values) contributed e =
     ap suc (length-gathered_from (place + 1) rest values contributed e')
 
 -- what a superstep of the vertices xs makes of one of them
-abbrev pub standing_after : {V M : Type 0} → Job V M → View → List (Standing V M) → Standing V M → Standing V M
-standing_after job view xs x = record {
+abbrev pub with_inbox_after : {V M : Type 0} → Job V M → View → List (VertexWithInbox V M) → VertexWithInbox V M → VertexWithInbox V M
+with_inbox_after job view xs x = record {
   state = state_after x.state (outcome job.program view x);
   inbox = delivered job.combining x.state.id (sends job.program view xs);
 }
@@ -51,13 +51,13 @@ or_right : (a b : Bool) → (a || b) ≡ true → a ≡ false → b ≡ true
 or_right true b h e = absurd (true≢false e)
 or_right false b h e = h
 
-waiting-drop : {M : Type 0} (missing : Missing) (combining : Option (Combining M)) (strays : List (ℕ × M)) → missing ≡ Drop
-    → waiting_after missing combining strays ≡ []
-waiting-drop missing combining strays drops = ap (λ m. waiting_after m combining strays) drops
+waiting-drop : {M : Type 0} (missing : Missing) (combining : Option (Combining M)) (undeliverables : List (ℕ × M)) → missing ≡ Drop
+    → waiting_after missing combining undeliverables ≡ []
+waiting-drop missing combining undeliverables drops = ap (λ m. waiting_after m combining undeliverables) drops
 
 module _ {V M : Type 0} where
   -- what leaves each vertex its id leaves the ids
-  ids-map : (f : Standing V M → Standing V M) → ((x : Standing V M) → (f x).state.id ≡ x.state.id) → (xs : List (Standing V M)) → ids (map f xs) ≡ ids xs
+  ids-map : (f : VertexWithInbox V M → VertexWithInbox V M) → ((x : VertexWithInbox V M) → (f x).state.id ≡ x.state.id) → (xs : List (VertexWithInbox V M)) → ids (map f xs) ≡ ids xs
   ids-map f k [] = refl
   ids-map f k (x ∷ xs) = ap₂ ◌∷◌ (k x) (ids-map f k xs)
 
@@ -67,27 +67,27 @@ module _ {V M : Type 0} where
 
   module _ (job : Job V M) where
     -- after a superstep the ids are those of its vertices
-    pub ids-next : (s : ℕ) (c : Configuration V M) → ids (next job s c).standings ≡ ids (present job.program c)
+    pub ids-next : (s : ℕ) (c : Configuration V M) → ids (next job s c).with_inboxes ≡ ids (present job.program c)
     unfolding next
     ids-next s c = ids-map _ (λ x. refl) (present job.program c)
 
     -- and each of them has its outcome's state, with what was sent to it
-    pub standing_at-next : (s : ℕ) (c : Configuration V M) (id : ℕ)
-        → standing_at id (next job s c).standings
-        ≡ option_map (standing_after job (view_in job s c) (present job.program c)) (standing_at id (present job.program c))
+    pub with_inbox_at-next : (s : ℕ) (c : Configuration V M) (id : ℕ)
+        → with_inbox_at id (next job s c).with_inboxes
+        ≡ option_map (with_inbox_after job (view_in job s c) (present job.program c)) (with_inbox_at id (present job.program c))
     unfolding next
-    standing_at-next s c id = standing_at-map _ (λ x. refl) id (present job.program c)
+    with_inbox_at-next s c id = with_inbox_at-map _ (λ x. refl) id (present job.program c)
 
     -- the order is kept
     pub IsInOrder-next : (s : ℕ) (c : Configuration V M) → IsInOrder c → IsInOrder (next job s c)
     unfolding next
     IsInOrder-next s c h =
-        let xs : List (Standing V M) = present job.program c in
+        let xs : List (VertexWithInbox V M) = present job.program c in
         let all : List (ℕ × M) = sends job.program (view_in job s c) xs in
         record {
-          standings = subst (IsStrictlySortedBy nat_cmp) (sym (ids-next s c)) (present-rise job.program c h.standings h.waiting);
+          with_inboxes = subst (IsStrictlySortedBy nat_cmp) (sym (ids-next s c)) (present-rise job.program c h.with_inboxes h.waiting);
           waiting =
-              subst (λ is. AreWaiting is (waiting_after job.missing job.combining (astray (ids xs) all))) (sym (ids-next s c))
+              subst (λ is. AreWaiting is (waiting_after job.missing job.combining (undeliverable (ids xs) all))) (sym (ids-next s c))
               (AreWaiting-after job.missing job.combining (ids xs) all);
         }
 
@@ -95,7 +95,7 @@ module _ {V M : Type 0} where
       IsInOrder-first : HasRisingIds rows → IsInOrder (first job rows)
       unfolding first
       IsInOrder-first rising = record {
-        standings = subst (IsStrictlySortedBy nat_cmp) (sym (ids-beginning job.program rows)) rising;
+        with_inboxes = subst (IsStrictlySortedBy nat_cmp) (sym (ids-beginning job.program rows)) rising;
         waiting = AreWaiting-none (ids (map (beginning job.program) rows));
       }
 
@@ -107,7 +107,7 @@ module _ {V M : Type 0} where
 
       -- and so are the vertices of every superstep
       pub ids_rise : HasRisingIds rows → (s : ℕ) → IsStrictlySortedBy nat_cmp (ids (present_at job rows s))
-      ids_rise rising s = let h = in_order rising s in present-rise job.program (configuration job rows s) h.standings h.waiting
+      ids_rise rising s = let h = in_order rising s in present-rise job.program (configuration job rows s) h.with_inboxes h.waiting
 
       -- ---- where messages to nobody are dropped
 
@@ -118,27 +118,27 @@ module _ {V M : Type 0} where
       none_waits drops (suc s) = waiting-drop job.missing job.combining _ drops
 
       -- the vertices of a superstep are those that have a state
-      pub present-drop : job.missing ≡ Drop → (s : ℕ) → present_at job rows s ≡ (configuration job rows s).standings
+      pub present-drop : job.missing ≡ Drop → (s : ℕ) → present_at job rows s ≡ (configuration job rows s).with_inboxes
       present-drop drops s = present-none job.program (configuration job rows s) (none_waits drops s)
 
       -- every configuration has the graph's ids, in their order
-      pub ids-configuration : job.missing ≡ Drop → (s : ℕ) → ids (configuration job rows s).standings ≡ keys_of rows
+      pub ids-configuration : job.missing ≡ Drop → (s : ℕ) → ids (configuration job rows s).with_inboxes ≡ keys_of rows
       unfolding first configuration
       ids-configuration drops zero = ids-beginning job.program rows
       ids-configuration drops (suc s) =
-          ids-next s (configuration job rows s) ∙ (ap (λ (xs : List (Standing V M)). ids xs) (present-drop drops s) ∙ ids-configuration drops s)
+          ids-next s (configuration job rows s) ∙ (ap (λ (xs : List (VertexWithInbox V M)). ids xs) (present-drop drops s) ∙ ids-configuration drops s)
 
       -- there are as many vertices in every configuration as rows
-      pub length-standings : job.missing ≡ Drop → (s : ℕ) → length (configuration job rows s).standings ≡ length rows
-      length-standings drops s =
-          sym (length-map (configuration job rows s).standings (λ (x : Standing V M). x.state.id))
+      pub length-with_inboxes : job.missing ≡ Drop → (s : ℕ) → length (configuration job rows s).with_inboxes ≡ length rows
+      length-with_inboxes drops s =
+          sym (length-map (configuration job rows s).with_inboxes (λ (x : VertexWithInbox V M). x.state.id))
           ∙ (ap length (ids-configuration drops s) ∙ length-map rows (λ (row : ℕ × Row). row.0))
 
       -- ---- where they make vertices
 
       -- an id that has a state keeps one
-      pub ids-grow : (s id : ℕ) → has_id (ids (configuration job rows s).standings) id ≡ true
-          → has_id (ids (configuration job rows (suc s)).standings) id ≡ true
+      pub ids-grow : (s id : ℕ) → has_id (ids (configuration job rows s).with_inboxes) id ≡ true
+          → has_id (ids (configuration job rows (suc s)).with_inboxes) id ≡ true
       unfolding configuration
       ids-grow s id h =
           let c : Configuration V M = configuration job rows s in
@@ -161,7 +161,7 @@ module _ {V M : Type 0} where
       }
 
       -- an id that has a state is the graph's, or was sent to
-      pub id_from : (s id : ℕ) → has_id (ids (configuration job rows s).standings) id ≡ true → (has_id (keys_of rows) id ≡ true) ⊎ WasSentTo s id
+      pub id_from : (s id : ℕ) → has_id (ids (configuration job rows s).with_inboxes) id ≡ true → (has_id (keys_of rows) id ≡ true) ⊎ WasSentTo s id
       unfolding first configuration
       id_from zero id h = inl (sym (ap (λ is. has_id is id) (ids-beginning job.program rows)) ∙ h)
       id_from (suc s) id h =
@@ -170,7 +170,7 @@ module _ {V M : Type 0} where
           elim (cases_Bool (has_id (map (λ w. w.0) c.waiting) id)) [
             | inl waits ↦ inr (waited s id waits)
             | inr not ↦
-                elim (id_from s id (or_right (has_id (map (λ w. w.0) c.waiting) id) (has_id (ids c.standings) id) either not)) [
+                elim (id_from s id (or_right (has_id (map (λ w. w.0) c.waiting) id) (has_id (ids c.with_inboxes) id) either not)) [
                   | inl theirs ↦ inl theirs
                   | inr was ↦ inr (record { before = was.before; earlier = omega (arith, was.earlier); sent = was.sent })
                 ]

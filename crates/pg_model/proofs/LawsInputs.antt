@@ -6,8 +6,8 @@ use Rattle.pg_graph.specs.Rows.{Rows}
 use Rattle.pg_model.specs.Job.{Job, Inputs}
 use Rattle.pg_model.specs.Superstep.{is_active, inputs_of}
 use Rattle.pg_model.specs.Run.{present_at, view_at, run_length}
-use Rattle.pg_model.specs.Needed.{standing_at, inputs_if_active, inputs_at}
-use Rattle.pg_model.specs.declared.configuration.Standing.{Standing}
+use Rattle.pg_model.specs.Needed.{with_inbox_at, inputs_if_active, inputs_at}
+use Rattle.pg_model.specs.declared.configuration.VertexWithInbox.{VertexWithInbox}
 
 found : {A B : Type 0} (b : Bool) (f : A → Option B) (o : Option A) (y : B) → cond b (option_and_then f o) None ≡ Some y
     → (x : A) × (b ≡ true) × (o ≡ Some x) × (f x ≡ Some y)
@@ -21,25 +21,25 @@ either_way x false = refl
 
 module _ {V M : Type 0} (job : Job V M) (rows : Rows) where
   -- vertex id is executed in superstep s of the run, as x stands there
-  pub record IsExecuted (s id : ℕ) (x : Standing V M) : Type 0 where
+  pub record IsExecuted (s id : ℕ) (x : VertexWithInbox V M) : Type 0 where
     pub within : s < run_length job rows
-    pub present : standing_at id (present_at job rows s) ≡ Some x
+    pub present : with_inbox_at id (present_at job rows s) ≡ Some x
     pub active : is_active x ≡ true
 
   -- an execution with inputs is one of a vertex that is there and active, and reads just those
   pub executed_from_inputs : (s id : ℕ) (i : Inputs V M) → inputs_at job rows s id ≡ Some i
-      → (x : Standing V M) × IsExecuted s id x × (inputs_of (view_at job rows s) x ≡ i)
+      → (x : VertexWithInbox V M) × IsExecuted s id x × (inputs_of (view_at job rows s) x ≡ i)
   unfolding inputs_at
   executed_from_inputs s id i e =
-      let r = found (ltb s (run_length job rows)) (inputs_if_active (view_at job rows s)) (standing_at id (present_at job rows s)) i e in
+      let r = found (ltb s (run_length job rows)) (inputs_if_active (view_at job rows s)) (with_inbox_at id (present_at job rows s)) i e in
       let a = cond_some (is_active r.0) (inputs_of (view_at job rows s) r.0) i r.3 in
       (r.0, record { within = ltb-true _ _ r.1; present = r.2; active = a.0 }, a.1)
 
   -- an executed vertex reads its inputs
-  pub inputs_of_executed : (s id : ℕ) (x : Standing V M) → IsExecuted s id x → inputs_at job rows s id ≡ Some (inputs_of (view_at job rows s) x)
+  pub inputs_of_executed : (s id : ℕ) (x : VertexWithInbox V M) → IsExecuted s id x → inputs_at job rows s id ≡ Some (inputs_of (view_at job rows s) x)
   unfolding inputs_at
   inputs_of_executed s id x h =
-      ap (λ (b : Bool). cond b (option_and_then (inputs_if_active (view_at job rows s)) (standing_at id (present_at job rows s))) None)
+      ap (λ (b : Bool). cond b (option_and_then (inputs_if_active (view_at job rows s)) (with_inbox_at id (present_at job rows s))) None)
       (lt-ltb s (run_length job rows) h.within)
       ∙ (ap (option_and_then (inputs_if_active (view_at job rows s))) h.present
       ∙ ap (λ (b : Bool). cond b (Some (inputs_of (view_at job rows s) x)) None) h.active)
@@ -48,20 +48,20 @@ module _ {V M : Type 0} (job : Job V M) (rows : Rows) where
   pub no_inputs_past : (s id : ℕ) → run_length job rows ≤ s → inputs_at job rows s id ≡ None
   unfolding inputs_at
   no_inputs_past s id h =
-      ap (λ (b : Bool). cond b (option_and_then (inputs_if_active (view_at job rows s)) (standing_at id (present_at job rows s))) None)
+      ap (λ (b : Bool). cond b (option_and_then (inputs_if_active (view_at job rows s)) (with_inbox_at id (present_at job rows s))) None)
       (le-ltb s (run_length job rows) h)
 
   -- nor of a vertex that isn't there
-  pub no_inputs_missing : (s id : ℕ) → standing_at id (present_at job rows s) ≡ None → inputs_at job rows s id ≡ None
+  pub no_inputs_missing : (s id : ℕ) → with_inbox_at id (present_at job rows s) ≡ None → inputs_at job rows s id ≡ None
   unfolding inputs_at
   no_inputs_missing s id e =
-      ap (λ (o : Option (Standing V M)). cond (ltb s (run_length job rows)) (option_and_then (inputs_if_active (view_at job rows s)) o) None) e
+      ap (λ (o : Option (VertexWithInbox V M)). cond (ltb s (run_length job rows)) (option_and_then (inputs_if_active (view_at job rows s)) o) None) e
       ∙ either_way None (ltb s (run_length job rows))
 
   -- nor of one that isn't active
-  pub no_inputs_idle : (s id : ℕ) (x : Standing V M) → standing_at id (present_at job rows s) ≡ Some x → is_active x ≡ false → inputs_at job rows s id ≡ None
+  pub no_inputs_idle : (s id : ℕ) (x : VertexWithInbox V M) → with_inbox_at id (present_at job rows s) ≡ Some x → is_active x ≡ false → inputs_at job rows s id ≡ None
   unfolding inputs_at
   no_inputs_idle s id x e idle =
-      ap (λ (o : Option (Standing V M)). cond (ltb s (run_length job rows)) (option_and_then (inputs_if_active (view_at job rows s)) o) None) e
+      ap (λ (o : Option (VertexWithInbox V M)). cond (ltb s (run_length job rows)) (option_and_then (inputs_if_active (view_at job rows s)) o) None) e
       ∙ (ap (λ (b : Bool). cond (ltb s (run_length job rows)) (cond b (Some (inputs_of (view_at job rows s) x)) None) None) idle
       ∙ either_way None (ltb s (run_length job rows)))

@@ -13,9 +13,9 @@ use Rattle.pg_graph.specs.declared.missing.Missing.TheVariants.{Drop, Create}
 use Rattle.pg_model.proofs.LawsLists.{all_weaker}
 use Rattle.pg_model.specs.InOrder.{AreWaiting}
 use Rattle.pg_model.specs.Job.{Combining, Program}
-use Rattle.pg_model.specs.Superstep.{ids, is_empty, has_id, with_id, messages_to, combined, delivered, astray, targets, waiting_after, placed, made}
+use Rattle.pg_model.specs.Superstep.{ids, is_empty, has_id, with_id, messages_to, combined, delivered, undeliverable, targets, waiting_after, placed, made}
 use Rattle.pg_model.specs.Superstep.{with_made, present}
-use Rattle.pg_model.specs.declared.configuration.Standing.{Standing}
+use Rattle.pg_model.specs.declared.configuration.VertexWithInbox.{VertexWithInbox}
 use Rattle.pg_model.specs.declared.configuration.Configuration.{Configuration}
 
 -- ---- truth values
@@ -151,15 +151,15 @@ module _ {M : Type 0} where
   pub all-targets : (P : ℕ → Type 0) (sent : List (ℕ × M)) → AllByRecursion (λ (m : ℕ × M). P m.0) sent → AllByRecursion P (targets sent)
   all-targets P sent h = all_from P [] sent tt h
 
-  -- ---- messages that go astray
+  -- ---- messages that are undeliverable
 
   -- they go to none of the ids
-  pub astray-apart : (is : List ℕ) (sent : List (ℕ × M)) → AllByRecursion (λ (m : ℕ × M). has_id is m.0 ≡ false) (astray is sent)
-  astray-apart is [] = tt
-  astray-apart is (m ∷ sent) = by (has_id is m.0) refl (astray-apart is sent)
+  pub undeliverable-apart : (is : List ℕ) (sent : List (ℕ × M)) → AllByRecursion (λ (m : ℕ × M). has_id is m.0 ≡ false) (undeliverable is sent)
+  undeliverable-apart is [] = tt
+  undeliverable-apart is (m ∷ sent) = by (has_id is m.0) refl (undeliverable-apart is sent)
     where
-      by : (b : Bool) → has_id is m.0 ≡ b → AllByRecursion (λ (x : ℕ × M). has_id is x.0 ≡ false) (astray is sent)
-          → AllByRecursion (λ (x : ℕ × M). has_id is x.0 ≡ false) (cond (not b) (m ∷ astray is sent) (astray is sent))
+      by : (b : Bool) → has_id is m.0 ≡ b → AllByRecursion (λ (x : ℕ × M). has_id is x.0 ≡ false) (undeliverable is sent)
+          → AllByRecursion (λ (x : ℕ × M). has_id is x.0 ≡ false) (cond (not b) (m ∷ undeliverable is sent) (undeliverable is sent))
       by true e rest = rest
       by false e rest = (e, rest)
 
@@ -203,18 +203,18 @@ module _ {M : Type 0} where
   AreWaiting-none is = record { rise = tt; apart = tt; some = tt }
 
   pub AreWaiting-after : (missing : Missing) (combining : Option (Combining M)) (is : List ℕ) (sent : List (ℕ × M))
-      → AreWaiting is (waiting_after missing combining (astray is sent))
+      → AreWaiting is (waiting_after missing combining (undeliverable is sent))
   AreWaiting-after Drop combining is sent = AreWaiting-none is
   AreWaiting-after Create combining is sent =
-      let strays : List (ℕ × M) = astray is sent in
-      let f : ℕ → List M = λ id. delivered combining id strays in
+      let undeliverables : List (ℕ × M) = undeliverable is sent in
+      let f : ℕ → List M = λ id. delivered combining id undeliverables in
       record {
-        rise = subst (IsStrictlySortedBy nat_cmp) (sym (ids_of_inboxes f (targets strays))) (targets-rise strays);
-        apart = all_inboxes (λ w. has_id is w.0 ≡ false) f (targets strays) (all-targets (λ id. has_id is id ≡ false) strays (astray-apart is sent));
+        rise = subst (IsStrictlySortedBy nat_cmp) (sym (ids_of_inboxes f (targets undeliverables))) (targets-rise undeliverables);
+        apart = all_inboxes (λ w. has_id is w.0 ≡ false) f (targets undeliverables) (all-targets (λ id. has_id is id ≡ false) undeliverables (undeliverable-apart is sent));
         some =
-            all_inboxes (λ w. is_empty w.1 ≡ false) f (targets strays) (all-targets (λ id. is_empty (f id) ≡ false) strays (all_weaker
-            (λ (m : ℕ × M). is_empty (messages_to m.0 strays) ≡ false) (λ (m : ℕ × M). is_empty (f m.0) ≡ false)
-            (λ m h. combined-some combining (messages_to m.0 strays) h) strays (all_receive strays)));
+            all_inboxes (λ w. is_empty w.1 ≡ false) f (targets undeliverables) (all-targets (λ id. is_empty (f id) ≡ false) undeliverables (all_weaker
+            (λ (m : ℕ × M). is_empty (messages_to m.0 undeliverables) ≡ false) (λ (m : ℕ × M). is_empty (f m.0) ≡ false)
+            (λ m h. combined-some combining (messages_to m.0 undeliverables) h) undeliverables (all_receive undeliverables)));
       }
 
   has_target : (is : List ℕ) (sent : List (ℕ × M)) (id : ℕ)
@@ -236,35 +236,35 @@ module _ {M : Type 0} where
   targets-are is sent rise same =
       same_rising is (targets sent) rise (targets-rise sent) (λ id. same id ∙ sym (has_id-targets sent id))
 
-  astray_sent : (is : List ℕ) (sent : List (ℕ × M)) (id : ℕ) → has_id (map (λ (m : ℕ × M). m.0) (astray is sent)) id ≡ true
+  undeliverable_sent : (is : List ℕ) (sent : List (ℕ × M)) (id : ℕ) → has_id (map (λ (m : ℕ × M). m.0) (undeliverable is sent)) id ≡ true
       → has_id (map (λ (m : ℕ × M). m.0) sent) id ≡ true
-  astray_sent is [] id h = h
-  astray_sent is (m ∷ sent) id h = by (has_id is m.0) (m.0 == id) refl (astray_sent is sent id) h
+  undeliverable_sent is [] id h = h
+  undeliverable_sent is (m ∷ sent) id h = by (has_id is m.0) (m.0 == id) refl (undeliverable_sent is sent id) h
     where
       there : List (ℕ × M) → Bool
       there l = has_id (map (λ (x : ℕ × M). x.0) l) id
 
-      by : (b a : Bool) → (m.0 == id) ≡ a → (there (astray is sent) ≡ true → there sent ≡ true)
-          → has_id (map (λ (x : ℕ × M). x.0) (cond (not b) (m ∷ astray is sent) (astray is sent))) id ≡ true → (a || there sent) ≡ true
+      by : (b a : Bool) → (m.0 == id) ≡ a → (there (undeliverable is sent) ≡ true → there sent ≡ true)
+          → has_id (map (λ (x : ℕ × M). x.0) (cond (not b) (m ∷ undeliverable is sent) (undeliverable is sent))) id ≡ true → (a || there sent) ≡ true
       by b true e rest k = refl
       by true false e rest k = rest k
-      by false false e rest k = rest (sym (ap (λ c. c || there (astray is sent)) e) ∙ k)
+      by false false e rest k = rest (sym (ap (λ c. c || there (undeliverable is sent)) e) ∙ k)
 
   -- who waits was sent to
   pub waiting_sent : (missing : Missing) (combining : Option (Combining M)) (is : List ℕ) (sent : List (ℕ × M)) (id : ℕ)
-      → has_id (map (λ w. w.0) (waiting_after missing combining (astray is sent))) id ≡ true → has_id (map (λ m. m.0) sent) id ≡ true
+      → has_id (map (λ w. w.0) (waiting_after missing combining (undeliverable is sent))) id ≡ true → has_id (map (λ m. m.0) sent) id ≡ true
   waiting_sent Drop combining is sent id h = absurd (cc)
   waiting_sent Create combining is sent id h =
-      let strays : List (ℕ × M) = astray is sent in
-      let there : has_id (map (λ (m : ℕ × M). m.0) strays) id ≡ true =
-      sym (or-false (has_id (map (λ (m : ℕ × M). m.0) strays) id))
-      ∙ (sym (has_target [] strays id) ∙ (sym (ap (λ l. has_id l id) (ids_of_inboxes (λ id. delivered combining id strays) (targets strays))) ∙ h)) in
-      astray_sent is sent id there
+      let undeliverables : List (ℕ × M) = undeliverable is sent in
+      let there : has_id (map (λ (m : ℕ × M). m.0) undeliverables) id ≡ true =
+      sym (or-false (has_id (map (λ (m : ℕ × M). m.0) undeliverables) id))
+      ∙ (sym (has_target [] undeliverables id) ∙ (sym (ap (λ l. has_id l id) (ids_of_inboxes (λ id. delivered combining id undeliverables) (targets undeliverables))) ∙ h)) in
+      undeliverable_sent is sent id there
 
 module _ {V M : Type 0} where
   -- ---- those that have a state, and those that messages make
 
-  all-placed : (P : ℕ → Type 0) (x : Standing V M) (xs : List (Standing V M)) → P x.state.id → AllByRecursion P (ids xs) → AllByRecursion P (ids (placed x xs))
+  all-placed : (P : ℕ → Type 0) (x : VertexWithInbox V M) (xs : List (VertexWithInbox V M)) → P x.state.id → AllByRecursion P (ids xs) → AllByRecursion P (ids (placed x xs))
   all-placed P x [] p h = (p, tt)
   all-placed P x (y ∷ ys) p h = by (ltb x.state.id y.state.id) (all-placed P x ys p h.1)
     where
@@ -272,7 +272,7 @@ module _ {V M : Type 0} where
       by true rest = (p, h)
       by false rest = (h.0, rest)
 
-  placed-rise : (x : Standing V M) (xs : List (Standing V M)) → has_id (ids xs) x.state.id ≡ false → IsStrictlySortedBy nat_cmp (ids xs)
+  placed-rise : (x : VertexWithInbox V M) (xs : List (VertexWithInbox V M)) → has_id (ids xs) x.state.id ≡ false → IsStrictlySortedBy nat_cmp (ids xs)
       → IsStrictlySortedBy nat_cmp (ids (placed x xs))
   unfolding IsStrictlySortedBy
   placed-rise x [] new h = (tt, tt)
@@ -293,7 +293,7 @@ module _ {V M : Type 0} where
       by false e unlike rest =
           (all-placed (λ i. nat_cmp y.state.id i ≡ Less) x ys (above_other x.state.id y.state.id e unlike) h.0, rest)
 
-  has_id-placed : (x : Standing V M) (xs : List (Standing V M)) (id : ℕ) → has_id (ids (placed x xs)) id ≡ ((x.state.id == id) || has_id (ids xs) id)
+  has_id-placed : (x : VertexWithInbox V M) (xs : List (VertexWithInbox V M)) (id : ℕ) → has_id (ids (placed x xs)) id ≡ ((x.state.id == id) || has_id (ids xs) id)
   has_id-placed x [] id = refl
   has_id-placed x (y ∷ ys) id = by (ltb x.state.id y.state.id) (has_id-placed x ys id)
     where
@@ -304,7 +304,7 @@ module _ {V M : Type 0} where
           ap (λ b. (y.state.id == id) || b) rest ∙ or_swap (y.state.id == id) (x.state.id == id) (has_id (ids ys) id)
 
   module _ (program : Program V M) where
-    pub apart_still : (w : ℕ × List M) (xs : List (Standing V M)) (ws : List (ℕ × List M))
+    pub apart_still : (w : ℕ × List M) (xs : List (VertexWithInbox V M)) (ws : List (ℕ × List M))
         → AllByRecursion (λ id. nat_cmp w.0 id ≡ Less) (map (λ (v : ℕ × List M). v.0) ws)
         → AllByRecursion (λ (v : ℕ × List M). has_id (ids xs) v.0 ≡ false) ws
         → AllByRecursion (λ (v : ℕ × List M). has_id (ids (placed (made program w) xs)) v.0 ≡ false) ws
@@ -312,7 +312,7 @@ module _ {V M : Type 0} where
     apart_still w xs (v ∷ ws) h k =
         (has_id-placed (made program w) xs v.0 ∙ (ap (λ b. b || has_id (ids xs) v.0) (apart_from_less w.0 v.0 h.0) ∙ k.0), apart_still w xs ws h.1 k.1)
 
-    pub with_made-rise : (xs : List (Standing V M)) (ws : List (ℕ × List M)) → IsStrictlySortedBy nat_cmp (ids xs)
+    pub with_made-rise : (xs : List (VertexWithInbox V M)) (ws : List (ℕ × List M)) → IsStrictlySortedBy nat_cmp (ids xs)
         → IsStrictlySortedBy nat_cmp (map (λ (w : ℕ × List M). w.0) ws)
         → AllByRecursion (λ (w : ℕ × List M). has_id (ids xs) w.0 ≡ false) ws → IsStrictlySortedBy nat_cmp (ids (with_made program xs ws))
     unfolding IsStrictlySortedBy
@@ -320,7 +320,7 @@ module _ {V M : Type 0} where
     with_made-rise xs (w ∷ ws) h k apart =
         with_made-rise (placed (made program w) xs) ws (placed-rise (made program w) xs apart.0 h) k.1 (apart_still w xs ws k.0 apart.1)
 
-    has_id-with_made : (xs : List (Standing V M)) (ws : List (ℕ × List M)) (id : ℕ)
+    has_id-with_made : (xs : List (VertexWithInbox V M)) (ws : List (ℕ × List M)) (id : ℕ)
         → has_id (ids (with_made program xs ws)) id ≡ (has_id (map (λ (w : ℕ × List M). w.0) ws) id || has_id (ids xs) id)
     has_id-with_made xs [] id = refl
     has_id-with_made xs (w ∷ ws) id =
@@ -331,14 +331,14 @@ module _ {V M : Type 0} where
 
     module _ (c : Configuration V M) where
       -- the vertices of a superstep stand by rising id
-      pub present-rise : IsStrictlySortedBy nat_cmp (ids c.standings) → AreWaiting (ids c.standings) c.waiting
+      pub present-rise : IsStrictlySortedBy nat_cmp (ids c.with_inboxes) → AreWaiting (ids c.with_inboxes) c.waiting
           → IsStrictlySortedBy nat_cmp (ids (present program c))
-      present-rise h waits = with_made-rise c.standings c.waiting h waits.rise waits.apart
+      present-rise h waits = with_made-rise c.with_inboxes c.waiting h waits.rise waits.apart
 
       -- they are those that have a state, and those that wait
-      pub has_id-present : (id : ℕ) → has_id (ids (present program c)) id ≡ (has_id (map (λ w. w.0) c.waiting) id || has_id (ids c.standings) id)
-      has_id-present id = has_id-with_made c.standings c.waiting id
+      pub has_id-present : (id : ℕ) → has_id (ids (present program c)) id ≡ (has_id (map (λ w. w.0) c.waiting) id || has_id (ids c.with_inboxes) id)
+      has_id-present id = has_id-with_made c.with_inboxes c.waiting id
 
       -- where nobody waits, they are those that have a state
-      pub present-none : c.waiting ≡ [] → present program c ≡ c.standings
-      present-none none = ap (with_made program c.standings) none
+      pub present-none : c.waiting ≡ [] → present program c ≡ c.with_inboxes
+      present-none none = ap (with_made program c.with_inboxes) none

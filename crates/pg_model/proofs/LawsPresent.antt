@@ -15,22 +15,22 @@ use Rattle.pg_graph.proofs.Drafting.{none_there}
 use Rattle.pg_graph.specs.Rows.{Rows, HasRisingIds, row_at}
 use Rattle.pg_graph.specs.declared.missing.Missing.{Missing}
 use Rattle.pg_graph.specs.declared.missing.Missing.TheVariants.{Drop, Create}
-use Rattle.pg_model.specs.ByIds.{state_first, state_left, state_of, waiting_at, outcome_in, made_of, inbox_of, read_off, standing_with, arriving}
+use Rattle.pg_model.specs.ByIds.{state_first, state_left, state_of, waiting_at, outcome_in, made_of, inbox_of, read_off, with_inbox_with, arriving}
 use Rattle.pg_model.specs.ByIds.{state_at, inbox_at, outcome_at, delivered_at, IsIdleAt}
 use Rattle.pg_model.specs.InOrder.{AreWaiting}
 use Rattle.pg_model.specs.Job.{Job, Program, Inputs, Combining}
-use Rattle.pg_model.specs.Needed.{standing_at, inputs_if_active, inputs_at}
+use Rattle.pg_model.specs.Needed.{with_inbox_at, inputs_if_active, inputs_at}
 use Rattle.pg_model.specs.Run.{beginning, configuration, first, present_at, view_at, run_length}
-use Rattle.pg_model.specs.Superstep.{ids, is_empty, is_active, has_id, messages_to, combined, delivered, astray, targets, waiting_after, placed, made}
+use Rattle.pg_model.specs.Superstep.{ids, is_empty, is_active, has_id, messages_to, combined, delivered, undeliverable, targets, waiting_after, placed, made}
 use Rattle.pg_model.specs.Superstep.{with_made, present, idle, sends, next}
 use Rattle.pg_model.proofs.LawsAgreement.{outcome-idle, state_after-idle}
-use Rattle.pg_model.proofs.LawsIds.{ids_rise, ids-next, standing_at-next, standing_after}
+use Rattle.pg_model.proofs.LawsIds.{ids_rise, ids-next, with_inbox_at-next, with_inbox_after}
 use Rattle.pg_model.proofs.LawsInputs.{inputs_of_executed}
 use Rattle.pg_model.proofs.LawsLists.{all_weaker, filter-filter}
 use Rattle.pg_model.proofs.LawsMade.{AreWaiting-none, AreWaiting-after, apart_still, has_id-targets}
-use Rattle.pg_model.proofs.LawsStandings.{standing_is, found_by_id}
+use Rattle.pg_model.proofs.LawsVerticesWithInbox.{with_inbox_is, found_by_id}
 use Rattle.pg_model.specs.declared.configuration.Configuration.{Configuration}
-use Rattle.pg_model.specs.declared.configuration.Standing.{Standing}
+use Rattle.pg_model.specs.declared.configuration.VertexWithInbox.{VertexWithInbox}
 use Rattle.pg_model.specs.declared.configuration.VertexState.{VertexState}
 use Rattle.pg_model.specs.declared.record.Record.{Record}
 use Rattle.pg_model.specs.declared.view.View.{View}
@@ -60,10 +60,10 @@ at_key id key = grind (arith, nat_tests)
 -- ---- messages to one vertex
 
 module _ {M : Type 0} where
-  -- to an id that isn't among the ids, all messages go astray
-  pub delivered-astray : (combining : Option (Combining M)) (is : List ℕ) (sent : List (ℕ × M)) (id : ℕ)
-      → has_id is id ≡ false → delivered combining id (astray is sent) ≡ delivered combining id sent
-  delivered-astray combining is sent id new =
+  -- all messages to an id that isn't among the ids are undeliverable
+  pub delivered-undeliverable : (combining : Option (Combining M)) (is : List ℕ) (sent : List (ℕ × M)) (id : ℕ)
+      → has_id is id ≡ false → delivered combining id (undeliverable is sent) ≡ delivered combining id sent
+  delivered-undeliverable combining is sent id new =
       ap (λ (l : List (ℕ × M)). combined combining (map (λ m. m.1) l))
       (filter-filter (λ m. m.0 == id) (λ m. not (has_id is m.0)) (λ m. m.0 == id) (λ m. each m (m.0 == id) refl) sent)
     where
@@ -118,104 +118,104 @@ module _ {M : Type 0} where
 
 module _ {V M : Type 0} where
   -- a vertex is found just where its id is among the ids
-  pub is_some-standing_at : (id : ℕ) (xs : List (Standing V M)) → is_some (standing_at id xs) ≡ has_id (ids xs) id
-  is_some-standing_at id [] = refl
-  is_some-standing_at id (x ∷ xs) = by (x.state.id == id) (is_some-standing_at id xs)
+  pub is_some-with_inbox_at : (id : ℕ) (xs : List (VertexWithInbox V M)) → is_some (with_inbox_at id xs) ≡ has_id (ids xs) id
+  is_some-with_inbox_at id [] = refl
+  is_some-with_inbox_at id (x ∷ xs) = by (x.state.id == id) (is_some-with_inbox_at id xs)
     where
-      by : (b : Bool) → is_some (standing_at id xs) ≡ has_id (ids xs) id
-          → is_some (cond b (Some x) (standing_at id xs)) ≡ (b || has_id (ids xs) id)
+      by : (b : Bool) → is_some (with_inbox_at id xs) ≡ has_id (ids xs) id
+          → is_some (cond b (Some x) (with_inbox_at id xs)) ≡ (b || has_id (ids xs) id)
       by true rest = refl
       by false rest = rest
 
   -- nothing is found of an id that isn't among them
-  pub standing_at-none : (id : ℕ) (xs : List (Standing V M)) → has_id (ids xs) id ≡ false → standing_at id xs ≡ None
-  standing_at-none id xs h = none_there (standing_at id xs) (is_some-standing_at id xs ∙ h)
+  pub with_inbox_at-none : (id : ℕ) (xs : List (VertexWithInbox V M)) → has_id (ids xs) id ≡ false → with_inbox_at id xs ≡ None
+  with_inbox_at-none id xs h = none_there (with_inbox_at id xs) (is_some-with_inbox_at id xs ∙ h)
 
   -- a vertex put among others is found by its id, and they by theirs
-  standing_at-placed : (x : Standing V M) (ys : List (Standing V M)) (id : ℕ) → has_id (ids ys) x.state.id ≡ false
-      → standing_at id (placed x ys) ≡ cond (x.state.id == id) (Some x) (standing_at id ys)
-  standing_at-placed x [] id new = refl
-  standing_at-placed x (y ∷ ys) id new =
+  with_inbox_at-placed : (x : VertexWithInbox V M) (ys : List (VertexWithInbox V M)) (id : ℕ) → has_id (ids ys) x.state.id ≡ false
+      → with_inbox_at id (placed x ys) ≡ cond (x.state.id == id) (Some x) (with_inbox_at id ys)
+  with_inbox_at-placed x [] id new = refl
+  with_inbox_at-placed x (y ∷ ys) id new =
       let both = or_parts (y.state.id == x.state.id) (has_id (ids ys) x.state.id) new in
-      by (ltb x.state.id y.state.id) both.0 (standing_at-placed x ys id both.1)
+      by (ltb x.state.id y.state.id) both.0 (with_inbox_at-placed x ys id both.1)
     where
       by : (a : Bool) → (y.state.id == x.state.id) ≡ false
-          → standing_at id (placed x ys) ≡ cond (x.state.id == id) (Some x) (standing_at id ys)
-          → standing_at id (cond a (x ∷ y ∷ ys) (y ∷ placed x ys)) ≡ cond (x.state.id == id) (Some x) (standing_at id (y ∷ ys))
+          → with_inbox_at id (placed x ys) ≡ cond (x.state.id == id) (Some x) (with_inbox_at id ys)
+          → with_inbox_at id (cond a (x ∷ y ∷ ys) (y ∷ placed x ys)) ≡ cond (x.state.id == id) (Some x) (with_inbox_at id (y ∷ ys))
       by true unlike rest = refl
       by false unlike rest =
           ap (cond (y.state.id == id) (Some y)) rest
-          ∙ either_first (x.state.id == id) (y.state.id == id) (Some x) (Some y) (standing_at id ys)
+          ∙ either_first (x.state.id == id) (y.state.id == id) (Some x) (Some y) (with_inbox_at id ys)
           (λ e e'. true≢false (sym (ap (λ (n : ℕ). y.state.id == n) (eqb-true x.state.id id e) ∙ e') ∙ unlike))
 
   module _ (program : Program V M) where
     -- and so are those that messages make
-    standing_at-with_made : (xs : List (Standing V M)) (ws : List (ℕ × List M)) (id : ℕ)
+    with_inbox_at-with_made : (xs : List (VertexWithInbox V M)) (ws : List (ℕ × List M)) (id : ℕ)
         → IsStrictlySortedBy nat_cmp (map (λ (w : ℕ × List M). w.0) ws)
         → AllByRecursion (λ (w : ℕ × List M). has_id (ids xs) w.0 ≡ false) ws
-        → standing_at id (with_made program xs ws) ≡ option_or (standing_at id xs) (option_map (made program) (waiting_at id ws))
+        → with_inbox_at id (with_made program xs ws) ≡ option_or (with_inbox_at id xs) (option_map (made program) (waiting_at id ws))
     unfolding IsStrictlySortedBy
-    standing_at-with_made xs [] id h apart = or_nothing (standing_at id xs)
-    standing_at-with_made xs (w ∷ ws) id h apart =
-        standing_at-with_made (placed (made program w) xs) ws id h.1 (apart_still program w xs ws h.0 apart.1)
-        ∙ (ap (λ (o : Option (Standing V M)). option_or o rest) (standing_at-placed (made program w) xs id apart.0) ∙ by (w.0 == id) refl)
+    with_inbox_at-with_made xs [] id h apart = or_nothing (with_inbox_at id xs)
+    with_inbox_at-with_made xs (w ∷ ws) id h apart =
+        with_inbox_at-with_made (placed (made program w) xs) ws id h.1 (apart_still program w xs ws h.0 apart.1)
+        ∙ (ap (λ (o : Option (VertexWithInbox V M)). option_or o rest) (with_inbox_at-placed (made program w) xs id apart.0) ∙ by (w.0 == id) refl)
       where
-        rest : Option (Standing V M)
+        rest : Option (VertexWithInbox V M)
         rest = option_map (made program) (waiting_at id ws)
 
         by : (b : Bool) → (w.0 == id) ≡ b
-            → option_or (cond b (Some (made program w)) (standing_at id xs)) rest
-            ≡ option_or (standing_at id xs) (option_map (made program) (cond b (Some w) (waiting_at id ws)))
+            → option_or (cond b (Some (made program w)) (with_inbox_at id xs)) rest
+            ≡ option_or (with_inbox_at id xs) (option_map (made program) (cond b (Some w) (waiting_at id ws)))
         by true e =
             let new : has_id (ids xs) id ≡ false = sym (ap (has_id (ids xs)) (eqb-true w.0 id e)) ∙ apart.0 in
-            ap (λ (o : Option (Standing V M)). option_or o (Some (made program w))) (sym (standing_at-none id xs new))
+            ap (λ (o : Option (VertexWithInbox V M)). option_or o (Some (made program w))) (sym (with_inbox_at-none id xs new))
         by false e = refl
 
     -- messages make a vertex where there's no state
-    made_with : (k id : ℕ) (ms : List M) → k ≡ id → is_empty ms ≡ false → Some (made program (k, ms)) ≡ standing_with program id None ms
+    made_with : (k id : ℕ) (ms : List M) → k ≡ id → is_empty ms ≡ false → Some (made program (k, ms)) ≡ with_inbox_with program id None ms
     made_with k id [] e h = absurd (true≢false h)
     made_with k id (m ∷ ms) e h = ap (λ (n : ℕ). Some (made program (n, m ∷ ms))) e
 
     -- a vertex with a state or made by what waits stands with its state, if it has one, and its inbox
-    stands_by : (id : ℕ) (o : Option (Standing V M)) (w : Option (ℕ × List M))
+    stands_by : (id : ℕ) (o : Option (VertexWithInbox V M)) (w : Option (ℕ × List M))
         → ((v : ℕ × List M) → w ≡ Some v → (v.0 ≡ id) × (is_empty v.1 ≡ false))
         → option_or o (option_map (made program) w)
-        ≡ standing_with program id (state_of o) (inbox_of (option_or o (option_map (made program) w)))
+        ≡ with_inbox_with program id (state_of o) (inbox_of (option_or o (option_map (made program) w)))
     stands_by id (Some x) w h = refl
     stands_by id None None h = refl
     stands_by id None (Some v) h = let r = h v refl in made_with v.0 id v.1 r.0 r.1
 
-    module _ (c : Configuration V M) (waits : AreWaiting (ids c.standings) c.waiting) (id : ℕ) where
+    module _ (c : Configuration V M) (waits : AreWaiting (ids c.with_inboxes) c.waiting) (id : ℕ) where
       -- a vertex of a superstep has a state, or else it waits to be made
-      pub standing_at-present : standing_at id (present program c)
-          ≡ option_or (standing_at id c.standings) (option_map (made program) (waiting_at id c.waiting))
-      standing_at-present = standing_at-with_made c.standings c.waiting id waits.rise waits.apart
+      pub with_inbox_at-present : with_inbox_at id (present program c)
+          ≡ option_or (with_inbox_at id c.with_inboxes) (option_map (made program) (waiting_at id c.waiting))
+      with_inbox_at-present = with_inbox_at-with_made c.with_inboxes c.waiting id waits.rise waits.apart
 
       -- it stands there with its state, if it has one, and with its inbox
-      pub stands_with-present : standing_at id (present program c)
-          ≡ standing_with program id (state_of (standing_at id c.standings)) (inbox_of (standing_at id (present program c)))
+      pub stands_with-present : with_inbox_at id (present program c)
+          ≡ with_inbox_with program id (state_of (with_inbox_at id c.with_inboxes)) (inbox_of (with_inbox_at id (present program c)))
       stands_with-present =
-          let state : Option (VertexState V) = state_of (standing_at id c.standings) in
-          subst (λ (o : Option (Standing V M)). o ≡ standing_with program id state (inbox_of o)) (sym standing_at-present)
-          (stands_by id (standing_at id c.standings) (waiting_at id c.waiting) (waits_right c.waiting id waits.some))
+          let state : Option (VertexState V) = state_of (with_inbox_at id c.with_inboxes) in
+          subst (λ (o : Option (VertexWithInbox V M)). o ≡ with_inbox_with program id state (inbox_of o)) (sym with_inbox_at-present)
+          (stands_by id (with_inbox_at id c.with_inboxes) (waiting_at id c.waiting) (waits_right c.waiting id waits.some))
 
   -- what isn't there has no state
   none_with : (program : Program V M) (id : ℕ) (state : Option (VertexState V)) (inbox : List M)
-      → None ≡ standing_with program id state inbox → state ≡ None
+      → None ≡ with_inbox_with program id state inbox → state ≡ None
   none_with program id None inbox e = refl
   none_with program id (Some state) inbox e = absurd (none-some _ e)
 
   -- what isn't active has one, since messages make active vertices only
-  idle_with : (program : Program V M) (id : ℕ) (state : Option (VertexState V)) (inbox : List M) (x : Standing V M)
-      → Some x ≡ standing_with program id state inbox → is_active x ≡ false → Some x.state ≡ state
-  idle_with program id (Some state) inbox x e idles = ap (option_map (λ (y : Standing V M). y.state)) e
+  idle_with : (program : Program V M) (id : ℕ) (state : Option (VertexState V)) (inbox : List M) (x : VertexWithInbox V M)
+      → Some x ≡ with_inbox_with program id state inbox → is_active x ≡ false → Some x.state ≡ state
+  idle_with program id (Some state) inbox x e idles = ap (option_map (λ (y : VertexWithInbox V M). y.state)) e
   idle_with program id None [] x e idles = absurd (none-some x (sym e))
   idle_with program id None (m ∷ ms) x e idles =
       absurd (true≢false (sym (ap is_active (same_Some x (made program (id, m ∷ ms)) e)) ∙ idles))
 
   -- there's no vertex, or one that isn't active
-  abbrev pub MissingOrIdle : Option (Standing V M) → Type 0
-  MissingOrIdle o = (o ≡ None) ⊎ ((x : Standing V M) × (o ≡ Some x) × (is_active x ≡ false))
+  abbrev pub MissingOrIdle : Option (VertexWithInbox V M) → Type 0
+  MissingOrIdle o = (o ≡ None) ⊎ ((x : VertexWithInbox V M) × (o ≡ Some x) × (is_active x ≡ false))
 
   -- all messages arrive where there's a state
   arriving-some : (missing : Missing) (state : VertexState V) (messages : List M) → messages ≡ arriving missing (Some state) messages
@@ -225,60 +225,60 @@ module _ {V M : Type 0} where
   -- what waits for an id without a state is what arrives there
   waiting_inbox : (program : Program V M) (missing : Missing) (combining : Option (Combining M))
       → (is : List ℕ) (all : List (ℕ × M)) (id : ℕ) → has_id is id ≡ false
-      → inbox_of (option_map (made program) (waiting_at id (waiting_after missing combining (astray is all))))
+      → inbox_of (option_map (made program) (waiting_at id (waiting_after missing combining (undeliverable is all))))
       ≡ arriving {V = V} missing None (delivered combining id all)
   waiting_inbox program Drop combining is all id new = refl
   waiting_inbox program Create combining is all id new =
       ap (λ (o : Option (ℕ × List M)). inbox_of (option_map (made program) o))
-      (find_inbox (λ k. delivered combining k strays) (targets strays) id)
-      ∙ by (has_id (targets strays) id) refl
+      (find_inbox (λ k. delivered combining k undeliverables) (targets undeliverables) id)
+      ∙ by (has_id (targets undeliverables) id) refl
     where
-      strays : List (ℕ × M)
-      strays = astray is all
+      undeliverables : List (ℕ × M)
+      undeliverables = undeliverable is all
 
-      by : (b : Bool) → has_id (targets strays) id ≡ b
-          → inbox_of (option_map (made program) (cond b (Some (id, delivered combining id strays)) None)) ≡ delivered combining id all
-      by true e = delivered-astray combining is all id new
-      by false e = sym (delivered-none combining strays id e) ∙ delivered-astray combining is all id new
+      by : (b : Bool) → has_id (targets undeliverables) id ≡ b
+          → inbox_of (option_map (made program) (cond b (Some (id, delivered combining id undeliverables)) None)) ≡ delivered combining id all
+      by true e = delivered-undeliverable combining is all id new
+      by false e = sym (delivered-none combining undeliverables id e) ∙ delivered-undeliverable combining is all id new
 
   -- ---- as a run begins
 
   -- the vertex of a row is found by the row's id, with the state that the row gives it
   state_of_row : (program : Program V M) (id : ℕ) (rows : Rows)
-      → state_of (standing_at id (map (beginning program) rows)) ≡ option_map (state_first program id) (row_at id rows)
+      → state_of (with_inbox_at id (map (beginning program) rows)) ≡ option_map (state_first program id) (row_at id rows)
   state_of_row program id [] = refl
   state_of_row program id (row ∷ rows) =
       by (row.0 == id) refl (state_of_row program id rows)
       ∙ ap (λ (b : Bool). option_map (state_first program id) (cond b (Some row.1) (row_at id rows))) (sym (at_key id row.0))
     where
-      all : List (Standing V M)
+      all : List (VertexWithInbox V M)
       all = map (beginning program) rows
 
       by : (b : Bool) → (row.0 == id) ≡ b
-          → state_of (standing_at id all) ≡ option_map (state_first program id) (row_at id rows)
-          → state_of (cond b (Some (beginning program row)) (standing_at id all))
+          → state_of (with_inbox_at id all) ≡ option_map (state_first program id) (row_at id rows)
+          → state_of (cond b (Some (beginning program row)) (with_inbox_at id all))
           ≡ option_map (state_first program id) (cond b (Some row.1) (row_at id rows))
       by true e rest = ap (λ (n : ℕ). Some (beginning program (n, row.1)).state) (eqb-true row.0 id e)
       by false e rest = rest
 
   -- and with an empty inbox
-  inbox_of_row : (program : Program V M) (id : ℕ) (rows : Rows) → inbox_of (standing_at id (map (beginning program) rows)) ≡ []
+  inbox_of_row : (program : Program V M) (id : ℕ) (rows : Rows) → inbox_of (with_inbox_at id (map (beginning program) rows)) ≡ []
   inbox_of_row program id [] = refl
   inbox_of_row program id (row ∷ rows) =
-      cond_both (row.0 == id) (Some (beginning program row)) (standing_at id (map (beginning program) rows))
-      (λ (o : Option (Standing V M)). inbox_of o ≡ []) (λ _. refl) (λ _. inbox_of_row program id rows)
+      cond_both (row.0 == id) (Some (beginning program row)) (with_inbox_at id (map (beginning program) rows))
+      (λ (o : Option (VertexWithInbox V M)). inbox_of o ≡ []) (λ _. refl) (λ _. inbox_of_row program id rows)
 
 -- ---- vertices of a run
 
 module _ {V M : Type 0} (job : Job V M) (rows : Rows) where
   -- what waits is in order all along
-  AreWaiting-at : (s : ℕ) → AreWaiting (ids (configuration job rows s).standings) (configuration job rows s).waiting
+  AreWaiting-at : (s : ℕ) → AreWaiting (ids (configuration job rows s).with_inboxes) (configuration job rows s).waiting
   unfolding configuration first next
   AreWaiting-at zero = AreWaiting-none _
   AreWaiting-at (suc s) =
-      let xs : List (Standing V M) = present_at job rows s in
+      let xs : List (VertexWithInbox V M) = present_at job rows s in
       let all : List (ℕ × M) = sends job.program (view_at job rows s) xs in
-      subst (λ is. AreWaiting is (waiting_after job.missing job.combining (astray (ids xs) all)))
+      subst (λ is. AreWaiting is (waiting_after job.missing job.combining (undeliverable (ids xs) all)))
       (sym (ids-next job s (configuration job rows s))) (AreWaiting-after job.missing job.combining (ids xs) all)
 
   -- as the run begins each row gives its vertex a state
@@ -292,29 +292,29 @@ module _ {V M : Type 0} (job : Job V M) (rows : Rows) where
   inbox_at-first id = inbox_of_row job.program id rows
 
   -- a vertex stands in a superstep with its state, if it has one, and its inbox
-  pub standing_at-state : (s id : ℕ)
-      → standing_at id (present_at job rows s) ≡ standing_with job.program id (state_at job rows s id) (inbox_at job rows s id)
-  standing_at-state s id = stands_with-present job.program (configuration job rows s) (AreWaiting-at s) id
+  pub with_inbox_at-state : (s id : ℕ)
+      → with_inbox_at id (present_at job rows s) ≡ with_inbox_with job.program id (state_at job rows s id) (inbox_at job rows s id)
+  with_inbox_at-state s id = stands_with-present job.program (configuration job rows s) (AreWaiting-at s) id
 
   -- a superstep leaves each of its vertices the state of its outcome
   pub state_at-next : (s id : ℕ)
-      → state_at job rows (suc s) id ≡ option_map (state_left job rows s) (standing_at id (present_at job rows s))
+      → state_at job rows (suc s) id ≡ option_map (state_left job rows s) (with_inbox_at id (present_at job rows s))
   unfolding configuration
   state_at-next s id =
-      ap state_of (standing_at-next job s (configuration job rows s) id)
-      ∙ mapped_twice (λ (x : Standing V M). x.state) (standing_after job (view_at job rows s) (present_at job rows s))
-      (standing_at id (present_at job rows s))
+      ap state_of (with_inbox_at-next job s (configuration job rows s) id)
+      ∙ mapped_twice (λ (x : VertexWithInbox V M). x.state) (with_inbox_after job (view_at job rows s) (present_at job rows s))
+      (with_inbox_at id (present_at job rows s))
 
   -- and brings to each id what was sent to it; under `Drop` only where it has a state
   pub inbox_at-next : (s id : ℕ)
       → inbox_at job rows (suc s) id ≡ arriving job.missing (state_at job rows (suc s) id) (delivered_at job rows s id)
   unfolding configuration next
   inbox_at-next s id =
-      ap inbox_of (standing_at-present job.program (configuration job rows (suc s)) (AreWaiting-at (suc s)) id)
-      ∙ subst (λ (o : Option (Standing V M)). inbox_of (option_or o made_then) ≡ arriving job.missing (state_of o) brought)
-      (sym (standing_at-next job s (configuration job rows s) id)) (by (standing_at id xs) refl)
+      ap inbox_of (with_inbox_at-present job.program (configuration job rows (suc s)) (AreWaiting-at (suc s)) id)
+      ∙ subst (λ (o : Option (VertexWithInbox V M)). inbox_of (option_or o made_then) ≡ arriving job.missing (state_of o) brought)
+      (sym (with_inbox_at-next job s (configuration job rows s) id)) (by (with_inbox_at id xs) refl)
     where
-      xs : List (Standing V M)
+      xs : List (VertexWithInbox V M)
       xs = present_at job rows s
 
       all : List (ℕ × M)
@@ -323,48 +323,48 @@ module _ {V M : Type 0} (job : Job V M) (rows : Rows) where
       brought : List M
       brought = delivered job.combining id all
 
-      made_then : Option (Standing V M)
-      made_then = option_map (made job.program) (waiting_at id (waiting_after job.missing job.combining (astray (ids xs) all)))
+      made_then : Option (VertexWithInbox V M)
+      made_then = option_map (made job.program) (waiting_at id (waiting_after job.missing job.combining (undeliverable (ids xs) all)))
 
-      after : Standing V M → Standing V M
-      after = standing_after job (view_at job rows s) xs
+      after : VertexWithInbox V M → VertexWithInbox V M
+      after = with_inbox_after job (view_at job rows s) xs
 
-      by : (o : Option (Standing V M)) → standing_at id xs ≡ o
+      by : (o : Option (VertexWithInbox V M)) → with_inbox_at id xs ≡ o
           → inbox_of (option_or (option_map after o) made_then) ≡ arriving job.missing (state_of (option_map after o)) brought
       by (Some x) e =
-          ap (λ (n : ℕ). delivered job.combining n all) (standing_is id xs x e).0
+          ap (λ (n : ℕ). delivered job.combining n all) (with_inbox_is id xs x e).0
           ∙ arriving-some job.missing (after x).state brought
       by None e =
-          waiting_inbox job.program job.missing job.combining (ids xs) all id (sym (is_some-standing_at id xs) ∙ ap is_some e)
+          waiting_inbox job.program job.missing job.combining (ids xs) all id (sym (is_some-with_inbox_at id xs) ∙ ap is_some e)
 
   -- so this is how each id stands in the next superstep: with its state; or made by what was sent to it; or not at all
-  pub standing_at-next_state : (s id : ℕ)
-      → standing_at id (present_at job rows (suc s))
-      ≡ standing_with job.program id (state_at job rows (suc s) id)
+  pub with_inbox_at-next_state : (s id : ℕ)
+      → with_inbox_at id (present_at job rows (suc s))
+      ≡ with_inbox_with job.program id (state_at job rows (suc s) id)
       (arriving job.missing (state_at job rows (suc s) id) (delivered_at job rows s id))
-  standing_at-next_state s id =
-      standing_at-state (suc s) id ∙ ap (standing_with job.program id (state_at job rows (suc s) id)) (inbox_at-next s id)
+  with_inbox_at-next_state s id =
+      with_inbox_at-state (suc s) id ∙ ap (with_inbox_with job.program id (state_at job rows (suc s) id)) (inbox_at-next s id)
 
   -- ---- inputs
 
   -- in a superstep of the run an id has the inputs of its vertex
   pub inputs_within : (s id : ℕ) → s < run_length job rows
-      → inputs_at job rows s id ≡ option_and_then (inputs_if_active (view_at job rows s)) (standing_at id (present_at job rows s))
+      → inputs_at job rows s id ≡ option_and_then (inputs_if_active (view_at job rows s)) (with_inbox_at id (present_at job rows s))
   unfolding inputs_at
   inputs_within s id within =
-      let there : Option (Inputs V M) = option_and_then (inputs_if_active (view_at job rows s)) (standing_at id (present_at job rows s)) in
+      let there : Option (Inputs V M) = option_and_then (inputs_if_active (view_at job rows s)) (with_inbox_at id (present_at job rows s)) in
       ap (λ (b : Bool). cond b there None) (lt-ltb s (run_length job rows) within)
 
   -- where there are none, the vertex isn't there or isn't active
-  pub missing_or_idle : (s id : ℕ) → s < run_length job rows → inputs_at job rows s id ≡ None → MissingOrIdle (standing_at id (present_at job rows s))
-  missing_or_idle s id within none = by (standing_at id (present_at job rows s)) refl
+  pub missing_or_idle : (s id : ℕ) → s < run_length job rows → inputs_at job rows s id ≡ None → MissingOrIdle (with_inbox_at id (present_at job rows s))
+  missing_or_idle s id within none = by (with_inbox_at id (present_at job rows s)) refl
     where
-      idles : (x : Standing V M) → standing_at id (present_at job rows s) ≡ Some x → (b : Bool) → is_active x ≡ b → is_active x ≡ false
+      idles : (x : VertexWithInbox V M) → with_inbox_at id (present_at job rows s) ≡ Some x → (b : Bool) → is_active x ≡ b → is_active x ≡ false
       idles x at true e =
           absurd (none-some _ (sym none ∙ inputs_of_executed job rows s id x (record { within = within; present = at; active = e })))
       idles x at false e = e
 
-      by : (o : Option (Standing V M)) → standing_at id (present_at job rows s) ≡ o → MissingOrIdle (standing_at id (present_at job rows s))
+      by : (o : Option (VertexWithInbox V M)) → with_inbox_at id (present_at job rows s) ≡ o → MissingOrIdle (with_inbox_at id (present_at job rows s))
       by None e = inl e
       by (Some x) e = inr (x, e, idles x e (is_active x) refl)
 
@@ -374,8 +374,8 @@ module _ {V M : Type 0} (job : Job V M) (rows : Rows) where
       elim (missing_or_idle s id within none) [
         | inl missing ↦ record {
           inputs = none;
-          sent = ap (λ (o : Option (Standing V M)). read_off (λ r. r.sent) (option_map (outcome_in job rows s) o)) missing;
-          contributed = ap (λ (o : Option (Standing V M)). read_off (λ r. r.contributed) (option_map (outcome_in job rows s) o)) missing;
+          sent = ap (λ (o : Option (VertexWithInbox V M)). read_off (λ r. r.sent) (option_map (outcome_in job rows s) o)) missing;
+          contributed = ap (λ (o : Option (VertexWithInbox V M)). read_off (λ r. r.contributed) (option_map (outcome_in job rows s) o)) missing;
           state = state_at-next s id ∙ (ap (option_map (state_left job rows s)) missing ∙ sym (before_none missing));
         }
         | inr there ↦ record {
@@ -389,18 +389,18 @@ module _ {V M : Type 0} (job : Job V M) (rows : Rows) where
       view : View
       view = view_at job rows s
 
-      before_none : standing_at id (present_at job rows s) ≡ None → state_at job rows s id ≡ None
+      before_none : with_inbox_at id (present_at job rows s) ≡ None → state_at job rows s id ≡ None
       before_none missing =
-          none_with job.program id (state_at job rows s id) (inbox_at job rows s id) (sym missing ∙ standing_at-state s id)
+          none_with job.program id (state_at job rows s id) (inbox_at job rows s id) (sym missing ∙ with_inbox_at-state s id)
 
-      before_idle : (x : Standing V M) → standing_at id (present_at job rows s) ≡ Some x → is_active x ≡ false → Some x.state ≡ state_at job rows s id
+      before_idle : (x : VertexWithInbox V M) → with_inbox_at id (present_at job rows s) ≡ Some x → is_active x ≡ false → Some x.state ≡ state_at job rows s id
       before_idle x at idles =
-          idle_with job.program id (state_at job rows s id) (inbox_at job rows s id) x (sym at ∙ standing_at-state s id) idles
+          idle_with job.program id (state_at job rows s id) (inbox_at job rows s id) x (sym at ∙ with_inbox_at-state s id) idles
 
-      left : (x : Standing V M) → is_active x ≡ false → Some (state_left job rows s x) ≡ Some x.state
+      left : (x : VertexWithInbox V M) → is_active x ≡ false → Some (state_left job rows s x) ≡ Some x.state
       left x idles = ap Some (state_after-idle job.program view x idles)
 
-      outcome_then : (x : Standing V M) → standing_at id (present_at job rows s) ≡ Some x → is_active x ≡ false → outcome_at job rows s id ≡ Some (idle x.state)
+      outcome_then : (x : VertexWithInbox V M) → with_inbox_at id (present_at job rows s) ≡ Some x → is_active x ≡ false → outcome_at job rows s id ≡ Some (idle x.state)
       outcome_then x at idles = ap (option_map (outcome_in job rows s)) at ∙ ap Some (outcome-idle job.program view x idles)
 
 -- ---- what all vertices give
@@ -427,12 +427,12 @@ pub flat_map-present : {V M X : Type 0} (job : Job V M) (rows : Rows) → HasRis
     → made_of job rows part picks s
     ≡ flat_map (λ id. cond (picks id) (read_off (part id) (outcome_at job rows s id)) []) (ids (present_at job rows s))
 flat_map-present {V = V} {M = M} {X = X} job rows rising part picks s =
-    let xs : List (Standing V M) = present_at job rows s in
-    let gives : Standing V M → List X = λ x. part x.state.id (outcome_in job rows s x) in
+    let xs : List (VertexWithInbox V M) = present_at job rows s in
+    let gives : VertexWithInbox V M → List X = λ x. part x.state.id (outcome_in job rows s x) in
     let has : ℕ → List X = λ id. cond (picks id) (read_off (part id) (outcome_at job rows s id)) [] in
-    let read : ℕ → Option (Standing V M) → List X = λ id o. cond (picks id) (read_off (part id) (option_map (outcome_in job rows s) o)) [] in
+    let read : ℕ → Option (VertexWithInbox V M) → List X = λ id o. cond (picks id) (read_off (part id) (option_map (outcome_in job rows s) o)) [] in
     flat_map-picked gives (λ x. picks x.state.id) xs
     ∙ (flat_map-each (λ x. cond (picks x.state.id) (gives x) []) (λ x. has x.state.id) xs
-    (all_weaker (λ (x : Standing V M). standing_at x.state.id xs ≡ Some x) (λ (x : Standing V M). cond (picks x.state.id) (gives x) [] ≡ has x.state.id)
+    (all_weaker (λ (x : VertexWithInbox V M). with_inbox_at x.state.id xs ≡ Some x) (λ (x : VertexWithInbox V M). cond (picks x.state.id) (gives x) [] ≡ has x.state.id)
     (λ x at. ap (read x.state.id) (sym at)) xs (found_by_id xs (ids_rise job rows rising s)))
-    ∙ sym (flat_map-map has (λ (x : Standing V M). x.state.id) xs))
+    ∙ sym (flat_map-map has (λ (x : VertexWithInbox V M). x.state.id) xs))

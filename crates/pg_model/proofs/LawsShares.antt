@@ -16,13 +16,13 @@ use Rattle.pg_model.specs.Superstep.{ids, is_active, outcome, state_after, sends
 use Rattle.pg_model.specs.Run.{configuration, present_at, view_at, executed, executions_below, run_length}
 use Rattle.pg_model.specs.Needed.{is_needed, needed_in}
 use Rattle.pg_model.specs.Order.{sendings_from, sendings}
-use Rattle.pg_model.specs.Share.{belongs, standings_of_share, present_in_share, records_in, records_below, share, sendings_of}
+use Rattle.pg_model.specs.Share.{belongs, with_inboxes_of_share, present_in_share, records_in, records_below, share, sendings_of}
 use Rattle.pg_model.proofs.LawsAgreement.{outcome-idle}
 use Rattle.pg_model.proofs.LawsFolds.{gathered_at-IsPermutation}
-use Rattle.pg_model.proofs.LawsIds.{ids_rise, standing_after}
+use Rattle.pg_model.proofs.LawsIds.{ids_rise, with_inbox_after}
 use Rattle.pg_model.proofs.LawsNeeded.{needed_in-none}
 use Rattle.pg_model.proofs.LawsLists.{all_pass, filter-map, flat_map-filter, flat_map-classes, classes, count-classes, count-none}
-use Rattle.pg_model.specs.declared.configuration.Standing.{Standing}
+use Rattle.pg_model.specs.declared.configuration.VertexWithInbox.{VertexWithInbox}
 use Rattle.pg_model.specs.declared.record.Record.{Record}
 use Rattle.pg_model.specs.declared.view.View.{View}
 
@@ -41,25 +41,25 @@ at_place-append place a b =
 
 module _ {V M : Type 0} (program : Program V M) (view : View) where
   -- only the vertices that are executed send
-  pub sends-active : (xs : List (Standing V M)) → sends program view (filter is_active xs) ≡ sends program view xs
+  pub sends-active : (xs : List (VertexWithInbox V M)) → sends program view (filter is_active xs) ≡ sends program view xs
   sends-active xs =
-      flat_map-filter (λ (x : Standing V M). (outcome program view x).sent) is_active
+      flat_map-filter (λ (x : VertexWithInbox V M). (outcome program view x).sent) is_active
       (λ x e. ap (λ (r : Record V M). r.sent) (outcome-idle program view x e)) xs
 
   -- and so are all messages with their senders
-  pub sendings-active : (xs : List (Standing V M)) → sendings program view (filter is_active xs) ≡ sendings program view xs
+  pub sendings-active : (xs : List (VertexWithInbox V M)) → sendings program view (filter is_active xs) ≡ sendings program view xs
   sendings-active xs =
-      flat_map-filter (λ (x : Standing V M). sendings_from x.state.id 0 (outcome program view x).sent) is_active
+      flat_map-filter (λ (x : VertexWithInbox V M). sendings_from x.state.id 0 (outcome program view x).sent) is_active
       (λ x e. ap (λ (r : Record V M). sendings_from x.state.id 0 r.sent) (outcome-idle program view x e)) xs
 
   -- only they contribute
-  pub contributions-active : (xs : List (Standing V M)) → contributions program view (filter is_active xs) ≡ contributions program view xs
+  pub contributions-active : (xs : List (VertexWithInbox V M)) → contributions program view (filter is_active xs) ≡ contributions program view xs
   contributions-active xs =
-      flat_map-filter (λ (x : Standing V M). (outcome program view x).contributed) is_active
+      flat_map-filter (λ (x : VertexWithInbox V M). (outcome program view x).contributed) is_active
       (λ x e. ap (λ (r : Record V M). r.contributed) (outcome-idle program view x e)) xs
 
   -- the contributions at a place are each vertex's, one after another
-  pub at_place-contributions : (place : ℕ) (xs : List (Standing V M))
+  pub at_place-contributions : (place : ℕ) (xs : List (VertexWithInbox V M))
       → at_place place (contributions program view xs) ≡ flat_map (λ x. at_place place (outcome program view x).contributed) xs
   at_place-contributions place [] = refl
   at_place-contributions place (x ∷ xs) =
@@ -67,16 +67,16 @@ module _ {V M : Type 0} (program : Program V M) (view : View) where
       ∙ ap (◌++◌ (at_place place (outcome program view x).contributed)) (at_place-contributions place xs)
 
 module _ {V M : Type 0} (job : Job V M) (rows : Rows) (n : ℕ) where
-  partition_of : Standing V M → ℕ
+  partition_of : VertexWithInbox V M → ℕ
   partition_of x = x.state.id % n
 
   module _ (p : ℕ) where
     -- a superstep takes a partition's vertices to what it makes of them
-    pub standings_of_share-next : (s : ℕ)
-        → standings_of_share job rows n p (suc s) ≡ map (standing_after job (view_at job rows s) (present_at job rows s)) (present_in_share job rows n p s)
+    pub with_inboxes_of_share-next : (s : ℕ)
+        → with_inboxes_of_share job rows n p (suc s) ≡ map (with_inbox_after job (view_at job rows s) (present_at job rows s)) (present_in_share job rows n p s)
     unfolding configuration next
-    standings_of_share-next s =
-        filter-map (λ (x : Standing V M). belongs n p x.state.id) (standing_after job (view_at job rows s) (present_at job rows s)) (present_at job rows s)
+    with_inboxes_of_share-next s =
+        filter-map (λ (x : VertexWithInbox V M). belongs n p x.state.id) (with_inbox_after job (view_at job rows s) (present_at job rows s)) (present_at job rows s)
 
     -- so the share grows by the records of the superstep
     pub share-next : (s : ℕ)
@@ -86,24 +86,24 @@ module _ {V M : Type 0} (job : Job V M) (rows : Rows) (n : ℕ) where
         }
     unfolding share records_below
     share-next s =
-        let states : map (λ (x : Standing V M). x.state) (standings_of_share job rows n p (suc s)) ≡ map
-        (λ (x : Standing V M). state_after x.state (outcome job.program (view_at job rows s) x))
-        (present_in_share job rows n p s) = ap (map (λ (x : Standing V M). x.state)) (standings_of_share-next s)
-        ∙ map-map (λ (x : Standing V M). x.state) (standing_after job (view_at job rows s) (present_at job rows s)) (present_in_share job rows n p s) in
+        let states : map (λ (x : VertexWithInbox V M). x.state) (with_inboxes_of_share job rows n p (suc s)) ≡ map
+        (λ (x : VertexWithInbox V M). state_after x.state (outcome job.program (view_at job rows s) x))
+        (present_in_share job rows n p s) = ap (map (λ (x : VertexWithInbox V M). x.state)) (with_inboxes_of_share-next s)
+        ∙ map-map (λ (x : VertexWithInbox V M). x.state) (with_inbox_after job (view_at job rows s) (present_at job rows s)) (present_in_share job rows n p s) in
         λ i. record { states = states i; records = records_below job rows n p s ++ records_in job rows n p s ∷ [] }
 
     -- a partition's ids rise
     pub ids_rise_in_share : HasRisingIds rows → (s : ℕ) → IsStrictlySortedBy nat_cmp (ids (present_in_share job rows n p s))
     ids_rise_in_share rising s =
-        let xs : List (Standing V M) = present_at job rows s in
-        subst (IsStrictlySortedBy nat_cmp) (filter-map (belongs n p) (λ (x : Standing V M). x.state.id) xs)
+        let xs : List (VertexWithInbox V M) = present_at job rows s in
+        subst (IsStrictlySortedBy nat_cmp) (filter-map (belongs n p) (λ (x : VertexWithInbox V M). x.state.id) xs)
         (IsStrictlySortedBy-filter nat_cmp (belongs n p) (ids xs) (ids_rise job rows rising s))
 
     -- the records of a superstep have all that the partition's vertices sent in it
     pub sends-records_in : (s : ℕ)
         → flat_map (λ r. r.1.sent) (records_in job rows n p s) ≡ sends job.program (view_at job rows s) (present_in_share job rows n p s)
     sends-records_in s =
-        flat_map-map (λ (r : ℕ × Record V M). r.1.sent) (λ (x : Standing V M). (x.state.id, outcome job.program (view_at job rows s) x))
+        flat_map-map (λ (r : ℕ × Record V M). r.1.sent) (λ (x : VertexWithInbox V M). (x.state.id, outcome job.program (view_at job rows s) x))
         (filter is_active (present_in_share job rows n p s))
         ∙ sends-active job.program (view_at job rows s) (present_in_share job rows n p s)
 
@@ -111,7 +111,7 @@ module _ {V M : Type 0} (job : Job V M) (rows : Rows) (n : ℕ) where
     pub sendings-records_in : (s : ℕ) → sendings_of (records_in job rows n p s) ≡ sendings job.program (view_at job rows s) (present_in_share job rows n p s)
     sendings-records_in s =
         flat_map-map (λ (r : ℕ × Record V M). sendings_from r.0 0 r.1.sent)
-        (λ (x : Standing V M). (x.state.id, outcome job.program (view_at job rows s) x))
+        (λ (x : VertexWithInbox V M). (x.state.id, outcome job.program (view_at job rows s) x))
         (filter is_active (present_in_share job rows n p s))
         ∙ sendings-active job.program (view_at job rows s) (present_in_share job rows n p s)
 
@@ -120,7 +120,7 @@ module _ {V M : Type 0} (job : Job V M) (rows : Rows) (n : ℕ) where
         → flat_map (λ r. r.1.contributed) (records_in job rows n p s) ≡ contributions job.program (view_at job rows s) (present_in_share job rows n p s)
     contributions-records_in s =
         flat_map-map (λ (r : ℕ × Record V M). r.1.contributed)
-        (λ (x : Standing V M). (x.state.id, outcome job.program (view_at job rows s) x))
+        (λ (x : VertexWithInbox V M). (x.state.id, outcome job.program (view_at job rows s) x))
         (filter is_active (present_in_share job rows n p s))
         ∙ contributions-active job.program (view_at job rows s) (present_in_share job rows n p s)
 
@@ -128,15 +128,15 @@ module _ {V M : Type 0} (job : Job V M) (rows : Rows) (n : ℕ) where
     length-records_in s = length-map (filter is_active (present_in_share job rows n p s)) _ ∙ length-filter is_active (present_in_share job rows n p s)
 
   module _ (some : 0 < n) where
-    within : (x : Standing V M) → partition_of x < n
+    within : (x : VertexWithInbox V M) → partition_of x < n
     unfolding partition_of
     within x = mod-lt x.state.id some
 
     -- all vertices that have a state are those of the partitions, in another order
-    pub standings_in_shares : (s : ℕ)
-        → IsPermutation (configuration job rows s).standings (flat_map (λ p. standings_of_share job rows n p s) (range_with_len 0 n))
+    pub with_inboxes_in_shares : (s : ℕ)
+        → IsPermutation (configuration job rows s).with_inboxes (flat_map (λ p. with_inboxes_of_share job rows n p s) (range_with_len 0 n))
     unfolding partition_of
-    standings_in_shares s = classes partition_of n (configuration job rows s).standings within
+    with_inboxes_in_shares s = classes partition_of n (configuration job rows s).with_inboxes within
 
     -- and so are all vertices of a superstep
     pub present_in_shares : (s : ℕ) → IsPermutation (present_at job rows s) (flat_map (λ p. present_in_share job rows n p s) (range_with_len 0 n))
@@ -166,15 +166,15 @@ module _ {V M : Type 0} (job : Job V M) (rows : Rows) (n : ℕ) where
     unfolding partition_of
     contributions_in_shares s place =
         let view : View = view_at job rows s in
-        let xs : List (Standing V M) = present_at job rows s in
+        let xs : List (VertexWithInbox V M) = present_at job rows s in
         let mine : ℕ → List ℤ =
-        λ p. flat_map (λ (x : Standing V M). at_place place (outcome job.program view x).contributed) (present_in_share job rows n p s) in
+        λ p. flat_map (λ (x : VertexWithInbox V M). at_place place (outcome job.program view x).contributed) (present_in_share job rows n p s) in
         let part : ℕ → List ℤ = λ p. at_place place (flat_map (λ (r : ℕ × Record V M). r.1.contributed) (records_in job rows n p s)) in
         let same : (p : ℕ) → mine p ≡ part p =
         λ p. sym (ap (at_place place) (contributions-records_in p s) ∙ at_place-contributions job.program view place (present_in_share job rows n p s)) in
         subst₂ (λ (l : List ℤ) (f : ℕ → List ℤ). IsPermutation l (flat_map f (range_with_len 0 n)))
         (sym (at_place-contributions job.program view place xs)) (λ i p. same p i)
-        (flat_map-classes (λ (x : Standing V M). at_place place (outcome job.program view x).contributed) partition_of n xs within)
+        (flat_map-classes (λ (x : VertexWithInbox V M). at_place place (outcome job.program view x).contributed) partition_of n xs within)
 
     -- so what is gathered at a place can be gathered from the partitions' records
     pub gathered_in_shares : (is_value : ℤ → Type 0) (a : Aggregating) → IsCommutativeMonoid is_value a.aggregate a.initial
@@ -193,7 +193,7 @@ module _ {V M : Type 0} (job : Job V M) (rows : Rows) (n : ℕ) where
         let test : ℕ → Bool = is_needed value_eq message_eq job kept rows s in
         count-classes (λ id. id % n) test n is (λ id. mod-lt id some) ∙ sym (ap (count_by test) (all_pass (λ id. true) (λ id. refl) is))
 
-  -- beside no run, as many are needed of a partition's vertices as it has records of the superstep
+  -- from scratch, as many are needed of a partition's vertices as it has records of the superstep
   pub needed_in_share-none : (value_eq : V → V → Bool) (message_eq : M → M → Bool) → HasRisingIds rows → (s p : ℕ) → s < run_length job rows
       → needed_in value_eq message_eq job None rows (belongs n p) s ≡ length (records_in job rows n p s)
   needed_in_share-none value_eq message_eq rising s p within' =

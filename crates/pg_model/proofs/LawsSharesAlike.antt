@@ -10,9 +10,9 @@ use Rattle.std.proofs.lemmas.List.{map-append}
 use Rattle.std.proofs.lemmas.List.Elements.{filter-append}
 use Rattle.pg_graph.specs.Rows.{Rows, HasRisingIds}
 use Rattle.pg_model.specs.Affected.{IsUnaffected, AllSendAlike, AllContributeAlike}
-use Rattle.pg_model.specs.ByIds.{outcome_in, made_of, read_off, outcome_at, record_at, letters_for, letters_by}
+use Rattle.pg_model.specs.ByIds.{outcome_in, made_of, read_off, outcome_at, record_at, envelopes_for, envelopes_by}
 use Rattle.pg_model.specs.Job.{Job, Program}
-use Rattle.pg_model.specs.Needed.{standing_at, inputs_if_active}
+use Rattle.pg_model.specs.Needed.{with_inbox_at, inputs_if_active}
 use Rattle.pg_model.specs.Order.{Sending, sendings_from, sendings}
 use Rattle.pg_model.specs.Run.{present_at, view_at, run_length}
 use Rattle.pg_model.specs.Share.{belongs, present_in_share, records_in, sendings_of, sent_to}
@@ -22,9 +22,9 @@ use Rattle.pg_model.proofs.LawsAgreement.{outcome-active}
 use Rattle.pg_model.proofs.LawsIds.{ids_rise}
 use Rattle.pg_model.proofs.LawsLists.{filter-filter}
 use Rattle.pg_model.proofs.LawsMade.{not_below}
-use Rattle.pg_model.proofs.LawsPresent.{at_key, standing_at-none, inputs_within}
+use Rattle.pg_model.proofs.LawsPresent.{at_key, with_inbox_at-none, inputs_within}
 use Rattle.pg_model.proofs.LawsShares.{sendings-records_in, contributions-records_in}
-use Rattle.pg_model.specs.declared.configuration.Standing.{Standing}
+use Rattle.pg_model.specs.declared.configuration.VertexWithInbox.{VertexWithInbox}
 use Rattle.pg_model.specs.declared.record.Record.{Record}
 use Rattle.pg_model.specs.declared.view.View.{View}
 
@@ -32,24 +32,24 @@ use Rattle.pg_model.specs.declared.view.View.{View}
 
 module _ {M : Type 0} (target : ℕ) where
   -- by whom and what
-  letter : Sending M → ℕ × M
-  letter t = (t.sender, t.message)
+  envelope : Sending M → ℕ × M
+  envelope t = (t.sender, t.message)
 
   -- whether a message goes to the target
   goes : Sending M → Bool
   goes t = t.target == target
 
-  -- the letters of two lists, one after the other
-  letters_for-append : (a b : List (Sending M)) → letters_for target (a ++ b) ≡ letters_for target a ++ letters_for target b
-  unfolding letter goes
-  letters_for-append a b = ap (map letter) (filter-append goes a b) ∙ map-append letter (filter goes a) (filter goes b)
+  -- the envelopes of two lists, one after the other
+  envelopes_for-append : (a b : List (Sending M)) → envelopes_for target (a ++ b) ≡ envelopes_for target a ++ envelopes_for target b
+  unfolding envelope goes
+  envelopes_for-append a b = ap (map envelope) (filter-append goes a b) ∙ map-append envelope (filter goes a) (filter goes b)
 
   -- and those of one sender
-  letters_from : (u k : ℕ) (ms : List (ℕ × M))
-      → letters_for target (sendings_from u k ms) ≡ map {B = ℕ × M} (λ m. (u, m)) (messages_to target ms)
-  unfolding letter goes
-  letters_from u k [] = refl
-  letters_from u k (m ∷ ms) = by (m.0 == target) (letters_from u (k + 1) ms)
+  envelopes_from : (u k : ℕ) (ms : List (ℕ × M))
+      → envelopes_for target (sendings_from u k ms) ≡ map {B = ℕ × M} (λ m. (u, m)) (messages_to target ms)
+  unfolding envelope goes
+  envelopes_from u k [] = refl
+  envelopes_from u k (m ∷ ms) = by (m.0 == target) (envelopes_from u (k + 1) ms)
     where
       rest : List (Sending M)
       rest = filter goes (sendings_from u (k + 1) ms)
@@ -60,31 +60,31 @@ module _ {M : Type 0} (target : ℕ) where
       first : Sending M
       first = record { sender = u; place = k; target = m.0; message = m.1 }
 
-      by : (b : Bool) → map letter rest ≡ map {B = ℕ × M} (λ x. (u, x)) (map (λ (x : ℕ × M). x.1) others)
-          → map letter (cond b (first ∷ rest) rest)
+      by : (b : Bool) → map envelope rest ≡ map {B = ℕ × M} (λ x. (u, x)) (map (λ (x : ℕ × M). x.1) others)
+          → map envelope (cond b (first ∷ rest) rest)
           ≡ map {B = ℕ × M} (λ x. (u, x)) (map (λ (x : ℕ × M). x.1) (cond b (m ∷ others) others))
       by true h = ap (◌∷◌ (u, m.1)) h
       by false h = h
 
 module _ {V M : Type 0} (program : Program V M) (view : View) (target : ℕ) where
   -- an id gets its messages by sender
-  pub letters_for-sendings : (xs : List (Standing V M))
-      → letters_for target (sendings program view xs)
-      ≡ flat_map (λ x. letters_by target x.state.id (outcome program view x)) xs
-  letters_for-sendings [] = refl
-  letters_for-sendings (x ∷ xs) =
-      letters_for-append target (sendings_from x.state.id 0 (outcome program view x).sent) (sendings program view xs)
-      ∙ ap₂ ◌++◌ (letters_from target x.state.id 0 (outcome program view x).sent) (letters_for-sendings xs)
+  pub envelopes_for-sendings : (xs : List (VertexWithInbox V M))
+      → envelopes_for target (sendings program view xs)
+      ≡ flat_map (λ x. envelopes_by target x.state.id (outcome program view x)) xs
+  envelopes_for-sendings [] = refl
+  envelopes_for-sendings (x ∷ xs) =
+      envelopes_for-append target (sendings_from x.state.id 0 (outcome program view x).sent) (sendings program view xs)
+      ∙ ap₂ ◌++◌ (envelopes_from target x.state.id 0 (outcome program view x).sent) (envelopes_for-sendings xs)
 
 module _ {V M : Type 0} where
   -- what a partition sends to an id it sends by the vertices of its share
-  pub letters_for-sent_to : (job : Job V M) (rows : Rows) (n p q s target : ℕ) → belongs n q target ≡ true
-      → letters_for target (sent_to job rows n p q s) ≡ made_of job rows (letters_by target) (belongs n p) s
-  unfolding letter goes
-  letters_for-sent_to job rows n p q s target theirs =
-      ap (map (letter target)) (filter-filter (goes target) theirs_too (goes target) (λ t. each t (t.target == target) refl) mine)
-      ∙ (ap (letters_for target) (sendings-records_in job rows n p s)
-      ∙ letters_for-sendings job.program (view_at job rows s) target (present_in_share job rows n p s))
+  pub envelopes_for-sent_to : (job : Job V M) (rows : Rows) (n p q s target : ℕ) → belongs n q target ≡ true
+      → envelopes_for target (sent_to job rows n p q s) ≡ made_of job rows (envelopes_by target) (belongs n p) s
+  unfolding envelope goes
+  envelopes_for-sent_to job rows n p q s target theirs =
+      ap (map (envelope target)) (filter-filter (goes target) theirs_too (goes target) (λ t. each t (t.target == target) refl) mine)
+      ∙ (ap (envelopes_for target) (sendings-records_in job rows n p s)
+      ∙ envelopes_for-sendings job.program (view_at job rows s) target (present_in_share job rows n p s))
     where
       mine : List (Sending M)
       mine = sendings_of (records_in job rows n p s)
@@ -98,57 +98,57 @@ module _ {V M : Type 0} where
 
 -- ---- the record of one vertex
 
-module _ {V M : Type 0} (given : Standing V M → Record V M) (picks : ℕ → Bool) (id : ℕ) where
+module _ {V M : Type 0} (given : VertexWithInbox V M → Record V M) (picks : ℕ → Bool) (id : ℕ) where
   -- what is given of a vertex where it is active
-  abbrev given_if_active : Option (Standing V M) → Option (Record V M)
+  abbrev given_if_active : Option (VertexWithInbox V M) → Option (Record V M)
   given_if_active o = option_and_then (λ x. cond (is_active x) (Some (given x)) None) o
 
   -- what is found of it among what is given of vertices
-  abbrev given_among : List (Standing V M) → Option (Record V M)
+  abbrev given_among : List (VertexWithInbox V M) → Option (Record V M)
   given_among xs = lookup (is_at (nat_cmp id)) (map (λ x. (x.state.id, given x)) xs)
 
   -- it is found among the active ones that are picked where it is picked and active
-  lookup_active : (xs : List (Standing V M)) → IsStrictlySortedBy nat_cmp (ids xs)
+  lookup_active : (xs : List (VertexWithInbox V M)) → IsStrictlySortedBy nat_cmp (ids xs)
       → given_among (filter is_active (filter (λ x. picks x.state.id) xs))
-      ≡ cond (picks id) (given_if_active (standing_at id xs)) None
+      ≡ cond (picks id) (given_if_active (with_inbox_at id xs)) None
   unfolding IsStrictlySortedBy
   lookup_active [] h = sym (cond_both (picks id) None None (λ (o : Option (Record V M)). o ≡ None) (λ _. refl) (λ _. refl))
   lookup_active (x ∷ xs) h =
       by (picks x.state.id) refl (is_active x) refl (x.state.id == id) refl (lookup_active xs h.1)
     where
-      picked : List (Standing V M)
+      picked : List (VertexWithInbox V M)
       picked = filter (λ y. picks y.state.id) xs
 
-      active : List (Standing V M)
+      active : List (VertexWithInbox V M)
       active = filter is_active picked
 
       chosen : (x.state.id == id) ≡ true → picks id ≡ picks x.state.id
       chosen e = sym (ap picks (eqb-true x.state.id id e))
 
-      gone : (x.state.id == id) ≡ true → standing_at id xs ≡ None
+      gone : (x.state.id == id) ≡ true → with_inbox_at id xs ≡ None
       gone e =
-          ap (λ (n : ℕ). standing_at n xs) (sym (eqb-true x.state.id id e))
-          ∙ standing_at-none x.state.id xs (not_below x.state.id (ids xs) h.0)
+          ap (λ (n : ℕ). with_inbox_at n xs) (sym (eqb-true x.state.id id e))
+          ∙ with_inbox_at-none x.state.id xs (not_below x.state.id (ids xs) h.0)
 
       here : (b : Bool) → (x.state.id == id) ≡ b → given_among (x ∷ active) ≡ cond b (Some (given x)) (given_among active)
       here b e = ap (λ (c : Bool). cond c (Some (given x)) (given_among active)) (at_key id x.state.id ∙ e)
 
       by : (p : Bool) → picks x.state.id ≡ p → (a : Bool) → is_active x ≡ a → (b : Bool) → (x.state.id == id) ≡ b
-          → given_among active ≡ cond (picks id) (given_if_active (standing_at id xs)) None
+          → given_among active ≡ cond (picks id) (given_if_active (with_inbox_at id xs)) None
           → given_among (filter is_active (cond p (x ∷ picked) picked))
-          ≡ cond (picks id) (given_if_active (cond b (Some x) (standing_at id xs))) None
+          ≡ cond (picks id) (given_if_active (cond b (Some x) (with_inbox_at id xs))) None
       by false e a e' true e'' rest =
           let none : picks id ≡ false = chosen e'' ∙ e in
           rest
-          ∙ (ap (λ (c : Bool). cond c (given_if_active (standing_at id xs)) None) none
+          ∙ (ap (λ (c : Bool). cond c (given_if_active (with_inbox_at id xs)) None) none
           ∙ sym (ap (λ (c : Bool). cond c (given_if_active (Some x)) None) none))
       by false e a e' false e'' rest = rest
       by true e a e' b e'' rest = ap (λ (c : Bool). given_among (cond c (x ∷ active) active)) e' ∙ found a e' b e'' rest
         where
           found : (a : Bool) → is_active x ≡ a → (b : Bool) → (x.state.id == id) ≡ b
-              → given_among active ≡ cond (picks id) (given_if_active (standing_at id xs)) None
+              → given_among active ≡ cond (picks id) (given_if_active (with_inbox_at id xs)) None
               → given_among (cond a (x ∷ active) active)
-              ≡ cond (picks id) (given_if_active (cond b (Some x) (standing_at id xs))) None
+              ≡ cond (picks id) (given_if_active (cond b (Some x) (with_inbox_at id xs))) None
           found true e' true e'' rest =
               here true e'' ∙ sym (ap₂ (λ (c d : Bool). cond c (cond d (Some (given x)) None) None) (chosen e'' ∙ e) e')
           found true e' false e'' rest = here false e'' ∙ rest
@@ -159,7 +159,7 @@ module _ {V M : Type 0} (given : Standing V M → Record V M) (picks : ℕ → B
 
 module _ {V M : Type 0} (job : Job V M) (rows : Rows) (n p s id : ℕ) where
   -- what the superstep makes of an active vertex is the step on its inputs
-  step_of_active : (o : Option (Standing V M))
+  step_of_active : (o : Option (VertexWithInbox V M))
       → option_and_then (λ x. cond (is_active x) (Some (outcome_in job rows s x)) None) o
       ≡ option_map job.program.step (option_and_then (inputs_if_active (view_at job rows s)) o)
   step_of_active None = refl
@@ -175,7 +175,7 @@ module _ {V M : Type 0} (job : Job V M) (rows : Rows) (n p s id : ℕ) where
   pub record_in_share : HasRisingIds rows → s < run_length job rows → belongs n p id ≡ true
       → lookup (is_at (nat_cmp id)) (records_in job rows n p s) ≡ record_at job rows s id
   record_in_share rising within mine =
-      let there : Option (Standing V M) = standing_at id (present_at job rows s) in
+      let there : Option (VertexWithInbox V M) = with_inbox_at id (present_at job rows s) in
       lookup_active (outcome_in job rows s) (belongs n p) id (present_at job rows s) (ids_rise job rows rising s)
       ∙ (ap (λ (c : Bool). cond c (option_and_then (λ x. cond (is_active x) (Some (outcome_in job rows s x)) None) there) None) mine
       ∙ (step_of_active there ∙ sym (ap (option_map job.program.step) (inputs_within job rows s id within))))
@@ -201,22 +201,22 @@ module _ {V M : Type 0} (job : Job V M) (old new : Rows) (rising : HasRisingIds 
 
   -- a partition sends the same to an id, by whom and what, where each of its vertices sends the same to it
   pub same_sent_to : (q target : ℕ) → belongs n q target ≡ true → AllSendAlike job old new (belongs n p) s target
-      → letters_for target (sent_to job old n p q s) ≡ letters_for target (sent_to job new n p q s)
+      → envelopes_for target (sent_to job old n p q s) ≡ envelopes_for target (sent_to job new n p q s)
   same_sent_to q target theirs h =
-      letters_for-sent_to job old n p q s target theirs
-      ∙ (same_made job old new rising rising' (belongs n p) s (letters_by target) alike
-      ∙ sym (letters_for-sent_to job new n p q s target theirs))
+      envelopes_for-sent_to job old n p q s target theirs
+      ∙ (same_made job old new rising rising' (belongs n p) s (envelopes_by target) alike
+      ∙ sym (envelopes_for-sent_to job new n p q s target theirs))
     where
       named : ℕ → List M → List (ℕ × M)
       named id ms = map (λ m. (id, m)) ms
 
       read : (id : ℕ) (o : Option (Record V M))
-          → read_off (letters_by target id) o ≡ named id (messages_to target (read_off (λ r. r.sent) o))
+          → read_off (envelopes_by target id) o ≡ named id (messages_to target (read_off (λ r. r.sent) o))
       read id None = refl
       read id (Some r) = refl
 
       alike : (id : ℕ) → belongs n p id ≡ true
-          → read_off (letters_by target id) (outcome_at job old s id) ≡ read_off (letters_by target id) (outcome_at job new s id)
+          → read_off (envelopes_by target id) (outcome_at job old s id) ≡ read_off (envelopes_by target id) (outcome_at job new s id)
       alike id mine = read id (outcome_at job old s id) ∙ (ap (named id) (h id mine) ∙ sym (read id (outcome_at job new s id)))
 
   -- its records have the same contributions at a place, in their order, where each of its vertices contributes the same there

@@ -18,7 +18,7 @@ pub mod LawsRising
 pub mod LawsSearching
 pub mod LawsShares
 pub mod LawsSharesAlike
-pub mod LawsStandings
+pub mod LawsVerticesWithInbox
 mod MadeVertices
 mod ReadyPrograms
 mod ShortestPaths

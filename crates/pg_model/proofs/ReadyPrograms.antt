@@ -2,8 +2,8 @@
 use Rattle.std.proofs.Common.{◌≡◌, ℕ, ℤ, pos, List, [], ◌∷◌, None, Some, refl}
 use Rattle.std.specs.Ordering.{int_eq}
 use Rattle.pg_graph.specs.Rows.{Rows}
-use Rattle.pg_edits.specs.EdgeList.{EdgeList}
-use Rattle.pg_edits.specs.declared.row.Row.{Row}
+use Rattle.pg_graph_rows.specs.EdgeList.{EdgeList}
+use Rattle.pg_graph_rows.specs.declared.row.Row.{Row}
 use Rattle.pg_graph.specs.declared.missing.Missing.TheVariants.{Drop}
 use Rattle.pg_model.specs.Job.{Job, Aggregating, Program}
 use Rattle.pg_model.specs.Superstep.{visible_in, view_of, outcome, gathered_from, next}
@@ -112,7 +112,7 @@ star-needed : needed_count int_eq int_eq peeling (Some triangle) star ≡ 3
 unfolding first next configuration length_from executions_below answer visible_in view_of outcome gathered_from inputs_at needed_below peel_step
 star-needed = refl
 
--- ---- pagerank that ends once the ranks stay: 1 and 2 point at each other, and then with a vertex 3 beside them
+-- ---- pagerank that ends once the ranks stay: 1 and 2 point at each other, and then with a vertex 3 against them
 abbrev ranking : Job ℤ ℤ
 ranking = record {
   program = pagerank 30;

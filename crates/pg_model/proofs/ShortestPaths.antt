@@ -1,8 +1,8 @@
 -- Shortest paths, worked: answers and needed executions of small graphs, computed from the definitions.
 use Rattle.std.proofs.Common.{◌≡◌, ℕ, ℤ, pos, negsuc, [], ◌∷◌, Option, None, Some, refl}
 use Rattle.pg_graph.specs.Rows.{Rows}
-use Rattle.pg_edits.specs.EdgeList.{EdgeList}
-use Rattle.pg_edits.specs.declared.row.Row.{Row}
+use Rattle.pg_graph_rows.specs.EdgeList.{EdgeList}
+use Rattle.pg_graph_rows.specs.declared.row.Row.{Row}
 use Rattle.pg_graph.specs.declared.missing.Missing.TheVariants.{Drop}
 use Rattle.std.specs.Ordering.{int_eq}
 use Rattle.pg_model.specs.Aggregators.{least_message}
@@ -26,7 +26,7 @@ from_1 combining limit = record {
 abbrev row : EdgeList → Row
 row edges = record { input = pos 0; edges = edges }
 
--- how many executions a run needs beside a run that was kept
+-- how many executions a run needs against a run that was kept
 abbrev needed : Option (Combining ℤ) → Rows → Rows → ℕ
 needed combining kept rows = needed_count int_eq int_eq (from_1 combining 1000) (Some kept) rows
 
@@ -105,10 +105,10 @@ unfolding first next configuration length_from executions_below answer visible_i
 shortcut-needed = refl
 
 -- ---- and then without the one from 1 to 2
-abbrev withdrawn : Rows
-withdrawn = (1, row ((3, pos 2) ∷ [])) ∷ (2, row ((3, pos 1) ∷ [])) ∷ (3, row []) ∷ []
+abbrev retracted : Rows
+retracted = (1, row ((3, pos 2) ∷ [])) ∷ (2, row ((3, pos 1) ∷ [])) ∷ (3, row []) ∷ []
 
-withdrawn-answer : answer (from_1 None 1000) withdrawn ≡ record {
+retracted-answer : answer (from_1 None 1000) retracted ≡ record {
   values = (1, pos 0) ∷ (2, infinity) ∷ (3, pos 2) ∷ [];
   aggregates = pos 2 ∷ [];
   ending = Finished;
@@ -117,15 +117,15 @@ withdrawn-answer : answer (from_1 None 1000) withdrawn ≡ record {
   dropped = 0;
 }
 unfolding first next configuration length_from executions_below answer visible_in view_of outcome gathered_from sssp_step
-withdrawn-answer = refl
+retracted-answer = refl
 
-withdrawn-executions : executions (from_1 None 1000) withdrawn ≡ 4
+retracted-executions : executions (from_1 None 1000) retracted ≡ 4
 unfolding first next configuration length_from executions_below answer visible_in view_of outcome gathered_from sssp_step
-withdrawn-executions = refl
+retracted-executions = refl
 
-withdrawn-needed : needed None shortcut withdrawn ≡ 1
+retracted-needed : needed None shortcut retracted ≡ 1
 unfolding first next configuration length_from executions_below answer visible_in view_of outcome gathered_from sssp_step inputs_at needed_below
-withdrawn-needed = refl
+retracted-needed = refl
 
 -- ---- touched and restored: the same graph again needs nothing
 

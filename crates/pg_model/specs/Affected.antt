@@ -1,5 +1,5 @@
--- What a change of the graph affects: two runs of one job, on the old rows and on the new ones (this project's; vertices
--- are affected in the sense of incremental graph algorithms).
+-- What a change of the graph affects: two runs of one job, on the old rows and on the new ones (this project's;
+-- vertices are affected in the sense of incremental graph algorithms).
 use Rattle.std.specs.Prelude.{◌≡◌, ℕ, suc, ◌<◌, Bool, true, false, List, None, Some, ◌⊎◌}
 use Rattle.std.specs.List.Sorted.{IsStrictlySortedBy}
 use Rattle.std.specs.Ordering.{nat_cmp}
@@ -8,8 +8,8 @@ use Rattle.pg_model.specs.ByIds.{state_at, inbox_at, outcome_at, record_at, sent
 use Rattle.pg_model.specs.Job.{Job}
 use Rattle.pg_model.specs.Superstep.{is_active, has_id, messages_to, at_place}
 use Rattle.pg_model.specs.Run.{present_at, view_at, run_length}
-use Rattle.pg_model.specs.Needed.{standing_at, inputs_at}
-use Rattle.pg_model.specs.declared.configuration.Standing.{Standing}
+use Rattle.pg_model.specs.Needed.{with_inbox_at, inputs_at}
+use Rattle.pg_model.specs.declared.configuration.VertexWithInbox.{VertexWithInbox}
 
 module _ {V M : Type 0} (job : Job V M) (old new : Rows) where
   -- as superstep s begins, vertex id has the same state in both runs, or none in both, and the same inbox
@@ -36,7 +36,8 @@ module _ {V M : Type 0} (job : Job V M) (old new : Rows) where
   -- these ids have each active vertex of the new run that is picked
   abbrev pub HaveActive : (ℕ → Bool) → ℕ → List ℕ → Type 0
   HaveActive picks s candidates =
-      (id : ℕ) (x : Standing V M) → picks id ≡ true → standing_at id (present_at job new s) ≡ Some x → is_active x ≡ true
+      (id : ℕ) (x : VertexWithInbox V M) → picks id ≡ true → with_inbox_at id (present_at job new s) ≡ Some x
+      → is_active x ≡ true
       → has_id candidates id ≡ true
 
   -- what the old run has of vertex id in superstep s stands in the new run
@@ -54,7 +55,8 @@ module _ {V M : Type 0} (job : Job V M) (old new : Rows) where
 
   -- and contributes the same at a place
   abbrev pub ContributesAlike : ℕ → ℕ → ℕ → Type 0
-  ContributesAlike s place id = at_place place (contributed_at job old s id) ≡ at_place place (contributed_at job new s id)
+  ContributesAlike s place id = at_place place (contributed_at job old s id) ≡ at_place place
+      (contributed_at job new s id)
 
   -- each of those picked sends the same to a target
   abbrev pub AllSendAlike : (ℕ → Bool) → ℕ → ℕ → Type 0

@@ -1,7 +1,8 @@
 -- When a fold doesn't depend on order and cut: the values are a commutative monoid.
 use Rattle.std.specs.Prelude.{◌≡◌}
 
--- on values, f stays among them, is associative and commutative, and leaves what it is given where the other is `initial`
+-- on values, f stays among them, is associative and commutative, and leaves what it is given where the other is
+-- `initial`
 pub record IsCommutativeMonoid {A : Type 0} (is_value : A → Type 0) (f : A → A → A) (initial : A) : Type 0 where
   pub begins : is_value initial
   pub stays : (a b : A) → is_value a → is_value b → is_value (f a b)

@@ -14,5 +14,5 @@ pub record AreWaiting {M : Type 0} (is : List ℕ) (waiting : List (ℕ × List 
 
 -- the vertices that have a state stand by rising id, and so does what waits for others
 pub record IsInOrder {V M : Type 0} (c : Configuration V M) : Type 0 where
-  pub standings : IsStrictlySortedBy nat_cmp (ids c.standings)
-  pub waiting : AreWaiting (ids c.standings) c.waiting
+  pub with_inboxes : IsStrictlySortedBy nat_cmp (ids c.with_inboxes)
+  pub waiting : AreWaiting (ids c.with_inboxes) c.waiting

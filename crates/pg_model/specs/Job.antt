@@ -1,12 +1,14 @@
--- A job: a program, a combiner, aggregators and a master, each as pure functions, what becomes of messages to nobody, and a limit.
+-- A job: a program, a combiner, aggregators and a master, each as pure functions, what becomes of messages to nobody,
+-- and a limit.
 use Rattle.std.specs.Prelude.{ℕ, ◌/◌, ◌%◌, ◌^◌, ◌==◌, Bool, List, Option, ℤ}
-use Rattle.pg_edits.specs.EdgeList.{EdgeList}
+use Rattle.pg_graph_rows.specs.EdgeList.{EdgeList}
 use Rattle.pg_graph.specs.declared.missing.Missing.{Missing}
 use Rattle.pg_model.specs.declared.record.Record.{Record}
 use Rattle.pg_model.specs.declared.view.Declared.{Declared}
 use Rattle.pg_model.specs.declared.view.View.{View}
 
--- what one execution reads (Pregel, section 3.1: the vertex, the messages sent to it, and the aggregates of the superstep before)
+-- what one execution reads (Pregel, section 3.1: the vertex, the messages sent to it, and the aggregates of the
+-- superstep before)
 pub record Inputs (V M : Type 0) : Type 0 where
   pub view : View
   pub id : ℕ

@@ -1,5 +1,6 @@
--- The inputs of an execution, and the executions that a run needs beside a run that was kept (this project's).
-use Rattle.std.specs.Prelude.{◌≡◌, ℕ, ◌+◌, ◌==◌, nat_lt, zero, suc, Bool, true, false, cond, not, ◌&&◌, List, ℤ, Option, None, Some, ◌≢◌}
+-- The inputs of an execution, and the executions that a run needs against a run that was kept (this project's).
+use Rattle.std.specs.Prelude.{◌≡◌, ℕ, ◌+◌, ◌==◌, nat_lt, zero, suc, Bool, true, false, cond, not, ◌&&◌, List, ℤ, Option}
+use Rattle.std.specs.Prelude.{None, Some, ◌≢◌}
 use Rattle.std.specs.List.{find, filter, count_by}
 use Rattle.std.specs.Option.{option_and_then, option_eq}
 use Rattle.std.specs.Ordering.{int_eq}
@@ -8,23 +9,24 @@ use Rattle.pg_graph.specs.Rows.{Rows}
 use Rattle.pg_model.specs.Job.{Inputs, Job}
 use Rattle.pg_model.specs.Superstep.{is_active, ids, inputs_of}
 use Rattle.pg_model.specs.Run.{present_at, view_at, run_length}
-use Rattle.pg_model.specs.declared.configuration.Standing.{Standing}
+use Rattle.pg_model.specs.declared.configuration.VertexWithInbox.{VertexWithInbox}
 use Rattle.pg_model.specs.declared.view.View.{View}
 
 module _ {V M : Type 0} where
   -- the vertex with an id, and what it has received
-  abbrev pub standing_at : ℕ → List (Standing V M) → Option (Standing V M)
-  standing_at id xs = find (λ x. x.state.id == id) xs
+  abbrev pub with_inbox_at : ℕ → List (VertexWithInbox V M) → Option (VertexWithInbox V M)
+  with_inbox_at id xs = find (λ x. x.state.id == id) xs
 
   -- what an active vertex reads
-  abbrev pub inputs_if_active : View → Standing V M → Option (Inputs V M)
+  abbrev pub inputs_if_active : View → VertexWithInbox V M → Option (Inputs V M)
   inputs_if_active view x = cond (is_active x) (Some (inputs_of view x)) None
 
   module _ (job : Job V M) where
     -- what vertex id reads in superstep s, where the run has that superstep and executes it there
     unfoldable pub inputs_at : Rows → ℕ → ℕ → Option (Inputs V M)
     inputs_at rows s id =
-        cond (nat_lt s (run_length job rows)) (option_and_then (inputs_if_active (view_at job rows s)) (standing_at id (present_at job rows s))) None
+        cond (nat_lt s (run_length job rows))
+        (option_and_then (inputs_if_active (view_at job rows s)) (with_inbox_at id (present_at job rows s))) None
 
     -- the same of a graph that was kept, if any
     abbrev pub kept_inputs_at : Option Rows → ℕ → ℕ → Option (Inputs V M)
@@ -49,7 +51,8 @@ module _ {V M : Type 0} where
     -- whether two executions read the same
     abbrev pub inputs_eq : Inputs V M → Inputs V M → Bool
     inputs_eq a b =
-        view_eq a.view b.view && ((a.id == b.id) && (value_eq a.value b.value && (pointwise edge_eq a.edges b.edges && pointwise message_eq a.inbox b.inbox)))
+        view_eq a.view b.view && ((a.id == b.id) && (value_eq a.value b.value
+        && (pointwise edge_eq a.edges b.edges && pointwise message_eq a.inbox b.inbox)))
 
     -- the test for `IsNeeded`
     abbrev pub is_changed : Option (Inputs V M) → Option (Inputs V M) → Bool

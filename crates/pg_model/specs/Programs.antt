@@ -1,11 +1,12 @@
 -- The ready programs: what each has declared, the value that a vertex begins with, and its step.
-use Rattle.std.specs.Prelude.{ℕ, ◌==◌, nat_lt, nat_le, Bool, true, false, cond, ◌&&◌, ◌||◌, not, List, [], ◌∷◌, map, length, min, drop, ℤ, pos, ◌+ℤ◌}
+use Rattle.std.specs.Prelude.{ℕ, ◌==◌, nat_lt, nat_le, Bool, true, false, cond, ◌&&◌, ◌||◌, not, List, [], ◌∷◌, map}
+use Rattle.std.specs.Prelude.{length, min, drop, ℤ, pos, ◌+ℤ◌}
 use Rattle.std.specs.Prelude.{◌-ℤ◌, ◌*ℤ◌, int_lt, int_le, int_div, nat_abs}
 use Rattle.std.specs.Option.{unwrap_or}
 use Rattle.std.specs.Ordering.{int_eq}
 use Rattle.std.specs.Int.{w64, int_min, int_max, int_wrapping_add, saturate_signed}
 use Rattle.std.specs.List.{fold, slice_get}
-use Rattle.pg_edits.specs.EdgeList.{EdgeList, without_edge}
+use Rattle.pg_graph_rows.specs.EdgeList.{EdgeList, without_edge}
 use Rattle.pg_model.specs.Aggregators.{greatest_number, long_sum, long_max}
 use Rattle.pg_model.specs.Job.{Inputs, Program, Aggregating, Deciding}
 use Rattle.pg_model.specs.Superstep.{is_empty}

@@ -4,10 +4,10 @@ use Rattle.std.specs.Prelude.{ℕ, zero, suc, ◌+◌, ◌-◌, false, List, [],
 use Rattle.std.specs.Option.{unwrap_or}
 use Rattle.std.specs.List.{count_by}
 use Rattle.pg_graph.specs.Rows.{Rows}
-use Rattle.pg_edits.specs.declared.row.Row.{Row}
+use Rattle.pg_graph_rows.specs.declared.row.Row.{Row}
 use Rattle.pg_model.specs.Job.{Program, Job}
 use Rattle.pg_model.specs.Superstep.{is_active, present, visible, view_in, next, ending}
-use Rattle.pg_model.specs.declared.configuration.Standing.{Standing}
+use Rattle.pg_model.specs.declared.configuration.VertexWithInbox.{VertexWithInbox}
 use Rattle.pg_model.specs.declared.configuration.Configuration.{Configuration}
 use Rattle.pg_model.specs.declared.run.Ending.{Ending}
 use Rattle.pg_model.specs.declared.run.Ending.TheVariants.{LimitReached}
@@ -16,7 +16,7 @@ use Rattle.pg_model.specs.declared.view.View.{View}
 use Rattle.pg_model.specs.declared.view.Visible.{Visible}
 
 -- a vertex as the run begins: the program's initial value, the row's edges, not halted, nothing received
-abbrev pub beginning : {V M : Type 0} → Program V M → ℕ × Row → Standing V M
+abbrev pub beginning : {V M : Type 0} → Program V M → ℕ × Row → VertexWithInbox V M
 beginning program row = record {
   state = record { id = row.0; value = program.initial row.0 row.1.input; edges = row.1.edges; halted = false };
   inbox = [];
@@ -26,7 +26,7 @@ module _ {V M : Type 0} (job : Job V M) where
   -- what stands at the start of superstep 0
   unfoldable pub first : Rows → Configuration V M
   first rows = record {
-    standings = map (beginning job.program) rows;
+    with_inboxes = map (beginning job.program) rows;
     waiting = [];
     gathered = map (λ a. a.initial) job.aggregators;
     sent = 0;
@@ -40,7 +40,7 @@ module _ {V M : Type 0} (job : Job V M) where
     configuration (suc s) = next job s (configuration s)
 
     -- the vertices of superstep s, and what they see in it
-    abbrev pub present_at : ℕ → List (Standing V M)
+    abbrev pub present_at : ℕ → List (VertexWithInbox V M)
     present_at s = present job.program (configuration s)
 
     abbrev pub visible_at : ℕ → Visible
@@ -63,7 +63,7 @@ module _ {V M : Type 0} (job : Job V M) where
     run_length = length_from job.limit 0
 
     -- how many vertices are executed in a superstep that begins with these
-    abbrev pub executed : List (Standing V M) → ℕ
+    abbrev pub executed : List (VertexWithInbox V M) → ℕ
     executed xs = count_by is_active xs
 
     -- how many executions there are in the supersteps below s
@@ -76,7 +76,7 @@ module _ {V M : Type 0} (job : Job V M) where
     executions = executions_below run_length
 
     abbrev pub values_of : Configuration V M → List (ℕ × V)
-    values_of c = map (λ x. (x.state.id, x.state.value)) c.standings
+    values_of c = map (λ x. (x.state.id, x.state.value)) c.with_inboxes
 
     -- the answer of the run
     unfoldable pub answer : Run V

@@ -1,4 +1,5 @@
--- What one of n partitions holds of a run: vertex id belongs to partition id % n (this project's; Pregel, section 4.1, leaves the function open).
+-- What one of n partitions holds of a run: vertex id belongs to partition id % n (this project's; Pregel, section 4.1,
+-- leaves the function open).
 use Rattle.std.specs.Prelude.{ℕ, zero, suc, ◌%◌, ◌==◌, Bool, List, [], ◌∷◌, ◌++◌, map}
 use Rattle.std.specs.List.{filter, flat_map}
 use Rattle.pg_graph.specs.Rows.{Rows}
@@ -7,7 +8,7 @@ use Rattle.pg_model.specs.Order.{Sending, sendings_from}
 use Rattle.pg_model.specs.Superstep.{is_active, outcome}
 use Rattle.pg_model.specs.Run.{configuration, present_at, view_at}
 use Rattle.pg_model.specs.declared.configuration.VertexState.{VertexState}
-use Rattle.pg_model.specs.declared.configuration.Standing.{Standing}
+use Rattle.pg_model.specs.declared.configuration.VertexWithInbox.{VertexWithInbox}
 use Rattle.pg_model.specs.declared.record.Record.{Record}
 
 -- the states of a partition's vertices at the start of a superstep, and for each superstep before it what those of
@@ -21,23 +22,24 @@ belongs n p id = id % n == p
 
 module _ {V M : Type 0} (job : Job V M) (rows : Rows) (n p : ℕ) where
   -- the partition's vertices that have a state as superstep s begins
-  abbrev pub standings_of_share : ℕ → List (Standing V M)
-  standings_of_share s = filter (λ x. belongs n p x.state.id) (configuration job rows s).standings
+  abbrev pub with_inboxes_of_share : ℕ → List (VertexWithInbox V M)
+  with_inboxes_of_share s = filter (λ x. belongs n p x.state.id) (configuration job rows s).with_inboxes
 
   -- its vertices of superstep s, those that messages make included
-  abbrev pub present_in_share : ℕ → List (Standing V M)
+  abbrev pub present_in_share : ℕ → List (VertexWithInbox V M)
   present_in_share s = filter (λ x. belongs n p x.state.id) (present_at job rows s)
 
   -- what those of them that are executed in superstep s give
   abbrev pub records_in : ℕ → List (ℕ × Record V M)
-  records_in s = map (λ x. (x.state.id, outcome job.program (view_at job rows s) x)) (filter is_active (present_in_share s))
+  records_in s = map (λ x. (x.state.id, outcome job.program (view_at job rows s) x))
+      (filter is_active (present_in_share s))
 
   unfoldable pub records_below : ℕ → List (List (ℕ × Record V M))
   records_below zero = []
   records_below (suc s) = records_below s ++ records_in s ∷ []
 
   unfoldable pub share : ℕ → Share V M
-  share s = record { states = map (λ x. x.state) (standings_of_share s); records = records_below s }
+  share s = record { states = map (λ x. x.state) (with_inboxes_of_share s); records = records_below s }
 
 -- what executions sent, by sender and then in the order sent
 abbrev pub sendings_of : {V M : Type 0} → List (ℕ × Record V M) → List (Sending M)

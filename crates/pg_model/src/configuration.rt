@@ -13,7 +13,7 @@ pub struct VertexState<V> {
 
 /// A vertex and what it has received.
 #[derive(Drop)]
-pub struct Standing<V, M> {
+pub struct VertexWithInbox<V, M> {
     pub state: VertexState<V>,
     pub inbox: Sequence<M>,
 }
@@ -22,7 +22,7 @@ pub struct Standing<V, M> {
 #[derive(Drop)]
 pub struct Configuration<V, M> {
     /// The vertices that have a state, by rising id.
-    pub standings: Sequence<Standing<V, M>>,
+    pub with_inboxes: Sequence<VertexWithInbox<V, M>>,
     /// What waits for ids that have no state, by rising id; no inbox is empty.
     pub waiting: Sequence<(VertexId, Sequence<M>)>,
     /// The gathered aggregates, by place.

@@ -9,7 +9,7 @@ mod run;
 mod sequence;
 mod view;
 
-pub use configuration::{Configuration, Standing, VertexState};
+pub use configuration::{Configuration, VertexState, VertexWithInbox};
 pub use record::{Place, Record};
 pub use run::{Ending, Run};
 pub use sequence::Sequence;

@@ -4,11 +4,11 @@ use Rattle.std.specs.List.Sorted.{IsStrictlySortedBy}
 use Rattle.std.specs.Ordering.{nat_cmp}
 use Rattle.std.proofs.lemmas.Bool.{eqb-true}
 use Rattle.std.proofs.lemmas.List.Kept.{IsStrictlySortedBy-filter}
-use Rattle.pg_course.specs.Course.{AreTouched}
+use Rattle.pg_part_run.specs.PartRun.{AreTouched}
 use Rattle.pg_graph.specs.Rows.{Rows}
 use Rattle.pg_model.specs.Superstep.{has_id}
-use Rattle.pg_part.specs.Moved.{moved_among, moves}
-use Rattle.pg_recount.specs.Traffic.{AreMoved, is_vertex}
+use Rattle.pg_part.specs.MemberChanges.{member_changes_among, moves}
+use Rattle.pg_stats_counts.specs.MessageCounts.{AreMemberChanges, is_vertex}
 
 -- an id is among those that a test picks where it is among all and passes
 has_id-filter : (test : ℕ → Bool) (ids : List ℕ) (id : ℕ) → has_id (filter test ids) id ≡ (has_id ids id && test id)
@@ -48,11 +48,11 @@ alike false true h = absurd (true≢false h)
 alike false false h = refl
 
 -- those of the touched ids, rising
-pub moved_are : (before after : Rows) (touched ids : List ℕ) → IsStrictlySortedBy nat_cmp ids → ((id : ℕ) → has_id ids id ≡ has_id touched id)
-    → AreTouched touched before after → AreMoved (moved_among before after ids) before after
-moved_are before after touched ids rise same untouched = record {
+pub member_changes_are : (before after : Rows) (touched ids : List ℕ) → IsStrictlySortedBy nat_cmp ids → ((id : ℕ) → has_id ids id ≡ has_id touched id)
+    → AreTouched touched before after → AreMemberChanges (member_changes_among before after ids) before after
+member_changes_are before after touched ids rise same untouched = record {
   rise = IsStrictlySortedBy-filter nat_cmp (moves before after) ids rise;
-  moved = λ id among. one_of (is_vertex before id) (is_vertex after id)
+  member_changes = λ id among. one_of (is_vertex before id) (is_vertex after id)
       (both (has_id ids id) (moves before after id) (sym (has_id-filter (moves before after) ids id) ∙ among));
   others = λ id other. by id (has_id ids id) refl (sym (has_id-filter (moves before after) ids id) ∙ other);
 }

@@ -1,3 +1,3 @@
-pub mod Moved
+pub mod MemberChanges
 pub mod Part
-pub mod Reckoned
+pub mod StatsHistories

@@ -1,55 +1,56 @@
 //! Which vertices two graphs don't share.
 ghost use Rattle.std.specs.Prelude.{◌≡◌, ◌++◌, ◌∷◌, [], IfOk, OnOk};
-ghost use Rattle.pg_course.specs.Course.{AreTouched};
-ghost use Rattle.pg_part.specs.Moved.{moved_among};
-ghost use Rattle.pg_recount.specs.Traffic.{AreMoved};
+ghost use Rattle.pg_part_run.specs.PartRun.{AreTouched};
+ghost use Rattle.pg_part.specs.MemberChanges.{member_changes_among};
+ghost use Rattle.pg_stats_counts.specs.MessageCounts.{AreMemberChanges};
 
-use pg_course::rising;
 use pg_graph::{Graph, Memory, VertexId};
+use pg_part_run::rising;
 use std::alloc::Global;
 
 /// The ids that are a vertex of just one of two graphs, rising, where the graphs have the same rows outside of these
 /// ids. Costs a sort of the ids and two look-ups for each.
-pub fn moved(
+pub fn member_changes(
     alloc: Global,
     before: &Graph,
     after: &Graph,
     touched: &[VertexId],
 ) -> Result<Vec<VertexId>, Memory>
     ensures { IfOk result (λ ids. AreTouched touched.now before.now after.now
-        → AreMoved ids.items before.now after.now) }
+        → AreMemberChanges ids.items before.now after.now) }
 {
     let ids = rising(Vec::from_slice(alloc, touched)?);
-    moved_among(alloc, before, after, ids.as_slice())
+    member_changes_among(alloc, before, after, ids.as_slice())
 }
 
 /// Those of these ids.
-fn moved_among(
+fn member_changes_among(
     alloc: Global,
     before: &Graph,
     after: &Graph,
     ids: &[VertexId],
 ) -> Result<Vec<VertexId>, Memory>
-    ensures { IfOk result (λ moved. moved.items ≡ moved_among before.now after.now ids.now) }
+    ensures { IfOk result (λ member_changes. member_changes.items ≡ member_changes_among before.now after.now ids.now) }
 {
-    let mut moved = Vec::new(alloc);
+    let mut member_changes = Vec::new(alloc);
     for id in ids {
-        add_if_moved(&mut moved, before, after, *id)?;
+        add_if_in_one_graph(&mut member_changes, before, after, *id)?;
     }
-    Ok(moved)
+    Ok(member_changes)
 }
 
 /// Adds an id that is a vertex of just one.
-fn add_if_moved(
-    moved: &mut Vec<VertexId>,
+fn add_if_in_one_graph(
+    member_changes: &mut Vec<VertexId>,
     before: &Graph,
     after: &Graph,
     id: VertexId,
 ) -> Result<(), Memory>
-    ensures { OnOk result (moved.new.items ≡ moved.old.items ++ moved_among before.now after.now (id ∷ [])) }
+    ensures { OnOk result (member_changes.new.items ≡ member_changes.old.items ++ member_changes_among before.now
+        after.now (id ∷ [])) }
 {
     if before.row(id).is_some() != after.row(id).is_some() {
-        moved.push(id)?;
+        member_changes.push(id)?;
     }
     Ok(())
 }

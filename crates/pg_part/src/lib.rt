@@ -3,9 +3,9 @@
 
 mod graphs;
 mod part;
-mod reckoning;
+mod stats_history;
 
-pub use graphs::moved;
-pub use part::{Left, Part, Spent};
-pub use pg_course::{Lost, Partitioner, Rows, Sent};
+pub use graphs::member_changes;
+pub use part::{DeferredPartDrop, Part, RetainedPart};
 pub use pg_graph::Memory;
+pub use pg_part_run::{Lost, Partitioner, Rows, Sent};

@@ -16,17 +16,17 @@ module _ {X Y : Type 0} (f : X → Y) (xs : List X) where
   appended_all i start made all so_far = so_far ∙ ap (λ l. start ++ map f l) (take_all i xs all)
 
 -- a text that is added last, where it can be
-module _ {T E : Type 0} (r : Result T E) (before added after : List ℕ) (told : after ≡ cond (is_ok r) (before ++ added) before) where
+module _ {T E : Type 0} (r : Result T E) (before added after : List ℕ) (stated : after ≡ cond (is_ok r) (before ++ added) before) where
   pub added_ok : (text : List ℕ) → added ≡ text → OnOk r (after ≡ before ++ text)
-  added_ok text is = by r told
+  added_ok text is = by r stated
     where
       by : (r : Result T E) → after ≡ cond (is_ok r) (before ++ added) before → OnOk r (after ≡ before ++ text)
-      by (Ok x) told = told ∙ ap (λ l. before ++ l) is
-      by (Err e) told = tt
+      by (Ok x) stated = stated ∙ ap (λ l. before ++ l) is
+      by (Err e) stated = tt
 
   pub added_err : OnErr r (after ≡ before)
-  added_err = by r told
+  added_err = by r stated
     where
       by : (r : Result T E) → after ≡ cond (is_ok r) (before ++ added) before → OnErr r (after ≡ before)
-      by (Ok x) told = tt
-      by (Err e) told = told
+      by (Ok x) stated = tt
+      by (Err e) stated = stated

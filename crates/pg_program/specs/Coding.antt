@@ -32,8 +32,8 @@ abbrev pub are_so_many : {A : Type 0} → (A → Type 0) → ℕ → List A → 
 are_so_many is_item n xs = (length xs ≡ n) × AllByRecursion is_item xs
 
 module _ {A : Type 0} (is_value : A → Type 0) (coding : A → List ℕ) (bytes : List ℕ) where
-  -- What is found, with its length, is the value whose coding stands at the front of the bytes (front). And whatever value's
-  -- coding stands there, it is found (all): so one at most does, and nothing is found only where none does.
+  -- What is found, with its length, is the value whose coding stands at the front of the bytes (front). And whatever
+  -- value's coding stands there, it is found (all): so one at most does, and nothing is found only where none does.
   pub record IsDecoded (found : Option (A × ℕ)) : Type 0 where
     pub front : IfSome found (λ x. is_value x.0 × (x.1 ≤ length bytes) × (take x.1 bytes ≡ coding x.0))
     pub all : (x : A) (rest : List ℕ) → is_value x → bytes ≡ coding x ++ rest → found ≡ Some (x, length (coding x))

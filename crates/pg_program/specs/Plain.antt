@@ -1,5 +1,6 @@
 -- Plain values: which they are, their texts, and that only identical ones are equal.
-use Rattle.std.specs.Prelude.{◌≡◌, ℕ, ◌<◌, ◌^◌, [], ◌∷◌, ◌++◌, ℤ, Bool, true, false, cond, ◌&&◌, List, length, IsTrue, FitsSigned, codes, ◌==◌, refl}
+use Rattle.std.specs.Prelude.{◌≡◌, ℕ, ◌<◌, ◌^◌, [], ◌∷◌, ◌++◌, ℤ, Bool, true, false, cond, ◌&&◌, List, length, IsTrue}
+use Rattle.std.specs.Prelude.{FitsSigned, codes, ◌==◌, refl}
 use Rattle.std.specs.Int.{w64}
 use Rattle.std.specs.List.{AllByRecursion, join_by}
 use Rattle.std.specs.Ordering.{int_eq}
@@ -56,13 +57,16 @@ both_true true b h = (refl, h)
 both_true false b h = absurd (true≢false (sym h))
 
 -- of two pairs, and of two lists, whose parts are told apart
-module _ {A : Type 0} {is_value : A → Type 0} {eq : A → A → Bool} (exact : (x y : A) → is_value x → is_value y → IsTrue (eq x y) → x ≡ y) where
+module _ {A : Type 0} {is_value : A → Type 0} {eq : A → A → Bool}
+    (exact : (x y : A) → is_value x → is_value y → IsTrue (eq x y) → x ≡ y) where
   pub pair_exact : {B : Type 0} {is_second : B → Type 0} {eq_second : B → B → Bool}
-      → ((x y : B) → is_second x → is_second y → IsTrue (eq_second x y) → x ≡ y) → (x y : A × B) → are_both is_value is_second x
+      → ((x y : B) → is_second x → is_second y → IsTrue (eq_second x y) → x ≡ y) → (x y : A × B)
+      → are_both is_value is_second x
       → are_both is_value is_second y → IsTrue (eq x.0 y.0 && eq_second x.1 y.1) → x ≡ y
   pair_exact {B} {is_second} {eq_second} second x y p q equal =
       let parts : IsTrue (eq x.0 y.0) × IsTrue (eq_second x.1 y.1) = both_true (eq x.0 y.0) (eq_second x.1 y.1) equal in
-      ap (λ (a : A). (a, x.1)) (exact x.0 y.0 p.0 q.0 parts.0) ∙ ap (λ (b : B). (y.0, b)) (second x.1 y.1 p.1 q.1 parts.1)
+      ap (λ (a : A). (a, x.1)) (exact x.0 y.0 p.0 q.0 parts.0)
+      ∙ ap (λ (b : B). (y.0, b)) (second x.1 y.1 p.1 q.1 parts.1)
 
   items_exact : (xs ys : List A) → AllByRecursion is_value xs → AllByRecursion is_value ys
       → IsTrue (pointwise eq xs ys) → xs ≡ ys

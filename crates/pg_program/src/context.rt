@@ -26,7 +26,13 @@ impl<M> Model for Cx<M> {
 
     ghost Value = { Context M };
 
-    ghost view = { λ c. record { view = c.view; writes = c.writes; sent = c.sent; contributed = c.contributed; calls = c.meter } };
+    ghost view = { λ c. record {
+      view = c.view;
+      writes = c.writes;
+      sent = c.sent;
+      contributed = c.contributed;
+      calls = c.meter;
+    } };
 }
 
 impl<M: Drop> Cx<M> {

@@ -1,7 +1,7 @@
 //! The out-edges of a vertex in one execution.
 ghost use Rattle.std.specs.Prelude.{◌≡◌, true, false, ◌≤◌, length, cond, is_some, IfOk, OnOk, OnErr, vec_capacity};
-ghost use Rattle.pg_edits.specs.EdgeList.{IsRising, weight_at, with_edge, without_edge};
-ghost use Rattle.pg_edits.specs.Places.{IsPlaceOf, IsGapFor};
+ghost use Rattle.pg_graph_rows.specs.EdgeList.{IsRising, weight_at, with_edge, without_edge};
+ghost use Rattle.pg_graph_rows.specs.Places.{IsPlaceOf, IsGapFor};
 
 use crate::search::place_of;
 use pg_graph::{Edges, Memory, VertexId};
@@ -36,7 +36,7 @@ pub(crate) struct OwnEdges {
 
 impl Model for OwnEdges {
     ghost use Rattle.std.specs.Prelude.{◌≡◌, ◌≤◌, false, length, vec_capacity};
-    ghost use Rattle.pg_edits.specs.EdgeList.{EdgeList, IsRising};
+    ghost use Rattle.pg_graph_rows.specs.EdgeList.{EdgeList, IsRising};
 
     ghost Value = { EdgeList };
 

@@ -1,7 +1,7 @@
 //! A binary search among edges.
 ghost use Rattle.std.specs.Prelude.{IfOk, IfErr};
-ghost use Rattle.pg_edits.specs.EdgeList.{IsRising};
-ghost use Rattle.pg_edits.specs.Places.{IsPlaceOf, IsGapFor};
+ghost use Rattle.pg_graph_rows.specs.EdgeList.{IsRising};
+ghost use Rattle.pg_graph_rows.specs.Places.{IsPlaceOf, IsGapFor};
 
 use pg_graph::VertexId;
 

@@ -58,11 +58,11 @@ impl<E> Plain<E, E, u64> for Add {
 
 /// The right to add to a history. A contract sees which history it is.
 #[derive(Drop)]
-pub struct Head<E> {
+pub struct HistoryHead<E> {
     word: Word<E, u64, Law>,
 }
 
-impl<E> Model for Head<E> {
+impl<E> Model for HistoryHead<E> {
     ghost use Rattle.std.specs.Prelude.{◌≡◌};
     ghost use Rattle.logbook.specs.Pages.{Book};
     ghost use Rattle.pg_publish.specs.History.{head_of};
@@ -76,12 +76,12 @@ impl<E> Model for Head<E> {
 
 /// A beginning of a history that was seen. A contract sees which history, and the entries.
 #[derive(Drop)]
-pub struct Front<E> {
+pub struct HistoryPrefix<E> {
     count: u64,
     seen: Seen<E, u64, Law>,
 }
 
-impl<E> Model for Front<E> {
+impl<E> Model for HistoryPrefix<E> {
     ghost use Rattle.std.specs.Prelude.{◌≡◌, length};
     ghost use Rattle.pg_publish.specs.History.{Beginning};
 
@@ -93,16 +93,16 @@ impl<E> Model for Front<E> {
 }
 
 /// A new history with no entry.
-pub(crate) fn open<E>() -> (Head<E>, Front<E>)
+pub(crate) fn open<E>() -> (HistoryHead<E>, HistoryPrefix<E>)
     ensures empty { result.1.list ≡ [] }
     ensures own { result.0 ≡ result.1.publisher }
 {
     let (seen, mut first, _second) = Seen::open(Start::alone(), 0, 0);
     let word = Word::tracked(0, &mut first);
-    (Head { word }, Front { count: 0, seen })
+    (HistoryHead { word }, HistoryPrefix { count: 0, seen })
 }
 
-impl<E> Front<E> {
+impl<E> HistoryPrefix<E> {
     /// How many entries it has.
     pub(crate) fn len(&self) -> u64
         ensures { result ≡ length self.now.list }
@@ -111,10 +111,10 @@ impl<E> Front<E> {
     }
 
     /// A copy.
-    pub fn again(&self) -> Front<E>
+    pub fn again(&self) -> HistoryPrefix<E>
         ensures { result ≡ self.now }
     {
-        Front {
+        HistoryPrefix {
             count: self.count,
             seen: self.seen.again(),
         }
@@ -122,7 +122,7 @@ impl<E> Front<E> {
 
     /// Whether another beginning of the same history begins with this one. If not, it is the other
     /// way round.
-    pub(crate) fn begins(&self, other: &Front<E>) -> bool
+    pub(crate) fn begins(&self, other: &HistoryPrefix<E>) -> bool
         requires { other.now.publisher ≡ self.now.publisher }
         ensures { MatchBool result
             (IsPrefix self.now.list other.now.list)
@@ -134,7 +134,7 @@ impl<E> Front<E> {
     }
 
     /// The longer of two beginnings of the same history.
-    pub(crate) fn longer(self, other: Front<E>) -> Front<E>
+    pub(crate) fn longer(self, other: HistoryPrefix<E>) -> HistoryPrefix<E>
         requires { other.publisher ≡ self.publisher }
         ensures one { (result ≡ self) ⊎ (result ≡ other) }
         ensures both { IsPrefix self.list result.list × IsPrefix other.list result.list }
@@ -145,7 +145,7 @@ impl<E> Front<E> {
 
     /// Adds an entry to a history of which all was seen, and says whether it did. It did not where
     /// the history had gone on.
-    pub(crate) fn add(&mut self, head: &Head<E>, entry: &E) -> bool
+    pub(crate) fn add(&mut self, head: &HistoryHead<E>, entry: &E) -> bool
         requires own { head.now ≡ self.old.publisher }
         requires room { length self.old.list < 2 ^ 62 }
         ensures publisher { self.new.publisher ≡ self.old.publisher }

@@ -5,8 +5,8 @@ ghost use Rattle.pg_publish.specs.Answers.{aggregate_of, value_of};
 ghost use Rattle.pg_publish.specs.History.{last_of};
 
 use crate::answers::Answers;
-use crate::history::Front;
-use crate::receiver::{Receiver, Sight};
+use crate::history::HistoryPrefix;
+use crate::receiver::{Receiver, ViewGuard};
 use crate::sender::Sender;
 use pg_global::Ending;
 use pg_graph::{Edition, VertexId};
@@ -18,13 +18,13 @@ pub type Publisher<V> = Sender<Answers<V>>;
 pub type AnswerReader<V> = Receiver<Answers<V>>;
 
 /// What a reader looks at: one edition with its answer, or nothing.
-pub type Look<V> = Sight<Answers<V>>;
+pub type Look<V> = ViewGuard<Answers<V>>;
 
 /// What was published, as the publisher told it.
-pub type Told<V> = Front<Answers<V>>;
+pub type Told<V> = HistoryPrefix<Answers<V>>;
 
 /// What the edition that is looked at is; none of a thing before the first publication.
-impl<V: Drop> Sight<Answers<V>> {
+impl<V: Drop> ViewGuard<Answers<V>> {
     /// The edition that is looked at.
     pub fn edition(&self) -> Option<Edition>
         ensures { result ≡ option_map (λ a. a.publication.edition) (last_of self.now.list) }

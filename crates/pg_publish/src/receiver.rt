@@ -7,16 +7,16 @@ ghost use Rattle.pg_publish.specs.History.{last_of};
 ghost use Rattle.pg_publish.specs.Steps.{ShowsOn, longer};
 ghost use Rattle.pg_publish.specs.Views.{naming};
 
-use crate::history::Front;
-use crate::shown::{Finding, Known, OneHistory, Shown};
+use crate::history::HistoryPrefix;
+use crate::shown::{Finding, KnownPrefix, OneHistory, Shown};
 use left_right::reader::{Reader, Reading};
 use std::marker::Model;
 
 /// A reader, with the history that it has seen. A contract sees that.
 #[derive(Drop)]
 pub struct Receiver<E: Drop> {
-    seat: Reader<Shown<E>, Known, OneHistory>,
-    front: Front<E>,
+    seat: Reader<Shown<E>, KnownPrefix, OneHistory>,
+    front: HistoryPrefix<E>,
 }
 
 impl<E: Drop> Model for Receiver<E> {
@@ -35,12 +35,12 @@ impl<E: Drop> Model for Receiver<E> {
 /// What a reader looks at. It stays the same until the reader leaves, or it is dropped. A contract
 /// sees the history that ends with it. While it is kept, the publisher waits before it shows a
 /// second entry after it.
-pub struct Sight<E: Drop> {
-    reading: Reading<Shown<E>, Known, OneHistory>,
-    front: Front<E>,
+pub struct ViewGuard<E: Drop> {
+    reading: Reading<Shown<E>, KnownPrefix, OneHistory>,
+    front: HistoryPrefix<E>,
 }
 
-impl<E: Drop> Model for Sight<E> {
+impl<E: Drop> Model for ViewGuard<E> {
     ghost use Rattle.std.specs.Prelude.{◌≡◌};
     ghost use Rattle.left_right.specs.Sides.{view as known_of};
     ghost use Rattle.pg_publish.specs.History.{Beginning};
@@ -54,16 +54,19 @@ impl<E: Drop> Model for Sight<E> {
         × (s.reading.part.value ≡ s.front) };
 }
 
-impl<E: Drop> Drop for Sight<E> {
+impl<E: Drop> Drop for ViewGuard<E> {
     fn drop(self) {
-        let Sight { reading, front: _ } = self;
+        let ViewGuard { reading, front: _ } = self;
         reading.leave();
     }
 }
 
 impl<E: Drop> Receiver<E> {
     /// A reader in this seat that has seen this much.
-    pub(crate) fn new(seat: Reader<Shown<E>, Known, OneHistory>, front: Front<E>) -> Receiver<E>
+    pub(crate) fn new(
+        seat: Reader<Shown<E>, KnownPrefix, OneHistory>,
+        front: HistoryPrefix<E>,
+    ) -> Receiver<E>
         requires { known_of seat.place ≡ naming front.publisher }
         ensures { result ≡ front }
     {
@@ -72,7 +75,7 @@ impl<E: Drop> Receiver<E> {
 
     /// Looks at what is shown. It waits for nobody and takes no memory. The reader comes back as it
     /// was where the publisher is closed, or where what is shown is less than it was told of.
-    pub fn look(self) -> Result<Sight<E>, Receiver<E>>
+    pub fn look(self) -> Result<ViewGuard<E>, Receiver<E>>
         ensures { MatchResult result
             (λ sight. (sight.publisher ≡ self.publisher) × ShowsOn self.list sight.list)
             (λ reader. reader ≡ self) }
@@ -83,7 +86,7 @@ impl<E: Drop> Receiver<E> {
             Ok(reading) => {
                 let shown = reading.get().front().again();
                 if front.begins(&shown) {
-                    Ok(Sight {
+                    Ok(ViewGuard {
                         reading,
                         front: shown,
                     })
@@ -96,7 +99,7 @@ impl<E: Drop> Receiver<E> {
     }
 
     /// Takes in what the publisher told: from now on the reader looks at no less.
-    pub fn learn(self, told: Front<E>) -> Receiver<E>
+    pub fn learn(self, told: HistoryPrefix<E>) -> Receiver<E>
         requires { told.publisher ≡ self.publisher }
         ensures one { (result ≡ self) ⊎ (result ≡ told) }
         ensures both { IsPrefix self.list result.list × IsPrefix told.list result.list }
@@ -108,7 +111,7 @@ impl<E: Drop> Receiver<E> {
     }
 }
 
-impl<E: Drop> Sight<E> {
+impl<E: Drop> ViewGuard<E> {
     /// The entry that is looked at, which was published last; none where nothing is published.
     pub fn last(&self) -> Option<&E>
         ensures { option_copied result ≡ last_of self.now.list }
@@ -120,7 +123,7 @@ impl<E: Drop> Sight<E> {
     pub fn leave(self) -> Receiver<E>
         ensures { result ≡ self }
     {
-        let Sight { reading, front } = self;
+        let ViewGuard { reading, front } = self;
         Receiver {
             seat: reading.leave(),
             front,

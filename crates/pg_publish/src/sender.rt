@@ -7,9 +7,9 @@ ghost use Rattle.pg_publish.specs.History.{last_of};
 ghost use Rattle.pg_publish.specs.Sender.{Shows, told_of};
 ghost use Rattle.pg_publish.specs.Steps.{with_next};
 
-use crate::history::{Front, Head, open};
+use crate::history::{HistoryHead, HistoryPrefix, open};
 use crate::receiver::Receiver;
-use crate::shown::{Finding, Known, Naming, OneHistory, Shown};
+use crate::shown::{Finding, KnownPrefix, Naming, OneHistory, Shown};
 use core::mem::replace_with;
 use left_right::Absorb;
 use left_right::writer::Writer;
@@ -23,24 +23,24 @@ pub const READERS: usize = 8;
 /// No history gets longer.
 const MOST_ENTRIES: u64 = 1 << 61;
 
-type ShownWriter<E> = Writer<Shown<E>, Shown<E>, Known, OneHistory>;
+type ShownWriter<E> = Writer<Shown<E>, Shown<E>, KnownPrefix, OneHistory>;
 
 /// The publisher of a history. A contract sees which history, its entries, and how many readers
 /// were made. It is not `Drop`: end it by `close`.
 pub struct Sender<E: Drop>
 where
-    Shown<E>: Absorb<Shown<E>, State = Front<E>>,
+    Shown<E>: Absorb<Shown<E>, State = HistoryPrefix<E>>,
 {
-    writer: Writer<Shown<E>, Shown<E>, Known, OneHistory>,
-    head: Head<E>,
-    front: Front<E>,
+    writer: Writer<Shown<E>, Shown<E>, KnownPrefix, OneHistory>,
+    head: HistoryHead<E>,
+    front: HistoryPrefix<E>,
     alloc: Global,
     readers: usize,
 }
 
 impl<E: Drop> Model for Sender<E>
 where
-    Shown<E>: Absorb<Shown<E>, State = Front<E>>,
+    Shown<E>: Absorb<Shown<E>, State = HistoryPrefix<E>>,
 {
     ghost use Rattle.std.specs.Prelude.{◌≡◌, ◌≤◌, drop};
     ghost use Rattle.left_right.specs.Sides.{view as known_of};
@@ -79,7 +79,11 @@ fn log_next<E: Drop, R: Wait>(rt: &R, writer: ShownWriter<E>, next: Shown<E>) ->
 
 /// Shows readers what is in the log. It is tried until it takes, and waits for those that still
 /// look at what was shown before the last.
-fn show_next<E: Drop, R: Wait>(rt: &R, writer: ShownWriter<E>, next: &Front<E>) -> ShownWriter<E>
+fn show_next<E: Drop, R: Wait>(
+    rt: &R,
+    writer: ShownWriter<E>,
+    next: &HistoryPrefix<E>,
+) -> ShownWriter<E>
     requires pending { drop writer.behind writer.log.items ≡ next.now ∷ [] }
     requires own { next.now.publisher ≡ writer.desk.shown.value.publisher }
     ensures { Shows next.now result.desk.shown.value
@@ -111,7 +115,7 @@ fn show<E: Drop, R: Wait>(rt: &R, writer: ShownWriter<E>, next: Shown<E>) -> Sho
 fn make_room<E: Drop, R: Wait>(
     rt: &R,
     writer: ShownWriter<E>,
-    front: &Front<E>,
+    front: &HistoryPrefix<E>,
 ) -> Result<ShownWriter<E>, AllocError>
     requires empty { front.now.list ≡ [] }
     requires own { front.now.publisher ≡ writer.desk.shown.value.publisher }
@@ -210,7 +214,7 @@ impl<E: Drop> Sender<E> {
     }
 
     /// What is published so far, for a reader to learn.
-    pub fn tell(&self) -> Front<E>
+    pub fn tell(&self) -> HistoryPrefix<E>
         ensures { result ≡ told_of self.now }
     {
         self.front.again()

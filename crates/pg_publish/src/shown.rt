@@ -4,7 +4,7 @@ ghost use Rattle.std.specs.Arc.{arc_value};
 ghost use Rattle.std.specs.Option.{option_copied};
 ghost use Rattle.pg_publish.specs.History.{last_of};
 
-use crate::history::Front;
+use crate::history::HistoryPrefix;
 use atomic_table::{Join, Split};
 use crossbeam_utils::rule::{Outcome, Protocol};
 use left_right::Absorb;
@@ -16,7 +16,7 @@ use std::sync::Arc;
 #[derive(Drop)]
 pub struct Shown<E: Drop> {
     last: Option<Arc<E>>,
-    front: Front<E>,
+    front: HistoryPrefix<E>,
 }
 
 impl<E: Drop> Model for Shown<E> {
@@ -34,7 +34,7 @@ impl<E: Drop> Model for Shown<E> {
 
 impl<E: Drop> Shown<E> {
     /// A history with no entry.
-    pub fn nothing(front: Front<E>) -> Shown<E>
+    pub fn nothing(front: HistoryPrefix<E>) -> Shown<E>
         requires { front.list ≡ [] }
         ensures { result ≡ front }
     {
@@ -42,7 +42,7 @@ impl<E: Drop> Shown<E> {
     }
 
     /// A history that ends with this entry.
-    pub fn new(front: Front<E>, last: Arc<E>) -> Shown<E>
+    pub fn new(front: HistoryPrefix<E>, last: Arc<E>) -> Shown<E>
         requires { last_of front.list ≡ Some (arc_value last) }
         ensures { result ≡ front }
     {
@@ -77,7 +77,7 @@ impl<E: Drop> Shown<E> {
     }
 
     /// The history.
-    pub fn front(&self) -> &Front<E>
+    pub fn front(&self) -> &HistoryPrefix<E>
         ensures { result.now ≡ self.now }
     {
         &self.front
@@ -86,7 +86,7 @@ impl<E: Drop> Shown<E> {
 
 /// A copy takes in what is to be shown next. The entry is shared, never copied.
 impl<E: Drop> Absorb<Shown<E>> for Shown<E> {
-    type State = Front<E>;
+    type State = HistoryPrefix<E>;
 
     ghost state = { λ s. s };
 
@@ -104,7 +104,7 @@ impl<E: Drop> Absorb<Shown<E>> for Shown<E> {
 }
 
 /// Which history a seat knows, if any. No value of it is made.
-pub struct Known {
+pub struct KnownPrefix {
     pub named: bool,
     pub number: u64,
     pub log_name: u64,
@@ -114,7 +114,7 @@ pub struct Known {
 /// The rule of the seats: all that know a history know the one that is shown.
 pub struct OneHistory;
 
-impl<E: Drop> Protocol<Shown<E>, Known> for OneHistory {
+impl<E: Drop> Protocol<Shown<E>, KnownPrefix> for OneHistory {
     ghost use Rattle.pg_publish.specs.Views.{AllName, nameless};
 
     ghost holds = { λ shown knowns. AllName shown.publisher knowns };
@@ -125,7 +125,7 @@ impl<E: Drop> Protocol<Shown<E>, Known> for OneHistory {
 /// A step finds out which history is shown.
 pub struct Finding;
 
-impl<E: Drop> Outcome<Shown<E>, Known> for Finding {
+impl<E: Drop> Outcome<Shown<E>, KnownPrefix> for Finding {
     ghost use Rattle.pg_publish.specs.Views.{Finds};
 
     ghost then = { λ before found shown after. Finds before shown.publisher after };
@@ -134,13 +134,13 @@ impl<E: Drop> Outcome<Shown<E>, Known> for Finding {
 /// The publisher hands on which history it is, and goes on knowing it.
 pub struct Naming;
 
-impl Split<Known> for Naming {
+impl Split<KnownPrefix> for Naming {
     ghost left = { λ known. known };
 
     ghost right = { λ known. known };
 }
 
-impl Join<Known> for Naming {
+impl Join<KnownPrefix> for Naming {
     ghost use Rattle.pg_publish.specs.Views.{nameless};
 
     ghost both = { λ known told. told };

@@ -1,8 +1,8 @@
 // Whole runs of the program, by its words and its input.
 use pg_global::AnyCombiner;
 use pg_graph::VertexId;
-use pg_ready::{ReadyMaster, ReadyProgram, Sssp};
 use pregeld::{Limits, ReadyService, ServeFault, Service, serve, start_leaving};
+use pregeld_programs::{ReadyMaster, ReadyProgram, Sssp};
 use std::alloc::Global;
 use std::io;
 use std::io::{BufRead, BufReader, Read, Write};

@@ -6,7 +6,7 @@ use Rattle.std.proofs.Math.ListN.{drop_of_length-le}
 use Rattle.pg_global.specs.Registry.{aggregating_of}
 use Rattle.pg_global.specs.declared.registry.Registration.{Registration}
 use Rattle.pg_model.specs.Superstep.{at_place, gathered_at, gathered_from}
-use Rattle.pg_delivery.proofs.Messages.{messages_to-more}
+use Rattle.pg_scratch_delivery.proofs.Messages.{messages_to-more}
 
 -- one contribution more is looked at
 pub at_place-next : (place : ℕ) (cs : List (ℕ × ℤ)) (i : ℕ) (c : ℕ × ℤ) (before after : List ℤ) → i < length cs → c ≡ get_or cs i c

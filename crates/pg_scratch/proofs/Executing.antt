@@ -4,7 +4,7 @@ use Rattle.std.proofs.lemmas.List.{append-nil}
 use Rattle.pg_model.proofs.LawsAgreement.{outcome-active, outcome-idle}
 use Rattle.pg_model.specs.Job.{Program}
 use Rattle.pg_model.specs.Superstep.{is_active, is_empty, outcome, state_after, capped}
-use Rattle.pg_model.specs.declared.configuration.Standing.{Standing}
+use Rattle.pg_model.specs.declared.configuration.VertexWithInbox.{VertexWithInbox}
 use Rattle.pg_model.specs.declared.configuration.VertexState.{VertexState}
 use Rattle.pg_model.specs.declared.record.Record.{Record}
 use Rattle.pg_model.specs.declared.view.View.{View}
@@ -14,7 +14,7 @@ use Rattle.std.specs.Prelude.{◌<◌, ◌^◌, ℤ}
 use Rattle.std.proofs.lemmas.Bool.{or_parts}
 use Rattle.pg_scratch.specs.Pass.{ran, context_after}
 
-module _ {V M : Type 0} (program : Program V M) (view : View) (x : Standing V M) where
+module _ {V M : Type 0} (program : Program V M) (view : View) (x : VertexWithInbox V M) where
   -- the vertex and the context that an execution is lent
   module _ (vertex vertex' : VertexState V) (inbox : List M) (cx cx' : Context M) (active : is_active x ≡ true) (begins : vertex ≡ record {
     id = x.state.id;
@@ -31,8 +31,8 @@ module _ {V M : Type 0} (program : Program V M) (view : View) (x : Standing V M)
 
     pub ran-executed : (state : VertexState V) (left : List M) → state ≡ vertex' → left ≡ [] → record { state = state; inbox = left } ≡ ran program view x
     ran-executed state left is_state is_left =
-        let P : VertexState V → Standing V M = λ s. record { state = s; inbox = [] } in
-        let Q : List M → Standing V M = λ l. record { state = state; inbox = l } in
+        let P : VertexState V → VertexWithInbox V M = λ s. record { state = s; inbox = [] } in
+        let Q : List M → VertexWithInbox V M = λ l. record { state = state; inbox = l } in
         ap Q is_left ∙ ap P (is_state ∙ executes.vertex_is ∙ ap (λ (v : VertexState V). state_after v (step_on program vertex inbox cx)) begins
         ∙ ap (λ (r : Record V M). state_after x.state r) step_is)
 
@@ -62,7 +62,7 @@ not_false : (b : Bool) → not b ≡ false → b ≡ true
 not_false true h = refl
 not_false false h = sym h
 
-module _ {V M : Type 0} (program : Program V M) (view : View) (x : Standing V M) (still : is_active x ≡ false) where
+module _ {V M : Type 0} (program : Program V M) (view : View) (x : VertexWithInbox V M) (still : is_active x ≡ false) where
   pub idle_halted : x.state.halted ≡ true
   idle_halted = not_false x.state.halted (or_parts (not x.state.halted) (not (is_empty x.inbox)) still).0
 
@@ -71,11 +71,11 @@ module _ {V M : Type 0} (program : Program V M) (view : View) (x : Standing V M)
 
   pub ran-idle : x ≡ ran program view x
   ran-idle =
-      let P : List M → Standing V M = λ l. record { state = x.state; inbox = l } in
-      let Q : Record V M → Standing V M = λ r. record { state = state_after x.state r; inbox = [] } in
+      let P : List M → VertexWithInbox V M = λ l. record { state = x.state; inbox = l } in
+      let Q : Record V M → VertexWithInbox V M = λ r. record { state = state_after x.state r; inbox = [] } in
       ap P idle_empty ∙ ap Q (sym (outcome-idle program view x still))
 
-module _ {V M : Type 0} (program : Program V M) (cx : Context M) (x : Standing V M) where
+module _ {V M : Type 0} (program : Program V M) (cx : Context M) (x : VertexWithInbox V M) where
   abbrev context_with : Record V M → Bool → Context M
   context_with r active = record {
     view = cx.view;

@@ -13,14 +13,14 @@ use Rattle.std.proofs.lemmas.List.{length-map}
 use Rattle.std.proofs.lemmas.Option.{slice_get_within}
 use Rattle.std.proofs.lemmas.List.Sums.{sum_by-cons}
 use Rattle.pg_graph.specs.Rows.{Rows, HasRisingIds, edge_count}
-use Rattle.pg_edits.specs.declared.row.Row.{Row}
+use Rattle.pg_graph_rows.specs.declared.row.Row.{Row}
 use Rattle.pg_graph.specs.declared.missing.Missing.{Missing}
 use Rattle.pg_model.proofs.LawsLists.{by_bool}
 use Rattle.pg_model.specs.InOrder.{IsInOrder}
 use Rattle.pg_model.specs.Job.{Program, Combining, Job}
 use Rattle.pg_model.specs.Run.{beginning, first, configuration, present_at, ending_after, run_length, executions_below, executions, executed, answer, values_of}
 use Rattle.pg_model.specs.Superstep.{is_active, is_all_idle, ids, has_id, edges_of, present, visible, next, capped}
-use Rattle.pg_model.specs.declared.configuration.Standing.{Standing}
+use Rattle.pg_model.specs.declared.configuration.VertexWithInbox.{VertexWithInbox}
 use Rattle.pg_model.specs.declared.configuration.Configuration.{Configuration}
 use Rattle.pg_model.specs.declared.run.Ending.{Ending}
 use Rattle.pg_model.specs.declared.run.Ending.TheVariants.{MasterHalted, Finished, LimitReached}
@@ -32,7 +32,7 @@ use Rattle.pg_global.specs.Registry.{Registered, aggregating_of}
 use Rattle.pg_global.specs.declared.registry.Registration.{Registration}
 use Rattle.pg_scratch.specs.Running.{IsRunning}
 use Rattle.pg_scratch.specs.Stages.{HasStepped, IsPrepared}
-use Rattle.pg_delivery.specs.Worklist.{ListsActive}
+use Rattle.pg_scratch_delivery.specs.Worklist.{ListsActive}
 use Rattle.pg_scratch.specs.declared.superstep.Progress.{Progress}
 
 less_at : (a b : ℕ) → a < b → nat_cmp a b ≡ Less
@@ -71,7 +71,7 @@ unfolding IsStrictlySortedBy
 range-rising a zero = tt
 range-rising a (suc n) = (range-above a (a + 1) n (omega arith), range-rising (a + 1) n)
 
-pub ListsActive-all : {V M : Type 0} (xs : List (Standing V M)) (n : ℕ) → length xs ≡ n → ListsActive xs (range_with_len 0 n)
+pub ListsActive-all : {V M : Type 0} (xs : List (VertexWithInbox V M)) (n : ℕ) → length xs ≡ n → ListsActive xs (range_with_len 0 n)
 ListsActive-all xs n same =
     record {
       within = λ place h. let w = range-within 0 n place h in omega (arith, w.1);
@@ -92,20 +92,20 @@ beginning-edges program (row ∷ rows) =
 -- a run before its first superstep
 pub record IsBeginning {V M : Type 0} (program : Program V M) (registrations : List Registration) (rows : Rows) (count : ℕ) (p : Progress V M) : Type 0 where
   pub configuration : p.configuration ≡ record {
-    standings = map (beginning program) rows;
+    with_inboxes = map (beginning program) rows;
     waiting = [];
     gathered = map (λ r. (aggregating_of r).initial) registrations;
     sent = 0;
     dropped = 0;
   }
-  pub ids : p.ids ≡ ids p.configuration.standings
+  pub ids : p.ids ≡ ids p.configuration.with_inboxes
   pub work : p.work.items ≡ range_with_len 0 (length rows)
   pub edges : p.edges ≡ edge_count rows
   pub meter : p.meter ≡ count
 
 module _ {V M : Type 0} (program : Program V M) (combining : Option (Combining M)) (master : Master) (missing : Missing) (limit : ℕ) where
   first_is : (rows : Rows) (registrations : List Registration) → registrations ≡ map (λ e. e.1) master.registrations → record {
-    standings = map (beginning program) rows;
+    with_inboxes = map (beginning program) rows;
     waiting = [];
     gathered = map (λ r. (aggregating_of r).initial) registrations;
     sent = 0;
@@ -114,7 +114,7 @@ module _ {V M : Type 0} (program : Program V M) (combining : Option (Combining M
   unfolding first
   first_is rows registrations registered =
       let gathered = ap (map (λ r. (aggregating_of r).initial)) registered ∙ initial_from master.registrations in
-      λ i. record { standings = map (beginning program) rows; waiting = []; gathered = gathered i; sent = 0; dropped = 0 }
+      λ i. record { with_inboxes = map (beginning program) rows; waiting = []; gathered = gathered i; sent = 0; dropped = 0 }
 
   pub running_first : (rows : Rows) (registrations : List Registration) (count : ℕ) (p : Progress V M)
       → IsPrepared program master registrations → HasRisingIds rows → p.edges < 2 ^ 64 → count < 2 ^ 64
@@ -125,15 +125,15 @@ module _ {V M : Type 0} (program : Program V M) (combining : Option (Combining M
       let job : Job V M = job_of program combining master missing limit in
       let many : length (map (beginning program) rows) ≡ length rows = simp length-map in
       let stands = begins.configuration ∙ first_is rows registrations prepared.registered in
-      let vertices = ap (λ (x : Configuration V M). x.standings) begins.configuration in
-      let total : edges_of p.configuration.standings ≡ edge_count rows = ap (λ (xs : List (Standing V M)). edges_of xs) vertices
+      let vertices = ap (λ (x : Configuration V M). x.with_inboxes) begins.configuration in
+      let total : edges_of p.configuration.with_inboxes ≡ edge_count rows = ap (λ (xs : List (VertexWithInbox V M)). edges_of xs) vertices
       ∙ beginning-edges program rows in
       record {
         stands = stands;
         ready = record {
           in_order = subst (λ (c : Configuration V M). IsInOrder c) (sym stands) (in_order job rows rising 0);
           ids_are = begins.ids;
-          lists = subst (λ (xs : List (Standing V M)). ListsActive xs p.work.items) (sym vertices)
+          lists = subst (λ (xs : List (VertexWithInbox V M)). ListsActive xs p.work.items) (sym vertices)
               (subst (λ l. ListsActive (map (beginning program) rows) l) (sym begins.work)
               (ListsActive-all (map (beginning program) rows) (length rows) many));
           work_rises = subst (IsStrictlySortedBy nat_cmp) (sym begins.work) (range-rising 0 (length rows));

@@ -8,7 +8,8 @@ use Rattle.pg_scratch.specs.Stages.{IsReady}
 use Rattle.pg_scratch.specs.declared.superstep.Progress.{Progress}
 
 -- s supersteps are done, none of them ended the run, and the meter has counted their executions
-pub record IsRunning {V M : Type 0} (job : Job V M) (rows : Rows) (places first_count s : ℕ) (p : Progress V M) : Type 0 where
+pub record IsRunning {V M : Type 0} (job : Job V M) (rows : Rows) (places first_count s : ℕ)
+    (p : Progress V M) : Type 0 where
   pub stands : p.configuration ≡ configuration job rows s
   pub ready : IsReady places p
   pub goes_on : (before : ℕ) → before < s → is_some (ending_after job rows before) ≡ false

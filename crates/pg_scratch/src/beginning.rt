@@ -5,33 +5,33 @@ ghost use Rattle.pg_global.specs.Registry.{aggregating_of};
 
 use pg_global::{Aggregator, Registration, Registry};
 use pg_graph::{Graph, Memory, Row, VertexId};
-use pg_model::{Sequence, Standing, VertexState};
+use pg_model::{Sequence, VertexState, VertexWithInbox};
 use pg_program::Computation;
 use std::alloc::Global;
 
 /// The vertices as a run begins.
-pub(crate) fn standings_of<P: Computation>(
+pub(crate) fn with_inboxes_of<P: Computation>(
     alloc: Global,
     graph: &Graph,
     program: &P,
-) -> Result<Vec<Standing<P::Value, P::Message>>, Memory>
+) -> Result<Vec<VertexWithInbox<P::Value, P::Message>>, Memory>
     ensures { IfOk result
-        (λ standings. standings.items ≡ map (beginning (P.program program.now)) graph.now) }
+        (λ with_inboxes. with_inboxes.items ≡ map (beginning (P.program program.now)) graph.now) }
 {
-    let mut standings = Vec::with_capacity(alloc, graph.vertices() as usize)?;
+    let mut with_inboxes = Vec::with_capacity(alloc, graph.vertices() as usize)?;
     for (id, row) in graph.iter() {
-        standings.push(standing_of(alloc, program, *id, row)?)?;
+        with_inboxes.push(with_inbox_of(alloc, program, *id, row)?)?;
     }
-    Ok(standings)
+    Ok(with_inboxes)
 }
 
 /// A vertex as a run begins.
-fn standing_of<P: Computation>(
+fn with_inbox_of<P: Computation>(
     alloc: Global,
     program: &P,
     id: VertexId,
     row: &Row,
-) -> Result<Standing<P::Value, P::Message>, Memory>
+) -> Result<VertexWithInbox<P::Value, P::Message>, Memory>
     ensures { IfOk result (λ x. x ≡ beginning (P.program program.now) (id, row.now)) }
 {
     let state = VertexState {
@@ -40,7 +40,7 @@ fn standing_of<P: Computation>(
         edges: row.edges.copy()?,
         halted: false,
     };
-    Ok(Standing {
+    Ok(VertexWithInbox {
         state,
         inbox: Sequence::new(alloc),
     })

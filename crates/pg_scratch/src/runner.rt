@@ -1,5 +1,6 @@
 //! A run from scratch.
-ghost use Rattle.std.specs.Prelude.{◌≡◌, [], ◌+◌, ◌<◌, ◌≤◌, ◌^◌, ◌==◌, true, false, cond, map, length, Some, None, IsSome, IfOk};
+ghost use Rattle.std.specs.Prelude.{◌≡◌, [], ◌+◌, ◌<◌, ◌≤◌, ◌^◌, ◌==◌, true, false, cond, map, length, Some, None};
+ghost use Rattle.std.specs.Prelude.{IsSome, IfOk};
 ghost use Rattle.std.specs.Prelude.{OnOk, OnErr, IsErrOf};
 ghost use Rattle.std.specs.List.{range_with_len};
 ghost use Rattle.pg_graph.specs.Rows.{HasRisingIds, edge_count};
@@ -8,15 +9,15 @@ ghost use Rattle.pg_model.specs.Superstep.{ids as ids_of, is_all_idle, capped};
 ghost use Rattle.pg_global.specs.Master.{job_of, is_registered, has_places};
 ghost use Rattle.pg_global.specs.Registry.{first_refusal, aggregating_of};
 ghost use Rattle.pg_scratch.specs.Stages.{IsPrepared};
-ghost use Rattle.pg_delivery.specs.Worklist.{ListsActive};
+ghost use Rattle.pg_scratch_delivery.specs.Worklist.{ListsActive};
 
-use crate::beginning::{initial_values, registrations_of, standings_of};
+use crate::beginning::{initial_values, registrations_of, with_inboxes_of};
 use crate::superstep::{Progress, Runner, Spare, superstep};
-use pg_delivery::{Ids, is_anyone_active};
 use pg_global::{MasterCompute, MessageCombiner, RegisterFault, Registration, Registry};
 use pg_graph::{Graph, Memory, Missing, Superstep, VertexId};
-use pg_model::{Configuration, Declared, Ending, Run, Sequence, Standing, VertexState};
+use pg_model::{Configuration, Declared, Ending, Run, Sequence, VertexState, VertexWithInbox};
 use pg_program::{Computation, Meter};
+use pg_scratch_delivery::{IdIndex, is_anyone_active};
 use std::alloc::Global;
 use thiserror::Error;
 
@@ -52,7 +53,7 @@ fn ending_of<V, M>(
     supersteps: u32,
     limit: u32,
 ) -> Option<Ending>
-    requires { ListsActive progress.now.configuration.standings progress.now.work.items }
+    requires { ListsActive progress.now.configuration.with_inboxes progress.now.work.items }
     ensures { result ≡ cond halt (Some Ending.MasterHalted)
         (cond (is_all_idle progress.now.configuration) (Some Ending.Finished)
         (cond (supersteps == limit) (Some Ending.LimitReached) None)) }
@@ -60,8 +61,8 @@ fn ending_of<V, M>(
     if halt {
         return Some(Ending::MasterHalted);
     }
-    let standings = progress.configuration.standings.as_slice();
-    let is_anyone_active = is_anyone_active(standings, progress.work.as_slice());
+    let with_inboxes = progress.configuration.with_inboxes.as_slice();
+    let is_anyone_active = is_anyone_active(with_inboxes, progress.work.as_slice());
     if !is_anyone_active && progress.configuration.waiting.len() == 0 {
         return Some(Ending::Finished);
     }
@@ -79,7 +80,7 @@ fn answer_of<V: Drop, M: Drop>(
     supersteps: u32,
 ) -> Result<Run<V>, Memory>
     ensures { IfOk result (λ r. r ≡ record {
-      values = map (λ x. (x.state.id, x.state.value)) configuration.standings;
+      values = map (λ x. (x.state.id, x.state.value)) configuration.with_inboxes;
       aggregates = configuration.gathered;
       ending = ending;
       supersteps = supersteps;
@@ -88,14 +89,14 @@ fn answer_of<V: Drop, M: Drop>(
     }) }
 {
     let Configuration {
-        standings,
+        with_inboxes,
         waiting: _,
         gathered,
         sent,
         dropped,
     } = configuration;
     Ok(Run {
-        values: values_of(alloc, standings.into_vec())?,
+        values: values_of(alloc, with_inboxes.into_vec())?,
         aggregates: gathered,
         ending,
         supersteps,
@@ -107,14 +108,14 @@ fn answer_of<V: Drop, M: Drop>(
 /// The values of vertices, with their ids.
 fn values_of<V: Drop, M: Drop>(
     alloc: Global,
-    standings: Vec<Standing<V, M>>,
+    with_inboxes: Vec<VertexWithInbox<V, M>>,
 ) -> Result<Sequence<(VertexId, V)>, Memory>
     ensures { IfOk result
-        (λ values. values ≡ map (λ x. (x.state.id, x.state.value)) standings.items) }
+        (λ values. values ≡ map (λ x. (x.state.id, x.state.value)) with_inboxes.items) }
 {
-    let mut values = Vec::with_capacity(alloc, standings.len())?;
-    for standing in standings {
-        let Standing { state, inbox: _ } = standing;
+    let mut values = Vec::with_capacity(alloc, with_inboxes.len())?;
+    for with_inbox in with_inboxes {
+        let VertexWithInbox { state, inbox: _ } = with_inbox;
         let VertexState {
             id,
             value,
@@ -135,24 +136,24 @@ fn begin<P: Computation>(
     meter: Meter,
 ) -> Result<Progress<P::Value, P::Message>, Memory>
     ensures configuration { IfOk result (λ p. p.configuration ≡ record {
-      standings = map (beginning (P.program program.now)) graph.now;
+      with_inboxes = map (beginning (P.program program.now)) graph.now;
       waiting = [];
       gathered = map (λ r. (aggregating_of r).initial) registrations.now;
       sent = 0;
       dropped = 0;
     }) }
     ensures rising { HasRisingIds graph.now }
-    ensures ids { IfOk result (λ p. p.ids ≡ ids_of p.configuration.standings) }
+    ensures ids { IfOk result (λ p. p.ids ≡ ids_of p.configuration.with_inboxes) }
     ensures work { IfOk result (λ p. p.work.items ≡ range_with_len 0 (length graph.now)) }
     ensures edges { IfOk result (λ p. (p.edges ≡ edge_count graph.now) × (p.edges < 2 ^ 64)) }
     ensures meter { IfOk result (λ p. p.meter ≡ meter) }
 {
     let work = all_places(alloc, graph.vertices() as usize)?;
     let gathered = initial_values(alloc, registrations)?;
-    let standings = standings_of(alloc, graph, program)?;
-    let ids = Ids::of_vertices(alloc, standings.as_slice())?;
+    let with_inboxes = with_inboxes_of(alloc, graph, program)?;
+    let ids = IdIndex::of_vertices(alloc, with_inboxes.as_slice())?;
     let configuration = Configuration {
-        standings: Sequence::from_vec(standings),
+        with_inboxes: Sequence::from_vec(with_inboxes),
         waiting: Sequence::new(alloc),
         gathered,
         sent: 0,

@@ -3,17 +3,17 @@ ghost use Rattle.std.specs.Prelude.{◌≡◌, ◌<◌, ◌^◌, length, IfOk};
 ghost use Rattle.pg_model.specs.Superstep.{capped, edges_of};
 ghost use Rattle.pg_program.specs.Context.{ShowsDeclared};
 ghost use Rattle.pg_global.specs.Master.{job_of};
-ghost use Rattle.pg_delivery.specs.Roster.{IsInPlace};
-ghost use Rattle.pg_scratch.specs.Stages.{HasPlayed, HasStepped, IsReady, IsPrepared};
+ghost use Rattle.pg_scratch_delivery.specs.VertexTable.{IsInPlace};
+ghost use Rattle.pg_scratch.specs.Stages.{HasExecuted, HasStepped, IsReady, IsPrepared};
 
 use crate::execution::execute_all;
 use crate::gathering::{gather_all, visible_in};
 use crate::totals::capped_total;
-use pg_delivery::{Ids, Received, Roster, receive, with_waiting};
 use pg_global::{MasterCompute, MessageCombiner, Registration, view_of};
 use pg_graph::{Memory, Missing, Superstep, VertexId};
 use pg_model::{Configuration, Place, Sequence, View};
 use pg_program::{Computation, Cx, Meter};
+use pg_scratch_delivery::{IdIndex, Received, VertexTable, receive, with_waiting};
 use std::alloc::Global;
 
 /// What a run is made with: all that stays the same in its supersteps.
@@ -39,7 +39,7 @@ pub(crate) struct Spare<M> {
 #[derive(Drop)]
 pub(crate) struct Progress<V, M> {
     pub configuration: Configuration<V, M>,
-    pub ids: Ids,
+    pub ids: IdIndex,
     pub work: Vec<usize>,
     pub edges: u64,
     pub meter: Meter,
@@ -49,8 +49,8 @@ pub(crate) struct Progress<V, M> {
 /// What the executions of a superstep leave: the vertices, with the places of those that aren't halted,
 /// what they sent and contributed, how many edges they have then, and the meter.
 #[derive(Drop)]
-pub(crate) struct Played<V, M> {
-    pub roster: Roster<V, M>,
+pub(crate) struct Executed<V, M> {
+    pub vertex_table: VertexTable<V, M>,
     pub sent: Sequence<(VertexId, M)>,
     pub contributed: Sequence<(Place, i64)>,
     pub edges: u64,
@@ -58,41 +58,41 @@ pub(crate) struct Played<V, M> {
 }
 
 /// Executes the active vertices.
-fn play<P: Computation>(
+fn execute<P: Computation>(
     alloc: Global,
     program: &P,
     view: View,
-    roster: Roster<P::Value, P::Message>,
+    vertex_table: VertexTable<P::Value, P::Message>,
     edges: u64,
     meter: Meter,
     spare: Spare<P::Message>,
-) -> Result<Played<P::Value, P::Message>, Memory>
+) -> Result<Executed<P::Value, P::Message>, Memory>
     requires shown { ShowsDeclared (P.program program.now).declared view }
-    requires in_place { IsInPlace roster }
-    requires edges { edges ≡ capped (edges_of roster.standings.items) }
+    requires in_place { IsInPlace vertex_table }
+    requires edges { edges ≡ capped (edges_of vertex_table.with_inboxes.items) }
     requires fits { meter < 2 ^ 64 }
-    ensures { IfOk result (λ p. HasPlayed (P.program program.now) view roster meter p) }
+    ensures { IfOk result (λ p. HasExecuted (P.program program.now) view vertex_table meter p) }
 {
-    let Roster {
-        mut standings,
+    let VertexTable {
+        mut with_inboxes,
         ids,
         work,
-    } = roster;
+    } = vertex_table;
     let Spare { sent, contributed } = spare;
     let mut cx = Cx::with_room(view, program.declared(), meter, sent, contributed);
     let found = execute_all(
         alloc,
         program,
-        &mut standings,
+        &mut with_inboxes,
         work.as_slice(),
         edges,
         &mut cx,
     )?;
     let (_, sent, contributed, meter) = cx.into_parts();
-    let edges = capped_total(found.edges, standings.as_slice());
-    Ok(Played {
-        roster: Roster {
-            standings,
+    let edges = capped_total(found.edges, with_inboxes.as_slice());
+    Ok(Executed {
+        vertex_table: VertexTable {
+            with_inboxes,
             ids,
             work: found.unhalted,
         },
@@ -128,29 +128,37 @@ pub(crate) fn superstep<P: Computation, C: MessageCombiner<P::Message>, M: Maste
         spare,
     } = progress;
     let Configuration {
-        standings,
+        with_inboxes,
         waiting,
         gathered,
         sent,
         dropped,
     } = configuration;
-    let vertices = standings.len() as u64;
+    let vertices = with_inboxes.len() as u64;
     let visible = visible_in(alloc, runner.master, superstep, vertices, edges, gathered)?;
     let view = view_of(alloc, runner.program.declared(), superstep, &visible)?;
-    let standings = standings.into_vec();
-    let roster = Roster {
-        standings,
+    let with_inboxes = with_inboxes.into_vec();
+    let vertex_table = VertexTable {
+        with_inboxes,
         ids,
         work,
     };
-    let roster = with_waiting(alloc, runner.program, roster, waiting)?;
-    let Played {
-        roster,
+    let vertex_table = with_waiting(alloc, runner.program, vertex_table, waiting)?;
+    let Executed {
+        vertex_table,
         sent: now_sent,
         contributed,
         edges,
         meter,
-    } = play(alloc, runner.program, view, roster, edges, meter, spare)?;
+    } = execute(
+        alloc,
+        runner.program,
+        view,
+        vertex_table,
+        edges,
+        meter,
+        spare,
+    )?;
     let gathered = gather_all(
         alloc,
         runner.registrations,
@@ -159,21 +167,27 @@ pub(crate) fn superstep<P: Computation, C: MessageCombiner<P::Message>, M: Maste
     )?;
     let sent = sent.saturating_add(now_sent.len() as u64);
     let Received {
-        roster,
-        astray,
+        vertex_table,
+        undeliverable,
         sent: delivered,
-    } = receive(alloc, runner.combiner, runner.missing, roster, now_sent)?;
-    let Roster {
-        standings,
+    } = receive(
+        alloc,
+        runner.combiner,
+        runner.missing,
+        vertex_table,
+        now_sent,
+    )?;
+    let VertexTable {
+        with_inboxes,
         ids,
         work,
-    } = roster;
+    } = vertex_table;
     let configuration = Configuration {
-        standings: Sequence::from_vec(standings),
-        waiting: astray.waiting,
+        with_inboxes: Sequence::from_vec(with_inboxes),
+        waiting: undeliverable.waiting,
         gathered,
         sent,
-        dropped: dropped.saturating_add(astray.dropped),
+        dropped: dropped.saturating_add(undeliverable.dropped),
     };
     let progress = Progress {
         configuration,

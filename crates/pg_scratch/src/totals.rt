@@ -3,7 +3,7 @@ ghost use Rattle.std.specs.Prelude.{◌≡◌, ℕ, ◌+◌, ◌≤◌, IfSome};
 ghost use Rattle.pg_model.specs.Superstep.{capped, edges_of};
 ghost use Rattle.pg_scratch.specs.Totals.{Counts};
 
-use pg_model::Standing;
+use pg_model::VertexWithInbox;
 
 /// The exact number, where the capped one tells it.
 pub(crate) fn exact(total: u64) -> Option<u64>
@@ -27,23 +27,23 @@ pub(crate) fn exchanged(known: Option<u64>, before: usize, after: usize) -> Opti
 }
 
 /// The capped number; where it isn't known, the edges are counted.
-pub(crate) fn capped_total<V, M>(known: Option<u64>, standings: &[Standing<V, M>]) -> u64
-    requires { Counts known (edges_of standings.now) }
-    ensures { result ≡ capped (edges_of standings.now) }
+pub(crate) fn capped_total<V, M>(known: Option<u64>, with_inboxes: &[VertexWithInbox<V, M>]) -> u64
+    requires { Counts known (edges_of with_inboxes.now) }
+    ensures { result ≡ capped (edges_of with_inboxes.now) }
 {
     match known {
         Some(total) => total,
-        None => counted(standings),
+        None => counted(with_inboxes),
     }
 }
 
 /// The capped number of edges, counted.
-fn counted<V, M>(standings: &[Standing<V, M>]) -> u64
-    ensures { result ≡ capped (edges_of standings.now) }
+fn counted<V, M>(with_inboxes: &[VertexWithInbox<V, M>]) -> u64
+    ensures { result ≡ capped (edges_of with_inboxes.now) }
 {
     let mut total = 0u64;
-    for standing in standings {
-        total = total.saturating_add(standing.state.edges.as_slice().len() as u64);
+    for with_inbox in with_inboxes {
+        total = total.saturating_add(with_inbox.state.edges.as_slice().len() as u64);
     }
     total
 }

@@ -1,7 +1,7 @@
 -- What an edit and a refresh leave of a service, and what a refresh reports.
 use Rattle.std.proofs.Common.{◌≡◌, ℕ, ◌+◌, Bool, [], Option, None, Some, Result, Ok, Err, IfSome, OnErr}
 use Rattle.std.proofs.Common.{refl, ap, sym, subst, ◌∙◌, arith}
-use Rattle.pg_workers.specs.Handed.{IsLeftBy, Limits, Traces}
+use Rattle.pg_workers.specs.Handed.{IsRetainedBy, Limits, Traces}
 use Rattle.pg_global.specs.Master.{Master, job_of}
 use Rattle.pg_global.specs.Registry.{Registered}
 use Rattle.pg_graph.specs.Rows.{Rows, row_at}
@@ -10,7 +10,7 @@ use Rattle.pg_model.specs.Run.{answer}
 use Rattle.pg_model.specs.declared.run.Run.{Run}
 use Rattle.pg_publish.specs.Answers.{Answered}
 use Rattle.pg_publish.specs.History.{Beginning}
-use Rattle.pg_service.specs.Job.{ServiceJob, job_meant, registered_by}
+use Rattle.pg_service.specs.Job.{ServiceJob, job_of_service, registered_by}
 use Rattle.pg_service.specs.Kept.{IsKept, KeptRun}
 use Rattle.pg_service.specs.Reported.{report_on}
 use Rattle.pg_service.specs.Service.{IsAnswered, IsRun, MayCount, MayReport, ServiceState, Stands, entry_of, report_of, with_entry}
@@ -30,30 +30,30 @@ module _ {V M : Type 0} {program : Program V M} {combining : Option (Combining M
   Own = job_of program combining master limits.missing limits.limit
 
   -- what a service has fits together where the answer of its graph is published last, and the run that gave it is kept
-  pub stands_refreshed : {run : Run V} {traces : Traces V M} {answers : Answered V} {last : Option (Answered V)} {left : KeptRun V M} {same : Rows}
+  pub stands_refreshed : {run : Run V} {traces : Traces V M} {answers : Answered V} {last : Option (Answered V)} {retained : KeptRun V M} {same : Rows}
       → answers ≡ record { publication = record { edition = edition; answer = run }; registered = names }
       → last ≡ Some answers
-      → left ≡ record { traces = traces; touched = [] }
-      → run ≡ answer Own same → IsLeftBy Own same limits.partitions traces
-      → Stands program combining master limits names same edition last (Some left)
-  stands_refreshed {traces = traces} {same = same} answers last left is_answer leaves = record {
+      → retained ≡ record { traces = traces; touched = [] }
+      → run ≡ answer Own same → IsRetainedBy Own same limits.partitions traces
+      → Stands program combining master limits names same edition last (Some retained)
+  stands_refreshed {traces = traces} {same = same} answers last retained is_answer leaves = record {
     can_run = stands.can_run;
     named = stands.named;
     answered = subst (λ o. IfSome o (IsAnswered Own master.registrations same edition)) (sym last)
         (subst (IsAnswered Own master.registrations same edition) (sym answers)
         (record { published = record { not_later = omega arith; is_answer = λ _. is_answer }; named = stands.named }));
-    beside = subst (IsKept Own limits.partitions same) (sym left) (record {
-      left = subst (λ rows. IsLeftBy Own rows limits.partitions traces) (sym leaves.graph_is) leaves;
+    warm = subst (IsKept Own limits.partitions same) (sym retained) (record {
+      retained = subst (λ rows. IsRetainedBy Own rows limits.partitions traces) (sym leaves.graph_is) leaves;
       untouched = λ q _. ap (row_at q) leaves.graph_is;
     });
   }
 
-  -- and where another edition of the graph comes after, beside which the run is kept
-  pub stands_later : {made : Rows} {later : ℕ} {beside : Option (KeptRun V M)}
-      → later ≡ edition + 1 → IfSome beside (IsKept Own limits.partitions made)
-      → Stands program combining master limits names made later published beside
+  -- and where another edition of the graph comes after, for which the run is kept
+  pub stands_later : {made : Rows} {later : ℕ} {warm : Option (KeptRun V M)}
+      → later ≡ edition + 1 → IfSome warm (IsKept Own limits.partitions made)
+      → Stands program combining master limits names made later published warm
   stands_later {made = made} {later = later} next is_kept =
-      record { can_run = stands.can_run; named = stands.named; answered = not_current published stands.answered; beside = is_kept }
+      record { can_run = stands.can_run; named = stands.named; answered = not_current published stands.answered; warm = is_kept }
     where
       not_current : (o : Option (Answered V)) → IfSome o (IsAnswered Own master.registrations graph edition)
           → IfSome o (IsAnswered Own master.registrations made later)
@@ -66,7 +66,7 @@ module _ {V M : Type 0} {program : Program V M} {combining : Option (Combining M
 module _ {P C A V M : Type 0} (program_of : P → Program V M) (combining_of : C → Option (Combining M)) (master_of : A → Master)
     {state old : ServiceState P C A V} (is : state ≡ old) where
   abbrev Meant : ServiceJob P C A → Job V M
-  Meant = job_meant program_of combining_of master_of
+  Meant = job_of_service program_of combining_of master_of
 
   -- what it publishes and keeps
   pub refreshed : (run : Run V) {answers : Answered V} {told : Beginning (Answered V)} {readers : ℕ} {kept : Rows} {names : Registered}
@@ -92,10 +92,10 @@ module _ {P C A V M : Type 0} (program_of : P → Program V M) (combining_of : C
       }) is
 
   -- what it reports
-  pub reported : (value_eq : V → V → Bool) (message_eq : M → M → Bool) (fated : Fated) (run : Run V) {left : Traces V M}
+  pub reported : (value_eq : V → V → Bool) (message_eq : M → M → Bool) (fated : Fated) (run : Run V) {retained : Traces V M}
       {counts : Counts} {kept : Option Rows} {report : Report}
       → report ≡ report_on state.edition run counts → kept ≡ state.kept
-      → IsRun (Meant state.job) value_eq message_eq fated state.job.limits kept state.graph run left counts
+      → IsRun (Meant state.job) value_eq message_eq fated state.job.limits kept state.graph run retained counts
       → MayReport (Meant old.job) value_eq message_eq fated old.job.limits old.kept old.edition old.graph report
   reported value_eq message_eq fated run {counts = counts} {kept = kept} {report = report} report_is kept_is ran =
       subst (λ (s : ServiceState P C A V).

@@ -2,19 +2,19 @@
 use Rattle.std.proofs.Common.{◌≡◌, ℕ, ◌+◌, Bool, true, false, cond, ◌||◌, ◌==◌, List, [], ◌∷◌, ◌++◌, Option}
 use Rattle.std.proofs.Common.{None, Some, is_some, Result, Ok, Err, refl, sym, ap, ◌∙◌, subst, true≢false}
 use Rattle.std.proofs.lemmas.Bool.{eq-eqb}
-use Rattle.pg_edits.specs.EdgeList.{weight_at, with_edge, without_edge}
+use Rattle.pg_graph_rows.specs.EdgeList.{weight_at, with_edge, without_edge}
 use Rattle.pg_graph.specs.Edit.{all_edited, batch_edited, edited}
-use Rattle.pg_edits.specs.RowEdit.{source_of}
+use Rattle.pg_graph_rows.specs.RowEdit.{source_of}
 use Rattle.pg_graph.specs.Rows.{Rows, row_at, with_row, without_row}
-use Rattle.pg_edits.specs.declared.row.Row.{Row}
-use Rattle.pg_edits.specs.declared.edit.Edit.{Edit}
-use Rattle.pg_edits.specs.declared.edit.Edit.TheVariants.{AddVertex, RemoveVertex, SetInput, AddEdge, SetEdge, RemoveEdge}
-use Rattle.pg_edits.specs.declared.edit.EditFault.{EditFault}
-use Rattle.pg_edits.specs.declared.edit.EditKind.{EditKind}
-use Rattle.pg_edits.specs.declared.edit.EditKind.TheVariants.{EdgeExists, Full, NoEdge, NoVertex, VertexExists}
+use Rattle.pg_graph_rows.specs.declared.row.Row.{Row}
+use Rattle.pg_graph_rows.specs.declared.edit.Edit.{Edit}
+use Rattle.pg_graph_rows.specs.declared.edit.Edit.TheVariants.{AddVertex, RemoveVertex, SetInput, AddEdge, SetEdge, RemoveEdge}
+use Rattle.pg_graph_rows.specs.declared.edit.EditFault.{EditFault}
+use Rattle.pg_graph_rows.specs.declared.edit.EditKind.{EditKind}
+use Rattle.pg_graph_rows.specs.declared.edit.EditKind.TheVariants.{EdgeExists, Full, NoEdge, NoVertex, VertexExists}
 use Rattle.pg_graph.proofs.Batches.{Err_not_Ok}
 use Rattle.pg_map.proofs.Changing.{change_other}
-use Rattle.pg_workers.specs.Handed.{AreTouched, IsLeftBy, Traces}
+use Rattle.pg_workers.specs.Handed.{AreTouched, IsRetainedBy, Traces}
 use Rattle.pg_model.specs.Superstep.{has_id}
 use Rattle.pg_model.specs.Job.{Job}
 use Rattle.pg_service.specs.Kept.{IsKept, KeptRun, sources}
@@ -118,16 +118,16 @@ module _ {V M : Type 0} (job : Job V M) (n : ℕ) (graph : Rows) (kept new : Kep
   -- with more ids noted a run is kept as well
   pub kept_with_more : IsKept job n graph new
   kept_with_more = record {
-    left = subst (λ (t : Traces V M). IsLeftBy job t.graph n t) (sym traces) is.left;
+    retained = subst (λ (t : Traces V M). IsRetainedBy job t.graph n t) (sym traces) is.retained;
     untouched = λ q out.
         let apart = front_and_rest kept.touched rest q (ap (λ (i : List ℕ). has_id i q) (sym ids) ∙ out) in
         ap (λ (t : Traces V M). row_at q t.graph) traces ∙ is.untouched q apart.0;
   }
 
-  -- and with those of a batch also beside the graph that it makes
+  -- and with those of a batch also against the graph that it makes
   pub kept_past_batch : (edits : List Edit) (made : Rows) → rest ≡ sources edits → batch_edited graph edits ≡ Ok made → IsKept job n made new
   kept_past_batch edits made all h = record {
-    left = kept_with_more.left;
+    retained = kept_with_more.retained;
     untouched = λ q out.
         let apart = front_and_rest kept.touched rest q (ap (λ (i : List ℕ). has_id i q) (sym ids) ∙ out) in
         kept_with_more.untouched q out ∙ batch_touches edits graph made h q (ap (λ (i : List ℕ). has_id i q) (sym all) ∙ apart.1);

@@ -13,9 +13,9 @@ pub record ServiceJob (P C A : Type 0) : Type 0 where
   pub limits : Limits
 
 -- the job that they make, by what program, combiner and master mean
-abbrev pub job_meant : {P C A V M : Type 0}
+abbrev pub job_of_service : {P C A V M : Type 0}
     → (P → Program V M) → (C → Option (Combining M)) → (A → Master) → ServiceJob P C A → Job V M
-job_meant program combining master job =
+job_of_service program combining master job =
     job_of (program job.program) (combining job.combiner) (master job.master)
     job.limits.missing job.limits.limit
 

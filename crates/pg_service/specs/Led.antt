@@ -1,12 +1,13 @@
 -- How calls have led a service to where it is, and what follows of its graph and of what was published.
-use Rattle.std.specs.Prelude.{◌≡◌, ℕ, ◌+◌, ◌≤◌, List, [], ◌∷◌, ◌++◌, length, take, None, Some, Result, Ok, Err, MatchResult}
+use Rattle.std.specs.Prelude.{◌≡◌, ℕ, ◌+◌, ◌≤◌, List, [], ◌∷◌, ◌++◌, length, take, None, Some, Result, Ok, Err}
+use Rattle.std.specs.Prelude.{MatchResult}
 use Rattle.std.specs.List.{All}
 use Rattle.logbook.specs.Pages.{Book}
 use Rattle.pg_global.specs.Registry.{Registered}
 use Rattle.pg_graph.specs.Edit.{batch_edited}
 use Rattle.pg_graph.specs.Rows.{Rows}
-use Rattle.pg_edits.specs.declared.edit.Edit.{Edit}
-use Rattle.pg_edits.specs.declared.edit.EditFault.{EditFault}
+use Rattle.pg_graph_rows.specs.declared.edit.Edit.{Edit}
+use Rattle.pg_graph_rows.specs.declared.edit.EditFault.{EditFault}
 use Rattle.pg_model.specs.Job.{Job}
 use Rattle.pg_model.specs.Publications.{Publication}
 use Rattle.pg_model.specs.Run.{answer}
@@ -45,7 +46,8 @@ module _ {P C A V M : Type 0} (own : ServiceJob P C A) (job : Job V M) (names : 
     seated : (batches : List (List Edit)) (before : ServiceState P C A V)
         → Led batches before → Led batches (record before { readers = before.readers + 1 })
 
-  -- an edit goes on from wherever calls have led: with its batch where that is accepted, with no other where it is refused
+  -- an edit goes on from wherever calls have led: with its batch where that is accepted, with no other where it is
+  -- refused
   abbrev pub EditLeadsOn : List Edit → Result ℕ EditFault → ServiceState P C A V → ServiceState P C A V → Type 0
   EditLeadsOn batch result old new = (batches : List (List Edit)) → Led batches old
       → MatchResult result (λ edition. Led (batches ++ batch ∷ []) new) (λ fault. Led batches new)

@@ -3,14 +3,14 @@ use Rattle.std.specs.Prelude.{◌≡◌, ◌⊎◌, ℕ, ◌<◌, ◌≤◌, Boo
 use Rattle.std.specs.Prelude.{List, [], ◌∷◌, ◌++◌, length, replicate, Option}
 use Rattle.std.specs.Prelude.{None, Some, IfSome, option_map, Result, Err}
 use Rattle.logbook.specs.Pages.{Book}
-use Rattle.pg_workers.specs.Handed.{Event, IsLeftBy, Limits, Traces}
+use Rattle.pg_workers.specs.Handed.{Event, IsRetainedBy, Limits, Traces}
 use Rattle.pg_global.specs.Master.{Master, job_of}
 use Rattle.pg_graph.specs.Edit.{batch_edited, batch_limit}
-use Rattle.pg_edits.specs.EditFault.{memory_fault}
+use Rattle.pg_graph_rows.specs.EditFault.{memory_fault}
 use Rattle.pg_graph.specs.Rows.{Rows}
-use Rattle.pg_edits.specs.declared.edit.Edit.{Edit}
-use Rattle.pg_edits.specs.declared.edit.EditFault.{EditFault}
-use Rattle.pg_edits.specs.declared.edit.EditKind.TheVariants.{Full}
+use Rattle.pg_graph_rows.specs.declared.edit.Edit.{Edit}
+use Rattle.pg_graph_rows.specs.declared.edit.EditFault.{EditFault}
+use Rattle.pg_graph_rows.specs.declared.edit.EditKind.TheVariants.{Full}
 use Rattle.pg_global.specs.Registry.{Registered}
 use Rattle.pg_model.specs.Job.{Combining, Job, Program}
 use Rattle.pg_model.specs.Needed.{needed_count}
@@ -107,21 +107,21 @@ module _ {V M : Type 0} (job : Job V M) where
   entry_of names edition graph = record { publication = publication_of edition graph; registered = names }
 
   module _ (value_eq : V → V → Bool) (message_eq : M → M → Bool) where
-    -- how many executions a run needs beside the run on a graph that was kept, if any
+    -- how many executions a run needs against the run on a graph that was kept, if any
     abbrev pub calls_of : Option Rows → Rows → ℕ
     calls_of kept graph = capped (needed_count value_eq message_eq job kept graph)
 
-    -- what may be counted of a run beside a kept one, if any, on workers that fall by a fate: what is told by a history
-    -- that the status machine allows. No more workers fell than may, by the fate those alone that it has fall, and
-    -- nobody where there is one worker. Where nobody fell, the calls are the needed executions, at most 2^64 - 1, and
-    -- each partition has made each superstep once
+    -- what may be counted of a run against a kept one, if any, on workers that fall by a fate: what is told by a
+    -- history that the status machine allows. No more workers fell than may, by the fate those alone that it has fall,
+    -- and nobody where there is one worker. Where nobody fell, the calls are the needed executions, at most 2^64 - 1,
+    -- and each partition has made each superstep once
     pub record MayCount (fated : Fated) (limits : Limits) (kept : Option Rows) (graph : Rows)
         (counts : Counts) : Type 0 where
       pub history : List Event
       pub tells : AreCountsOf value_eq message_eq job kept graph limits.partitions limits.workers history counts
       pub few : length counts.losses ≤ limits.max_losses
       pub fated_are : AreFated fated 0 counts.losses
-      pub alone : limits.workers ≡ 1 → counts.losses ≡ []
+      pub cold : limits.workers ≡ 1 → counts.losses ≡ []
       pub unlost : counts.losses ≡ []
           → (counts.calls ≡ calls_of kept graph)
           × (counts.steps ≡ replicate limits.partitions (answer job graph).supersteps)
@@ -147,11 +147,11 @@ module _ {V M : Type 0} (job : Job V M) where
 
     -- what a run gives: the answer of the run from scratch, what the next one may reuse, and what may be counted
     pub record IsRun (fated : Fated) (limits : Limits) (kept : Option Rows) (graph : Rows) (run : Run V)
-        (left : Traces V M)
+        (retained : Traces V M)
         (counts : Counts) : Type 0 where
       pub answers : run ≡ answer job graph
       pub rising : HaveRisingIds run.values
-      pub leaves : IsLeftBy job graph limits.partitions left
+      pub leaves : IsRetainedBy job graph limits.partitions retained
       pub counted : MayCount fated limits kept graph counts
 
     -- what a check finds: what was published is of another edition, or it is the answer of the run
@@ -170,5 +170,5 @@ pub record Stands {V M : Type 0} (program : Program V M) (combining : Option (Co
   pub named : names ≡ master.registrations
   pub answered : IfSome published (IsAnswered (job_of program combining master limits.missing limits.limit)
       master.registrations graph edition)
-  pub beside : IfSome kept (IsKept (job_of program combining master limits.missing limits.limit) limits.partitions
+  pub warm : IfSome kept (IsKept (job_of program combining master limits.missing limits.limit) limits.partitions
       graph)

@@ -1,7 +1,7 @@
 //! What a service keeps of its last run, for the next one.
 ghost use Rattle.std.specs.Prelude.{◌≡◌, ◌≤◌, ◌++◌, ℕ, List, [], length, Ok, IfErr, IfSome, OnOk, OnErr, option_map};
 ghost use Rattle.pg_graph.specs.Edit.{batch_edited, batch_limit};
-ghost use Rattle.pg_edits.specs.RowEdit.{source_of};
+ghost use Rattle.pg_graph_rows.specs.RowEdit.{source_of};
 ghost use Rattle.pg_graph.specs.Rows.{Rows};
 ghost use Rattle.pg_model.specs.Job.{Job};
 ghost use Rattle.pg_service.specs.Kept.{IsKept, sources};
@@ -42,9 +42,9 @@ impl<V, M: Plain> KeptRun<V, M> {
     }
 }
 
-/// Notes what a batch may change of the graph beside the one of the run that is kept, if one is, before it is applied.
+/// Notes what a batch may change of the graph against the one of the run that is kept, if one is, before it is applied.
 /// A batch that is too long changes nothing, and costs nothing here.
-pub(crate) fn note<V, M: Plain>(
+pub(crate) fn mark_touched<V, M: Plain>(
     kept: &mut Option<KeptRun<V, M>>,
     batch: &Batch,
 ) -> Result<(), Memory>

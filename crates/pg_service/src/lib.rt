@@ -1,4 +1,4 @@
-//! The service: a graph that is kept with its edition, a job that runs on it, beside its last run, and the answers,
+//! The service: a graph that is kept with its edition, a job that runs on it, against its last run, and the answers,
 //! which are published to readers in other threads.
 #![tactic(auto)]
 

@@ -1,4 +1,4 @@
-//! The service: a graph that is kept, the run that is kept beside it, and the answers that were published.
+//! The service: a graph that is kept, the run that is kept with it, and the answers that were published.
 ghost use Rattle.std.specs.Prelude.{◌≡◌, ◌+◌, ◌<◌, false, [], None, IsSome, Ok};
 ghost use Rattle.std.specs.Prelude.{IfOk, IfErr, IfSome, MatchOption, OnOk, OnErr, IsErrOf};
 ghost use Rattle.std.specs.Option.{option_copied};
@@ -8,13 +8,13 @@ ghost use Rattle.pg_global.specs.Registry.{first_refusal};
 ghost use Rattle.pg_graph.specs.Rows.{HasRisingIds};
 ghost use Rattle.pg_model.specs.Run.{answer};
 ghost use Rattle.pg_publish.specs.History.{last_of};
-ghost use Rattle.pg_service.specs.Job.{job_meant, registered_by};
+ghost use Rattle.pg_service.specs.Job.{job_of_service, registered_by};
 ghost use Rattle.pg_service.specs.Led.{EditLeadsOn, LeadsOn};
 ghost use Rattle.pg_service.specs.Printed.{json_text};
 ghost use Rattle.pg_service.specs.Service.{RefusesEdition, calls_of, check_of, fresh, last_published};
 ghost use Rattle.pg_service.specs.Service.{next_graph};
 
-use crate::kept::{KeptRun, note};
+use crate::kept::{KeptRun, mark_touched};
 use crate::registering::registry_of;
 use crate::report_json::value_of_report;
 use crate::{Check, Limits, Report, same};
@@ -24,14 +24,14 @@ use pg_model::Run;
 use pg_program::{Computation, Meter};
 use pg_publish::{AnswerReader, Answers, Publisher, Told};
 use pg_scratch::{RunFault, run};
-use pg_workers::Spent;
+use pg_workers::DeferredDrop;
 use std::alloc::{AllocError, Global};
 use std::marker::Model;
 use std::mem;
 use std::sync::{Arc, Wait};
 
 /// A service: a program with its combiner and its master, whose aggregators have names; a graph with its edition; the
-/// publisher of its answers; what the last run left, beside which the next one runs, and what it had no more use for;
+/// publisher of its answers; what the last run left, against which the next one runs, and what it had no more use for;
 /// and how many runs there were, which stops at 2^64 - 1. It isn't `Drop`, since its publisher waits for readers: end
 /// it by `close`.
 pub struct Service<P: Computation, C: MessageCombiner<P::Message>, M: MasterCompute> {
@@ -44,12 +44,12 @@ pub struct Service<P: Computation, C: MessageCombiner<P::Message>, M: MasterComp
     pub(crate) registry: Arc<Registry>,
     pub(crate) publisher: Publisher<P::Value>,
     pub(crate) kept: Option<KeptRun<P::Value, P::Message>>,
-    pub(crate) spent: Option<Spent<P::Value, P::Message>>,
+    pub(crate) deferred_drop: Option<DeferredDrop<P::Value, P::Message>>,
     pub(crate) runs: u64,
 }
 
 /// The graph, the run that is kept, and what it had no more use for.
-type Held<V, M> = (Graph, Option<KeptRun<V, M>>, Option<Spent<V, M>>);
+type ServiceParts<V, M> = (Graph, Option<KeptRun<V, M>>, Option<DeferredDrop<V, M>>);
 
 impl<P: Computation, C: MessageCombiner<P::Message>, M: MasterCompute> Model for Service<P, C, M> {
     ghost use Rattle.std.specs.Arc.{arc_value};
@@ -116,7 +116,7 @@ impl<P: Computation, C: MessageCombiner<P::Message>, M: MasterCompute> Service<P
             registry,
             publisher,
             kept: None,
-            spent: None,
+            deferred_drop: None,
             runs: 0,
         })
     }
@@ -153,7 +153,7 @@ impl<P: Computation, C: MessageCombiner<P::Message>, M: MasterCompute> Service<P
             (λ r. (self.old.readers < 8)
             × (self.new ≡ record self.old { readers = self.old.readers + 1 })
             × (r ≡ self.old.told)) }
-        ensures leads { let job = job_meant P.program C.combining M.master self.old.job in
+        ensures leads { let job = job_of_service P.program C.combining M.master self.old.job in
             LeadsOn self.old.job job (registered_by M.master self.old.job) self.old.told.publisher
             self.old self.new }
     {
@@ -187,14 +187,14 @@ impl<P: Computation, C: MessageCombiner<P::Message>, M: MasterCompute> Service<P
             ≡ record self.old { graph = self.new.graph; edition = self.old.edition + 1 }) }
         ensures refused { IfErr result (RefusesEdition self.old.edition self.old.graph batch.now) }
         ensures err { OnErr result (self.new ≡ self.old) }
-        ensures leads { let job = job_meant P.program C.combining M.master self.old.job in
+        ensures leads { let job = job_of_service P.program C.combining M.master self.old.job in
             EditLeadsOn self.old.job job (registered_by M.master self.old.job) self.old.told.publisher
             batch.now result self.old self.new }
     {
         let Some(number) = self.edition.number().checked_add(1) else {
             return Err(NO_EDITION_LEFT);
         };
-        note(&mut self.kept, batch)?;
+        mark_touched(&mut self.kept, batch)?;
         self.graph.apply(alloc, batch)?;
         self.edition = Edition::new(number);
         Ok(self.edition)
@@ -205,12 +205,12 @@ impl<P: Computation, C: MessageCombiner<P::Message>, M: MasterCompute> Service<P
     ///
     /// # Cost
     ///
-    /// A count for each piece of memory that the last refresh made anew in place of what was kept, at most what that took;
-    /// none where there was no refresh since the last call.
-    pub fn release(&mut self)
+    /// A count for each piece of memory that the last refresh made anew in place of what was kept, at most what that
+    /// took; none where there was no refresh since the last call.
+    pub fn drop_deferred(&mut self)
         ensures { self.new ≡ self.old }
     {
-        self.spent = None;
+        self.deferred_drop = None;
     }
 
     /// Runs the program from scratch on the graph as it stands, and compares what was published with the answer. Where
@@ -224,7 +224,7 @@ impl<P: Computation, C: MessageCombiner<P::Message>, M: MasterCompute> Service<P
     ///
     /// That of a whole run.
     pub fn check(&self, alloc: Global) -> Result<Check, Memory>
-        ensures { let job = job_meant P.program C.combining M.master self.now.job in
+        ensures { let job = job_of_service P.program C.combining M.master self.now.job in
             IfOk result (λ check. check ≡ check_of job P.Value.PartialEq.eq P.Message.PartialEq.eq
             self.now.edition self.now.graph (last_published self.now.told.list)) }
     {
@@ -234,7 +234,7 @@ impl<P: Computation, C: MessageCombiner<P::Message>, M: MasterCompute> Service<P
         if answers.edition() != self.edition {
             return Ok(Check::Stale);
         }
-        let (run, calls) = self.run_alone(alloc)?;
+        let (run, calls) = self.run_cold(alloc)?;
         if same(answers, &run) {
             return Ok(Check::Same(calls));
         }
@@ -279,7 +279,7 @@ impl<P: Computation, C: MessageCombiner<P::Message>, M: MasterCompute> Service<P
     }
 
     /// The publisher, and what holds much memory.
-    fn into_parts(self) -> (Publisher<P::Value>, Held<P::Value, P::Message>)
+    fn into_parts(self) -> (Publisher<P::Value>, ServiceParts<P::Value, P::Message>)
     where
         P: Drop,
         C: Drop,
@@ -295,17 +295,17 @@ impl<P: Computation, C: MessageCombiner<P::Message>, M: MasterCompute> Service<P
             registry: _,
             publisher,
             kept,
-            spent,
+            deferred_drop,
             runs: _,
         } = self;
-        (publisher, (graph, kept, spent))
+        (publisher, (graph, kept, deferred_drop))
     }
 
     /// The run from scratch on the graph as it stands, with the number of calls of compute.
-    fn run_alone(&self, alloc: Global) -> Result<(Run<P::Value>, u64), Memory>
+    fn run_cold(&self, alloc: Global) -> Result<(Run<P::Value>, u64), Memory>
         ensures answer { IfOk result
-            (λ r. r.0 ≡ answer (job_meant P.program C.combining M.master self.now.job) self.now.graph) }
-        ensures calls { let job = job_meant P.program C.combining M.master self.now.job in
+            (λ r. r.0 ≡ answer (job_of_service P.program C.combining M.master self.now.job) self.now.graph) }
+        ensures calls { let job = job_of_service P.program C.combining M.master self.now.job in
             IfOk result (λ r. r.1 ≡ calls_of job P.Value.PartialEq.eq P.Message.PartialEq.eq None self.now.graph) }
     {
         rises(&self.graph);

@@ -19,11 +19,11 @@ all_push p xs x = grind (arith, list_all-append p xs (x ∷ []))
 
 -- these stats, with those of one more partition
 pub record Adds (registered : Registered) (stats : PartitionStats) (before after : GlobalStats) : Type 0 where
-  pub vertices : after.vertices ≡ before.vertices + stats.census.vertices
-  pub edges : after.edges ≡ min (before.edges + stats.census.edges) (2 ^ 64 - 1)
+  pub vertices : after.vertices ≡ before.vertices + stats.vertex_counts.vertices
+  pub edges : after.edges ≡ min (before.edges + stats.vertex_counts.edges) (2 ^ 64 - 1)
   pub idle : after.is_idle ≡ (before.is_idle && is_idle stats)
-  pub sent : after.sent ≡ min (before.sent + stats.traffic.sent) (2 ^ 64 - 1)
-  pub dropped : after.dropped ≡ min (before.dropped + stats.traffic.dropped) (2 ^ 64 - 1)
+  pub sent : after.sent ≡ min (before.sent + stats.message_counts.sent) (2 ^ 64 - 1)
+  pub dropped : after.dropped ≡ min (before.dropped + stats.message_counts.dropped) (2 ^ 64 - 1)
   pub gathered : (visible : List ℤ) (contributed : List (ℕ × ℤ)) → before.gathered ≡ gathered_from 0 (aggregators_of registered) visible contributed
       → after.gathered ≡ gathered_from 0 (aggregators_of registered) visible (contributed ++ enumerate_from 0 stats.gathered)
 
@@ -40,29 +40,29 @@ stats_of_all-push registered stats before after adds visible all is = λ i. reco
   gathered = gathered i;
 }
   where
-    vertices : after.vertices ≡ sum_by (λ (s : PartitionStats). s.census.vertices) (all ++ stats ∷ [])
+    vertices : after.vertices ≡ sum_by (λ (s : PartitionStats). s.vertex_counts.vertices) (all ++ stats ∷ [])
     vertices =
         adds.vertices
-        ∙ (ap (λ (g : GlobalStats). g.vertices + stats.census.vertices) is ∙ sym (sum_by_push (λ (s : PartitionStats). s.census.vertices) all stats))
+        ∙ (ap (λ (g : GlobalStats). g.vertices + stats.vertex_counts.vertices) is ∙ sym (sum_by_push (λ (s : PartitionStats). s.vertex_counts.vertices) all stats))
 
-    edges : after.edges ≡ capped (sum_by (λ (s : PartitionStats). s.census.edges) (all ++ stats ∷ []))
+    edges : after.edges ≡ capped (sum_by (λ (s : PartitionStats). s.vertex_counts.edges) (all ++ stats ∷ []))
     edges =
         adds.edges
-        ∙ (ap (λ (g : GlobalStats). min (g.edges + stats.census.edges) (2 ^ 64 - 1)) is ∙ capped_push (λ (s : PartitionStats). s.census.edges) all stats)
+        ∙ (ap (λ (g : GlobalStats). min (g.edges + stats.vertex_counts.edges) (2 ^ 64 - 1)) is ∙ capped_push (λ (s : PartitionStats). s.vertex_counts.edges) all stats)
 
     idle : after.is_idle ≡ list_all is_idle (all ++ stats ∷ [])
     idle = adds.idle ∙ (ap (λ (g : GlobalStats). g.is_idle && is_idle stats) is ∙ all_push is_idle all stats)
 
-    sent : after.sent ≡ capped (sum_by (λ (s : PartitionStats). s.traffic.sent) (all ++ stats ∷ []))
+    sent : after.sent ≡ capped (sum_by (λ (s : PartitionStats). s.message_counts.sent) (all ++ stats ∷ []))
     sent =
         adds.sent
-        ∙ (ap (λ (g : GlobalStats). min (g.sent + stats.traffic.sent) (2 ^ 64 - 1)) is ∙ capped_push (λ (s : PartitionStats). s.traffic.sent) all stats)
+        ∙ (ap (λ (g : GlobalStats). min (g.sent + stats.message_counts.sent) (2 ^ 64 - 1)) is ∙ capped_push (λ (s : PartitionStats). s.message_counts.sent) all stats)
 
-    dropped : after.dropped ≡ capped (sum_by (λ (s : PartitionStats). s.traffic.dropped) (all ++ stats ∷ []))
+    dropped : after.dropped ≡ capped (sum_by (λ (s : PartitionStats). s.message_counts.dropped) (all ++ stats ∷ []))
     dropped =
         adds.dropped
-        ∙ (ap (λ (g : GlobalStats). min (g.dropped + stats.traffic.dropped) (2 ^ 64 - 1)) is ∙ capped_push
-        (λ (s : PartitionStats). s.traffic.dropped) all stats)
+        ∙ (ap (λ (g : GlobalStats). min (g.dropped + stats.message_counts.dropped) (2 ^ 64 - 1)) is ∙ capped_push
+        (λ (s : PartitionStats). s.message_counts.dropped) all stats)
 
     gathered : after.gathered ≡ gathered_from 0 (aggregators_of registered) visible (gathered_by (all ++ stats ∷ []))
     gathered =

@@ -1,4 +1,4 @@
--- When a configuration is idle: nobody in it is awake, and no message arrived.
+-- When a configuration is idle: all in it are halted, and no message arrived.
 use Rattle.std.proofs.Common.{◌≡◌, ℕ, suc, ◌+◌, Bool, true, false, cond, not, ◌&&◌, ◌||◌, ◌==◌, List, [], ◌∷◌, map, length, Option, None, Some, refl}
 use Rattle.std.proofs.Common.{ap, ap₂, sym, ◌∙◌, arith, filter, sum_by, count_by, true≢false}
 use Rattle.std.specs.List.{list_all}
@@ -11,12 +11,12 @@ use Rattle.pg_graph.specs.Rows.{Rows}
 use Rattle.pg_graph.specs.declared.missing.Missing.{Missing}
 use Rattle.pg_graph.specs.declared.missing.Missing.TheVariants.{Drop, Create}
 use Rattle.pg_model.proofs.LawsMade.{has_id-targets}
-use Rattle.pg_model.proofs.LawsIds.{standing_after}
+use Rattle.pg_model.proofs.LawsIds.{with_inbox_after}
 use Rattle.pg_model.specs.Job.{Combining, Job}
 use Rattle.pg_model.specs.Run.{beginning, configuration, first, present_at, view_at}
-use Rattle.pg_model.specs.Superstep.{astray, combined, delivered, has_id, ids, is_all_idle, is_empty, messages_to, next, sends, targets, waiting_after}
+use Rattle.pg_model.specs.Superstep.{undeliverable, combined, delivered, has_id, ids, is_all_idle, is_empty, messages_to, next, sends, targets, waiting_after}
 use Rattle.pg_model.specs.declared.configuration.Configuration.{Configuration}
-use Rattle.pg_model.specs.declared.configuration.Standing.{Standing}
+use Rattle.pg_model.specs.declared.configuration.VertexWithInbox.{VertexWithInbox}
 use Rattle.pg_stats.proofs.Summing.{arrives, length-arrives, length-sum_by}
 
 -- ---- tests of all elements
@@ -115,21 +115,21 @@ module _ {M : Type 0} where
       some n = grind (arith, nat_tests)
 
   -- nobody's inbox has a message and nothing waits just where no message arrives
-  pub none_left : (missing : Missing) (combining : Option (Combining M)) (is : List ℕ) (sent : List (ℕ × M)) (awake : ℕ)
-      → (((awake == 0) && (sum_by (arrives is Drop) sent == 0)) && is_empty (waiting_after missing combining (astray is sent)))
-      ≡ (awake + sum_by (arrives is missing) sent == 0)
-  none_left Drop combining is sent awake =
-      and-true ((awake == 0) && (sum_by (arrives is Drop) sent == 0)) ∙ both_zero awake (sum_by (arrives is Drop) sent)
-  none_left Create combining is sent awake =
-      let strays : List (ℕ × M) = astray is sent in
-      let each : ℕ → ℕ × List M = λ id. (id, delivered combining id strays) in
+  pub none_left : (missing : Missing) (combining : Option (Combining M)) (is : List ℕ) (sent : List (ℕ × M)) (unhalted : ℕ)
+      → (((unhalted == 0) && (sum_by (arrives is Drop) sent == 0)) && is_empty (waiting_after missing combining (undeliverable is sent)))
+      ≡ (unhalted + sum_by (arrives is missing) sent == 0)
+  none_left Drop combining is sent unhalted =
+      and-true ((unhalted == 0) && (sum_by (arrives is Drop) sent == 0)) ∙ both_zero unhalted (sum_by (arrives is Drop) sent)
+  none_left Create combining is sent unhalted =
+      let undeliverables : List (ℕ × M) = undeliverable is sent in
+      let each : ℕ → ℕ × List M = λ id. (id, delivered combining id undeliverables) in
       let go : ℕ = sum_by (arrives is Drop) sent in
-      ap (λ b. ((awake == 0) && (go == 0)) && b) (ap (λ (n : ℕ). n == 0) (length-map (targets strays) each) ∙ targets-empty strays)
-      ∙ (three_zero awake go (length strays)
-      ∙ ap (λ (n : ℕ). awake + n == 0) (sym (length-arrives is Drop sent) ∙ length-sum_by sent))
+      ap (λ b. ((unhalted == 0) && (go == 0)) && b) (ap (λ (n : ℕ). n == 0) (length-map (targets undeliverables) each) ∙ targets-empty undeliverables)
+      ∙ (three_zero unhalted go (length undeliverables)
+      ∙ ap (λ (n : ℕ). unhalted + n == 0) (sym (length-arrives is Drop sent) ∙ length-sum_by sent))
 
 module _ {V M : Type 0} where
-  goes_to_none : (id : ℕ) (xs : List (Standing V M)) → list_all (λ x. not (id == x.state.id)) xs ≡ not (has_id (ids xs) id)
+  goes_to_none : (id : ℕ) (xs : List (VertexWithInbox V M)) → list_all (λ x. not (id == x.state.id)) xs ≡ not (has_id (ids xs) id)
   goes_to_none id [] = refl
   goes_to_none id (x ∷ xs) =
       ap₂ (λ a b. not a && b) (turned id x.state.id) (goes_to_none id xs) ∙ not_either (x.state.id == id) (has_id (ids xs) id)
@@ -138,11 +138,11 @@ module _ {V M : Type 0} where
       turned a b = grind (arith, nat_tests)
 
   -- inboxes stay empty where no message goes to a vertex
-  all_empty : (xs : List (Standing V M)) (sent : List (ℕ × M))
+  all_empty : (xs : List (VertexWithInbox V M)) (sent : List (ℕ × M))
       → list_all (λ x. is_empty (messages_to x.state.id sent)) xs ≡ (sum_by (arrives (ids xs) Drop) sent == 0)
   all_empty xs [] = list_all-true xs
   all_empty xs (m ∷ sent) =
-      ap (λ (f : Standing V M → Bool). list_all f xs) (λ i x. received x.state.id m sent i)
+      ap (λ (f : VertexWithInbox V M → Bool). list_all f xs) (λ i x. received x.state.id m sent i)
       ∙ (list_all-both (λ x. not (m.0 == x.state.id)) (λ x. is_empty (messages_to x.state.id sent)) xs
       ∙ (ap₂ ◌&&◌ (goes_to_none m.0 xs) (all_empty xs sent)
       ∙ (not_and_zero (has_id (ids xs) m.0) (sum_by (arrives (ids xs) Drop) sent)
@@ -150,38 +150,38 @@ module _ {V M : Type 0} where
 
   -- a configuration is idle where all its vertices are halted, with empty inboxes, and nothing waits
   pub is_all_idle-parts : (c : Configuration V M)
-      → is_all_idle c ≡ (((count_by (λ x. not x.state.halted) c.standings == 0) && list_all (λ x. is_empty x.inbox) c.standings) && is_empty c.waiting)
+      → is_all_idle c ≡ (((count_by (λ x. not x.state.halted) c.with_inboxes == 0) && list_all (λ x. is_empty x.inbox) c.with_inboxes) && is_empty c.waiting)
   is_all_idle-parts c =
       ap (λ b. b && is_empty c.waiting)
-      (ap (λ (f : Standing V M → Bool). list_all f c.standings) (λ i x. not_both x.state.halted (is_empty x.inbox) i)
-      ∙ (list_all-both (λ x. x.state.halted) (λ x. is_empty x.inbox) c.standings
-      ∙ ap (λ b. b && list_all (λ x. is_empty x.inbox) c.standings) (list_all-count (λ x. x.state.halted) c.standings)))
+      (ap (λ (f : VertexWithInbox V M → Bool). list_all f c.with_inboxes) (λ i x. not_both x.state.halted (is_empty x.inbox) i)
+      ∙ (list_all-both (λ x. x.state.halted) (λ x. is_empty x.inbox) c.with_inboxes
+      ∙ ap (λ b. b && list_all (λ x. is_empty x.inbox) c.with_inboxes) (list_all-count (λ x. x.state.halted) c.with_inboxes)))
 
 module _ {V M : Type 0} (job : Job V M) (rows : Rows) where
   -- as a run begins nobody has received anything
-  pub is_all_idle-first : is_all_idle (configuration job rows 0) ≡ (count_by (λ x. not x.state.halted) (configuration job rows 0).standings == 0)
+  pub is_all_idle-first : is_all_idle (configuration job rows 0) ≡ (count_by (λ x. not x.state.halted) (configuration job rows 0).with_inboxes == 0)
   unfolding configuration first
   is_all_idle-first =
       let c : Configuration V M = first job rows in
-      let awake : Bool = count_by (λ (x : Standing V M). not x.state.halted) c.standings == 0 in
+      let unhalted : Bool = count_by (λ (x : VertexWithInbox V M). not x.state.halted) c.with_inboxes == 0 in
       is_all_idle-parts c
-      ∙ (and-true (awake && list_all (λ (x : Standing V M). is_empty x.inbox) c.standings)
-      ∙ (ap (λ b. awake && b) (list_all-map (λ (x : Standing V M). is_empty x.inbox) (beginning job.program) rows ∙ list_all-true rows) ∙ and-true awake))
+      ∙ (and-true (unhalted && list_all (λ (x : VertexWithInbox V M). is_empty x.inbox) c.with_inboxes)
+      ∙ (ap (λ b. unhalted && b) (list_all-map (λ (x : VertexWithInbox V M). is_empty x.inbox) (beginning job.program) rows ∙ list_all-true rows) ∙ and-true unhalted))
 
-  -- after a superstep a configuration is idle where nobody is awake and no message of it arrives
+  -- after a superstep a configuration is idle where all are halted and no message of it arrives
   pub is_all_idle-next : (s : ℕ) → is_all_idle (configuration job rows (suc s))
-      ≡ (count_by (λ x. not x.state.halted) (configuration job rows (suc s)).standings
+      ≡ (count_by (λ x. not x.state.halted) (configuration job rows (suc s)).with_inboxes
       + sum_by (arrives (ids (present_at job rows s)) job.missing) (sends job.program (view_at job rows s) (present_at job rows s)) == 0)
   unfolding configuration next
   is_all_idle-next s =
-      let xs : List (Standing V M) = present_at job rows s in
+      let xs : List (VertexWithInbox V M) = present_at job rows s in
       let sent : List (ℕ × M) = sends job.program (view_at job rows s) xs in
       let d : Configuration V M = next job s (configuration job rows s) in
-      let after : Standing V M → Standing V M = standing_after job (view_at job rows s) xs in
-      let awake : ℕ = count_by (λ (x : Standing V M). not x.state.halted) d.standings in
-      let inboxes : list_all (λ (x : Standing V M). is_empty x.inbox) d.standings ≡ (sum_by (arrives (ids xs) Drop) sent == 0) =
-      list_all-map (λ (x : Standing V M). is_empty x.inbox) after xs
-      ∙ (ap (λ (f : Standing V M → Bool). list_all f xs) (λ i x. delivered-empty job.combining x.state.id sent i) ∙ all_empty xs sent) in
+      let after : VertexWithInbox V M → VertexWithInbox V M = with_inbox_after job (view_at job rows s) xs in
+      let unhalted : ℕ = count_by (λ (x : VertexWithInbox V M). not x.state.halted) d.with_inboxes in
+      let inboxes : list_all (λ (x : VertexWithInbox V M). is_empty x.inbox) d.with_inboxes ≡ (sum_by (arrives (ids xs) Drop) sent == 0) =
+      list_all-map (λ (x : VertexWithInbox V M). is_empty x.inbox) after xs
+      ∙ (ap (λ (f : VertexWithInbox V M → Bool). list_all f xs) (λ i x. delivered-empty job.combining x.state.id sent i) ∙ all_empty xs sent) in
       is_all_idle-parts d
-      ∙ (ap (λ b. ((awake == 0) && b) && is_empty d.waiting) inboxes
-      ∙ none_left job.missing job.combining (ids xs) sent awake)
+      ∙ (ap (λ b. ((unhalted == 0) && b) && is_empty d.waiting) inboxes
+      ∙ none_left job.missing job.combining (ids xs) sent unhalted)

@@ -15,12 +15,12 @@ use Rattle.pg_model.specs.Superstep.{at_place, capped, contributions, edges_of, 
 use Rattle.pg_model.specs.declared.configuration.Configuration.{Configuration}
 use Rattle.pg_model.proofs.LawsShares.{contributions-records_in, contributions_in_shares}
 use Rattle.pg_stats.specs.GlobalStats.{AreStatsBetween, AreStatsOf, aggregators_of, gathered_by, is_idle, stats_of_all}
-use Rattle.pg_stats.specs.Stats.{census_at, sent_in, stats_at}
+use Rattle.pg_stats.specs.Stats.{vertex_counts_at, sent_in, stats_at}
 use Rattle.pg_stats.specs.declared.global_stats.GlobalStats.{GlobalStats}
 use Rattle.pg_stats.specs.declared.stats.PartitionStats.{PartitionStats}
 use Rattle.pg_stats.proofs.Gathering.{GathersParts, all_gather_parts, gathered_afresh-none, gathered_from-none, gathered_in_parts, initial_values_fit}
 use Rattle.pg_stats.proofs.Idle.{both_zero, is_all_idle-first, is_all_idle-next}
-use Rattle.pg_stats.proofs.Summing.{arrives, census-awake, census-edges, census-vertices, dropped_in_shares, messages_in_shares, none_arrives}
+use Rattle.pg_stats.proofs.Summing.{arrives, vertex_counts-unhalted, vertex_counts-edges, vertex_counts-vertices, dropped_in_shares, messages_in_shares, none_arrives}
 use Rattle.pg_stats.proofs.Summing.{sent_in_shares, sum_by-map, sum_of_sums}
 
 none_made : {X : Type 0} (ps : List ℕ) → flat_map {A = X} (λ p. []) ps ≡ []
@@ -39,10 +39,10 @@ module _ {V M : Type 0} (job : Job V M) (rows : Rows) (n : ℕ) where
   abbrev pub global_stats_at : List ℤ → ℕ → GlobalStats
   global_stats_at visible s = stats_of_all job.aggregators visible (all_stats_at s)
 
-  census-stats_at : (p s : ℕ) → (stats_at job rows n p s).census ≡ census_at job rows n p s
+  vertex_counts-stats_at : (p s : ℕ) → (stats_at job rows n p s).vertex_counts ≡ vertex_counts_at job rows n p s
   unfolding stats_at
-  census-stats_at p zero = refl
-  census-stats_at p (suc s) = refl
+  vertex_counts-stats_at p zero = refl
+  vertex_counts-stats_at p (suc s) = refl
 
   sum_of_stats : (f : PartitionStats → ℕ) (s : ℕ) → sum_by f (all_stats_at s) ≡ sum_by (λ p. f (stats_at job rows n p s)) (range_with_len 0 n)
   sum_of_stats f s = sum_by-map f (λ p. stats_at job rows n p s) (range_with_len 0 n)
@@ -53,38 +53,38 @@ module _ {V M : Type 0} (job : Job V M) (rows : Rows) (n : ℕ) where
     unfolding stats_of_all
     totals_are visible s = λ i. record { vertices = vertices i; edges = capped (edges i) }
       where
-        vertices : sum_by (λ (x : PartitionStats). x.census.vertices) (all_stats_at s) ≡ length (configuration job rows s).standings
+        vertices : sum_by (λ (x : PartitionStats). x.vertex_counts.vertices) (all_stats_at s) ≡ length (configuration job rows s).with_inboxes
         vertices =
-            sum_of_stats (λ x. x.census.vertices) s
-            ∙ (ap (λ (f : ℕ → ℕ). sum_by f (range_with_len 0 n)) (λ i p. (census-stats_at p s i).vertices) ∙ census-vertices job rows n some s)
+            sum_of_stats (λ x. x.vertex_counts.vertices) s
+            ∙ (ap (λ (f : ℕ → ℕ). sum_by f (range_with_len 0 n)) (λ i p. (vertex_counts-stats_at p s i).vertices) ∙ vertex_counts-vertices job rows n some s)
 
-        edges : sum_by (λ (x : PartitionStats). x.census.edges) (all_stats_at s) ≡ edges_of (configuration job rows s).standings
+        edges : sum_by (λ (x : PartitionStats). x.vertex_counts.edges) (all_stats_at s) ≡ edges_of (configuration job rows s).with_inboxes
         edges =
-            sum_of_stats (λ x. x.census.edges) s
-            ∙ (ap (λ (f : ℕ → ℕ). sum_by f (range_with_len 0 n)) (λ i p. (census-stats_at p s i).edges) ∙ census-edges job rows n some s)
+            sum_of_stats (λ x. x.vertex_counts.edges) s
+            ∙ (ap (λ (f : ℕ → ℕ). sum_by f (range_with_len 0 n)) (λ i p. (vertex_counts-stats_at p s i).edges) ∙ vertex_counts-edges job rows n some s)
 
     idle_first : list_all is_idle (all_stats_at 0) ≡ is_all_idle (configuration job rows 0)
     unfolding stats_at
     idle_first =
         let ps : List ℕ = range_with_len 0 n in
-        let awake : ℕ → ℕ = λ p. (census_at job rows n p 0).awake in
+        let unhalted : ℕ → ℕ = λ p. (vertex_counts_at job rows n p 0).unhalted in
         list_all-map is_idle (λ p. stats_at job rows n p 0) ps
-        ∙ (ap (λ (f : ℕ → Bool). list_all f ps) (λ i p. and-true (awake p == 0) i)
-        ∙ (sym (sum_by-zero awake ps)
-        ∙ (ap (λ (k : ℕ). k == 0) (census-awake job rows n some 0) ∙ sym (is_all_idle-first job rows))))
+        ∙ (ap (λ (f : ℕ → Bool). list_all f ps) (λ i p. and-true (unhalted p == 0) i)
+        ∙ (sym (sum_by-zero unhalted ps)
+        ∙ (ap (λ (k : ℕ). k == 0) (vertex_counts-unhalted job rows n some 0) ∙ sym (is_all_idle-first job rows))))
 
     idle_next : (s : ℕ) → list_all is_idle (all_stats_at (suc s)) ≡ is_all_idle (configuration job rows (suc s))
     unfolding stats_at
     idle_next s =
         let ps : List ℕ = range_with_len 0 n in
-        let awake : ℕ → ℕ = λ p. (census_at job rows n p (suc s)).awake in
+        let unhalted : ℕ → ℕ = λ p. (vertex_counts_at job rows n p (suc s)).unhalted in
         let arrive : ℕ × M → ℕ = arrives (ids (present_at job rows s)) job.missing in
         let arrived : ℕ → ℕ = λ p. sum_by arrive (sent_in job rows n p s) in
         list_all-map is_idle (λ p. stats_at job rows n p (suc s)) ps
-        ∙ (ap (λ (f : ℕ → Bool). list_all f ps) (λ i p. (awake p == 0) && none_arrives job rows n some s p i)
-        ∙ (ap (λ (f : ℕ → Bool). list_all f ps) (λ i p. both_zero (awake p) (arrived p) i)
-        ∙ (sym (sum_by-zero (λ p. awake p + arrived p) ps)
-        ∙ (ap (λ (k : ℕ). k == 0) (sum_of_sums awake arrived ps ∙ ap₂ ◌+◌ (census-awake job rows n some (suc s)) (messages_in_shares job rows n some s arrive))
+        ∙ (ap (λ (f : ℕ → Bool). list_all f ps) (λ i p. (unhalted p == 0) && none_arrives job rows n some s p i)
+        ∙ (ap (λ (f : ℕ → Bool). list_all f ps) (λ i p. both_zero (unhalted p) (arrived p) i)
+        ∙ (sym (sum_by-zero (λ p. unhalted p + arrived p) ps)
+        ∙ (ap (λ (k : ℕ). k == 0) (sum_of_sums unhalted arrived ps ∙ ap₂ ◌+◌ (vertex_counts-unhalted job rows n some (suc s)) (messages_in_shares job rows n some s arrive))
         ∙ sym (is_all_idle-next job rows s)))))
 
     -- ---- what is gathered
@@ -145,11 +145,11 @@ module _ {V M : Type 0} (job : Job V M) (rows : Rows) (n : ℕ) where
           gathered = gathered_next s fit;
         };
         sent =
-            capped_twice c.sent (sum_by (λ (x : PartitionStats). x.traffic.sent) all)
-            ∙ ap (λ (k : ℕ). capped (c.sent + k)) (sum_of_stats (λ x. x.traffic.sent) (suc s) ∙ sent_in_shares job rows n some s);
+            capped_twice c.sent (sum_by (λ (x : PartitionStats). x.message_counts.sent) all)
+            ∙ ap (λ (k : ℕ). capped (c.sent + k)) (sum_of_stats (λ x. x.message_counts.sent) (suc s) ∙ sent_in_shares job rows n some s);
         dropped =
-            capped_twice c.dropped (sum_by (λ (x : PartitionStats). x.traffic.dropped) all)
-            ∙ ap (λ (k : ℕ). capped (c.dropped + k)) (sum_of_stats (λ x. x.traffic.dropped) (suc s) ∙ dropped_in_shares job rows n some s);
+            capped_twice c.dropped (sum_by (λ (x : PartitionStats). x.message_counts.dropped) all)
+            ∙ ap (λ (k : ℕ). capped (c.dropped + k)) (sum_of_stats (λ x. x.message_counts.dropped) (suc s) ∙ dropped_in_shares job rows n some s);
       }
         where
           c : Configuration V M

@@ -12,13 +12,13 @@ use Rattle.pg_graph.specs.declared.missing.Missing.{Missing}
 use Rattle.pg_graph.specs.declared.missing.Missing.TheVariants.{Drop, Create}
 use Rattle.pg_model.specs.Job.{Job}
 use Rattle.pg_model.specs.Run.{configuration, present_at, view_at}
-use Rattle.pg_model.specs.Share.{present_in_share, standings_of_share}
-use Rattle.pg_model.specs.Superstep.{astray, dropped_count, edges_of, has_id, ids, outcome, sends}
-use Rattle.pg_model.specs.declared.configuration.Standing.{Standing}
+use Rattle.pg_model.specs.Share.{present_in_share, with_inboxes_of_share}
+use Rattle.pg_model.specs.Superstep.{undeliverable, dropped_count, edges_of, has_id, ids, outcome, sends}
+use Rattle.pg_model.specs.declared.configuration.VertexWithInbox.{VertexWithInbox}
 use Rattle.pg_model.specs.declared.configuration.VertexState.{VertexState}
 use Rattle.pg_model.proofs.LawsLists.{sum_by-flat_map}
-use Rattle.pg_model.proofs.LawsShares.{present_in_shares, standings_in_shares}
-use Rattle.pg_stats.specs.Stats.{census_at, sent_in, traffic_in}
+use Rattle.pg_model.proofs.LawsShares.{present_in_shares, with_inboxes_in_shares}
+use Rattle.pg_stats.specs.Stats.{vertex_counts_at, sent_in, message_counts_in}
 
 -- ---- lists of numbers
 
@@ -49,7 +49,7 @@ module _ {M : Type 0} (is : List ℕ) where
   arrives Drop m = cond (has_id is m.0) 1 0
   arrives Create m = 1
 
-  pub dropped_count-sum : (missing : Missing) (sent : List (ℕ × M)) → dropped_count missing (astray is sent) ≡ sum_by (drops missing) sent
+  pub dropped_count-sum : (missing : Missing) (sent : List (ℕ × M)) → dropped_count missing (undeliverable is sent) ≡ sum_by (drops missing) sent
   dropped_count-sum Drop sent = length-filter (λ (m : ℕ × M). not (has_id is m.0)) sent
   dropped_count-sum Create sent = none sent
     where
@@ -62,7 +62,7 @@ module _ {M : Type 0} (is : List ℕ) where
   each_message Drop m = one (has_id is m.0)
   each_message Create m = refl
 
-  pub length-arrives : (missing : Missing) (sent : List (ℕ × M)) → length sent ≡ sum_by (arrives missing) sent + dropped_count missing (astray is sent)
+  pub length-arrives : (missing : Missing) (sent : List (ℕ × M)) → length sent ≡ sum_by (arrives missing) sent + dropped_count missing (undeliverable is sent)
   length-arrives missing sent =
       length-sum_by sent
       ∙ (ap (λ (f : ℕ × M → ℕ). sum_by f sent) (λ i m. sym (each_message missing m) i)
@@ -74,14 +74,14 @@ no_more a b c e = grind (arith, nat_tests)
 module _ {V M : Type 0} (job : Job V M) (rows : Rows) (n : ℕ) (some : 0 < n) (s : ℕ) where
   -- ---- vertices and messages, by partitions
 
-  states_in_shares : (g : Standing V M → ℕ)
-      → sum_by (λ p. sum_by g (standings_of_share job rows n p s)) (range_with_len 0 n) ≡ sum_by g (configuration job rows s).standings
+  states_in_shares : (g : VertexWithInbox V M → ℕ)
+      → sum_by (λ p. sum_by g (with_inboxes_of_share job rows n p s)) (range_with_len 0 n) ≡ sum_by g (configuration job rows s).with_inboxes
   states_in_shares g =
-      sym (sum_by-flat_map g (λ p. standings_of_share job rows n p s) (range_with_len 0 n))
-      ∙ sum_by-IsPermutation g (configuration job rows s).standings (flat_map (λ p. standings_of_share job rows n p s) (range_with_len 0 n))
-      (standings_in_shares job rows n some s)
+      sym (sum_by-flat_map g (λ p. with_inboxes_of_share job rows n p s) (range_with_len 0 n))
+      ∙ sum_by-IsPermutation g (configuration job rows s).with_inboxes (flat_map (λ p. with_inboxes_of_share job rows n p s) (range_with_len 0 n))
+      (with_inboxes_in_shares job rows n some s)
 
-  vertices_in_shares : (g : Standing V M → ℕ) → sum_by (λ p. sum_by g (present_in_share job rows n p s)) (range_with_len 0 n) ≡ sum_by g (present_at job rows s)
+  vertices_in_shares : (g : VertexWithInbox V M → ℕ) → sum_by (λ p. sum_by g (present_in_share job rows n p s)) (range_with_len 0 n) ≡ sum_by g (present_at job rows s)
   vertices_in_shares g =
       sym (sum_by-flat_map g (λ p. present_in_share job rows n p s) (range_with_len 0 n))
       ∙ sum_by-IsPermutation g (present_at job rows s) (flat_map (λ p. present_in_share job rows n p s) (range_with_len 0 n))
@@ -94,7 +94,7 @@ module _ {V M : Type 0} (job : Job V M) (rows : Rows) (n : ℕ) (some : 0 < n) (
   -- messages counted by partitions are counted at once
   pub messages_in_shares : (g : ℕ × M → ℕ) → sum_by (λ p. sum_by g (sent_in job rows n p s)) (range_with_len 0 n) ≡ sum_by g all_sent
   messages_in_shares g =
-      let by_vertex : Standing V M → List (ℕ × M) = λ x. (outcome job.program (view_at job rows s) x).sent in
+      let by_vertex : VertexWithInbox V M → List (ℕ × M) = λ x. (outcome job.program (view_at job rows s) x).sent in
       ap (λ (f : ℕ → ℕ). sum_by f (range_with_len 0 n)) (λ i p. sum_by-flat_map g by_vertex (present_in_share job rows n p s) i)
       ∙ (vertices_in_shares (λ x. sum_by g (by_vertex x)) ∙ sym (sum_by-flat_map g by_vertex (present_at job rows s)))
 
@@ -103,41 +103,41 @@ module _ {V M : Type 0} (job : Job V M) (rows : Rows) (n : ℕ) (some : 0 < n) (
       ap (λ (f : ℕ → ℕ). sum_by f (range_with_len 0 n)) (λ i p. length-sum_by (sent_in job rows n p s) i)
       ∙ (messages_in_shares (λ m. 1) ∙ sym (length-sum_by all_sent))
 
-  pub dropped_in_shares : sum_by (λ p. dropped_count job.missing (astray (ids (present_at job rows s)) (sent_in job rows n p s))) (range_with_len 0 n)
-      ≡ dropped_count job.missing (astray (ids (present_at job rows s)) all_sent)
+  pub dropped_in_shares : sum_by (λ p. dropped_count job.missing (undeliverable (ids (present_at job rows s)) (sent_in job rows n p s))) (range_with_len 0 n)
+      ≡ dropped_count job.missing (undeliverable (ids (present_at job rows s)) all_sent)
   dropped_in_shares =
       let is : List ℕ = ids (present_at job rows s) in
       ap (λ (f : ℕ → ℕ). sum_by f (range_with_len 0 n)) (λ i p. dropped_count-sum is job.missing (sent_in job rows n p s) i)
       ∙ (messages_in_shares (drops is job.missing) ∙ sym (dropped_count-sum is job.missing all_sent))
 
-  -- ---- the census
+  -- ---- the vertex counts
 
-  census_in_shares : (f : VertexState V → ℕ)
-      → sum_by (λ p. sum_by f (map (λ (x : Standing V M). x.state) (standings_of_share job rows n p s))) (range_with_len 0 n)
-      ≡ sum_by (λ (x : Standing V M). f x.state) (configuration job rows s).standings
-  census_in_shares f =
-      ap (λ (g : ℕ → ℕ). sum_by g (range_with_len 0 n)) (λ i p. sum_by-map f (λ (x : Standing V M). x.state) (standings_of_share job rows n p s) i)
+  vertex_counts_in_shares : (f : VertexState V → ℕ)
+      → sum_by (λ p. sum_by f (map (λ (x : VertexWithInbox V M). x.state) (with_inboxes_of_share job rows n p s))) (range_with_len 0 n)
+      ≡ sum_by (λ (x : VertexWithInbox V M). f x.state) (configuration job rows s).with_inboxes
+  vertex_counts_in_shares f =
+      ap (λ (g : ℕ → ℕ). sum_by g (range_with_len 0 n)) (λ i p. sum_by-map f (λ (x : VertexWithInbox V M). x.state) (with_inboxes_of_share job rows n p s) i)
       ∙ states_in_shares (λ x. f x.state)
 
-  pub census-vertices : sum_by (λ p. (census_at job rows n p s).vertices) (range_with_len 0 n) ≡ length (configuration job rows s).standings
-  census-vertices =
-      ap (λ (g : ℕ → ℕ). sum_by g (range_with_len 0 n)) (λ i p. length-sum_by (map (λ (x : Standing V M). x.state) (standings_of_share job rows n p s)) i)
-      ∙ (census_in_shares (λ x. 1) ∙ sym (length-sum_by (configuration job rows s).standings))
+  pub vertex_counts-vertices : sum_by (λ p. (vertex_counts_at job rows n p s).vertices) (range_with_len 0 n) ≡ length (configuration job rows s).with_inboxes
+  vertex_counts-vertices =
+      ap (λ (g : ℕ → ℕ). sum_by g (range_with_len 0 n)) (λ i p. length-sum_by (map (λ (x : VertexWithInbox V M). x.state) (with_inboxes_of_share job rows n p s)) i)
+      ∙ (vertex_counts_in_shares (λ x. 1) ∙ sym (length-sum_by (configuration job rows s).with_inboxes))
 
-  pub census-edges : sum_by (λ p. (census_at job rows n p s).edges) (range_with_len 0 n) ≡ edges_of (configuration job rows s).standings
-  census-edges = census_in_shares (λ x. length x.edges)
+  pub vertex_counts-edges : sum_by (λ p. (vertex_counts_at job rows n p s).edges) (range_with_len 0 n) ≡ edges_of (configuration job rows s).with_inboxes
+  vertex_counts-edges = vertex_counts_in_shares (λ x. length x.edges)
 
-  pub census-awake : sum_by (λ p. (census_at job rows n p s).awake) (range_with_len 0 n)
-      ≡ count_by (λ x. not x.state.halted) (configuration job rows s).standings
-  census-awake = census_in_shares (λ x. cond (not x.halted) 1 0)
+  pub vertex_counts-unhalted : sum_by (λ p. (vertex_counts_at job rows n p s).unhalted) (range_with_len 0 n)
+      ≡ count_by (λ x. not x.state.halted) (configuration job rows s).with_inboxes
+  vertex_counts-unhalted = vertex_counts_in_shares (λ x. cond (not x.halted) 1 0)
 
   -- ---- who is idle
 
   -- a partition's messages all are dropped just where none of them arrives
-  pub none_arrives : (p : ℕ) → nat_le (traffic_in job rows n p s).sent (traffic_in job rows n p s).dropped
+  pub none_arrives : (p : ℕ) → nat_le (message_counts_in job rows n p s).sent (message_counts_in job rows n p s).dropped
       ≡ (sum_by (arrives (ids (present_at job rows s)) job.missing) (sent_in job rows n p s) == 0)
   none_arrives p =
       let is : List ℕ = ids (present_at job rows s) in
-      no_more (length (sent_in job rows n p s)) (dropped_count job.missing (astray is (sent_in job rows n p s)))
+      no_more (length (sent_in job rows n p s)) (dropped_count job.missing (undeliverable is (sent_in job rows n p s)))
       (sum_by (arrives is job.missing) (sent_in job rows n p s))
       (length-arrives is job.missing (sent_in job rows n p s))

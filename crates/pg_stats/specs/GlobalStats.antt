@@ -11,9 +11,9 @@ use Rattle.pg_stats.specs.declared.stats.PartitionStats.{PartitionStats}
 abbrev pub aggregators_of : Registered → List Aggregating
 aggregators_of registered = map (λ e. aggregating_of e.1) registered
 
--- nobody in a partition is awake, and none of the messages that it sent arrives
+-- all in a partition are halted, and none of the messages that it sent arrives
 abbrev pub is_idle : PartitionStats → Bool
-is_idle stats = (stats.census.awake == 0) && nat_le stats.traffic.sent stats.traffic.dropped
+is_idle stats = (stats.vertex_counts.unhalted == 0) && nat_le stats.message_counts.sent stats.message_counts.dropped
 
 -- what partitions have gathered, as contributions to the places
 abbrev pub gathered_by : List PartitionStats → List (ℕ × ℤ)
@@ -22,11 +22,11 @@ gathered_by all = flat_map (λ stats. enumerate_from 0 stats.gathered) all
 -- what partitions have come to together, where these values were visible in the superstep before
 unfoldable pub stats_of_all : List Aggregating → List ℤ → List PartitionStats → GlobalStats
 stats_of_all aggregators visible all = record {
-  vertices = sum_by (λ stats. stats.census.vertices) all;
-  edges = capped (sum_by (λ stats. stats.census.edges) all);
+  vertices = sum_by (λ stats. stats.vertex_counts.vertices) all;
+  edges = capped (sum_by (λ stats. stats.vertex_counts.edges) all);
   is_idle = list_all is_idle all;
-  sent = capped (sum_by (λ stats. stats.traffic.sent) all);
-  dropped = capped (sum_by (λ stats. stats.traffic.dropped) all);
+  sent = capped (sum_by (λ stats. stats.message_counts.sent) all);
+  dropped = capped (sum_by (λ stats. stats.message_counts.dropped) all);
   gathered = gathered_from 0 aggregators visible (gathered_by all);
 }
 

@@ -13,15 +13,15 @@ use pg_model::Sequence;
 use std::alloc::{AllocError, Global};
 use std::mem;
 
-/// What partitions have come to together as a superstep begins. Once the stats of all partitions of a run were added, it
-/// tells the totals, the gathered values, the counts of messages and whether all is idle of that run: `are_stats_first`
-/// and `are_stats_after` of `proofs/LawsStats.antt`.
+/// What partitions have come to together as a superstep begins. Once the stats of all partitions of a run were added,
+/// it tells the totals, the gathered values, the counts of messages and whether all is idle of that run:
+/// `are_stats_first` and `are_stats_after` of `proofs/LawsStats.antt`.
 #[derive(Drop)]
 pub struct GlobalStats {
     pub vertices: u64,
     /// Their out-edges; the number stops at 2^64 - 1.
     pub edges: u64,
-    /// Whether no vertex is awake and no message arrives.
+    /// Whether all vertices are halted and no message arrives.
     pub is_idle: bool,
     /// How many messages were sent in the superstep before; the number stops at 2^64 - 1.
     pub sent: u64,
@@ -68,14 +68,14 @@ impl GlobalStats {
             ≡ stats_of_all (aggregators_of registry.now) visible (all ++ stats.now ∷ [])) }
         ensures err { OnErr result (self.new ≡ self.old) }
     {
-        let Some(vertices) = self.vertices.checked_add(stats.census.vertices) else {
+        let Some(vertices) = self.vertices.checked_add(stats.vertex_counts.vertices) else {
             return Err(AllocError);
         };
         self.vertices = vertices;
-        self.edges = self.edges.saturating_add(stats.census.edges);
+        self.edges = self.edges.saturating_add(stats.vertex_counts.edges);
         self.is_idle &= is_idle(stats);
-        self.sent = self.sent.saturating_add(stats.traffic.sent);
-        self.dropped = self.dropped.saturating_add(stats.traffic.dropped);
+        self.sent = self.sent.saturating_add(stats.message_counts.sent);
+        self.dropped = self.dropped.saturating_add(stats.message_counts.dropped);
         let mut gathered = mem::replace(&mut self.gathered, Sequence::new(alloc)).into_vec();
         aggregate_all(registry, &mut gathered, stats.gathered.as_slice());
         self.gathered = Sequence::from_vec(gathered);
@@ -94,11 +94,11 @@ fn start_of(registration: Registration, visible: i64) -> i64
     }
 }
 
-/// Whether nobody in a partition is awake, and none of the messages that it sent arrives.
+/// Whether all in a partition are halted, and none of the messages that it sent arrives.
 fn is_idle(stats: &PartitionStats) -> bool
     ensures { result ≡ idle_test stats.now }
 {
-    stats.census.awake == 0 && stats.traffic.sent <= stats.traffic.dropped
+    stats.vertex_counts.unhalted == 0 && stats.message_counts.sent <= stats.message_counts.dropped
 }
 
 /// Gathers values by place, each on what was gathered there.

@@ -6,4 +6,4 @@ mod stats;
 
 pub use global_stats::GlobalStats;
 pub use pg_graph::Memory;
-pub use stats::{Census, PartitionStats, Traffic};
+pub use stats::{MessageCounts, PartitionStats, VertexCounts};

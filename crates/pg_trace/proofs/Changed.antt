@@ -1,6 +1,6 @@
 -- Traces with other records.
 use Rattle.std.proofs.Common.{◌≡◌, ◌==◌, ℕ, Bool, true, false, cond, List, [], ◌∷◌, ◌++◌, Option, length, refl, ap, ◌∙◌}
-use Rattle.pg_index.specs.Records.{put_at}
+use Rattle.pg_trace_index.specs.Records.{put_at}
 use Rattle.pg_model.specs.declared.configuration.VertexState.{VertexState}
 use Rattle.pg_model.specs.declared.record.Record.{Record}
 use Rattle.pg_trace.specs.Trace.{Trace, reaching, with_replaced, with_superstep}

@@ -2,8 +2,8 @@
 use Rattle.std.proofs.Common.{◌≡◌, ℕ, List, [], get_or, Option, None, Some, option_map, sym, ap, ◌∙◌}
 use Rattle.std.specs.Option.{option_and_then, option_or}
 use Rattle.pg_map.specs.Entries.{value_at}
-use Rattle.pg_index.specs.Ran.{IsIndex, last_of, steps_below, steps_in}
-use Rattle.pg_index.proofs.Last.{record_before}
+use Rattle.pg_trace_index.specs.Occurrences.{IsIndex, last_of, steps_below, steps_in}
+use Rattle.pg_trace_index.proofs.Last.{record_before}
 use Rattle.pg_model.specs.declared.configuration.VertexState.{VertexState}
 use Rattle.pg_model.specs.declared.record.Record.{Record}
 use Rattle.pg_trace.specs.Trace.{Trace, left_by, state_at, state_of}

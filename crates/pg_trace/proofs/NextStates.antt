@@ -4,7 +4,7 @@ use Rattle.std.proofs.Common.{refl, ap, ap₂, ◌∙◌, arith, le_refl, option
 use Rattle.std.specs.Option.{option_or}
 use Rattle.std.proofs.lemmas.Bool.{eq-eqb}
 use Rattle.std.proofs.lemmas.List.{get_or-set_same, get_or_push, length-append, length-set, take-append-le, take-set-le, take_more}
-use Rattle.pg_index.specs.Records.{last_record}
+use Rattle.pg_trace_index.specs.Records.{last_record}
 use Rattle.pg_map.specs.Entries.{value_at, with_changes}
 use Rattle.pg_model.specs.declared.record.Record.{Record}
 use Rattle.pg_trace.specs.Trace.{Trace, left_by, reaching, records_of, state_at, state_of, with_replaced, with_superstep}

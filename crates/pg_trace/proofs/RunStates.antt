@@ -14,18 +14,18 @@ use Rattle.std.proofs.lemmas.Option.{none-some, same_Some}
 use Rattle.pg_graph.specs.Rows.{HasRisingIds, Rows}
 use Rattle.pg_map.specs.Entries.{value_at}
 use Rattle.pg_model.specs.Job.{Job, Program}
-use Rattle.pg_model.specs.Needed.{standing_at}
+use Rattle.pg_model.specs.Needed.{with_inbox_at}
 use Rattle.pg_model.specs.Run.{configuration, present_at, view_at}
 use Rattle.pg_model.specs.Share.{belongs, records_below, records_in, share}
 use Rattle.pg_model.specs.Superstep.{ids, is_active, made, outcome, placed, state_after, with_made}
-use Rattle.pg_model.specs.declared.configuration.Standing.{Standing}
+use Rattle.pg_model.specs.declared.configuration.VertexWithInbox.{VertexWithInbox}
 use Rattle.pg_model.specs.declared.configuration.VertexState.{VertexState}
 use Rattle.pg_model.specs.declared.record.Record.{Record}
 use Rattle.pg_model.proofs.LawsAgreement.{state_after-idle}
-use Rattle.pg_model.proofs.LawsIds.{ids_rise, standing_after, standing_at-next}
-use Rattle.pg_model.proofs.LawsStandings.{standing_is}
+use Rattle.pg_model.proofs.LawsIds.{ids_rise, with_inbox_after, with_inbox_at-next}
+use Rattle.pg_model.proofs.LawsVerticesWithInbox.{with_inbox_is}
 use Rattle.pg_trace.specs.OfRun.{IsOfRun, run_state}
-use Rattle.pg_index.specs.Records.{last_record}
+use Rattle.pg_trace_index.specs.Records.{last_record}
 use Rattle.pg_trace.specs.Trace.{Trace, left_by, state_at, state_of}
 
 not_both : (b : Bool) → b ≡ true → b ≡ false → ⊥
@@ -60,7 +60,7 @@ last-push id (q ∷ rs) r = ap (λ o. option_or o (value_at id q)) (last-push id
 
 module _ {V M : Type 0} (id : ℕ) where
   -- a vertex that is placed among others is found, or what was found before
-  placed_cases : (y : Standing V M) (ys : List (Standing V M)) → (standing_at id (placed y ys) ≡ standing_at id ys) ⊎ (standing_at id (placed y ys) ≡ Some y)
+  placed_cases : (y : VertexWithInbox V M) (ys : List (VertexWithInbox V M)) → (with_inbox_at id (placed y ys) ≡ with_inbox_at id ys) ⊎ (with_inbox_at id (placed y ys) ≡ Some y)
   placed_cases y [] = by (y.state.id == id)
     where
       by : (t : Bool) → (cond t (Some y) None ≡ None) ⊎ (cond t (Some y) None ≡ Some y)
@@ -68,24 +68,24 @@ module _ {V M : Type 0} (id : ℕ) where
       by false = inl refl
   placed_cases y (z ∷ zs) = by (ltb y.state.id z.state.id) (placed_cases y zs)
     where
-      first : (t : Bool) (o : Option (Standing V M)) → (cond t (Some y) o ≡ o) ⊎ (cond t (Some y) o ≡ Some y)
+      first : (t : Bool) (o : Option (VertexWithInbox V M)) → (cond t (Some y) o ≡ o) ⊎ (cond t (Some y) o ≡ Some y)
       first true o = inr refl
       first false o = inl refl
 
-      later : (t : Bool) → (standing_at id (placed y zs) ≡ standing_at id zs) ⊎ (standing_at id (placed y zs) ≡ Some y)
-          → (cond t (Some z) (standing_at id (placed y zs)) ≡ cond t (Some z) (standing_at id zs)) ⊎ (cond t (Some z) (standing_at id (placed y zs)) ≡ Some y)
+      later : (t : Bool) → (with_inbox_at id (placed y zs) ≡ with_inbox_at id zs) ⊎ (with_inbox_at id (placed y zs) ≡ Some y)
+          → (cond t (Some z) (with_inbox_at id (placed y zs)) ≡ cond t (Some z) (with_inbox_at id zs)) ⊎ (cond t (Some z) (with_inbox_at id (placed y zs)) ≡ Some y)
       later true e = inl refl
       later false e = e
 
-      by : (t : Bool) → (standing_at id (placed y zs) ≡ standing_at id zs) ⊎ (standing_at id (placed y zs) ≡ Some y)
-          → (standing_at id (cond t (y ∷ z ∷ zs) (z ∷ placed y zs)) ≡ standing_at id (z ∷ zs))
-          ⊎ (standing_at id (cond t (y ∷ z ∷ zs) (z ∷ placed y zs)) ≡ Some y)
-      by true e = first (y.state.id == id) (standing_at id (z ∷ zs))
+      by : (t : Bool) → (with_inbox_at id (placed y zs) ≡ with_inbox_at id zs) ⊎ (with_inbox_at id (placed y zs) ≡ Some y)
+          → (with_inbox_at id (cond t (y ∷ z ∷ zs) (z ∷ placed y zs)) ≡ with_inbox_at id (z ∷ zs))
+          ⊎ (with_inbox_at id (cond t (y ∷ z ∷ zs) (z ∷ placed y zs)) ≡ Some y)
+      by true e = first (y.state.id == id) (with_inbox_at id (z ∷ zs))
       by false e = later (z.state.id == id) e
 
   module _ (program : Program V M) where
     -- an id without a vertex had no state
-    absent : (ws : List (ℕ × List M)) (xs : List (Standing V M)) → standing_at id (with_made program xs ws) ≡ None → standing_at id xs ≡ None
+    absent : (ws : List (ℕ × List M)) (xs : List (VertexWithInbox V M)) → with_inbox_at id (with_made program xs ws) ≡ None → with_inbox_at id xs ≡ None
     absent [] xs none = none
     absent (w ∷ ws) xs none =
         let after = absent ws (placed (made program w) xs) none in
@@ -95,8 +95,8 @@ module _ {V M : Type 0} (id : ℕ) where
         ]
 
     -- a vertex that isn't executed had this state
-    inactive : (ws : List (ℕ × List M)) (xs : List (Standing V M)) (x : Standing V M) → standing_at id (with_made program xs ws) ≡ Some x → is_active x ≡ false
-        → standing_at id xs ≡ Some x
+    inactive : (ws : List (ℕ × List M)) (xs : List (VertexWithInbox V M)) (x : VertexWithInbox V M) → with_inbox_at id (with_made program xs ws) ≡ Some x → is_active x ≡ false
+        → with_inbox_at id xs ≡ Some x
     inactive [] xs x found idle = found
     inactive (w ∷ ws) xs x found idle =
         let after = inactive ws (placed (made program w) xs) x found idle in
@@ -117,32 +117,32 @@ other n p id mine k h = by (k == id) refl
 
 module _ {V M : Type 0} (n p id : ℕ) (mine : belongs n p id ≡ true) where
   -- the state of one of its ids is found among its states
-  pub found_in_share : (xs : List (Standing V M)) → state_of id (map (λ x. x.state) (filter (λ x. belongs n p x.state.id) xs))
-      ≡ option_map (λ x. x.state) (standing_at id xs)
+  pub found_in_share : (xs : List (VertexWithInbox V M)) → state_of id (map (λ x. x.state) (filter (λ x. belongs n p x.state.id) xs))
+      ≡ option_map (λ x. x.state) (with_inbox_at id xs)
   found_in_share [] = refl
   found_in_share (x ∷ xs) = by (belongs n p x.state.id) refl (found_in_share xs)
     where
-      rest : List (Standing V M)
+      rest : List (VertexWithInbox V M)
       rest = filter (λ x. belongs n p x.state.id) xs
 
-      at : (t : Bool) → state_of id (map (λ x. x.state) rest) ≡ option_map (λ x. x.state) (standing_at id xs)
-          → cond t (Some x.state) (state_of id (map (λ x. x.state) rest)) ≡ option_map (λ x. x.state) (cond t (Some x) (standing_at id xs))
+      at : (t : Bool) → state_of id (map (λ x. x.state) rest) ≡ option_map (λ x. x.state) (with_inbox_at id xs)
+          → cond t (Some x.state) (state_of id (map (λ x. x.state) rest)) ≡ option_map (λ x. x.state) (cond t (Some x) (with_inbox_at id xs))
       at true e = refl
       at false e = e
 
-      by : (b : Bool) → belongs n p x.state.id ≡ b → state_of id (map (λ x. x.state) rest) ≡ option_map (λ x. x.state) (standing_at id xs)
-          → state_of id (map (λ x. x.state) (cond b (x ∷ rest) rest)) ≡ option_map (λ x. x.state) (cond (x.state.id == id) (Some x) (standing_at id xs))
+      by : (b : Bool) → belongs n p x.state.id ≡ b → state_of id (map (λ x. x.state) rest) ≡ option_map (λ x. x.state) (with_inbox_at id xs)
+          → state_of id (map (λ x. x.state) (cond b (x ∷ rest) rest)) ≡ option_map (λ x. x.state) (cond (x.state.id == id) (Some x) (with_inbox_at id xs))
       by true h e = at (x.state.id == id) e
-      by false h e = e ∙ sym (ap (λ t. option_map (λ x. x.state) (cond t (Some x) (standing_at id xs))) (other n p id mine x.state.id h))
+      by false h e = e ∙ sym (ap (λ t. option_map (λ x. x.state) (cond t (Some x) (with_inbox_at id xs))) (other n p id mine x.state.id h))
 
-  module _ (f : Standing V M → Record V M) where
-    abbrev given : List (Standing V M) → List (ℕ × Record V M)
+  module _ (f : VertexWithInbox V M → Record V M) where
+    abbrev given : List (VertexWithInbox V M) → List (ℕ × Record V M)
     given xs = map (λ x. (x.state.id, f x)) (filter is_active (filter (λ x. belongs n p x.state.id) xs))
 
-    abbrev record_of : Standing V M → Option (Record V M)
+    abbrev record_of : VertexWithInbox V M → Option (Record V M)
     record_of x = cond (is_active x) (Some (f x)) None
 
-    none_given : (k : ℕ) (xs : List (Standing V M)) → k ≡ id → AllByRecursion (λ y. nat_cmp k y ≡ Less) (ids xs) → value_at id (given xs) ≡ None
+    none_given : (k : ℕ) (xs : List (VertexWithInbox V M)) → k ≡ id → AllByRecursion (λ y. nat_cmp k y ≡ Less) (ids xs) → value_at id (given xs) ≡ None
     none_given k [] same all = refl
     none_given k (x ∷ xs) same all = by (belongs n p x.state.id) (is_active x) (none_given k xs same all.1)
       where
@@ -160,36 +160,36 @@ module _ {V M : Type 0} (n p id : ℕ) (mine : belongs n p id ≡ true) where
             at true = ap (λ t. cond t (Some (f x)) (value_at id (given xs))) apart ∙ e
             at false = e
 
-    joined : (t : Bool) (x : Standing V M) (o : Option (Standing V M))
+    joined : (t : Bool) (x : VertexWithInbox V M) (o : Option (VertexWithInbox V M))
         → cond t (record_of x) (option_and_then record_of o) ≡ option_and_then record_of (cond t (Some x) o)
     joined true x o = refl
     joined false x o = refl
 
     -- its record in the superstep is what its vertex gives, if it is executed
-    in_records : (xs : List (Standing V M)) → IsStrictlySortedBy nat_cmp (ids xs) → value_at id (given xs) ≡ option_and_then record_of (standing_at id xs)
+    in_records : (xs : List (VertexWithInbox V M)) → IsStrictlySortedBy nat_cmp (ids xs) → value_at id (given xs) ≡ option_and_then record_of (with_inbox_at id xs)
     unfolding IsStrictlySortedBy
     in_records [] rise = refl
     in_records (x ∷ xs) rise =
-        by (belongs n p x.state.id) refl (in_records xs rise.1) (λ same. none_given x.state.id xs same rise.0) ∙ joined (x.state.id == id) x (standing_at id xs)
+        by (belongs n p x.state.id) refl (in_records xs rise.1) (λ same. none_given x.state.id xs same rise.0) ∙ joined (x.state.id == id) x (with_inbox_at id xs)
       where
-        picked : List (Standing V M)
+        picked : List (VertexWithInbox V M)
         picked = filter (λ x. belongs n p x.state.id) xs
 
-        at : (a t : Bool) → is_at (nat_cmp id) x.state.id ≡ t → value_at id (given xs) ≡ option_and_then record_of (standing_at id xs)
+        at : (a t : Bool) → is_at (nat_cmp id) x.state.id ≡ t → value_at id (given xs) ≡ option_and_then record_of (with_inbox_at id xs)
             → (t ≡ true → value_at id (given xs) ≡ None)
             → value_at id (map (λ x. (x.state.id, f x)) (cond a (x ∷ filter is_active picked) (filter is_active picked)))
-            ≡ cond t (cond a (Some (f x)) None) (option_and_then record_of (standing_at id xs))
+            ≡ cond t (cond a (Some (f x)) None) (option_and_then record_of (with_inbox_at id xs))
         at true true e later none = ap (λ t. cond t (Some (f x)) (value_at id (given xs))) e
         at true false e later none = ap (λ t. cond t (Some (f x)) (value_at id (given xs))) e ∙ later
         at false true e later none = none refl
         at false false e later none = later
 
-        by : (b : Bool) → belongs n p x.state.id ≡ b → value_at id (given xs) ≡ option_and_then record_of (standing_at id xs)
+        by : (b : Bool) → belongs n p x.state.id ≡ b → value_at id (given xs) ≡ option_and_then record_of (with_inbox_at id xs)
             → (x.state.id ≡ id → value_at id (given xs) ≡ None)
             → value_at id (map (λ x. (x.state.id, f x)) (filter is_active (cond b (x ∷ picked) picked)))
-            ≡ cond (x.state.id == id) (record_of x) (option_and_then record_of (standing_at id xs))
+            ≡ cond (x.state.id == id) (record_of x) (option_and_then record_of (with_inbox_at id xs))
         by true h later none = at (is_active x) (x.state.id == id) (same_test id x.state.id) later (λ e. none (eqb-true x.state.id id e))
-        by false h later none = later ∙ sym (ap (λ t. cond t (record_of x) (option_and_then record_of (standing_at id xs))) (other n p id mine x.state.id h))
+        by false h later none = later ∙ sym (ap (λ t. cond t (record_of x) (option_and_then record_of (with_inbox_at id xs))) (other n p id mine x.state.id h))
 
   module _ (job : Job V M) (rows : Rows) (rising : HasRisingIds rows) where
     length-below : (r : ℕ) → length (records_below job rows n p r) ≡ r
@@ -211,35 +211,35 @@ module _ {V M : Type 0} (n p id : ℕ) (mine : belongs n p id ≡ true) where
               take_all s (records_below job rows n p (suc r)) (let l = length-below (suc r) in omega arith) ∙ ap (records_below job rows n p) same
         ]
 
-    abbrev gives : ℕ → Standing V M → Record V M
+    abbrev gives : ℕ → VertexWithInbox V M → Record V M
     gives s x = outcome job.program (view_at job rows s) x
 
     -- what its record leaves, or else its state before, is its state after
-    stepped : (s : ℕ) (o : Option (Standing V M)) → standing_at id (present_at job rows s) ≡ o
+    stepped : (s : ℕ) (o : Option (VertexWithInbox V M)) → with_inbox_at id (present_at job rows s) ≡ o
         → option_or (option_map (left_by id) (option_and_then (record_of (gives s)) o)) (run_state job rows id s)
-        ≡ option_map (λ x. x.state) (option_map (standing_after job (view_at job rows s) (present_at job rows s)) o)
+        ≡ option_map (λ x. x.state) (option_map (with_inbox_after job (view_at job rows s) (present_at job rows s)) o)
     stepped s None e =
-        ap (option_map (λ x. x.state)) (absent id job.program (configuration job rows s).waiting (configuration job rows s).standings e)
+        ap (option_map (λ x. x.state)) (absent id job.program (configuration job rows s).waiting (configuration job rows s).with_inboxes e)
     stepped s (Some x) e = by (is_active x) refl
       where
         by : (a : Bool) → is_active x ≡ a
             → option_or (option_map (left_by id) (cond a (Some (gives s x)) None)) (run_state job rows id s) ≡ Some (state_after x.state (gives s x))
-        by true active = ap (λ k. Some (left_by k (gives s x))) (sym (standing_is id (present_at job rows s) x e).0)
+        by true active = ap (λ k. Some (left_by k (gives s x))) (sym (with_inbox_is id (present_at job rows s) x e).0)
         by false idle =
-            ap (option_map (λ x. x.state)) (inactive id job.program (configuration job rows s).waiting (configuration job rows s).standings x e idle)
+            ap (option_map (λ x. x.state)) (inactive id job.program (configuration job rows s).waiting (configuration job rows s).with_inboxes x e idle)
             ∙ ap Some (sym (state_after-idle job.program (view_at job rows s) x idle))
 
     after : (s : ℕ) → run_state job rows id (suc s)
-        ≡ option_map (λ x. x.state) (option_map (standing_after job (view_at job rows s) (present_at job rows s)) (standing_at id (present_at job rows s)))
+        ≡ option_map (λ x. x.state) (option_map (with_inbox_after job (view_at job rows s) (present_at job rows s)) (with_inbox_at id (present_at job rows s)))
     unfolding configuration
-    after s = ap (option_map (λ x. x.state)) (standing_at-next job s (configuration job rows s) id)
+    after s = ap (option_map (λ x. x.state)) (with_inbox_at-next job s (configuration job rows s) id)
 
     abbrev read : ℕ → Option (VertexState V)
     read s = option_or (option_map (left_by id) (last_record id (records_below job rows n p s))) (state_of id (share job rows n p 0).states)
 
     read-run : (s : ℕ) → read s ≡ run_state job rows id s
     unfolding records_below share
-    read-run zero = found_in_share (configuration job rows 0).standings
+    read-run zero = found_in_share (configuration job rows 0).with_inboxes
     read-run (suc s) =
         let initial = state_of id (share job rows n p 0).states in
         let now = value_at id (records_in job rows n p s) in
@@ -249,7 +249,7 @@ module _ {V M : Type 0} (n p id : ℕ) (mine : belongs n p id ≡ true) where
         ∙ or_map (left_by id) now before initial
         ∙ ap (λ o. option_or (option_map (left_by id) now) o) (read-run s)
         ∙ ap (λ o. option_or (option_map (left_by id) o) (run_state job rows id s)) is
-        ∙ stepped s (standing_at id (present_at job rows s)) refl
+        ∙ stepped s (with_inbox_at id (present_at job rows s)) refl
         ∙ sym (after s)
 
 -- where a trace holds a run up to a superstep, what it has of a vertex as that one begins, or one before it, is the run's

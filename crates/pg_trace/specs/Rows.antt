@@ -17,7 +17,8 @@ gave value = record { value = value; edges = []; halted = true; sent = []; contr
 abbrev three : Trace ℤ ℤ
 three = record {
   initial = began 3 (pos 30) ∷ began 5 (pos 50) ∷ [];
-  records = ((3, gave (pos 31)) ∷ (5, gave (pos 51)) ∷ []) ∷ ((5, gave (pos 52)) ∷ []) ∷ ((5, gave (pos 53)) ∷ (7, gave (pos 70)) ∷ []) ∷ [];
+  records = ((3, gave (pos 31)) ∷ (5, gave (pos 51)) ∷ []) ∷ ((5, gave (pos 52)) ∷ [])
+      ∷ ((5, gave (pos 53)) ∷ (7, gave (pos 70)) ∷ []) ∷ [];
 }
 
 state_at_first : state_at 3 0 three ≡ Some (began 3 (pos 30))
@@ -41,10 +42,12 @@ record_of_its_superstep = refl
 cut_forgets : state_at 5 3 (first_supersteps 1 three) ≡ Some (left 5 (pos 51))
 cut_forgets = refl
 
-replaced_in_the_middle : state_at 5 2 (with_replaced 1 ((3, Some (gave (pos 33))) ∷ (5, None) ∷ []) three) ≡ Some (left 5 (pos 51))
+replaced_in_the_middle : state_at 5 2 (with_replaced 1 ((3, Some (gave (pos 33))) ∷ (5, None) ∷ []) three)
+    ≡ Some (left 5 (pos 51))
 replaced_in_the_middle = refl
 
-replaced_and_kept : state_at 5 3 (with_replaced 1 ((3, Some (gave (pos 33))) ∷ (5, None) ∷ []) three) ≡ Some (left 5 (pos 53))
+replaced_and_kept : state_at 5 3 (with_replaced 1 ((3, Some (gave (pos 33))) ∷ (5, None) ∷ []) three)
+    ≡ Some (left 5 (pos 53))
 replaced_and_kept = refl
 
 pushed : record_at 3 3 (with_superstep ((3, gave (pos 34)) ∷ []) three) ≡ Some (gave (pos 34))

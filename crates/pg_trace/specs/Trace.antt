@@ -5,7 +5,7 @@ use Rattle.std.specs.List.Sorted.{IsStrictlySortedBy}
 use Rattle.std.specs.Option.{option_map, option_or}
 use Rattle.std.specs.Ordering.{nat_cmp}
 use Rattle.pg_map.specs.Entries.{value_at, with_changes}
-use Rattle.pg_index.specs.Records.{last_record}
+use Rattle.pg_trace_index.specs.Records.{last_record}
 use Rattle.pg_model.specs.declared.configuration.VertexState.{VertexState}
 use Rattle.pg_model.specs.declared.record.Record.{Record}
 
@@ -42,7 +42,8 @@ module _ {V M : Type 0} where
 
   -- the state as superstep s begins: what the last record before it left, else the initial one
   abbrev pub state_at : ℕ → ℕ → Trace V M → Option (VertexState V)
-  state_at id s trace = option_or (option_map (left_by id) (last_record id (take s trace.records))) (state_of id trace.initial)
+  state_at id s trace = option_or (option_map (left_by id) (last_record id (take s trace.records)))
+      (state_of id trace.initial)
 
   -- with one superstep more
   abbrev pub with_superstep : List (ℕ × Record V M) → Trace V M → Trace V M
@@ -54,7 +55,8 @@ module _ {V M : Type 0} where
 
   -- with changes of the records of superstep s
   abbrev pub with_replaced : ℕ → List (ℕ × Option (Record V M)) → Trace V M → Trace V M
-  with_replaced s changes trace = record trace { records = slice_set trace.records s (with_changes changes (records_of s trace)) }
+  with_replaced s changes trace =
+      record trace { records = slice_set trace.records s (with_changes changes (records_of s trace)) }
 
   -- with one superstep more, of no records, where superstep s comes next
   abbrev pub reaching : ℕ → Trace V M → Trace V M

@@ -7,7 +7,7 @@ ghost use Rattle.pg_trace.specs.Beginning.{ChangesById, by_id, with_first};
 ghost use Rattle.pg_trace.specs.Trace.{StatesRise, state_of};
 
 use pg_graph::{Memory, VertexId};
-use pg_map::{Finder, Map, Share};
+use pg_map::{CheapClone, Cursor, Map};
 use pg_model::VertexState;
 use std::alloc::Global;
 use std::marker::Model;
@@ -28,8 +28,8 @@ impl<V> Model for Begun<V> {
     ghost view = { λ b. arc_value b.shared };
 }
 
-impl<V: Drop> Share for Begun<V> {
-    fn share(&self, _alloc: Global) -> Result<Begun<V>, Memory> {
+impl<V: Drop> CheapClone for Begun<V> {
+    fn cheap_clone(&self, _alloc: Global) -> Result<Begun<V>, Memory> {
         Ok(Begun {
             shared: Arc::try_clone(&self.shared)?,
         })
@@ -76,11 +76,11 @@ impl<V> Model for Beginnings<V> {
 
 /// Looks up states by their ids. A contract sees the list of states.
 #[derive(Drop)]
-pub(crate) struct BegunFinder<'a, V> {
-    states: Finder<'a, Begun<V>>,
+pub(crate) struct InitialCursor<'a, V> {
+    states: Cursor<'a, Begun<V>>,
 }
 
-impl<'a, V> Model for BegunFinder<'a, V> {
+impl<'a, V> Model for InitialCursor<'a, V> {
     ghost use Rattle.std.specs.Prelude.{List};
     ghost use Rattle.std.specs.Map.{values_of};
     ghost use Rattle.pg_model.specs.declared.configuration.VertexState.{VertexState};
@@ -94,7 +94,7 @@ impl<'a, V> Model for BegunFinder<'a, V> {
     ghost invariant = { λ f. AreById f.states };
 }
 
-impl<'a, V: Drop> BegunFinder<'a, V> {
+impl<'a, V: Drop> InitialCursor<'a, V> {
     /// The state with an id.
     pub(crate) fn get(&mut self, id: VertexId) -> Option<&'a VertexState<V>>
         ensures value { option_copied result ≡ state_of id self.old }
@@ -126,11 +126,11 @@ impl<V: Drop> Beginnings<V> {
     }
 
     /// Look-ups of states that come near one another.
-    pub(crate) fn finder(&self) -> BegunFinder<'_, V>
+    pub(crate) fn cursor(&self) -> InitialCursor<'_, V>
         ensures { result ≡ self.now }
     {
-        BegunFinder {
-            states: self.states.finder(),
+        InitialCursor {
+            states: self.states.cursor(),
         }
     }
 
@@ -146,17 +146,17 @@ impl<V: Drop> Beginnings<V> {
         ensures { IfOk result (λ beginnings. beginnings ≡ with_first changes.items self.now) }
     {
         let changes = each_begun(alloc, changes)?;
-        let mut states = self.states.share()?;
+        let mut states = self.states.cheap_clone()?;
         states.change(alloc, changes.as_slice())?;
         Ok(Beginnings { states })
     }
 
     /// The same states, in the same memory. Costs O(1).
-    pub(crate) fn share(&self) -> Result<Beginnings<V>, Memory>
+    pub(crate) fn cheap_clone(&self) -> Result<Beginnings<V>, Memory>
         ensures { IfOk result (λ beginnings. beginnings ≡ self.now) }
     {
         Ok(Beginnings {
-            states: self.states.share()?,
+            states: self.states.cheap_clone()?,
         })
     }
 }

@@ -9,8 +9,8 @@ mod trace;
 
 pub use pg_graph::Memory;
 pub use pg_model::Record;
-pub use pg_records::{Changes, RecordRef};
+pub use pg_trace_records::{RecordChanges, RecordRef};
 pub use records::all_given;
-pub use state::{StateRef, Turn};
-pub use states::States;
+pub use state::{StateRef, Transition};
+pub use states::StateCursor;
 pub use trace::Trace;

@@ -1,13 +1,13 @@
 //! The records of supersteps, one superstep or many at a time.
 ghost use Rattle.std.specs.Prelude.{◌≡◌, ◌++◌, ◌∷◌, [], length, map, take, slice_index_or, ◌≤◌, None, Some, IfOk, OnOk};
 ghost use Rattle.pg_map.specs.Entries.{ChangesRise, HasRisingIds};
-ghost use Rattle.pg_index.specs.Ran.{IsIndex};
-ghost use Rattle.pg_index.specs.Records.{put_at};
+ghost use Rattle.pg_trace_index.specs.Occurrences.{IsIndex};
+ghost use Rattle.pg_trace_index.specs.Records.{put_at};
 
 use pg_graph::{Memory, VertexId};
-use pg_index::Index;
 use pg_model::{Record, VertexState};
-use pg_records::{Changes, RecordRef, Records};
+use pg_trace_index::Index;
+use pg_trace_records::{RecordChanges, RecordRef, Records};
 use std::alloc::{AllocError, Global};
 
 /// The same supersteps, in the same memory.
@@ -19,7 +19,7 @@ pub(crate) fn shared<V: Drop, M: Drop>(
 {
     let mut shared = Vec::with_capacity(alloc, supersteps.len())?;
     for records in supersteps {
-        shared.push(records.share()?)?;
+        shared.push(records.cheap_clone()?)?;
     }
     Ok(shared)
 }
@@ -30,7 +30,7 @@ pub(crate) fn put_records<V: Drop, M: Drop>(
     alloc: Global,
     supersteps: Vec<Records<V, M>>,
     place: usize,
-    changes: Changes<V, M>,
+    changes: RecordChanges<V, M>,
 ) -> Result<Vec<Records<V, M>>, Memory>
     requires rise { ChangesRise changes }
     requires within { place ≤ length supersteps.items }
@@ -58,18 +58,18 @@ pub(crate) fn cut_index<V: Drop, M: Drop>(
     requires within { len ≤ length supersteps.now }
     ensures { IfOk result (λ first. IsIndex (take len supersteps.now) first) }
 {
-    let mut first = ran.share(alloc)?;
+    let mut first = ran.cheap_clone(alloc)?;
     let mut left = supersteps.len();
     while left > len {
         left -= 1;
         let none = none_given(alloc, &supersteps[left])?;
-        first = first.noted(alloc, narrow(left)?, none.as_slice())?;
+        first = first.noted(alloc, checked_u32(left)?, none.as_slice())?;
     }
-    first.settled(alloc)
+    first.sealed(alloc)
 }
 
 /// A number in 32 bits. No memory has so many supersteps that it doesn't fit.
-pub(crate) fn narrow(number: usize) -> Result<u32, Memory>
+pub(crate) fn checked_u32(number: usize) -> Result<u32, Memory>
     ensures { IfOk result (λ n. n ≡ number) }
 {
     if number > u32::MAX as usize {
@@ -108,10 +108,10 @@ fn none_for<V: Drop, M: Drop>(
 pub fn all_given<V: Drop, M: Drop>(
     alloc: Global,
     records: Vec<(VertexId, Record<V, M>)>,
-) -> Result<Changes<V, M>, Memory>
+) -> Result<RecordChanges<V, M>, Memory>
     ensures { IfOk result (λ changes. changes ≡ map (λ e. (e.0, Some e.1)) records.items) }
 {
-    let mut changes = Changes::new(alloc, records.len())?;
+    let mut changes = RecordChanges::new(alloc, records.len())?;
     for (id, record) in records {
         add_record(&mut changes, id, record)?;
     }
@@ -122,10 +122,10 @@ pub fn all_given<V: Drop, M: Drop>(
 pub(crate) fn all_changed<V: Drop, M: Drop>(
     alloc: Global,
     replaced: Vec<(VertexId, Option<Record<V, M>>)>,
-) -> Result<Changes<V, M>, Memory>
+) -> Result<RecordChanges<V, M>, Memory>
     ensures { IfOk result (λ changes. changes ≡ replaced.items) }
 {
-    let mut changes = Changes::new(alloc, replaced.len())?;
+    let mut changes = RecordChanges::new(alloc, replaced.len())?;
     for (id, given) in replaced {
         add_change(&mut changes, id, given)?;
     }
@@ -134,7 +134,7 @@ pub(crate) fn all_changed<V: Drop, M: Drop>(
 
 /// Adds the record that a vertex is given, or that it has none any more.
 fn add_change<V: Drop, M: Drop>(
-    changes: &mut Changes<V, M>,
+    changes: &mut RecordChanges<V, M>,
     id: VertexId,
     given: Option<Record<V, M>>,
 ) -> Result<(), Memory>
@@ -148,7 +148,7 @@ fn add_change<V: Drop, M: Drop>(
 
 /// Adds the record that a vertex is given.
 fn add_record<V: Drop, M: Drop>(
-    changes: &mut Changes<V, M>,
+    changes: &mut RecordChanges<V, M>,
     id: VertexId,
     given: Record<V, M>,
 ) -> Result<(), Memory>

@@ -4,7 +4,7 @@ ghost use Rattle.pg_trace.specs.Trace.{left_by};
 
 use pg_graph::{Edges, VertexId};
 use pg_model::VertexState;
-use pg_records::RecordRef;
+use pg_trace_records::RecordRef;
 use std::marker::Model;
 
 /// The state of a vertex as a superstep begins. A contract sees it as a `VertexState`.
@@ -80,7 +80,7 @@ impl<'a, V> StateRef<'a, V> {
 
 /// What a superstep makes of a vertex: its state as that begins, and as the next one begins.
 #[derive(Drop)]
-pub struct Turn<'a, V> {
+pub struct Transition<'a, V> {
     /// The state as the superstep begins, if there is one.
     pub before: Option<StateRef<'a, V>>,
     /// The state as the next one begins, if there is one.

@@ -2,52 +2,52 @@
 ghost use Rattle.std.specs.Prelude.{◌≡◌, ◌+◌, [], slice_index_or};
 ghost use Rattle.std.specs.Option.{option_and_then, option_copied, option_map, option_or};
 ghost use Rattle.pg_map.specs.Entries.{value_at};
-ghost use Rattle.pg_index.specs.Ran.{IsIndex};
+ghost use Rattle.pg_trace_index.specs.Occurrences.{IsIndex};
 ghost use Rattle.pg_trace.specs.OfRun.{IsOfRun};
 ghost use Rattle.pg_trace.specs.Trace.{left_by, state_at};
 
-use crate::beginnings::{Beginnings, BegunFinder};
-use crate::{StateRef, Turn};
+use crate::beginnings::{Beginnings, InitialCursor};
+use crate::{StateRef, Transition};
 use pg_graph::{Superstep, VertexId};
-use pg_index::{Index, IndexFinder, LastRuns, Run};
 use pg_model::VertexState;
-use pg_records::{RecordRef, Records};
+use pg_trace_index::{Index, IndexCursor, LastOccurrences, Occurrence};
+use pg_trace_records::{RecordRef, Records};
 use std::marker::Model;
 
 /// Looks up the states of vertices in a trace. Where an id lies near the one before, it costs a search near that.
 /// A contract sees the trace.
 #[derive(Drop)]
-pub struct States<'a, V, M> {
-    initial: BegunFinder<'a, V>,
-    runs: IndexFinder<'a>,
+pub struct StateCursor<'a, V, M> {
+    initial: InitialCursor<'a, V>,
+    runs: IndexCursor<'a>,
     supersteps: &'a [Records<V, M>],
 }
 
-impl<'a, V, M> Model for States<'a, V, M> {
+impl<'a, V, M> Model for StateCursor<'a, V, M> {
     ghost use Rattle.pg_trace.specs.Trace.{Trace};
 
     ghost Value = { Trace V M };
 
-    ghost use Rattle.pg_index.specs.Ran.{IsIndex};
+    ghost use Rattle.pg_trace_index.specs.Occurrences.{IsIndex};
 
     ghost view = { λ s. record { initial = s.initial; records = s.supersteps.now } };
 
     ghost invariant = { λ s. IsIndex s.supersteps.now s.runs };
 }
 
-impl<'a, V: Drop, M: Drop> States<'a, V, M> {
+impl<'a, V: Drop, M: Drop> StateCursor<'a, V, M> {
     /// Look-ups in a trace of these parts.
     pub(crate) fn of(
         initial: &'a Beginnings<V>,
         ran: &'a Index,
         supersteps: &'a [Records<V, M>],
-    ) -> States<'a, V, M>
+    ) -> StateCursor<'a, V, M>
         requires { IsIndex supersteps.now ran.now }
         ensures { result ≡ record { initial = initial.now; records = supersteps.now } }
     {
-        States {
-            initial: initial.finder(),
-            runs: ran.finder(),
+        StateCursor {
+            initial: initial.cursor(),
+            runs: ran.cursor(),
             supersteps,
         }
     }
@@ -65,25 +65,25 @@ impl<'a, V: Drop, M: Drop> States<'a, V, M> {
         self.state_before(id, superstep.number())
     }
 
-    /// The states of a vertex as a superstep begins and as the next one begins: those that `state_at` finds, by one look-up
-    /// of the vertex. Where it didn't run in the superstep both are one state, which is found once.
-    pub fn turn_at(&mut self, id: VertexId, superstep: Superstep) -> Turn<'a, V>
+    /// The states of a vertex as a superstep begins and as the next one begins: those that `state_at` finds, by one
+    /// look-up of the vertex. Where it didn't run in the superstep both are one state, which is found once.
+    pub fn transition_at(&mut self, id: VertexId, superstep: Superstep) -> Transition<'a, V>
         ensures before { result.before ≡ state_at id superstep self.old }
         ensures after { result.after ≡ state_at id (superstep + 1) self.old }
         ensures same { self.new ≡ self.old }
     {
         let supersteps = self.supersteps;
-        let LastRuns { before, after } = self.runs.last_around(id, superstep.number());
+        let LastOccurrences { before, after } = self.runs.last_around(id, superstep.number());
         let before = record_of(supersteps, id, before);
         let after = record_of(supersteps, id, after);
         if let (Some(before), Some(after)) = (&before, &after) {
-            return Turn {
+            return Transition {
                 before: Some(StateRef::of_record(id, before)),
                 after: Some(StateRef::of_record(id, after)),
             };
         }
         let begun = self.initial.get(id);
-        Turn {
+        Transition {
             before: state_left(id, &before, begun),
             after: state_left(id, &after, begun),
         }
@@ -112,7 +112,7 @@ impl<'a, V: Drop, M: Drop> States<'a, V, M> {
 fn record_of<'a, V: Drop, M: Drop>(
     supersteps: &'a [Records<V, M>],
     id: VertexId,
-    run: Option<Run>,
+    run: Option<Occurrence>,
 ) -> Option<RecordRef<'a, V, M>>
     ensures { result
         ≡ option_and_then (λ t. value_at id (slice_index_or supersteps.now t [])) (option_map (λ r. r.superstep) run) }

@@ -3,17 +3,18 @@ ghost use Rattle.std.specs.Prelude.{◌≡◌, length, map, ◌<◌, ◌≤◌, 
 ghost use Rattle.pg_map.specs.Entries.{ChangesRise, HasRisingIds};
 ghost use Rattle.pg_trace.specs.Beginning.{ChangesById, with_first};
 ghost use Rattle.pg_trace.specs.OfRun.{IsOfRun};
-ghost use Rattle.pg_records.specs.Records.{awake_after, contributions_of};
-ghost use Rattle.pg_trace.specs.Trace.{StatesRise, begun, record_at, records_of, state_at, reaching, with_superstep, first_supersteps, with_replaced};
+ghost use Rattle.pg_trace_records.specs.Records.{unhalted_after, contributions_of};
+ghost use Rattle.pg_trace.specs.Trace.{StatesRise, begun, record_at, records_of, state_at, reaching, with_superstep};
+ghost use Rattle.pg_trace.specs.Trace.{first_supersteps, with_replaced};
 
 use crate::StateRef;
 use crate::beginnings::Beginnings;
-use crate::records::{all_changed, all_given, cut_index, narrow, put_records, shared};
-use crate::states::States;
+use crate::records::{all_changed, all_given, checked_u32, cut_index, put_records, shared};
+use crate::states::StateCursor;
 use pg_graph::{Memory, Superstep, VertexId};
-use pg_index::Index;
 use pg_model::{Place, Record, VertexState};
-use pg_records::{Changes, RecordRef, Records};
+use pg_trace_index::Index;
+use pg_trace_records::{RecordChanges, RecordRef, Records};
 use std::alloc::Global;
 use std::marker::Model;
 
@@ -22,7 +23,7 @@ use std::marker::Model;
 ///
 /// No other state is kept: that of a vertex as a superstep begins is what its last record before it
 /// left. An index says of each vertex in which supersteps it ran. What `recorded` notes in it lies
-/// beside the memory that copies share, and is put into that once, where the trace is settled.
+/// beside the memory that copies share, and is put into that once, where the trace is sealed.
 pub struct Trace<V, M> {
     initial: Beginnings<V>,
     supersteps: Vec<Records<V, M>>,
@@ -45,7 +46,7 @@ impl<V, M> Model for Trace<V, M> {
 
     ghost Value = { Trace V M };
 
-    ghost use Rattle.pg_index.specs.Ran.{IsIndex};
+    ghost use Rattle.pg_trace_index.specs.Occurrences.{IsIndex};
 
     ghost view = { λ t. record { initial = t.initial; records = t.supersteps.items } };
 
@@ -67,7 +68,7 @@ impl<V: Drop, M: Drop> Trace<V, M> {
     }
 
     /// A trace of the same records, with other first states of these vertices, by rising id, or none. Copies the chunks
-    /// with these ids, and shares all else, as `share` does.
+    /// with these ids, and shares all else, as `cheap_clone` does.
     pub fn restarted(
         &self,
         alloc: Global,
@@ -79,7 +80,7 @@ impl<V: Drop, M: Drop> Trace<V, M> {
             trace ≡ record self.now { initial = with_first changes.items self.now.initial }) }
     {
         let initial = self.initial.changed(alloc, changes)?;
-        let shared = self.share(alloc)?;
+        let shared = self.cheap_clone(alloc)?;
         Ok(shared.begun_with(initial))
     }
 
@@ -124,7 +125,7 @@ impl<V: Drop, M: Drop> Trace<V, M> {
 
     /// The state of a vertex as a superstep begins: that of its last record before it, else its
     /// initial one. There is none where it has neither. Costs five binary searches at most; in a first run that isn't
-    /// settled, a step for each record of the vertex from that superstep on.
+    /// sealed, a step for each record of the vertex from that superstep on.
     ///
     /// Where the trace holds a run so far, it is the state in that run.
     pub fn state_at(&self, id: VertexId, superstep: Superstep) -> Option<StateRef<'_, V>>
@@ -135,20 +136,20 @@ impl<V: Drop, M: Drop> Trace<V, M> {
     }
 
     /// Look-ups of states that come near one another.
-    pub fn states(&self) -> States<'_, V, M>
+    pub fn states(&self) -> StateCursor<'_, V, M>
         ensures { result ≡ self.now }
     {
-        States::of(&self.initial, &self.ran, self.supersteps.as_slice())
+        StateCursor::of(&self.initial, &self.ran, self.supersteps.as_slice())
     }
 
-    /// The same trace, in the same memory. Costs one count a superstep; where the trace isn't settled, also a copy of what
-    /// was noted since, and of the chunks of the index with these vertices; in a first run O(1) a record.
-    pub fn share(&self, alloc: Global) -> Result<Trace<V, M>, Memory>
+    /// The same trace, in the same memory. Costs one count a superstep; where the trace isn't sealed, also a copy of
+    /// what was noted since, and of the chunks of the index with these vertices; in a first run O(1) a record.
+    pub fn cheap_clone(&self, alloc: Global) -> Result<Trace<V, M>, Memory>
         ensures { IfOk result (λ trace. trace ≡ self.now) }
     {
-        let initial = self.initial.share()?;
+        let initial = self.initial.cheap_clone()?;
         let supersteps = shared(alloc, self.supersteps.as_slice())?;
-        let ran = self.ran.share(alloc)?;
+        let ran = self.ran.cheap_clone(alloc)?;
         Ok(Trace {
             initial,
             supersteps,
@@ -156,10 +157,10 @@ impl<V: Drop, M: Drop> Trace<V, M> {
         })
     }
 
-    /// The same trace, whose copies share all its memory from now on. Costs O(1) where nothing was recorded since it was
-    /// settled or restarted; else one change of the index, of the chunks with the vertices that were recorded. For a new
-    /// trace that is O(1) a record.
-    pub fn settled(self, alloc: Global) -> Result<Trace<V, M>, Memory>
+    /// The same trace, whose copies share all its memory from now on. Costs O(1) where nothing was recorded since it
+    /// was sealed or restarted; else one change of the index, of the chunks with the vertices that were recorded. For a
+    /// new trace that is O(1) a record.
+    pub fn sealed(self, alloc: Global) -> Result<Trace<V, M>, Memory>
         ensures { IfOk result (λ trace. trace ≡ self) }
     {
         let Trace {
@@ -167,7 +168,7 @@ impl<V: Drop, M: Drop> Trace<V, M> {
             supersteps,
             ran,
         } = self;
-        let ran = ran.settled(alloc)?;
+        let ran = ran.sealed(alloc)?;
         Ok(Trace {
             initial,
             supersteps,
@@ -178,14 +179,14 @@ impl<V: Drop, M: Drop> Trace<V, M> {
     /// The trace with these changes of the records of a superstep, which it has or which comes next: each of these
     /// vertices, by rising id, has its new record there, or none. The trace is gone where memory is refused.
     ///
-    /// Whether the trace is new or restarted, the changes cost a look-up each in the index, and nothing is copied that isn't
-    /// changed: of a vertex for which nothing was recorded since the trace was new or restarted the numbers of its
-    /// supersteps, and of a superstep that the trace has the chunks with these vertices.
+    /// Whether the trace is new or restarted, the changes cost a look-up each in the index, and nothing is copied that
+    /// isn't changed: of a vertex for which nothing was recorded since the trace was new or restarted the numbers of
+    /// its supersteps, and of a superstep that the trace has the chunks with these vertices.
     pub fn recorded(
         self,
         alloc: Global,
         superstep: Superstep,
-        changes: Changes<V, M>,
+        changes: RecordChanges<V, M>,
     ) -> Result<Trace<V, M>, Memory>
         requires rise { ChangesRise changes }
         requires within { superstep ≤ length self.records }
@@ -224,9 +225,9 @@ impl<V: Drop, M: Drop> Trace<V, M> {
         }
     }
 
-    /// What the vertices contribute in a superstep, by rising id and of each in the order given; nothing where it hasn't
-    /// that superstep. Costs a look at each record; where the superstep was changed, a merge of their ids and a look-up of each
-    /// besides.
+    /// What the vertices contribute in a superstep, by rising id and of each in the order given; nothing where it
+    /// hasn't that superstep. Costs a look at each record; where the superstep was changed, a merge of their ids and a
+    /// look-up of each besides.
     pub fn contributions(
         &self,
         alloc: Global,
@@ -240,13 +241,18 @@ impl<V: Drop, M: Drop> Trace<V, M> {
         }
     }
 
-    /// The ids of the vertices that weren't halted by their records of a superstep, rising. Costs a look at each record.
-    pub fn awake_after(&self, alloc: Global, superstep: Superstep) -> Result<Vec<VertexId>, Memory>
-        ensures ids { IfOk result (λ ids. ids.items ≡ awake_after (records_of superstep self.now)) }
+    /// The ids of the vertices that weren't halted by their records of a superstep, rising. Costs a look at each
+    /// record.
+    pub fn unhalted_after(
+        &self,
+        alloc: Global,
+        superstep: Superstep,
+    ) -> Result<Vec<VertexId>, Memory>
+        ensures ids { IfOk result (λ ids. ids.items ≡ unhalted_after (records_of superstep self.now)) }
         ensures rising { HasRisingIds (records_of superstep self.now) }
     {
         match self.supersteps.get(superstep.number() as usize) {
-            Some(records) => records.awake(alloc),
+            Some(records) => records.unhalted(alloc),
             None => Ok(Vec::new(alloc)),
         }
     }
@@ -255,8 +261,8 @@ impl<V: Drop, M: Drop> Trace<V, M> {
     /// changes where memory is refused.
     ///
     /// For k records it costs k look-ups, a copy of the numbers of the supersteps in which these
-    /// vertices ran, and a change of the index: of the chunks with these vertices. Where the trace isn't settled, its
-    /// index is settled first.
+    /// vertices ran, and a change of the index: of the chunks with these vertices. Where the trace isn't sealed, its
+    /// index is sealed first.
     pub fn push_superstep(
         &mut self,
         alloc: Global,
@@ -268,8 +274,8 @@ impl<V: Drop, M: Drop> Trace<V, M> {
     {
         let given = all_given(alloc, records)?;
         let places = given.places(alloc)?;
-        let superstep = narrow(self.supersteps.len())?;
-        let ran = self.ran.noted_beside(alloc, superstep, places.as_slice())?;
+        let superstep = checked_u32(self.supersteps.len())?;
+        let ran = self.ran.noted_warm(alloc, superstep, places.as_slice())?;
         let records = Records::of(alloc, given)?;
         self.supersteps.push(records)?;
         self.ran = ran;
@@ -277,9 +283,9 @@ impl<V: Drop, M: Drop> Trace<V, M> {
     }
 
     /// Keeps the first supersteps, so many, or all where there are fewer. Nothing changes where
-    /// memory is refused. For each record that goes it costs a look-up and a copy of the numbers of the supersteps in which
-    /// its vertex ran; and in all one change of the index, of the chunks with these vertices. Where the trace isn't settled,
-    /// its index is settled first.
+    /// memory is refused. For each record that goes it costs a look-up and a copy of the numbers of the supersteps in
+    /// which its vertex ran; and in all one change of the index, of the chunks with these vertices. Where the trace
+    /// isn't sealed, its index is sealed first.
     pub fn cut(&mut self, alloc: Global, supersteps: Superstep) -> Result<(), Memory>
         ensures ok { OnOk result (self.new ≡ first_supersteps supersteps self.old) }
         ensures err { OnErr result (self.new ≡ self.old) }
@@ -299,7 +305,7 @@ impl<V: Drop, M: Drop> Trace<V, M> {
     ///
     /// With no change it costs nothing. For k changes it costs k look-ups, a copy of the numbers of the supersteps in
     /// which these vertices ran, and a change of the index and of the superstep: of the chunks with these vertices. The
-    /// others stay unread. Where the trace isn't settled, its index is settled first.
+    /// others stay unread. Where the trace isn't sealed, its index is sealed first.
     pub fn replace(
         &mut self,
         alloc: Global,
@@ -317,7 +323,7 @@ impl<V: Drop, M: Drop> Trace<V, M> {
         let number = superstep.number();
         let changes = all_changed(alloc, changes)?;
         let places = changes.places(alloc)?;
-        let ran = self.ran.noted_beside(alloc, number, places.as_slice())?;
+        let ran = self.ran.noted_warm(alloc, number, places.as_slice())?;
         let records = self.supersteps[number as usize].changed(alloc, changes)?;
         self.supersteps[number as usize] = records;
         self.ran = ran;

@@ -5,11 +5,11 @@ use Rattle.std.proofs.lemmas.List.Elements.{All-weaker}
 use Rattle.pg_checkpoint.specs.Shelf.{ShelfState}
 use Rattle.pg_core.specs.Progress.{IsRight, Progress}
 use Rattle.pg_graph.specs.Rows.{Rows}
-use Rattle.pg_machine.specs.Machine.{State}
+use Rattle.pg_core_machine.specs.Machine.{State}
 use Rattle.pg_model.specs.Job.{Job}
 use Rattle.pg_workers_rounds.specs.Handed.{PartState}
 use Rattle.pg_workers.specs.Losses.{Fated, Trusts}
-use Rattle.pg_workers.specs.Meaning.{Meaning, job_in}
+use Rattle.pg_workers.specs.Meaning.{Meaning, job_of_meaning}
 use Rattle.pg_workers.specs.Recovering.{AreFalls, IsFall}
 use Rattle.pg_workers.specs.Rounds.{AreAssigned, AreNext, AreRecorded, AreReturned, AreStepsRight, IsCollected, IsRest, fallen_in}
 use Rattle.pg_workers.specs.Running.{Coordination, IsRunning}
@@ -29,7 +29,7 @@ module _ {P C A V M : Type 0} (own : Meaning P C A V M) where
   with_parts parts a = record { core = record a.core { parts = parts }; calls = a.calls; losses = a.losses }
 
   running_without : (fated : Fated) (first : Progress P C A V M) (shelf : ShelfState) (a : Coordination P C A V M) (parts : List (Option (PartState V M)))
-      → ((kept : Option Rows) → IsRight (job_in own a.core) kept a.core → IsRight (job_in own a.core) kept (record a.core { parts = parts }))
+      → ((kept : Option Rows) → IsRight (job_of_meaning own a.core) kept a.core → IsRight (job_of_meaning own a.core) kept (record a.core { parts = parts }))
       → IsRunning own fated first shelf a → IsRunning own fated first shelf (with_parts parts a)
   running_without fated first shelf a parts rightly runs = record {
     same = record {
@@ -56,7 +56,7 @@ module _ {P C A V M : Type 0} (own : Meaning P C A V M) where
   running_rest fated first shelf a rest left runs =
       subst (λ (c : Progress P C A V M). IsRunning own fated first shelf (record { core = c; calls = a.calls; losses = a.losses })) (sym left.core_is)
       (running_without fated first shelf a rest.parts
-      (λ kept right. subst (λ (c : Progress P C A V M). IsRight (job_in own a.core) kept c) left.core_is (left.right kept right)) runs)
+      (λ kept right. subst (λ (c : Progress P C A V M). IsRight (job_of_meaning own a.core) kept c) left.core_is (left.right kept right)) runs)
 
   steps_without : (kept : Option Rows) (core : Progress P C A V M) (parts : List (Option (PartState V M))) (steps : List (Option (Done V M)))
       → AreStepsRight own kept core steps → AreStepsRight own kept (record core { parts = parts }) steps
@@ -85,15 +85,15 @@ module _ {P C A V M : Type 0} (own : Meaning P C A V M) where
     pub after_steps : (first : Progress P C A V M) (shelf : ShelfState) (now : Coordination P C A V M)
         → AreRecorded collected.steps.items rest.state now.core.state → now.losses ≡ a.losses
         → (IsRunning own fated first shelf (record { core = rest; calls = a.calls; losses = a.losses })
-        → ((kept : Option Rows) → IsRight (job_in own first) kept first → Trusts shelf.is_honest rest.history
+        → ((kept : Option Rows) → IsRight (job_of_meaning own first) kept first → Trusts shelf.is_honest rest.history
         → AreStepsRight own kept rest collected.steps.items)
         → IsRunning own fated first shelf now)
         → IsRunning own fated first shelf a → IsRunning own fated first shelf now × AreFalls fated (length now.losses) now.core.state collected.fallen.items
     after_steps first shelf now recorded losses takes runs =
-        let there : job_in own a.core ≡ job_in own first = job_stays own runs.same in
+        let there : job_of_meaning own a.core ≡ job_of_meaning own first = job_stays own runs.same in
         let history : rest.history ≡ a.core.history = ap (λ (c : Progress P C A V M). c.history) assigned.taken.core_is in
         let state : rest.state ≡ a.core.state = ap (λ (c : Progress P C A V M). c.state) assigned.taken.core_is in
-        let right = λ (kept : Option Rows) (right : IsRight (job_in own first) kept first) (trusts : Trusts shelf.is_honest rest.history).
+        let right = λ (kept : Option Rows) (right : IsRight (job_of_meaning own first) kept first) (trusts : Trusts shelf.is_honest rest.history).
         steps_rest kept a.core rest collected.steps.items assigned.taken
         (subst (AreStepsRight own kept a.core) (sym sorted.steps_are)
         (all_right own a.core fated superstep (length a.losses) outcomes sorted.none sorted.nothing returned kept

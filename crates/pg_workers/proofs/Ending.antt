@@ -8,33 +8,33 @@ use Rattle.pg_checkpoint.specs.Shelf.{ShelfState}
 use Rattle.pg_core.specs.Closing.{IsFinished}
 use Rattle.pg_core.specs.Driving.{calls_in, losses_of, needs_of}
 use Rattle.pg_core.specs.Progress.{IsRight, Progress}
-use Rattle.pg_core.specs.Traces.{IsLeftBy, Traces}
+use Rattle.pg_core.specs.Traces.{IsRetainedBy, Traces}
 use Rattle.pg_core.proofs.Keeping.{nowhere_yet}
 use Rattle.pg_graph.specs.Rows.{Rows}
-use Rattle.pg_machine.specs.Limits.{Limits}
-use Rattle.pg_machine.specs.Losses.{counts_in, falls_of, losses_in}
-use Rattle.pg_machine.specs.Machine.{Reaches, State, StepsTell, first_state, is_alive, saved_at, steps_of}
-use Rattle.pg_machine.specs.declared.event.Event.{Event}
-use Rattle.pg_machine.proofs.LawsCounts.{none_was_lost, unlost_anew}
-use Rattle.pg_machine.proofs.LawsFallen.{fell_all}
-use Rattle.pg_machine.proofs.LawsLosses.{none_fell_of_one}
+use Rattle.pg_core_machine.specs.Limits.{Limits}
+use Rattle.pg_core_machine.specs.Losses.{counts_in, falls_of, losses_in}
+use Rattle.pg_core_machine.specs.Machine.{Reaches, State, StepsTell, first_state, is_alive, saved_at, steps_of}
+use Rattle.pg_core_machine.specs.declared.event.Event.{Event}
+use Rattle.pg_core_machine.proofs.LawsCounts.{none_was_lost, unlost_anew}
+use Rattle.pg_core_machine.proofs.LawsFallen.{fell_all}
+use Rattle.pg_core_machine.proofs.LawsLosses.{none_fell_of_one}
 use Rattle.pg_model.specs.Job.{Job}
 use Rattle.pg_model.specs.Needed.{needed_count}
 use Rattle.pg_model.specs.Run.{answer, run_length}
 use Rattle.pg_model.specs.Superstep.{capped}
 use Rattle.pg_model.specs.declared.run.Run.{Run}
 use Rattle.pg_workers.specs.Driven.{IsAnswered, IsDriven, IsHistoryOf, IsUnlost}
-use Rattle.pg_workers.specs.Losses.{AreAll, AreFated, Fated, Trusts, as_told}
-use Rattle.pg_workers.specs.Meaning.{Meaning, job_in}
+use Rattle.pg_workers.specs.Losses.{AreAll, AreFated, Fated, Trusts, as_reported}
+use Rattle.pg_workers.specs.Meaning.{Meaning, job_of_meaning}
 use Rattle.pg_workers.specs.Refused.{AreLosses}
 use Rattle.pg_workers.specs.Running.{Coordination, IsRunning}
 use Rattle.pg_workers.specs.declared.counts.Counts.{Counts}
 use Rattle.pg_workers.specs.declared.counts.Loss.{Loss}
 use Rattle.pg_workers.proofs.Going.{job_stays}
 
-none_told : (losses : List Loss) → map as_told losses ≡ [] → losses ≡ []
-none_told [] is = refl
-none_told (loss ∷ losses) is = absurd cc
+none_stated : (losses : List Loss) → map as_reported losses ≡ [] → losses ≡ []
+none_stated [] is = refl
+none_stated (loss ∷ losses) is = absurd cc
 
 map_same : {X : Type 0} (f g : ℕ → X) (a n : ℕ) → ((k : ℕ) → a ≤ k → k < a + n → f k ≡ g k) → map f (range_with_len a n) ≡ map g (range_with_len a n)
 map_same f g a zero same = refl
@@ -58,8 +58,8 @@ module _ {P C A V M : Type 0} (own : Meaning P C A V M) (fated : Fated) (first :
   reaches : Reaches start now.core.history now.core.state
   reaches = subst (λ (l : Limits). Reaches (first_state l.partitions l.workers) now.core.history now.core.state) runs.same.limits_are runs.leads
 
-  losses_told : map as_told now.losses ≡ losses_in start now.core.history
-  losses_told = runs.losses_are ∙ ap (λ (l : Limits). losses_in (first_state l.partitions l.workers) now.core.history) runs.same.limits_are
+  losses_stated : map as_reported now.losses ≡ losses_in start now.core.history
+  losses_stated = runs.losses_are ∙ ap (λ (l : Limits). losses_in (first_state l.partitions l.workers) now.core.history) runs.same.limits_are
 
   -- the losses are those of a history
   pub losses_are : AreLosses fated first.limits now.losses
@@ -67,50 +67,50 @@ module _ {P C A V M : Type 0} (own : Meaning P C A V M) (fated : Fated) (first :
     history = now.core.history;
     reached = now.core.state;
     leads = reaches;
-    losses_are = losses_told;
+    losses_are = losses_stated;
     fated_are = runs.fated_are;
   }
 
   -- all workers fell where none is alive
   pub all_fell : ((w : ℕ) → w < now.core.limits.workers → is_alive w now.core.state ≡ false) → AreAll first.limits.workers now.losses
   all_fell dead w =
-      ap (λ l. falls_of w l) losses_told
+      ap (λ l. falls_of w l) losses_stated
       ∙ fell_all n first.limits.workers now.core.history now.core.state reaches
       (λ v within. dead v (omega (arith, within, ap (λ (l : Limits). l.workers) runs.same.limits_are))) w
 
   module _ (ended : now.core.state.ended ≡ true) (run : Run V) (left : Traces V M) (counts : Counts)
       (steps_are : counts.steps ≡ map (λ p. steps_of p now.core.history) (range_with_len 0 now.core.limits.partitions))
       (calls_are : counts.calls ≡ now.calls) (losses_same : counts.losses ≡ now.losses)
-      (finishes : (kept : Option Rows) → IsRight (job_in own now.core) kept now.core → IsFinished (job_in own now.core) now.core run left) where
+      (finishes : (kept : Option Rows) → IsRight (job_of_meaning own now.core) kept now.core → IsFinished (job_of_meaning own now.core) now.core run left) where
     tells : IsHistoryOf n first.limits.workers now.core.history counts
     tells = record {
       reached = now.core.state;
       leads = reaches;
       ended = ended;
       steps_are = steps_are ∙ ap (λ (l : Limits). map (λ p. steps_of p now.core.history) (range_with_len 0 l.partitions)) runs.same.limits_are;
-      losses_are = ap (map as_told) losses_same ∙ losses_told;
+      losses_are = ap (map as_reported) losses_same ∙ losses_stated;
     }
 
-    module _ (kept : Option Rows) (right : IsRight (job_in own first) kept first) (trusts : Trusts shelf.is_honest now.core.history) where
-      there : IsRight (job_in own first) kept now.core
+    module _ (kept : Option Rows) (right : IsRight (job_of_meaning own first) kept first) (trusts : Trusts shelf.is_honest now.core.history) where
+      there : IsRight (job_of_meaning own first) kept now.core
       there = runs.right kept right trusts
 
-      done : IsFinished (job_in own first) now.core run left
+      done : IsFinished (job_of_meaning own first) now.core run left
       done = subst (λ (j : Job V M). IsRight j kept now.core → IsFinished j now.core run left) (job_stays own runs.same) (finishes kept) there
 
-      whole_run : now.core.state.current + 1 ≡ run_length (job_in own first) first.graph
-      whole_run = there.at_end ended ∙ ap (run_length (job_in own first)) runs.same.graph_is
+      whole_run : now.core.state.current + 1 ≡ run_length (job_of_meaning own first) first.graph
+      whole_run = there.at_end ended ∙ ap (run_length (job_of_meaning own first)) runs.same.graph_is
 
       answered : IsAnswered own kept first now.core.history run left counts
       unfolding tells
       answered = record {
-        answers = done.answers ∙ ap (answer (job_in own first)) runs.same.graph_is;
-        leaves = subst₂ (λ (g : Rows) (l : Limits). IsLeftBy (job_in own first) g l.partitions left) runs.same.graph_is runs.same.limits_are done.leaves;
+        answers = done.answers ∙ ap (answer (job_of_meaning own first)) runs.same.graph_is;
+        leaves = subst₂ (λ (g : Rows) (l : Limits). IsRetainedBy (job_of_meaning own first) g l.partitions left) runs.same.graph_is runs.same.limits_are done.leaves;
         counted = record {
           tells = tells;
           whole = whole_run;
           calls_are = calls_are ∙ (runs.calls_are kept right trusts
-              ∙ (λ i. capped (counts_in (needs_of own.value_eq own.message_eq (job_in own first) (runs.same.graph_is i) (l_of i).partitions kept) (λ p. false)
+              ∙ (λ i. capped (counts_in (needs_of own.value_eq own.message_eq (job_of_meaning own first) (runs.same.graph_is i) (l_of i).partitions kept) (λ p. false)
               (first_state (l_of i).partitions (l_of i).workers) now.core.history)));
         };
       }
@@ -118,7 +118,7 @@ module _ {P C A V M : Type 0} (own : Meaning P C A V M) (fated : Fated) (first :
           l_of : now.core.limits ≡ first.limits
           l_of = runs.same.limits_are
 
-    pub is_driven : length now.losses ≤ first.limits.max_losses → length left.lefts ≡ now.core.limits.partitions
+    pub is_driven : length now.losses ≤ first.limits.max_losses → length left.retained_parts ≡ now.core.limits.partitions
         → length run.aggregates ≡ length (own.master now.core.master).registrations → IsDriven own fated shelf.is_honest first run left counts
     is_driven few each places = record {
       history = now.core.history;
@@ -133,23 +133,23 @@ module _ {P C A V M : Type 0} (own : Meaning P C A V M) (fated : Fated) (first :
     -- where nobody fell
     module _ (none : counts.losses ≡ []) where
       nobody : losses_in start now.core.history ≡ []
-      nobody = sym losses_told ∙ ap (map as_told) (sym losses_same ∙ none)
+      nobody = sym losses_stated ∙ ap (map as_reported) (sym losses_same ∙ none)
 
       nobody_now : losses_of now.core ≡ []
       nobody_now = ap (λ (l : Limits). losses_in (first_state l.partitions l.workers) now.core.history) runs.same.limits_are ∙ nobody
 
-      pub is_unlost : (kept : Option Rows) → IsRight (job_in own first) kept first
+      pub is_unlost : (kept : Option Rows) → IsRight (job_of_meaning own first) kept first
           → StepsTell now.core.limits.partitions (first_state now.core.limits.partitions now.core.limits.workers) now.core.history now.core.state
-          → ((kept : Option Rows) → IsRight (job_in own now.core) kept now.core → now.core.state.ended ≡ true → losses_of now.core ≡ []
-          → calls_in own.value_eq own.message_eq (job_in own now.core) kept now.core
-          ≡ needed_count own.value_eq own.message_eq (job_in own now.core) kept now.core.graph)
+          → ((kept : Option Rows) → IsRight (job_of_meaning own now.core) kept now.core → now.core.state.ended ≡ true → losses_of now.core ≡ []
+          → calls_in own.value_eq own.message_eq (job_of_meaning own now.core) kept now.core
+          ≡ needed_count own.value_eq own.message_eq (job_of_meaning own now.core) kept now.core.graph)
           → IsUnlost own kept first run left counts
       is_unlost kept right steps unlost =
           let trusts : Trusts shelf.is_honest now.core.history = unlost_trusts shelf.is_honest n first.limits.workers now.core.history now.core.state reaches
           nobody in
           let all = answered kept right trusts in
-          let same : job_in own now.core ≡ job_in own first = job_stays own runs.same in
-          let right_now : IsRight (job_in own now.core) kept now.core = subst (λ (j : Job V M). IsRight j kept now.core) (sym same) (there kept right trusts) in
+          let same : job_of_meaning own now.core ≡ job_of_meaning own first = job_stays own runs.same in
+          let right_now : IsRight (job_of_meaning own now.core) kept now.core = subst (λ (j : Job V M). IsRight j kept now.core) (sym same) (there kept right trusts) in
           record {
             answers = all.answers;
             leaves = all.leaves;
@@ -157,15 +157,15 @@ module _ {P C A V M : Type 0} (own : Meaning P C A V M) (fated : Fated) (first :
                 ∙ (ap (λ (j : Job V M). capped (calls_in own.value_eq own.message_eq j kept now.core)) (sym same)
                 ∙ (ap (λ (k : ℕ). capped k) (unlost kept right_now ended nobody_now)
                 ∙ (λ i. capped (needed_count own.value_eq own.message_eq (same i) kept (runs.same.graph_is i))))));
-            steps_are = tells.steps_are ∙ map_same (λ p. steps_of p now.core.history) (λ p. run_length (job_in own first) first.graph) 0 n
+            steps_are = tells.steps_are ∙ map_same (λ p. steps_of p now.core.history) (λ p. run_length (job_of_meaning own first) first.graph) 0 n
                 (λ p from within. steps.all ended p (omega (arith, within, ap (λ (l : Limits). l.partitions) runs.same.limits_are))
                 (none_was_lost p (first_state now.core.limits.partitions now.core.limits.workers) now.core.history nobody_now) ∙ whole_run kept right trusts);
           }
 
     -- with one worker nobody fell
-    pub alone_unlost : 0 < first.limits.partitions → first.limits.workers ≡ 1 → counts.losses ≡ []
-    alone_unlost some one =
-        none_told counts.losses (tells.losses_are
+    pub cold_unlost : 0 < first.limits.partitions → first.limits.workers ≡ 1 → counts.losses ≡ []
+    cold_unlost some one =
+        none_stated counts.losses (tells.losses_are
         ∙ (ap (λ (w : ℕ). losses_in (first_state n w) now.core.history) one
         ∙ none_fell_of_one n now.core.history now.core.state some
         (subst (λ (w : ℕ). Reaches (first_state n w) now.core.history now.core.state) one reaches) ended))
@@ -184,7 +184,7 @@ running_first own fated core shelf leads none =
       fated_are = tt;
       right = λ kept right trusts. right;
       calls_are = λ kept right trusts.
-          ap (λ (h : List Event). capped (counts_in (needs_of own.value_eq own.message_eq (job_in own core) core.graph core.limits.partitions kept)
+          ap (λ (h : List Event). capped (counts_in (needs_of own.value_eq own.message_eq (job_of_meaning own core) core.graph core.limits.partitions kept)
           (λ p. false) start h)) (sym none);
       saved = λ honest kept right p r within at. absurd (unsaved p r within (ap (saved_at p) (sym state) ∙ at));
     }

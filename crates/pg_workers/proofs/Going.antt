@@ -10,16 +10,16 @@ use Rattle.pg_core.specs.Driving.{IsSameRun, calls_in, losses_of, needs_of}
 use Rattle.pg_core.specs.Progress.{IsRight, Progress, has_lost}
 use Rattle.pg_core.proofs.Onward.{job_same}
 use Rattle.pg_graph.specs.Rows.{Rows}
-use Rattle.pg_machine.specs.Limits.{Limits}
-use Rattle.pg_machine.specs.Losses.{counts_by, counts_in, is_anew, losses_in, lost_by}
-use Rattle.pg_machine.specs.Machine.{Reaches, State, after, first_state, is_allowed}
-use Rattle.pg_machine.specs.declared.event.Event.{Event}
-use Rattle.pg_machine.proofs.LawsLosses.{counts_in-more, losses_in-more}
-use Rattle.pg_machine.proofs.LawsMachine.{Reaches-push}
+use Rattle.pg_core_machine.specs.Limits.{Limits}
+use Rattle.pg_core_machine.specs.Losses.{counts_by, counts_in, is_anew, losses_in, lost_by}
+use Rattle.pg_core_machine.specs.Machine.{Reaches, State, after, first_state, is_allowed}
+use Rattle.pg_core_machine.specs.declared.event.Event.{Event}
+use Rattle.pg_core_machine.proofs.LawsLosses.{counts_in-more, losses_in-more}
+use Rattle.pg_core_machine.proofs.LawsMachine.{Reaches-push}
 use Rattle.pg_model.specs.Job.{Job}
 use Rattle.pg_model.specs.Superstep.{capped}
-use Rattle.pg_workers.specs.Losses.{AreFated, Fated, Trusts, as_told}
-use Rattle.pg_workers.specs.Meaning.{Meaning, job_in}
+use Rattle.pg_workers.specs.Losses.{AreFated, Fated, Trusts, as_reported}
+use Rattle.pg_workers.specs.Meaning.{Meaning, job_of_meaning}
 use Rattle.pg_workers.specs.Running.{AreSaved, Coordination, Happens, IsRunning}
 
 -- ---- trust
@@ -47,7 +47,7 @@ same_then first second = record {
 }
 
 module _ {P C A V M : Type 0} (own : Meaning P C A V M) where
-  pub job_stays : {a b : Progress P C A V M} → IsSameRun a b → job_in own b ≡ job_in own a
+  pub job_stays : {a b : Progress P C A V M} → IsSameRun a b → job_of_meaning own b ≡ job_of_meaning own a
   job_stays {a} {b} same = job_same own.program own.combining own.master a b same
 
   -- what a history tells of calls, in the words of the run's numbers
@@ -84,23 +84,23 @@ module _ {P C A V M : Type 0} (own : Meaning P C A V M) where
     pub allowed : is_allowed before.core.state event ≡ true
     pub happens : Happens event before.core now.core
     pub honest : shelf_after.is_honest ≡ shelf.is_honest
-    pub right : (kept : Option Rows) → IsRight (job_in own first) kept first → Trusts shelf.is_honest (before.core.history ++ event ∷ [])
-        → IsRight (job_in own before.core) kept before.core → IsRight (job_in own before.core) kept now.core
-    pub losses_are : map as_told now.losses ≡ map as_told before.losses ++ lost_by before.core.state event
+    pub right : (kept : Option Rows) → IsRight (job_of_meaning own first) kept first → Trusts shelf.is_honest (before.core.history ++ event ∷ [])
+        → IsRight (job_of_meaning own before.core) kept before.core → IsRight (job_of_meaning own before.core) kept now.core
+    pub losses_are : map as_reported now.losses ≡ map as_reported before.losses ++ lost_by before.core.state event
     pub fated_are : AreFated fated 0 before.losses → AreFated fated 0 now.losses
-    pub calls_are : (kept : Option Rows) (x : ℕ) → IsRight (job_in own first) kept first → Trusts shelf.is_honest (before.core.history ++ event ∷ [])
-        → before.calls ≡ capped x → now.calls ≡ capped (x + counts_by (needs_of own.value_eq own.message_eq (job_in own first)
+    pub calls_are : (kept : Option Rows) (x : ℕ) → IsRight (job_of_meaning own first) kept first → Trusts shelf.is_honest (before.core.history ++ event ∷ [])
+        → before.calls ≡ capped x → now.calls ≡ capped (x + counts_by (needs_of own.value_eq own.message_eq (job_of_meaning own first)
         before.core.graph before.core.limits.partitions kept) (has_lost before.core) before.core.state event)
-    pub saved : shelf.is_honest ≡ true → (kept : Option Rows) → IsRight (job_in own first) kept first → IsRight (job_in own first) kept before.core
-        → AreSaved own (job_in own first) first.graph first.limits.partitions first.run before.core.state shelf
-        → AreSaved own (job_in own first) first.graph first.limits.partitions first.run now.core.state shelf_after
+    pub saved : shelf.is_honest ≡ true → (kept : Option Rows) → IsRight (job_of_meaning own first) kept first → IsRight (job_of_meaning own first) kept before.core
+        → AreSaved own (job_of_meaning own first) first.graph first.limits.partitions first.run before.core.state shelf
+        → AreSaved own (job_of_meaning own first) first.graph first.limits.partitions first.run now.core.state shelf_after
 
   pub running_after : (fated : Fated) (first : Progress P C A V M) (event : Event) (shelf shelf_after : ShelfState)
       (before now : Coordination P C A V M) → Adds fated first event shelf shelf_after before now → IsRunning own fated first shelf before
       → IsRunning own fated first shelf_after now
   running_after fated first event shelf shelf_after before now adds runs =
-      let job : Job V M = job_in own first in
-      let there : job_in own before.core ≡ job = job_stays runs.same in
+      let job : Job V M = job_of_meaning own first in
+      let there : job_of_meaning own before.core ≡ job = job_stays runs.same in
       let trusts : Trusts shelf_after.is_honest now.core.history → Trusts shelf.is_honest (before.core.history ++ event ∷ []) =
       λ t. subst₂ (λ (b : Bool) (h : List Event). Trusts b h) adds.honest adds.happens.history_is t in
       let sooner : Trusts shelf_after.is_honest now.core.history → Trusts shelf.is_honest before.core.history =
@@ -126,8 +126,8 @@ module _ {P C A V M : Type 0} (own : Meaning P C A V M) where
   -- an event by which nobody falls and nothing is counted or saved
   pub running_quiet : (fated : Fated) (first : Progress P C A V M) (event : Event) (shelf : ShelfState) (before now : Coordination P C A V M)
       → is_allowed before.core.state event ≡ true → Happens event before.core now.core
-      → ((kept : Option Rows) → IsRight (job_in own first) kept first → Trusts shelf.is_honest (before.core.history ++ event ∷ [])
-      → IsRight (job_in own before.core) kept before.core → IsRight (job_in own before.core) kept now.core)
+      → ((kept : Option Rows) → IsRight (job_of_meaning own first) kept first → Trusts shelf.is_honest (before.core.history ++ event ∷ [])
+      → IsRight (job_of_meaning own before.core) kept before.core → IsRight (job_of_meaning own before.core) kept now.core)
       → now.losses ≡ before.losses → now.calls ≡ before.calls → lost_by before.core.state event ≡ []
       → ((needs : Bool → ℕ → ℕ → ℕ) (lost : ℕ → Bool) → counts_by needs lost before.core.state event ≡ 0)
       → (after before.core.state event).saved ≡ before.core.state.saved
@@ -138,13 +138,13 @@ module _ {P C A V M : Type 0} (own : Meaning P C A V M) where
         happens = happens;
         honest = refl;
         right = right;
-        losses_are = ap (map as_told) losses
-            ∙ (sym (append-nil (map as_told before.losses)) ∙ ap (λ l. map as_told before.losses ++ l) (sym nobody));
+        losses_are = ap (map as_reported) losses
+            ∙ (sym (append-nil (map as_reported before.losses)) ∙ ap (λ l. map as_reported before.losses ++ l) (sym nobody));
         fated_are = λ are. subst (AreFated fated 0) (sym losses) are;
         calls_are = λ kept x is t was.
-            let none = nothing (needs_of own.value_eq own.message_eq (job_in own first) before.core.graph before.core.limits.partitions kept)
+            let none = nothing (needs_of own.value_eq own.message_eq (job_of_meaning own first) before.core.graph before.core.limits.partitions kept)
             (has_lost before.core) in
-            let same : x ≡ x + counts_by (needs_of own.value_eq own.message_eq (job_in own first) before.core.graph before.core.limits.partitions kept)
+            let same : x ≡ x + counts_by (needs_of own.value_eq own.message_eq (job_of_meaning own first) before.core.graph before.core.limits.partitions kept)
             (has_lost before.core) before.core.state event = omega (arith, none) in
             calls ∙ (was ∙ ap (λ (k : ℕ). capped k) same);
         saved = λ is kept first_right was all p r within at.

@@ -9,14 +9,14 @@ use Rattle.pg_checkpoint.specs.Shelf.{ShelfState}
 use Rattle.pg_core.specs.Losing.{HasFallen as HasLost}
 use Rattle.pg_core.specs.Progress.{IsRight, Progress}
 use Rattle.pg_graph.specs.Rows.{Rows}
-use Rattle.pg_machine.specs.Losses.{least_hosted, lesser, lost_by}
-use Rattle.pg_machine.specs.Machine.{Reaches, State, after, first_state, host_of, is_alive, is_allowed, place_at}
-use Rattle.pg_machine.specs.declared.event.Event.TheVariants.{Lose}
-use Rattle.pg_machine.proofs.LawsLosses.{alive_within}
-use Rattle.pg_machine.proofs.LawsMachine.{length-first, length-hosts_all, length-hosts_first, length-places_all, place_after_lose}
+use Rattle.pg_core_machine.specs.Losses.{least_hosted, lesser, lost_by}
+use Rattle.pg_core_machine.specs.Machine.{Reaches, State, after, first_state, host_of, is_alive, is_allowed, place_at}
+use Rattle.pg_core_machine.specs.declared.event.Event.TheVariants.{Lose}
+use Rattle.pg_core_machine.proofs.LawsLosses.{alive_within}
+use Rattle.pg_core_machine.proofs.LawsMachine.{length-first, length-hosts_all, length-hosts_first, length-places_all, place_after_lose}
 use Rattle.pg_model.specs.Superstep.{capped}
-use Rattle.pg_workers.specs.Losses.{AreFated, Fated, WasFated, as_told}
-use Rattle.pg_workers.specs.Meaning.{Meaning, job_in}
+use Rattle.pg_workers.specs.Losses.{AreFated, Fated, WasFated, as_reported}
+use Rattle.pg_workers.specs.Meaning.{Meaning, job_of_meaning}
 use Rattle.pg_workers.specs.Recovering.{AreFalls, IsFall, LosesOn, Stands}
 use Rattle.pg_workers.specs.Running.{Coordination, Happens}
 use Rattle.pg_workers.specs.declared.counts.Loss.{Loss}
@@ -112,7 +112,7 @@ module _ {P C A V M : Type 0} (core : Progress P C A V M)
       ∙ (sym (length-first core.limits.partitions core.limits.workers)
       ∙ (sym (length-places_all first core.history) ∙ ap (λ (s : State). length s.places) leads.leads))))
 
-  -- a loss leaves those that are to be recorded beside it
+  -- a loss leaves those that are to be recorded with it
   fall_still : (fated : Fated) (attempt w : ℕ) (loss : Loss) → is_allowed core.state (Lose w) ≡ true → IsFall fated attempt core.state loss
       → IsFall fated attempt (after core.state (Lose w)) loss
   fall_still fated attempt w loss allowed fall = record {
@@ -146,7 +146,7 @@ module _ {P C A V M : Type 0} (core : Progress P C A V M)
 
   -- its superstep is the least one of what its worker hosted
   lost_is : (fated : Fated) (attempt : ℕ) (loss : Loss) → is_allowed core.state (Lose loss.worker) ≡ true → IsFall fated attempt core.state loss
-      → lost_by core.state (Lose loss.worker) ≡ as_told loss ∷ []
+      → lost_by core.state (Lose loss.worker) ≡ as_reported loss ∷ []
   lost_is fated attempt loss allowed fall =
       let stands : Stands core.state loss = fall.there (and_parts _ _ allowed).1 in
       let least : least_hosted loss.worker core.state.hosts core.state.places ≡ Some loss.superstep =
@@ -178,7 +178,7 @@ module _ {P C A V M : Type 0} (own : Meaning P C A V M) (fated : Fated) (first :
 
   pub loses_one : (attempt : ℕ) (a b : Coordination P C A V M) (loss : Loss) (rest : List Loss) → is_allowed a.core.state (Lose loss.worker) ≡ true
       → HasLost loss.worker a.core b.core
-      → ((kept : Option Rows) → IsRight (job_in own a.core) kept a.core → IsRight (job_in own a.core) kept b.core)
+      → ((kept : Option Rows) → IsRight (job_of_meaning own a.core) kept a.core → IsRight (job_of_meaning own a.core) kept b.core)
       → b.losses ≡ a.losses ++ loss ∷ [] → b.calls ≡ a.calls → LosesOn own fated first shelf attempt a (loss ∷ rest)
       → LosesOn own fated first shelf attempt b rest
   loses_one attempt a b loss rest allowed lost keeps losses calls on =
@@ -191,8 +191,8 @@ module _ {P C A V M : Type 0} (own : Meaning P C A V M) (fated : Fated) (first :
           happens = happens;
           honest = refl;
           right = λ kept right trusts is. keeps kept is;
-          losses_are = ap (map as_told) losses ∙ (map-append as_told a.losses (loss ∷ [])
-              ∙ ap (λ l. map as_told a.losses ++ l) (sym (lost_is a.core on.runs.leads fated attempt loss allowed fall)));
+          losses_are = ap (map as_reported) losses ∙ (map-append as_reported a.losses (loss ∷ [])
+              ∙ ap (λ l. map as_reported a.losses ++ l) (sym (lost_is a.core on.runs.leads fated attempt loss allowed fall)));
           fated_are = λ are. subst (AreFated fated 0) (sym losses)
               (fated_more fated 0 a.losses loss are (λ is. later_fated fated attempt (0 + length a.losses) loss (omega (arith, on.before)) (fall.struck is)));
           calls_are = λ kept x right trusts was. let none : x ≡ x + 0 = omega arith in calls ∙ (was ∙ ap (λ (k : ℕ). capped k) none);

@@ -10,12 +10,12 @@ use Rattle.std.proofs.lemmas.Option.{same_Some}
 use Rattle.std.proofs.lemmas.Result.{IfErr-weaker, IfOk-weaker}
 use Rattle.pg_core.specs.Progress.{IsNext, IsRight, IsStepOf, Progress, kept_for}
 use Rattle.pg_core.specs.Traces.{logs_in, visible_in}
-use Rattle.pg_core.proofs.Steps.{IsNext-from_IsFurther, IsStepOf-from_HasMadeStep, lent_beside, lent_run}
+use Rattle.pg_core.proofs.Steps.{IsNext-from_IsAdvanced, IsStepOf-from_HasMadeStep, lent_warm, lent_run}
 use Rattle.pg_graph.specs.Rows.{Rows}
-use Rattle.pg_machine.specs.Machine.{State, host_of, is_allowed, is_from, place_at}
-use Rattle.pg_machine.specs.declared.event.Event.TheVariants.{Step}
-use Rattle.pg_machine.proofs.LawsMachine.{some_within}
-use Rattle.pg_machine.proofs.LawsSteps.{StepsFrom-from_allowed}
+use Rattle.pg_core_machine.specs.Machine.{State, host_of, is_allowed, is_from, place_at}
+use Rattle.pg_core_machine.specs.declared.event.Event.TheVariants.{Step}
+use Rattle.pg_core_machine.proofs.LawsMachine.{some_within}
+use Rattle.pg_core_machine.proofs.LawsSteps.{StepsFrom-from_allowed}
 use Rattle.pg_model.specs.Job.{Job}
 use Rattle.pg_model.specs.Needed.{needed_in}
 use Rattle.pg_model.specs.Run.{visible_at}
@@ -25,7 +25,7 @@ use Rattle.pg_workers_rounds.specs.Handed.{PartState}
 use Rattle.pg_stats.specs.GlobalStats.{aggregators_of}
 use Rattle.pg_workers.proofs.Taking.{lends_before}
 use Rattle.pg_workers.specs.Losses.{Fated}
-use Rattle.pg_workers.specs.Meaning.{Meaning, job_in}
+use Rattle.pg_workers.specs.Meaning.{Meaning, job_of_meaning}
 use Rattle.pg_workers.specs.Recovering.{IsFall}
 use Rattle.pg_workers.specs.Rounds.{AreAssigned, AreNext, AreRecorded, AreReturned, AreStepsRight, ComesEarlier, HasFallen}
 use Rattle.pg_workers.specs.Rounds.{HasNone, IsAssigned, IsBack, IsReturned, IsStepRight}
@@ -52,24 +52,24 @@ zip_all R Q W (x ∷ xs) (y ∷ ys) f all zip =
 module _ {P C A V M : Type 0} (own : Meaning P C A V M) (fated : Fated) (superstep attempt : ℕ) (core : Progress P C A V M)
     (round : RoundOf M) (lends : Lends own core superstep attempt round) where
   abbrev job : Job V M
-  job = job_in own core
+  job = job_of_meaning own core
 
   -- the step of a part that was taken is given back
   back_from_taken : (worker : ℕ) (part : PartState V M) (done : Done V M) → IsTaken own core superstep worker part
       → IsDone own.value_eq own.message_eq (own.program core.program) (own.combining core.combiner) (record round { worker = worker }) part done
       → IsBack own core worker done
   back_from_taken worker part done taken is =
-      let p : ℕ = part.course.partition in
-      let r : ℕ = part.course.place in
+      let p : ℕ = part.part_run.partition in
+      let r : ℕ = part.part_run.place in
       let n : ℕ = core.limits.partitions in
-      let same : done.part.course.partition ≡ p = is.further.partition_stays in
+      let same : done.part.part_run.partition ≡ p = is.advanced.partition_stays in
       let made = λ (kept : Option Rows) (right : IsRight job kept core).
-      (let lent = taken.lent kept right in
+      (let step_input = taken.step_input kept right in
       is.stepped job (kept_for kept core p) core.graph n p r refl refl (ap (λ l. aggregators_of l) (sym lends.registry_is))
-      lent.holds
-      (lent_run job kept core p r part lent round.logs round.visible None None lends.logs_are
+      step_input.holds
+      (lent_run job kept core p r part step_input round.logs round.visible None None lends.logs_are
       (lends.shows kept right ∙ ap (visible_at job core.graph) (sym taken.place_is)))
-      (lent_beside job kept core p r part lent round.logs round.visible round.old_logs round.old_visible lends.logs_are
+      (lent_warm job kept core p r part step_input round.logs round.visible round.old_logs round.old_visible lends.logs_are
       (lends.old_logs_are ∙ ap (λ (s : ℕ). logs_in s core.kept) (sym taken.place_is))
       (lends.old_visible_is ∙ ap (λ (s : ℕ). visible_in s core.kept) (sym taken.place_is)))) in
       record {
@@ -77,7 +77,7 @@ module _ {P C A V M : Type 0} (own : Meaning P C A V M) (fated : Fated) (superst
         host_is = ap (λ (q : ℕ). host_of q core.state) same ∙ taken.host_is;
         allowed = ap (λ (q : ℕ). is_allowed core.state (Step q)) same ∙ taken.allowed;
         next = subst (λ (q : ℕ). IsNext n core.state q done.part) (sym same)
-            (IsNext-from_IsFurther n core.state p part done.part taken.at is.further);
+            (IsNext-from_IsAdvanced n core.state p part done.part taken.at is.advanced);
         step_of = λ kept right. subst (λ (q : ℕ). IsStepOf job kept core q done.part done.sent) (sym same)
             (IsStepOf-from_HasMadeStep job kept core p r done.part done.sent own.value_eq own.message_eq 0 done.calls taken.at.place_is (made kept right));
         counted = λ kept s right at.
@@ -86,7 +86,7 @@ module _ {P C A V M : Type 0} (own : Meaning P C A V M) (fated : Fated) (superst
             let none : (x : ℕ) → capped (0 + x) ≡ capped x = λ x. omega arith in
             subst₂ (λ (q k : ℕ). done.calls ≡ capped (needed_in own.value_eq own.message_eq job (kept_for kept core q) core.graph (belongs n q) k))
             (sym same) place
-            ((made kept right).course.counted ∙ none (needed_in own.value_eq own.message_eq job (kept_for kept core p) core.graph (belongs n p) r));
+            ((made kept right).part_run.counted ∙ none (needed_in own.value_eq own.message_eq job (kept_for kept core p) core.graph (belongs n p) r));
       }
 
   -- a worker that fell had a part
@@ -96,7 +96,7 @@ module _ {P C A V M : Type 0} (own : Meaning P C A V M) (fated : Fated) (superst
   fallen_from_taken worker (part ∷ parts) cause some taken struck =
       let one : IsTaken own core superstep worker part = All-head (IsTaken own core superstep worker) part parts taken in
       record {
-        partition = part.course.partition;
+        partition = part.part_run.partition;
         host_is = one.host_is;
         allowed = one.allowed;
         place_is = one.at.place_is ∙ ap Some one.place_is;
@@ -104,9 +104,9 @@ module _ {P C A V M : Type 0} (own : Meaning P C A V M) (fated : Fated) (superst
             let by = struck is in
             record {
               attempt = attempt;
-              partition = by.part.course.partition;
+              partition = by.part.part_run.partition;
               early = omega arith;
-              falls = (λ i. fated (sym lends.superstep_is i) (sym lends.attempt_is i) worker by.part.course.partition) ∙ by.struck;
+              falls = (λ i. fated (sym lends.superstep_is i) (sym lends.attempt_is i) worker by.part.part_run.partition) ∙ by.struck;
             };
       }
 
@@ -173,7 +173,7 @@ put_here (z ∷ xs) (suc p) x y is = put_here xs p x y is
 module _ {P C A V M : Type 0} (own : Meaning P C A V M) (core : Progress P C A V M) where
   -- a step stands at the place of its partition, given back by the worker that hosts it
   IsGood : ℕ → Done V M → Type 0
-  IsGood p done = IsBack own core (host_of p core.state) done × (done.part.course.partition ≡ p)
+  IsGood p done = IsBack own core (host_of p core.state) done × (done.part.part_run.partition ≡ p)
 
   AreGood : List (Option (Done V M)) → Type 0
   AreGood steps = (p : ℕ) (done : Done V M) → slice_index_or steps p None ≡ Some done → IsGood p done
@@ -185,15 +185,15 @@ module _ {P C A V M : Type 0} (own : Meaning P C A V M) (core : Progress P C A V
   with_good worker [] steps back good = good
   with_good worker (done ∷ dones) steps back good =
       let one : IsBack own core worker done = All-head (IsBack own core worker) done dones back in
-      with_good worker dones (set steps done.part.course.partition (Some done)) (All-tail (IsBack own core worker) done dones back)
-      (λ p other at. elim (cases_eq p done.part.course.partition) [
+      with_good worker dones (set steps done.part.part_run.partition (Some done)) (All-tail (IsBack own core worker) done dones back)
+      (λ p other at. elim (cases_eq p done.part.part_run.partition) [
         | inl same ↦ (
-            let here : done ≡ other = put_here steps done.part.course.partition done other
-            (ap (λ (q : ℕ). get_or (set steps done.part.course.partition (Some done)) q None) (sym same) ∙ at) in
+            let here : done ≡ other = put_here steps done.part.part_run.partition done other
+            (ap (λ (q : ℕ). get_or (set steps done.part.part_run.partition (Some done)) q None) (sym same) ∙ at) in
             let host : worker ≡ host_of p core.state = sym one.host_is ∙ ap (λ (q : ℕ). host_of q core.state) (sym same) in
-            (subst₂ (λ (w : ℕ) (d : Done V M). IsBack own core w d) host here one, ap (λ (d : Done V M). d.part.course.partition) (sym here) ∙ sym same)
+            (subst₂ (λ (w : ℕ) (d : Done V M). IsBack own core w d) host here one, ap (λ (d : Done V M). d.part.part_run.partition) (sym here) ∙ sym same)
             )
-        | inr apart ↦ good p other (sym (get_or-set_other steps done.part.course.partition p (Some done) None apart) ∙ at)
+        | inr apart ↦ good p other (sym (get_or-set_other steps done.part.part_run.partition p (Some done) None apart) ∙ at)
       ])
 
   -- they leave the places of others' partitions
@@ -202,8 +202,8 @@ module _ {P C A V M : Type 0} (own : Meaning P C A V M) (core : Progress P C A V
   with_others worker [] steps p back apart = refl
   with_others worker (done ∷ dones) steps p back apart =
       let one : IsBack own core worker done = All-head (IsBack own core worker) done dones back in
-      with_others worker dones (set steps done.part.course.partition (Some done)) p (All-tail (IsBack own core worker) done dones back) apart
-      ∙ get_or-set_other steps done.part.course.partition p (Some done) None
+      with_others worker dones (set steps done.part.part_run.partition (Some done)) p (All-tail (IsBack own core worker) done dones back) apart
+      ∙ get_or-set_other steps done.part.part_run.partition p (Some done) None
       (λ same. apart (ap (λ (q : ℕ). host_of q core.state) same ∙ one.host_is))
 
   module _ (fated : Fated) (superstep attempt : ℕ) where
@@ -331,7 +331,7 @@ module _ {P C A V M : Type 0} (own : Meaning P C A V M) (core : Progress P C A V
             ),
           )
 
-      pub all_right : (kept : Option Rows) → IsRight (job_in own core) kept core → AreStepsRight own kept core (with_outcomes outcomes none)
+      pub all_right : (kept : Option Rows) → IsRight (job_of_meaning own core) kept core → AreStepsRight own kept core (with_outcomes outcomes none)
       unfolding AreGood IsGood
       all_right kept right p done at =
           let good = all_good p done at in

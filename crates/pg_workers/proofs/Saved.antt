@@ -18,21 +18,21 @@ use Rattle.pg_core.specs.Closing.{ClosesRight, HasClosed}
 use Rattle.pg_core.specs.Losing.{IsRestored, IsShareFound, place_found, with_event}
 use Rattle.pg_core.specs.Progress.{HoldsAt, IsPartAt, IsRight, Progress, kept_for, part_at}
 use Rattle.pg_graph.specs.Rows.{Rows}
-use Rattle.pg_machine.specs.Limits.{Limits}
-use Rattle.pg_machine.specs.Losses.{is_anew}
-use Rattle.pg_machine.specs.Machine.{Reaches, State, after, after_all, first_state, is_allowed, place_at, saved_at}
-use Rattle.pg_machine.specs.declared.event.Closed.{Closed}
-use Rattle.pg_machine.specs.declared.event.Closed.TheVariants.{Next, Ended}
-use Rattle.pg_machine.specs.declared.event.Event.{Event}
-use Rattle.pg_machine.specs.declared.event.Event.TheVariants.{Close, Host, Lose, Restore, Save, Step}
-use Rattle.pg_machine.proofs.LawsNear.{AreNear-from_Reaches}
+use Rattle.pg_core_machine.specs.Limits.{Limits}
+use Rattle.pg_core_machine.specs.Losses.{is_anew}
+use Rattle.pg_core_machine.specs.Machine.{Reaches, State, after, after_all, first_state, is_allowed, place_at, saved_at}
+use Rattle.pg_core_machine.specs.declared.event.Closed.{Closed}
+use Rattle.pg_core_machine.specs.declared.event.Closed.TheVariants.{Next, Ended}
+use Rattle.pg_core_machine.specs.declared.event.Event.{Event}
+use Rattle.pg_core_machine.specs.declared.event.Event.TheVariants.{Close, Host, Lose, Restore, Save, Step}
+use Rattle.pg_core_machine.proofs.LawsNear.{AreNear-from_Reaches}
 use Rattle.pg_model.specs.Job.{Job}
 use Rattle.pg_model.specs.Run.{run_length}
 use Rattle.pg_model.specs.Superstep.{capped}
 use Rattle.pg_workers_rounds.specs.Handed.{HoldsShare, PartState}
-use Rattle.pg_workers.specs.Losses.{AreFated, Fated, Trusts, as_told}
-use Rattle.pg_workers.specs.Meaning.{Meaning, job_in}
-use Rattle.pg_routing.specs.Starting.{PartRows}
+use Rattle.pg_workers.specs.Losses.{AreFated, Fated, Trusts, as_reported}
+use Rattle.pg_workers.specs.Meaning.{Meaning, job_of_meaning}
+use Rattle.pg_part_routing.specs.Starting.{PartRows}
 use Rattle.pg_workers.specs.Recovering.{IsFoundRight}
 use Rattle.pg_workers.specs.Running.{AreSaved, Coordination, Happens, IsRunning, IsSaved}
 use Rattle.pg_workers.proofs.Going.{job_stays, running_after, running_quiet}
@@ -201,17 +201,17 @@ module _ {P C A V M : Type 0} (own : Meaning P C A V M) (fated : Fated) (first :
     calls_are = λ kept right trusts. runs.calls_are kept right (subst (λ (b : Bool). Trusts b c.core.history) got.counted.honest trusts);
     saved = λ is kept right.
         let was : before.is_honest ≡ true = sym got.counted.honest ∙ is in
-        all_fade own (job_in own first) first.graph first.limits.partitions first.run c.core.state before now (got.fades was) (runs.saved was kept right);
+        all_fade own (job_of_meaning own first) first.graph first.limits.partitions first.run c.core.state before now (got.fades was) (runs.saved was kept right);
   }
 
   -- a part that is here was saved, where the put was answered
   pub running_save : (before now : ShelfState) (a b : Coordination P C A V M) (p : ℕ) (part : PartState V M) {X : Type 0} (x : X)
       → is_allowed a.core.state (Save p) ≡ true → a.core.limits.partitions ≤ 64 → p < a.core.limits.partitions
       → part_at p a.core ≡ Some part → IsPartAt a.core.limits.partitions a.core.state p part
-      → IsPut (key_of part.course.partition) (part_coding own.value own.message a.core.run part) before (Ok x) now
+      → IsPut (key_of part.part_run.partition) (part_coding own.value own.message a.core.run part) before (Ok x) now
       → AreCodable own.is_value own.is_message (own_records part) → length (part_coding own.value own.message a.core.run part) < 2 ^ 64
       → b.core ≡ with_event (Save p) a.core
-      → ((kept : Option Rows) → IsRight (job_in own a.core) kept a.core → IsRight (job_in own a.core) kept b.core)
+      → ((kept : Option Rows) → IsRight (job_of_meaning own a.core) kept a.core → IsRight (job_of_meaning own a.core) kept b.core)
       → b.losses ≡ a.losses → b.calls ≡ a.calls → IsRunning own fated first before a → IsRunning own fated first now b
   running_save before now a b p part x allowed few mine here there put codable fits is keeps losses calls runs =
       let happens : Happens (Save p) a.core b.core = happens_event (Save p) a.core b.core is in
@@ -226,36 +226,36 @@ module _ {P C A V M : Type 0} (own : Meaning P C A V M) (fated : Fated) (first :
         happens = happens;
         honest = put.counted.honest;
         right = λ kept right trusts is. keeps kept is;
-        losses_are = ap (map as_told) losses ∙ sym (append-nil (map as_told a.losses));
+        losses_are = ap (map as_reported) losses ∙ sym (append-nil (map as_reported a.losses));
         fated_are = λ are. subst (AreFated fated 0) (sym losses) are;
         calls_are = λ kept x right trusts was. let none : x ≡ x + 0 = omega arith in calls ∙ (was ∙ ap (λ (k : ℕ). capped k) none);
         saved = λ honest kept first_right right all.
-            let holds : HoldsShare (job_in own first) (kept_for kept a.core p) first.graph first.limits.partitions p part.course.place part =
-            subst₂ (λ (g : Rows) (n : ℕ). HoldsShare (job_in own first) (kept_for kept a.core p) g n p part.course.place part) rows_are n_is
-            (holds_at (job_in own first) (kept_for kept a.core p) a.core.graph a.core.limits.partitions p part.course.place
+            let holds : HoldsShare (job_of_meaning own first) (kept_for kept a.core p) first.graph first.limits.partitions p part.part_run.place part =
+            subst₂ (λ (g : Rows) (n : ℕ). HoldsShare (job_of_meaning own first) (kept_for kept a.core p) g n p part.part_run.place part) rows_are n_is
+            (holds_at (job_of_meaning own first) (kept_for kept a.core p) a.core.graph a.core.limits.partitions p part.part_run.place
             (place_at p a.core.state) part there.place_is
             (right.parts p part here)) in
-            let ended : a.core.state.current + 1 ≤ run_length (job_in own first) first.graph =
-            subst (λ (g : Rows). a.core.state.current + 1 ≤ run_length (job_in own first) g) rows_are (omega (arith, right.within)) in
-            let key : key_of part.course.partition ≡ key_of p = ap key_of there.partition_is in
+            let ended : a.core.state.current + 1 ≤ run_length (job_of_meaning own first) first.graph =
+            subst (λ (g : Rows). a.core.state.current + 1 ≤ run_length (job_of_meaning own first) g) rows_are (omega (arith, right.within)) in
+            let key : key_of part.part_run.partition ≡ key_of p = ap key_of there.partition_is in
             let coding : part_coding own.value own.message a.core.run part ≡ part_coding own.value own.message first.run part =
             ap (λ (run : ℕ). part_coding own.value own.message run part) run_is in
             let faded : Fades (Some (part_coding own.value own.message first.run part)) (at_key now (key_of p)) =
             subst₂ (λ (bytes key : List ℕ). Fades (Some bytes) (at_key now key)) coding key (put.kept honest) in
             let others : (other : List ℕ) → other ≢ key_of p → Fades (at_key before other) (at_key now other) =
             λ other apart. put.others honest other (λ e. apart (e ∙ key)) in
-            subst (λ (s : State). AreSaved own (job_in own first) first.graph first.limits.partitions first.run s now) (sym happens.state_is)
-            (one_saved own (job_in own first) first.graph first.limits.partitions first.run
-            (omega (arith, n_is, few)) a.core.state before now p part.course.place
+            subst (λ (s : State). AreSaved own (job_of_meaning own first) first.graph first.limits.partitions first.run s now) (sym happens.state_is)
+            (one_saved own (job_of_meaning own first) first.graph first.limits.partitions first.run
+            (omega (arith, n_is, few)) a.core.state before now p part.part_run.place
             (kept_for kept a.core p) part (omega (arith, mine, many)) there.place_is
-            (omega (arith, near.places p part.course.place there.place_is, ended)) holds codable
+            (omega (arith, near.places p part.part_run.place there.place_is, ended)) holds codable
             (subst (λ (l : List ℕ). length l < 2 ^ 64) coding fits) (omega (arith, mine, n_is)) faded others all);
       }) runs
 
   -- the open superstep was closed
   pub running_close : (shelf : ShelfState) (a b : Coordination P C A V M) (closed : Closed) → is_allowed a.core.state (Close closed) ≡ true
       → HasClosed closed a.core b.core
-      → ((kept : Option Rows) → IsRight (job_in own a.core) kept a.core → ClosesRight (job_in own a.core) kept closed a.core b.core)
+      → ((kept : Option Rows) → IsRight (job_of_meaning own a.core) kept a.core → ClosesRight (job_of_meaning own a.core) kept closed a.core b.core)
       → b.losses ≡ a.losses → b.calls ≡ a.calls → IsRunning own fated first shelf a → IsRunning own fated first shelf b
   running_close shelf a b closed allowed has keeps losses calls runs =
       running_quiet own fated first (Close closed) shelf a b allowed (happens_close closed a.core b.core has)
@@ -268,7 +268,7 @@ module _ {P C A V M : Type 0} (own : Meaning P C A V M) (fated : Fated) (first :
   -- a partition goes on at a worker
   pub running_host : (shelf : ShelfState) (a b : Coordination P C A V M) (p w : ℕ) → is_allowed a.core.state (Host p w) ≡ true
       → b.core ≡ with_event (Host p w) a.core
-      → ((kept : Option Rows) → IsRight (job_in own a.core) kept a.core → IsRight (job_in own a.core) kept b.core)
+      → ((kept : Option Rows) → IsRight (job_of_meaning own a.core) kept a.core → IsRight (job_of_meaning own a.core) kept b.core)
       → b.losses ≡ a.losses → b.calls ≡ a.calls → IsRunning own fated first shelf a → IsRunning own fated first shelf b
   running_host shelf a b p w allowed is keeps losses calls runs =
       running_quiet own fated first (Host p w) shelf a b allowed (happens_event (Host p w) a.core b.core is)
@@ -277,8 +277,8 @@ module _ {P C A V M : Type 0} (own : Meaning P C A V M) (fated : Fated) (first :
   -- it goes on from what was found of it
   pub running_restore : (shelf : ShelfState) (a b : Coordination P C A V M) (p : ℕ) (found : Option (PartState V M))
       → is_allowed a.core.state (Restore p (place_found found)) ≡ true → IsRestored (own.combining a.core.combiner) p found a.core b.core
-      → ((kept : Option Rows) → IsRight (job_in own a.core) kept a.core → IsShareFound (job_in own a.core) a.core p found
-      → IsRight (job_in own a.core) kept b.core)
+      → ((kept : Option Rows) → IsRight (job_of_meaning own a.core) kept a.core → IsShareFound (job_of_meaning own a.core) a.core p found
+      → IsRight (job_of_meaning own a.core) kept b.core)
       → b.losses ≡ a.losses → b.calls ≡ a.calls → IsRunning own fated first shelf a → IsFoundRight own first shelf a.core p found
       → IsRunning own fated first shelf b
   running_restore shelf a b p found allowed restored keeps losses calls runs found_right =
@@ -291,26 +291,26 @@ module _ {P C A V M : Type 0} (own : Meaning P C A V M) (fated : Fated) (first :
   -- what a shelf gave of a partition is right, if it may be trusted once the partition goes on from it
   pub found_right : (shelf : ShelfState) (c : Coordination P C A V M) (asked : Asked V M) (p r : ℕ) (part : PartState V M) → IsRunning own fated first shelf c
       → asked.run ≡ c.core.run → asked.rows ≡ record { graph = c.core.graph; partition = p; partitions = c.core.limits.partitions }
-      → (job_in own c.core).program ≡ asked.program → (job_in own c.core).missing ≡ asked.missing → (job_in own c.core).aggregators ≡ asked.aggregators
-      → p < c.core.limits.partitions → saved_at p c.core.state ≡ Some r → 0 < r → part.course.place ≡ r
+      → (job_of_meaning own c.core).program ≡ asked.program → (job_of_meaning own c.core).missing ≡ asked.missing → (job_of_meaning own c.core).aggregators ≡ asked.aggregators
+      → p < c.core.limits.partitions → saved_at p c.core.state ≡ Some r → 0 < r → part.part_run.place ≡ r
       → IsLoaded own.is_value own.value own.is_message own.message asked (at_key shelf (key_of p)) (Found part)
       → IsFoundRight own first shelf c.core p (Some part)
   found_right shelf c asked p r part runs run rows program missing aggregators mine at some place loaded kept right trusts =
-      let job : Job V M = job_in own first in
-      let same : job ≡ job_in own c.core = sym (job_stays own runs.same) in
-      let honest : shelf.is_honest ≡ true = trusts_found shelf.is_honest c.core.history p part.course.place trusts (λ none. omega (arith, none, place, some)) in
+      let job : Job V M = job_of_meaning own first in
+      let same : job ≡ job_of_meaning own c.core = sym (job_stays own runs.same) in
+      let honest : shelf.is_honest ≡ true = trusts_found shelf.is_honest c.core.history p part.part_run.place trusts (λ none. omega (arith, none, place, some)) in
       let was : IsSaved own job first.graph first.limits.partitions first.run p r (at_key shelf (key_of p)) =
       runs.saved honest kept right p r (omega (arith, mine, ap (λ (l : Limits). l.partitions) runs.same.limits_are)) at in
       by (at_key shelf (key_of p)) refl was loaded same
     where
       by : (left : Option (List ℕ)) → at_key shelf (key_of p) ≡ left
-          → IsSaved own (job_in own first) first.graph first.limits.partitions first.run p r (at_key shelf (key_of p))
-          → IsLoaded own.is_value own.value own.is_message own.message asked (at_key shelf (key_of p)) (Found part) → job_in own first ≡ job_in own c.core
-          → HoldsShare (job_in own first) None c.core.graph c.core.limits.partitions p part.course.place part
+          → IsSaved own (job_of_meaning own first) first.graph first.limits.partitions first.run p r (at_key shelf (key_of p))
+          → IsLoaded own.is_value own.value own.is_message own.message asked (at_key shelf (key_of p)) (Found part) → job_of_meaning own first ≡ job_of_meaning own c.core
+          → HoldsShare (job_of_meaning own first) None c.core.graph c.core.limits.partitions p part.part_run.place part
       by None is was loaded same = absurd
           (subst (λ (o : Option (List ℕ)). IsLoaded own.is_value own.value own.is_message own.message asked o (Found part)) is loaded)
       by (Some bytes) is was loaded same =
-          let job : Job V M = job_in own first in
+          let job : Job V M = job_of_meaning own first in
           let found = subst (λ (o : Option (List ℕ)). IsLoaded own.is_value own.value own.is_message own.message asked o (Found part)) is loaded in
           let rows_are : asked.rows ≡ record { graph = first.graph; partition = p; partitions = first.limits.partitions } =
           rows ∙ (λ i. record { graph = runs.same.graph_is i; partition = p; partitions = (runs.same.limits_are i).partitions }) in

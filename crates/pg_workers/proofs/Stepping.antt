@@ -10,18 +10,18 @@ use Rattle.pg_checkpoint.specs.Shelf.{ShelfState}
 use Rattle.pg_core.specs.Driving.{IsSameRun, needs_of}
 use Rattle.pg_core.specs.Progress.{IsNext, IsRight, IsStepFrom, IsStepOf, Progress, TakesIn, has_lost, kept_for}
 use Rattle.pg_graph.specs.Rows.{Rows}
-use Rattle.pg_machine.specs.Limits.{Limits}
-use Rattle.pg_machine.specs.Machine.{State, after, first_state, is_allowed, is_from, may_step, place_at, was_lost}
-use Rattle.pg_machine.specs.declared.event.Event.TheVariants.{Step}
-use Rattle.pg_machine.proofs.LawsMachine.{length-places, was_lost-stays}
-use Rattle.pg_machine.proofs.LawsSteps.{StepsFrom-from_allowed, place_after_other, place_after_own}
+use Rattle.pg_core_machine.specs.Limits.{Limits}
+use Rattle.pg_core_machine.specs.Machine.{State, after, first_state, is_allowed, is_from, may_step, place_at, was_lost}
+use Rattle.pg_core_machine.specs.declared.event.Event.TheVariants.{Step}
+use Rattle.pg_core_machine.proofs.LawsMachine.{length-places, was_lost-stays}
+use Rattle.pg_core_machine.proofs.LawsSteps.{StepsFrom-from_allowed, place_after_other, place_after_own}
 use Rattle.pg_model.specs.Job.{Job}
 use Rattle.pg_model.specs.Needed.{needed_in}
 use Rattle.pg_model.specs.Share.{belongs}
 use Rattle.pg_model.specs.Superstep.{capped}
 use Rattle.pg_workers_rounds.specs.Handed.{PartState}
-use Rattle.pg_workers.specs.Losses.{AreFated, Fated, Trusts, as_told}
-use Rattle.pg_workers.specs.Meaning.{Meaning, job_in}
+use Rattle.pg_workers.specs.Losses.{AreFated, Fated, Trusts, as_reported}
+use Rattle.pg_workers.specs.Meaning.{Meaning, job_of_meaning}
 use Rattle.pg_workers.specs.Rounds.{AreNext, AreRecorded, AreStepsRight, IsStepRight, NoneBefore}
 use Rattle.pg_workers.specs.Running.{Coordination, Happens, IsRunning}
 use Rattle.pg_workers.proofs.Going.{job_stays, running_after, same_then, trusts_before}
@@ -96,25 +96,25 @@ happens_step a b p part sent takes = record {
 module _ {P C A V M : Type 0} (own : Meaning P C A V M) where
   pub running_step : (fated : Fated) (first : Progress P C A V M) (shelf : ShelfState) (a b : Coordination P C A V M) (p : ℕ) (done : Done V M)
       → is_allowed a.core.state (Step p) ≡ true → TakesIn p done.part done.sent a.core b.core
-      → ((kept : Option Rows) → IsRight (job_in own a.core) kept a.core → IsStepOf (job_in own a.core) kept a.core p done.part done.sent
-      → IsRight (job_in own a.core) kept b.core)
+      → ((kept : Option Rows) → IsRight (job_of_meaning own a.core) kept a.core → IsStepOf (job_of_meaning own a.core) kept a.core p done.part done.sent
+      → IsRight (job_of_meaning own a.core) kept b.core)
       → b.calls ≡ capped (a.calls + done.calls) → b.losses ≡ a.losses → IsRunning own fated first shelf a
-      → ((kept : Option Rows) → IsRight (job_in own first) kept first → Trusts shelf.is_honest a.core.history → IsStepRight own kept a.core p done)
+      → ((kept : Option Rows) → IsRight (job_of_meaning own first) kept first → Trusts shelf.is_honest a.core.history → IsStepRight own kept a.core p done)
       → IsRunning own fated first shelf b
   running_step fated first shelf a b p done allowed takes keeps calls losses runs steps =
       let happens : Happens (Step p) a.core b.core = happens_step a.core b.core p done.part done.sent takes in
       let from = StepsFrom-from_allowed a.core.state p allowed in
-      let there : job_in own a.core ≡ job_in own first = job_stays own runs.same in
+      let there : job_of_meaning own a.core ≡ job_of_meaning own first = job_stays own runs.same in
       running_after own fated first (Step p) shelf shelf a b (record {
         allowed = allowed;
         happens = happens;
         honest = refl;
         right = λ kept right trusts is. keeps kept is (steps kept right (trusts_before shelf.is_honest a.core.history (Step p) trusts)).step_of;
-        losses_are = ap (map as_told) losses ∙ sym (append-nil (map as_told a.losses));
+        losses_are = ap (map as_reported) losses ∙ sym (append-nil (map as_reported a.losses));
         fated_are = λ are. subst (AreFated fated 0) (sym losses) are;
         calls_are = λ kept x right trusts was.
             let step = steps kept right (trusts_before shelf.is_honest a.core.history (Step p) trusts) in
-            let needs : ℕ = needed_in own.value_eq own.message_eq (job_in own first) (kept_for kept a.core p) a.core.graph
+            let needs : ℕ = needed_in own.value_eq own.message_eq (job_of_meaning own first) (kept_for kept a.core p) a.core.graph
             (belongs a.core.limits.partitions p) from.from in
             let counted : done.calls ≡ capped needs =
             subst (λ (j : Job V M). done.calls ≡ capped
@@ -123,7 +123,7 @@ module _ {P C A V M : Type 0} (own : Meaning P C A V M) where
             calls ∙ (counts_more x a.calls done.calls needs was counted
             ∙ ap (λ (place : Option ℕ). capped (x + elim place as (λ _. ℕ) [
               | None ↦ 0
-              | Some r ↦ needs_of own.value_eq own.message_eq (job_in own first) a.core.graph a.core.limits.partitions kept (has_lost a.core p) p r
+              | Some r ↦ needs_of own.value_eq own.message_eq (job_of_meaning own first) a.core.graph a.core.limits.partitions kept (has_lost a.core p) p r
             ])) (sym from.at));
         saved = λ is kept first_right was all q r within at.
             all q r within (ap (λ (s : State). slice_index_or s.saved q None) (sym happens.state_is) ∙ at);
@@ -135,14 +135,14 @@ module _ {P C A V M : Type 0} (own : Meaning P C A V M) where
   pub step_right_still : (kept : Option Rows) (a b : Progress P C A V M) (p : ℕ) (done : Done V M) → IsSameRun a b
       → place_at p b.state ≡ place_at p a.state → has_lost b p ≡ has_lost a p → IsStepRight own kept a p done → IsStepRight own kept b p done
   step_right_still kept a b p done same place lost is =
-      let job : job_in own a ≡ job_in own b = sym (job_stays own same) in
+      let job : job_of_meaning own a ≡ job_of_meaning own b = sym (job_stays own same) in
       let keeps : kept_for kept a p ≡ kept_for kept b p = ap (λ (l : Bool). cond l None kept) (sym lost) in
       let graph : a.graph ≡ b.graph = sym same.graph_is in
       let many : a.limits.partitions ≡ b.limits.partitions = ap (λ (l : Limits). l.partitions) (sym same.limits_are) in
       record {
         step_of = λ r at.
-            subst (λ (n : ℕ). IsStepFrom (job_in own b) (kept_for kept b p) b.graph n p r done.part done.sent) many
-            (subst (λ (g : Rows). IsStepFrom (job_in own b) (kept_for kept b p) g a.limits.partitions p r done.part done.sent) graph
+            subst (λ (n : ℕ). IsStepFrom (job_of_meaning own b) (kept_for kept b p) b.graph n p r done.part done.sent) many
+            (subst (λ (g : Rows). IsStepFrom (job_of_meaning own b) (kept_for kept b p) g a.limits.partitions p r done.part done.sent) graph
             (subst₂ (λ (j : Job V M) (k : Option Rows). IsStepFrom j k a.graph a.limits.partitions p r done.part done.sent) job keeps
             (is.step_of r (sym place ∙ at))));
         counted = λ r at.
@@ -160,7 +160,7 @@ module _ {P C A V M : Type 0} (own : Meaning P C A V M) where
     pub recorded : AreRecorded steps old.core.state now.core.state
     pub trusts : (honest : Bool) → Trusts honest now.core.history → Trusts honest old.core.history
     pub goes : (fated : Fated) (first : Progress P C A V M) (shelf : ShelfState) → IsRunning own fated first shelf old
-        → ((kept : Option Rows) → IsRight (job_in own first) kept first → Trusts shelf.is_honest old.core.history → AreStepsRight own kept old.core steps)
+        → ((kept : Option Rows) → IsRight (job_of_meaning own first) kept first → Trusts shelf.is_honest old.core.history → AreStepsRight own kept old.core steps)
         → IsRunning own fated first shelf now × ((p : ℕ) → has_lost now.core p ≡ has_lost old.core p)
 
   module _ (steps : List (Option (Done V M))) (old : Coordination P C A V M) where
@@ -220,7 +220,7 @@ module _ {P C A V M : Type 0} (own : Meaning P C A V M) where
         → TakesInOn steps old now rest → slice_index_or rest p None ≡ Some done
         → Happens (Step p) now.core new.core → new.losses ≡ now.losses
         → ((fated : Fated) (first : Progress P C A V M) (shelf : ShelfState) → IsRunning own fated first shelf now
-        → ((kept : Option Rows) → IsRight (job_in own first) kept first → Trusts shelf.is_honest now.core.history → IsStepRight own kept now.core p done)
+        → ((kept : Option Rows) → IsRight (job_of_meaning own first) kept first → Trusts shelf.is_honest now.core.history → IsStepRight own kept now.core p done)
         → IsRunning own fated first shelf new)
         → TakesInOn steps old new (set rest p None)
     takes_in_more now new rest p done was at happens losses keeps =

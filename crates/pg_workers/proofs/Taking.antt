@@ -5,13 +5,13 @@ use Rattle.std.proofs.lemmas.Bool.{and_parts}
 use Rattle.std.proofs.lemmas.List.Elements.{All-nil, All-push, All-weaker}
 use Rattle.std.proofs.lemmas.List.Quantifiers.{all_pairs_push}
 use Rattle.std.proofs.lemmas.Option.{same_Some}
-use Rattle.pg_core.specs.Progress.{IsPartAt, IsRight, IsStepLent, Progress, is_ready, without_part}
+use Rattle.pg_core.specs.Progress.{IsPartAt, IsRight, HasStepInput, Progress, is_ready, without_part}
 use Rattle.pg_graph.specs.Rows.{Rows}
-use Rattle.pg_machine.specs.Machine.{host_of, is_allowed, place_at}
-use Rattle.pg_machine.specs.declared.event.Event.TheVariants.{Step}
+use Rattle.pg_core_machine.specs.Machine.{host_of, is_allowed, place_at}
+use Rattle.pg_core_machine.specs.declared.event.Event.TheVariants.{Step}
 use Rattle.pg_model.specs.Job.{Job}
 use Rattle.pg_workers_rounds.specs.Handed.{PartState}
-use Rattle.pg_workers.specs.Meaning.{Meaning, job_in}
+use Rattle.pg_workers.specs.Meaning.{Meaning, job_of_meaning}
 use Rattle.pg_workers.specs.Rounds.{AreAssigned, IsAssigned, IsEarlier, IsRest, IsTaken, Lends, TakesParts}
 use Rattle.pg_workers_rounds.specs.Round.{RoundOf}
 use Rattle.pg_workers_rounds.specs.declared.threads.Assignment.{Assignment}
@@ -26,12 +26,12 @@ module _ {P C A V M : Type 0} (own : Meaning P C A V M) where
   rest_then before mid now a b = record {
     core_is = b.core_is ∙ ap (λ (c : Progress P C A V M). record c { parts = now.parts }) a.core_is;
     right = λ kept right.
-        subst (λ (j : Job V M). IsRight j kept mid → IsRight j kept now) (ap (job_in own) a.core_is) (b.right kept) (a.right kept right);
+        subst (λ (j : Job V M). IsRight j kept mid → IsRight j kept now) (ap (job_of_meaning own) a.core_is) (b.right kept) (a.right kept right);
   }
 
   -- a part that was taken from what is left was so from the whole
   taken_whole : (before : Progress P C A V M) (parts : List (Option (PartState V M))) (superstep worker : ℕ) (part : PartState V M)
-      → ((kept : Option Rows) → IsRight (job_in own before) kept before → IsRight (job_in own before) kept (record before { parts = parts }))
+      → ((kept : Option Rows) → IsRight (job_of_meaning own before) kept before → IsRight (job_of_meaning own before) kept (record before { parts = parts }))
       → IsTaken own (record before { parts = parts }) superstep worker part → IsTaken own before superstep worker part
   taken_whole before parts superstep worker part rightly is = record {
     within = is.within;
@@ -40,16 +40,16 @@ module _ {P C A V M : Type 0} (own : Meaning P C A V M) where
     at = is.at;
     place_is = is.place_is;
     small = is.small;
-    lent = λ kept right.
-        let lent = is.lent kept (rightly kept right) in
-        record { holds = lent.holds; lent = lent.lent; beside = lent.beside; open_or_before = lent.open_or_before };
+    step_input = λ kept right.
+        let step_input = is.step_input kept (rightly kept right) in
+        record { holds = step_input.holds; step_input = step_input.step_input; warm = step_input.warm; open_or_before = step_input.open_or_before };
   }
 
   pub taken_before : (before rest : Progress P C A V M) (superstep worker : ℕ) (part : PartState V M) → IsRest own before rest
       → IsTaken own rest superstep worker part → IsTaken own before superstep worker part
   taken_before before rest superstep worker part left is =
       taken_whole before rest.parts superstep worker part
-      (λ kept right. subst (λ (c : Progress P C A V M). IsRight (job_in own before) kept c) left.core_is (left.right kept right))
+      (λ kept right. subst (λ (c : Progress P C A V M). IsRight (job_of_meaning own before) kept c) left.core_is (left.right kept right))
       (subst (λ (c : Progress P C A V M). IsTaken own c superstep worker part) left.core_is is)
 
   -- ---- one worker's parts
@@ -60,14 +60,14 @@ module _ {P C A V M : Type 0} (own : Meaning P C A V M) where
   pub takes_more : (first core now : Progress P C A V M) (p superstep worker : ℕ) (part : PartState V M) (parts : List (PartState V M))
       → TakesParts own first core superstep worker parts → p < core.limits.partitions → host_of p core.state ≡ worker
       → place_at p core.state ≡ Some superstep → is_ready core p ≡ true
-      → now ≡ without_part p core → part.course.place ≤ core.state.current → core.state.current < 10000
+      → now ≡ without_part p core → part.part_run.place ≤ core.state.current → core.state.current < 10000
       → IsPartAt core.limits.partitions core.state p part
-      → ((kept : Option Rows) → IsRight (job_in own core) kept core → IsRight (job_in own core) kept now
-      × IsStepLent (job_in own core) kept core p part.course.place part)
+      → ((kept : Option Rows) → IsRight (job_of_meaning own core) kept core → IsRight (job_of_meaning own core) kept now
+      × HasStepInput (job_of_meaning own core) kept core p part.part_run.place part)
       → TakesParts own first now superstep worker (parts ++ part ∷ [])
   takes_more first core now p superstep worker part parts was within host place ready is reached small at lends =
-      let mine : part.course.partition ≡ p = at.partition_is in
-      let there : part.course.place ≡ superstep = same_Some part.course.place superstep (sym at.place_is ∙ place) in
+      let mine : part.part_run.partition ≡ p = at.partition_is in
+      let there : part.part_run.place ≡ superstep = same_Some part.part_run.place superstep (sym at.place_is ∙ place) in
       let left : IsRest own core now = record {
         core_is = is ∙ ap (λ l. record core { parts = l }) (sym (ap (λ (c : Progress P C A V M). c.parts) is));
         right = λ kept right. (lends kept right).0;
@@ -79,7 +79,7 @@ module _ {P C A V M : Type 0} (own : Meaning P C A V M) where
         at = subst (λ (q : ℕ). IsPartAt core.limits.partitions core.state q part) (sym mine) at;
         place_is = there;
         small = omega (arith, reached, small, there);
-        lent = λ kept right. subst (λ (q : ℕ). IsStepLent (job_in own core) kept core q part.course.place part) (sym mine) (lends kept right).1;
+        step_input = λ kept right. subst (λ (q : ℕ). HasStepInput (job_of_meaning own core) kept core q part.part_run.place part) (sym mine) (lends kept right).1;
       } in
       record {
         taken = rest_then first core now was.taken left;
@@ -128,7 +128,7 @@ module _ {P C A V M : Type 0} (own : Meaning P C A V M) where
   -- ---- what a round is lent
 
   lends_whole : (before : Progress P C A V M) (parts : List (Option (PartState V M))) (superstep attempt : ℕ) (round : RoundOf M)
-      → ((kept : Option Rows) → IsRight (job_in own before) kept before → IsRight (job_in own before) kept (record before { parts = parts }))
+      → ((kept : Option Rows) → IsRight (job_of_meaning own before) kept before → IsRight (job_of_meaning own before) kept (record before { parts = parts }))
       → Lends own (record before { parts = parts }) superstep attempt round → Lends own before superstep attempt round
   lends_whole before parts superstep attempt round rightly lends = record {
     superstep_is = lends.superstep_is;
@@ -144,5 +144,5 @@ module _ {P C A V M : Type 0} (own : Meaning P C A V M) where
       → Lends own rest superstep attempt round → Lends own before superstep attempt round
   lends_before before rest superstep attempt round left lends =
       lends_whole before rest.parts superstep attempt round
-      (λ kept right. subst (λ (c : Progress P C A V M). IsRight (job_in own before) kept c) left.core_is (left.right kept right))
+      (λ kept right. subst (λ (c : Progress P C A V M). IsRight (job_of_meaning own before) kept c) left.core_is (left.right kept right))
       (subst (λ (c : Progress P C A V M). Lends own c superstep attempt round) left.core_is lends)

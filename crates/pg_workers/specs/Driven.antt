@@ -3,18 +3,18 @@ use Rattle.std.specs.Prelude.{◌≡◌, ℕ, ◌+◌, ◌≤◌, Bool, true, fa
 use Rattle.std.specs.List.{range_with_len}
 use Rattle.pg_core.specs.Driving.{needs_of}
 use Rattle.pg_core.specs.Progress.{IsRight, Progress}
-use Rattle.pg_core.specs.Traces.{IsLeftBy, Traces}
+use Rattle.pg_core.specs.Traces.{IsRetainedBy, Traces}
 use Rattle.pg_graph.specs.Rows.{Rows}
-use Rattle.pg_machine.specs.Losses.{counts_in, losses_in}
-use Rattle.pg_machine.specs.Machine.{Reaches, State, first_state, steps_of}
-use Rattle.pg_machine.specs.declared.event.Event.{Event}
+use Rattle.pg_core_machine.specs.Losses.{counts_in, losses_in}
+use Rattle.pg_core_machine.specs.Machine.{Reaches, State, first_state, steps_of}
+use Rattle.pg_core_machine.specs.declared.event.Event.{Event}
 use Rattle.pg_model.specs.Job.{Job}
 use Rattle.pg_model.specs.Needed.{needed_count}
 use Rattle.pg_model.specs.Run.{answer, run_length}
 use Rattle.pg_model.specs.Superstep.{capped}
 use Rattle.pg_model.specs.declared.run.Run.{Run}
-use Rattle.pg_workers.specs.Losses.{AreFated, Fated, Trusts, as_told}
-use Rattle.pg_workers.specs.Meaning.{Meaning, job_in}
+use Rattle.pg_workers.specs.Losses.{AreFated, Fated, Trusts, as_reported}
+use Rattle.pg_workers.specs.Meaning.{Meaning, job_of_meaning}
 use Rattle.pg_workers.specs.declared.counts.Counts.{Counts}
 
 -- the status machine allows this history of n partitions on so many workers, the run has ended with it, and the steps
@@ -24,7 +24,7 @@ pub record IsHistoryOf (n workers : ℕ) (history : List Event) (counts : Counts
   pub leads : Reaches (first_state n workers) history reached
   pub ended : reached.ended ≡ true
   pub steps_are : counts.steps ≡ map (λ p. steps_of p history) (range_with_len 0 n)
-  pub losses_are : map as_told counts.losses ≡ losses_in (first_state n workers) history
+  pub losses_are : map as_reported counts.losses ≡ losses_in (first_state n workers) history
 
 -- it has all supersteps of the job's run on these rows, and the calls that were counted are those that it tells of: in
 -- each step those that differ from the kept run's, if any, and all where a loss had taken the partition
@@ -38,14 +38,14 @@ pub record AreCountsOf {V M : Type 0} (value_eq : V → V → Bool) (message_eq 
 
 module _ {P C A V M : Type 0} (own : Meaning P C A V M) where
   -- the answer, what is left for the next run and the counts are those of the run from scratch on the graph of a core,
-  -- beside the kept run, if any
+  -- against the kept run, if any
   pub record IsAnswered (kept : Option Rows) (core : Progress P C A V M) (history : List Event) (run : Run V)
       (left : Traces V M)
       (counts : Counts) : Type 0 where
-    pub answers : run ≡ answer (job_in own core) core.graph
-    pub leaves : IsLeftBy (job_in own core) core.graph core.limits.partitions left
+    pub answers : run ≡ answer (job_of_meaning own core) core.graph
+    pub leaves : IsRetainedBy (job_of_meaning own core) core.graph core.limits.partitions left
     pub counted : AreCountsOf own.value_eq own.message_eq
-        (job_in own core) kept core.graph core.limits.partitions core.limits.workers history counts
+        (job_of_meaning own core) kept core.graph core.limits.partitions core.limits.workers history counts
 
   -- the run of a core was driven to its end through a history that the status machine allows. No more workers fell than
   -- may, by the fate those alone that it has fall; each partition leaves something; there is an aggregate for each of
@@ -57,17 +57,18 @@ module _ {P C A V M : Type 0} (own : Meaning P C A V M) where
     pub tells : IsHistoryOf core.limits.partitions core.limits.workers history counts
     pub few : length counts.losses ≤ core.limits.max_losses
     pub fated_are : AreFated fated 0 counts.losses
-    pub each : length left.lefts ≡ core.limits.partitions
+    pub each : length left.retained_parts ≡ core.limits.partitions
     pub places : length run.aggregates ≡ length (own.master core.master).registrations
-    pub right : (kept : Option Rows) → IsRight (job_in own core) kept core → Trusts honest history
+    pub right : (kept : Option Rows) → IsRight (job_of_meaning own core) kept core → Trusts honest history
         → IsAnswered kept core history run left counts
 
   -- nobody fell: the answer and what is left are those of the run from scratch whatever the shelf is, just the
   -- executions that differ from the kept run's, if any, were called, and each partition has made each superstep once
   pub record IsUnlost (kept : Option Rows) (core : Progress P C A V M) (run : Run V) (left : Traces V M)
       (counts : Counts) : Type 0 where
-    pub answers : run ≡ answer (job_in own core) core.graph
-    pub leaves : IsLeftBy (job_in own core) core.graph core.limits.partitions left
-    pub calls_are : counts.calls ≡ capped (needed_count own.value_eq own.message_eq (job_in own core) kept core.graph)
-    pub steps_are : counts.steps ≡ map (λ p. run_length (job_in own core) core.graph)
+    pub answers : run ≡ answer (job_of_meaning own core) core.graph
+    pub leaves : IsRetainedBy (job_of_meaning own core) core.graph core.limits.partitions left
+    pub calls_are : counts.calls ≡ capped
+        (needed_count own.value_eq own.message_eq (job_of_meaning own core) kept core.graph)
+    pub steps_are : counts.steps ≡ map (λ p. run_length (job_of_meaning own core) core.graph)
         (range_with_len 0 core.limits.partitions)

@@ -1,14 +1,14 @@
 -- The workers that fell, why they fell, and what may be said of a run where a shelf isn't to be trusted.
 use Rattle.std.specs.Prelude.{◌≡◌, ℕ, ◌+◌, ◌≤◌, nat_lt, Bool, true, cond, ◌||◌, List, [], ◌∷◌, map, Option, Some}
 use Rattle.std.specs.List.{list_all}
-use Rattle.pg_machine.specs.Losses.{falls_of, is_anew}
-use Rattle.pg_machine.specs.declared.event.Event.{Event}
+use Rattle.pg_core_machine.specs.Losses.{falls_of, is_anew}
+use Rattle.pg_core_machine.specs.declared.event.Event.{Event}
 use Rattle.pg_workers.specs.declared.counts.Loss.{Loss}
 use Rattle.pg_workers_rounds.specs.declared.cause.Cause.TheVariants.{Fate}
 
 -- a loss as a history has it: the worker, and the least superstep of what it hosted
-abbrev pub as_told : Loss → ℕ × Option ℕ
-as_told loss = (loss.worker, Some loss.superstep)
+abbrev pub as_reported : Loss → ℕ × Option ℕ
+as_reported loss = (loss.worker, Some loss.superstep)
 
 -- whether a worker falls: by the superstep, how many losses were recorded before the round, the worker, and the
 -- partition that it has stepped
@@ -31,7 +31,7 @@ module _ (fated : Fated) where
 
 -- each worker is among these losses once, and nobody else is
 abbrev pub AreAll : ℕ → List Loss → Type 0
-AreAll workers losses = (w : ℕ) → falls_of w (map as_told losses) ≡ cond (nat_lt w workers) 1 0
+AreAll workers losses = (w : ℕ) → falls_of w (map as_reported losses) ≡ cond (nat_lt w workers) 1 0
 
 -- the shelf is honest, or no partition went on from what it gave
 abbrev pub Trusts : Bool → List Event → Type 0

@@ -1,6 +1,6 @@
 -- What the types of a run mean.
 use Rattle.std.specs.Prelude.{ℕ, Bool, List, Option}
-use Rattle.pg_core.specs.Progress.{Progress, job_by}
+use Rattle.pg_core.specs.Progress.{Progress, job_of_core}
 use Rattle.pg_global.specs.Master.{Master}
 use Rattle.pg_model.specs.Job.{Combining, Job, Program}
 
@@ -33,5 +33,5 @@ meaning program combining master value_eq message_eq is_value value is_message m
 }
 
 -- the job of a run
-abbrev pub job_in : {P C A V M : Type 0} → Meaning P C A V M → Progress P C A V M → Job V M
-job_in own core = job_by own.program own.combining own.master core
+abbrev pub job_of_meaning : {P C A V M : Type 0} → Meaning P C A V M → Progress P C A V M → Job V M
+job_of_meaning own core = job_of_core own.program own.combining own.master core

@@ -4,11 +4,11 @@ use Rattle.pg_checkpoint.specs.Shelf.{ShelfState}
 use Rattle.pg_core.specs.Losing.{IsShareFound, place_found}
 use Rattle.pg_core.specs.Progress.{IsRight, Progress}
 use Rattle.pg_graph.specs.Rows.{Rows}
-use Rattle.pg_machine.specs.Machine.{State, host_of, is_alive, place_at}
-use Rattle.pg_machine.specs.declared.event.Event.TheVariants.{Restore}
+use Rattle.pg_core_machine.specs.Machine.{State, host_of, is_alive, place_at}
+use Rattle.pg_core_machine.specs.declared.event.Event.TheVariants.{Restore}
 use Rattle.pg_workers_rounds.specs.Handed.{PartState}
 use Rattle.pg_workers.specs.Losses.{Fated, Trusts, WasFated}
-use Rattle.pg_workers.specs.Meaning.{Meaning, job_in}
+use Rattle.pg_workers.specs.Meaning.{Meaning, job_of_meaning}
 use Rattle.pg_workers.specs.Rounds.{NoneBefore}
 use Rattle.pg_workers.specs.Running.{Coordination, IsRunning}
 use Rattle.pg_workers.specs.declared.counts.Loss.{Loss}
@@ -36,9 +36,9 @@ abbrev pub IsFoundRight : {P C A V M : Type 0} → Meaning P C A V M → Progres
     → Progress P C A V M → ℕ
     → Option (PartState V M) → Type 0
 IsFoundRight own first shelf core p found =
-    (kept : Option Rows) → IsRight (job_in own first) kept first
+    (kept : Option Rows) → IsRight (job_of_meaning own first) kept first
     → Trusts shelf.is_honest (core.history ++ Restore p (place_found found) ∷ [])
-    → IsShareFound (job_in own first) core p found
+    → IsShareFound (job_of_meaning own first) core p found
 
 -- losses are recorded one after another in a run that has gone on, and these are left, of a round before which so many
 -- were

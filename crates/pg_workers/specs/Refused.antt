@@ -2,11 +2,11 @@
 use Rattle.std.specs.Prelude.{◌≡◌, ℕ, ◌<◌, ◌≤◌, Bool, true, false, List, map, length, Result, Ok, Err}
 use Rattle.pg_checkpoint.specs.declared.shelf.ShelfFault.{ShelfFault}
 use Rattle.pg_checkpoint.specs.declared.shelf.ShelfFault.TheVariants.{Memory as OutOfMemory, Device as Failed}
-use Rattle.pg_machine.specs.Limits.{Limits}
-use Rattle.pg_machine.specs.Losses.{losses_in}
-use Rattle.pg_machine.specs.Machine.{Reaches, State, first_state}
-use Rattle.pg_machine.specs.declared.event.Event.{Event}
-use Rattle.pg_workers.specs.Losses.{AreAll, AreFated, Fated, as_told}
+use Rattle.pg_core_machine.specs.Limits.{Limits}
+use Rattle.pg_core_machine.specs.Losses.{losses_in}
+use Rattle.pg_core_machine.specs.Machine.{Reaches, State, first_state}
+use Rattle.pg_core_machine.specs.declared.event.Event.{Event}
+use Rattle.pg_workers.specs.Losses.{AreAll, AreFated, Fated, as_reported}
 use Rattle.pg_workers.specs.declared.counts.Loss.{Loss}
 use Rattle.pg_workers.specs.declared.fault.RefreshFault.{RefreshFault}
 use Rattle.pg_workers.specs.declared.fault.RefreshFault.TheVariants.{Memory, TooManyLosses, NoWorkers, Device}
@@ -41,7 +41,7 @@ module _ (fated : Fated) (limits : Limits) where
     pub history : List Event
     pub reached : State
     pub leads : Reaches (first_state limits.partitions limits.workers) history reached
-    pub losses_are : map as_told losses ≡ losses_in (first_state limits.partitions limits.workers) history
+    pub losses_are : map as_reported losses ≡ losses_in (first_state limits.partitions limits.workers) history
     pub fated_are : AreFated fated 0 losses
 
   -- more workers fell than may; or all of them did, and no more than may

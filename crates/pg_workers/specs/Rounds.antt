@@ -2,18 +2,18 @@
 use Rattle.std.specs.Prelude.{◌≡◌, ℕ, ◌+◌, ◌<◌, ◌≤◌, ◌^◌, Bool, true, List, [], ◌∷◌, ◌++◌}
 use Rattle.std.specs.Prelude.{length, All, Option, None, Some, IfOk, IfErr, slice_index_or, slice_set, Ok, Err}
 use Rattle.std.specs.List.{AllPairs}
-use Rattle.pg_core.specs.Progress.{IsNext, IsPartAt, IsRight, IsStepLent, IsStepOf, Progress, kept_for}
+use Rattle.pg_core.specs.Progress.{IsNext, IsPartAt, IsRight, HasStepInput, IsStepOf, Progress, kept_for}
 use Rattle.pg_core.specs.Traces.{logs_in, visible_in}
 use Rattle.pg_graph.specs.Rows.{Rows}
-use Rattle.pg_machine.specs.Machine.{State, host_of, is_allowed, place_at}
-use Rattle.pg_machine.specs.declared.event.Event.TheVariants.{Step}
+use Rattle.pg_core_machine.specs.Machine.{State, host_of, is_allowed, place_at}
+use Rattle.pg_core_machine.specs.declared.event.Event.TheVariants.{Step}
 use Rattle.pg_model.specs.Needed.{needed_in}
 use Rattle.pg_model.specs.Run.{visible_at}
 use Rattle.pg_model.specs.Share.{belongs}
 use Rattle.pg_model.specs.Superstep.{capped}
 use Rattle.pg_workers_rounds.specs.Handed.{PartState}
 use Rattle.pg_workers.specs.Losses.{Fated, WasFated}
-use Rattle.pg_workers.specs.Meaning.{Meaning, job_in}
+use Rattle.pg_workers.specs.Meaning.{Meaning, job_of_meaning}
 use Rattle.pg_workers.specs.declared.counts.Loss.{Loss}
 use Rattle.pg_workers.specs.declared.outcomes.RoundResult.{RoundResult}
 use Rattle.pg_workers_rounds.specs.Round.{RoundOf}
@@ -34,14 +34,14 @@ module _ {P C A V M : Type 0} (own : Meaning P C A V M) (core : Progress P C A V
   -- a part was taken from a core, and may make a step from this superstep; its worker hosts it, and where the core was
   -- right the step is lent what it reads
   pub record IsTaken (superstep worker : ℕ) (part : PartState V M) : Type 0 where
-    pub within : part.course.partition < core.limits.partitions
-    pub host_is : host_of part.course.partition core.state ≡ worker
-    pub allowed : is_allowed core.state (Step part.course.partition) ≡ true
-    pub at : IsPartAt core.limits.partitions core.state part.course.partition part
-    pub place_is : part.course.place ≡ superstep
+    pub within : part.part_run.partition < core.limits.partitions
+    pub host_is : host_of part.part_run.partition core.state ≡ worker
+    pub allowed : is_allowed core.state (Step part.part_run.partition) ≡ true
+    pub at : IsPartAt core.limits.partitions core.state part.part_run.partition part
+    pub place_is : part.part_run.place ≡ superstep
     pub small : superstep + 1 < 2 ^ 32
-    pub lent : (kept : Option Rows) → IsRight (job_in own core) kept core
-        → IsStepLent (job_in own core) kept core part.course.partition part.course.place part
+    pub step_input : (kept : Option Rows) → IsRight (job_of_meaning own core) kept core
+        → HasStepInput (job_of_meaning own core) kept core part.part_run.partition part.part_run.place part
 
   -- a worker is assigned some such parts
   pub record IsAssigned (superstep : ℕ) (assignment : Assignment V M) : Type 0 where
@@ -51,7 +51,8 @@ module _ {P C A V M : Type 0} (own : Meaning P C A V M) (core : Progress P C A V
   -- another core is that one without parts that were taken
   pub record IsRest (rest : Progress P C A V M) : Type 0 where
     pub core_is : rest ≡ record core { parts = rest.parts }
-    pub right : (kept : Option Rows) → IsRight (job_in own core) kept core → IsRight (job_in own core) kept rest
+    pub right : (kept : Option Rows) → IsRight (job_of_meaning own core) kept core
+        → IsRight (job_of_meaning own core) kept rest
 
   -- the parts of a worker were taken, and this is what is left
   pub record TakesParts (rest : Progress P C A V M) (superstep worker : ℕ) (parts : List (PartState V M)) : Type 0 where
@@ -74,23 +75,23 @@ module _ {P C A V M : Type 0} (own : Meaning P C A V M) (core : Progress P C A V
     pub logs_are : round.logs ≡ core.logs
     pub old_logs_are : round.old_logs ≡ logs_in superstep core.kept
     pub old_visible_is : round.old_visible ≡ visible_in superstep core.kept
-    pub shows : (kept : Option Rows) → IsRight (job_in own core) kept core
-        → round.visible ≡ visible_at (job_in own core) core.graph superstep
+    pub shows : (kept : Option Rows) → IsRight (job_of_meaning own core) kept core
+        → round.visible ≡ visible_at (job_of_meaning own core) core.graph superstep
 
   -- a worker gives back a step that can be recorded, of a partition that it hosts; where the core was right it is the
   -- run's, with as many calls as it needs
   pub record IsBack (worker : ℕ) (done : Done V M) : Type 0 where
-    pub within : done.part.course.partition < core.limits.partitions
-    pub host_is : host_of done.part.course.partition core.state ≡ worker
-    pub allowed : is_allowed core.state (Step done.part.course.partition) ≡ true
-    pub next : IsNext core.limits.partitions core.state done.part.course.partition done.part
-    pub step_of : (kept : Option Rows) → IsRight (job_in own core) kept core
-        → IsStepOf (job_in own core) kept core done.part.course.partition done.part done.sent
-    pub counted : (kept : Option Rows) (r : ℕ) → IsRight (job_in own core) kept core
-        → place_at done.part.course.partition core.state ≡ Some r
-        → done.calls ≡ capped (needed_in own.value_eq own.message_eq (job_in own core)
-        (kept_for kept core done.part.course.partition) core.graph
-        (belongs core.limits.partitions done.part.course.partition) r)
+    pub within : done.part.part_run.partition < core.limits.partitions
+    pub host_is : host_of done.part.part_run.partition core.state ≡ worker
+    pub allowed : is_allowed core.state (Step done.part.part_run.partition) ≡ true
+    pub next : IsNext core.limits.partitions core.state done.part.part_run.partition done.part
+    pub step_of : (kept : Option Rows) → IsRight (job_of_meaning own core) kept core
+        → IsStepOf (job_of_meaning own core) kept core done.part.part_run.partition done.part done.sent
+    pub counted : (kept : Option Rows) (r : ℕ) → IsRight (job_of_meaning own core) kept core
+        → place_at done.part.part_run.partition core.state ≡ Some r
+        → done.calls ≡ capped (needed_in own.value_eq own.message_eq (job_of_meaning own core)
+        (kept_for kept core done.part.part_run.partition) core.graph
+        (belongs core.limits.partitions done.part.part_run.partition) r)
 
 -- a worker fell in a round at this superstep: a partition that it hosts may make a step from there, and it has a fate
 -- where that is the cause
@@ -119,7 +120,7 @@ module _ {V M : Type 0} where
   -- with these steps, each at the place of its partition
   abbrev pub with_steps : List (Done V M) → List (Option (Done V M)) → List (Option (Done V M))
   with_steps [] steps = steps
-  with_steps (done ∷ dones) steps = with_steps dones (slice_set steps done.part.course.partition (Some done))
+  with_steps (done ∷ dones) steps = with_steps dones (slice_set steps done.part.part_run.partition (Some done))
 
   -- with the steps that a worker gives back, if it does
   abbrev pub with_outcome : Outcome V M → List (Option (Done V M)) → List (Option (Done V M))
@@ -157,15 +158,16 @@ pub record IsCollected {V M : Type 0} (superstep : ℕ) (outcomes : List (Outcom
 -- each step stands at the place of its partition, and can be recorded
 abbrev pub AreNext : {P C A V M : Type 0} → Progress P C A V M → List (Option (Done V M)) → Type 0
 AreNext core steps = (p : ℕ) (done : Done _ _) → slice_index_or steps p None ≡ Some done
-    → (done.part.course.partition ≡ p)
+    → (done.part.part_run.partition ≡ p)
     × ((is_allowed core.state (Step p) ≡ true) × IsNext core.limits.partitions core.state p done.part)
 
 module _ {P C A V M : Type 0} (own : Meaning P C A V M) (kept : Option Rows) (core : Progress P C A V M) where
   -- a step of partition p is the run's, with as many calls as it needs
   pub record IsStepRight (p : ℕ) (done : Done V M) : Type 0 where
-    pub step_of : IsStepOf (job_in own core) kept core p done.part done.sent
+    pub step_of : IsStepOf (job_of_meaning own core) kept core p done.part done.sent
     pub counted : (r : ℕ) → place_at p core.state ≡ Some r
-        → done.calls ≡ capped (needed_in own.value_eq own.message_eq (job_in own core) (kept_for kept core p) core.graph
+        → done.calls ≡ capped (needed_in own.value_eq own.message_eq (job_of_meaning own core) (kept_for kept core p)
+        core.graph
         (belongs core.limits.partitions p) r)
 
   -- each is, by partition

@@ -8,14 +8,14 @@ use Rattle.pg_checkpoint.specs.declared.shelf.ShelfFault.{ShelfFault}
 use Rattle.pg_core.specs.Driving.{IsSameRun, calls_in, losses_of}
 use Rattle.pg_core.specs.Progress.{IsPartAt, IsRight, Progress, part_at}
 use Rattle.pg_graph.specs.Rows.{Rows}
-use Rattle.pg_machine.specs.Machine.{Reaches, State, after, first_state, saved_at}
-use Rattle.pg_machine.specs.declared.event.Event.{Event}
+use Rattle.pg_core_machine.specs.Machine.{Reaches, State, after, first_state, saved_at}
+use Rattle.pg_core_machine.specs.declared.event.Event.{Event}
 use Rattle.pg_model.specs.Job.{Job}
 use Rattle.pg_model.specs.Run.{run_length}
 use Rattle.pg_model.specs.Superstep.{capped}
 use Rattle.pg_workers_rounds.specs.Handed.{HoldsShare, PartState}
-use Rattle.pg_workers.specs.Losses.{AreFated, Fated, Trusts, as_told}
-use Rattle.pg_workers.specs.Meaning.{Meaning, job_in}
+use Rattle.pg_workers.specs.Losses.{AreFated, Fated, Trusts, as_reported}
+use Rattle.pg_workers.specs.Meaning.{Meaning, job_of_meaning}
 use Rattle.pg_workers.specs.Refused.{MayRefuse}
 use Rattle.pg_workers.specs.declared.counts.Loss.{Loss}
 use Rattle.pg_workers.specs.declared.fault.RefreshFault.{RefreshFault}
@@ -34,7 +34,7 @@ pub record HasPut {P C A V M : Type 0} (is_value : V → Type 0) (value : V → 
     : Type 0 where
   pub here : part_at p core ≡ Some part
   pub at : IsPartAt core.limits.partitions core.state p part
-  pub put : IsPut (key_of part.course.partition) (part_coding value message core.run part) before result after
+  pub put : IsPut (key_of part.part_run.partition) (part_coding value message core.run part) before result after
   pub codable : OnOk result (AreCodable is_value is_message (own_records part))
   pub fits : OnOk result (length (part_coding value message core.run part) < 2 ^ 64)
 
@@ -69,15 +69,16 @@ module _ {P C A V M : Type 0} (own : Meaning P C A V M) where
       pub same : IsSameRun first now.core
       pub leads : Reaches (first_state now.core.limits.partitions now.core.limits.workers) now.core.history
           now.core.state
-      pub losses_are : map as_told now.losses ≡ losses_of now.core
+      pub losses_are : map as_reported now.losses ≡ losses_of now.core
       pub fated_are : AreFated fated 0 now.losses
-      pub right : (kept : Option Rows) → IsRight (job_in own first) kept first → Trusts shelf.is_honest now.core.history
-          → IsRight (job_in own first) kept now.core
-      pub calls_are : (kept : Option Rows) → IsRight (job_in own first) kept first
+      pub right : (kept : Option Rows) → IsRight (job_of_meaning own first) kept first
           → Trusts shelf.is_honest now.core.history
-          → now.calls ≡ capped (calls_in own.value_eq own.message_eq (job_in own first) kept now.core)
-      pub saved : shelf.is_honest ≡ true → (kept : Option Rows) → IsRight (job_in own first) kept first
-          → AreSaved (job_in own first) first.graph first.limits.partitions first.run now.core.state shelf
+          → IsRight (job_of_meaning own first) kept now.core
+      pub calls_are : (kept : Option Rows) → IsRight (job_of_meaning own first) kept first
+          → Trusts shelf.is_honest now.core.history
+          → now.calls ≡ capped (calls_in own.value_eq own.message_eq (job_of_meaning own first) kept now.core)
+      pub saved : shelf.is_honest ≡ true → (kept : Option Rows) → IsRight (job_of_meaning own first) kept first
+          → AreSaved (job_of_meaning own first) first.graph first.limits.partitions first.run now.core.state shelf
 
     -- whatever run it was that went on to the one state of things, it has gone on to the other
     abbrev pub Keeps : ShelfState → Coordination P C A V M → ShelfState → Coordination P C A V M → Type 0

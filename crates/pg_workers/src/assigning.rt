@@ -2,14 +2,14 @@
 ghost use Rattle.std.specs.Prelude.{◌≡◌, ◌≤◌, true, length, IfOk, IsTrue, Some};
 ghost use Rattle.pg_core.specs.Progress.{is_ready as ready_test};
 ghost use Rattle.pg_global.specs.Master.{has_places};
-ghost use Rattle.pg_machine.specs.Machine.{host_of, place_at};
+ghost use Rattle.pg_core_machine.specs.Machine.{host_of, place_at};
 ghost use Rattle.pg_workers.specs.Meaning.{meaning};
 ghost use Rattle.pg_workers.specs.Rounds.{AreAssigned, Lends, TakesParts};
 
 use pg_core::Core;
 use pg_global::{MasterCompute, MessageCombiner};
 use pg_graph::{Memory, PartitionId, Superstep, WorkerId};
-use pg_inbox::Logged;
+use pg_inbox::LoggedBundle;
 use pg_program::{Computation, Plain};
 use pg_workers_rounds::{Assignment, Part, Round};
 use std::alloc::Global;
@@ -79,7 +79,7 @@ fn is_due<P: Computation, C: MessageCombiner<P::Message>, M: MasterCompute>(
 
 /// What a round at a superstep lends, where so many losses were recorded before it. The worker that it names is to be
 /// replaced by each.
-pub(crate) fn lent<'a, P: Computation, C: MessageCombiner<P::Message>, M: MasterCompute>(
+pub(crate) fn step_input<'a, P: Computation, C: MessageCombiner<P::Message>, M: MasterCompute>(
     core: &'a Core<'_, P, C, M>,
     superstep: Superstep,
     attempt: u32,
@@ -116,18 +116,18 @@ pub(crate) fn is_little<P: Computation, C: MessageCombiner<P::Message>, M: Maste
     if core.old_logs(superstep).is_none() {
         return false;
     }
-    let mut looked_at = 0usize;
+    let mut dirty_ids = 0usize;
     for assignment in assignments {
         for part in assignment.parts.as_slice() {
-            looked_at = looked_at.saturating_add(most_looked_at(core, superstep, part));
+            dirty_ids = dirty_ids.saturating_add(most_dirty_ids(core, superstep, part));
         }
     }
-    looked_at <= LITTLE
+    dirty_ids <= LITTLE
 }
 
-/// At most how many vertices a step of a part beside the kept run looks at, where the two saw the same; the greatest
+/// At most how many vertices a step of a part against the kept run looks at, where the two saw the same; the greatest
 /// number where that isn't known.
-fn most_looked_at<P: Computation, C: MessageCombiner<P::Message>, M: MasterCompute>(
+fn most_dirty_ids<P: Computation, C: MessageCombiner<P::Message>, M: MasterCompute>(
     core: &Core<'_, P, C, M>,
     superstep: Superstep,
     part: &Part<P::Value, P::Message>,
@@ -135,7 +135,7 @@ fn most_looked_at<P: Computation, C: MessageCombiner<P::Message>, M: MasterCompu
     if !part.is_warm() {
         return usize::MAX;
     }
-    let mut most = part.differing_len();
+    let mut most = part.diverged_len();
     if let Some(before) = superstep.number().checked_sub(1) {
         for from in 0..core.limits().partitions() {
             let before = Superstep::new(before);
@@ -149,10 +149,10 @@ fn most_looked_at<P: Computation, C: MessageCombiner<P::Message>, M: MasterCompu
 }
 
 /// At how many targets a bundle differs from the kept run's; the greatest number where it doesn't tell.
-fn changed_targets<M: Plain>(sent: Option<&Logged<M>>) -> usize {
+fn changed_targets<M: Plain>(sent: Option<&LoggedBundle<M>>) -> usize {
     match sent {
         Some(
-            Logged {
+            LoggedBundle {
                 changed: Some(changed),
                 ..
             },

@@ -5,10 +5,10 @@ ghost use Rattle.std.specs.List.{range_with_len};
 ghost use Rattle.pg_checkpoint.specs.Shelf.{IsCounted, ShelfState};
 ghost use Rattle.pg_core.specs.Progress.{IsRight, Progress};
 ghost use Rattle.pg_graph.specs.Rows.{Rows};
-ghost use Rattle.pg_machine.specs.Machine.{is_allowed, is_step as step_test, steps_of};
+ghost use Rattle.pg_core_machine.specs.Machine.{is_allowed, is_step as step_test, steps_of};
 ghost use Rattle.pg_workers.specs.Losses.{Fated};
 ghost use Rattle.pg_workers.specs.Driven.{IsDriven, IsUnlost};
-ghost use Rattle.pg_workers.specs.Meaning.{job_in, meaning};
+ghost use Rattle.pg_workers.specs.Meaning.{job_of_meaning, meaning};
 ghost use Rattle.pg_workers.specs.Refused.{IsOfShelf, MayRefuse, is_failure};
 ghost use Rattle.pg_workers.specs.Running.{GoesOn, IsRunning, Keeps, MayEnd};
 
@@ -65,9 +65,9 @@ pub fn run_job<
         (S.state shelf.old).is_honest core.entry done.0.0 done.0.1 done.1) }
     ensures unlost { let own = meaning P.program C.combining M.master P.Value.PartialEq.eq P.Message.PartialEq.eq
         P.Value.is_value P.Value.coding P.Message.is_value P.Message.coding in
-        IfOk result (λ done. (kept : Option Rows) → IsRight (job_in own core.entry) kept core.entry
+        IfOk result (λ done. (kept : Option Rows) → IsRight (job_of_meaning own core.entry) kept core.entry
         → done.1.losses ≡ [] → IsUnlost own kept core.entry done.0.0 done.0.1 done.1) }
-    ensures alone { IfOk result (λ done. core.entry.limits.workers ≡ 1 → done.1.losses ≡ []) }
+    ensures cold { IfOk result (λ done. core.entry.limits.workers ≡ 1 → done.1.losses ≡ []) }
     ensures refused { IfErr result (MayRefuse (F.fated fate.now) core.entry.limits) }
     ensures counted { IsCounted (S.state shelf.old) (is_failure result) (S.state shelf.new) }
 {
@@ -170,9 +170,10 @@ impl<'a, P: Computation, C: MessageCombiner<P::Message>, M: MasterCompute> Coord
         ensures unlost { let own = meaning P.program C.combining M.master P.Value.PartialEq.eq P.Message.PartialEq.eq
             P.Value.is_value P.Value.coding P.Message.is_value P.Message.coding in
             IfOk result (λ done. (fated : Fated) (first : Progress P C M P.Value P.Message) (shelf : ShelfState)
-            → IsRunning own fated first shelf self.entry → (kept : Option Rows) → IsRight (job_in own first) kept first
+            → IsRunning own fated first shelf self.entry → (kept : Option Rows)
+            → IsRight (job_of_meaning own first) kept first
             → done.1.losses ≡ [] → IsUnlost own kept first done.0.0 done.0.1 done.1) }
-        ensures alone { let own = meaning P.program C.combining M.master P.Value.PartialEq.eq P.Message.PartialEq.eq
+        ensures cold { let own = meaning P.program C.combining M.master P.Value.PartialEq.eq P.Message.PartialEq.eq
             P.Value.is_value P.Value.coding P.Message.is_value P.Message.coding in
             IfOk result (λ done. (fated : Fated) (first : Progress P C M P.Value P.Message) (shelf : ShelfState)
             → IsRunning own fated first shelf self.entry → first.limits.workers ≡ 1 → done.1.losses ≡ []) }

@@ -16,5 +16,5 @@ pub use counts::{Counts, Loss};
 pub use fault::RefreshFault;
 pub use job::run_job;
 pub use pg_checkpoint::{MemShelf, Shelf, ShelfFault};
-pub use pg_core::{Core, Finished, Limits, Spent, Traces};
+pub use pg_core::{Core, DeferredDrop, Finished, Limits, Traces};
 pub use pg_workers_rounds::{Cause, Done, Fate, Gate, NoFate, NoGate, Round, work};

@@ -3,16 +3,16 @@ ghost use Rattle.std.specs.Prelude.{◌≡◌, ◌≤◌, ◌<◌, ◌+◌, ◌^
 ghost use Rattle.pg_checkpoint.specs.Shelf.{IsCounted, ShelfState};
 ghost use Rattle.pg_core.specs.Progress.{IsNext, IsRight, Progress};
 ghost use Rattle.pg_graph.specs.Rows.{Rows};
-ghost use Rattle.pg_machine.specs.Machine.{is_allowed};
+ghost use Rattle.pg_core_machine.specs.Machine.{is_allowed};
 ghost use Rattle.pg_workers.specs.Losses.{Fated, Trusts};
-ghost use Rattle.pg_workers.specs.Meaning.{job_in, meaning};
+ghost use Rattle.pg_workers.specs.Meaning.{job_of_meaning, meaning};
 ghost use Rattle.pg_workers.specs.Refused.{is_failure};
 ghost use Rattle.pg_workers.specs.Rounds.{AreAssigned, AreNext, AreRecorded, AreReturned, AreStepsRight, IsStepRight};
 ghost use Rattle.pg_workers.specs.Running.{Happens, IsRunning, Keeps, MayEnd};
 ghost use Rattle.pg_workers_rounds.specs.Work.{AreAt};
 
 use crate::RefreshFault;
-use crate::assigning::{assign, is_little, lent};
+use crate::assigning::{assign, is_little, step_input};
 use crate::coordinator::Coordinator;
 use crate::outcomes::{RoundResult, collected, taken};
 use pg_checkpoint::Shelf;
@@ -82,7 +82,7 @@ impl<'a, P: Computation, C: MessageCombiner<P::Message>, M: MasterCompute> Coord
             → AreReturned own (F.fated fate.now) superstep (length self.now.losses) before outcomes.items) }
     {
         let (program, combiner) = (self.core.program(), self.core.combiner());
-        let round = lent(&self.core, superstep, self.losses.len() as u32);
+        let round = step_input(&self.core, superstep, self.losses.len() as u32);
         if is_little(&self.core, superstep, assignments.as_slice()) {
             in_turn(alloc, assignments, &round, program, combiner, fate, gate)
         } else {
@@ -113,7 +113,7 @@ impl<'a, P: Computation, C: MessageCombiner<P::Message>, M: MasterCompute> Coord
             P.Value.is_value P.Value.coding P.Message.is_value P.Message.coding in
             OnOk result ((fated : Fated) (first : Progress P C M P.Value P.Message) (shelf : ShelfState)
             → IsRunning own fated first shelf self.old
-            → ((kept : Option Rows) → IsRight (job_in own first) kept first
+            → ((kept : Option Rows) → IsRight (job_of_meaning own first) kept first
             → Trusts shelf.is_honest self.old.core.history → AreStepsRight own kept self.old.core steps.items)
             → IsRunning own fated first shelf self.new) }
     {
@@ -142,7 +142,7 @@ impl<'a, P: Computation, C: MessageCombiner<P::Message>, M: MasterCompute> Coord
             P.Value.is_value P.Value.coding P.Message.is_value P.Message.coding in
             OnOk result ((fated : Fated) (first : Progress P C M P.Value P.Message) (shelf : ShelfState)
             → IsRunning own fated first shelf self.old
-            → ((kept : Option Rows) → IsRight (job_in own first) kept first
+            → ((kept : Option Rows) → IsRight (job_of_meaning own first) kept first
             → Trusts shelf.is_honest self.old.core.history → IsStepRight own kept self.old.core partition done)
             → IsRunning own fated first shelf self.new) }
     {

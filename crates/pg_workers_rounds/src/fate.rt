@@ -5,12 +5,12 @@ use pg_graph::{PartitionId, Superstep, WorkerId};
 
 /// Says which workers fall. The same questions have the same answers.
 pub trait Fate: Sync {
-    /// Whether a worker falls after it stepped a partition from a superstep, in a round before which so many losses were
-    /// recorded: superstep, losses, worker, partition.
+    /// Whether a worker falls after it stepped a partition from a superstep, in a round before which so many losses
+    /// were recorded: superstep, losses, worker, partition.
     ghost fated: { Self → ℕ → ℕ → ℕ → ℕ → Bool };
 
-    /// Whether the worker falls once it has stepped this partition from the superstep. `attempt` is how many losses were
-    /// recorded before the round. It is called by the worker's own thread.
+    /// Whether the worker falls once it has stepped this partition from the superstep. `attempt` is how many losses
+    /// were recorded before the round. It is called by the worker's own thread.
     fn falls(
         &self,
         superstep: Superstep,

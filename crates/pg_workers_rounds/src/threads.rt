@@ -48,12 +48,12 @@ fn carry_out<P: Computation, C: MessageCombiner<P::Message>, F: Fate, G: Gate>(
     Outcome { worker, done }
 }
 
-/// A round in threads: each worker passes the gate and does its work, all at the same time, and the outcomes stand in the
-/// order of the assignments. The worker that the round names is not asked for: each has its own.
+/// A round in threads: each worker passes the gate and does its work, all at the same time, and the outcomes stand in
+/// the order of the assignments. The worker that the round names is not asked for: each has its own.
 ///
 /// For n assignments n - 1 threads are started, and the caller's own thread does the work of one worker; a worker for
-/// which no thread can be made comes after another one in the same thread. It costs that and the longest work; the threads
-/// cost some 20 to 100 microseconds where the processors are free, and longer where they are busy.
+/// which no thread can be made comes after another one in the same thread. It costs that and the longest work; the
+/// threads cost some 20 to 100 microseconds where the processors are free, and longer where they are busy.
 ///
 /// # Errors
 ///
@@ -88,8 +88,8 @@ pub fn in_threads<
     thread::map_vec(rt, assignments, &body)
 }
 
-/// The same round in the caller's own thread: each worker passes the gate and does its work, one after another. It costs
-/// the work of all, and nothing for threads.
+/// The same round in the caller's own thread: each worker passes the gate and does its work, one after another. It
+/// costs the work of all, and nothing for threads.
 ///
 /// # Errors
 ///

@@ -17,8 +17,8 @@ pub struct Done<V, M: Plain> {
     pub calls: u64,
 }
 
-/// A worker's work in a round: it steps each of its parts once, in order, each with a meter of its own, and asks the fate
-/// after each whether it falls.
+/// A worker's work in a round: it steps each of its parts once, in order, each with a meter of its own, and asks the
+/// fate after each whether it falls.
 ///
 /// Costs what the steps cost, and a question to the fate for each.
 ///
@@ -70,7 +70,7 @@ fn step_one<P: Computation, C: MessageCombiner<P::Message>>(
     combiner: &C,
 ) -> Result<Done<P::Value, P::Message>, Lost>
     requires declared { has_places (P.program program.now).declared (length round.now.visible.values) ≡ true }
-    requires counts { part.course.place + 1 < 2 ^ 32 }
+    requires counts { part.part_run.place + 1 < 2 ^ 32 }
     ensures { IfOk result (λ done. IsDone P.Value.PartialEq.eq P.Message.PartialEq.eq
         (P.program program.now) (C.combining combiner.now) round.now part done) }
 {

@@ -1,9 +1,9 @@
 -- The definitions that a program, its master, its service and their contracts name, handed on from below.
 
 -- the graph and its edits
-pub use Rattle.pg_edits.specs.EdgeList.{EdgeList, weight_at, with_edge, without_edge}
-pub use Rattle.pg_edits.specs.declared.edit.Edit.{Edit}
-pub use Rattle.pg_edits.specs.declared.edit.EditFault.{EditFault}
+pub use Rattle.pg_graph_rows.specs.EdgeList.{EdgeList, weight_at, with_edge, without_edge}
+pub use Rattle.pg_graph_rows.specs.declared.edit.Edit.{Edit}
+pub use Rattle.pg_graph_rows.specs.declared.edit.EditFault.{EditFault}
 pub use Rattle.pg_graph.specs.Edit.{batch_edited}
 pub use Rattle.pg_graph.specs.Rows.{HasRisingIds, Rows, edge_count, row_at, vertex_count}
 pub use Rattle.pg_graph.specs.declared.missing.Missing.{Missing}
@@ -41,13 +41,13 @@ pub use Rattle.pg_global.specs.declared.combiner.AnyCombiner.{AnyCombiner}
 pub use Rattle.pg_global.specs.declared.combiner.AnyCombiner.TheVariants.{Max, Min, NoCombiner, Sum}
 pub use Rattle.pg_global.specs.declared.registry.RegisterFault.{RegisterFault}
 pub use Rattle.pg_global.specs.declared.registry.Registration.{Registration}
-pub use Rattle.pg_ready.specs.Ready.{master_of, program_of}
+pub use Rattle.pregeld_programs.specs.Ready.{master_of, program_of}
 -- the plain runner and the service
 pub use Rattle.pg_scratch.specs.declared.runner.RunFault.{RunFault}
 pub use Rattle.pg_service.specs.Handed.{Answered, Beginning, Book, HaveRisingIds, aggregate_of, last_of, value_of}
 pub use Rattle.pg_service.specs.Handed.{IsCounted, Limits, Loss, mem_state}
 pub use Rattle.pg_service.specs.Handed.{MayRefuse, RefreshFault, is_failure, refusal_number}
-pub use Rattle.pg_service.specs.Job.{CanRun, ServiceJob, job_meant, registered_by}
+pub use Rattle.pg_service.specs.Job.{CanRun, ServiceJob, job_of_service, registered_by}
 pub use Rattle.pg_service.specs.Led.{EditLeadsOn, Follows, Led, LeadsOn, LooksAtAnswers}
 pub use Rattle.pg_service.specs.Service.{MayReport, RefusesEdition, ServiceState, fresh, next_graph}
 pub use Rattle.pg_service.specs.Service.{calls_of, check_of, entry_of, with_entry}

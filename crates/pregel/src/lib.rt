@@ -58,10 +58,12 @@ pub use pg_graph::{
 pub use pg_import::{ImportFault, ImportKind, Line, into_batch, read_csv, read_list};
 pub use pg_model::{Declared, Ending, Place, Run, Sequence, View, Visible};
 pub use pg_program::{Coded, Computation, Cx, EdgeRoom, Meter, Plain, Vertex, value_at};
-pub use pg_ready::{Cc, Indegree, MaxValue, Pagerank, Peel, ReadyMaster, ReadyProgram, Sssp};
 pub use pg_scratch::{RunFault, run};
 pub use pg_service::{
     AnswerReader, Answers, Cause, Check, Fate, Gate, Limits, Look, Loss, MemShelf, NoFate, NoGate,
     RefreshFault, Report, Service, Shelf, ShelfFault, Told, ending_word, looks_are_answers,
     publications_are_answers, same,
+};
+pub use pregeld_programs::{
+    Cc, Indegree, MaxValue, Pagerank, Peel, ReadyMaster, ReadyProgram, Sssp,
 };

@@ -4,9 +4,9 @@ use Rattle.std.specs.Prelude.{false, IsSome}
 use Rattle.pg_global.specs.Master.{is_registered}
 use Rattle.pg_global.specs.Registry.{first_refusal}
 use Rattle.pg_global.specs.declared.registry.RegisterFault.{RegisterFault}
-use Rattle.pg_ready.proofs.Lawful.{all_registered, lawful}
-use Rattle.pg_ready.specs.Ready.{master_of, program_of}
-use Rattle.pg_ready.specs.declared.ready.ReadyProgram.{ReadyProgram}
+use Rattle.pregeld_programs.proofs.Lawful.{all_registered, lawful}
+use Rattle.pregeld_programs.specs.Ready.{master_of, program_of}
+use Rattle.pregeld_programs.specs.declared.ready.ReadyProgram.{ReadyProgram}
 
 pub registers : (p : ReadyProgram) → IsSome (first_refusal [] (master_of p).registrations) → ⊥
 registers p refused =

@@ -3,10 +3,10 @@ use Rattle.std.proofs.Common.{◌≡◌, ◌≢◌, ℕ, ◌+◌, List, [], ◌�
 use Rattle.std.specs.Io.KnownBytes.{Appends}
 use Rattle.pg_import.specs.Text.{raw_lines}
 use Rattle.pregeld.specs.Job.{ReadyJob, ReadyState}
-use Rattle.pg_command.specs.Command.{command_of}
-use Rattle.pregeld.specs.Notes.{Held, Noted}
+use Rattle.pregeld_commands.specs.Command.{command_of}
+use Rattle.pregeld.specs.SessionState.{ServiceWithSession, Noted}
 use Rattle.pregeld.specs.Reading.{lines_left}
-use Rattle.pregeld.specs.Keeping.{AnswersLine, AreNotes, FailsLine, Keeps}
+use Rattle.pregeld.specs.Keeping.{AnswersLine, AreSessionState, FailsLine, Keeps}
 use Rattle.pregeld.specs.Session.{Answer, Answers, BreaksOff, Place, Runs, Serves, State, after, first_place, opened, stop, go}
 use Rattle.pregeld.specs.declared.session.ServeFault.{ServeFault}
 use Rattle.pregeld.specs.declared.session.ServeFault.TheVariants.{Write}
@@ -34,37 +34,37 @@ one_more own first text number state line lines answer so_far answers = record {
 }
 
 -- a service, what was read and what was written, in the midst of a session
-pub record Midway (input : List ℕ) (old : ReadyState) (now : Held) (number : ℕ) (left : Option (List (List ℕ))) (before written : Option (List ℕ)) :
+pub record Midway (input : List ℕ) (old : ReadyState) (now : ServiceWithSession) (number : ℕ) (left : Option (List (List ℕ))) (before written : Option (List ℕ)) :
     Type 0 where
   pub text : List ℕ
   pub state : State
   pub lines : List (List ℕ)
   pub so_far : SoFar old.job (first_place old input) (record { number = number; state = state; lines = lines }) text
   pub service_is : now.service ≡ after old state
-  pub notes_are : AreNotes now.notes state
+  pub session_state_are : AreSessionState now.session_state state
   pub left_is : left ≡ Some lines
   pub wrote : Appends before written text
 
-pub at_first : (input : List ℕ) (known : Option (List ℕ)) (service : ReadyState) (notes : Noted) (written : Option (List ℕ)) → known ≡ Some input
-    → notes ≡ record { pending = []; report = None }
-    → Midway input service (record { service = service; notes = notes }) 0 (lines_left known) written written
-at_first input known service notes written known_is none = record {
+pub at_first : (input : List ℕ) (known : Option (List ℕ)) (service : ReadyState) (session_state : Noted) (written : Option (List ℕ)) → known ≡ Some input
+    → session_state ≡ record { pending = []; report = None }
+    → Midway input service (record { service = service; session_state = session_state }) 0 (lines_left known) written written
+at_first input known service session_state written known_is none = record {
   text = [];
   state = opened service;
   lines = raw_lines input;
   so_far = not_yet service.job (first_place service input);
   service_is = opened_is service;
-  notes_are = record { pending_is = ap (λ n. n.pending) none ∙ sym stored_none; report_is = ap (λ n. n.report) none };
+  session_state_are = record { pending_is = ap (λ n. n.pending) none ∙ sym stored_none; report_is = ap (λ n. n.report) none };
   left_is = ap lines_left known_is;
   wrote = nothing_written written;
 }
 
 -- the service of a session keeps what the session has come to
-pub keeps_midway : (old : ReadyState) (now : Held) (state : State) → now.service ≡ after old state → AreNotes now.notes state → Keeps now state
-keeps_midway old now state now_is are = record { service_is = subst (λ s. s ≡ after s state) (sym now_is) refl; notes_are = are }
+pub keeps_midway : (old : ReadyState) (now : ServiceWithSession) (state : State) → now.service ≡ after old state → AreSessionState now.session_state state → Keeps now state
+keeps_midway old now state now_is are = record { service_is = subst (λ s. s ≡ after s state) (sym now_is) refl; session_state_are = are }
 
 -- where no line is left, the whole input was answered
-pub at_end : (input : List ℕ) (old : ReadyState) (now : Held) (number : ℕ) (left : Option (List (List ℕ))) (before written : Option (List ℕ))
+pub at_end : (input : List ℕ) (old : ReadyState) (now : ServiceWithSession) (number : ℕ) (left : Option (List (List ℕ))) (before written : Option (List ℕ))
     (m : Midway input old now number left before written)
     → m.lines ≡ [] → Serves input old now.service before written
 at_end input old now number left before written m no_more = record {
@@ -79,7 +79,7 @@ at_end input old now number left before written m no_more = record {
 }
 
 -- a session that breaks off between two lines
-pub between_lines : (fault : ServeFault) (input : List ℕ) (old : ReadyState) (now : Held) (number : ℕ) (left : Option (List (List ℕ)))
+pub between_lines : (fault : ServeFault) (input : List ℕ) (old : ReadyState) (now : ServiceWithSession) (number : ℕ) (left : Option (List (List ℕ)))
     (before written : Option (List ℕ))
     → fault ≢ Write → Midway input old now number left before written → BreaksOff fault input old now.service before written
 between_lines fault input old now number left before written other m = record {
@@ -96,7 +96,7 @@ between_lines fault input old now number left before written other m = record {
 module _ (input : List ℕ) (old : ReadyState) (number : ℕ) (state : State) (line : List ℕ) (lines : List (List ℕ)) (text : List ℕ)
     (so_far : SoFar old.job (first_place old input) (record { number = number; state = state; lines = line ∷ lines }) text) where
   -- one more line is answered
-  line_after : (now : ReadyState) (new : Held) (reached : ℕ) (left : Option (List (List ℕ))) (before written more : Option (List ℕ)) → now
+  line_after : (now : ReadyState) (new : ServiceWithSession) (reached : ℕ) (left : Option (List (List ℕ))) (before written more : Option (List ℕ)) → now
       ≡ after old state → Appends before written text
       → AnswersLine line (record { number = number + 1; state = state; lines = lines }) (after old state) new reached left written more
       → Midway input old new reached left before more
@@ -108,7 +108,7 @@ module _ (input : List ℕ) (old : ReadyState) (number : ℕ) (state : State) (l
         (text ++ a.answer.text)) a.number_is
         (one_more old.job (first_place old input) text number state line lines a.answer so_far a.answers);
     service_is = a.service_is;
-    notes_are = a.notes_are;
+    session_state_are = a.session_state_are;
     left_is = a.left_is;
     wrote = written_then before written more text a.answer.text wrote a.wrote;
   }
@@ -146,7 +146,7 @@ pub if_known : {P : List ℕ → Type 0} (known : Option (List ℕ)) → ((input
 if_known None h = tt
 if_known (Some input) h = h input refl
 
-module _ (input : List ℕ) (old : ReadyState) (now : Held) (number : ℕ) (left : Option (List (List ℕ))) (before written : Option (List ℕ))
+module _ (input : List ℕ) (old : ReadyState) (now : ServiceWithSession) (number : ℕ) (left : Option (List (List ℕ))) (before written : Option (List ℕ))
     (m : Midway input old now number left before written)
     (line : List ℕ) (rest : List (List ℕ)) (first : m.lines ≡ line ∷ rest) where
   abbrev here : Place
@@ -156,7 +156,7 @@ module _ (input : List ℕ) (old : ReadyState) (now : Held) (number : ℕ) (left
   so_far_at = subst (λ ls. SoFar old.job (first_place old input) (record { number = number; state = m.state; lines = ls }) m.text) first m.so_far
 
   -- a line that is answered leads on
-  pub goes_on : (new : Held) (reached : ℕ) (left' : Option (List (List ℕ))) (more : Option (List ℕ)) → AnswersLine line here now.service new reached
+  pub goes_on : (new : ServiceWithSession) (reached : ℕ) (left' : Option (List (List ℕ))) (more : Option (List ℕ)) → AnswersLine line here now.service new reached
       left' written more → Midway input old new reached left' before more
   goes_on new reached left' more a =
       line_after input old number m.state line rest m.text so_far_at now.service new reached left' before written more m.service_is m.wrote

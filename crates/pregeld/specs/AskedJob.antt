@@ -1,7 +1,7 @@
 -- The job that the options of the command line ask for.
 use Rattle.pg_service.specs.Handed.{Limits}
-use Rattle.pg_options.specs.Arguments.{program_in}
-use Rattle.pg_options.specs.declared.options.Options.{Options}
+use Rattle.pregeld_args.specs.Arguments.{program_in}
+use Rattle.pregeld_args.specs.declared.options.Options.{Options}
 use Rattle.pregeld.specs.Job.{ReadyJob}
 
 -- the numbers of its runs
@@ -15,8 +15,8 @@ limits_in options = record {
   missing = options.missing;
 }
 
-abbrev pub job_in : Options → ReadyJob
-job_in options = record {
+abbrev pub job_of_options : Options → ReadyJob
+job_of_options options = record {
   program = program_in options.program options;
   combiner = options.combiner;
   master = record { program = program_in options.program options };

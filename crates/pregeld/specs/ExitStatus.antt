@@ -2,11 +2,11 @@
 use Rattle.std.specs.Prelude.{◌≡◌, ◌⊎◌, ℕ, List, Option, IfSome}
 use Rattle.std.specs.Io.KnownBytes.{Appends}
 use Rattle.clap.specs.Words.{Text}
-use Rattle.pg_options.specs.Arguments.{AreAtFault, AsksForHelp, AsksForRuns}
-use Rattle.pg_options.specs.declared.options.Options.{Options}
+use Rattle.pregeld_args.specs.Arguments.{AreAtFault, AsksForHelp, AsksForRuns}
+use Rattle.pregeld_args.specs.declared.options.Options.{Options}
 use Rattle.pg_service.specs.Handed.{Book}
 use Rattle.pg_service.specs.Service.{fresh}
-use Rattle.pregeld.specs.AskedJob.{job_in}
+use Rattle.pregeld.specs.AskedJob.{job_of_options}
 use Rattle.pregeld.specs.Job.{ReadyState}
 use Rattle.pregeld.specs.Session.{BreaksOff, Serves}
 use Rattle.pregeld.specs.declared.session.ServeFault.{ServeFault}
@@ -17,7 +17,7 @@ pub record ServesWords (words : List Text) (remaining before now : Option (List 
   pub options : Options
   pub asked : AsksForRuns words options
   pub served : IfSome remaining (λ input. (publisher : Book) × (left : ReadyState)
-      × Serves input (fresh (job_in options) publisher) left before now)
+      × Serves input (fresh (job_of_options options) publisher) left before now)
 
 -- a fault broke off a session of the job that the words ask for, where the bytes that there were
 -- are known
@@ -27,7 +27,7 @@ pub record BreaksOffWords (words : List Text)
   pub asked : AsksForRuns words options
   pub fault : ServeFault
   pub broken : IfSome remaining (λ input. (publisher : Book) × (left : ReadyState)
-      × BreaksOff fault input (fresh (job_in options) publisher) left before now)
+      × BreaksOff fault input (fresh (job_of_options options) publisher) left before now)
 
 -- a text was added to what was written, where that is known
 abbrev pub AddsText : Option (List ℕ) → Option (List ℕ) → Type 0

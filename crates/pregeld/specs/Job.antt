@@ -5,10 +5,10 @@ use Rattle.pg_global.specs.Master.{Master}
 use Rattle.pg_global.specs.Registry.{Registered}
 use Rattle.pg_global.specs.declared.combiner.AnyCombiner.{AnyCombiner}
 use Rattle.pg_model.specs.Job.{Job}
-use Rattle.pg_ready.specs.Ready.{master_of, program_of}
-use Rattle.pg_ready.specs.declared.ready.ReadyMaster.{ReadyMaster}
-use Rattle.pg_ready.specs.declared.ready.ReadyProgram.{ReadyProgram}
-use Rattle.pg_service.specs.Job.{ServiceJob, job_meant, registered_by}
+use Rattle.pregeld_programs.specs.Ready.{master_of, program_of}
+use Rattle.pregeld_programs.specs.declared.ready.ReadyMaster.{ReadyMaster}
+use Rattle.pregeld_programs.specs.declared.ready.ReadyProgram.{ReadyProgram}
+use Rattle.pg_service.specs.Job.{ServiceJob, job_of_service, registered_by}
 use Rattle.pg_service.specs.Service.{ServiceState}
 
 abbrev pub ReadyJob : Type 0
@@ -24,7 +24,7 @@ ready_master master = master_of master.program
 
 -- the job that it means
 abbrev pub ready_job : ReadyJob → Job ℤ ℤ
-ready_job own = job_meant program_of combining_of ready_master own
+ready_job own = job_of_service program_of combining_of ready_master own
 
 -- its aggregators, by name, in the order of their places
 abbrev pub ready_names : ReadyJob → Registered

@@ -4,23 +4,23 @@ use Rattle.std.specs.Prelude.{length, take, drop, Option, None, Some, Result}
 use Rattle.std.specs.List.{concat}
 use Rattle.std.specs.Ordering.{int_eq}
 use Rattle.std.specs.Io.KnownBytes.{Appends}
-use Rattle.pg_edits.specs.EditFault.{memory_fault}
-use Rattle.pg_edits.specs.declared.edit.Edit.{Edit}
+use Rattle.pg_graph_rows.specs.EditFault.{memory_fault}
+use Rattle.pg_graph_rows.specs.declared.edit.Edit.{Edit}
 use Rattle.pg_import.specs.Import.{no_memory}
 use Rattle.pg_import.specs.declared.line.ImportFault.{ImportFault}
 use Rattle.pg_import.specs.declared.line.Line.{Line}
 use Rattle.pregeld.specs.Job.{ReadyState, ready_job, ready_names}
-use Rattle.pg_command.specs.Command.{command_of}
-use Rattle.pregeld.specs.Notes.{Held, Noted, stored}
-use Rattle.pregeld.specs.Reply.{told_of}
+use Rattle.pregeld_commands.specs.Command.{command_of}
+use Rattle.pregeld.specs.SessionState.{ServiceWithSession, Noted, stored}
+use Rattle.pregeld.specs.Reply.{summary_of}
 use Rattle.pg_service.specs.Service.{IsTried, MayReport, check_of, entry_of, last_published, next_graph, with_entry}
 use Rattle.pg_service.specs.declared.report.Report.{Report}
 use Rattle.pg_service.specs.Handed.{RefreshFault, refusal_number}
 use Rattle.pregeld.specs.Session.{Answer, Answers, IsTriedOf, Place, State, after, answered}
-use Rattle.pregeld.specs.Session.{MayBeRefused, edges_of, edited, imported, nobody}
-use Rattle.pg_command.specs.declared.command.Command.{Command}
-use Rattle.pg_command.specs.declared.command.Form.{Form}
-use Rattle.pg_command.specs.declared.command.LineFault.{LineFault}
+use Rattle.pregeld.specs.Session.{MayBeRefused, edges_of, edited, imported, no_fate}
+use Rattle.pregeld_commands.specs.declared.command.Command.{Command}
+use Rattle.pregeld_commands.specs.declared.command.Form.{Form}
+use Rattle.pregeld_commands.specs.declared.command.LineFault.{LineFault}
 use Rattle.pregeld.specs.declared.reply.Reply.{Reply}
 use Rattle.pregeld.specs.declared.reply.Reply.TheVariants.{ImportRefused, BatchRefused, Refreshed}
 use Rattle.pregeld.specs.declared.reply.Reply.TheVariants.{RunRefused, Checked}
@@ -53,16 +53,16 @@ ImportsLines form n lines old (Some reply) new left =
     × (left ≡ Some (drop n lines))
 
 -- a refresh may be answered so and reported, or refused, and then no run is kept
-abbrev pub Refreshes : Held → Reply → Held → Type 0
+abbrev pub Refreshes : ServiceWithSession → Reply → ServiceWithSession → Type 0
 Refreshes old reply new =
     let service = old.service in
     let own = ready_job service.job in
     let entry = entry_of own (ready_names service.job) service.edition service.graph in
     ((report : Report)
-    × MayReport own int_eq int_eq nobody service.job.limits service.kept service.edition service.graph report
-    × (reply ≡ Refreshed (told_of report))
+    × MayReport own int_eq int_eq no_fate service.job.limits service.kept service.edition service.graph report
+    × (reply ≡ Refreshed (summary_of report))
     × (new.service ≡ record service { told = with_entry entry service.told; kept = Some service.graph })
-    × (new.notes ≡ record old.notes { report = Some report }))
+    × (new.session_state ≡ record old.session_state { report = Some report }))
     ⊎ ((fault : RefreshFault) × MayBeRefused service.job.limits fault
     × (reply ≡ RunRefused (refusal_number fault))
     × (new ≡ record old { service = record service { kept = None } }))
@@ -76,32 +76,32 @@ Checks old reply =
 -- ---- a service beside a session
 
 -- what is noted of a session: its pending edits, and its last report
-pub record AreNotes (notes : Noted) (state : State) : Type 0 where
-  pub pending_is : notes.pending ≡ stored state.pending
-  pub report_is : notes.report ≡ state.report
+pub record AreSessionState (session_state : Noted) (state : State) : Type 0 where
+  pub pending_is : session_state.pending ≡ stored state.pending
+  pub report_is : session_state.report ≡ state.report
 
 -- a service and its notes keep what a session has come to
-pub record Keeps (held : Held) (state : State) : Type 0 where
+pub record Keeps (held : ServiceWithSession) (state : State) : Type 0 where
   pub service_is : held.service ≡ after held.service state
-  pub notes_are : AreNotes held.notes state
+  pub session_state_are : AreSessionState held.session_state state
 
 -- a command was answered with this line, and the session goes on past the line of this number
 pub record RepliesTo (command : Result Command LineFault) (here : Place) (old : ReadyState)
-    (reply : Reply) (number : ℕ) (new : Held) (left : Option (List (List ℕ))) : Type 0 where
+    (reply : Reply) (number : ℕ) (new : ServiceWithSession) (left : Option (List (List ℕ))) : Type 0 where
   pub next : Place
   pub answers : Answers old.job command here (answered reply next)
   pub service_is : new.service ≡ after old next.state
-  pub notes_are : AreNotes new.notes next.state
+  pub session_state_are : AreSessionState new.session_state next.state
   pub number_is : next.number ≡ number
   pub left_is : left ≡ Some next.lines
 
 -- a line was answered so, and the session goes on there
-pub record AnswersLine (line : List ℕ) (here : Place) (old : ReadyState) (new : Held) (number : ℕ)
+pub record AnswersLine (line : List ℕ) (here : Place) (old : ReadyState) (new : ServiceWithSession) (number : ℕ)
     (left : Option (List (List ℕ))) (before now : Option (List ℕ)) : Type 0 where
   pub answer : Answer
   pub answers : Answers old.job (command_of line) here answer
   pub service_is : new.service ≡ after old answer.next.state
-  pub notes_are : AreNotes new.notes answer.next.state
+  pub session_state_are : AreSessionState new.session_state answer.next.state
   pub number_is : answer.next.number ≡ number
   pub left_is : left ≡ Some answer.next.lines
   pub wrote : Appends before now answer.text

@@ -2,7 +2,7 @@ pub mod AskedJob
 pub mod ExitStatus
 pub mod Job
 pub mod Keeping
-pub mod Notes
 pub mod Reading
 pub mod Reply
 pub mod Session
+pub mod SessionState

@@ -2,20 +2,20 @@
 use Rattle.std.specs.Prelude.{ℕ, ℤ, List, [], ◌∷◌, ◌++◌, length, flat_map, Option, None, Some}
 use Rattle.std.specs.Prelude.{decimal, codes}
 use Rattle.std.specs.Fmt.{signed_decimal}
-use Rattle.pg_edits.specs.EditKind as edit
+use Rattle.pg_graph_rows.specs.EditKind as edit
 use Rattle.pg_import.specs.ImportKind as import
 use Rattle.pg_service.specs.declared.report.Report.{Report}
-use Rattle.pg_command.specs.LineFault.{fault_number}
+use Rattle.pregeld_commands.specs.LineFault.{fault_number}
 use Rattle.pregeld.specs.declared.reply.Reply.{Reply}
 use Rattle.pregeld.specs.declared.reply.Reply.TheVariants.{Edition, ImportRefused, BatchRefused}
 use Rattle.pregeld.specs.declared.reply.Reply.TheVariants.{Refreshed, RunRefused, Checked}
 use Rattle.pregeld.specs.declared.reply.Reply.TheVariants.{Unpublished, Value, NoValue, End, Fault}
-use Rattle.pregeld.specs.declared.reply.Told.{Told}
+use Rattle.pregeld.specs.declared.reply.RefreshSummary.{RefreshSummary}
 use Rattle.pg_service.specs.Printed.{check_text, ending_name}
 
 -- what the answer to a refresh tells of its report
-abbrev pub told_of : Report → Told
-told_of report = record {
+abbrev pub summary_of : Report → RefreshSummary
+summary_of report = record {
   edition = report.edition;
   supersteps = report.supersteps;
   ending = report.ending;
@@ -24,8 +24,8 @@ told_of report = record {
 }
 
 -- the answer to a refresh, without its line feed
-unfoldable pub told_text : Told → List ℕ
-told_text told =
+unfoldable pub summary_text : RefreshSummary → List ℕ
+summary_text told =
     codes "refreshed edition " ++ (decimal told.edition
     ++ (codes " supersteps " ++ (decimal told.supersteps
     ++ (codes " ending " ++ (ending_name told.ending
@@ -41,7 +41,7 @@ text_of (ImportRefused fault) =
 text_of (BatchRefused fault) =
     codes "refused " ++ decimal (edit.number_of fault.kind)
     ++ codes " position " ++ decimal fault.position
-text_of (Refreshed told) = told_text told
+text_of (Refreshed told) = summary_text told
 text_of (RunRefused number) = codes "refused " ++ decimal number
 text_of (Checked check) = check_text check
 text_of Unpublished = codes "unpublished"

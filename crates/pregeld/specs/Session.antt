@@ -5,10 +5,10 @@ use Rattle.std.specs.Prelude.{Ok, Err}
 use Rattle.std.specs.Io.KnownBytes.{Appends}
 use Rattle.std.specs.List.{concat}
 use Rattle.std.specs.Ordering.{int_eq}
-use Rattle.pg_edits.specs.EditFault.{memory_fault}
+use Rattle.pg_graph_rows.specs.EditFault.{memory_fault}
 use Rattle.pg_graph.specs.Rows.{Rows}
-use Rattle.pg_edits.specs.declared.edit.Edit.{Edit as OneEdit}
-use Rattle.pg_edits.specs.declared.edit.EditFault.{EditFault}
+use Rattle.pg_graph_rows.specs.declared.edit.Edit.{Edit as OneEdit}
+use Rattle.pg_graph_rows.specs.declared.edit.EditFault.{EditFault}
 use Rattle.pg_import.specs.Batch.{batch_of}
 use Rattle.pg_import.specs.Comma.{csv_of}
 use Rattle.pg_import.specs.Import.{list_of, no_memory}
@@ -18,27 +18,28 @@ use Rattle.pg_global.specs.Registry.{Registered}
 use Rattle.pg_model.specs.Publications.{Publication}
 use Rattle.pg_import.specs.Text.{raw_lines}
 use Rattle.pregeld.specs.Job.{ReadyJob, ReadyState, ready_job, ready_names}
-use Rattle.pg_command.specs.Command.{command_of}
-use Rattle.pregeld.specs.Reply.{line_of_aggregate, line_of_reply, told_of, values_text}
+use Rattle.pregeld_commands.specs.Command.{command_of}
+use Rattle.pregeld.specs.Reply.{line_of_aggregate, line_of_reply, summary_of, values_text}
 use Rattle.pg_service.specs.Printed.{json_text}
 use Rattle.pg_service.specs.Service.{IsTried, check_of, entry_of, last_published, next_graph}
 use Rattle.pg_service.specs.Service.{MayReport, report_of}
-use Rattle.pg_command.specs.declared.command.Command.{Command}
-use Rattle.pg_command.specs.declared.command.Command.TheVariants.{Nothing, Edit, Act, Ask}
-use Rattle.pg_command.specs.declared.command.Action.{Action}
-use Rattle.pg_command.specs.declared.command.Action.TheVariants.{Commit, Import, Refresh, Recompute}
-use Rattle.pg_command.specs.declared.command.Query.{Query}
-use Rattle.pg_command.specs.declared.command.Query.TheVariants.{Aggregate, Dump, Get, Reported}
-use Rattle.pg_command.specs.declared.command.Form.{Form}
-use Rattle.pg_command.specs.declared.command.Form.TheVariants.{List as ListForm, Csv}
-use Rattle.pg_command.specs.declared.command.LineFault.{LineFault}
-use Rattle.pg_command.specs.declared.command.LineFault.TheVariants.{CutShort, EditsPending}
+use Rattle.pregeld_commands.specs.declared.command.Command.{Command}
+use Rattle.pregeld_commands.specs.declared.command.Command.TheVariants.{Nothing, Edit, Act, Ask}
+use Rattle.pregeld_commands.specs.declared.command.Action.{Action}
+use Rattle.pregeld_commands.specs.declared.command.Action.TheVariants.{Commit, Import, Refresh, Recompute}
+use Rattle.pregeld_commands.specs.declared.command.Query.{Query}
+use Rattle.pregeld_commands.specs.declared.command.Query.TheVariants.{Aggregate, Dump, Get, Reported}
+use Rattle.pregeld_commands.specs.declared.command.Form.{Form}
+use Rattle.pregeld_commands.specs.declared.command.Form.TheVariants.{List as ListForm, Csv}
+use Rattle.pregeld_commands.specs.declared.command.LineFault.{LineFault}
+use Rattle.pregeld_commands.specs.declared.command.LineFault.TheVariants.{CutShort, EditsPending}
 use Rattle.pregeld.specs.declared.reply.Reply.{Reply}
 use Rattle.pregeld.specs.declared.reply.Reply.TheVariants.{Edition, ImportRefused, BatchRefused}
 use Rattle.pregeld.specs.declared.reply.Reply.TheVariants.{Refreshed, RunRefused, Checked}
 use Rattle.pregeld.specs.declared.reply.Reply.TheVariants.{Unpublished, Value, NoValue, Fault}
 use Rattle.pg_service.specs.declared.report.Report.{Report}
-use Rattle.pg_service.specs.Handed.{Answered, Limits, MayRefuse, RefreshFault, aggregate_of, is_failure, refusal_number, value_of}
+use Rattle.pg_service.specs.Handed.{Answered, Limits, MayRefuse, RefreshFault, aggregate_of, is_failure, refusal_number}
+use Rattle.pg_service.specs.Handed.{value_of}
 use Rattle.pregeld.specs.declared.session.ServeFault.{ServeFault}
 use Rattle.pregeld.specs.declared.session.ServeFault.TheVariants.{Write}
 
@@ -191,12 +192,12 @@ query_text own (Aggregate name) published report =
 query_text own Reported published report = report_line report
 
 -- nobody falls
-abbrev pub nobody : ℕ → ℕ → ℕ → ℕ → Bool
-nobody superstep attempt worker partition = false
+abbrev pub no_fate : ℕ → ℕ → ℕ → ℕ → Bool
+no_fate superstep attempt worker partition = false
 
 -- why a refresh may be refused: not by a device, since its checkpoints stay in memory
 abbrev pub MayBeRefused : Limits → RefreshFault → Type 0
-MayBeRefused limits fault = (is_failure {X = Report} (Err fault) ≡ false) × MayRefuse nobody limits fault
+MayBeRefused limits fault = (is_failure {X = Report} (Err fault) ≡ false) × MayRefuse no_fate limits fault
 
 module _ (own : ReadyJob) where
   -- the run on the graph as it stands is published and reported so, and is the one that the next may reuse
@@ -204,7 +205,7 @@ module _ (own : ReadyJob) where
   refresh_answer report place =
       let state = place.state in
       let entry = entry_of (ready_job own) (ready_names own) state.edition state.graph in
-      answered (Refreshed (told_of report)) (record place {
+      answered (Refreshed (summary_of report)) (record place {
         state = record state {
           publications = state.publications ++ entry ∷ [];
           report = Some report;
@@ -219,7 +220,7 @@ module _ (own : ReadyJob) where
   -- the reports that a refresh may give: by no fate anybody falls
   abbrev pub MayReportAt : State → Report → Type 0
   MayReportAt state report =
-      MayReport (ready_job own) int_eq int_eq nobody own.limits state.kept state.edition state.graph report
+      MayReport (ready_job own) int_eq int_eq no_fate own.limits state.kept state.edition state.graph report
 
   -- what is done, and what it is answered
   unfoldable pub action_answer : Action → Place → Answer

@@ -146,14 +146,14 @@ fn take_line<R: BufRead>(reader: &mut R, text: &mut Vec<u8>) -> Result<Block, Se
         Ok(0) => Ok(Block::CutShort),
         Ok(_) => Ok(Block::Whole),
         Err(error) => match error.kind() {
-            io::ErrorKind::OutOfMemory => set_aside(reader, &text[before..]),
+            io::ErrorKind::OutOfMemory => skip_block(reader, &text[before..]),
             _ => Err(ServeFault::Read),
         },
     }
 }
 
 /// Sets aside the rest of a line of which `front` has been read.
-fn set_aside<R: BufRead>(reader: &mut R, front: &[u8]) -> Result<Block, ServeFault>
+fn skip_block<R: BufRead>(reader: &mut R, front: &[u8]) -> Result<Block, ServeFault>
     ensures ok { IfOk result (λ block. (rest old new : List ℕ)
         → R.remaining reader.old ≡ Some rest → StopsAt front.now 10
         → TakesLines 1 block (raw_lines (front.now ++ rest)) old new

@@ -1,7 +1,7 @@
 //! Commands that are answered by one line, carried out.
 ghost use Rattle.std.specs.Prelude.{◌≡◌, ◌≢◌, [], Ok, IfOk, IfErr};
 ghost use Rattle.pg_import.specs.Import.{Gives};
-ghost use Rattle.pregeld.specs.Notes.{with_notes};
+ghost use Rattle.pregeld.specs.SessionState.{with_session_state};
 ghost use Rattle.pregeld.specs.Reading.{IfLines};
 ghost use Rattle.pregeld.specs.Keeping.{Checks, Edits, Imports, ImportsLines, Keeps};
 ghost use Rattle.pregeld.specs.Reading.{lines_left};
@@ -9,13 +9,13 @@ ghost use Rattle.pregeld.specs.Keeping.{Refreshes, RepliesTo};
 ghost use Rattle.pregeld.specs.Session.{State, edges_of, place_at};
 
 use crate::block::{Block, skip_lines, take_block};
-use crate::notes::Notes;
-use crate::reply::{Reply, Told};
+use crate::reply::{RefreshSummary, Reply};
+use crate::session_state::SessionState;
 use crate::{ReadyService, ServeFault};
-use pg_command::{Action, Command, Form, LineFault};
 use pg_graph::Batch;
 use pg_import::{ImportFault, Line, into_batch, read_csv, read_list};
 use pg_service::{MemShelf, NoFate, NoGate};
+use pregeld_commands::{Action, Command, Form, LineFault};
 use std::alloc::Global;
 use std::io::BufRead;
 use std::sync::Wait;
@@ -29,38 +29,38 @@ const NO_MEMORY: u8 = 1;
 /// # Errors
 ///
 /// A reader that fails, or has 2^64 lines; then nothing was done.
-pub(crate) fn carry_out<H: Threads + Wait + Sync, R: BufRead>(
+pub(crate) fn run_action<H: Threads + Wait + Sync, R: BufRead>(
     rt: &H,
     alloc: Global,
     number: u64,
     action: Action,
     reader: &mut R,
     service: &mut ReadyService,
-    notes: &mut Notes,
+    session_state: &mut SessionState,
 ) -> Result<(Reply, u64), ServeFault>
-    ensures ok { IfOk result (λ r. (state : State) → Keeps (with_notes service.old notes.old) state
+    ensures ok { IfOk result (λ r. (state : State) → Keeps (with_session_state service.old session_state.old) state
         → IfLines (R.remaining reader.old) (λ lines.
         RepliesTo (Ok (Command.Act action)) (place_at number state lines) service.old r.0 r.1
-        (with_notes service.new notes.new) (lines_left (R.remaining reader.new)))) }
+        (with_session_state service.new session_state.new) (lines_left (R.remaining reader.new)))) }
     ensures err { IfErr result (λ fault. (fault ≢ ServeFault.Write) × (service.new ≡ service.old)) }
 {
     match action {
-        Action::Commit => Ok((commit(alloc, service, notes), number)),
-        Action::Refresh => Ok((refresh(rt, alloc, service, notes), number)),
+        Action::Commit => Ok((commit(alloc, service, session_state), number)),
+        Action::Refresh => Ok((refresh(rt, alloc, service, session_state), number)),
         Action::Recompute => Ok((check(alloc, service), number)),
         Action::Import(form, lines) => {
-            import(alloc, number, form, lines, reader, service, notes)
+            import(alloc, number, form, lines, reader, service, session_state)
         }
     }
 }
 
 /// Applies the pending edits as one batch. None is pending afterwards.
-fn commit(alloc: Global, service: &mut ReadyService, notes: &mut Notes) -> Reply
-    ensures edits { Edits notes.old.pending service.old result service.new }
-    ensures emptied { notes.new ≡ record notes.old { pending = [] } }
+fn commit(alloc: Global, service: &mut ReadyService, session_state: &mut SessionState) -> Reply
+    ensures edits { Edits session_state.old.pending service.old result service.new }
+    ensures emptied { session_state.new ≡ record session_state.old { pending = [] } }
 {
-    let reply = apply(alloc, notes.pending(), service);
-    notes.empty(alloc);
+    let reply = apply(alloc, session_state.pending(), service);
+    session_state.empty(alloc);
     reply
 }
 
@@ -80,17 +80,17 @@ fn refresh<H: Threads + Wait + Sync>(
     rt: &H,
     alloc: Global,
     service: &mut ReadyService,
-    notes: &mut Notes,
+    session_state: &mut SessionState,
 ) -> Reply
-    ensures { Refreshes (with_notes service.old notes.old) result
-        (with_notes service.new notes.new) }
+    ensures { Refreshes (with_session_state service.old session_state.old) result
+        (with_session_state service.new session_state.new) }
 {
     let mut shelf = MemShelf::new(alloc);
     let (fate, gate) = (NoFate, NoGate);
     match service.refresh(rt, alloc, &mut shelf, &fate, &gate) {
         Ok(report) => {
-            let told = Told::of(&report);
-            notes.keep_report(report);
+            let told = RefreshSummary::of(&report);
+            session_state.keep_report(report);
             Reply::Refreshed(told)
         }
         Err(fault) => Reply::RunRefused(fault.number()),
@@ -116,19 +116,19 @@ fn import<R: BufRead>(
     lines: u32,
     reader: &mut R,
     service: &mut ReadyService,
-    notes: &Notes,
+    session_state: &SessionState,
 ) -> Result<(Reply, u64), ServeFault>
-    ensures ok { IfOk result (λ r. (state : State) → Keeps (with_notes service.old notes.now) state
+    ensures ok { IfOk result (λ r. (state : State) → Keeps (with_session_state service.old session_state.now) state
         → IfLines (R.remaining reader.old) (λ rest.
         RepliesTo (Ok (Command.Act (Action.Import form lines))) (place_at number state rest)
         service.old r.0 r.1
-        (with_notes service.new notes.now) (lines_left (R.remaining reader.new)))) }
+        (with_session_state service.new session_state.now) (lines_left (R.remaining reader.new)))) }
     ensures err { IfErr result (λ fault. (fault ≢ ServeFault.Write) × (service.new ≡ service.old)) }
 {
     let Some(reached) = number.checked_add(u64::from(lines)) else {
         return Err(ServeFault::Read);
     };
-    if notes.has_pending() {
+    if session_state.has_pending() {
         let _aside = skip_lines(lines, reader)?;
         return Ok((Reply::Fault(LineFault::EditsPending, number), reached));
     }

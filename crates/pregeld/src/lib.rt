@@ -4,15 +4,17 @@
 mod block;
 mod carrying;
 mod making;
-mod notes;
 mod program;
 mod reply;
 mod session;
+mod session_state;
 mod writing;
 
 use pg_global::AnyCombiner;
-pub use pg_ready::{Cc, Indegree, MaxValue, Pagerank, Peel, ReadyMaster, ReadyProgram, Sssp};
 pub use pg_service::{Answers, Cause, Check, Limits, Loss, RefreshFault, Report, Service, same};
+pub use pregeld_programs::{
+    Cc, Indegree, MaxValue, Pagerank, Peel, ReadyMaster, ReadyProgram, Sssp,
+};
 pub use program::{start, start_leaving};
 pub use session::{ServeFault, serve};
 

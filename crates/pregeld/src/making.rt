@@ -1,14 +1,14 @@
 //! The service that the options of the command line ask for.
 ghost use Rattle.std.specs.Prelude.{◌≡◌, IfOk};
-ghost use Rattle.pg_options.specs.Arguments.{AreInRange, program_in};
+ghost use Rattle.pregeld_args.specs.Arguments.{AreInRange, program_in};
 ghost use Rattle.pg_service.specs.Service.{fresh};
-ghost use Rattle.pregeld.specs.AskedJob.{job_in, limits_in};
+ghost use Rattle.pregeld.specs.AskedJob.{job_of_options, limits_in};
 
 use crate::{Limits, ReadyService, Service};
 use pg_graph::Memory;
-use pg_options::{Options, program_of};
-use pg_ready::ReadyMaster;
 use pg_scratch::RunFault;
+use pregeld_args::{Options, program_of};
+use pregeld_programs::ReadyMaster;
 use std::alloc::{AllocError, Global};
 use std::sync::Wait;
 
@@ -20,7 +20,7 @@ pub(crate) fn service_of<H: Wait>(
 ) -> Result<ReadyService, Memory>
     requires { AreInRange options.now }
     ensures { IfOk result
-        (λ service. service ≡ fresh (job_in options.now) service.told.publisher) }
+        (λ service. service ≡ fresh (job_of_options options.now) service.told.publisher) }
 {
     let (limits, combiner) = (limits_of(options), options.combiner);
     let made = Service::new(

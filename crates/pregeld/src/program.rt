@@ -1,21 +1,21 @@
 //! The program.
 ghost use Rattle.std.specs.Prelude.{◌≡◌, ◌≤◌, ◌⊎◌, [], None, map, IfErr, IfSome, OnOk};
-ghost use Rattle.pg_options.specs.Arguments.{AreInRange};
+ghost use Rattle.pregeld_args.specs.Arguments.{AreInRange};
 ghost use Rattle.pg_service.specs.Handed.{Book};
 ghost use Rattle.pg_service.specs.Service.{fresh};
-ghost use Rattle.pregeld.specs.AskedJob.{job_in};
+ghost use Rattle.pregeld.specs.AskedJob.{job_of_options};
 ghost use Rattle.pregeld.specs.ExitStatus.{AddsText, EndsBroken, EndsWell, IsRefused};
 ghost use Rattle.pregeld.specs.Job.{ReadyState};
 ghost use Rattle.pregeld.specs.Session.{BreaksOff, Serves};
 
 use crate::making::service_of;
-use crate::notes::Notes;
 use crate::session::serve_noting;
+use crate::session_state::SessionState;
 use crate::{ReadyService, ServeFault};
 use clap::Error;
 use clap::error::ErrorKind;
-use pg_command::LineFault;
-use pg_options::{NoOptions, Options, options_of};
+use pregeld_args::{NoOptions, Options, options_of};
+use pregeld_commands::LineFault;
 use std::alloc::Global;
 use std::convert::AsStr;
 use std::io::{BufRead, Write};
@@ -86,13 +86,13 @@ pub fn start_leaving<H: Threads + Wait + Sync, S: AsStr, R: BufRead, W: Write, E
             return (status, None);
         }
     };
-    let mut notes = Notes::new(alloc);
-    let (served, service) = serve_asked(rt, alloc, &options, reader, writer, &mut notes);
+    let mut session_state = SessionState::new(alloc);
+    let (served, service) = serve_asked(rt, alloc, &options, reader, writer, &mut session_state);
     let status = match served {
         Ok(()) => 0,
         Err(fault) => fail(errors, name_of(fault), 1),
     };
-    hint(errors, notes.first_fault());
+    hint(errors, session_state.first_fault());
     (status, service)
 }
 
@@ -103,21 +103,22 @@ fn serve_asked<H: Threads + Wait + Sync, R: BufRead, W: Write>(
     options: &Options,
     reader: &mut R,
     writer: &mut W,
-    notes: &mut Notes,
+    session_state: &mut SessionState,
 ) -> (Result<(), ServeFault>, Option<ReadyService>)
     requires range { AreInRange options.now }
-    requires none { notes.old ≡ record { pending = []; report = None } }
+    requires none { session_state.old ≡ record { pending = []; report = None } }
     ensures ok { OnOk result.0 (IfSome (R.remaining reader.old) (λ input. (publisher : Book) × (left : ReadyState)
-        × Serves input (fresh (job_in options.now) publisher) left (W.contents writer.old) (W.contents writer.new))) }
+        × Serves input (fresh (job_of_options options.now) publisher) left (W.contents writer.old)
+        (W.contents writer.new))) }
     ensures err { IfErr result.0 (λ fault. ((reader.new ≡ reader.old) × (writer.new ≡ writer.old))
         ⊎ IfSome (R.remaining reader.old) (λ input. (publisher : Book) × (left : ReadyState)
-        × BreaksOff fault input (fresh (job_in options.now) publisher) left
+        × BreaksOff fault input (fresh (job_of_options options.now) publisher) left
         (W.contents writer.old) (W.contents writer.new))) }
 {
     let Ok(mut service) = service_of(rt, alloc, options) else {
         return (Err(ServeFault::Memory), None);
     };
-    let served = serve_noting(rt, alloc, reader, writer, &mut service, notes);
+    let served = serve_noting(rt, alloc, reader, writer, &mut service, session_state);
     (served, Some(service))
 }
 

@@ -1,13 +1,13 @@
 //! What a command is answered with.
 ghost use Rattle.std.specs.Prelude.{◌≡◌};
-ghost use Rattle.pregeld.specs.Reply.{told_of};
+ghost use Rattle.pregeld.specs.Reply.{summary_of};
 
 use crate::{Check, Report};
-use pg_command::LineFault;
 use pg_graph::{EditFault, Edition, VertexId};
 use pg_import::ImportFault;
 use pg_model::Ending;
 use pg_service::ending_word;
+use pregeld_commands::LineFault;
 use std::fmt;
 
 /// The line that answers a command.
@@ -20,7 +20,7 @@ pub(crate) enum Reply {
     /// A batch was refused.
     BatchRefused(EditFault),
     /// The answers of a run were published.
-    Refreshed(Told),
+    Refreshed(RefreshSummary),
     /// A refresh or a check was refused, with this number.
     RunRefused(u8),
     /// What was published was compared with a run from scratch.
@@ -69,7 +69,7 @@ impl fmt::Display for Reply {
 
 /// What the answer to a refresh tells of its report.
 #[derive(Clone, Copy, Debug, PartialEq, Eq)]
-pub(crate) struct Told {
+pub(crate) struct RefreshSummary {
     edition: Edition,
     supersteps: u32,
     ending: Ending,
@@ -77,12 +77,12 @@ pub(crate) struct Told {
     losses: usize,
 }
 
-impl Told {
+impl RefreshSummary {
     /// What is told of a report.
-    pub(crate) fn of(report: &Report) -> Told
-        ensures { result ≡ told_of report.now }
+    pub(crate) fn of(report: &Report) -> RefreshSummary
+        ensures { result ≡ summary_of report.now }
     {
-        Told {
+        RefreshSummary {
             edition: report.edition,
             supersteps: report.supersteps,
             ending: report.ending,
@@ -92,13 +92,13 @@ impl Told {
     }
 }
 
-impl fmt::Display for Told {
+impl fmt::Display for RefreshSummary {
     ghost use Rattle.std.specs.Prelude.{Some};
-    ghost use Rattle.pregeld.specs.Reply.{told_text};
+    ghost use Rattle.pregeld.specs.Reply.{summary_text};
 
-    ghost output = { λ told. Some (told_text told) };
+    ghost output = { λ told. Some (summary_text told) };
 
-    #[tactic(auto, unfolding(crate::specs::Reply::told_text))]
+    #[tactic(auto, unfolding(crate::specs::Reply::summary_text))]
     fn fmt<W: fmt::Write>(&self, f: &mut fmt::Formatter<W>) -> fmt::Result {
         let (edition, calls, losses) = (self.edition.number(), self.calls, self.losses);
         let (steps, ending) = (self.supersteps, ending_word(self.ending));

@@ -1,17 +1,17 @@
 //! A session: commands from a reader, and their answers to a writer.
 ghost use Rattle.std.specs.Prelude.{◌≡◌, ◌≢◌, [], None, IfOk, IfErr, IfSome, OnOk};
-ghost use Rattle.pregeld.specs.Notes.{with_notes};
+ghost use Rattle.pregeld.specs.SessionState.{with_session_state};
 ghost use Rattle.pregeld.specs.Reading.{IfLines, lines_left};
 ghost use Rattle.pregeld.specs.Keeping.{AnswersLine, FailsLine, Keeps};
 ghost use Rattle.pregeld.specs.Session.{BreaksOff, Serves, State, place_at};
 
 use crate::ReadyService;
 use crate::block::next_line;
-use crate::carrying::carry_out;
-use crate::notes::Notes;
+use crate::carrying::run_action;
 use crate::reply::Reply;
-use crate::writing::{say, tell};
-use pg_command::{Command, command_of};
+use crate::session_state::SessionState;
+use crate::writing::{answer_query, write_reply};
+use pregeld_commands::{Command, command_of};
 use std::alloc::Global;
 use std::io::{self, BufRead, Write};
 use std::sync::Wait;
@@ -69,8 +69,8 @@ pub fn serve<H: Threads + Wait + Sync, R: BufRead, W: Write>(
         BreaksOff fault input service.old service.new
         (W.contents writer.old) (W.contents writer.new))) }
 {
-    let mut notes = Notes::new(alloc);
-    serve_noting(rt, alloc, reader, writer, service, &mut notes)
+    let mut session_state = SessionState::new(alloc);
+    serve_noting(rt, alloc, reader, writer, service, &mut session_state)
 }
 
 /// Does what `serve` does, and keeps notes of the session, which has none as it begins.
@@ -80,9 +80,9 @@ pub(crate) fn serve_noting<H: Threads + Wait + Sync, R: BufRead, W: Write>(
     reader: &mut R,
     writer: &mut W,
     service: &mut ReadyService,
-    notes: &mut Notes,
+    session_state: &mut SessionState,
 ) -> Result<(), ServeFault>
-    requires { notes.old ≡ record { pending = []; report = None } }
+    requires { session_state.old ≡ record { pending = []; report = None } }
     ensures ok { OnOk result (IfSome (R.remaining reader.old) (λ input.
         Serves input service.old service.new (W.contents writer.old) (W.contents writer.new))) }
     ensures err { IfErr result (λ fault. IfSome (R.remaining reader.old) (λ input.
@@ -101,7 +101,7 @@ pub(crate) fn serve_noting<H: Threads + Wait + Sync, R: BufRead, W: Write>(
             number: here,
             text: line.as_slice(),
         };
-        number = match answer_line(rt, alloc, line, reader, writer, service, notes) {
+        number = match answer_line(rt, alloc, line, reader, writer, service, session_state) {
             Ok(reached) => reached,
             Err(fault) => return Err(fault),
         };
@@ -124,16 +124,16 @@ fn answer_line<H: Threads + Wait + Sync, R: BufRead, W: Write>(
     reader: &mut R,
     writer: &mut W,
     service: &mut ReadyService,
-    notes: &mut Notes,
+    session_state: &mut SessionState,
 ) -> Result<u64, ServeFault>
     ensures ok { IfOk result (λ reached. (state : State)
-        → Keeps (with_notes service.old notes.old) state
+        → Keeps (with_session_state service.old session_state.old) state
         → IfLines (R.remaining reader.old) (λ lines.
         AnswersLine line.entry.text.now (place_at line.entry.number state lines) service.old
-        (with_notes service.new notes.new) reached (lines_left (R.remaining reader.new))
+        (with_session_state service.new session_state.new) reached (lines_left (R.remaining reader.new))
         (W.contents writer.old) (W.contents writer.new))) }
     ensures err { IfErr result (λ fault. (state : State)
-        → Keeps (with_notes service.old notes.old) state
+        → Keeps (with_session_state service.old session_state.old) state
         → IfLines (R.remaining reader.old) (λ lines.
         FailsLine fault line.entry.text.now (place_at line.entry.number state lines) service.old service.new
         (W.contents writer.old) (W.contents writer.new))) }
@@ -141,20 +141,34 @@ fn answer_line<H: Threads + Wait + Sync, R: BufRead, W: Write>(
     let NumberedLine { number, text } = line;
     match command_of(text) {
         Ok(Command::Nothing) => Ok(number),
-        Ok(Command::Edit(edit)) => match notes.note(edit) {
+        Ok(Command::Edit(edit)) => match session_state.note(edit) {
             Ok(()) => Ok(number),
             Err(_) => Err(ServeFault::Memory),
         },
-        Ok(Command::Ask(query)) => match tell(alloc, writer, query, service, notes) {
+        Ok(Command::Ask(query)) => match answer_query(
+            alloc,
+            writer,
+            query,
+            service,
+            session_state,
+        ) {
             Ok(()) => Ok(number),
             Err(fault) => Err(fault),
         },
         Ok(Command::Act(action)) => {
-            let (reply, reached) = carry_out(rt, alloc, number, action, reader, service, notes)?;
-            notes.note_fault(&reply);
-            match say(writer, reply) {
+            let (reply, reached) = run_action(
+                rt,
+                alloc,
+                number,
+                action,
+                reader,
+                service,
+                session_state,
+            )?;
+            session_state.note_fault(&reply);
+            match write_reply(writer, reply) {
                 Ok(()) => {
-                    service.release();
+                    service.drop_deferred();
                     Ok(reached)
                 }
                 Err(fault) => Err(fault),
@@ -162,8 +176,8 @@ fn answer_line<H: Threads + Wait + Sync, R: BufRead, W: Write>(
         }
         Err(fault) => {
             let reply = Reply::Fault(fault, number);
-            notes.note_fault(&reply);
-            match say(writer, reply) {
+            session_state.note_fault(&reply);
+            match write_reply(writer, reply) {
                 Ok(()) => Ok(number),
                 Err(fault) => Err(fault),
             }

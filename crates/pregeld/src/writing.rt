@@ -8,16 +8,16 @@ ghost use Rattle.pregeld.specs.Job.{ready_names};
 ghost use Rattle.pregeld.specs.Session.{aggregate_text, dump_text, get_reply, query_text};
 ghost use Rattle.pregeld.specs.Session.{report_line};
 
-use crate::notes::Notes;
 use crate::reply::Reply;
+use crate::session_state::SessionState;
 use crate::{ReadyService, ServeFault};
-use pg_command::Query;
 use pg_graph::VertexId;
+use pregeld_commands::Query;
 use std::alloc::Global;
 use std::io::Write;
 
 /// Writes an answer, and hands it on.
-pub(crate) fn say<W: Write>(writer: &mut W, reply: Reply) -> Result<(), ServeFault>
+pub(crate) fn write_reply<W: Write>(writer: &mut W, reply: Reply) -> Result<(), ServeFault>
     ensures ok { OnOk result
         (Appends (W.contents writer.old) (W.contents writer.new) (line_of_reply reply)) }
     ensures err { IfErr result (λ fault. fault ≡ ServeFault.Write) }
@@ -25,11 +25,11 @@ pub(crate) fn say<W: Write>(writer: &mut W, reply: Reply) -> Result<(), ServeFau
     let Ok(()) = writeln!(writer, "{reply}") else {
         return Err(ServeFault::Write);
     };
-    hand_on(writer)
+    flush_output(writer)
 }
 
 /// Hands on what was written.
-fn hand_on<W: Write>(writer: &mut W) -> Result<(), ServeFault>
+fn flush_output<W: Write>(writer: &mut W) -> Result<(), ServeFault>
     ensures ok { OnOk result (Keeps (W.contents writer.old) (W.contents writer.new)) }
     ensures err { IfErr result (λ fault. fault ≡ ServeFault.Write) }
 {
@@ -44,15 +44,15 @@ fn hand_on<W: Write>(writer: &mut W) -> Result<(), ServeFault>
 /// # Errors
 ///
 /// A writer that fails, or want of memory for a report, and then nothing was written.
-pub(crate) fn tell<W: Write>(
+pub(crate) fn answer_query<W: Write>(
     alloc: Global,
     writer: &mut W,
     query: Query<'_>,
     service: &ReadyService,
-    notes: &Notes,
+    session_state: &SessionState,
 ) -> Result<(), ServeFault>
     ensures ok { OnOk result (Appends (W.contents writer.old) (W.contents writer.new)
-        (query_text service.now.job query.entry (last_published service.now.told.list) notes.now.report)) }
+        (query_text service.now.job query.entry (last_published service.now.told.list) session_state.now.report)) }
     ensures err { IfErr result (λ fault.
         FailsToTell fault (W.contents writer.old) (W.contents writer.new)) }
 {
@@ -61,7 +61,7 @@ pub(crate) fn tell<W: Write>(
             Ok(()) => Ok(()),
             Err(fault) => Err(fault),
         },
-        Query::Get(id) => match say(writer, get(id, service)) {
+        Query::Get(id) => match write_reply(writer, get(id, service)) {
             Ok(()) => Ok(()),
             Err(fault) => Err(fault),
         },
@@ -69,7 +69,7 @@ pub(crate) fn tell<W: Write>(
             Ok(()) => Ok(()),
             Err(fault) => Err(fault),
         },
-        Query::Reported => report(alloc, writer, service, notes),
+        Query::Reported => report(alloc, writer, service, session_state),
     }
 }
 
@@ -93,14 +93,14 @@ fn aggregate<W: Write>(writer: &mut W, name: &str, service: &ReadyService) -> Re
     ensures err { IfErr result (λ fault. fault ≡ ServeFault.Write) }
 {
     let Some(answers) = service.answers() else {
-        return say(writer, Reply::Unpublished);
+        return write_reply(writer, Reply::Unpublished);
     };
     let written = match answers.aggregate(name) {
         Some(value) => writeln!(writer, "aggregate {name} {value}"),
         None => writeln!(writer, "none {name}"),
     };
     match written {
-        Ok(()) => hand_on(writer),
+        Ok(()) => flush_output(writer),
         Err(_) => Err(ServeFault::Write),
     }
 }
@@ -110,15 +110,15 @@ fn report<W: Write>(
     alloc: Global,
     writer: &mut W,
     service: &ReadyService,
-    notes: &Notes,
+    session_state: &SessionState,
 ) -> Result<(), ServeFault>
     ensures ok { OnOk result
-        (Appends (W.contents writer.old) (W.contents writer.new) (report_line notes.now.report)) }
+        (Appends (W.contents writer.old) (W.contents writer.new) (report_line session_state.now.report)) }
     ensures err { IfErr result (λ fault.
         FailsToTell fault (W.contents writer.old) (W.contents writer.new)) }
 {
-    let Some(report) = notes.report() else {
-        return match say(writer, Reply::Unpublished) {
+    let Some(report) = session_state.report() else {
+        return match write_reply(writer, Reply::Unpublished) {
             Ok(()) => Ok(()),
             Err(fault) => Err(fault),
         };
@@ -129,7 +129,7 @@ fn report<W: Write>(
     let Ok(()) = writeln!(writer, "{text}") else {
         return Err(ServeFault::Write);
     };
-    match hand_on(writer) {
+    match flush_output(writer) {
         Ok(()) => Ok(()),
         Err(fault) => Err(fault),
     }
@@ -142,11 +142,11 @@ fn dump<W: Write>(writer: &mut W, service: &ReadyService) -> Result<(), ServeFau
     ensures err { IfErr result (λ fault. fault ≡ ServeFault.Write) }
 {
     let Some(answers) = service.answers() else {
-        return say(writer, Reply::Unpublished);
+        return write_reply(writer, Reply::Unpublished);
     };
     let values = answers.values();
     say_values(writer, values)?;
-    say(writer, Reply::End(values.len()))
+    write_reply(writer, Reply::End(values.len()))
 }
 
 /// Writes a line for each vertex and its value.

@@ -1,14 +1,14 @@
 //! A batch of edits, made of a graph at once.
 ghost use Rattle.std.specs.Prelude.{◌≡◌, ◌⊎◌, ◌<◌, ◌≤◌, length, Ok, Err, IfOk, IfErr, IsTrue, OnOk, OnErr};
 ghost use Rattle.pg_graph.specs.Edit.{batch_edited, batch_limit, too_long_fault, RefusesBatch};
-ghost use Rattle.pg_edits.specs.EditFault.{memory_fault};
+ghost use Rattle.pg_graph_rows.specs.EditFault.{memory_fault};
 ghost use Rattle.pg_graph.specs.RowEdit.{AreRowsMade, HasRoom, IsEarliestFault, edges_added, vertices_added};
 ghost use Rattle.pg_graph.specs.Rows.{HasRisingIds, edge_count, vertex_count};
 ghost use Rattle.pg_graph.specs.Draft.{Makes};
 ghost use Rattle.pg_map.specs.Entries.{with_changes};
 
 use super::Graph;
-use crate::draft::{BATCH_LIMIT, Changes, Draft, EDGE_LIMIT, VERTEX_LIMIT};
+use crate::draft::{BATCH_LIMIT, Draft, EDGE_LIMIT, RowChanges, VERTEX_LIMIT};
 use crate::grouped::{ROUNDS, changes_by_vertex};
 use crate::{Batch, Edit, EditFault, EditKind, Memory};
 use std::alloc::Global;
@@ -19,7 +19,7 @@ impl Graph {
     ///
     /// With k edits of a graph of n vertices it takes O(n / 128 + k log(n + k)), and O(d log d) for
     /// each vertex that is edited, where d is how many edges it has or gets. Other edges stay as they are,
-    /// but once twice as many rows have been changed as there are since `settle` last went over all: then it does
+    /// but once twice as many rows have been changed as there are since `compact` last went over all: then it does
     /// so again, and may copy their edges.
     /// The edits are made of one vertex after another, unless those that add could meet a limit.
     pub fn apply(&mut self, alloc: Global, batch: &Batch) -> Result<(), EditFault>
@@ -53,7 +53,8 @@ impl Graph {
         requires { length edits.now ≤ batch_limit }
         ensures room { IsTrue result
             → HasRoom (vertex_count self.now) (edge_count self.now) (vertices_added edits.now) (edges_added edits.now) }
-        ensures full { HasRoom (vertex_count self.now) (edge_count self.now) (vertices_added edits.now) (edges_added edits.now)
+        ensures full { HasRoom (vertex_count self.now) (edge_count self.now) (vertices_added edits.now)
+            (edges_added edits.now)
             → IsTrue result }
         ensures rising { HasRisingIds self.now }
     {
@@ -62,18 +63,18 @@ impl Graph {
     }
 
     /// Makes all changes, or none where a growth is refused.
-    fn change(&mut self, alloc: Global, changes: Changes) -> Result<(), Memory>
+    fn change(&mut self, alloc: Global, changes: RowChanges) -> Result<(), Memory>
         requires { Makes self.old (with_changes changes.rows.items self.old) changes }
         ensures ok { OnOk result (self.new ≡ with_changes changes.rows.items self.old) }
         ensures err { OnErr result (self.new ≡ self.old) }
     {
-        let Changes { rows, edges } = changes;
+        let RowChanges { rows, edges } = changes;
         let changed = rows.len() as u64;
         self.rows.change_own(alloc, rows)?;
         self.total_edges = edges;
-        self.loose = self.loose.saturating_add(changed);
-        if self.loose / ROUNDS >= self.vertices() {
-            self.settle(alloc);
+        self.rows_since_compaction = self.rows_since_compaction.saturating_add(changed);
+        if self.rows_since_compaction / ROUNDS >= self.vertices() {
+            self.compact(alloc);
         }
         Ok(())
     }
@@ -97,10 +98,11 @@ fn added_by(edits: &[Edit]) -> (u64, u64)
 }
 
 /// What a batch changes, or the first of its edits that has no result, found edit by edit.
-fn changes_in_order(alloc: Global, graph: &Graph, batch: &Batch) -> Result<Changes, EditFault>
+fn changes_in_order(alloc: Global, graph: &Graph, batch: &Batch) -> Result<RowChanges, EditFault>
     requires { length batch.now ≤ batch_limit }
     ensures ok { IfOk result (λ changes. Makes graph.now (with_changes changes.rows.items graph.now) changes) }
-    ensures made { IfOk result (λ changes. batch_edited graph.now batch.now ≡ Ok (with_changes changes.rows.items graph.now)) }
+    ensures made { IfOk result
+        (λ changes. batch_edited graph.now batch.now ≡ Ok (with_changes changes.rows.items graph.now)) }
     ensures err { IfErr result (RefusesBatch graph.now batch.now) }
 {
     let draft = Draft::of(alloc, graph, batch)?;

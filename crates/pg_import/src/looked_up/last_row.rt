@@ -3,13 +3,13 @@ ghost use Rattle.std.specs.Prelude.{◌≡◌};
 ghost use Rattle.std.specs.Option.{option_copied};
 ghost use Rattle.pg_graph.specs.Rows.{row_at};
 
-use pg_graph::{Finder, Graph, Row, VertexId};
+use pg_graph::{Cursor, Graph, Row, VertexId};
 use std::marker::Model;
 
 /// The row that was looked up last, if one was. A contract sees the graph.
 #[derive(Drop)]
 pub(crate) struct LastRow<'a> {
-    finder: Finder<'a, Row>,
+    cursor: Cursor<'a, Row>,
     id: Option<VertexId>,
     row: Option<&'a Row>,
 }
@@ -21,9 +21,9 @@ impl<'a> Model for LastRow<'a> {
 
     ghost Value = { Rows };
 
-    ghost view = { λ last. last.finder };
+    ghost view = { λ last. last.cursor };
 
-    ghost invariant = { λ last. IfSome last.id (λ id. option_copied last.row ≡ row_at id last.finder) };
+    ghost invariant = { λ last. IfSome last.id (λ id. option_copied last.row ≡ row_at id last.cursor) };
 }
 
 impl<'a> LastRow<'a> {
@@ -32,7 +32,7 @@ impl<'a> LastRow<'a> {
         ensures { result ≡ graph.now }
     {
         LastRow {
-            finder: graph.finder(),
+            cursor: graph.cursor(),
             id: None,
             row: None,
         }
@@ -45,7 +45,7 @@ impl<'a> LastRow<'a> {
     {
         if self.id != Some(id) {
             self.id = Some(id);
-            self.row = self.finder.get(id);
+            self.row = self.cursor.get(id);
         }
         self.row
     }

@@ -1,7 +1,7 @@
 //! The edges that a graph has of the sources of lines.
 ghost use Rattle.std.specs.Prelude.{◌≡◌, Some, is_some, map, slice_get, IfOk, IfSome};
 ghost use Rattle.std.specs.Option.{option_copied};
-ghost use Rattle.pg_edits.specs.EdgeList.{IsRising, weight_at};
+ghost use Rattle.pg_graph_rows.specs.EdgeList.{IsRising, weight_at};
 ghost use Rattle.pg_graph.specs.Rows.{row_at};
 ghost use Rattle.pg_import.specs.Batch.{has_edge};
 ghost use Rattle.pg_import.specs.Sources.{LeadAsFrom, edges_of};
@@ -60,8 +60,8 @@ impl<'a> Sources<'a> {
         self.last_row.row_at(id)
     }
 
-    /// Notes where the edges of a source lie, unless it is the last one. Where there is no memory for that it may forget
-    /// the others, which costs time and changes no answer.
+    /// Notes where the edges of a source lie, unless it is the last one. Where there is no memory for that it may
+    /// forget the others, which costs time and changes no answer.
     pub(crate) fn note(&mut self, id: VertexId) -> Result<(), Memory>
         ensures { self.new ≡ self.old }
     {
@@ -78,8 +78,8 @@ impl<'a> Sources<'a> {
         Ok(())
     }
 
-    /// Whether the graph has an edge. It costs no look-up of a row where its source is the one that was asked for last, or
-    /// the one that was noted after that.
+    /// Whether the graph has an edge. It costs no look-up of a row where its source is the one that was asked for last,
+    /// or the one that was noted after that.
     pub(crate) fn has_edge(&mut self, source: VertexId, target: VertexId) -> bool
         ensures value { result ≡ has_edge source target self.old }
         ensures same { self.new ≡ self.old }

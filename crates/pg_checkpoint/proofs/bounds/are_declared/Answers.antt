@@ -1,7 +1,7 @@
 use Rattle.std.proofs.Common.{◌+◌, ◌&&◌, Bool, ap, drop, sym, ◌∙◌}
 use Rattle.std.specs.List.{list_all}
 use Rattle.pg_model.specs.Job.{has_place}
-use Rattle.pg_checkpoint.proofs.Holding.{from_here}
+use Rattle.pg_checkpoint.proofs.PartRunState.{from_here}
 use Rattle.pg_checkpoint.proofs.bounds.are_declared.Goals as goal
 
 pub loop-contribution-preserved : goal.loop-contribution-preserved

@@ -1,4 +1,4 @@
-use Rattle.pg_checkpoint.proofs.Holding.{not_declared}
+use Rattle.pg_checkpoint.proofs.PartRunState.{not_declared}
 use Rattle.pg_checkpoint.proofs.bounds.is_declared.Goals as goal
 
 pub returns-else-number-lt16 : goal.returns-else-number-lt16

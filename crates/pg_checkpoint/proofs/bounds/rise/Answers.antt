@@ -1,5 +1,5 @@
 use Rattle.std.proofs.Common.{◌≡◌, ◌∙◌, ap, arith, sym}
-use Rattle.pg_checkpoint.proofs.Holding.{is_rising, not_rising, rises_on}
+use Rattle.pg_checkpoint.proofs.PartRunState.{is_rising, not_rising, rises_on}
 use Rattle.pg_checkpoint.proofs.bounds.rise.Goals as goal
 
 pub returns-then-number-clause-no : goal.returns-then-number-clause-no

@@ -18,9 +18,9 @@ returns-in_err-bytes-clause-put g c =
 
 pub returns-clause-put : goal.returns-clause-put
 returns-clause-put g c =
-    let course = c.args.part.now.course in
-    let records = take course.place course.trace.records in
-    put_as (key_of course.partition)
-    (second_coding g.V.Coded.coding g.M.Coded.coding c.args.run course.partition (edges_behind course.trace.initial records) records)
+    let part_run = c.args.part.now.part_run in
+    let records = take part_run.place part_run.trace.records in
+    put_as (key_of part_run.partition)
+    (second_coding g.V.Coded.coding g.M.Coded.coding c.args.run part_run.partition (edges_behind part_run.trace.initial records) records)
     c.put.ensures (c.as_bytes.ensures.value ∙ c.in_ok-key.ensures ∙ ap key_of c.partition.ensures)
     (c.as_slice.ensures.value ∙ c.in_ok-bytes.ensures.bytes)

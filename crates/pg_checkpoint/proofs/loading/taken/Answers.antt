@@ -10,7 +10,7 @@ use Rattle.pg_checkpoint.proofs.Held.{all_rise}
 use Rattle.pg_checkpoint.proofs.Taken.{first_is, is_found, limits_at, not_counted, not_held, not_said, records_are, same_limits}
 use Rattle.pg_model.specs.declared.record.Record.{Record}
 use Rattle.pg_model.specs.declared.view.Declared.{Declared}
-use Rattle.pg_routing.specs.Starting.{PartRows}
+use Rattle.pg_part_routing.specs.Starting.{PartRows}
 use Rattle.pg_stats.specs.GlobalStats.{aggregators_of}
 use Rattle.pg_trace.specs.Trace.{Trace}
 use Rattle.pg_checkpoint.proofs.loading.taken.Goals as goal
@@ -90,7 +90,7 @@ returns-then-branch g c =
     subst (λ (l : Limits). MayHoldFrom l 0 (records_of contents.supersteps)) limits c.in_ok-records.ensures.1 in
     let begun = c.in_ok-begun.begun in
     let part = c.in_ok-part.part in
-    let count : IsCount contents.edges (edges_behind part.course.trace.initial part.course.trace.records) true =
+    let count : IsCount contents.edges (edges_behind part.part_run.trace.initial part.part_run.trace.records) true =
     subst₂ (λ (t : Trace g.row.V.Denot g.row.M.Denot) (b : Bool). IsCount contents.edges (edges_behind t.initial t.records) b) c.trace.ensures
     c.if-branch.true c.in_ok-is_count.ensures in
     is_found g.V.Plain.is_value g.V.Coded.coding g.M.Plain.is_value g.M.Coded.coding asked c.args.bytes.now contents said records
@@ -120,7 +120,7 @@ returns-else-branch g c =
     subst (λ (l : Limits). MayHoldFrom l 0 (records_of contents.supersteps)) limits c.in_ok-records.ensures.1 in
     let begun = c.in_ok-begun.begun in
     let part = c.in_ok-part.part in
-    let count : IsCount contents.edges (edges_behind part.course.trace.initial part.course.trace.records) false =
+    let count : IsCount contents.edges (edges_behind part.part_run.trace.initial part.part_run.trace.records) false =
     subst₂ (λ (t : Trace g.row.V.Denot g.row.M.Denot) (b : Bool). IsCount contents.edges (edges_behind t.initial t.records) b) c.trace.ensures
     c.if-branch.false c.in_ok-is_count.ensures in
     not_counted g.V.Plain.is_value g.V.Coded.coding g.M.Plain.is_value g.M.Coded.coding asked c.args.bytes.now contents said

@@ -1,7 +1,7 @@
 use Rattle.std.proofs.Common.{◌≡◌, ℕ, cond, ◌&&◌, length, None}
 use Rattle.std.specs.Prelude.{◌==◌, nat_lt, slice_index_or}
-use Rattle.pg_inbox.specs.Logged.{slot_at}
-use Rattle.pg_machine.specs.Machine.{host_of}
+use Rattle.pg_inbox.specs.LoggedBundle.{slot_at}
+use Rattle.pg_core_machine.specs.Machine.{host_of}
 use Rattle.pg_core.proofs.losing.lose_hosted.Given as goal
 
 -- what the worker hosts of the partitions so far is gone

@@ -1,7 +1,7 @@
 use Rattle.std.proofs.Common.{◌≡◌, ℕ, ◌+◌, cond, Some, ap, sym, ◌∙◌, subst}
 use Rattle.std.proofs.lemmas.List.{length_push}
 use Rattle.pg_core.proofs.Putting.{HasPut-more}
-use Rattle.pg_inbox.specs.Logged.{is_pair, slot_at}
+use Rattle.pg_inbox.specs.LoggedBundle.{is_pair, slot_at}
 use Rattle.pg_core.proofs.running.put_all.Goals as goal
 
 pub loop-logged-preserved : goal.loop-logged-preserved

@@ -4,12 +4,12 @@ use Rattle.pg_graph.specs.Draft.{Makes}
 use Rattle.pg_graph.specs.Edit.{RefusesBatch, batch_edited, batch_limit}
 use Rattle.pg_graph.specs.Grouped.{AreCounted, AreGrouped, EditedRowsRise, IsFirst, RiseBySource}
 use Rattle.pg_graph.specs.RowEdit.{AreRowsMade, HasRoom, IsEarliestFault, edges_added, vertices_added}
-use Rattle.pg_edits.specs.EditFault.{memory_fault}
-use Rattle.pg_edits.specs.RowEdit.{Places}
+use Rattle.pg_graph_rows.specs.EditFault.{memory_fault}
+use Rattle.pg_graph_rows.specs.RowEdit.{Places}
 use Rattle.pg_graph.specs.Rows.{HasRisingIds, Rows, edge_count, vertex_count}
-use Rattle.pg_graph.specs.declared.draft.Changes.{Changes as Changing}
-use Rattle.pg_edits.specs.declared.edit.Edit.{Edit}
-use Rattle.pg_edits.specs.declared.edit.EditFault.{EditFault}
+use Rattle.pg_graph.specs.declared.draft.RowChanges.{RowChanges as Changing}
+use Rattle.pg_graph_rows.specs.declared.edit.Edit.{Edit}
+use Rattle.pg_graph_rows.specs.declared.edit.EditFault.{EditFault}
 use Rattle.pg_graph.proofs.Batches.{short_enough}
 use Rattle.pg_graph.proofs.Dealing.{made_of_all, first_is, earliest_is}
 use Rattle.pg_graph.proofs.grouped.changes_by_vertex.Goals as goal

@@ -1,7 +1,7 @@
 use Rattle.std.proofs.Common.{◌≡◌, ◌≤◌, ℕ, leb, false, ap, sym, ◌∙◌, arith}
 use Rattle.std.proofs.lemmas.Bool.Decides.{nat_tests}
 use Rattle.std.proofs.lemmas.List.{get_or_default}
-use Rattle.pg_edits.specs.RowEdit.{source_of}
+use Rattle.pg_graph_rows.specs.RowEdit.{source_of}
 use Rattle.pg_graph.proofs.grouped.count_of.Goals as goal
 
 above : (a b id : ℕ) → leb a id ≡ false → a ≤ b → leb b id ≡ false

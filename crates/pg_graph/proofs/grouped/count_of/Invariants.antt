@@ -1,6 +1,6 @@
 use Rattle.std.proofs.Common.{◌≡◌, leb, true}
 use Rattle.std.specs.List.{AllWithin}
-use Rattle.pg_edits.specs.RowEdit.{source_of}
+use Rattle.pg_graph_rows.specs.RowEdit.{source_of}
 use Rattle.pg_graph.proofs.grouped.count_of.Given as goal
 
 abbrev pub invariant-loop-count : goal.invariant-loop-count

@@ -2,8 +2,8 @@ use Rattle.std.proofs.Common.{◌≡◌, ◌+◌, [], ◌∷◌, ◌++◌, Some,
 use Rattle.std.proofs.lemmas.List.{nil_from_length}
 use Rattle.std.specs.List.Sorted.{IsPartitionPoint}
 use Rattle.pg_map.specs.Entries.{with_changes}
-use Rattle.pg_edits.specs.ChangedRows.{degree_of}
-use Rattle.pg_edits.specs.RowEdit.{source_of, vertex_after}
+use Rattle.pg_graph_rows.specs.ChangedRows.{degree_of}
+use Rattle.pg_graph_rows.specs.RowEdit.{source_of, vertex_after}
 use Rattle.pg_graph.specs.Grouped.{AreDealt, AreMade, RowRises}
 use Rattle.pg_graph.specs.Rows.{edge_count, row_at}
 use Rattle.pg_graph.proofs.Dealing.{all_made, IsTurn, fewer_left, no_changes, none_dealt, row_found, fault_found, not_changed, next_counted, degree_fits}
@@ -11,7 +11,7 @@ use Rattle.pg_graph.proofs.grouped.dealt_with.Goals as goal
 
 pub loop-first-init : goal.loop-first-init
 loop-first-init c = record {
-  found = c.finder-finder.ensures;
+  found = c.cursor-cursor.ensures;
   dealt = none_dealt c.args.graph.now c.args.edits.now _ c.in_ok-rows.ensures (no_changes _ c.in_ok-rows.ensures) c.requires.edits_rise;
   counted = c.edges-edges.ensures.value ∙ ap (λ l. edge_count (with_changes l c.args.graph.now)) (sym c.in_ok-rows.ensures);
 }
@@ -55,15 +55,15 @@ loop-first-preserved-in_ok-edges-in-Ok c =
           (λ e. leb (source_of e.1) k ≡ false) left c.count_of.result) id c.count_of.ensures.parts;
     } in
     let was = c.get-row.ensures.value ∙ ap (row_at c.source-id.result) c.loop-first.invariant.found ∙ ap (λ k. row_at k rows) id in
-    let told = rw c.in-Ok.is at c.in_ok-degree.ensures in
-    let changed = told.0 in
-    let made = sym told.1 ∙ ap (λ r. vertex_after r here) was in
-    let grown = told.2 ∙ ap (λ k. changes ++ (k, changed) ∷ []) id in
+    let stated = rw c.in-Ok.is at c.in_ok-degree.ensures in
+    let changed = stated.0 in
+    let made = sym stated.1 ∙ ap (λ r. vertex_after r here) was in
+    let grown = stated.2 ∙ ap (λ k. changes ++ (k, changed) ∷ []) id in
     let none = not_changed rows c.args.edits.now left here _ _ c.in-Some.first.now c.count_of.result changes c.loop-first.fault turn
     c.loop-first.invariant.dealt in
     let edges : c.in_ok-edges-in-Ok.edges + degree_of (row_at (source_of c.in-Some.first.now.1) rows) ≡ edge_count
     (with_changes changes rows) + degree_of changed =
-    omega (arith, c.in_ok-edges-in-Ok.ensures, c.degree_of-had.ensures.degree, ap degree_of was, told.3, c.loop-first.invariant.counted) in
+    omega (arith, c.in_ok-edges-in-Ok.ensures, c.degree_of-had.ensures.degree, ap degree_of was, stated.3, c.loop-first.invariant.counted) in
     let rises = subst RowRises was c.degree_of-had.ensures.rises in
     record {
       found = c.get-row.ensures.same ∙ c.loop-first.invariant.found;
@@ -91,9 +91,9 @@ loop-first-preserved c =
           (λ e. leb (source_of e.1) k ≡ false) left c.count_of.result) id c.count_of.ensures.parts;
     } in
     let was = c.get-row.ensures.value ∙ ap (row_at c.source-id.result) c.loop-first.invariant.found ∙ ap (λ k. row_at k rows) id in
-    let told = rw c.in-Err.is at c.in_ok-degree.ensures in
-    let made = sym told.0 ∙ ap (λ r. vertex_after r here) was in
-    rw told.1 (record {
+    let stated = rw c.in-Err.is at c.in_ok-degree.ensures in
+    let made = sym stated.0 ∙ ap (λ r. vertex_after r here) was in
+    rw stated.1 (record {
       found = c.get-row.ensures.same ∙ c.loop-first.invariant.found;
       dealt = subst (λ f. AreDealt rows c.args.edits.now c.split_at.result.1.now changes (Some f)) (sym c.earlier.ensures)
           (fault_found rows c.args.edits.now left here _ _ c.in-Some.first.now c.count_of.result changes c.loop-first.fault turn

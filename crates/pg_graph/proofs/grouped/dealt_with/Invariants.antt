@@ -7,7 +7,7 @@ use Rattle.pg_graph.proofs.grouped.dealt_with.Given as goal
 abbrev pub invariant-loop-first : goal.invariant-loop-first
 invariant-loop-first l = record {
   dealt : AreDealt l.graph l.edits l.left l.rows l.fault;
-  found : l.finder ≡ l.graph;
+  found : l.cursor ≡ l.graph;
   counted : l.edges ≡ edge_count (with_changes l.rows l.graph);
 }
 

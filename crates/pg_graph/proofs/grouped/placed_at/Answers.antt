@@ -1,7 +1,7 @@
 use Rattle.std.proofs.Common.{◌≡◌, ◌+◌, ◌∷◌, [], ◌++◌, ◌<◌, Some, length, map, slice_get, take, refl, ap, sym, ◌∙◌, subst, arith}
 use Rattle.std.proofs.lemmas.List.{length-map, take_more}
 use Rattle.std.proofs.lemmas.Option.{slice_get_read, slice_get_within}
-use Rattle.pg_edits.specs.RowEdit.{source_of}
+use Rattle.pg_graph_rows.specs.RowEdit.{source_of}
 use Rattle.pg_graph.specs.RowEdit.{placed}
 use Rattle.pg_graph.proofs.Taken.{placed_there, zip_push}
 use Rattle.pg_graph.proofs.grouped.placed_at.Goals as goal

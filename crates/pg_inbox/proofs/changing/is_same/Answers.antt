@@ -1,19 +1,19 @@
 use Rattle.std.proofs.Common.{◌≡◌, ℕ, Bool, true, false, not, is_some, List, [], ◌∷◌, Option, None, Some, ap, refl, subst, sym, ◌∙◌, true≢false}
 use Rattle.std.specs.Option.{option_copied, option_map}
 use Rattle.pg_model.specs.Superstep.{is_empty}
-use Rattle.pg_parcel.specs.declared.parcel.Contents.{Contents}
+use Rattle.pg_inbox_messages.specs.declared.message_list.Contents.{Contents}
 use Rattle.pg_inbox.specs.Bundles.{entries_in, entries_of}
 use Rattle.pg_inbox.specs.Holding.{HoldsAt}
 use Rattle.pg_inbox.proofs.changing.is_same.Goals as goal
 
 module _ {M : Type 0} (target : ℕ) where
-  some_entries : (contents : Contents M) → is_empty contents.letters ≡ false → entries_of target contents ≡ [] → ⊥
-  some_entries contents some none = by contents.folded contents.letters some none
+  some_entries : (contents : Contents M) → is_empty contents.envelopes ≡ false → entries_of target contents ≡ [] → ⊥
+  some_entries contents some none = by contents.folded contents.envelopes some none
     where
-      by : (m : Option M) (letters : List (ℕ × M)) → is_empty letters ≡ false → entries_of target (record { letters = letters; folded = m }) ≡ [] → ⊥
+      by : (m : Option M) (envelopes : List (ℕ × M)) → is_empty envelopes ≡ false → entries_of target (record { envelopes = envelopes; folded = m }) ≡ [] → ⊥
       by None [] some none = true≢false some
-      by None (l ∷ letters) some none = cc
-      by (Some m) letters some none = cc
+      by None (l ∷ envelopes) some none = cc
+      by (Some m) envelopes some none = cc
 
   same_as_none : {X : Type 0} (is_value : M → Type 0) (f : X → Contents M) (o : Option X) (is_none : Bool) → is_some o ≡ not is_none
       → HoldsAt is_value (option_map f o)
@@ -33,8 +33,8 @@ pub returns-in-Some-new : goal.returns-in-Some-new
 returns-in-Some-new g c target =
     let old = ap (λ o. entries_in target (option_copied o)) c.in-Some.is in
     let new = ap (λ o. entries_in target (option_copied o)) c.in-Some-new.is in
-    let told = c.is_same_contents.ensures target in
-    ((λ h. old ∙ told.0 h ∙ sym new), λ same. told.1 (sym old ∙ same ∙ new))
+    let stated = c.is_same_contents.ensures target in
+    ((λ h. old ∙ stated.0 h ∙ sym new), λ same. stated.1 (sym old ∙ same ∙ new))
 
 pub returns-in-None-new : goal.returns-in-None-new
 returns-in-None-new g c target =
@@ -46,5 +46,5 @@ returns-in-None-new g c target =
 pub returns-in-None : goal.returns-in-None
 returns-in-None g c target =
     let old = ap (λ o. entries_in target (option_copied o)) c.in-None.is in
-    let told = same_as_none target g.M.Plain.is_value (λ p. p.now) c.args.new c.is_none.result c.is_none.ensures c.requires.new in
-    ((λ h. old ∙ told.0 h), λ same. told.1 (sym old ∙ same))
+    let stated = same_as_none target g.M.Plain.is_value (λ p. p.now) c.args.new c.is_none.result c.is_none.ensures c.requires.new in
+    ((λ h. old ∙ stated.0 h), λ same. stated.1 (sym old ∙ same))

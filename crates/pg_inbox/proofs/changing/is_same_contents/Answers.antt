@@ -1,6 +1,6 @@
 use Rattle.std.proofs.Common.{ap, sym, ◌∙◌, rules}
 use Rattle.std.specs.Option.{option_copied}
-use Rattle.pg_inbox.proofs.Differing.{fold_apart, same_by_letters}
+use Rattle.pg_inbox.proofs.Differing.{fold_apart, same_by_envelopes}
 use Rattle.pg_inbox.proofs.changing.is_same_contents.Goals as goal
 
 pub returns-in-None-folded : goal.returns-in-None-folded
@@ -20,7 +20,7 @@ returns-in-Some-folded-2 g c target = (
 
 pub returns-in-None-folded-2 : goal.returns-in-None-folded-2
 returns-in-None-folded-2 g c target =
-    let both = same_by_letters target c.args.old.now c.args.new.now (sym c.folded.ensures ∙ ap option_copied c.in-None.is)
+    let both = same_by_envelopes target c.args.old.now c.args.new.now (sym c.folded.ensures ∙ ap option_copied c.in-None.is)
     (sym c.folded-in-None.ensures ∙ ap option_copied c.in-None-folded-2.is) in
-    let told = c.are_same_letters.ensures in
-    ((λ h. both.0 (told.0 h)), λ h. told.1 (both.1 h))
+    let stated = c.are_same_envelopes.ensures in
+    ((λ h. both.0 (stated.0 h)), λ h. stated.1 (both.1 h))

@@ -4,13 +4,13 @@ use Rattle.pg_map.proofs.Moved.{first_of_rest}
 use Rattle.pg_inbox.proofs.Taking.{counted_all, counted_one}
 use Rattle.pg_inbox.proofs.counting.messages_listed.Goals as goal
 
-pub loop-parcel-preserved : goal.loop-parcel-preserved
-loop-parcel-preserved g c =
-    let i = c.loop-parcel.parcel-index in
-    let parcels = c.args.parcels.now in
-    counted_one (λ p. length p.1.letters) (drop (i + 1) parcels) c.loop-parcel.count (first_of_rest parcels i c.loop-parcel-test.true c.loop-parcel-item.is)
-    c.loop-parcel.invariant c.in_ok-count.ensures
+pub loop-message_list-preserved : goal.loop-message_list-preserved
+loop-message_list-preserved g c =
+    let i = c.loop-message_list.message_list-index in
+    let message_lists = c.args.message_lists.now in
+    counted_one (λ p. length p.1.envelopes) (drop (i + 1) message_lists) c.loop-message_list.count (first_of_rest message_lists i c.loop-message_list-test.true c.loop-message_list-item.is)
+    c.loop-message_list.invariant c.in_ok-count.ensures
 
 pub returns : goal.returns
 returns g c =
-    counted_all (λ p. length p.1.letters) c.loop-parcel.count (drop_of_length-le c.args.parcels.now c.loop-parcel-test.false) c.loop-parcel.invariant
+    counted_all (λ p. length p.1.envelopes) c.loop-message_list.count (drop_of_length-le c.args.message_lists.now c.loop-message_list-test.false) c.loop-message_list.invariant

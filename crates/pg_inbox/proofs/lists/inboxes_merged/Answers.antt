@@ -1,6 +1,6 @@
 use Rattle.std.proofs.Common.{◌<◌, ◌++◌, ◌∷◌, [], None, ap, map, subst, sym, ◌∙◌}
 use Rattle.pg_model.proofs.LawsLists.{all_weaker}
-use Rattle.pg_parcel.specs.Contents.{messages}
+use Rattle.pg_inbox_messages.specs.Contents.{messages}
 use Rattle.pg_inbox.specs.Merged.{IsLowest, IsLowestOf, StandByTarget, all_to}
 use Rattle.pg_inbox.specs.Ordered.{in_order}
 use Rattle.pg_inbox.proofs.Merged.{AreMergedSoFar, fewer, items_in_all, merged_all, merged_more, merged_none}
@@ -10,7 +10,7 @@ pub loop-target-init : goal.loop-target-init
 loop-target-init g c = record {
   so_far = subst (AreMergedSoFar (map (λ l. l.now) c.args.lists.items) (map (λ l. l.now) c.args.lists.items)) (sym c.in_ok-inboxes.ensures)
       (merged_none (map (λ l. l.now) c.args.lists.items) c.requires);
-  none = c.new-letters.ensures.items;
+  none = c.new-envelopes.ensures.items;
 }
 
 pub lowest_target-requires : goal.lowest_target-requires
@@ -23,7 +23,7 @@ loop-target-smaller g c =
     let left = map (λ l. l.now) c.loop-target.left.items in
     let lowest =
     subst (λ l. IsLowest (map (λ l. l.now) l) c.in-Some.target) c.as_slice-in-loop-target.ensures.value c.in-Some.ensures in
-    subst (λ l. items_in_all l < items_in_all left) (sym c.in_ok-take_letters.ensures.lists) (fewer c.in-Some.target left lowest)
+    subst (λ l. items_in_all l < items_in_all left) (sym c.in_ok-take_envelopes.ensures.lists) (fewer c.in-Some.target left lowest)
 
 pub loop-target-preserved : goal.loop-target-preserved
 loop-target-preserved g c =
@@ -31,13 +31,13 @@ loop-target-preserved g c =
     let left = map (λ l. l.now) c.loop-target.left.items in
     let target = c.in-Some.target in
     let lowest = subst (λ l. IsLowest (map (λ l. l.now) l) target) c.as_slice-in-loop-target.ensures.value c.in-Some.ensures in
-    let letters = c.in_ok-take_letters.ensures.letters ∙ ap (λ l. l ++ all_to target left) c.loop-target.invariant.none in
+    let envelopes = c.in_ok-take_envelopes.ensures.envelopes ∙ ap (λ l. l ++ all_to target left) c.loop-target.invariant.none in
     let inboxes =
-    c.in_ok-inboxes-2.ensures.inboxes ∙ ap (λ l. c.loop-target.inboxes ++ (target, messages (in_order l)) ∷ []) letters in
+    c.in_ok-inboxes-2.ensures.inboxes ∙ ap (λ l. c.loop-target.inboxes ++ (target, messages (in_order l)) ∷ []) envelopes in
     record {
-      so_far = subst (λ i. AreMergedSoFar all (map (λ l. l.now) c.take_letters.new.lists.items) i) (sym inboxes)
+      so_far = subst (λ i. AreMergedSoFar all (map (λ l. l.now) c.take_envelopes.new.lists.items) i) (sym inboxes)
           (subst (λ l. AreMergedSoFar all l (c.loop-target.inboxes ++ (target, messages (in_order (all_to target left))) ∷ []))
-          (sym c.in_ok-take_letters.ensures.lists) (merged_more all left c.loop-target.inboxes target c.loop-target.invariant.so_far lowest));
+          (sym c.in_ok-take_envelopes.ensures.lists) (merged_more all left c.loop-target.inboxes target c.loop-target.invariant.so_far lowest));
       none = c.in_ok-inboxes-2.ensures.none;
     }
 

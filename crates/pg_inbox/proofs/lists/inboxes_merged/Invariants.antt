@@ -5,7 +5,7 @@ use Rattle.pg_inbox.proofs.lists.inboxes_merged.Given as goal
 abbrev pub invariant-loop-target : goal.invariant-loop-target
 invariant-loop-target g l = record {
   so_far : AreMergedSoFar (map (λ l. l.now) l.fn.lists.items) (map (λ l. l.now) l.left.items) l.inboxes;
-  none : l.letters.items ≡ [];
+  none : l.envelopes.items ≡ [];
 }
 
 abbrev pub decreases-loop-target : goal.decreases-loop-target

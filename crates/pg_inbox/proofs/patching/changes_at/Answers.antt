@@ -4,8 +4,8 @@ use Rattle.std.specs.Option.{option_copied}
 use Rattle.pg_map.specs.Entries.{value_at}
 use Rattle.pg_model.proofs.LawsLists.{all-append}
 use Rattle.pg_inbox.specs.Holding.{HoldsAt}
-use Rattle.pg_inbox.specs.Mending.{changes_of, mended_in}
-use Rattle.pg_parcel.specs.Grouping.{groups_of}
+use Rattle.pg_inbox.specs.MessageEdits.{changes_of, edited_in}
+use Rattle.pg_inbox_messages.specs.Grouping.{groups_of}
 use Rattle.pg_inbox.proofs.Replacing.{AreFound, found-more, found-none, found_all}
 use Rattle.pg_inbox.proofs.patching.changes_at.Goals as goal
 
@@ -13,8 +13,8 @@ pub loop-target-init : goal.loop-target-init
 loop-target-init g c =
     let combining = g.C.MessageCombiner.combining c.args.combiner.now in
     record {
-      same = c.finder-finder.ensures;
-      items = ap (λ l. l ++ changes_of combining c.args.old.now (groups_of c.args.mends.now)) c.in_ok-changes.ensures.items;
+      same = c.cursor-cursor.ensures;
+      items = ap (λ l. l ++ changes_of combining c.args.old.now (groups_of c.args.message_edits.now)) c.in_ok-changes.ensures.items;
       found = subst₂ (AreFound c.args.old.now) (sym c.in_ok-changes.ensures.items) (sym c.in_ok-changed.ensures.items) (found-none c.args.old.now);
       hold = subst (AllByRecursion (λ x. HoldsAt g.M.Plain.is_value x.1)) (sym c.in_ok-changes.ensures.items) tt;
     }
@@ -26,12 +26,12 @@ loop-target-preserved g c =
     let now = c.loop-target in
     let target = c.in-Some.target in
     let change = c.in_ok-change.change in
-    let mends = map (λ m. m.1) c.in-Some.here.now in
+    let message_edits = map (λ m. m.1) c.in-Some.here.now in
     let pushed : c.push.new.self.items ≡ now.changes.items ++ (target, change) ∷ [] = search rules in
     let at : option_copied c.as_ref-seen.result ≡ value_at target old = search (rules, ap (value_at target) now.invariant.same) in
     record {
-      same = c.parcel-before.ensures.same ∙ now.invariant.same;
-      items = search (rules, ap (λ o. mended_in combining o mends) at, append_assoc);
+      same = c.message_list-before.ensures.same ∙ now.invariant.same;
+      items = search (rules, ap (λ o. edited_in combining o message_edits) at, append_assoc);
       found = found-more old now.changes.items c.push.new.self.items now.changed.items c.note_if_changed.new.changed.items now.invariant.found
           pushed at refl c.in_ok-note_if_changed.ensures (search rules);
       hold = subst (AllByRecursion (λ x. HoldsAt g.M.Plain.is_value x.1)) (sym pushed)

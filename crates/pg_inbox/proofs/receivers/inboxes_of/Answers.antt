@@ -3,14 +3,14 @@ use Rattle.std.proofs.Math.ListN.{drop_of_length-le}
 use Rattle.std.proofs.lemmas.List.{drop-drop}
 use Rattle.pg_map.proofs.Cut.{cut_leaves}
 use Rattle.pg_map.proofs.Moved.{moved_all}
-use Rattle.pg_parcel.specs.Grouping.{groups_of}
+use Rattle.pg_inbox_messages.specs.Grouping.{groups_of}
 use Rattle.pg_inbox.specs.Inboxes.{inboxes_of}
 use Rattle.pg_inbox.proofs.receivers.inboxes_of.Goals as goal
 
 pub loop-done-preserved : goal.loop-done-preserved
 loop-done-preserved g c =
     let made = inboxes_of (g.C.MessageCombiner.combining c.args.combiner.now) in
-    let items = c.args.parcels.now in
+    let items = c.args.message_lists.now in
     let done = c.loop-done.done in
     let count = c.in_ok-more.count in
     let left = c.split_at.result.1.now in
@@ -28,4 +28,4 @@ loop-done-preserved g c =
 pub returns : goal.returns
 returns g c =
     let made = inboxes_of (g.C.MessageCombiner.combining c.args.combiner.now) in
-    moved_all c.loop-done.inboxes (ap (λ l. made (groups_of l)) (drop_of_length-le c.args.parcels.now c.loop-done-test.false)) c.loop-done.invariant.inboxes
+    moved_all c.loop-done.inboxes (ap (λ l. made (groups_of l)) (drop_of_length-le c.args.message_lists.now c.loop-done-test.false)) c.loop-done.invariant.inboxes

@@ -5,7 +5,7 @@ use Rattle.pg_inbox.proofs.receiving.add_receivers_of.Given as goal
 
 abbrev pub invariant-loop-id : goal.invariant-loop-id
 invariant-loop-id g l = record {
-  same : l.finder ≡ l.bundle;
+  same : l.cursor ≡ l.bundle;
   added : (q : ℕ) → has_id l.receivers.items q
       ≡ (has_id l.initial.receivers.items q || (has_id (take l.id-index l.ids) q && is_some (value_at q l.bundle)));
 }

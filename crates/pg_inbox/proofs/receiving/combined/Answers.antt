@@ -8,13 +8,13 @@ use Rattle.pg_inbox.proofs.Delivery.{gathered_parts}
 use Rattle.pg_inbox.proofs.Taking.{any_more, combined_all, combined_more, combined_none, none_or_any}
 use Rattle.pg_inbox.proofs.receiving.combined.Goals as goal
 
-pub loop-parcel-preserved : goal.loop-parcel-preserved
-loop-parcel-preserved g c =
-    let now = c.loop-parcel in
-    let parcels = c.args.parcels.now in
-    let taken = folded_of (take now.parcel-index parcels) in
-    let folded = c.loop-parcel-item.result.1.folded in
-    let next = gathered_parts (λ p. p.1) (λ p. option_to_list p.folded) [] parcels now.parcel-index c.loop-parcel-test.true c.loop-parcel-item.is refl refl in
+pub loop-message_list-preserved : goal.loop-message_list-preserved
+loop-message_list-preserved g c =
+    let now = c.loop-message_list in
+    let message_lists = c.args.message_lists.now in
+    let taken = folded_of (take now.message_list-index message_lists) in
+    let folded = c.loop-message_list-item.result.1.folded in
+    let next = gathered_parts (λ p. p.1) (λ p. option_to_list p.folded) [] message_lists now.message_list-index c.loop-message_list-test.true c.loop-message_list-item.is refl refl in
     record {
       so_far = combined_more (g.C.MessageCombiner.combining c.args.combiner.now) taken (option_to_list folded) now.so_far _ next
           now.invariant.so_far c.in_ok-is_any.ensures.more;
@@ -24,16 +24,16 @@ loop-parcel-preserved g c =
 pub returns-then-not-is_any : goal.returns-then-not-is_any
 returns-then-not-is_any g c =
     let combining = g.C.MessageCombiner.combining c.args.combiner.now in
-    let all = ap folded_of (take_all c.loop-parcel.parcel-index c.args.parcels.now c.loop-parcel-test.false) in
-    c.new.ensures.items ∙ combined_none combining (folded_of c.args.parcels.now) c.requires
-    (ap is_empty (sym all) ∙ none_or_any _ _ c.loop-parcel.invariant.any c.if-not-is_any.true)
+    let all = ap folded_of (take_all c.loop-message_list.message_list-index c.args.message_lists.now c.loop-message_list-test.false) in
+    c.new.ensures.items ∙ combined_none combining (folded_of c.args.message_lists.now) c.requires
+    (ap is_empty (sym all) ∙ none_or_any _ _ c.loop-message_list.invariant.any c.if-not-is_any.true)
 
 pub returns : goal.returns
 returns g c =
     let combining = g.C.MessageCombiner.combining c.args.combiner.now in
-    let so_far = c.loop-parcel.so_far in
-    let all = ap folded_of (take_all c.loop-parcel.parcel-index c.args.parcels.now c.loop-parcel-test.false) in
+    let so_far = c.loop-message_list.so_far in
+    let all = ap folded_of (take_all c.loop-message_list.message_list-index c.args.message_lists.now c.loop-message_list-test.false) in
     c.in_ok-push.ensures.items ∙ ap (λ l. l ++ so_far ∷ []) c.in_ok-inbox.ensures.items
-    ∙ combined_all combining (folded_of c.args.parcels.now) so_far c.requires
-    (ap is_empty (sym all) ∙ none_or_any _ _ c.loop-parcel.invariant.any c.if-not-is_any.false)
-    (subst (λ l. IfSome combining (λ k. so_far ≡ fold k.combine k.initial l)) all c.loop-parcel.invariant.so_far)
+    ∙ combined_all combining (folded_of c.args.message_lists.now) so_far c.requires
+    (ap is_empty (sym all) ∙ none_or_any _ _ c.loop-message_list.invariant.any c.if-not-is_any.false)
+    (subst (λ l. IfSome combining (λ k. so_far ≡ fold k.combine k.initial l)) all c.loop-message_list.invariant.so_far)

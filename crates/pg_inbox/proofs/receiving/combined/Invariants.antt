@@ -4,8 +4,8 @@ use Rattle.pg_model.specs.Superstep.{is_empty}
 use Rattle.pg_inbox.specs.Inboxes.{folded_of}
 use Rattle.pg_inbox.proofs.receiving.combined.Given as goal
 
-abbrev pub invariant-loop-parcel : goal.invariant-loop-parcel
-invariant-loop-parcel g l = record {
-  so_far : IfSome (g.C.MessageCombiner.combining l.combiner) (λ c. l.so_far ≡ fold c.combine c.initial (folded_of (take l.parcel-index l.parcels)));
-  any : l.is_any ≡ not (is_empty (folded_of (take l.parcel-index l.parcels)));
+abbrev pub invariant-loop-message_list : goal.invariant-loop-message_list
+invariant-loop-message_list g l = record {
+  so_far : IfSome (g.C.MessageCombiner.combining l.combiner) (λ c. l.so_far ≡ fold c.combine c.initial (folded_of (take l.message_list-index l.message_lists)));
+  any : l.is_any ≡ not (is_empty (folded_of (take l.message_list-index l.message_lists)));
 }

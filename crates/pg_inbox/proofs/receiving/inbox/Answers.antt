@@ -16,8 +16,8 @@ returns g c =
     let laws = g.met.C.MessageCombiner g.world.𝓛 g.world.𝓜 g.world.𝓡 ((λ s x. x), (λ x. x), (λ x. x), λ x. x) in
     let delivers =
     delivers_received id is_value combining (laws.lawful c.args.combiner.now) (map (λ b. b.now) bundles)
-    (all_to_map (λ b. b.now) (λ b. HoldsAt is_value (value_at id b)) bundles c.in_ok-parcels.ensures.hold) in
-    let parcels = ap (map (λ p. p.1)) c.as_slice.ensures.value ∙ c.in_ok-parcels.ensures.items in
+    (all_to_map (λ b. b.now) (λ b. HoldsAt is_value (value_at id b)) bundles c.in_ok-message_lists.ensures.hold) in
+    let message_lists = ap (map (λ p. p.1)) c.as_slice.ensures.value ∙ c.in_ok-message_lists.ensures.items in
     IfOk-weaker c.received.result _ _
-    (λ inbox is. subst (Delivers combining id (map (λ b. b.now) bundles)) (sym (is ∙ ap (received_of combining) parcels)) delivers)
+    (λ inbox is. subst (Delivers combining id (map (λ b. b.now) bundles)) (sym (is ∙ ap (received_of combining) message_lists)) delivers)
     c.received.ensures

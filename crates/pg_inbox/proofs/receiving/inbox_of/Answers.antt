@@ -11,15 +11,15 @@ returns-in-Some g c =
     let id = c.args.id in
     let bundle = c.args.bundle.now in
     let laws = g.met.C.MessageCombiner g.world.𝓛 g.world.𝓜 g.world.𝓡 ((λ s x. x), (λ x. x), (λ x. x), λ x. x) in
-    let delivers = delivers_received id g.M.Plain.is_value combining (laws.lawful c.args.combiner.now) (bundle ∷ []) (c.parcel.ensures.holds, tt) in
+    let delivers = delivers_received id g.M.Plain.is_value combining (laws.lawful c.args.combiner.now) (bundle ∷ []) (c.message_list.ensures.holds, tt) in
     IfOk-weaker c.received.result _ _
     (λ inbox is. subst (Delivers combining id (bundle ∷ []))
-    (sym (is ∙ ap (λ o. received_of combining (option_to_list o ++ [])) (sym c.in-Some.is ∙ c.parcel.ensures.value))) delivers)
+    (sym (is ∙ ap (λ o. received_of combining (option_to_list o ++ [])) (sym c.in-Some.is ∙ c.message_list.ensures.value))) delivers)
     c.received.ensures
 
 pub returns-in-None : goal.returns-in-None
 returns-in-None g c =
     let id = c.args.id in
     subst (Delivers (g.C.MessageCombiner.combining c.args.combiner.now) id (c.args.bundle.now ∷ [])) (sym c.new.ensures.items)
-    (delivers_nothing id (c.args.bundle.now ∷ []) (ap (λ o. is_some o || false) (sym c.parcel.ensures.value ∙ c.in-None.is))
+    (delivers_nothing id (c.args.bundle.now ∷ []) (ap (λ o. is_some o || false) (sym c.message_list.ensures.value ∙ c.in-None.is))
     (g.C.MessageCombiner.combining c.args.combiner.now))

@@ -4,5 +4,5 @@ use Rattle.pg_scratch.proofs.execution.execute_all.Given as goal
 
 abbrev pub invariant-loop-place : goal.invariant-loop-place
 invariant-loop-place g l =
-    (low : ℕ) × PassedTo (g.P.Computation.program l.program) l.initial.standings.items l.standings.items l.initial.cx
+    (low : ℕ) × PassedTo (g.P.Computation.program l.program) l.initial.with_inboxes.items l.with_inboxes.items l.initial.cx
     l.cx l.work l.found.unhalted.items l.found.edges l.place-index low

@@ -5,45 +5,45 @@ use Rattle.std.proofs.lemmas.List.{length-map}
 use Rattle.pg_model.specs.InOrder.{AreWaiting}
 use Rattle.pg_model.specs.Superstep.{capped, edges_of, ids, visible_in, view_of, gathered_from, with_made}
 use Rattle.pg_model.specs.declared.view.Declared.{Declared}
-use Rattle.pg_model.specs.declared.configuration.Standing.{Standing}
+use Rattle.pg_model.specs.declared.configuration.VertexWithInbox.{VertexWithInbox}
 use Rattle.pg_global.specs.Master.{job_of}
-use Rattle.pg_delivery.specs.Worklist.{ListsActive}
+use Rattle.pg_scratch_delivery.specs.Worklist.{ListsActive}
 use Rattle.pg_scratch.proofs.Edges.{edges-made}
 use Rattle.pg_scratch.proofs.Stepping.{shown_in}
-use Rattle.pg_scratch.proofs.Whole.{played_ids, played_empty, aggregators-registered, as_many-registered, stepped}
+use Rattle.pg_scratch.proofs.Whole.{executed_ids, executed_empty, aggregators-registered, as_many-registered, stepped}
 use Rattle.pg_scratch.proofs.superstep.superstep.Goals as goal
 
 pub with_waiting-requires-clause-waiting : goal.with_waiting-requires-clause-waiting
 with_waiting-requires-clause-waiting g c =
-    λ _ _. subst (λ (l : List (Standing g.row.P-Value.Denot g.row.P-Message.Denot)). AreWaiting
-    {M = g.row.P-Message.Denot} (ids l) c.args.progress.configuration.waiting) (sym c.into_vec-standings.ensures)
+    λ _ _. subst (λ (l : List (VertexWithInbox g.row.P-Value.Denot g.row.P-Message.Denot)). AreWaiting
+    {M = g.row.P-Message.Denot} (ids l) c.args.progress.configuration.waiting) (sym c.into_vec-with_inboxes.ensures)
     c.requires.ready.in_order.waiting
 
-pub play-requires-clause-shown : goal.play-requires-clause-shown
-play-requires-clause-shown g c =
+pub execute-requires-clause-shown : goal.execute-requires-clause-shown
+execute-requires-clause-shown g c =
     λ _ _. shown_in (g.P.Computation.program c.args.runner.now.program.now) c.declared.result c.args.superstep
     (length c.args.runner.now.registrations.now) c.in_ok-visible.visible c.in_ok-view.view
     c.requires.prepared.declared (c.in_ok-visible.ensures.places ∙ c.requires.ready.gathered) c.declared.ensures
     c.in_ok-view.ensures
 
-pub play-requires-clause-edges : goal.play-requires-clause-edges
-play-requires-clause-edges g c =
+pub execute-requires-clause-edges : goal.execute-requires-clause-edges
+execute-requires-clause-edges g c =
     let program = g.P.Computation.program c.args.runner.now.program.now in
     λ _ _. c.requires.ready.edges
-    ∙ ap capped (sym (edges-made program c.args.progress.configuration.standings c.args.progress.configuration.waiting)
-    ∙ ap (λ (l : List (Standing g.row.P-Value.Denot g.row.P-Message.Denot)). edges_of
-    (with_made program l c.args.progress.configuration.waiting)) (sym c.into_vec-standings.ensures)
-    ∙ ap (λ (l : List (Standing g.row.P-Value.Denot g.row.P-Message.Denot)). edges_of l) (sym c.in_ok-roster.ensures.standings))
+    ∙ ap capped (sym (edges-made program c.args.progress.configuration.with_inboxes c.args.progress.configuration.waiting)
+    ∙ ap (λ (l : List (VertexWithInbox g.row.P-Value.Denot g.row.P-Message.Denot)). edges_of
+    (with_made program l c.args.progress.configuration.waiting)) (sym c.into_vec-with_inboxes.ensures)
+    ∙ ap (λ (l : List (VertexWithInbox g.row.P-Value.Denot g.row.P-Message.Denot)). edges_of l) (sym c.in_ok-vertex_table.ensures.with_inboxes))
 
 pub receive-requires-clause-ids : goal.receive-requires-clause-ids
 receive-requires-clause-ids g c =
-    λ _ _. played_ids (g.P.Computation.program c.args.runner.now.program.now) c.in_ok-view.view c.in_ok-roster.roster
-    c.args.progress.meter c.in_ok-roster-2.field-0 c.in_ok-roster-2.ensures c.in_ok-roster.ensures.in_place
+    λ _ _. executed_ids (g.P.Computation.program c.args.runner.now.program.now) c.in_ok-view.view c.in_ok-vertex_table.vertex_table
+    c.args.progress.meter c.in_ok-vertex_table-2.field-0 c.in_ok-vertex_table-2.ensures c.in_ok-vertex_table.ensures.in_place
 
 pub receive-requires-clause-empty : goal.receive-requires-clause-empty
 receive-requires-clause-empty g c =
-    λ _ _. played_empty (g.P.Computation.program c.args.runner.now.program.now) c.in_ok-view.view
-    c.in_ok-roster.roster c.args.progress.meter c.in_ok-roster-2.field-0 c.in_ok-roster-2.ensures
+    λ _ _. executed_empty (g.P.Computation.program c.args.runner.now.program.now) c.in_ok-view.view
+    c.in_ok-vertex_table.vertex_table c.args.progress.meter c.in_ok-vertex_table-2.field-0 c.in_ok-vertex_table-2.ensures
 
 pub returns : goal.returns
 returns g c =
@@ -57,10 +57,10 @@ returns g c =
     (record {
       shown = c.in_ok-visible.visible;
       view = c.in_ok-view.view;
-      roster = c.in_ok-roster.roster;
-      played = c.in_ok-roster-2.field-0;
+      vertex_table = c.in_ok-vertex_table.vertex_table;
+      executed = c.in_ok-vertex_table-2.field-0;
       gathered = c.in_ok-gathered.gathered;
-      received = c.in_ok-roster-3.field-0;
+      received = c.in_ok-vertex_table-3.field-0;
     })
     (record {
       shown_is = c.in_ok-visible.ensures.value
@@ -71,15 +71,15 @@ returns g c =
           }) c.args.superstep before.gathered);
       shown_places = c.in_ok-visible.ensures.places;
       view_is = c.in_ok-view.ensures ∙ ap (λ (d : Declared). view_of d c.args.superstep c.in_ok-visible.visible) c.declared.ensures;
-      roster_is = c.in_ok-roster.ensures.standings
-          ∙ ap (λ (l : List (Standing g.row.P-Value.Denot g.row.P-Message.Denot)). with_made program l before.waiting) c.into_vec-standings.ensures;
-      in_place = c.in_ok-roster.ensures.in_place;
-      plays = c.in_ok-roster-2.ensures;
+      vertex_table_is = c.in_ok-vertex_table.ensures.with_inboxes
+          ∙ ap (λ (l : List (VertexWithInbox g.row.P-Value.Denot g.row.P-Message.Denot)). with_made program l before.waiting) c.into_vec-with_inboxes.ensures;
+      in_place = c.in_ok-vertex_table.ensures.in_place;
+      executes = c.in_ok-vertex_table-2.ensures;
       gathered_is = c.in_ok-gathered.ensures
           ∙ (λ i. gathered_from 0 (aggregators-registered master c.args.runner.now.registrations.now
           c.requires.prepared.registered i) (c.as_slice.ensures i) (c.as_slice-2.ensures i));
-      receives = c.in_ok-roster-3.ensures;
-      standings = c.from_vec.ensures;
+      receives = c.in_ok-vertex_table-3.ensures;
+      with_inboxes = c.from_vec.ensures;
       waiting = refl;
       gathered = refl;
       sent = c.saturating_add-sent.ensures ∙ ap (λ (n : ℕ). capped (before.sent + n)) c.len.ensures;
@@ -103,27 +103,27 @@ view_of-requires g c =
 pub with_waiting-requires-clause-in_place : goal.with_waiting-requires-clause-in_place
 with_waiting-requires-clause-in_place g c =
     let ready = c.requires.ready in
-    let standings = sym c.into_vec-standings.ensures in
+    let with_inboxes = sym c.into_vec-with_inboxes.ensures in
     let work = c.args.progress.work.items in
     λ _ _. record {
-      ids_are = ready.ids_are ∙ ap (λ (l : List (Standing g.row.P-Value.Denot g.row.P-Message.Denot)). ids l) standings;
-      ids_rise = subst (IsStrictlySortedBy nat_cmp) (sym ready.ids_are) ready.in_order.standings;
-      lists = subst (λ (l : List (Standing g.row.P-Value.Denot g.row.P-Message.Denot)). ListsActive l work) standings ready.lists;
+      ids_are = ready.ids_are ∙ ap (λ (l : List (VertexWithInbox g.row.P-Value.Denot g.row.P-Message.Denot)). ids l) with_inboxes;
+      ids_rise = subst (IsStrictlySortedBy nat_cmp) (sym ready.ids_are) ready.in_order.with_inboxes;
+      lists = subst (λ (l : List (VertexWithInbox g.row.P-Value.Denot g.row.P-Message.Denot)). ListsActive l work) with_inboxes ready.lists;
       in_order = ready.work_rises;
     }
 
-pub play-requires-clause-in_place : goal.play-requires-clause-in_place
-play-requires-clause-in_place g c = λ _ _. c.in_ok-roster.ensures.in_place
+pub execute-requires-clause-in_place : goal.execute-requires-clause-in_place
+execute-requires-clause-in_place g c = λ _ _. c.in_ok-vertex_table.ensures.in_place
 
-pub play-requires-clause-fits : goal.play-requires-clause-fits
-play-requires-clause-fits g c = λ _ _. c.requires.fits
+pub execute-requires-clause-fits : goal.execute-requires-clause-fits
+execute-requires-clause-fits g c = λ _ _. c.requires.fits
 
 pub gather_all-requires : goal.gather_all-requires
 gather_all-requires g c = sym (ap length c.as_slice.ensures ∙ c.in_ok-visible.ensures.places ∙ c.requires.ready.gathered)
 
 pub receive-requires-clause-rising : goal.receive-requires-clause-rising
 receive-requires-clause-rising g c =
-    λ _ _. subst (IsStrictlySortedBy nat_cmp) (sym c.in_ok-roster-2.ensures.ids_stay) c.in_ok-roster.ensures.in_place.ids_rise
+    λ _ _. subst (IsStrictlySortedBy nat_cmp) (sym c.in_ok-vertex_table-2.ensures.ids_stay) c.in_ok-vertex_table.ensures.in_place.ids_rise
 
 pub receive-requires-clause-lists : goal.receive-requires-clause-lists
-receive-requires-clause-lists g c = λ _ _. c.in_ok-roster-2.ensures.lists
+receive-requires-clause-lists g c = λ _ _. c.in_ok-vertex_table-2.ensures.lists

@@ -5,9 +5,9 @@ use Rattle.std.specs.Ordering.{nat_cmp}
 use Rattle.std.proofs.lemmas.List.{take_all}
 use Rattle.std.proofs.lemmas.Map.Made.{keys_of-map_values}
 use Rattle.std.proofs.lemmas.Result.{IfOk-weaker}
-use Rattle.pg_index.specs.Ran.{IsIndex, IsNoted}
-use Rattle.pg_index.proofs.Last.{index_rises}
-use Rattle.pg_index.proofs.Noting.{index-less}
+use Rattle.pg_trace_index.specs.Occurrences.{IsIndex, IsNoted}
+use Rattle.pg_trace_index.proofs.Last.{index_rises}
+use Rattle.pg_trace_index.proofs.Noting.{index-less}
 use Rattle.pg_trace.proofs.records.cut_index.Goals as goal
 
 pub noted-requires-clause-rise : goal.noted-requires-clause-rise
@@ -30,7 +30,7 @@ loop-left-preserved g c =
       index = index-less ss (left - 1) c.index-supersteps-left.result c.as_slice.result.now c.loop-left.first c.in_ok-first-2.first within
           c.index-supersteps-left.is (subst (λ n. IsIndex (take n ss) c.loop-left.first) one c.loop-left.invariant.index)
           (c.as_slice.ensures.value ∙ c.in_ok-none.ensures.none)
-          (subst (λ n. IsNoted n c.as_slice.result.now c.loop-left.first c.in_ok-first-2.first) c.in_ok-narrow.ensures c.in_ok-first-2.ensures);
+          (subst (λ n. IsNoted n c.as_slice.result.now c.loop-left.first c.in_ok-first-2.first) c.in_ok-checked_u32.ensures c.in_ok-first-2.ensures);
     }
 
 pub loop-left-init : goal.loop-left-init
@@ -48,6 +48,6 @@ returns g c =
     let ss = c.args.supersteps.now in
     let first = c.loop-left.first in
     let end : c.loop-left.left ≡ c.args.len = omega (arith, c.loop-left-test.false, c.loop-left.invariant.low) in
-    IfOk-weaker c.settled.result _ _
+    IfOk-weaker c.sealed.result _ _
     (λ after is. subst (λ ran. IsIndex (take c.args.len ss) ran) (sym is) (subst (λ n. IsIndex (take n ss) first) end c.loop-left.invariant.index))
-    c.settled.ensures
+    c.sealed.ensures

@@ -1,5 +1,5 @@
 use Rattle.std.proofs.Common.{◌-◌, ◌≤◌, length, take}
-use Rattle.pg_index.specs.Ran.{IsIndex}
+use Rattle.pg_trace_index.specs.Occurrences.{IsIndex}
 use Rattle.pg_trace.proofs.records.cut_index.Given as goal
 
 abbrev pub invariant-loop-left : goal.invariant-loop-left

@@ -1,8 +1,8 @@
 use Rattle.std.proofs.Common.{◌≡◌, ◌++◌, [], ◌∷◌, ◌≤◌, ◌<◌, length, set, sym, ap, ◌∙◌, subst, arith}
 use Rattle.std.proofs.lemmas.List.{get_or_default}
 use Rattle.pg_map.specs.Entries.{HasRisingIds, with_changes}
-use Rattle.pg_index.proofs.InPlace.{put-next, put-there}
-use Rattle.pg_index.proofs.Noting.{rises_past}
+use Rattle.pg_trace_index.proofs.InPlace.{put-next, put-there}
+use Rattle.pg_trace_index.proofs.Noting.{rises_past}
 use Rattle.pg_trace.proofs.records.put_records.Goals as goal
 
 pub returns-then-place-len-clause-put : goal.returns-then-place-len-clause-put

@@ -7,7 +7,7 @@ use Rattle.pg_trace.proofs.records.shared.Goals as goal
 pub loop-records-preserved : goal.loop-records-preserved
 loop-records-preserved g c =
     taken_more c.args.supersteps.now c.loop-records.records-index c.loop-records-test.true c.records-item.is c.loop-records.invariant
-    (c.in_ok-push.ensures.items ∙ ap (λ r. c.loop-records.shared.items ++ r ∷ []) c.in_ok-share.ensures)
+    (c.in_ok-push.ensures.items ∙ ap (λ r. c.loop-records.shared.items ++ r ∷ []) c.in_ok-cheap_clone.ensures)
 
 pub returns : goal.returns
 returns g c = c.loop-records.invariant ∙ take_all c.loop-records.records-index c.args.supersteps.now c.loop-records-test.false
@@ -15,8 +15,8 @@ returns g c = c.loop-records.invariant ∙ take_all c.loop-records.records-index
 pub returns-in_err-shared : goal.returns-in_err-shared
 returns-in_err-shared g c = IfOk-from_err c.from_residual.result _ c.from_residual.ensures.0
 
-pub returns-in_err-share : goal.returns-in_err-share
-returns-in_err-share g c = IfOk-from_err c.from_residual-in_err-share.result _ c.from_residual-in_err-share.ensures.0
+pub returns-in_err-cheap_clone : goal.returns-in_err-cheap_clone
+returns-in_err-cheap_clone g c = IfOk-from_err c.from_residual-in_err-cheap_clone.result _ c.from_residual-in_err-cheap_clone.ensures.0
 
 pub returns-in_err-push : goal.returns-in_err-push
 returns-in_err-push g c = IfOk-from_err c.from_residual-in_err-push.result _ c.from_residual-in_err-push.ensures.0

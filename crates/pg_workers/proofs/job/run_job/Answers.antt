@@ -44,8 +44,8 @@ returns-clause-unlost g c kept right none =
     (subst (IsRunning own fated core (g.S.Shelf.state c.args.shelf.now)) (sym c.new-coordinator.ensures.value) begun) in
     c.in_ok-finish.ensures.unlost fated core (g.S.Shelf.state c.drive.new.shelf) runs kept right none
 
-pub returns-clause-alone : goal.returns-clause-alone
-returns-clause-alone g c one =
+pub returns-clause-cold : goal.returns-clause-cold
+returns-clause-cold g c one =
     let own = meaning g.P.Computation.program g.C.MessageCombiner.combining g.M.MasterCompute.master g.P.Value.PartialEq.eq g.P.Message.PartialEq.eq
     g.P.Value.Plain.is_value g.P.Value.Coded.coding g.P.Message.Plain.is_value g.P.Message.Coded.coding in
     let fated = g.F.Fate.fated c.args.fate.now in
@@ -53,4 +53,4 @@ returns-clause-alone g c one =
     let begun = running_first own fated core (g.S.Shelf.state c.args.shelf.now) c.new-coordinator.ensures.leads c.requires.begins in
     let runs = c.in_ok-drive.ensures.keeps core
     (subst (IsRunning own fated core (g.S.Shelf.state c.args.shelf.now)) (sym c.new-coordinator.ensures.value) begun) in
-    c.in_ok-finish.ensures.alone fated core (g.S.Shelf.state c.drive.new.shelf) runs one
+    c.in_ok-finish.ensures.cold fated core (g.S.Shelf.state c.drive.new.shelf) runs one

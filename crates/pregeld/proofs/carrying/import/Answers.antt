@@ -1,11 +1,11 @@
 use Rattle.std.proofs.Common.{◌≡◌, ◌+◌, Ok, rules, subst, sym}
-use Rattle.pregeld.specs.Notes.{Held}
+use Rattle.pregeld.specs.SessionState.{ServiceWithSession}
 use Rattle.pregeld.specs.Reading.{lines_left}
 use Rattle.pregeld.specs.Keeping.{ImportsLines, RepliesTo}
 use Rattle.pregeld.specs.Session.{Place}
-use Rattle.pg_command.specs.declared.command.Action.TheVariants.{Import}
-use Rattle.pg_command.specs.declared.command.Command.TheVariants.{Act}
-use Rattle.pg_command.specs.declared.command.LineFault.TheVariants.{EditsPending}
+use Rattle.pregeld_commands.specs.declared.command.Action.TheVariants.{Import}
+use Rattle.pregeld_commands.specs.declared.command.Command.TheVariants.{Act}
+use Rattle.pregeld_commands.specs.declared.command.LineFault.TheVariants.{EditsPending}
 use Rattle.pregeld.specs.declared.reply.Reply.TheVariants.{Fault}
 use Rattle.pregeld.proofs.Actions.{aside_replies, cut_short_replies, import_replies}
 use Rattle.pregeld.proofs.carrying.import.Goals as goal
@@ -14,7 +14,7 @@ pub returns-then-has_pending-clause-ok : goal.returns-then-has_pending-clause-ok
 returns-then-has_pending-clause-ok g c state keeps rest there =
     let left = lines_left (g.R.Read.remaining c.skip_lines.new.reader) in
     let here : Place = record { number = c.args.number; state = state; lines = rest } in
-    let held : Held = record { service = c.args.service.now; notes = c.args.notes.now } in
+    let held : ServiceWithSession = record { service = c.args.service.now; session_state = c.args.session_state.now } in
     let reached : c.in-Some.reached ≡ c.args.number + c.args.lines = search rules in
     subst (λ k. RepliesTo (Ok (Act (Import c.args.form c.args.lines))) here c.args.service.now (Fault EditsPending here.number) k held left) (sym reached)
     (aside_replies c.args.form c.args.lines c.in_ok-_aside._aside here held left keeps c.if-has_pending.ensures (c.in_ok-_aside.ensures.ok rest there))
@@ -27,15 +27,15 @@ returns-in-Some-2-clause-ok g c state keeps rest there =
     let imports = subst (λ o. ImportsLines c.args.form c.args.lines rest c.args.service.now o c.import_lines.new.service left) c.in-Some-2.is
     (c.in_ok-reply.ensures.ok rest there) in
     subst (λ k. RepliesTo (Ok (Act (Import c.args.form c.args.lines))) here c.args.service.now c.in-Some-2.reply k
-    (record { service = c.import_lines.new.service; notes = c.args.notes.now }) left) (sym reached)
-    (import_replies c.args.form c.args.lines here c.args.service.now c.args.notes.now c.in-Some-2.reply c.import_lines.new.service left keeps
+    (record { service = c.import_lines.new.service; session_state = c.args.session_state.now }) left) (sym reached)
+    (import_replies c.args.form c.args.lines here c.args.service.now c.args.session_state.now c.in-Some-2.reply c.import_lines.new.service left keeps
     c.if-has_pending.ensures imports)
 
 pub returns-in-None-clause-ok : goal.returns-in-None-clause-ok
 returns-in-None-clause-ok g c state keeps rest there =
     let left = lines_left (g.R.Read.remaining c.import_lines.new.reader) in
     let here : Place = record { number = c.args.number; state = state; lines = rest } in
-    let held : Held = record { service = c.args.service.now; notes = c.args.notes.now } in
+    let held : ServiceWithSession = record { service = c.args.service.now; session_state = c.args.session_state.now } in
     let imports = subst (λ o. ImportsLines c.args.form c.args.lines rest c.args.service.now o c.import_lines.new.service left) c.in-None.is
     (c.in_ok-reply.ensures.ok rest there) in
     cut_short_replies c.args.form c.args.lines here held c.import_lines.new.service left keeps c.if-has_pending.ensures imports

@@ -1,6 +1,6 @@
 use Rattle.std.proofs.lemmas.Result.{err_from_is_err_and}
 use Rattle.std.proofs.Common.{◌≡◌, ◌≢◌, ◌+◌, List, ℕ, option_map, rules, subst}
-use Rattle.pregeld.specs.Notes.{Held}
+use Rattle.pregeld.specs.SessionState.{ServiceWithSession}
 use Rattle.pregeld.specs.Reading.{NextLine, lines_left}
 use Rattle.pregeld.specs.Keeping.{AnswersLine, FailsLine}
 use Rattle.pregeld.specs.declared.session.ServeFault.TheVariants.{Read, Write}
@@ -11,7 +11,7 @@ read_is_not_write : Read ≢ Write
 read_is_not_write same = absurd cc
 
 pub loop-turn-init : goal.loop-turn-init
-loop-turn-init g c input there = at_first input (g.R.Read.remaining c.args.reader.now) c.args.service.now c.args.notes.now
+loop-turn-init g c input there = at_first input (g.R.Read.remaining c.args.reader.now) c.args.service.now c.args.session_state.now
     (g.W.Write.contents c.args.writer.now) there c.requires
 
 pub returns-in_default-clause-ok : goal.returns-in_default-clause-ok
@@ -20,28 +20,28 @@ returns-in_default-clause-ok g c =
     let m = c.loop-turn.invariant input there in
     let none = subst (λ o. NextLine (option_map (λ bytes. bytes.items) o) m.lines (lines_left (g.R.Read.remaining c.next_line.new.reader)))
     c.in_default.is (c.in_ok-line.ensures.ok m.lines m.left_is) in
-    at_end input c.args.service.now (record { service = c.loop-turn.service; notes = c.loop-turn.notes }) c.loop-turn.number
+    at_end input c.args.service.now (record { service = c.loop-turn.service; session_state = c.loop-turn.session_state }) c.loop-turn.number
     (lines_left (g.R.Read.remaining c.loop-turn.reader)) (g.W.Write.contents c.args.writer.now) (g.W.Write.contents c.loop-turn.writer) m none)
 
 pub returns-in_err-line-clause-err : goal.returns-in_err-line-clause-err
 returns-in_err-line-clause-err g c =
     let p = err_from_is_err_and c.from_residual.result c.from_residual.ensures.1 in
     rw (p.1, p.2) (if_known (g.R.Read.remaining c.args.reader.now) (λ input there.
-    between_lines _ input c.args.service.now (record { service = c.loop-turn.service; notes = c.loop-turn.notes }) c.loop-turn.number
+    between_lines _ input c.args.service.now (record { service = c.loop-turn.service; session_state = c.loop-turn.session_state }) c.loop-turn.number
     (lines_left (g.R.Read.remaining c.loop-turn.reader)) (g.W.Write.contents c.args.writer.now) (g.W.Write.contents c.loop-turn.writer)
     c.in_err-line.ensures.err (c.loop-turn.invariant input there)))
 
 pub returns-in_default-checked_add-clause-err : goal.returns-in_default-checked_add-clause-err
 returns-in_default-checked_add-clause-err g c =
     if_known (g.R.Read.remaining c.args.reader.now) (λ input there.
-    between_lines Read input c.args.service.now (record { service = c.loop-turn.service; notes = c.loop-turn.notes }) c.loop-turn.number
+    between_lines Read input c.args.service.now (record { service = c.loop-turn.service; session_state = c.loop-turn.session_state }) c.loop-turn.number
     (lines_left (g.R.Read.remaining c.loop-turn.reader)) (g.W.Write.contents c.args.writer.now) (g.W.Write.contents c.loop-turn.writer)
     read_is_not_write (c.loop-turn.invariant input there))
 
 pub returns-clause-err : goal.returns-clause-err
 returns-clause-err g c =
     if_known (g.R.Read.remaining c.args.reader.now) (λ input there.
-    between_lines Read input c.args.service.now (record { service = c.loop-turn.service; notes = c.loop-turn.notes }) c.loop-turn.number
+    between_lines Read input c.args.service.now (record { service = c.loop-turn.service; session_state = c.loop-turn.session_state }) c.loop-turn.number
     (lines_left (g.R.Read.remaining c.loop-turn.reader)) (g.W.Write.contents c.args.writer.now) (g.W.Write.contents c.loop-turn.writer)
     read_is_not_write (c.loop-turn.invariant input there))
 
@@ -49,10 +49,10 @@ pub returns-in-Err-clause-err : goal.returns-in-Err-clause-err
 returns-in-Err-clause-err g c =
     if_known (g.R.Read.remaining c.args.reader.now) (λ input there.
     let m = c.loop-turn.invariant input there in
-    let now : Held = record { service = c.loop-turn.service; notes = c.loop-turn.notes } in
+    let now : ServiceWithSession = record { service = c.loop-turn.service; session_state = c.loop-turn.session_state } in
     let read = subst (λ o. NextLine (option_map (λ bytes. bytes.items) o) m.lines (lines_left (g.R.Read.remaining c.next_line.new.reader)))
     c.in-Some.is (c.in_ok-line.ensures.ok m.lines m.left_is) in
-    let failed = c.in-Err.ensures.err m.state (keeps_midway c.args.service.now now m.state m.service_is m.notes_are) read.0 read.2 in
+    let failed = c.in-Err.ensures.err m.state (keeps_midway c.args.service.now now m.state m.service_is m.session_state_are) read.0 read.2 in
     let told = subst (λ (l : List ℕ). FailsLine c.in-Err.fault l (record { number = c.in-Some-checked_add.here; state = m.state; lines = read.0 })
     now.service c.answer_line.new.service (g.W.Write.contents c.loop-turn.writer) (g.W.Write.contents c.answer_line.new.writer))
     c.as_slice.ensures.value failed in
@@ -66,19 +66,19 @@ returns-in-Err-clause-err g c =
 pub loop-turn-preserved : goal.loop-turn-preserved
 loop-turn-preserved g c input there =
     let m = c.loop-turn.invariant input there in
-    let now : Held = record { service = c.loop-turn.service; notes = c.loop-turn.notes } in
+    let now : ServiceWithSession = record { service = c.loop-turn.service; session_state = c.loop-turn.session_state } in
     let left = lines_left (g.R.Read.remaining c.answer_line.new.reader) in
     let read = subst (λ o. NextLine (option_map (λ bytes. bytes.items) o) m.lines (lines_left (g.R.Read.remaining c.next_line.new.reader)))
     c.in-Some.is (c.in_ok-line.ensures.ok m.lines m.left_is) in
-    let answered = c.in-Ok.ensures.ok m.state (keeps_midway c.args.service.now now m.state m.service_is m.notes_are) read.0 read.2 in
+    let answered = c.in-Ok.ensures.ok m.state (keeps_midway c.args.service.now now m.state m.service_is m.session_state_are) read.0 read.2 in
     let told = subst (λ (l : List ℕ). AnswersLine l (record { number = c.in-Some-checked_add.here; state = m.state; lines = read.0 }) now.service
-    (record { service = c.answer_line.new.service; notes = c.answer_line.new.notes }) c.in-Ok.reached left (g.W.Write.contents c.loop-turn.writer)
+    (record { service = c.answer_line.new.service; session_state = c.answer_line.new.session_state }) c.in-Ok.reached left (g.W.Write.contents c.loop-turn.writer)
     (g.W.Write.contents c.answer_line.new.writer)) c.as_slice.ensures.value answered in
     let here : c.in-Some-checked_add.here ≡ c.loop-turn.number + 1 = search rules in
     goes_on input c.args.service.now now c.loop-turn.number (lines_left (g.R.Read.remaining c.loop-turn.reader))
     (g.W.Write.contents c.args.writer.now) (g.W.Write.contents c.loop-turn.writer) m
-    c.in-Some.line.items read.0 read.1 (record { service = c.answer_line.new.service; notes = c.answer_line.new.notes }) c.in-Ok.reached left
+    c.in-Some.line.items read.0 read.1 (record { service = c.answer_line.new.service; session_state = c.answer_line.new.session_state }) c.in-Ok.reached left
     (g.W.Write.contents c.answer_line.new.writer)
     (subst (λ n. AnswersLine c.in-Some.line.items (record { number = n; state = m.state; lines = read.0 }) now.service
-    (record { service = c.answer_line.new.service; notes = c.answer_line.new.notes }) c.in-Ok.reached left (g.W.Write.contents c.loop-turn.writer)
+    (record { service = c.answer_line.new.service; session_state = c.answer_line.new.session_state }) c.in-Ok.reached left (g.W.Write.contents c.loop-turn.writer)
     (g.W.Write.contents c.answer_line.new.writer)) here told)

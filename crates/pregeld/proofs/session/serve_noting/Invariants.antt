@@ -7,5 +7,5 @@ use Rattle.pregeld.proofs.session.serve_noting.Given as goal
 abbrev pub invariant-loop-turn : goal.invariant-loop-turn
 invariant-loop-turn g l =
     (input : List ℕ) → g.R.Read.remaining l.fn.reader ≡ Some input
-    → Midway input l.fn.service (record { service = l.service; notes = l.notes }) l.number (lines_left (g.R.Read.remaining l.reader))
+    → Midway input l.fn.service (record { service = l.service; session_state = l.session_state }) l.number (lines_left (g.R.Read.remaining l.reader))
     (g.W.Write.contents l.fn.writer) (g.W.Write.contents l.writer)

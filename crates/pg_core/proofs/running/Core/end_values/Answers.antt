@@ -2,12 +2,12 @@ use Rattle.std.proofs.Common.{◌≡◌, ℕ, ◌+◌, ◌<◌, None, Some, opti
 use Rattle.std.proofs.lemmas.Result.{IfOk-weaker}
 use Rattle.std.specs.List.{list_all}
 use Rattle.std.specs.Option.{IsSome}
-use Rattle.pg_machine.specs.Machine.{place_at}
-use Rattle.pg_core.specs.Progress.{job_by, kept_for, part_at}
+use Rattle.pg_core_machine.specs.Machine.{place_at}
+use Rattle.pg_core.specs.Progress.{job_of_core, kept_for, part_at}
 use Rattle.pg_core.specs.Traces.{ended_by}
-use Rattle.pg_values.specs.Values.{HaveEnded, KeepsEnd, is_warm}
-use Rattle.pg_machine.proofs.LawsMachine.{place_at_end}
-use Rattle.pg_core.proofs.Left.{end_lent, have_all_ended}
+use Rattle.pg_core_values.specs.Values.{HaveEnded, KeepsEnd, is_warm}
+use Rattle.pg_core_machine.proofs.LawsMachine.{place_at_end}
+use Rattle.pg_core.proofs.RetainedPart.{end_lent, have_all_ended}
 use Rattle.pg_model.specs.Run.{configuration, values_of}
 use Rattle.pg_core.proofs.running.Core.end_values.Goals as goal
 
@@ -15,7 +15,7 @@ pub returns : goal.returns
 returns g c =
     let core = c.args.self.now in
     let inside = c.self.inside in
-    let job = job_by g.P.Computation.program g.C.MessageCombiner.combining g.M.MasterCompute.master core in
+    let job = job_of_core g.P.Computation.program g.C.MessageCombiner.combining g.M.MasterCompute.master core in
     let rows = core.graph in
     let n = core.limits.partitions in
     let ended = c.requires in
@@ -33,15 +33,15 @@ returns g c =
     let partitions_are = c.partitioner_of.ensures.value ∙ ap (λ core. core.limits.partitions) c.self.view_is in
     let many = c.next_superstep-supersteps.ensures.value in
     let policy = ap (λ core. core.limits.missing) (sym c.self.view_is) ∙ sym c.missing-missing.ensures in
-    IfOk-weaker c.values_beside.result _ _
+    IfOk-weaker c.values_warm.result _ _
     (λ values are kept right.
     let keeps = kept_for kept core in
     let have = have_all_ended job kept core right ended places here each some in
     let all_ended = subst (λ (n : ℕ). HaveEnded job keeps rows n c.next_superstep-supersteps.result c.as_slice-parts.result.now) (sym partitions_are)
     (subst (λ (s : ℕ). HaveEnded job keeps rows n s c.as_slice-parts.result.now) (sym many)
     (subst (HaveEnded job keeps rows n (core.state.current + 1)) (sym parts_are) have)) in
-    let lent = c.end_beside-ended.ensures
+    let step_input = c.end_warm-ended.ensures
     ∙ (λ i. cond (list_all is_warm (parts_are i)) (option_map ended_by (c.self.view_is i).kept) None) in
-    let end = subst₂ (KeepsEnd job keeps) (sym partitions_are) (sym lent) (end_lent job kept core right ended places here each) in
+    let end = subst₂ (KeepsEnd job keeps) (sym partitions_are) (sym step_input) (end_lent job kept core right ended places here each) in
     are job keeps rows policy all_ended end ∙ ap (λ (k : ℕ). values_of job rows (configuration job rows k)) many)
-    c.values_beside.ensures
+    c.values_warm.ensures

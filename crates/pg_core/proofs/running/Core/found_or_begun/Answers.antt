@@ -1,10 +1,10 @@
 use Rattle.std.proofs.Common.{ℕ, IfOk, None, Some, refl, ap, sym, ◌∙◌, subst}
 use Rattle.pg_core.specs.Losing.{IsShareFound}
-use Rattle.pg_core.specs.Progress.{job_by}
+use Rattle.pg_core.specs.Progress.{job_of_core}
 use Rattle.pg_core.proofs.Recovery.{IfOk-both}
 use Rattle.pg_global.specs.Master.{job_of}
 use Rattle.pg_part.specs.Part.{HoldsShare}
-use Rattle.pg_routing.specs.Starting.{PartRows}
+use Rattle.pg_part_routing.specs.Starting.{PartRows}
 use Rattle.pg_stats.specs.GlobalStats.{aggregators_of}
 use Rattle.pg_core.proofs.running.Core.found_or_begun.Goals as goal
 
@@ -23,8 +23,8 @@ returns-in-None-clause-share g c =
       partition = p;
       partitions = c.partitioner_of.ensures.value i;
     }) in
-    subst (λ core. IfOk c.begin.result (λ part. IsShareFound (job_by program_of combining_of master_of core) core p c.args.found
-    → IsShareFound (job_by program_of combining_of master_of core) core p (Some part))) c.self.view_is
+    subst (λ core. IfOk c.begin.result (λ part. IsShareFound (job_of_core program_of combining_of master_of core) core p c.args.found
+    → IsShareFound (job_of_core program_of combining_of master_of core) core p (Some part))) c.self.view_is
     (IfOk-both c.begin.result _ _ _ (λ part begun holds none.
     subst (λ (r : ℕ). HoldsShare job None inside.graph.now n p r part) (sym begun.place_is)
     (subst (λ (r : PartRows). HoldsShare job None r.graph r.partitions r.partition 0 part) rows_are

@@ -1,8 +1,8 @@
 use Rattle.std.proofs.Common.{◌<◌, subst}
-use Rattle.pg_core.specs.Progress.{job_by}
+use Rattle.pg_core.specs.Progress.{job_of_core}
 use Rattle.pg_core.proofs.Needs.{unlost_calls}
-use Rattle.pg_machine.specs.Machine.{Reaches, RestoresFollowLosses, StepsTell, first_state}
-use Rattle.pg_machine.proofs.LawsMachine.{StepsTell-from_Reaches, restored_was_lost}
+use Rattle.pg_core_machine.specs.Machine.{Reaches, RestoresFollowLosses, StepsTell, first_state}
+use Rattle.pg_core_machine.proofs.LawsMachine.{StepsTell-from_Reaches, restored_was_lost}
 use Rattle.pg_core.proofs.running.Core.history.Goals as goal
 
 pub returns-clause-restores : goal.returns-clause-restores
@@ -24,4 +24,4 @@ returns-clause-unlost g c kept right ended none =
     let events =
     subst (λ core. Reaches (first_state core.limits.partitions core.limits.workers) core.history core.state) c.self.view_is c.self.invariant.events in
     unlost_calls g.P.Value.PartialEq.eq g.P.Message.PartialEq.eq
-    (job_by g.P.Computation.program g.C.MessageCombiner.combining g.M.MasterCompute.master core) kept core some events right ended none
+    (job_of_core g.P.Computation.program g.C.MessageCombiner.combining g.M.MasterCompute.master core) kept core some events right ended none

@@ -1,9 +1,9 @@
 use Rattle.std.proofs.Common.{◌≡◌, ℕ, true, ap, sym, ◌∙◌, subst}
 use Rattle.pg_core.specs.Losing.{AreLost, IsForgotten, with_event}
-use Rattle.pg_core.specs.Progress.{IsLawful, IsRight, job_by}
+use Rattle.pg_core.specs.Progress.{IsLawful, IsRight, job_of_core}
 use Rattle.pg_core.proofs.Recovery.{IsLawful-lose, IsRight-lose}
-use Rattle.pg_machine.specs.Machine.{Reaches, after, first_state, is_allowed}
-use Rattle.pg_machine.specs.declared.event.Event.TheVariants.{Lose}
+use Rattle.pg_core_machine.specs.Machine.{Reaches, after, first_state, is_allowed}
+use Rattle.pg_core_machine.specs.declared.event.Event.TheVariants.{Lose}
 use Rattle.pg_core.proofs.running.Core.lose.Goals as goal
 
 pub invariant_of-self-2 : goal.invariant_of-self-2
@@ -14,17 +14,17 @@ invariant_of-self-2 g c =
     let w = c.args.worker in
     let parts = c.lose_hosted.new.parts.items in
     let allowed = subst (λ core. is_allowed core.state (Lose w) ≡ true) (sym c.self.view_is) c.requires in
-    subst (λ state. IsLawful inside.limits declared registered inside.registry state c.push.new.self.items parts inside.shown.items inside.tally)
+    subst (λ state. IsLawful inside.limits declared registered inside.registry state c.push.new.self.items parts inside.shown.items inside.run_totals)
     (sym c.lose.ensures)
     (subst (λ events. IsLawful inside.limits declared registered inside.registry (after inside.state (Lose w)) events parts
-    inside.shown.items inside.tally) (sym c.in_ok-push.ensures.items)
+    inside.shown.items inside.run_totals) (sym c.in_ok-push.ensures.items)
     (IsLawful-lose c.self.invariant w parts allowed c.lose_hosted.ensures.parts))
 
 pub returns-clause-right : goal.returns-clause-right
 returns-clause-right g c kept right =
     let inside = c.self.inside in
     let core = c.args.self.now in
-    let job = job_by g.P.Computation.program g.C.MessageCombiner.combining g.M.MasterCompute.master core in
+    let job = job_of_core g.P.Computation.program g.C.MessageCombiner.combining g.M.MasterCompute.master core in
     let w = c.args.worker in
     let parts = c.lose_hosted.new.parts.items in
     let logs = c.lose_hosted.new.logs in
@@ -46,7 +46,7 @@ returns-clause-right g c kept right =
       parts = parts;
       logs = logs;
       shown = inside.shown.items;
-      tally = inside.tally;
+      run_totals = inside.run_totals;
       ending = inside.ending;
       kept = inside.kept;
     }) ∙ ap (λ core. record (with_event (Lose w) core) { parts = parts; logs = logs }) c.self.view_is in

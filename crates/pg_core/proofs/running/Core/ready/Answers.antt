@@ -1,6 +1,6 @@
 use Rattle.std.proofs.Common.{◌≡◌, ℕ, ◌<◌, [], ◌∷◌, ◌++◌, true, cond, map, filter, All, ap, sym, ◌∙◌, subst, arith}
 use Rattle.std.specs.List.{range_with_len}
-use Rattle.pg_machine.specs.Machine.{Reaches, first_state, host_of, is_alive}
+use Rattle.pg_core_machine.specs.Machine.{Reaches, first_state, host_of, is_alive}
 use Rattle.pg_core.specs.Progress.{is_ready}
 use Rattle.pg_core.proofs.Parts.{listed_more}
 use Rattle.pg_core.proofs.Recovery.{ready_are_alive}

@@ -1,6 +1,6 @@
 use Rattle.std.proofs.Common.{◌≡◌, map, filter}
 use Rattle.std.specs.List.{range_with_len}
-use Rattle.pg_machine.specs.Machine.{host_of}
+use Rattle.pg_core_machine.specs.Machine.{host_of}
 use Rattle.pg_core.specs.Progress.{is_ready}
 use Rattle.pg_core.proofs.running.Core.ready.Given as goal
 

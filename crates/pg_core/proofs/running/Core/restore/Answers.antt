@@ -1,9 +1,9 @@
 use Rattle.std.proofs.Common.{◌≡◌, ℕ, ◌++◌, ◌∷◌, [], true, length, set, None, Some, ap, sym, ◌∙◌, subst, subst₂, arith}
 use Rattle.pg_core.specs.Losing.{HasSentAgain, IsOf, place_found, with_event}
-use Rattle.pg_core.specs.Progress.{IsLawful, IsRight, job_by}
+use Rattle.pg_core.specs.Progress.{IsLawful, IsRight, job_of_core}
 use Rattle.pg_core.proofs.Recovery.{IsLawful-restore, IsRight-restore, as_found_place, restored_within}
-use Rattle.pg_machine.specs.Machine.{Reaches, after, first_state, is_allowed}
-use Rattle.pg_machine.specs.declared.event.Event.TheVariants.{Restore}
+use Rattle.pg_core_machine.specs.Machine.{Reaches, after, first_state, is_allowed}
+use Rattle.pg_core_machine.specs.declared.event.Event.TheVariants.{Restore}
 use Rattle.pg_part.specs.Part.{HoldsShare}
 use Rattle.pg_part.proofs.Resuming.{fresh_is_sent}
 use Rattle.pg_core.proofs.running.Core.restore.Goals as goal
@@ -31,7 +31,7 @@ returns-clause-core g c =
         parts = c.put_part.ensures i;
         logs = logs;
         shown = inside.shown.items;
-        tally = inside.tally;
+        run_totals = inside.run_totals;
         ending = inside.ending;
         kept = inside.kept;
       })
@@ -39,8 +39,8 @@ returns-clause-core g c =
           ∙ ap (λ (r : ℕ). record (with_event (Restore p r) core) { parts = set core.parts p (Some part); logs = logs })
           (c.place-place.ensures ∙ sym found_at));
       logs = subst (λ core. HasSentAgain (g.C.MessageCombiner.combining core.combiner) core.limits.partitions p (place_found c.args.found)
-          part.course.trace core.logs logs) c.self.view_is
-          (subst₂ (λ (n r : ℕ). HasSentAgain (g.C.MessageCombiner.combining inside.combiner.now) n p r part.course.trace inside.logs logs)
+          part.part_run.trace core.logs logs) c.self.view_is
+          (subst₂ (λ (n r : ℕ). HasSentAgain (g.C.MessageCombiner.combining inside.combiner.now) n p r part.part_run.trace inside.logs logs)
           (c.in_ok-part.ensures.own.partitions_are ∙ ap (λ core. core.limits.partitions) (sym c.self.view_is)) (sym found_at)
           c.in_ok-send_again.ensures);
     }
@@ -52,7 +52,7 @@ returns-clause-right g c kept right share =
     let core = c.args.self.now in
     let p = c.args.partition in
     let part = c.in_ok-part.part in
-    let job = job_by g.P.Computation.program g.C.MessageCombiner.combining g.M.MasterCompute.master core in
+    let job = job_of_core g.P.Computation.program g.C.MessageCombiner.combining g.M.MasterCompute.master core in
     let n = core.limits.partitions in
     let r = place_found c.args.found in
     let logs = c.send_again.new.logs in
@@ -94,15 +94,15 @@ invariant_of-self-2 g c =
     let part = c.in_ok-part.part in
     let found_at = as_found_place c.args.found part c.in_ok-part.ensures.found in
     let allowed =
-    subst (λ core. is_allowed core.state (Restore p part.course.place) ≡ true) (sym c.self.view_is)
+    subst (λ core. is_allowed core.state (Restore p part.part_run.place) ≡ true) (sym c.self.view_is)
     (subst (λ (r : ℕ). is_allowed c.args.self.now.state (Restore p r) ≡ true) found_at c.requires.allowed) in
     let own = subst (λ (n : ℕ). IsOf n p part) (ap (λ core. core.limits.partitions) (sym c.self.view_is)) c.in_ok-part.ensures.own in
     subst (λ state. IsLawful inside.limits declared registered inside.registry state c.push.new.self.items c.put_part.new.parts.items
-    inside.shown.items inside.tally) (sym c.restore.ensures)
+    inside.shown.items inside.run_totals) (sym c.restore.ensures)
     (subst (λ events. IsLawful inside.limits declared registered inside.registry (after inside.state (Restore p c.place-place.result)) events
-    c.put_part.new.parts.items inside.shown.items inside.tally) (sym c.in_ok-push.ensures.items)
+    c.put_part.new.parts.items inside.shown.items inside.run_totals) (sym c.in_ok-push.ensures.items)
     (subst (λ parts. IsLawful inside.limits declared registered inside.registry (after inside.state (Restore p c.place-place.result))
-    (inside.history.items ++ Restore p c.place-place.result ∷ []) parts inside.shown.items inside.tally) (sym c.put_part.ensures)
+    (inside.history.items ++ Restore p c.place-place.result ∷ []) parts inside.shown.items inside.run_totals) (sym c.put_part.ensures)
     (subst (λ (r : ℕ). IsLawful inside.limits declared registered inside.registry (after inside.state (Restore p r))
-    (inside.history.items ++ Restore p r ∷ []) (set inside.parts.items p (Some part)) inside.shown.items inside.tally) (sym c.place-place.ensures)
+    (inside.history.items ++ Restore p r ∷ []) (set inside.parts.items p (Some part)) inside.shown.items inside.run_totals) (sym c.place-place.ensures)
     (IsLawful-restore c.self.invariant p part allowed own))))

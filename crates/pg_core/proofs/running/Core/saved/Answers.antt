@@ -1,9 +1,9 @@
 use Rattle.std.proofs.Common.{◌≡◌, true, refl, ap, sym, ◌∙◌, subst}
 use Rattle.pg_core.specs.Losing.{with_event}
-use Rattle.pg_core.specs.Progress.{IsLawful, IsRight, job_by}
+use Rattle.pg_core.specs.Progress.{IsLawful, IsRight, job_of_core}
 use Rattle.pg_core.proofs.Recovery.{IsLawful-event, IsRight-save}
-use Rattle.pg_machine.specs.Machine.{Reaches, after, first_state, is_allowed}
-use Rattle.pg_machine.specs.declared.event.Event.TheVariants.{Save}
+use Rattle.pg_core_machine.specs.Machine.{Reaches, after, first_state, is_allowed}
+use Rattle.pg_core_machine.specs.declared.event.Event.TheVariants.{Save}
 use Rattle.pg_core.proofs.running.Core.saved.Goals as goal
 
 pub invariant_of-self-2 : goal.invariant_of-self-2
@@ -14,16 +14,16 @@ invariant_of-self-2 g c =
     let event = Save c.args.partition in
     let allowed = subst (λ core. is_allowed core.state event ≡ true) (sym c.self.view_is) c.requires in
     subst (λ state. IsLawful inside.limits declared registered inside.registry state c.push.new.self.items inside.parts.items
-    inside.shown.items inside.tally) (sym c.save.ensures)
+    inside.shown.items inside.run_totals) (sym c.save.ensures)
     (subst (λ events. IsLawful inside.limits declared registered inside.registry (after inside.state event) events inside.parts.items
-    inside.shown.items inside.tally) (sym c.in_ok-push.ensures.items)
+    inside.shown.items inside.run_totals) (sym c.in_ok-push.ensures.items)
     (IsLawful-event c.self.invariant event allowed (λ p. refl) refl))
 
 pub returns-clause-right : goal.returns-clause-right
 returns-clause-right g c kept right =
     let inside = c.self.inside in
     let core = c.args.self.now in
-    let job = job_by g.P.Computation.program g.C.MessageCombiner.combining g.M.MasterCompute.master core in
+    let job = job_of_core g.P.Computation.program g.C.MessageCombiner.combining g.M.MasterCompute.master core in
     let event = Save c.args.partition in
     let events =
     subst (λ core. Reaches (first_state core.limits.partitions core.limits.workers) core.history core.state) c.self.view_is c.self.invariant.events in
@@ -39,7 +39,7 @@ returns-clause-right g c kept right =
       parts = inside.parts.items;
       logs = inside.logs;
       shown = inside.shown.items;
-      tally = inside.tally;
+      run_totals = inside.run_totals;
       ending = inside.ending;
       kept = inside.kept;
     }) ∙ ap (with_event event) c.self.view_is in

@@ -1,10 +1,10 @@
 use Rattle.std.proofs.Common.{◌≡◌, ℕ, ◌+◌, ◌++◌, ◌∷◌, [], true, length, take, Some, option_map, ap, sym, ◌∙◌, subst, arith}
-use Rattle.pg_machine.specs.Machine.{Reaches, after, first_state, is_allowed}
-use Rattle.pg_core.specs.Progress.{HasPut, IsLawful, IsNext, job_by, with_step}
-use Rattle.pg_machine.specs.declared.event.Event.TheVariants.{Step}
+use Rattle.pg_core_machine.specs.Machine.{Reaches, after, first_state, is_allowed}
+use Rattle.pg_core.specs.Progress.{HasPut, IsLawful, IsNext, job_of_core, with_step}
+use Rattle.pg_core_machine.specs.declared.event.Event.TheVariants.{Step}
 use Rattle.pg_core.proofs.Steps.{IsLawful-step, IsRight-step, part_within}
-use Rattle.pg_machine.proofs.LawsSteps.{StepsFrom-from_allowed, length-places_lawful}
-use Rattle.pg_machine.proofs.LawsMachine.{some_within}
+use Rattle.pg_core_machine.proofs.LawsSteps.{StepsFrom-from_allowed, length-places_lawful}
+use Rattle.pg_core_machine.proofs.LawsMachine.{some_within}
 use Rattle.pg_core.proofs.running.Core.stepped.Goals as goal
 
 pub step-requires : goal.step-requires
@@ -32,7 +32,7 @@ invariant_of-self g c =
     let declared = (g.P.Computation.program inside.program.now).declared in
     let registered = (g.M.MasterCompute.master inside.master.now).registrations in
     subst
-    (λ events. IsLawful inside.limits declared registered inside.registry inside.state events inside.parts.items inside.shown.items inside.tally)
+    (λ events. IsLawful inside.limits declared registered inside.registry inside.state events inside.parts.items inside.shown.items inside.run_totals)
     (sym c.in_err-note_step.ensures.refused) c.self.invariant
 
 pub invariant_of-self-2 : goal.invariant_of-self-2
@@ -45,12 +45,12 @@ invariant_of-self-2 g c =
     let allowed = subst (λ core. is_allowed core.state (Step p) ≡ true) (sym c.self.view_is) c.requires.allowed in
     let next = subst (λ core. IsNext core.limits.partitions core.state p part) (sym c.self.view_is) c.requires.next in
     subst (λ state. IsLawful inside.limits declared registered inside.registry state c.note_step.new.history.items
-    c.put_part.new.parts.items inside.shown.items inside.tally) (sym c.step.ensures)
+    c.put_part.new.parts.items inside.shown.items inside.run_totals) (sym c.step.ensures)
     (subst (λ events. IsLawful inside.limits declared registered inside.registry
-    (after inside.state (Step p)) events c.put_part.new.parts.items inside.shown.items inside.tally)
+    (after inside.state (Step p)) events c.put_part.new.parts.items inside.shown.items inside.run_totals)
     (sym c.in_ok-note_step.ensures.history)
     (subst (λ parts. IsLawful inside.limits declared registered inside.registry (after inside.state (Step p))
-    (inside.history.items ++ Step p ∷ []) parts inside.shown.items inside.tally) (sym c.put_part.ensures)
+    (inside.history.items ++ Step p ∷ []) parts inside.shown.items inside.run_totals) (sym c.put_part.ensures)
     (IsLawful-step c.self.invariant p allowed part next)))
 
 pub returns-clause-core : goal.returns-clause-core
@@ -72,7 +72,7 @@ returns-clause-core g c =
         parts = c.put_part.ensures i;
         logs = logs;
         shown = inside.shown.items;
-        tally = inside.tally;
+        run_totals = inside.run_totals;
         ending = inside.ending;
         kept = inside.kept;
       }) ∙ ap (λ core. record (with_step p part core) { logs = logs }) c.self.view_is;
@@ -87,7 +87,7 @@ returns-clause-right g c kept right is_step =
     let inside = c.self.inside in
     let core = c.args.self.now in
     let p = c.args.partition in
-    let job = job_by g.P.Computation.program g.C.MessageCombiner.combining g.M.MasterCompute.master core in
+    let job = job_of_core g.P.Computation.program g.C.MessageCombiner.combining g.M.MasterCompute.master core in
     let steps = StepsFrom-from_allowed core.state p c.requires.allowed in
     let many =
     subst (λ core. length core.state.places ≡ core.limits.partitions) c.self.view_is

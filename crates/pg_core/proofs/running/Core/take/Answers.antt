@@ -3,12 +3,12 @@ use Rattle.std.specs.Option.{IsSome}
 use Rattle.std.proofs.lemmas.Bool.{and_parts}
 use Rattle.std.proofs.lemmas.List.{get_or-set_same}
 use Rattle.std.proofs.lemmas.Option.{same_Some}
-use Rattle.pg_machine.specs.Machine.{is_allowed}
-use Rattle.pg_core.specs.Progress.{IsLawful, IsPartAt, IsRight, is_ready, job_by, part_at, without_part}
-use Rattle.pg_machine.specs.declared.event.Event.TheVariants.{Step}
+use Rattle.pg_core_machine.specs.Machine.{is_allowed}
+use Rattle.pg_core.specs.Progress.{IsLawful, IsPartAt, IsRight, is_ready, job_of_core, part_at, without_part}
+use Rattle.pg_core_machine.specs.declared.event.Event.TheVariants.{Step}
 use Rattle.pg_core.proofs.Parts.{here_is, some_inside}
-use Rattle.pg_core.proofs.Steps.{IsLawful-take, IsRight-take, IsStepLent-taken}
-use Rattle.pg_machine.proofs.LawsSteps.{StepsFrom-from_allowed, length-places_lawful}
+use Rattle.pg_core.proofs.Steps.{IsLawful-take, IsRight-take, HasStepInput-taken}
+use Rattle.pg_core_machine.proofs.LawsSteps.{StepsFrom-from_allowed, length-places_lawful}
 use Rattle.pg_core.proofs.running.Core.take.Goals as goal
 
 pub invariant_of-self : goal.invariant_of-self
@@ -19,7 +19,7 @@ invariant_of-self g c =
     let registered = (g.M.MasterCompute.master inside.master.now).registrations in
     let ready = subst (λ core. is_ready core p ≡ true) (sym c.self.view_is) c.requires in
     let allowed = (and_parts (is_allowed inside.state (Step p)) _ ready).0 in
-    subst (λ parts. IsLawful inside.limits declared registered inside.registry inside.state inside.history.items parts inside.shown.items inside.tally)
+    subst (λ parts. IsLawful inside.limits declared registered inside.registry inside.state inside.history.items parts inside.shown.items inside.run_totals)
     (λ i. set inside.parts.items (sym c.number.ensures i) (sym c.take.ensures.after i))
     (IsLawful-take c.self.invariant p allowed)
 
@@ -53,7 +53,7 @@ returns-clause-right g c kept right =
     let core = c.args.self.now in
     let parts = inside.parts.items in
     let p = c.args.partition in
-    let job = job_by g.P.Computation.program g.C.MessageCombiner.combining g.M.MasterCompute.master core in
+    let job = job_of_core g.P.Computation.program g.C.MessageCombiner.combining g.M.MasterCompute.master core in
     let was = and_parts (is_allowed core.state (Step p)) _ c.requires in
     let some = subst (λ core. IsSome (part_at p core)) (sym c.self.view_is) was.1 in
     let here =
@@ -75,13 +75,13 @@ returns-clause-right g c kept right =
       parts = set parts (c.number.ensures i) (c.take.ensures.after i);
       logs = inside.logs;
       shown = inside.shown.items;
-      tally = inside.tally;
+      run_totals = inside.run_totals;
       ending = inside.ending;
       kept = inside.kept;
     }) ∙ ap (without_part p) c.self.view_is in (
       subst (IsRight job kept) (sym new)
           (IsRight-take job kept core p right was.0 (some_inside core.parts p was.1)),
-      IsStepLent-taken job kept core p right was.0 many c.unwrap.result there,
+      HasStepInput-taken job kept core p right was.0 many c.unwrap.result there,
     )
 
 pub returns-clause-gone : goal.returns-clause-gone
@@ -99,7 +99,7 @@ returns-clause-reached g c =
     let p = c.args.partition in
     let at = returns-clause-at g c in
     let steps = StepsFrom-from_allowed core.state p (and_parts (is_allowed core.state (Step p)) _ c.requires).0 in
-    let same = same_Some steps.from c.unwrap.result.course.place (sym steps.at ∙ at.place_is) in
+    let same = same_Some steps.from c.unwrap.result.part_run.place (sym steps.at ∙ at.place_is) in
     omega (arith, steps.open_or_before, same)
 
 pub returns-clause-small : goal.returns-clause-small

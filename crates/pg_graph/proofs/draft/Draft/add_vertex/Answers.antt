@@ -3,8 +3,8 @@ use Rattle.std.proofs.lemmas.Int.{to_z-of_z}
 use Rattle.pg_map.specs.Entries.{with_change, with_changes}
 use Rattle.pg_graph.specs.Draft.{IsCounted}
 use Rattle.pg_graph.specs.Rows.{row_at}
-use Rattle.pg_edits.specs.declared.edit.Edit.TheVariants.{AddVertex}
-use Rattle.pg_edits.specs.declared.edit.EditKind.TheVariants.{VertexExists, Full}
+use Rattle.pg_graph_rows.specs.declared.edit.Edit.TheVariants.{AddVertex}
+use Rattle.pg_graph_rows.specs.declared.edit.EditKind.TheVariants.{VertexExists, Full}
 use Rattle.pg_graph.proofs.Drafting.{none_there, put_now, refused, becomes, added}
 use Rattle.pg_graph.proofs.Edited.{AddVertex-exists, AddVertex-full, AddVertex-ok}
 use Rattle.pg_graph.proofs.draft.Draft.add_vertex.Goals as goal

@@ -1,14 +1,14 @@
 use Rattle.std.proofs.Common.{◌≡◌, ◌≤◌, ℕ, [], ◌∷◌, ◌++◌, ap, sym, ◌∙◌, subst}
 use Rattle.pg_map.specs.Entries.{ChangesRise, with_changes}
-use Rattle.pg_edits.specs.ChangedRows.{Changes}
+use Rattle.pg_graph_rows.specs.ChangedRows.{RowChanges}
 use Rattle.pg_graph.specs.Draft.{IsCounted, Makes}
 use Rattle.pg_graph.specs.Edit.{edge_limit, vertex_limit}
 use Rattle.pg_graph.specs.Rows.{Rows}
-use Rattle.pg_graph.specs.declared.draft.Changes.{Changes as Changing}
+use Rattle.pg_graph.specs.declared.draft.RowChanges.{RowChanges as Changing}
 use Rattle.pg_map.proofs.Moved.{moved_all, moved_one}
 use Rattle.pg_graph.proofs.draft.Draft.into_changes.Goals as goal
 
-makes : (graph : Rows) (changes : Changes) (vertices : ℕ) (made : Changing) → IsCounted graph changes vertices made.edges
+makes : (graph : Rows) (changes : RowChanges) (vertices : ℕ) (made : Changing) → IsCounted graph changes vertices made.edges
     → made.rows.items ≡ changes → Makes graph (with_changes changes graph) made
 makes graph changes vertices made are same = record {
   graph_rises = are.graph_rises;
@@ -21,7 +21,7 @@ makes graph changes vertices made are same = record {
 
 pub loop-id-preserved : goal.loop-id-preserved
 loop-id-preserved c =
-    let before : Changes = c.loop-id.changes.items in
+    let before : RowChanges = c.loop-id.changes.items in
     moved_one before c.next.new.self c.in-Some.ensures.steps c.loop-id.invariant
     (c.in_ok-push.ensures.items ∙ ap (λ change. before ++ (c.in-Some.id, change) ∷ []) c.in_ok-finished.ensures)
 

@@ -1,6 +1,6 @@
 use Rattle.std.proofs.Common.{◌≡◌, ◌≤◌, Err, length, inl, inr, sym, ap, ◌∙◌, ⊎_elim, arith}
 use Rattle.pg_graph.specs.Edit.{all_edited, edited, batch_limit}
-use Rattle.pg_edits.specs.declared.edit.EditKind.TheVariants.{Memory}
+use Rattle.pg_graph_rows.specs.declared.edit.EditKind.TheVariants.{Memory}
 use Rattle.pg_graph.proofs.Batches.{short_enough, next_made, next_refused, all_made, refused_at}
 use Rattle.pg_graph.proofs.draft.Draft.of.Goals as goal
 

@@ -1,8 +1,8 @@
 use Rattle.std.proofs.Common.{◌-◌, Some, refl, sym, ap, ◌∙◌, arith}
 use Rattle.std.proofs.lemmas.Result.{err_from_is_err_and}
 use Rattle.pg_map.specs.Entries.{with_change, with_changes}
-use Rattle.pg_edits.specs.declared.edit.Edit.TheVariants.{RemoveEdge}
-use Rattle.pg_edits.specs.declared.edit.EditKind.TheVariants.{NoEdge}
+use Rattle.pg_graph_rows.specs.declared.edit.Edit.TheVariants.{RemoveEdge}
+use Rattle.pg_graph_rows.specs.declared.edit.EditKind.TheVariants.{NoEdge}
 use Rattle.pg_graph.proofs.Drafting.{one_less, row_now, edges_left, put_back, replaced, becomes, refused, refused_row}
 use Rattle.pg_graph.proofs.Edited.{RemoveEdge-missing, RemoveEdge-none, RemoveEdge-ok}
 use Rattle.pg_graph.proofs.draft.Draft.remove_edge.Goals as goal

@@ -1,6 +1,6 @@
 use Rattle.std.proofs.Common.{◌-◌, refl, arith}
 use Rattle.std.proofs.lemmas.Result.{err_from_is_err_and}
-use Rattle.pg_edits.specs.declared.edit.Edit.TheVariants.{RemoveVertex}
+use Rattle.pg_graph_rows.specs.declared.edit.Edit.TheVariants.{RemoveVertex}
 use Rattle.pg_graph.proofs.Drafting.{row_now, vertex_left, edges_left, put_back, removed, becomes, refused_row}
 use Rattle.pg_graph.proofs.Edited.{RemoveVertex-missing, RemoveVertex-ok}
 use Rattle.pg_graph.proofs.draft.Draft.remove_vertex.Goals as goal

@@ -2,8 +2,8 @@ use Rattle.std.proofs.Common.{Some, refl, sym, ap, ◌∙◌, arith}
 use Rattle.std.proofs.lemmas.Int.{to_z-of_z}
 use Rattle.std.proofs.lemmas.Result.{err_from_is_err_and}
 use Rattle.pg_map.specs.Entries.{with_change, with_changes}
-use Rattle.pg_edits.specs.declared.edit.Edit.TheVariants.{SetEdge}
-use Rattle.pg_edits.specs.declared.edit.EditKind.TheVariants.{NoEdge}
+use Rattle.pg_graph_rows.specs.declared.edit.Edit.TheVariants.{SetEdge}
+use Rattle.pg_graph_rows.specs.declared.edit.EditKind.TheVariants.{NoEdge}
 use Rattle.pg_graph.proofs.Drafting.{as_many, row_now, put_back, replaced, becomes, refused, refused_row}
 use Rattle.pg_graph.proofs.Edited.{SetEdge-missing, SetEdge-none, SetEdge-ok}
 use Rattle.pg_graph.proofs.draft.Draft.set_edge.Goals as goal

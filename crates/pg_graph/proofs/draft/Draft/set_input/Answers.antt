@@ -2,7 +2,7 @@ use Rattle.std.proofs.Common.{Some, refl, ap, ◌∙◌, arith, length}
 use Rattle.std.proofs.lemmas.Int.{to_z-of_z}
 use Rattle.std.proofs.lemmas.Result.{err_from_is_err_and}
 use Rattle.pg_map.specs.Entries.{with_change, with_changes}
-use Rattle.pg_edits.specs.declared.edit.Edit.TheVariants.{SetInput}
+use Rattle.pg_graph_rows.specs.declared.edit.Edit.TheVariants.{SetInput}
 use Rattle.pg_graph.proofs.Drafting.{row_now, put_back, replaced, becomes, refused_row}
 use Rattle.pg_graph.proofs.Edited.{SetInput-missing, SetInput-ok}
 use Rattle.pg_graph.proofs.draft.Draft.set_input.Goals as goal

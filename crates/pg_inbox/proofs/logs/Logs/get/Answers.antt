@@ -1,5 +1,5 @@
 use Rattle.std.proofs.Common.{ap, ◌∙◌}
-use Rattle.pg_inbox.specs.Places.{inside, value_in}
+use Rattle.pg_inbox.specs.SparseVec.{inside, value_in}
 use Rattle.pg_inbox.proofs.logs.Logs.get.Goals as goal
 
 pub returns : goal.returns

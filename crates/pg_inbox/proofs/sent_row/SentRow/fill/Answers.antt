@@ -1,5 +1,5 @@
 use Rattle.std.proofs.Common.{◌+◌, ◌≤◌, ap, arith, subst, sym, ◌∙◌}
-use Rattle.pg_inbox.specs.Places.{value_in}
+use Rattle.pg_inbox.specs.SparseVec.{value_in}
 use Rattle.pg_inbox.specs.SentRow.{AreBelow, slots_in}
 use Rattle.pg_inbox.proofs.Slots.{below_push, length-slots, put_none}
 use Rattle.pg_inbox.proofs.sent_row.SentRow.fill.Goals as goal

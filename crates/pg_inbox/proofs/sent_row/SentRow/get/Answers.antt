@@ -1,5 +1,5 @@
 use Rattle.std.proofs.Common.{◌≡◌, Some, ap, get_or, sym, ◌∙◌}
-use Rattle.pg_inbox.specs.Places.{value_in}
+use Rattle.pg_inbox.specs.SparseVec.{value_in}
 use Rattle.pg_inbox.specs.SentRow.{last_at}
 use Rattle.pg_inbox.proofs.Slots.{slot_other, slot_past, slot_usual}
 use Rattle.pg_inbox.proofs.sent_row.SentRow.get.Goals as goal

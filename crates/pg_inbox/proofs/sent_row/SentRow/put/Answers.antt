@@ -1,5 +1,5 @@
 use Rattle.std.proofs.Common.{◌+◌, ◌≤◌, ◌==◌, [], cond, length, Some, ap, arith, subst, sym, ◌∙◌}
-use Rattle.pg_inbox.specs.Places.{value_in}
+use Rattle.pg_inbox.specs.SparseVec.{value_in}
 use Rattle.pg_inbox.specs.SentRow.{AreBelow, slots_in}
 use Rattle.pg_inbox.proofs.Slots.{below_more, below_push, length-slots, put_other, put_usual}
 use Rattle.pg_inbox.proofs.sent_row.SentRow.put.Goals as goal

@@ -15,7 +15,7 @@ loop-change-preserved-then-lt g c =
     let below = below_by entry.0 c.in-Some.change.now.0 c.if-lt.ensures in
     record {
       made = pass_turn now.self _ _ _ _ _ c.in-Some.ensures.cases.0 now.invariant.changes_rise entry _ at _ c.in_ok-push-in-Some-split_first.ensures
-          c.in_ok-share-in-Some-split_first.ensures below ∙ now.invariant.made;
+          c.in_ok-cheap_clone-in-Some-split_first.ensures below ∙ now.invariant.made;
       entries_rise = rises_after entry _ (subst HasRisingIds at now.invariant.entries_rise);
       changes_rise = now.invariant.changes_rise;
     }
@@ -45,7 +45,7 @@ loop-change-preserved-in_ok-push-in_default-split_first g c =
           w.in_default-split_first.ensures.cases
     ] in
     record {
-      made = put_turn now.self _ _ _ _ _ next now.invariant.changes_rise above _ _ c.in-Some-1₀.is c.in_ok-share-in_default-split_first.ensures
+      made = put_turn now.self _ _ _ _ _ next now.invariant.changes_rise above _ _ c.in-Some-1₀.is c.in_ok-cheap_clone-in_default-split_first.ensures
           c.in_ok-push-in_default-split_first.ensures ∙ now.invariant.made;
       entries_rise = now.invariant.entries_rise;
       changes_rise = rises_after c.in-Some.change.now c.in-Some.later.now (subst ChangesRise next now.invariant.changes_rise);

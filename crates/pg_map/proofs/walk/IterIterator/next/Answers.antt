@@ -2,7 +2,7 @@ use Rattle.std.proofs.Common.{◌≡◌, ℕ, List, [], ◌∷◌, ◌++◌, len
 use Rattle.std.proofs.lemmas.Bool.Decides.{nat_tests}
 use Rattle.std.proofs.lemmas.List.{append_assoc, nil_from_length}
 use Rattle.pg_map.specs.Chunks.{all_of, entries_of, listed}
-use Rattle.pg_map.specs.declared.part.Part.{Part}
+use Rattle.pg_map.specs.declared.part.Node.{Node}
 use Rattle.pg_map.specs.declared.walk.Iter.TheInside.{Inside}
 use Rattle.pg_map.proofs.walk.IterIterator.next.Goals as goal
 use Rattle.pg_map.proofs.walk.IterIterator.next.Goals.{then-is_empty+in_ok-chunk, else-is_empty}
@@ -14,7 +14,7 @@ used_up : {X : Type 0} (xs : List X) (b : Bool) → b ≡ true → b ≡ (length
 used_up xs b is test = nil_from_length xs (grind (arith, nat_tests))
 
 -- the next chunk is opened where the entries are used up
-opens : {V : Type 0} (none items : List (ℕ × V)) (chunk : Part (ℕ × V)) (chunks later : List (Part (ℕ × V))) (rest after : List (ℕ × V))
+opens : {V : Type 0} (none items : List (ℕ × V)) (chunk : Node (ℕ × V)) (chunks later : List (Node (ℕ × V))) (rest after : List (ℕ × V))
     → none ≡ [] → entries_of chunks ++ after ≡ rest → chunks ≡ chunk ∷ later → items ≡ listed chunk
     → none ++ rest ≡ items ++ (entries_of later ++ after)
 opens none items chunk chunks later rest after empty same at is =

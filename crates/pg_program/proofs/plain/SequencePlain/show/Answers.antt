@@ -17,9 +17,9 @@ returns-in_err-push_str-2-clause-ok g c =
 pub returns-clause-ok : goal.returns-clause-ok
 returns-clause-ok g c =
     let whole = take_all c.loop-place.place c.as_slice-items.result.now c.loop-place-test.false ∙ c.as_slice-items.ensures in
-    let told = c.loop-place.invariant ∙ ap (λ l. codes "[" ++ join_by g.T.Plain.shown (codes " ") l) whole in
+    let stated = c.loop-place.invariant ∙ ap (λ l. codes "[" ++ join_by g.T.Plain.shown (codes " ") l) whole in
     added_ok c.push_str-3.result _ c.as_str.result.now _ c.push_str-3.ensures.bytes _
-    (c.as_str.ensures.value ∙ c.in_ok-push_str-2.ensures.bytes ∙ ap (λ l. l ++ codes "]") told)
+    (c.as_str.ensures.value ∙ c.in_ok-push_str-2.ensures.bytes ∙ ap (λ l. l ++ codes "]") stated)
 
 pub returns-clause-err : goal.returns-clause-err
 returns-clause-err g c = added_err c.push_str-3.result _ c.as_str.result.now _ c.push_str-3.ensures.bytes

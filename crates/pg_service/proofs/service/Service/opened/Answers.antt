@@ -9,5 +9,5 @@ returns-in-None-clause-opened g c =
 
 pub returns-in-Some-clause-opened : goal.returns-in-Some-clause-opened
 returns-in-Some-clause-opened g c =
-    subst (λ s. IfOk c.open_beside.result (λ core. IsOpened core s.job.program s.job.combiner s.job.master s.graph s.job.limits c.args.run))
-    c.self.view_is c.open_beside.ensures.opened
+    subst (λ s. IfOk c.open_warm.result (λ core. IsOpened core s.job.program s.job.combiner s.job.master s.graph s.job.limits c.args.run))
+    c.self.view_is c.open_warm.ensures.opened

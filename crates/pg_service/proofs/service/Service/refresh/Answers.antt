@@ -9,21 +9,21 @@ use Rattle.pg_service.proofs.service.Service.refresh.Goals as goal
 pub returns-in_err-finished-clause-leads : goal.returns-in_err-finished-clause-leads
 returns-in_err-finished-clause-leads g c =
     refresh_refused _ _ _ _ c.args.self.now _ (λ i. record (c.self.view_is i) {
-      graph = (c.settle.ensures ∙ ap (λ s. s.graph) c.self.view_is) i;
+      graph = (c.compact.ensures ∙ ap (λ s. s.graph) c.self.view_is) i;
       kept = option_map (λ run. run.traces.graph) (c.take-kept.ensures.after i);
     })
 
 pub returns-in_err-answers-clause-leads : goal.returns-in_err-answers-clause-leads
 returns-in_err-answers-clause-leads g c =
     refresh_refused _ _ _ _ c.args.self.now _ (λ i. record (c.self.view_is i) {
-      graph = (c.settle.ensures ∙ ap (λ s. s.graph) c.self.view_is) i;
+      graph = (c.compact.ensures ∙ ap (λ s. s.graph) c.self.view_is) i;
       kept = option_map (λ run. run.traces.graph) (c.take-kept.ensures.after i);
     })
 
 pub returns-in_err-publish-clause-leads : goal.returns-in_err-publish-clause-leads
 returns-in_err-publish-clause-leads g c =
     refresh_refused _ _ _ _ c.args.self.now _ (λ i. record (c.self.view_is i) {
-      graph = (c.settle.ensures ∙ ap (λ s. s.graph) c.self.view_is) i;
+      graph = (c.compact.ensures ∙ ap (λ s. s.graph) c.self.view_is) i;
       told = (ap told_of c.in_err-publish.ensures.list ∙ ap (λ s. s.told) c.self.view_is) i;
       readers = (ap (λ p. p.readers) c.in_err-publish.ensures.list ∙ ap (λ s. s.readers) c.self.view_is) i;
       kept = option_map (λ run. run.traces.graph) (c.take-kept.ensures.after i);
@@ -38,14 +38,14 @@ invariant_of-self-2 g c =
 pub returns-clause-report : goal.returns-clause-report
 returns-clause-report g c =
     reported g.P.Computation.program g.C.MessageCombiner.combining g.M.MasterCompute.master
-    (λ i. record (c.self.view_is i) { graph = (c.settle.ensures ∙ ap (λ s. s.graph) c.self.view_is) i })
+    (λ i. record (c.self.view_is i) { graph = (c.compact.ensures ∙ ap (λ s. s.graph) c.self.view_is) i })
     g.P.Value.PartialEq.eq g.P.Message.PartialEq.eq (g.F.Fate.fated c.args.fate.now) c.in_ok-finished.finished.0 c.of-report.ensures
     (ap (option_map (λ run. run.traces.graph)) c.take-kept.ensures.value) c.in_ok-finished.ensures.ran
 
 pub returns-clause-published : goal.returns-clause-published
 returns-clause-published g c =
     refreshed g.P.Computation.program g.C.MessageCombiner.combining g.M.MasterCompute.master
-    (λ i. record (c.self.view_is i) { graph = (c.settle.ensures ∙ ap (λ s. s.graph) c.self.view_is) i })
+    (λ i. record (c.self.view_is i) { graph = (c.compact.ensures ∙ ap (λ s. s.graph) c.self.view_is) i })
     c.in_ok-finished.finished.0 c.in_ok-answers.ensures c.self.invariant.named (ap told_of c.in_ok-publish.ensures.list)
     (ap (λ p. p.readers) c.in_ok-publish.ensures.list) c.in_ok-finished.ensures.ran.answers
     (ap (λ run. run.traces.graph) c.new-2.ensures ∙ c.in_ok-finished.ensures.ran.leaves.graph_is)

@@ -1,5 +1,5 @@
 use Rattle.std.proofs.Common.{take, ap, sym, ◌∙◌, subst}
-use Rattle.pg_index.specs.Ran.{IsIndex}
+use Rattle.pg_trace_index.specs.Occurrences.{IsIndex}
 use Rattle.pg_trace.specs.Trace.{first_supersteps}
 use Rattle.pg_trace.proofs.Changed.{trace_of}
 use Rattle.pg_trace.proofs.trace.Trace.cut.Goals as goal

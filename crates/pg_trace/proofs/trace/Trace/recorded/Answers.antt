@@ -1,10 +1,10 @@
 use Rattle.std.proofs.Common.{◌≤◌, length, sym, ap, ◌∙◌, subst, arith}
-use Rattle.pg_index.specs.Ran.{IsIndex}
-use Rattle.pg_index.proofs.InPlace.{index-put}
-use Rattle.pg_index.proofs.Last.{index_rises}
-use Rattle.pg_index.proofs.Noting.{told_alike}
-use Rattle.pg_records.specs.Changes.{told}
-use Rattle.pg_records.proofs.Changed.{told_rise}
+use Rattle.pg_trace_index.specs.Occurrences.{IsIndex}
+use Rattle.pg_trace_index.proofs.InPlace.{index-put}
+use Rattle.pg_trace_index.proofs.Last.{index_rises}
+use Rattle.pg_trace_index.proofs.Noting.{stated_alike}
+use Rattle.pg_trace_records.specs.RecordChanges.{given_flags}
+use Rattle.pg_trace_records.proofs.Changed.{stated_rise}
 use Rattle.pg_trace.proofs.Changed.{one_put}
 use Rattle.pg_trace.proofs.trace.Trace.recorded.Goals as goal
 
@@ -13,7 +13,7 @@ noted-requires-clause-steps g c = index_rises c.self.inside.supersteps.items c.s
 
 pub noted-requires-clause-rise : goal.noted-requires-clause-rise
 noted-requires-clause-rise g c =
-    told_rise c.as_slice.result.now c.args.changes (ap told c.as_slice.ensures.value ∙ c.in_ok-places.ensures) c.requires.rise
+    stated_rise c.as_slice.result.now c.args.changes (ap given_flags c.as_slice.ensures.value ∙ c.in_ok-places.ensures) c.requires.rise
 
 pub invariant_of-result : goal.invariant_of-result
 invariant_of-result g c =
@@ -24,7 +24,7 @@ invariant_of-result g c =
     (λ t. length t.records) c.self.view_is in omega (arith, w, e, v) in
     subst (λ l. IsIndex l c.in_ok-ran.ran) (sym c.in_ok-supersteps.ensures.put)
     (index-put rs n given c.args.changes c.self.inside.ran c.in_ok-ran.ran within c.requires.rise c.in_ok-supersteps.ensures.rising
-    (told_alike given c.args.changes (ap told c.as_slice.ensures.value ∙ c.in_ok-places.ensures)) c.self.invariant c.in_ok-ran.ensures)
+    (stated_alike given c.args.changes (ap given_flags c.as_slice.ensures.value ∙ c.in_ok-places.ensures)) c.self.invariant c.in_ok-ran.ensures)
 
 pub returns : goal.returns
 returns g c =

@@ -1,6 +1,6 @@
 use Rattle.std.proofs.Common.{◌≤◌, [], length, ap, subst, get_or, arith}
 use Rattle.pg_map.specs.Entries.{HasRisingIds}
-use Rattle.pg_index.proofs.Noting.{rises_past}
+use Rattle.pg_trace_index.proofs.Noting.{rises_past}
 use Rattle.pg_trace.proofs.trace.Trace.records.Goals as goal
 
 pub returns-in-None-clause-rising : goal.returns-in-None-clause-rising

@@ -2,11 +2,11 @@ use Rattle.std.proofs.Common.{◌≡◌, ◌==◌, ℕ, ◌<◌, true, List, [],
 use Rattle.std.proofs.lemmas.Bool.Decides.{nat_tests}
 use Rattle.std.proofs.lemmas.List.{get_or_default, nil_from_length, set-get_or}
 use Rattle.pg_map.specs.Entries.{ChangesRise, with_changes}
-use Rattle.pg_index.proofs.Last.{index_rises}
-use Rattle.pg_index.proofs.Noting.{index-set, told_alike}
+use Rattle.pg_trace_index.proofs.Last.{index_rises}
+use Rattle.pg_trace_index.proofs.Noting.{index-set, stated_alike}
 use Rattle.pg_model.specs.declared.record.Record.{Record}
-use Rattle.pg_records.specs.Changes.{told}
-use Rattle.pg_records.proofs.Changed.{told_rise}
+use Rattle.pg_trace_records.specs.RecordChanges.{given_flags}
+use Rattle.pg_trace_records.proofs.Changed.{stated_rise}
 use Rattle.pg_trace.specs.Trace.{Trace, records_of, with_replaced}
 use Rattle.pg_trace.proofs.trace.Trace.replace.Goals as goal
 
@@ -23,13 +23,13 @@ module _ {V M : Type 0} where
 zero_from_test : (n : ℕ) → true ≡ (n == 0) → n ≡ 0
 zero_from_test n test = grind (arith, nat_tests, test)
 
-pub noted_beside-requires-clause-rise : goal.noted_beside-requires-clause-rise
-noted_beside-requires-clause-rise g c =
-    told_rise c.as_slice.result.now c.args.changes.items
-    (ap told c.as_slice.ensures.value ∙ c.in_ok-places.ensures ∙ ap told c.in_ok-changes.ensures) c.requires.rise
+pub noted_warm-requires-clause-rise : goal.noted_warm-requires-clause-rise
+noted_warm-requires-clause-rise g c =
+    stated_rise c.as_slice.result.now c.args.changes.items
+    (ap given_flags c.as_slice.ensures.value ∙ c.in_ok-places.ensures ∙ ap given_flags c.in_ok-changes.ensures) c.requires.rise
 
-pub noted_beside-requires-clause-steps : goal.noted_beside-requires-clause-steps
-noted_beside-requires-clause-steps g c = index_rises c.self.inside.supersteps.items c.self.inside.ran c.self.invariant
+pub noted_warm-requires-clause-steps : goal.noted_warm-requires-clause-steps
+noted_warm-requires-clause-steps g c = index_rises c.self.inside.supersteps.items c.self.inside.ran c.self.invariant
 
 pub changed-requires : goal.changed-requires
 changed-requires g c = subst (λ l. ChangesRise l) (sym c.in_ok-changes.ensures) c.requires.rise
@@ -46,7 +46,7 @@ invariant_of-self g c =
     let made = c.in_ok-records.ensures.records ∙ ap (λ l. with_changes l r) c.in_ok-changes.ensures in
     index-set rs n r c.in_ok-records.records given changes c.self.inside.ran c.in_ok-ran.ran within c.index.ensures
     c.in_ok-records.ensures.rising c.requires.rise
-    (told_alike given changes (ap told c.as_slice.ensures.value ∙ c.in_ok-places.ensures ∙ ap told c.in_ok-changes.ensures))
+    (stated_alike given changes (ap given_flags c.as_slice.ensures.value ∙ c.in_ok-places.ensures ∙ ap given_flags c.in_ok-changes.ensures))
     made c.self.invariant c.in_ok-ran.ensures
 
 pub returns-then-is_empty-clause-ok : goal.returns-then-is_empty-clause-ok

@@ -2,10 +2,10 @@ use Rattle.std.proofs.Common.{◌≡◌, ◌≤◌, ◌<◌, true, length, refl,
 use Rattle.pg_workers.specs.Meaning.{meaning}
 use Rattle.std.specs.Prelude.{map}
 use Rattle.std.specs.List.{range_with_len}
-use Rattle.pg_machine.specs.Limits.{Limits}
-use Rattle.pg_machine.specs.Machine.{steps_of}
+use Rattle.pg_core_machine.specs.Limits.{Limits}
+use Rattle.pg_core_machine.specs.Machine.{steps_of}
 use Rattle.pg_workers.specs.Running.{Coordination, IsRunning}
-use Rattle.pg_workers.proofs.Ending.{alone_unlost, is_driven, is_unlost}
+use Rattle.pg_workers.proofs.Ending.{cold_unlost, is_driven, is_unlost}
 use Rattle.pg_workers.proofs.coordinator.Coordinator.finish.Goals as goal
 
 pub returns-clause-driven : goal.returns-clause-driven
@@ -38,8 +38,8 @@ returns-clause-unlost g c fated first shelf runs kept right none =
     (record { calls = inside.calls; steps = c.in_ok-steps.steps; losses = c.from_vec.result })
     steps refl c.from_vec.ensures c.in_ok-finished.ensures.finished none kept right c.history.ensures.steps c.history.ensures.unlost
 
-pub returns-clause-alone : goal.returns-clause-alone
-returns-clause-alone g c fated first shelf runs one =
+pub returns-clause-cold : goal.returns-clause-cold
+returns-clause-cold g c fated first shelf runs one =
     let own = meaning g.P.Computation.program g.C.MessageCombiner.combining g.M.MasterCompute.master g.P.Value.PartialEq.eq g.P.Message.PartialEq.eq
     g.P.Value.Plain.is_value g.P.Value.Coded.coding g.P.Message.Plain.is_value g.P.Message.Coded.coding in
     let inside = c.self.inside in
@@ -50,6 +50,6 @@ returns-clause-alone g c fated first shelf runs one =
     let ended = subst (λ (s : Coordination _ _ _ _ _). s.core.state.ended ≡ true) (sym c.self.view_is) c.requires in
     let some : 0 < first.limits.partitions = omega
     (arith, ap (λ (l : _). l.partitions) c.limits.ensures, ap (λ (l : _). l.partitions) now.same.limits_are, c.partitions.ensures.are.partitions_least) in
-    alone_unlost own fated first shelf before now ended c.in_ok-finished.finished.0 c.in_ok-finished.finished.1
+    cold_unlost own fated first shelf before now ended c.in_ok-finished.finished.0 c.in_ok-finished.finished.1
     (record { calls = inside.calls; steps = c.in_ok-steps.steps; losses = c.from_vec.result })
     steps refl c.from_vec.ensures c.in_ok-finished.ensures.finished some one

@@ -2,8 +2,8 @@ use Rattle.std.proofs.Common.{rules, ◌≡◌, ◌<◌, ℕ, List, ap, sym, ◌
 use Rattle.pg_workers.specs.Meaning.{meaning}
 use Rattle.pg_checkpoint.specs.Loading.{Asked, IsLoaded, key_of}
 use Rattle.pg_checkpoint.specs.Shelf.{at_key}
-use Rattle.pg_machine.specs.Machine.{saved_at}
-use Rattle.pg_routing.specs.Starting.{PartRows}
+use Rattle.pg_core_machine.specs.Machine.{saved_at}
+use Rattle.pg_part_routing.specs.Starting.{PartRows}
 use Rattle.pg_stats.specs.GlobalStats.{aggregators_of}
 use Rattle.pg_workers.specs.Recovering.{IsFoundRight}
 use Rattle.pg_workers.specs.Running.{Coordination, IsRunning}
@@ -42,7 +42,7 @@ returns-in-Found-clause-right g c fated first runs =
     (running_got own fated first (g.S.Shelf.state c.args.shelf.now) new _ c.args.self.now c.load.ensures.got runs) in
     let mine = subst (λ (s : Coordination _ _ _ _ _). p < s.core.limits.partitions) (sym c.self.view_is) c.requires.inside in
     let at = subst (λ (s : Coordination _ _ _ _ _). saved_at p s.core.state ≡ Some c.args.place) (sym c.self.view_is) c.requires.saved in
-    let place : part.course.place ≡ c.args.place = search rules in
+    let place : part.part_run.place ≡ c.args.place = search rules in
     let rows : c.rows.result ≡ record { graph = inside.core.graph; partition = p; partitions = inside.core.limits.partitions } = search rules in
     let key : key_of c.rows.result.partition ≡ key_of p = ap (λ (r : PartRows). key_of r.partition) rows in
     let loaded = subst₂ (λ (k : List ℕ) (l : _). IsLoaded own.is_value own.value own.is_message own.message asked (at_key new k) l) key c.in-Found.is

@@ -13,9 +13,9 @@ returns-then-is_little g c =
     g.P.Value.Plain.is_value g.P.Value.Coded.coding g.P.Message.Plain.is_value g.P.Message.Coded.coding in
     let now = c.args.self.now in
     let here = ap (λ (s : Coordination _ _ _ _ _). s.core) c.self.view_is in
-    all_returned own (g.F.Fate.fated c.args.fate.now) c.args.superstep (length now.losses) now.core c.lent-round.result
-    (subst₂ (λ (core : Progress _ _ _ _ _) (k : ℕ). Lends own core c.args.superstep k c.lent-round.result) here (search rules)
-    c.lent-round.ensures.lends) _ _
+    all_returned own (g.F.Fate.fated c.args.fate.now) c.args.superstep (length now.losses) now.core c.step_input-round.result
+    (subst₂ (λ (core : Progress _ _ _ _ _) (k : ℕ). Lends own core c.args.superstep k c.step_input-round.result) here (search rules)
+    c.step_input-round.ensures.lends) _ _
     (c.program-program.ensures ∙ ap (λ (core : Progress _ _ _ _ _). core.program) here)
     (c.combiner-combiner.ensures ∙ ap (λ (core : Progress _ _ _ _ _). core.combiner) here)
     c.args.assignments.items c.in_turn.result c.in_turn.ensures
@@ -27,9 +27,9 @@ returns-else-is_little g c =
     g.P.Value.Plain.is_value g.P.Value.Coded.coding g.P.Message.Plain.is_value g.P.Message.Coded.coding in
     let now = c.args.self.now in
     let here = ap (λ (s : Coordination _ _ _ _ _). s.core) c.self.view_is in
-    all_returned own (g.F.Fate.fated c.args.fate.now) c.args.superstep (length now.losses) now.core c.lent-round.result
-    (subst₂ (λ (core : Progress _ _ _ _ _) (k : ℕ). Lends own core c.args.superstep k c.lent-round.result) here (search rules)
-    c.lent-round.ensures.lends) _ _
+    all_returned own (g.F.Fate.fated c.args.fate.now) c.args.superstep (length now.losses) now.core c.step_input-round.result
+    (subst₂ (λ (core : Progress _ _ _ _ _) (k : ℕ). Lends own core c.args.superstep k c.step_input-round.result) here (search rules)
+    c.step_input-round.ensures.lends) _ _
     (c.program-program.ensures ∙ ap (λ (core : Progress _ _ _ _ _). core.program) here)
     (c.combiner-combiner.ensures ∙ ap (λ (core : Progress _ _ _ _ _). core.combiner) here)
     c.args.assignments.items c.in_threads.result c.in_threads.ensures

@@ -3,11 +3,11 @@ use Rattle.pg_workers.specs.Meaning.{meaning}
 use Rattle.pg_workers.specs.Rounds.{IsStepRight}
 use Rattle.pg_workers.specs.Running.{Coordination, IsRunning}
 use Rattle.pg_model.specs.Superstep.{capped}
-use Rattle.pg_machine.specs.Machine.{is_allowed}
-use Rattle.pg_machine.specs.declared.event.Event.TheVariants.{Step}
+use Rattle.pg_core_machine.specs.Machine.{is_allowed}
+use Rattle.pg_core_machine.specs.declared.event.Event.TheVariants.{Step}
 use Rattle.pg_core.specs.Progress.{IsRight}
 use Rattle.pg_workers.specs.Losses.{Trusts}
-use Rattle.pg_workers.specs.Meaning.{job_in}
+use Rattle.pg_workers.specs.Meaning.{job_of_meaning}
 use Rattle.pg_workers.proofs.Stepping.{running_step}
 use Rattle.pg_graph.specs.Rows.{Rows}
 use Rattle.pg_workers.proofs.coordinator.Coordinator.take_in_one.Goals as goal
@@ -20,7 +20,7 @@ returns-clause-keeps g c fated first shelf runs steps =
     let before : Coordination _ _ _ _ _ = record { core = inside.core; calls = inside.calls; losses = inside.losses.items } in
     let p = c.args.partition in
     let allowed = subst (λ (s : Coordination _ _ _ _ _). is_allowed s.core.state (Step p) ≡ true) (sym c.self.view_is) c.requires.allowed in
-    let right = subst (λ (s : Coordination _ _ _ _ _). (kept : Option Rows) → IsRight (job_in own first) kept first → Trusts shelf.is_honest s.core.history
+    let right = subst (λ (s : Coordination _ _ _ _ _). (kept : Option Rows) → IsRight (job_of_meaning own first) kept first → Trusts shelf.is_honest s.core.history
     → IsStepRight own kept s.core p c.args.done) (sym c.self.view_is) steps in
     let called : c.saturating_add-self-inside.result ≡ capped (inside.calls + c.args.done.calls) = omega (arith, c.saturating_add-self-inside.ensures) in
     running_step own fated first shelf before (record { core = c.stepped.new.self; calls = c.saturating_add-self-inside.result; losses = inside.losses.items })

@@ -1,6 +1,0 @@
-use Rattle.std.proofs.Common.{◌≡◌, take}
-use Rattle.pg_compute.specs.Differing.{without}
-use Rattle.pg_compute.proofs.ids.without.Given as goal
-
-abbrev pub invariant-loop-id : goal.invariant-loop-id
-invariant-loop-id l = record { rest : l.rest.items ≡ without (take l.id-index l.ids) l.others }

@@ -1,4 +1,0 @@
-pub mod Alone
-pub mod Course
-pub mod Lent
-pub mod Warm

@@ -1,5 +1,0 @@
-use Rattle.pg_edits.proofs.AtPlace.{rises_removed}
-use Rattle.pg_edits.proofs.draft.listed.ListedEdges.remove.Goals as goal
-
-pub invariant_of-self-in-Ok : goal.invariant_of-self-in-Ok
-invariant_of-self-in-Ok c = rises_removed _ c.args.target c.in-Ok.place c.self.invariant _ c.in-Ok.ensures.found c.remove.ensures.items

@@ -1,5 +1,0 @@
-use Rattle.pg_edits.proofs.LastRow.{no_row}
-use Rattle.pg_edits.proofs.last_row.begin_row.Goals as goal
-
-pub returns-in_default-clause-ok : goal.returns-in_default-clause-ok
-returns-in_default-clause-ok c = rw c.in_default.is (no_row c.args.list.now.items)

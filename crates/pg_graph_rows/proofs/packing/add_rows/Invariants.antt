@@ -1,0 +1,9 @@
+use Rattle.std.proofs.Common.{◌≡◌, ◌++◌, drop}
+use Rattle.std.specs.Arc.{arc_value}
+use Rattle.pg_graph_rows.specs.Packing.{AreParts, rows_of}
+use Rattle.pg_graph_rows.proofs.packing.add_rows.Given as goal
+
+abbrev pub invariant-loop-row : goal.invariant-loop-row
+invariant-loop-row l =
+    (l.rows.items ++ rows_of (drop l.row-index l.waiting) (arc_value l.edges).items ≡ l.initial.rows.items ++ rows_of l.waiting (arc_value l.edges).items)
+    × AreParts (drop l.row-index l.waiting) (arc_value l.edges).items

@@ -1,0 +1,4 @@
+pub mod Contents
+pub mod Grouping
+pub mod Repr
+pub mod ReprRef

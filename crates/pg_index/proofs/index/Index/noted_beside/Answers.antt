@@ -1,6 +1,0 @@
-use Rattle.std.proofs.Common.{sym, subst}
-use Rattle.pg_index.specs.Ran.{StepsRise}
-use Rattle.pg_index.proofs.index.Index.noted_beside.Goals as goal
-
-pub noted-requires-clause-steps : goal.noted-requires-clause-steps
-noted-requires-clause-steps c = subst StepsRise (sym c.in_ok-copy.ensures) c.requires.steps

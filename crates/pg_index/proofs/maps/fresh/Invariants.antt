@@ -1,6 +1,0 @@
-use Rattle.std.proofs.Common.{◌≡◌, ◌++◌}
-use Rattle.pg_index.proofs.Somes.{somes}
-use Rattle.pg_index.proofs.maps.fresh.Given as goal
-
-abbrev pub invariant-loop-id : goal.invariant-loop-id
-invariant-loop-id g l = l.there.items ++ somes l.id-iterator.rest.items ≡ somes l.fn.changes.items

@@ -1,6 +1,0 @@
-use Rattle.std.proofs.Common.{◌≡◌, ◌++◌}
-use Rattle.pg_index.specs.Chunks.{all_of}
-use Rattle.pg_index.proofs.notes.moved.Given as goal
-
-abbrev pub invariant-loop-chunk : goal.invariant-loop-chunk
-invariant-loop-chunk l = l.list.items ++ all_of l.chunk-iterator.rest.items ≡ all_of l.fn.notes.items

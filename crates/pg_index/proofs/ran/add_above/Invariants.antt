@@ -1,6 +1,0 @@
-use Rattle.std.proofs.Common.{◌≡◌, ◌++◌, nat_lt, take}
-use Rattle.std.specs.List.{filter}
-use Rattle.pg_index.proofs.ran.add_above.Given as goal
-
-abbrev pub invariant-loop-run : goal.invariant-loop-run
-invariant-loop-run l = l.into.items ≡ l.fn.into.items ++ filter (λ r. nat_lt l.superstep r.superstep) (take l.run-index l.runs)

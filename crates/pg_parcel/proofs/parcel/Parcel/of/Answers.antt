@@ -1,6 +1,0 @@
-use Rattle.std.proofs.Common.{subst, sym}
-use Rattle.pg_parcel.specs.Contents.{Holds}
-use Rattle.pg_parcel.proofs.parcel.Parcel.of.Goals as goal
-
-pub invariant_of-result : goal.invariant_of-result
-invariant_of-result g c = subst (Holds g.M.Plain.is_value) (sym c.in_ok-held.ensures) c.requires

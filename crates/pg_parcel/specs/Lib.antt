@@ -1,4 +1,0 @@
-pub mod Contents
-pub mod Grouping
-pub mod Held
-pub mod Lent

@@ -1,0 +1,13 @@
+pub mod Below
+pub mod Changing
+pub mod Coverage
+pub mod Executing
+pub mod Finding
+pub mod Looking
+pub mod Playing
+pub mod ReadVertices
+pub mod Recording
+pub mod Sames
+pub mod States
+pub mod VertexCountsDeltas
+pub mod WorkItems

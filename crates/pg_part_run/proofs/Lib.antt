@@ -1,0 +1,7 @@
+pub mod Beginning
+pub mod Both
+pub mod Cold
+pub mod OldStep
+pub mod Resuming
+pub mod Stepping
+pub mod WarmStep

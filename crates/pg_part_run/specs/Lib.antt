@@ -1,0 +1,4 @@
+pub mod Cold
+pub mod PartRun
+pub mod StepInput
+pub mod Warm

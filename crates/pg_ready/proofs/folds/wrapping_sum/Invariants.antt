@@ -1,7 +1,0 @@
-use Rattle.std.proofs.Common.{◌≡◌, pos, take}
-use Rattle.std.specs.Int.{w64, int_wrapping_add}
-use Rattle.std.specs.List.{fold}
-use Rattle.pg_ready.proofs.folds.wrapping_sum.Given as goal
-
-abbrev pub invariant-loop-message : goal.invariant-loop-message
-invariant-loop-message l = l.sum ≡ fold (int_wrapping_add w64) (pos 0) (take l.message-index l.messages)

@@ -1,6 +1,0 @@
-use Rattle.std.specs.Arc.{arc_value}
-use Rattle.pg_records.proofs.Changed.{kept_rise}
-use Rattle.pg_records.proofs.records.Records.awake.Goals as goal
-
-pub returns-then-len-eq0-clause-rising : goal.returns-then-len-eq0-clause-rising
-returns-then-len-eq0-clause-rising g c = kept_rise c.self.inside.changes (arc_value c.self.inside.given) c.self.view_is

@@ -1,6 +1,0 @@
-use Rattle.std.proofs.Common.{◌≡◌, take}
-use Rattle.pg_records.specs.Records.{contributions_of}
-use Rattle.pg_records.proofs.records.contributions_among.Given as goal
-
-abbrev pub invariant-loop-record : goal.invariant-loop-record
-invariant-loop-record g l = l.all.items ≡ contributions_of (take l.record-index l.records)

@@ -1,7 +1,0 @@
-use Rattle.std.proofs.Common.{◌≡◌, take}
-use Rattle.pg_records.specs.Changes.{somes}
-use Rattle.pg_records.specs.Records.{contributions_of}
-use Rattle.pg_records.proofs.records.contributions_by.Given as goal
-
-abbrev pub invariant-loop-place : goal.invariant-loop-place
-invariant-loop-place g l = l.all.items ≡ contributions_of (somes (take l.place l.given))

@@ -1,6 +1,0 @@
-use Rattle.std.proofs.Common.{◌≡◌, take}
-use Rattle.pg_records.specs.Changes.{somes}
-use Rattle.pg_records.proofs.records.given_by.Given as goal
-
-abbrev pub invariant-loop-place : goal.invariant-loop-place
-invariant-loop-place g l = l.all.items ≡ somes (take l.place l.given)

@@ -1,4 +1,0 @@
-pub mod Changes
-pub mod Parts
-pub mod Records
-pub mod Rows

@@ -1,9 +1,0 @@
-use Rattle.std.proofs.Common.{◌≡◌, take}
-use Rattle.pg_recount.specs.Traffic.{is_any, messages_among}
-use Rattle.pg_recount.proofs.messages.messages_to_each.Given as goal
-
-abbrev pub invariant-loop-id : goal.invariant-loop-id
-invariant-loop-id g l = record {
-  finder : l.finder ≡ l.bundle;
-  counted : l.count ≡ messages_among is_any (take l.id-index l.ids) l.bundle;
-}

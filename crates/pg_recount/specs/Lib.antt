@@ -1,3 +1,0 @@
-pub mod Census
-pub mod Contributed
-pub mod Traffic

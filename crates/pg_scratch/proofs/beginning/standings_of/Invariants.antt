@@ -1,7 +1,0 @@
-use Rattle.std.proofs.Common.{◌≡◌, ◌++◌, map}
-use Rattle.pg_model.specs.Run.{beginning}
-use Rattle.pg_scratch.proofs.beginning.standings_of.Given as goal
-
-abbrev pub invariant-loop-id : goal.invariant-loop-id
-invariant-loop-id g l =
-    l.standings.items ++ map (beginning (g.P.Computation.program l.program)) l.id-iterator ≡ map (beginning (g.P.Computation.program l.program)) l.graph

@@ -1,0 +1,3 @@
+pub mod Contributed
+pub mod MessageCounts
+pub mod VertexCounts

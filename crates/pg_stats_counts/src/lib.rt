@@ -1,0 +1,15 @@
+//! What changes make of a partition's stats: a new run's are had from an old one's, or from the superstep before.
+#![tactic(auto)]
+
+mod gathering;
+mod messages;
+mod recorded;
+mod vertices;
+
+pub use gathering::{contribute_alike, gathered};
+pub use messages::{message_counts, message_counts_warm};
+pub use pg_graph::Memory;
+pub use recorded::message_counts_recorded;
+pub use vertices::{
+    VertexCountsDelta, vertex_counts, vertex_counts_among, vertex_counts_delta_among, with_delta,
+};

@@ -1,6 +1,0 @@
-use Rattle.std.proofs.Common.{rules}
-use Rattle.pg_tests_service.proofs.Staying.{fails_to_get}
-use Rattle.pg_tests_service.proofs.shelves.NthShelfShelf.get.Goals as goal
-
-pub returns-then-self-clause-got : goal.returns-then-self-clause-got
-returns-then-self-clause-got c = fails_to_get _ _ (search rules) _ (search rules)

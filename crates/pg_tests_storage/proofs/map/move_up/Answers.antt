@@ -1,7 +1,0 @@
-use Rattle.std.specs.List.Sorted.{IsStrictlySortedBy}
-use Rattle.pg_map.proofs.Parts.{is_less}
-use Rattle.pg_tests_storage.proofs.map.move_up.Goals as goal
-
-pub change-requires : goal.change-requires
-unfolding IsStrictlySortedBy
-change-requires c = ((is_less _ _ c.requires, tt), (tt, tt))

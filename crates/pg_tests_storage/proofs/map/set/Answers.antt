@@ -1,6 +1,0 @@
-use Rattle.std.specs.List.Sorted.{IsStrictlySortedBy}
-use Rattle.pg_tests_storage.proofs.map.set.Goals as goal
-
-pub change-requires : goal.change-requires
-unfolding IsStrictlySortedBy
-change-requires c = (tt, tt)

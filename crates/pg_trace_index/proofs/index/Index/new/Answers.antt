@@ -1,0 +1,7 @@
+use Rattle.std.proofs.Common.{sym, subst}
+use Rattle.pg_trace_index.specs.Chunks.{AreSound}
+use Rattle.pg_trace_index.proofs.InChunks.{none_sound}
+use Rattle.pg_trace_index.proofs.index.Index.new.Goals as goal
+
+pub over-requires : goal.over-requires
+over-requires c = subst AreSound (sym c.new-2.ensures.items) none_sound

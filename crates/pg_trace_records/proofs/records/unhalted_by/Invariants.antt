@@ -1,0 +1,7 @@
+use Rattle.std.proofs.Common.{◌≡◌, take}
+use Rattle.pg_trace_records.specs.RecordChanges.{somes}
+use Rattle.pg_trace_records.specs.Records.{unhalted_after}
+use Rattle.pg_trace_records.proofs.records.unhalted_by.Given as goal
+
+abbrev pub invariant-loop-place : goal.invariant-loop-place
+invariant-loop-place g l = l.unhalted.items ≡ unhalted_after (somes (take l.place l.given))

@@ -1,0 +1,4 @@
+pub mod Parts
+pub mod RecordChanges
+pub mod Records
+pub mod Rows
