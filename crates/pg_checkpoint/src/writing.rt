@@ -62,7 +62,7 @@ fn put_front(bytes: &mut [u8], front: &[u8])
     bytes[..front.len()].copy_from_slice(front);
 }
 
-/// The same bytes with others in place of the first ones.
+/// Bytes with others in place of the first ones.
 pub(crate) fn with_front(bytes: Vec<u8>, front: &[u8]) -> Vec<u8>
     requires { length front.now ≤ length bytes.items }
     ensures { result.items ≡ front.now ++ drop (length front.now) bytes.items }

@@ -77,7 +77,7 @@ fn initial_values(alloc: Global, registry: &Registry) -> Result<Sequence<i64>, M
     Ok(values)
 }
 
-/// The same values again.
+/// A copy of values.
 pub(crate) fn copied(alloc: Global, values: &Sequence<i64>) -> Result<Sequence<i64>, Memory>
     ensures { IfOk result (λ copy. copy ≡ values.now) }
 {
@@ -147,9 +147,9 @@ pub(crate) fn begun_parts<P: Computation>(
     Ok(parts)
 }
 
-/// The same against an old run, with all that it left and with ids outside of which the graph's rows are those of its
-/// graph; and what the old run's partitions have in common. Costs a sort of k such ids, k look-ups for each partition,
-/// and a count a superstep of the old run.
+/// The parts of all partitions as superstep 0 of a run against an old one begins, and what the old run's partitions
+/// have in common. They take all that the old run left, and ids outside of which the graph's rows are those of its
+/// graph. Costs a sort of k such ids, k look-ups for each partition, and a count a superstep of the old run.
 pub(crate) fn begun_parts_warm<P: Computation>(
     alloc: Global,
     graph: &Graph,
@@ -188,7 +188,7 @@ pub(crate) fn begun_parts_warm<P: Computation>(
     Ok((parts, retained_run))
 }
 
-/// The same, where these of the ids are a vertex of just one of the two graphs.
+/// The parts as a run against an old one begins, where these of the ids are a vertex of just one of the two graphs.
 fn begun_with<P: Computation>(
     alloc: Global,
     graph: &Graph,

@@ -15,7 +15,7 @@ pub struct RunTotals {
 }
 
 impl RunTotals {
-    /// The same after one superstep more, which came to this.
+    /// The totals after one superstep more, which came to these stats.
     pub(crate) fn after(&self, stats: GlobalStats) -> RunTotals
         ensures { result ≡ record {
           gathered = stats.gathered;

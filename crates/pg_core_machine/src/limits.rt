@@ -95,7 +95,7 @@ impl Limits {
         None
     }
 
-    /// The same numbers with another policy for messages to nobody.
+    /// These limits with another policy for messages to ids without a vertex.
     pub fn with_missing(self, missing: Missing) -> Limits
         ensures { result ≡ record self { missing = missing } }
     {

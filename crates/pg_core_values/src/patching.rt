@@ -42,7 +42,8 @@ pub fn values_warm<V: Plain, M: Plain>(
     }
 }
 
-/// The same against a kept run: its values, with those of the vertices that may have ended otherwise.
+/// The values as a run against a kept one ends: the kept run's, with those of the vertices that may have ended
+/// otherwise.
 fn values_patched<V: Plain, M: Plain>(
     alloc: Global,
     partitioner: Partitioner,

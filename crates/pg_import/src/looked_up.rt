@@ -66,7 +66,7 @@ impl<'a> LookedUp<'a> {
         Ok(Some(kept(self.vertices.last_place())))
     }
 
-    /// The same of the source of a line, and notes its edges.
+    /// Looks up the source of a line as `add_vertex` does, and notes its edges.
     pub(crate) fn add_source(&mut self, id: VertexId) -> Result<Option<u32>, Memory>
         ensures there { IfOk result (λ place. IsNone place → has_vertex id self.old ≡ true) }
         ensures same { self.new ≡ self.old }

@@ -39,7 +39,7 @@ pub fn changed_targets<M: Plain>(
     }
 }
 
-/// The same of two bundles that are there.
+/// The targets to which two bundles don't deliver the same messages.
 fn differing<M: Plain>(
     alloc: Global,
     old: &Bundle<M>,
@@ -151,7 +151,7 @@ fn is_same<M: Plain>(
     }
 }
 
-/// The same of messages that are there.
+/// Whether others see the same of two lists of messages to a target.
 fn is_same_contents<M: Plain>(old: &MessageListRef<'_, M>, new: &MessageListRef<'_, M>) -> bool
     requires old { Holds M.is_value old.now }
     requires new { Holds M.is_value new.now }

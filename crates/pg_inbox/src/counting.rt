@@ -24,7 +24,7 @@ impl<M: Plain> Bundle<M> {
         }
     }
 
-    /// The same from a list of the targets.
+    /// How many messages there are, counted in a list of the targets.
     fn messages_counted(&self, alloc: Global) -> Result<u64, Memory>
         ensures { IfOk result (λ count. count ≡ messages_where (λ _. true) self.now) }
     {
@@ -46,7 +46,7 @@ impl<M: Plain> Bundle<M> {
         }
     }
 
-    /// The same from a list of the targets.
+    /// How many messages there are to ids that are no vertices, counted in a list of the targets.
     fn undeliverable_counted(&self, alloc: Global, graph: &Graph) -> Result<u64, Memory>
         ensures { IfOk result
             (λ count. count ≡ messages_where (λ id. not (is_some (row_at id graph.now))) self.now) }

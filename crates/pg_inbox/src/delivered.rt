@@ -87,7 +87,7 @@ impl<M: Drop> Inboxes<M> {
         (part.id, messages)
     }
 
-    /// The same with one more. Costs a move of its messages.
+    /// These inboxes and one more. Costs a move of its messages.
     pub fn with(self, id: VertexId, messages: Vec<M>) -> Result<Inboxes<M>, Memory>
         ensures { IfOk result (λ inboxes. inboxes ≡ self ++ (id, messages.items) ∷ []) }
     {
@@ -101,7 +101,7 @@ impl<M: Drop> Inboxes<M> {
         Inboxes::ended(all, parts, id, first)
     }
 
-    /// The same with an inbox of no messages.
+    /// These inboxes and one of no messages.
     pub fn with_none(self, id: VertexId) -> Result<Inboxes<M>, Memory>
         ensures { IfOk result (λ inboxes. inboxes ≡ self ++ (id, []) ∷ []) }
     {
@@ -131,7 +131,7 @@ impl<M: Drop> Inboxes<M> {
 }
 
 impl<M: Plain> Inboxes<M> {
-    /// The same with copies of messages.
+    /// These inboxes and one of copies of messages.
     pub fn with_copies(
         self,
         alloc: Global,
@@ -149,7 +149,7 @@ impl<M: Plain> Inboxes<M> {
         Inboxes::ended(all, parts, id, first)
     }
 
-    /// The same with the messages to one target of one bundle, by sender and then in the order sent.
+    /// These inboxes and one of a bundle's messages to one target, by sender and then in the order sent.
     #[inline(always)]
     pub(crate) fn with_message_list(
         self,
@@ -168,7 +168,7 @@ impl<M: Plain> Inboxes<M> {
         Inboxes::ended(messages, parts, id, first)
     }
 
-    /// The same with the messages of envelopes, by sender and then in their order. No envelopes are left.
+    /// These inboxes and one of the messages of envelopes, by sender and then in their order. No envelopes are left.
     #[inline(always)]
     pub(crate) fn with_envelopes(
         self,

@@ -138,7 +138,7 @@ pub(crate) fn first_stats(
     })
 }
 
-/// The same against an old run, by what the partition had come to as that began.
+/// The stats as a run against an old one begins, by those that the partition had as the old run began.
 pub(crate) fn first_stats_warm<V: Plain, M: Plain>(
     alloc: Global,
     registry: &Registry,
@@ -271,7 +271,7 @@ fn stats_after<V: Plain, M: Plain>(
     })
 }
 
-/// The same against the old run, by those that it had before and after it too.
+/// The stats after a superstep of a run against an old one, by those of the old run before and after it too.
 fn stats_warm<V: Plain, M: Plain>(
     alloc: Global,
     registry: &Registry,
@@ -354,7 +354,7 @@ fn gathered_warm<V: Plain, M: Plain>(
     gathered_in(alloc, registry, trace, superstep)
 }
 
-/// The same values again.
+/// A copy of values.
 fn copied(alloc: Global, values: &Sequence<i64>) -> Result<Sequence<i64>, Memory>
     ensures { IfOk result (λ copy. copy ≡ values.now) }
 {

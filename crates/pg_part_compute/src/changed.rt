@@ -97,7 +97,8 @@ fn changed_before<M: Plain>(
     }
 }
 
-/// The same of what was sent in one superstep.
+/// The targets at which what the partitions sent to this one in a superstep may differ from what they sent in the old
+/// run's.
 fn changed_at<M: Plain>(
     alloc: Global,
     partitions: Partitioner,

@@ -262,7 +262,7 @@ fn execute_vertex<P: Computation>(
     }
 }
 
-/// The same of a vertex by its state and what is delivered to it.
+/// Executes a vertex with this state, if there is one and it is active, and adds its record.
 #[inline(always)]
 pub(crate) fn execute_found<P: Computation>(
     alloc: Global,

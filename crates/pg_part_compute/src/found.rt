@@ -194,7 +194,7 @@ pub(crate) fn pair_eq_is_sound<V: Plain, M: Plain>(
     }
 }
 
-/// The same of two vertices.
+/// Tells the prover that two vertices that `==` finds equal are equal, with their inboxes.
 fn vertex_eq_is_sound<V: Plain, M: Plain>(old: &VertexWithInbox<V, M>, new: &VertexWithInbox<V, M>)
     ensures { is_same_vertex V.PartialEq.eq M.PartialEq.eq old.now new.now ≡ true → IsSameVertex old.now new.now }
 {

@@ -84,7 +84,7 @@ fn only_own<M: Plain>(
     Ok(own)
 }
 
-/// The same with a copy of one more, if that belongs to a partition.
+/// These inboxes and a copy of one more, if that belongs to a partition.
 fn with_own<M: Plain>(
     alloc: Global,
     share: &PartitionOf,

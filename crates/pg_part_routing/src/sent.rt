@@ -47,7 +47,7 @@ impl<M: Plain> Sent<M> {
         self.bundles.as_slice()
     }
 
-    /// The same to keep.
+    /// The bundles, to keep.
     pub fn into_bundles(self) -> Vec<LoggedBundle<M>>
         ensures { result.items ≡ self }
     {

@@ -178,7 +178,7 @@ impl<V: Plain, M: Plain> PartRun<V, M> {
         &self.trace
     }
 
-    /// The same to keep, and the trace of the old run, where the partition is warm.
+    /// The trace, to keep, and that of the old run where the partition is warm.
     pub fn into_traces(self) -> (Trace<V, M>, Option<Trace<V, M>>)
         ensures own { result.0 ≡ self.trace }
         ensures kept { result.1 ≡ self.kept }

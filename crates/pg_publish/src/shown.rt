@@ -52,7 +52,7 @@ impl<E: Drop> Shown<E> {
         }
     }
 
-    /// The same, with the entry shared. `Err` where the entry has too many owners.
+    /// A copy that shares the entry. `Err` where the entry has too many owners.
     pub fn again(&self) -> Result<Shown<E>, AllocError>
         ensures { IfOk result (λ s. s ≡ self.now) }
     {

@@ -201,7 +201,7 @@ fn messages_among<M: Plain>(bundle: Option<&Bundle<M>>, ids: &[VertexId]) -> Res
     }
 }
 
-/// The same of a bundle that is there.
+/// How many messages a bundle has to these ids.
 fn messages_to_each<M: Plain>(bundle: &Bundle<M>, ids: &[VertexId]) -> Result<u64, Memory>
     ensures { IfOk result (λ count. count ≡ messages_among is_any ids.now bundle.now) }
 {
@@ -230,7 +230,7 @@ fn undeliverable_among<M: Plain>(
     }
 }
 
-/// The same of a bundle that is there.
+/// How many messages a bundle has to those of these ids that are no vertices.
 fn undeliverable_to_each<M: Plain>(
     bundle: &Bundle<M>,
     ids: &[VertexId],
@@ -263,7 +263,7 @@ fn arriving_among<M: Plain>(
     }
 }
 
-/// The same of a bundle that is there.
+/// How many messages a bundle has to those of these ids that are vertices.
 fn arriving_to_each<M: Plain>(
     bundle: &Bundle<M>,
     ids: &[VertexId],

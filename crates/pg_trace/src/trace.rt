@@ -84,7 +84,7 @@ impl<V: Drop, M: Drop> Trace<V, M> {
         Ok(shared.begun_with(initial))
     }
 
-    /// The same records after other first states.
+    /// These records after other first states.
     fn begun_with(self, initial: Beginnings<V>) -> Trace<V, M>
         ensures { result ≡ record self { initial = initial } }
     {

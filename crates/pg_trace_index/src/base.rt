@@ -159,7 +159,7 @@ impl Base {
         }
     }
 
-    /// The same in a map. What they lay in is let go of. It costs O(1) where they lie in one, and else O(1) a run.
+    /// The map of the steps, for which the base is used up. It costs O(1) where they lie in one, and else O(1) a run.
     pub(crate) fn into_map(self, alloc: Global) -> Result<Map<Steps>, Memory>
         ensures { IfOk result (λ map. map ≡ self) }
     {

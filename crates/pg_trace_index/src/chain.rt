@@ -145,7 +145,7 @@ pub(crate) fn last_under(logged: LogEntry, earlier: &[LogEntry], limit: u64) -> 
     last_before(logged, earlier, limit)
 }
 
-/// The same of those before a run.
+/// The last run in a superstep below a number, of those before a run.
 fn last_before(logged: LogEntry, earlier: &[LogEntry], limit: u64) -> Option<Occurrence>
     ensures { option_map (λ r. r.superstep) result
         ≡ first_below limit (back earlier.now (length earlier.now) logged.before) }

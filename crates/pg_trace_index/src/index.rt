@@ -79,7 +79,7 @@ impl Index {
         IndexCursor::of(self.base.cursor(), &self.overlay)
     }
 
-    /// The same index beside this one, with the notes put into its map. Where there are none it costs O(1), and else a
+    /// A copy that shares the index's map, with the notes put into it. Where there are none it costs O(1), and else a
     /// copy of what they change; in a first run O(1) a run.
     pub fn cheap_clone(&self, alloc: Global) -> Result<Index, Memory>
         ensures { IfOk result (λ index. index ≡ self.now) }
@@ -90,8 +90,8 @@ impl Index {
         Ok(Index::of(alloc, ran))
     }
 
-    /// The same index, with the notes put into its map. Where there are none it costs O(1), where the map has no
-    /// entries O(1) a note, and else a copy of the chunks that they change; in a first run O(1) a run.
+    /// This index with the notes put into its map. Where there are none it costs O(1), where the map has no entries
+    /// O(1) a note, and else a copy of the chunks that they change; in a first run O(1) a run.
     pub fn sealed(self, alloc: Global) -> Result<Index, Memory>
         ensures { IfOk result (λ index. index ≡ self) }
     {

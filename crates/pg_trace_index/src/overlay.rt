@@ -286,7 +286,7 @@ fn copy_of(
     Ok(())
 }
 
-/// The same steps, if there are any.
+/// A copy of steps that shares their memory, if there are any.
 fn shared_if_any(alloc: Global, steps: &Option<Steps>) -> Result<Option<Steps>, Memory>
     ensures { IfOk result (λ copy. copy ≡ steps.now) }
 {

@@ -232,7 +232,7 @@ impl<'a, P: Computation, C: MessageCombiner<P::Message>, M: MasterCompute> Coord
         }
     }
 
-    /// The same, where this is the superstep at which it was saved.
+    /// What its checkpoint of this superstep gives, at which it was saved last.
     fn found_at<S: Shelf>(
         &self,
         alloc: Global,

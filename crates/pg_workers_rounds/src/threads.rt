@@ -88,7 +88,7 @@ pub fn in_threads<
     thread::map_vec(rt, assignments, &body)
 }
 
-/// The same round in the caller's own thread: each worker passes the gate and does its work, one after another. It
+/// A round in the caller's own thread: each worker passes the gate and does its work, one after another. It
 /// costs the work of all, and nothing for threads.
 ///
 /// # Errors

@@ -127,7 +127,7 @@ fn bytes_in<H: Host>(rt: &H, folder: &str, file: &str) -> io::Result<Vec<u8>> {
     fs::read(rt, format!(in rt.alloc(); "{folder}/{file}")?)
 }
 
-/// The same as text.
+/// The text that a file of a folder has.
 fn text_in<H: Host>(rt: &H, folder: &str, file: &str) -> io::Result<String> {
     fs::read_to_string(rt, format!(in rt.alloc(); "{folder}/{file}")?)
 }

@@ -96,7 +96,7 @@ fn run_in<P: Computation, C: MessageCombiner<P::Message>, M: MasterCompute>(
     Ok((run, meter.count()))
 }
 
-// The same of a run from scratch.
+// The answer of a run from scratch that goes on in an order, and its calls.
 fn opened_in<P: Computation, C: MessageCombiner<P::Message>, M: MasterCompute>(
     alloc: Global,
     graph: &Graph,

@@ -241,7 +241,7 @@ pub(crate) fn warm_run<P: Computation, C: MessageCombiner<P::Message>>(
     run_on(alloc, part_runs, &logs, true, totals, program, combiner)
 }
 
-// The same where one partition has lost its trace of the old run, and begins from scratch.
+// A run against an old one where one partition has lost its trace of the old run, and begins from scratch.
 pub(crate) fn mixed_run<P: Computation, C: MessageCombiner<P::Message>>(
     alloc: Global,
     graph: &Graph,

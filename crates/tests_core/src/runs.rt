@@ -84,7 +84,7 @@ fn second_first(
     Ok((ready, meter.count(), core.history() == steps.as_slice()))
 }
 
-// The same of a core as it opens.
+// What `second_first` tells of a core as it opens.
 fn opened_second_first(alloc: Global, graph: &Graph) -> Result<(bool, u64, bool), Fail> {
     let mut core = opened(alloc, graph, 2)?;
     Ok(second_first(alloc, &mut core)?)

@@ -105,7 +105,7 @@ pub fn unlost<P: Computation, C: MessageCombiner<P::Message>, M: MasterCompute>(
     Ok((rows, retained))
 }
 
-/// The same against what another run left, on a graph that differs at these ids.
+/// Of a run against another in which nobody falls, on a graph that differs at these ids: its calls and what it leaves.
 pub fn unlost_warm<P: Computation, C: MessageCombiner<P::Message>, M: MasterCompute>(
     alloc: Global,
     graph: &Graph,

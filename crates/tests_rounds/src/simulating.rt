@@ -114,7 +114,7 @@ impl Simulation {
         })
     }
 
-    /// The same on a shelf whose device fails as it is asked for the time with this number, from 1 on; 0 is none.
+    /// This simulation on a shelf whose device fails at the request with this number, from 1 on; 0 is none.
     pub fn failing(self, failing: u64) -> Simulation {
         Simulation { failing, ..self }
     }

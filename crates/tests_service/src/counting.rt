@@ -69,7 +69,7 @@ fn counted<
     Ok((reported, calls, board.called.swap(0, Ordering::SeqCst)))
 }
 
-// The same of these batches in turn.
+// What `counted` tells of these batches in turn.
 fn each_counted<
     R: Threads + Wait + Sync,
     P: Computation,
@@ -89,7 +89,7 @@ fn each_counted<
     Ok(counts)
 }
 
-// The same of shortest paths with this combiner.
+// What `each_counted` tells of shortest paths with this combiner.
 fn paths_counted<R: Threads + Wait + Sync>(
     rt: &R,
     alloc: Global,

@@ -123,7 +123,7 @@ pub(crate) fn commit(
     Ok(edit(alloc, service, &batch))
 }
 
-// The same of a batch that isn't to be refused.
+// The edition that a batch makes which isn't to be refused.
 pub(crate) fn accepted(alloc: Global, service: &mut Paths, lines: &[Line]) -> Result<u64, Fail>
     ensures { service.new.told ≡ service.old.told }
 {

@@ -50,7 +50,7 @@ fn paths<R: Threads + Wait + Sync, S: Shelf, F: Fate>(
     )
 }
 
-// The same against what another run left.
+// The shortest paths from vertex 1 in a run against what another left.
 fn paths_warm<R: Threads + Wait + Sync, F: Fate>(
     rt: &R,
     alloc: Global,

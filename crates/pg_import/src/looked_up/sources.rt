@@ -147,7 +147,7 @@ fn has_target(edges: &[(VertexId, i64)], target: VertexId) -> bool
     }
 }
 
-/// The same, found by going over all.
+/// Whether there is an edge to the target among these, found by going over all.
 fn has_target_of_few(edges: &[(VertexId, i64)], target: VertexId) -> bool
     ensures { result ≡ is_some (weight_at target edges.now) }
 {
