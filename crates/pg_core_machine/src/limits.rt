@@ -7,7 +7,7 @@ use pg_graph::Missing;
 use std::marker::Model;
 
 /// The numbers of a run over partitions: how many partitions and workers there are, how many supersteps at most,
-/// after how many a partition is saved, how many losses are borne, and what becomes of messages to nobody.
+/// after how many a partition is saved, how many losses are borne, and what becomes of messages to no vertex.
 #[derive(Clone, Copy, Debug, PartialEq, Eq)]
 pub struct Limits {
     partitions: u32,
@@ -54,7 +54,7 @@ impl Model for Limits {
 impl Limits {
     /// So many partitions (1 to 64), workers (1 to 16) and supersteps at most (1 to 10,000); each partition is saved
     /// after so many supersteps (up to 1,000, 0 for never); so many losses are borne (up to 16). `None` for any other
-    /// number. Messages to nobody are dropped.
+    /// number. Messages to no vertex are dropped.
     pub fn new(
         partitions: u32,
         workers: u32,
@@ -149,7 +149,7 @@ impl Limits {
         self.max_losses
     }
 
-    /// What becomes of messages to nobody.
+    /// What becomes of messages to no vertex.
     pub fn missing(self) -> Missing
         ensures { result ≡ self.missing }
     {

@@ -1,4 +1,4 @@
-//! What a job has beside its program: a combiner, aggregators by name, and a master.
+//! What a job has besides its program: a combiner, aggregators by name, and a master.
 #![tactic(auto)]
 
 mod aggregator;

@@ -19,7 +19,7 @@ use std::marker::Model;
 /// What one partition sends to another in a superstep: for each target, by rising id, the messages to it with
 /// their senders, and where the combiner combines what they come to. Copies share their memory.
 ///
-/// Messages that aren't combined lie as they were sent, in one list by rising target, beside what is changed of it
+/// Messages that aren't combined lie as they were sent, in one list by rising target, with what is changed of it
 /// since; those that are combined are changes of no list.
 pub struct Bundle<M: Plain> {
     pub(crate) envelopes: Envelopes<M>,

@@ -6,7 +6,7 @@ use pg_graph::{Memory, VertexId};
 use std::alloc::Global;
 use std::sync::Arc;
 
-/// Messages with their senders, each beside its target, in memory that copies share. None take no memory.
+/// Messages with their senders and targets, in memory that copies share. None take no memory.
 #[derive(Drop)]
 pub(crate) struct Envelopes<M> {
     pub(crate) shared: Option<Arc<Vec<(VertexId, (VertexId, M))>>>,

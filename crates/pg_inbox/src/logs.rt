@@ -66,7 +66,7 @@ impl<M: Plain> Logs<M> {
     }
 
     /// Puts what a partition sent to another in a superstep, in place of what was there. Nothing changes where
-    /// memory is refused. Costs O(1) beside the first of a superstep or a partition.
+    /// memory is refused. Costs O(1), but for the first of a superstep or a partition.
     pub fn put(
         &mut self,
         alloc: Global,

@@ -69,7 +69,7 @@ fn combined_bundle<M: Plain, C: MessageCombiner<M>>(
     })
 }
 
-/// Each message with its sender, beside its target, by rising target; those to one target in their order.
+/// Each message with its sender and target, by rising target; those to one target in their order.
 fn envelopes_by_target<M: Plain>(
     alloc: Global,
     sent: &OutboxRef<'_, M>,
@@ -82,7 +82,7 @@ fn envelopes_by_target<M: Plain>(
     envelopes_in_order(alloc, sent, order.as_slice())
 }
 
-/// Copies of the messages of the sends at these places, each with its sender, beside its target.
+/// Copies of the messages of the sends at these places, each with its sender and target.
 fn envelopes_in_order<M: Plain>(
     alloc: Global,
     sent: &OutboxRef<'_, M>,

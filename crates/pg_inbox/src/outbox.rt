@@ -6,7 +6,7 @@ use pg_graph::{Memory, VertexId};
 use std::alloc::Global;
 use std::marker::Model;
 
-/// Messages in the order in which they are to arrive, each beside its target, and who sent each. A contract sees the
+/// Messages in the order in which they are to arrive, each with its target, and who sent each. A contract sees the
 /// list of (sender, target, message).
 #[derive(Drop)]
 pub struct Outbox<M> {
@@ -77,7 +77,7 @@ impl<'a, M> Model for OutboxRef<'a, M> {
 }
 
 impl<'a, M> OutboxRef<'a, M> {
-    /// These messages, each beside its target, of the senders at the same places.
+    /// These messages, each with its target, of the senders at the same places.
     pub fn of(senders: &'a [VertexId], sent: &'a [(VertexId, M)]) -> OutboxRef<'a, M>
         requires { length senders.now ≡ length sent.now }
         ensures { result ≡ sends_in senders.now sent.now }
@@ -101,7 +101,7 @@ impl<'a, M> OutboxRef<'a, M> {
         send_at(self.senders, self.sent, place)
     }
 
-    /// The messages beside their targets.
+    /// The messages with their targets.
     pub(crate) fn beside_targets(&self) -> &'a [(VertexId, M)]
         ensures { map (λ m. m.0) result.now ≡ map (λ s. s.1) self.now }
     {

@@ -68,7 +68,7 @@ pub fn patch<M: Plain, C: MessageCombiner<M>>(
     })
 }
 
-/// What is done, beside the target that it is done to, by rising target: to each what is retracted, and then what is
+/// What is done, with the target that it is done to, by rising target: to each what is retracted, and then what is
 /// added.
 fn message_edits_by_target<M: Plain>(
     alloc: Global,

@@ -8,7 +8,7 @@ use pg_graph::VertexId;
 use pg_program::Plain;
 use std::marker::Model;
 
-/// Messages where they lie: in a message list, or among those that were sent, each beside its target.
+/// Messages where they lie: in a message list, or among those that were sent, each with its target.
 #[derive(Drop)]
 pub(crate) enum ReprRef<'a, M: Plain> {
     Kept(&'a MessageList<M>),

@@ -310,7 +310,7 @@ impl<V: Plain, M: Plain> Part<V, M> {
     /// its share, against an old run or not.
     ///
     /// Costs a few look-ups for each record, whose messages and contributions are moved; a look-up of each target,
-    /// where messages to nobody are dropped; and a walk over the contributions for each aggregator.
+    /// where messages to no vertex are dropped; and a walk over the contributions for each aggregator.
     pub fn resume(
         self,
         alloc: Global,

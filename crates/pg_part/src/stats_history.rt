@@ -362,7 +362,7 @@ fn copied(alloc: Global, values: &Sequence<i64>) -> Result<Sequence<i64>, Memory
 }
 
 /// The stats after a superstep, by its records and by the stats before it. Costs a walk over the records and look-ups
-/// of their vertices; and a look-up of each target where messages to nobody are dropped.
+/// of their vertices; and a look-up of each target where messages to no vertex are dropped.
 fn stats_recorded<V: Plain, M: Plain>(
     alloc: Global,
     registry: &Registry,

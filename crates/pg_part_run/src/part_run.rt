@@ -109,7 +109,7 @@ impl<V: Plain, M: Plain> PartRun<V, M> {
         self.partitions
     }
 
-    /// What becomes of messages to nobody.
+    /// What becomes of messages to no vertex.
     pub fn missing(&self) -> Missing
         ensures { result ≡ self.now.missing }
     {

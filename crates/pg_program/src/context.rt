@@ -85,7 +85,7 @@ impl<M: Drop> Cx<M> {
         (view, sent, contributed, meter)
     }
 
-    /// What was sent so far by all executions that the context has served, each message beside its target.
+    /// What was sent so far by all executions that the context has served, each message with its target.
     #[inline(always)]
     pub fn sent(&self) -> &[(VertexId, M)]
         ensures { result.now ≡ self.now.sent }
@@ -93,7 +93,7 @@ impl<M: Drop> Cx<M> {
         self.sent.as_slice()
     }
 
-    /// What was contributed so far by all of them, each value beside the place of its aggregator.
+    /// What was contributed so far by all of them, each value with the place of its aggregator.
     #[inline(always)]
     pub fn contributed(&self) -> &[(Place, i64)]
         ensures { result.now ≡ self.now.contributed }

@@ -12,7 +12,7 @@ use std::alloc::AllocError;
 use std::marker::Model;
 use std::sync::Arc;
 
-/// The last entry of a history, shared, beside the history so far. A contract sees the history.
+/// The last entry of a history, shared, with the history so far. A contract sees the history.
 #[derive(Drop)]
 pub struct Shown<E: Drop> {
     last: Option<Arc<E>>,

@@ -15,7 +15,7 @@ pub struct VertexCounts {
 #[derive(Clone, Copy, Debug, PartialEq, Eq)]
 pub struct MessageCounts {
     pub sent: u64,
-    /// Those of the messages that were dropped, since they went to nobody.
+    /// Those of the messages that were dropped, since they went to no vertex.
     pub dropped: u64,
 }
 

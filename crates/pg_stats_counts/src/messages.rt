@@ -15,7 +15,7 @@ use pg_program::Plain;
 use pg_stats::MessageCounts;
 use std::alloc::{AllocError, Global};
 
-/// What is sent and dropped with these bundles. Costs what `messages` does, and where messages to nobody are dropped
+/// What is sent and dropped with these bundles. Costs what `messages` does, and where messages to no vertex are dropped
 /// what `undeliverable` does.
 pub fn message_counts<M: Plain>(
     alloc: Global,

@@ -23,7 +23,7 @@ use std::marker::Model;
 ///
 /// No other state is kept: that of a vertex as a superstep begins is what its last record before it
 /// left. An index says of each vertex in which supersteps it ran. What `recorded` notes in it lies
-/// beside the memory that copies share, and is put into that once, where the trace is sealed.
+/// outside the memory that copies share, and is put into that once, where the trace is sealed.
 pub struct Trace<V, M> {
     initial: Beginnings<V>,
     supersteps: Vec<Records<V, M>>,

@@ -135,8 +135,7 @@ impl Index {
         }
     }
 
-    /// The same beside this index, with all notes put into its map. It costs what `cheap_clone`, `noted` and `sealed`
-    /// do.
+    /// A copy of this index with these vertices noted, sealed. It costs what `cheap_clone`, `noted` and `sealed` do.
     pub fn noted_warm(
         &self,
         alloc: Global,

@@ -15,7 +15,7 @@ use std::marker::Model;
 use std::sync::Arc;
 
 /// The runs of a vertex, by rising superstep: a part of a list that copies and other vertices share. The last one is
-/// noted beside, so that most look-ups don't read the list. A contract sees the supersteps.
+/// noted by itself, so that most look-ups don't read the list. A contract sees the supersteps.
 pub(crate) struct Steps {
     shared: Arc<Vec<Occurrence>>,
     first: u32,

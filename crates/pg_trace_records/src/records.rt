@@ -85,7 +85,7 @@ impl<V: Drop, M: Drop> Records<V, M> {
         }
     }
 
-    /// These records with changes, beside them. It costs a copy of the chunks of the map that are changed, and with no
+    /// A copy of these records with changes. It costs a copy of the chunks of the map that are changed, and with no
     /// change nothing.
     pub fn changed(
         &self,

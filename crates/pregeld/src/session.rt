@@ -55,7 +55,7 @@ impl ServeFault {
 ///
 /// # Cost
 ///
-/// Memory for the longest line and for the edge list that is being read, beside the service's own.
+/// Memory for the longest line and for the edge list that is being read, besides the service's own.
 pub fn serve<H: Threads + Wait + Sync, R: BufRead, W: Write>(
     rt: &H,
     alloc: Global,

@@ -1,4 +1,4 @@
-//! What a session has beside its service.
+//! What a session has besides its service.
 ghost use Rattle.std.specs.Prelude.{◌≡◌, ◌≢◌, ◌≤◌, [], ◌∷◌, ◌++◌, None, Some, length};
 ghost use Rattle.std.specs.Prelude.{MatchBool, OnOk, OnErr};
 ghost use Rattle.std.specs.Option.{option_copied};

@@ -201,7 +201,7 @@ fn combiner_option<'a>(alloc: Global) -> Arg<'a>
         .help("How the messages to a vertex are combined")
 }
 
-/// The option that names the policy for messages to nobody.
+/// The option that names the policy for messages to no vertex.
 fn missing_option<'a>(alloc: Global) -> Arg<'a>
     ensures rule { (words : WordList) × AreWords words missing_words
         × (rule_of result ≡ word_rule (codes "missing") words (missing_word Drop)) }

@@ -27,7 +27,7 @@ pub(crate) struct Combining {
     pub combiner: AnyCombiner,
 }
 
-/// A policy for messages to nobody, as its word says.
+/// A policy for messages to no vertex, as its word says.
 #[derive(Clone, Copy, Debug, PartialEq, Eq)]
 pub(crate) struct Policy {
     pub missing: Missing,

@@ -32,7 +32,7 @@ struct Sent {
     contributed: Vec<i64>,
 }
 
-// What is told of a run beside the values.
+// What is said of a run besides the values.
 #[derive(Clone, Copy, Debug, PartialEq, Eq)]
 struct Outcome {
     aggregate: i64,
@@ -522,7 +522,7 @@ fn agrees(rt: &impl Abort, alloc: Global, job: &Job, seed: u64) -> Result<Outcom
     Ok(found)
 }
 
-// How many runs ended in each way, and in how many of them a message went to nobody.
+// How many runs ended in each way, and in how many of them a message went to no vertex.
 #[derive(Clone, Copy)]
 struct Seen {
     finished: u32,

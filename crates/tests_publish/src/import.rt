@@ -175,7 +175,7 @@ fn graph_before(rt: &impl Abort, alloc: Global) -> Result<Graph, Fail> {
     Ok(graph)
 }
 
-// What a list makes beside what is there.
+// What a list adds to what is there.
 fn edits_beside(rt: &impl Abort) -> [Edit; 5] {
     let (one, two, three) = (id(rt, b"1"), id(rt, b"2"), id(rt, b"3"));
     [

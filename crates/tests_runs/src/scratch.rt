@@ -237,7 +237,7 @@ fn text_of(alloc: Global, run: &Run<i64>, calls: u64) -> Result<String, Fail> {
     Ok(text)
 }
 
-// The distances from 1, under a policy for messages to nobody.
+// The distances from 1, under a policy for messages to no vertex.
 fn distances<C: MessageCombiner<i64>>(
     alloc: Global,
     graph: &Graph,
@@ -274,7 +274,7 @@ fn relayed(alloc: Global, graph: &Graph, halts_at: u32, limit: u32) -> Result<St
     text_of(alloc, &answer, meter.count())
 }
 
-// The distances from 1 are these, under a policy for messages to nobody.
+// The distances from 1 are these, under a policy for messages to no vertex.
 fn are_distances<C: MessageCombiner<i64>>(
     rt: &impl Abort,
     alloc: Global,
@@ -291,7 +291,7 @@ fn are_distances<C: MessageCombiner<i64>>(
     Ok(())
 }
 
-// The same in ten supersteps at most, where messages to nobody are dropped.
+// The same in ten supersteps at most, where messages to no vertex are dropped.
 fn finds<C: MessageCombiner<i64>>(
     rt: &impl Abort,
     alloc: Global,
@@ -485,7 +485,7 @@ fn a_run_out_of_memory_leaves_the_meter(rt: HostRuntime) -> Result<(), Fail> {
     Ok(())
 }
 
-// Messages go along five edges, one of which leads to nobody.
+// Messages go along five edges, one of which leads to no vertex.
 fn five_edges(alloc: Global) -> Result<Graph, Fail> {
     let edges = [(1, 2, 1), (1, 3, 1), (2, 4, 1), (3, 4, -5), (3, 9, 1)];
     graph_of(alloc, &[(1, 0), (2, 0), (3, 0), (4, 0)], &edges)

@@ -59,7 +59,7 @@ fn short_checkpoints_are_of_no_use(rt: HostRuntime) -> Result<(), Fail> {
     Ok(())
 }
 
-// What refreshes tell of a shortcut beside two hops, where worker 0 of two falls once it has stepped partition 2 from
+// What refreshes tell of a shortcut besides two hops, where worker 0 of two falls once it has stepped partition 2 from
 // superstep 0, and of an empty batch after it.
 fn shortcut<R: Threads + Wait + Sync>(
     rt: &R,

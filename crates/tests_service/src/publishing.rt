@@ -269,7 +269,7 @@ fn while_a_look_is_kept<R: Threads + Wait + Sync>(
     })
 }
 
-// The refresh of a shortcut beside the two hops, with a reader in another thread.
+// The refresh of a shortcut besides the two hops, with a reader in another thread.
 fn shortcut_while_a_look_is_kept<R: Threads + Wait + Sync>(
     rt: &R,
     alloc: Global,

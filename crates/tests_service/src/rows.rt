@@ -1,4 +1,4 @@
-// What a service has published, beside runs from scratch. All was found by hand.
+// What a service has published, against runs from scratch. All was found by hand.
 use crate::hops::{
     Line, Paths, TWO_HOPS, accepted, commit, is_run_of, limits_of, refreshed, told, told_on,
     two_hops,
@@ -65,7 +65,7 @@ calls 0 supersteps 2 losses; of 4: 1=0 2=9223372036854775807 3=2\n"
     Ok(())
 }
 
-// A vertex that is removed, under both policies for messages to nobody.
+// A vertex that is removed, under both policies for messages to no vertex.
 #[test]
 fn a_removed_vertex_is_made_again_or_not(rt: HostRuntime) -> Result<(), Fail> {
     let alloc = rt.alloc();

@@ -138,7 +138,7 @@ fn edited<P: Computation, C: MessageCombiner<P::Message>, M: MasterCompute>(
     Ok(service.edit(alloc, &batch).is_ok())
 }
 
-// What stands beside a service: its graph, and which ids were edited since the last refresh.
+// What a test knows of a service: its graph, and which ids were edited since the last refresh.
 #[derive(Drop)]
 struct Previous {
     graph: Graph,
@@ -159,7 +159,7 @@ fn unlost_first(
     unlost(alloc, graph, &program, &combiner, &master, limits)
 }
 
-// The same beside what such a run left before.
+// The calls of the steps in which nobody falls, and what such a run leaves: against what one left before.
 fn unlost_next(
     alloc: Global,
     previous: &Previous,
@@ -178,7 +178,7 @@ fn unlost_next(
     )
 }
 
-// The calls of the steps beside what was left, if anything is kept, and from scratch; and what is left then.
+// The calls of the steps against what was left, if anything is kept, and from scratch; and what is left then.
 fn calls_of(
     alloc: Global,
     previous: &Previous,
@@ -259,7 +259,7 @@ fn tried<R: Threads + Wait + Sync>(
     Ok(if is_refused { None } else { Some(retained) })
 }
 
-// Makes an edit of the service and of the graph beside it, if they allow it, which they do alike.
+// Makes an edit of the service and of the test's own graph, if they allow it, which they do alike.
 fn edit_both(
     alloc: Global,
     service: &mut Paths,

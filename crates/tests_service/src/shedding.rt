@@ -146,7 +146,7 @@ fn combined<R: Threads + Wait + Sync>(
     reported
 }
 
-// Vertex 3 is called twice. Vertex 4 gets 6 beside 2: it is called for that only where the two aren't combined into 2.
+// Vertex 3 is called twice. Vertex 4 gets 6 besides 2: it is called for that only where the two aren't combined into 2.
 #[test]
 fn what_is_combined_is_compared(rt: HostRuntime) -> Result<(), Fail> {
     let alloc = rt.alloc();

@@ -1,9 +1,9 @@
-// Batches that edit a large row, or few rows of many, beside the same edits made one at a time of a plain graph.
+// Batches that edit a large row, or few rows of many, against the same edits made one at a time of a plain graph.
 use crate::plain::{PlainGraph, Random, id};
 use pg_graph::{Batch, Edit, EditFault, Graph, Memory};
 use std::alloc::Global;
 
-// A vertex that may have many edges, and the even ones beside it.
+// A vertex that may have many edges, and the even ones.
 const BEFORE: u32 = 300;
 
 const HUB: u32 = 301;
@@ -65,7 +65,7 @@ fn hub_edit(plain: &PlainGraph, random: &mut Random, weight: i64) -> Edit {
     }
 }
 
-// So many edits of the hub, and one of each vertex beside it.
+// So many edits of the hub, and one of each other vertex.
 fn edits_of_hub(alloc: Global, plain: &mut PlainGraph, edits: u16) -> Result<Batch, Memory> {
     let (before, hub, after) = (id(BEFORE), id(HUB), id(AFTER));
     let mut random = Random::new(u32::from(edits));

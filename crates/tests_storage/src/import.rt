@@ -1,4 +1,4 @@
-// Batches of lists in no order, beside the same lines put into a plain graph one at a time.
+// Batches of lists in no order, against the same lines put into a plain graph one at a time.
 use crate::plain::{PlainGraph, Random};
 use pg_graph::{Batch, Edit, EditFault, Graph, Memory, VertexId};
 use pg_import::{Line, into_batch};

@@ -244,7 +244,7 @@ fn has_both(map: &Numbers, low: u32, high: u32, value: i64) -> bool {
     number_at(map, low) == value && number_at(map, high) == value
 }
 
-// Where an allocation is refused (bench/refuse.sh), what can't be made in place is made beside.
+// Where an allocation is refused (bench/refuse.sh), what can't be made in place is made anew.
 #[test]
 fn changes_its_own_memory(rt: HostRuntime) -> Result<(), Memory> {
     let mut map = six_hundred(rt.alloc())?;
@@ -303,7 +303,7 @@ fn are_each_below(map: &Map<Lone>, bound: u32, more: u32) -> bool {
     map.len() == bound as usize
 }
 
-// Some 1,900 chunks are changed in place, by calls that go as deep; more of them beside.
+// Some 1,900 chunks are changed in place, by calls that go as deep; more of them are made anew.
 #[test]
 fn changes_many_chunks(rt: HostRuntime) -> Result<(), Memory> {
     for bound in [1900u32, 5000] {
