@@ -2,12 +2,11 @@
 ghost use Rattle.std.specs.Prelude.{◌≡◌, ◌≤◌, length, map, [], ◌∷◌, All, None, IfOk, OnOk};
 ghost use Rattle.pg_core.specs.Beginning.{AreFirst, HasStarted, HaveBegun, HaveBegunWarm, HaveBegunWith, first_visible};
 ghost use Rattle.pg_global.specs.Registry.{aggregating_of, first_refusal};
-ghost use Rattle.pg_model.specs.Superstep.{visible_in};
 
 use crate::running::partitioner_of;
 use crate::traces::RetainedRun;
 use crate::{Limits, RunTotals, State, Traces};
-use pg_global::{Aggregator, MasterCompute, MasterState, Registry, Visible};
+use pg_global::{Aggregator, MasterCompute, Registry, Visible, copied, visible_in};
 use pg_graph::{Graph, Memory, PartitionId, Superstep, VertexId};
 use pg_model::Sequence;
 use pg_part::{Part, RetainedPart, member_changes};
@@ -77,13 +76,6 @@ fn initial_values(alloc: Global, registry: &Registry) -> Result<Sequence<i64>, M
     Ok(values)
 }
 
-/// A copy of values.
-pub(crate) fn copied(alloc: Global, values: &Sequence<i64>) -> Result<Sequence<i64>, Memory>
-    ensures { IfOk result (λ copy. copy ≡ values.now) }
-{
-    Ok(Sequence::from_vec(Vec::from_slice(alloc, values.as_slice())?))
-}
-
 /// What the master shows up to superstep 0, where these are the initial values.
 fn first_shown<M: MasterCompute>(
     alloc: Global,
@@ -98,31 +90,10 @@ fn first_shown<M: MasterCompute>(
 {
     let (vertices, edges) = (graph.vertices(), graph.edges());
     let seen = copied(alloc, gathered)?;
-    let visible = shown_in(alloc, master, Superstep::new(0), vertices, edges, seen)?;
+    let visible = visible_in(alloc, master, Superstep::new(0), vertices, edges, seen)?;
     let mut shown = Vec::new(alloc);
     shown.push(visible)?;
     Ok(shown)
-}
-
-/// What the master shows in a superstep, where these values were gathered in the one before.
-#[tactic(auto, unfolding(pg_model::specs::Superstep::visible_in))]
-pub(crate) fn shown_in<M: MasterCompute>(
-    alloc: Global,
-    master: &M,
-    superstep: Superstep,
-    total_vertices: u64,
-    total_edges: u64,
-    gathered: Sequence<i64>,
-) -> Result<Visible, Memory>
-    requires { length gathered ≡ length (M.master master.now).registrations }
-    ensures value { IfOk result
-        (λ v. v ≡ visible_in (M.master master.now).deciding
-        (record { vertices = total_vertices; edges = total_edges }) superstep gathered) }
-    ensures places { IfOk result (λ v. length v.values ≡ length gathered) }
-{
-    let mut state = MasterState::new(superstep, total_vertices, total_edges, gathered);
-    master.compute(alloc, &mut state)?;
-    Ok(state.into_parts())
 }
 
 /// The parts of all partitions as superstep 0 begins. Costs one walk over the graph's rows for each.

@@ -8,10 +8,9 @@ ghost use Rattle.pg_model.specs.Run.{configuration, ending_after};
 ghost use Rattle.pg_model.specs.Superstep.{visible_in};
 ghost use Rattle.pg_stats.specs.GlobalStats.{AreStatsBetween};
 
-use crate::beginning::{copied, shown_in};
 use crate::combined_stats::combined_stats;
 use crate::{Closed, Core, Event, RunTotals};
-use pg_global::{MasterCompute, MessageCombiner};
+use pg_global::{MasterCompute, MessageCombiner, copied, visible_in};
 use pg_graph::{Memory, Superstep};
 use pg_model::Ending;
 use pg_program::Computation;
@@ -135,7 +134,7 @@ impl<'a, P: Computation, C: MessageCombiner<P::Message>, M: MasterCompute> Core<
     {
         let next = self.next_superstep();
         let seen = copied(alloc, &run_totals.gathered)?;
-        let visible = shown_in(alloc, self.master, next, vertices, edges, seen)?;
+        let visible = visible_in(alloc, self.master, next, vertices, edges, seen)?;
         self.shown.push(visible)?;
         self.history.push(Event::Close(Closed::Next))?;
         self.state.close(Closed::Next);

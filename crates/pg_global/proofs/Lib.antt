@@ -1,2 +1,3 @@
+pub mod Contributed
 pub mod Registering
 pub mod Shown

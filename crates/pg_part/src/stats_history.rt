@@ -8,7 +8,7 @@ ghost use Rattle.pg_part.specs.StatsHistories.{AreCountsWithDelta, begun_with, g
 ghost use Rattle.pg_stats_counts.specs.Contributed.{contributes_alike};
 ghost use Rattle.pg_trace.specs.Trace.{Trace as TraceOf};
 
-use pg_global::Registry;
+use pg_global::{Registry, copied};
 use pg_graph::{Graph, Memory, Superstep, VertexId};
 use pg_inbox::{LoggedBundle, Logs};
 use pg_model::Sequence;
@@ -352,13 +352,6 @@ fn gathered_warm<V: Plain, M: Plain>(
         return copied(alloc, before);
     }
     gathered_in(alloc, registry, trace, superstep)
-}
-
-/// A copy of values.
-fn copied(alloc: Global, values: &Sequence<i64>) -> Result<Sequence<i64>, Memory>
-    ensures { IfOk result (λ copy. copy ≡ values.now) }
-{
-    Ok(Sequence::from_vec(Vec::from_slice(alloc, values.as_slice())?))
 }
 
 /// The stats after a superstep, by its records and by the stats before it. Costs a walk over the records and look-ups

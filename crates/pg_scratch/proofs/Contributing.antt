@@ -1,22 +1,10 @@
 -- What is contributed to each place, one place after another.
-use Rattle.std.proofs.Common.{◌≡◌, ℕ, ℤ, ◌+◌, ◌<◌, ◌≤◌, cond, List, [], ◌∷◌, ◌++◌, length, map, take, drop, append_assoc, get_or, refl, sym, ap, ◌∙◌, arith}
-use Rattle.std.specs.Prelude.{◌==◌}
-use Rattle.std.proofs.lemmas.List.{append-nil, take_more, drop_more}
+use Rattle.std.proofs.Common.{◌≡◌, ℕ, ℤ, ◌+◌, ◌<◌, ◌≤◌, List, [], ◌∷◌, ◌++◌, length, map, drop, append_assoc, get_or, sym, ap, ◌∙◌, arith}
+use Rattle.std.proofs.lemmas.List.{append-nil, drop_more}
 use Rattle.std.proofs.Math.ListN.{drop_of_length-le}
 use Rattle.pg_global.specs.Registry.{aggregating_of}
 use Rattle.pg_global.specs.declared.registry.Registration.{Registration}
 use Rattle.pg_model.specs.Superstep.{at_place, gathered_at, gathered_from}
-use Rattle.pg_scratch_delivery.proofs.Messages.{messages_to-more}
-
--- one contribution more is looked at
-pub at_place-next : (place : ℕ) (cs : List (ℕ × ℤ)) (i : ℕ) (c : ℕ × ℤ) (before after : List ℤ) → i < length cs → c ≡ get_or cs i c
-    → after ≡ before ++ cond (c.0 == place) (c.1 ∷ []) [] → before ≡ at_place place (take i cs) → after ≡ at_place place (take (i + 1) cs)
-at_place-next place cs i c before after within is pushed so_far =
-    pushed
-    ∙ ap (λ l. l ++ cond (c.0 == place) (c.1 ∷ []) []) so_far
-    ∙ sym (messages_to-more place (take i cs) c (c.0 == place) refl)
-    ∙ ap (λ (x : ℕ × ℤ). at_place place (take i cs ++ x ∷ [])) is
-    ∙ ap (at_place place) (sym (take_more cs i c within))
 
 module _ (registrations : List Registration) (values : List ℤ) (cs : List (ℕ × ℤ)) (same : length registrations ≡ length values) where
   -- what the places from this one on come to

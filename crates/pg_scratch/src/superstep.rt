@@ -7,9 +7,9 @@ ghost use Rattle.pg_scratch_delivery.specs.VertexTable.{IsInPlace};
 ghost use Rattle.pg_scratch.specs.Stages.{HasExecuted, HasStepped, IsReady, IsPrepared};
 
 use crate::execution::execute_all;
-use crate::gathering::{gather_all, visible_in};
+use crate::gathering::gather_all;
 use crate::totals::capped_total;
-use pg_global::{MasterCompute, MessageCombiner, Registration, view_of};
+use pg_global::{MasterCompute, MessageCombiner, Registration, view_of, visible_in};
 use pg_graph::{Memory, Missing, Superstep, VertexId};
 use pg_model::{Configuration, Place, Sequence, View};
 use pg_program::{Computation, Cx, Meter};

@@ -1,25 +1,20 @@
 -- What is gathered of contributions, with one more of them, and of none.
 use Rattle.std.proofs.Common.{◌≡◌, ℕ, zero, suc, ℤ, ◌+◌, ◌<◌, ◌≤◌, Bool, cond, List, [], ◌∷◌, ◌++◌, length, map, take, drop, set, get_or}
-use Rattle.std.proofs.Common.{append_assoc, None, Some, refl, sym, ap, ap₂, ◌∙◌, subst, arith, ◌⊎◌, inl, inr, filter, add-one}
+use Rattle.std.proofs.Common.{append_assoc, None, Some, refl, sym, ap, ap₂, ◌∙◌, subst, arith, ◌⊎◌, inl, inr, add-one}
 use Rattle.std.specs.Prelude.{◌==◌}
 use Rattle.std.specs.List.{enumerate_from, slice_get}
 use Rattle.std.specs.Option.{option_map}
 use Rattle.std.proofs.lemmas.Bool.{eq-eqb, ne_eqb}
-use Rattle.std.proofs.lemmas.List.{append-nil, drop_more, length-map, map-append}
+use Rattle.std.proofs.lemmas.List.{append-nil, drop_more, length-map}
 use Rattle.std.proofs.lemmas.Option.{none-some}
 use Rattle.std.proofs.Math.ListN.{drop_of_length-le}
-use Rattle.std.proofs.lemmas.List.Elements.{filter-append}
 use Rattle.std.proofs.lemmas.List.Sums.{fold_push}
+use Rattle.pg_global.proofs.Contributed.{at_place-append}
 use Rattle.pg_global.specs.Registry.{Registered, aggregating_of}
 use Rattle.pg_global.specs.declared.registry.Registration.{Registration}
 use Rattle.pg_model.specs.Job.{Aggregating}
 use Rattle.pg_model.specs.Superstep.{at_place, gathered_at, gathered_from}
 use Rattle.pg_stats.specs.GlobalStats.{aggregators_of}
-
-pub at_place-append : (place : ℕ) (a b : List (ℕ × ℤ)) → at_place place (a ++ b) ≡ at_place place a ++ at_place place b
-at_place-append place a b =
-    ap (map (λ (c : ℕ × ℤ). c.1)) (filter-append (λ (c : ℕ × ℤ). c.0 == place) a b)
-    ∙ map-append (λ (c : ℕ × ℤ). c.1) (filter (λ (c : ℕ × ℤ). c.0 == place) a) (filter (λ (c : ℕ × ℤ). c.0 == place) b)
 
 module _ (k : ℕ) (v : ℤ) where
   -- a contribution to another place is none here

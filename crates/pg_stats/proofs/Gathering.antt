@@ -14,7 +14,7 @@ use Rattle.pg_model.specs.Job.{Aggregating}
 use Rattle.pg_model.specs.Superstep.{at_place, gathered_at, gathered_from}
 use Rattle.pg_stats.specs.GlobalStats.{aggregators_of}
 use Rattle.pg_stats.specs.Stats.{gathered_afresh}
-use Rattle.pg_stats.proofs.Contributed.{at_place-append}
+use Rattle.pg_global.proofs.Contributed.{at_place-append}
 use Rattle.pg_stats.proofs.Cutting.{fold_in_parts, is_value_of, is_value_of-fits, operation_of-takes_any}
 
 -- ---- one aggregator

@@ -1,5 +1,5 @@
 //! What a superstep's contributions come to, and whether two runs have the same.
-ghost use Rattle.std.specs.Prelude.{◌≡◌, ◌==◌, ◌++◌, ◌∷◌, [], cond, map, IfOk, OnOk};
+ghost use Rattle.std.specs.Prelude.{◌≡◌, map, IfOk};
 ghost use Rattle.std.specs.List.{fold, list_all};
 ghost use Rattle.std.specs.Option.{option_copied};
 ghost use Rattle.pg_global.specs.AnyAggregator.{initial_of, operation_of};
@@ -8,7 +8,7 @@ ghost use Rattle.pg_model.specs.Superstep.{at_place};
 ghost use Rattle.pg_stats_counts.specs.Contributed.{contributed_by, contributes_alike};
 ghost use Rattle.pg_stats.specs.Stats.{gathered_afresh};
 
-use pg_global::{Aggregator, AnyAggregator, Registry, gather};
+use pg_global::{Aggregator, AnyAggregator, Registry, gather, values_at};
 use pg_graph::{Memory, Superstep, VertexId};
 use pg_model::{Place, Sequence};
 use pg_program::Plain;
@@ -45,37 +45,6 @@ fn gathered_at(
 {
     let values = values_at(alloc, place, contributions)?;
     Ok(gather(&kind, kind.initial_value(), values.as_slice()))
-}
-
-/// The contributions to a place, in order, with room for as many as there are in all.
-fn values_at(
-    alloc: Global,
-    place: usize,
-    contributions: &[(Place, i64)],
-) -> Result<Vec<i64>, Memory>
-    ensures { IfOk result (λ values. values.items ≡ at_place place contributions.now) }
-{
-    let mut values = Vec::with_capacity(alloc, contributions.len())?;
-    for contribution in contributions {
-        push_if_at(&mut values, place, contribution)?;
-    }
-    Ok(values)
-}
-
-fn push_if_at(
-    values: &mut Vec<i64>,
-    place: usize,
-    contribution: &(Place, i64),
-) -> Result<(), Memory>
-    ensures { OnOk result
-        (values.new.items
-        ≡ values.old.items ++ cond (contribution.now.0 == place) (contribution.now.1 ∷ []) []) }
-{
-    let (at, value) = *contribution;
-    if usize::from(at.number()) == place {
-        values.push(value)?;
-    }
-    Ok(())
 }
 
 /// Whether each of these vertices contributes the same in a superstep of two runs. Costs two look-ups for each, and a

@@ -2,8 +2,8 @@ use Rattle.std.proofs.Common.{◌≡◌, ◌==◌, ◌++◌, ◌∷◌, [], ℕ,
 use Rattle.std.proofs.lemmas.List.{take_all}
 use Rattle.pg_map.proofs.Filling.{joined_more}
 use Rattle.pg_model.specs.Superstep.{at_place}
-use Rattle.pg_stats.proofs.Contributed.{at_place-append}
-use Rattle.pg_stats_counts.proofs.gathering.values_at.Goals as goal
+use Rattle.pg_global.proofs.Contributed.{at_place-append}
+use Rattle.pg_global.proofs.gathering.values_at.Goals as goal
 
 one_at : (b : Bool) (x : ℕ × ℤ) → cond b (x.1 ∷ []) [] ≡ map (λ (c : ℕ × ℤ). c.1) (cond b (x ∷ []) [])
 one_at true x = refl
