@@ -11,7 +11,7 @@ ghost use Rattle.pg_model.specs.Job.{has_place};
 use crate::reading::{RecordParts, Unread};
 use pg_graph::{Edges, Graph, Missing, VertexId};
 use pg_model::{Place, Record, Sequence};
-use pg_part_routing::PartitionOf;
+use pg_part::PartitionOf;
 use std::alloc::Global;
 use std::marker::Model;
 

@@ -8,10 +8,8 @@ ghost use Rattle.pg_checkpoint.specs.Shelf.{IsPut};
 use crate::shelf::{Shelf, ShelfFault};
 use crate::writing::{Header, header_bytes, header_room, put_supersteps, with_front};
 use pg_graph::{Memory, PartitionId, Superstep};
-use pg_part::Part;
-use pg_part_run::rising;
+use pg_part::{Part, rising, vertex_counts_among};
 use pg_program::{Coded, Plain};
-use pg_stats_counts::vertex_counts_among;
 use pg_trace::Trace;
 use std::alloc::Global;
 

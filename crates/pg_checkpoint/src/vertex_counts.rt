@@ -5,9 +5,8 @@ ghost use Rattle.std.specs.Map.{keys_of};
 ghost use Rattle.pg_checkpoint.specs.Records.{edges_behind};
 
 use pg_graph::{Memory, Superstep, VertexId};
-use pg_part_run::rising;
+use pg_part::{rising, vertex_counts_among};
 use pg_program::Plain;
-use pg_stats_counts::vertex_counts_among;
 use pg_trace::Trace;
 use std::alloc::Global;
 

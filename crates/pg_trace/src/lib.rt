@@ -9,7 +9,7 @@ mod trace;
 
 pub use pg_graph::Memory;
 pub use pg_model::Record;
-pub use pg_trace_records::{RecordChanges, RecordRef};
+pub use pg_trace_records::{Executed, Extent, RecordChanges, RecordRef, record_of};
 pub use records::all_given;
 pub use state::{StateRef, Transition};
 pub use states::StateCursor;
