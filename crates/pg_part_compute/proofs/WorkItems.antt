@@ -101,13 +101,13 @@ module _ {M : Type 0} where
       → AreWorkItems combining bundles [] true inboxes
   are_receivers combining bundles inboxes are = record {
     rise = are.rise;
-    delivered = all_from_lookups (λ c. Delivers combining c.0 bundles c.1) inboxes are.rise (λ id inbox e. eq_is_sound id (Some inbox) e);
+    delivered = all_from_lookups (λ c. Delivers combining c.0 bundles c.1) inboxes are.rise (λ id inbox e. stated id (Some inbox) e);
     have = λ id h. absurd (true≢false (sym h));
-    others = λ _ id h. eq_is_sound id None (not_key id inboxes h);
+    others = λ _ id h. stated id None (not_key id inboxes h);
   }
     where
-      eq_is_sound : (id : ℕ) (o : Option (List M)) → value_at id inboxes ≡ o → Delivers combining id bundles (elim o [ None ↦ [] | Some inbox ↦ inbox ])
-      eq_is_sound id o e = subst (λ (o : Option (List M)). Delivers combining id bundles (elim o [ None ↦ [] | Some inbox ↦ inbox ])) e (are.eq_is_sound id)
+      stated : (id : ℕ) (o : Option (List M)) → value_at id inboxes ≡ o → Delivers combining id bundles (elim o [ None ↦ [] | Some inbox ↦ inbox ])
+      stated id o e = subst (λ (o : Option (List M)). Delivers combining id bundles (elim o [ None ↦ [] | Some inbox ↦ inbox ])) e (are.stated id)
 
   module _ (combining : Option (Combining M)) (bundles : List (MessageLists M)) (ids : List ℕ) (inboxes : List (ℕ × List M))
       (ids_rise : IsStrictlySortedBy nat_cmp ids) (are : AreInboxes combining bundles inboxes) where
@@ -141,18 +141,18 @@ module _ {M : Type 0} where
       others = λ _ id h. nothing id (value_at id inboxes) refl (sym (at id) ∙ not_key id all h);
     }
       where
-        eq_is_sound : (id : ℕ) (o : Option (List M)) → value_at id inboxes ≡ o → Delivers combining id bundles (elim o [ None ↦ [] | Some inbox ↦ inbox ])
-        eq_is_sound id o e = subst (λ (o : Option (List M)). Delivers combining id bundles (elim o [ None ↦ [] | Some inbox ↦ inbox ])) e (are.eq_is_sound id)
+        stated : (id : ℕ) (o : Option (List M)) → value_at id inboxes ≡ o → Delivers combining id bundles (elim o [ None ↦ [] | Some inbox ↦ inbox ])
+        stated id o e = subst (λ (o : Option (List M)). Delivers combining id bundles (elim o [ None ↦ [] | Some inbox ↦ inbox ])) e (are.stated id)
 
         given : (id : ℕ) (inbox : List M) (o : Option (List M)) → value_at id inboxes ≡ o
             → option_or (value_at id inboxes) (cond (has_id ids id) (Some []) None) ≡ Some inbox → Delivers combining id bundles inbox
         given id inbox (Some i) e h =
             subst (Delivers combining id bundles)
-            (same_Some i inbox (sym (ap (λ o. option_or o (cond (has_id ids id) (Some []) None)) e) ∙ h)) (eq_is_sound id (Some i) e)
+            (same_Some i inbox (sym (ap (λ o. option_or o (cond (has_id ids id) (Some []) None)) e) ∙ h)) (stated id (Some i) e)
         given id inbox None e h = by (has_id ids id) (sym (ap (λ o. option_or o (cond (has_id ids id) (Some []) None)) e) ∙ h)
           where
             by : (b : Bool) → cond b (Some []) None ≡ Some inbox → Delivers combining id bundles inbox
-            by true k = subst (Delivers combining id bundles) (same_Some [] inbox k) (eq_is_sound id None e)
+            by true k = subst (Delivers combining id bundles) (same_Some [] inbox k) (stated id None e)
             by false k = absurd (none-some inbox k)
 
         some : (o : Option (List M)) → is_some (option_or o (Some [])) ≡ true
@@ -161,5 +161,5 @@ module _ {M : Type 0} where
 
         nothing : (id : ℕ) (o : Option (List M)) → value_at id inboxes ≡ o
             → option_or (value_at id inboxes) (cond (has_id ids id) (Some []) None) ≡ None → Delivers combining id bundles []
-        nothing id None e h = eq_is_sound id None e
+        nothing id None e h = stated id None e
         nothing id (Some i) e h = absurd (none-some i (sym h ∙ ap (λ o. option_or o (cond (has_id ids id) (Some []) None)) e))
