@@ -1,6 +1,6 @@
 pub mod Beginning
 pub mod Both
-pub mod Cold
+pub mod ColdStep
 pub mod OldStep
 pub mod Resuming
 pub mod Stepping

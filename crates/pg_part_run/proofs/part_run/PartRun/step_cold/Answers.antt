@@ -2,7 +2,7 @@ use Rattle.std.proofs.Common.{sym, ap, subst}
 use Rattle.std.proofs.lemmas.Result.{IfOk-from_err, IfOk-weaker}
 use Rattle.pg_part_compute.proofs.Playing.{step_delta_rise}
 use Rattle.pg_part_run.specs.PartRun.{HasStepped}
-use Rattle.pg_part_run.proofs.Cold.{cold_steps}
+use Rattle.pg_part_run.proofs.ColdStep.{cold_steps}
 use Rattle.pg_part_run.proofs.Both.{if_ok_both}
 use Rattle.pg_part_run.proofs.part_run.PartRun.step_cold.Goals as goal
 
