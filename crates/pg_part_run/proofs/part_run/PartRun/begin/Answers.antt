@@ -16,5 +16,5 @@ returns-clause-holds g c job rise missing are =
       place_is = c.new-2.ensures;
       run = subst (HoldsRun job graph n p 0) (sym (c.in_ok-trace.ensures ∙ ap begun are)) (begun_holds job graph n p rise job.program refl);
       supersteps = ap (λ t. length t.records) c.in_ok-trace.ensures;
-      step_warm = refl;
+      warm = refl;
     }
