@@ -10,11 +10,11 @@ ghost use Rattle.pg_model.specs.Run.{configuration, values_of};
 use crate::kept::SharedValue;
 use crate::values::{add_all, add_ran, all_states, state_by, values_at};
 use crate::{Ended, Values};
-use pg_graph::{Memory, Missing, Superstep, VertexId};
+use pg_graph::{Memory, Missing, Superstep, VertexId, checked_u32};
 use pg_part::{Part, Partitioner, rising};
 use pg_program::Plain;
 use pg_trace::StateRef;
-use std::alloc::{AllocError, Global};
+use std::alloc::Global;
 
 /// The values of the vertices as a run of so many supersteps ends, by rising id.
 ///
@@ -78,16 +78,6 @@ fn changed_ids<V: Plain, M: Plain>(
         }
     }
     Ok(ids)
-}
-
-/// A count of supersteps. No memory holds more of them than fit the number.
-fn checked_u32(count: usize) -> Result<u32, Memory>
-    ensures { IfOk result (λ number. number ≡ count) }
-{
-    if count > u32::MAX as usize {
-        return Err(AllocError);
-    }
-    Ok(count as u32)
 }
 
 /// Adds those of one partition.

@@ -2,9 +2,7 @@ pub mod Batches
 pub mod Dealing
 pub mod Drafting
 pub mod Edited
-pub mod InOrder
 pub mod Laws
-pub mod Neighbours
 pub mod RowLaw
 pub mod Search
 pub mod Stretch

@@ -1,4 +1,3 @@
-pub mod ById
 pub mod Draft
 pub mod Edit
 pub mod Grouped

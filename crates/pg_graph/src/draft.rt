@@ -1,4 +1,4 @@
-//! Edits of a graph, gathered beside it.
+//! Edits of a graph, gathered in rows of their own.
 ghost use Rattle.std.specs.Prelude.{◌≡◌, ◌≤◌, ◌⊎◌, length, is_some, Some, None, Ok, IfOk, IfErr};
 ghost use Rattle.std.specs.BTreeMap.{is_at};
 ghost use Rattle.std.specs.Map.{remove_entry};

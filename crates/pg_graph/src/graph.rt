@@ -124,7 +124,7 @@ impl Graph {
         self.rows.ids()
     }
 
-    /// The same graph, in the same memory. Costs O(1).
+    /// A copy of the graph, which shares its memory. Costs O(1).
     pub fn copy(&self, _alloc: Global) -> Result<Graph, Memory>
         ensures { IfOk result (λ graph. graph ≡ self.now) }
     {
@@ -141,7 +141,7 @@ impl Graph {
     /// rows afterwards waits less for memory. What it has to leave as it is, it doesn't try again before as many have
     /// changed.
     ///
-    /// It costs a walk over all rows, and a copy of the edges of rows that stand beside changed ones.
+    /// It costs a walk over all rows, and a copy of the edges of rows near changed ones.
     pub fn compact(&mut self, alloc: Global)
         ensures { self.new ≡ self.old }
     {

@@ -3,7 +3,7 @@ ghost use Rattle.std.specs.Prelude.{◌≡◌, ◌⊎◌, ◌+◌, ◌≤◌, tr
 ghost use Rattle.pg_map.specs.Entries.{with_changes};
 ghost use Rattle.std.specs.List.Sorted.{IsPartitionPoint};
 ghost use Rattle.std.specs.Option.{option_copied};
-ghost use Rattle.pg_graph.specs.ById.{AreById, StandAt};
+ghost use Rattle.pg_sort.specs.ById.{AreById, StandAt};
 ghost use Rattle.pg_graph_rows.specs.ChangedRows.{degree_of};
 ghost use Rattle.pg_graph_rows.specs.EditFault.{memory_fault};
 ghost use Rattle.pg_graph.specs.Draft.{Makes};
@@ -15,8 +15,9 @@ ghost use Rattle.pg_graph_rows.specs.RowEdit.{source_of};
 ghost use Rattle.pg_graph.specs.Rows.{HasRisingIds, edge_count, vertex_count};
 
 use crate::draft::RowChanges;
-use crate::{Batch, Edit, EditFault, Graph, Memory, Row, VertexId, sorted_by_id};
+use crate::{Batch, Edit, EditFault, Graph, Memory, Row, VertexId};
 use pg_graph_rows::ChangedRows;
+use pg_sort::sorted_by_id;
 use std::alloc::{AllocError, Global};
 
 /// Each changed row pays for a look at so many.

@@ -1,4 +1,4 @@
-//! What becomes of a message to nobody.
+//! What becomes of a message whose target has no state.
 
 /// What becomes of a message to an id that has no state.
 #[derive(Clone, Copy, Debug, PartialEq, Eq)]

@@ -90,7 +90,7 @@ impl ChangedRows {
         }
     }
 
-    /// The same, where the edges are edited behind those of the rows before.
+    /// Edits a row, as `edit` does, in the list in which the edges of the rows before it lie.
     fn edit_small(
         &mut self,
         alloc: Global,
@@ -119,7 +119,7 @@ impl ChangedRows {
         Ok(Ok(degree as u64))
     }
 
-    /// The same, where the edges are edited by themselves.
+    /// Edits a row, as `edit` does, in a list of its own.
     fn edit_large(
         &mut self,
         alloc: Global,

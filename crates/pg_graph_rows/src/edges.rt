@@ -5,7 +5,8 @@ ghost use Rattle.pg_graph_rows.specs.EdgeList.{IsRising, weight_at};
 ghost use Rattle.pg_graph_rows.specs.Edges.{IsPart, part_of};
 
 use crate::{Memory, VertexId};
-use std::alloc::{AllocError, Global};
+use pg_map::checked_u32;
+use std::alloc::Global;
 use std::marker::Model;
 use std::sync::Arc;
 
@@ -124,7 +125,7 @@ impl Edges {
         }
     }
 
-    /// The same edges, in the same memory.
+    /// A copy of the edges, which shares their memory.
     pub fn copy(&self) -> Result<Edges, Memory>
         ensures { IfOk result (λ e. e ≡ self.now) }
     {
@@ -137,13 +138,6 @@ impl Edges {
             }),
         }
     }
-}
-
-/// A place or a count of edges in 32 bits where it fits, and else want of memory.
-fn checked_u32(number: usize) -> Result<u32, Memory>
-    ensures { IfOk result (λ n. n ≡ number) }
-{
-    u32::try_from(number).map_err(|_| AllocError)
 }
 
 /// So many edges of a list, from this place on.

@@ -2,6 +2,7 @@
 ghost use Rattle.std.specs.Prelude.{◌≡◌, ◌≢◌};
 
 use crate::{Memory, VertexId};
+use pg_sort::HasId;
 use thiserror::Error;
 
 /// One edit of a graph.
@@ -36,6 +37,17 @@ impl Edit {
             Edit::SetEdge(source, _, _) => source,
             Edit::RemoveEdge(source, _) => source,
         }
+    }
+}
+
+/// The vertex whose row an edit changes.
+impl HasId for Edit {
+    ghost use Rattle.pg_graph_rows.specs.RowEdit.{source_of};
+
+    ghost id_of = { source_of };
+
+    fn id(&self) -> VertexId {
+        self.source()
     }
 }
 

@@ -19,7 +19,7 @@ impl CheapClone for Row {
 }
 
 impl Row {
-    /// The same row, which shares its edges.
+    /// A copy of the row, which shares its edges.
     pub fn copy(&self) -> Result<Row, Memory>
         ensures { IfOk result (λ row. row ≡ self.now) }
     {

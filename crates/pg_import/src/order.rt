@@ -1,7 +1,7 @@
 //! What the lines of a list mention, by rising id. No answer depends on the order: what it leaves out is
 //! looked up when its line goes by.
 ghost use Rattle.std.specs.Prelude.{◌≡◌, ℕ, List, Some, slice_get, IfOk, OnOk};
-ghost use Rattle.pg_graph.specs.ById.{AreEntriesOf};
+ghost use Rattle.pg_sort.specs.ById.{AreEntriesOf};
 ghost use Rattle.pg_graph.specs.Rows.{Rows};
 ghost use Rattle.pg_import.specs.Batch.{has_edge, has_vertex};
 ghost use Rattle.pg_import.specs.NamedEdges.{AreThereAs};
@@ -11,7 +11,8 @@ ghost use Rattle.pg_import.specs.declared.line.Line.{Line};
 use crate::looked_up::LookedUp;
 use crate::named_edges::NamedEdges;
 use crate::{Line, Memory};
-use pg_graph::{Graph, VertexId, reordered_by_id};
+use pg_graph::{Graph, VertexId};
+use pg_sort::reordered_by_id;
 use std::alloc::Global;
 use std::marker::Model;
 

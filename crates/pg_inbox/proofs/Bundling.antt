@@ -12,8 +12,8 @@ use Rattle.std.proofs.lemmas.Bool.Decides.{nat_tests}
 use Rattle.std.proofs.lemmas.List.Elements.{filter_agree}
 use Rattle.std.proofs.lemmas.Map.Entries.{lookup_head, lookup_tail}
 use Rattle.std.proofs.lemmas.Simd.{map-map}
-use Rattle.pg_graph.specs.ById.{AreById, StandAt}
-use Rattle.pg_graph.proofs.Taken.{taken_rise, taken_same}
+use Rattle.pg_sort.specs.ById.{AreById, StandAt}
+use Rattle.pg_sort.proofs.Taken.{taken_rise, taken_same}
 use Rattle.pg_map.specs.Entries.{HasRisingIds, value_at}
 use Rattle.pg_map.proofs.Parts.{rises_after}
 use Rattle.pg_map.proofs.Rising.{at_other, at_same, none_past, same_entries}

@@ -9,10 +9,11 @@ ghost use Rattle.pg_inbox.specs.Holding.{HoldsAt};
 ghost use Rattle.pg_inbox.specs.Inboxes.{envelopes_at};
 
 use crate::Bundle;
-use pg_graph::{VertexId, count_below};
+use pg_graph::VertexId;
 use pg_inbox_messages::{MessageListChange, MessageListRef, run_len};
 use pg_map::Cursor;
 use pg_program::Plain;
+use pg_sort::count_below;
 use std::marker::Model;
 
 /// Looks up targets in a bundle. Where they rise, each costs some steps for how far it is from the one before, that

@@ -2,7 +2,7 @@
 ghost use Rattle.std.specs.Prelude.{◌≡◌, map, IfOk};
 ghost use Rattle.std.specs.List.{AllByRecursion};
 ghost use Rattle.std.specs.List.Sorted.{IsNonDecreasingBy};
-ghost use Rattle.pg_graph.specs.ById.{AreById, StandAt};
+ghost use Rattle.pg_sort.specs.ById.{AreById, StandAt};
 ghost use Rattle.pg_inbox_messages.specs.Contents.{message_lists_of};
 ghost use Rattle.pg_inbox_messages.specs.Grouping.{AreGroups, groups_of};
 ghost use Rattle.pg_inbox.specs.Bundles.{bundle_of};
@@ -12,10 +12,11 @@ ghost use Rattle.pg_inbox.specs.Sound.{sent_message_lists};
 use crate::envelopes::Envelopes;
 use crate::{Bundle, OutboxRef};
 use pg_global::MessageCombiner;
-use pg_graph::{Memory, VertexId, sorted_by_id};
+use pg_graph::{Memory, VertexId};
 use pg_inbox_messages::message_lists_of;
 use pg_map::Map;
 use pg_program::Plain;
+use pg_sort::sorted_by_id;
 use std::alloc::Global;
 
 /// The bundle of sends.

@@ -4,7 +4,7 @@ ghost use Rattle.std.specs.List.{AllByRecursion};
 ghost use Rattle.std.specs.List.Sorted.{IsNonDecreasingBy, IsStrictlySortedBy};
 ghost use Rattle.std.specs.Option.{option_copied};
 ghost use Rattle.std.specs.Ordering.{nat_cmp};
-ghost use Rattle.pg_graph.specs.ById.{AreById, StandAt};
+ghost use Rattle.pg_sort.specs.ById.{AreById, StandAt};
 ghost use Rattle.pg_map.specs.Entries.{ChangesRise, with_changes};
 ghost use Rattle.pg_model.specs.Superstep.{has_id};
 ghost use Rattle.pg_inbox_messages.specs.Grouping.{AreGroups, groups_of};
@@ -19,10 +19,11 @@ ghost use Rattle.pg_inbox.specs.Sound.{needed};
 use crate::changing::add_if_changed;
 use crate::{Bundle, LoggedBundle, OutboxRef};
 use pg_global::MessageCombiner;
-use pg_graph::{Memory, VertexId, sorted_by_id};
+use pg_graph::{Memory, VertexId};
 use pg_inbox_messages::{MessageList, MessageListChange, MessageListRef, first_group, items_to};
 use pg_model::Sequence;
 use pg_program::Plain;
+use pg_sort::sorted_by_id;
 use std::alloc::Global;
 
 /// What is done to the messages to a target.

@@ -13,4 +13,5 @@ pub mod Replaced
 pub mod Rising
 pub mod Search
 pub mod Slice
+pub mod Somes
 pub mod Turns

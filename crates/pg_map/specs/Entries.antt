@@ -41,3 +41,9 @@ with_changes (change ∷ changes) entries = with_changes changes (with_change ch
 -- the ids of changes rise
 abbrev pub ChangesRise : {V : Type 0} → List (ℕ × Option V) → Type 0
 ChangesRise changes = IsStrictlySortedBy nat_cmp (keys_of changes)
+
+-- the values that changes give, with their ids
+abbrev pub somes : {V : Type 0} → List (ℕ × Option V) → List (ℕ × V)
+somes [] = []
+somes ((id, None) ∷ changes) = somes changes
+somes ((id, Some value) ∷ changes) = (id, value) ∷ somes changes

@@ -81,7 +81,7 @@ impl<'a, V> Cursor<'a, V> {
         self.entries_found(id)
     }
 
-    /// The same, found among all chunks.
+    /// The entries of the one chunk that may hold an id, found among all chunks.
     fn entries_found(&mut self, id: VertexId) -> &'a [(VertexId, V)]
         ensures value { value_at id result.now ≡ value_at id self.old }
         ensures slice { IsSlice result.now self.old }
@@ -186,9 +186,9 @@ pub(crate) fn count_below<V>(entries: &[(VertexId, V)], before: usize, id: Verte
     }
 }
 
-/// The same, by looking at the entries near the id. Tested first is how far the id is from that of the first, which it
-/// is where no id is missing between them, and all of them where it is as far or farther; then the count before, or a
-/// few more; then it is searched for.
+/// How many of these entries are below an id, found by looking at the entries near it. Tested first is how far the id is
+/// from that of the first, which is the answer where no id is missing between them, or all of them where it is as far or
+/// farther; then the count before, or a few more; then it is searched for.
 fn count_searched<V>(entries: &[(VertexId, V)], before: usize, id: VertexId) -> usize
     requires { HasRisingIds entries.now }
     ensures { IsPartitionPoint (λ e. nat_lt e.0 id ≡ true) (λ e. nat_lt e.0 id ≡ false) entries.now result }

@@ -45,7 +45,7 @@ impl<V> GroupList<V> {
         }
     }
 
-    /// The same groups, in the same memory.
+    /// A copy of the list, which shares its memory.
     pub(crate) fn cheap_clone(&self) -> Result<GroupList<V>, Memory>
         ensures { IfOk result (λ group_list. groups_of group_list ≡ groups_of self.now) }
     {

@@ -98,7 +98,7 @@ fn change_groups<V: CheapClone>(
     Some(all)
 }
 
-/// The same, of the first group and then of those behind it.
+/// Makes all changes of these groups or none, as `change_groups` does, where one may fall into the first group.
 #[cycle(in_place)]
 fn change_first_group<V: CheapClone>(
     alloc: Global,
@@ -177,7 +177,8 @@ fn change_chunks<V: CheapClone>(
     Some(counts)
 }
 
-/// The same, of the first chunk and then of those behind it.
+/// Makes all changes of these chunks and of the groups behind them or none, as `change_chunks` does, where one may fall
+/// into the first chunk.
 #[cycle(in_place)]
 fn change_first_chunk<V: CheapClone>(
     alloc: Global,
@@ -287,7 +288,7 @@ fn put_value<V: Drop>(entries: &mut [(VertexId, V)], below: &mut usize, id: Vert
     }
 }
 
-/// A chunk with its changes beside it, if that is neither cut nor small.
+/// A chunk with these changes made, as a new chunk, or `None` if it would be cut or end up small.
 fn merged<V: CheapClone>(
     alloc: Global,
     changes: &[(VertexId, Option<V>)],

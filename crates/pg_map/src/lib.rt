@@ -1,4 +1,4 @@
-//! The ordered map from vertex ids whose copies share, and the numbers that name things.
+//! The ordered map from vertex ids whose copies share memory, and the numbers that name things.
 #![tactic(auto)]
 
 mod find;
@@ -15,7 +15,7 @@ mod shared;
 mod walk;
 
 pub use find::Cursor;
-pub use number::{Edition, PartitionId, Superstep, VertexId, WorkerId};
+pub use number::{Edition, PartitionId, Superstep, VertexId, WorkerId, checked_u32};
 pub use pack::Pack;
 pub use shared::{CheapClone, Map};
 pub use std::alloc::AllocError as Memory;

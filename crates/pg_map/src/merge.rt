@@ -1,4 +1,4 @@
-//! Changes made of groups, beside them.
+//! New groups, made of old ones and changes.
 ghost use Rattle.std.specs.Prelude.{◌≡◌, ◌++◌, ◌≤◌, length, take, drop, IfOk, OnOk};
 ghost use Rattle.pg_map.specs.Chunks.{AreChunks, AreCut, AreGroups, IsPart, all_of, chunks_in, entries_of, grouped};
 ghost use Rattle.pg_map.specs.Chunks.{listed};

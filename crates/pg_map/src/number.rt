@@ -1,6 +1,8 @@
-//! The numbers that name vertices, partitions, workers, supersteps and editions of a graph.
-ghost use Rattle.std.specs.Prelude.{◌≡◌, ℕ, ◌^◌, ◌<◌, ◌↔◌, IsSome, IfSome};
+//! The numbers that name vertices, partitions, workers, supersteps and editions of a graph, and counts in 32 bits.
+ghost use Rattle.std.specs.Prelude.{◌≡◌, ℕ, ◌^◌, ◌<◌, ◌↔◌, IsSome, IfOk, IfSome};
 
+use crate::Memory;
+use std::alloc::AllocError;
 use std::fmt;
 use std::marker::Model;
 
@@ -172,4 +174,11 @@ impl Edition {
     {
         self.edition
     }
+}
+
+/// A count, or a place in a list, in the 32 bits in which it is kept. A list that needs more is out of memory.
+pub fn checked_u32(count: usize) -> Result<u32, Memory>
+    ensures { IfOk result (λ n. n ≡ count) }
+{
+    u32::try_from(count).map_err(|_| AllocError)
 }

@@ -10,7 +10,7 @@ use std::sync::Arc;
 
 /// Values that may lie side by side in memory, where their entries stand side by side.
 pub trait Pack: CheapClone {
-    /// The same entries with their values laid anew, or none where these lie well.
+    /// A copy of these entries with their values laid anew, or `None` where the values lie well.
     fn packed(
         alloc: Global,
         entries: &[(VertexId, Self)],
@@ -65,7 +65,7 @@ fn pack_chunks<V: Pack>(alloc: Global, chunks: &mut Vec<Chunk<V>>)
     }
 }
 
-/// The same chunk with its values laid anew, or none where they lie well or memory is refused.
+/// A copy of a chunk with its values laid anew, or `None` where they lie well or there is no memory.
 fn packed_chunk<V: Pack>(alloc: Global, chunk: &Chunk<V>) -> Option<Chunk<V>>
     ensures entries { IfSome result (λ packed. listed packed ≡ listed chunk.now) }
     ensures first { IfSome result (λ packed. packed.first ≡ chunk.now.first) }

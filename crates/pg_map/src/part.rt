@@ -23,7 +23,7 @@ pub(crate) type Chunk<V> = Node<(VertexId, V)>;
 pub(crate) type Group<V> = Node<Chunk<V>>;
 
 impl<T> Node<T> {
-    /// The same part, in the same memory.
+    /// A copy of the part, which shares its memory.
     pub(crate) fn cheap_clone(&self) -> Result<Node<T>, Memory>
         ensures first { IfOk result (λ part. part.first ≡ self.now.first) }
         ensures count { IfOk result (λ part. part.count ≡ self.now.count) }

@@ -22,7 +22,7 @@ pub trait CheapClone: Drop {
     /// the chunks that it falls into, and a walk reads all of them.
     const CHUNK: usize = 128;
 
-    /// The same value. What is large in it is shared; what is copied costs no more than one small value.
+    /// A copy that shares what is large in the value. What is copied costs no more than one small value.
     fn cheap_clone(&self, alloc: Global) -> Result<Self, Memory>
         ensures { IfOk result (λ copy. copy ≡ self.now) };
 }
@@ -36,8 +36,8 @@ impl CheapClone for i64 {
 /// A map from vertex ids. A contract sees the list of (id, value) by rising id.
 ///
 /// The entries lie in chunks, and these in groups, all of which copies share: a copy costs O(1), and a
-/// change makes anew the chunks and the groups that it falls into, beside the others, or is made in them where no copy
-/// shares them (`change_own`).
+/// change makes anew the chunks and the groups that it falls into and shares the others, or is made in them where no
+/// copy shares them (`change_own`).
 pub struct Map<V> {
     groups: GroupList<V>,
     count: usize,
@@ -145,7 +145,7 @@ impl<V> Map<V> {
         }
     }
 
-    /// The same map, in the same memory. Costs O(1).
+    /// A copy of the map, which shares its memory. Costs O(1).
     pub fn cheap_clone(&self) -> Result<Map<V>, Memory>
         ensures { IfOk result (λ map. map ≡ self.now) }
     {
@@ -184,6 +184,7 @@ impl<V: CheapClone> Map<V> {
         requires { ChangesRise changes.now }
         ensures ok { OnOk result (self.new ≡ with_changes changes.now self.old) }
         ensures err { OnErr result (self.new ≡ self.old) }
+        ensures rising { HasRisingIds self.new }
     {
         let made = changed(alloc, self.groups.as_slice(), changes)?;
         let count = counted(made.as_slice())?;

@@ -5,7 +5,8 @@ ghost use Rattle.std.specs.Ordering.{nat_cmp};
 ghost use Rattle.pg_model.specs.Superstep.{has_id};
 ghost use Rattle.pg_part_compute.specs.Diverged.{HaveSameIds, without};
 
-use pg_graph::{Memory, VertexId, count_below};
+use pg_graph::{Memory, VertexId};
+use pg_sort::count_below;
 use std::alloc::Global;
 
 /// These ids by rising id, each once. Costs a sort.

@@ -12,7 +12,7 @@ use Rattle.pg_inbox.specs.Outbox.{as_send}
 use Rattle.pg_trace_records.specs.RecordChanges.{messages_by}
 use Rattle.pg_part_routing.specs.Routes.{as_sends}
 use Rattle.pg_part_routing.specs.Sending.{IsFresh, items_to, sends_by_records, sends_of}
-use Rattle.pg_trace_index.proofs.Somes.{somes}
+use Rattle.pg_map.specs.Entries.{somes}
 use Rattle.pg_part_routing.proofs.Listing.{all_picked}
 
 module _ {M : Type 0} where

@@ -11,7 +11,7 @@ use Rattle.std.proofs.lemmas.List.Elements.{filter-append}
 use Rattle.std.proofs.lemmas.Option.{none-some}
 use Rattle.pg_inbox.specs.Patched.{is_retracted, staying}
 use Rattle.pg_inbox.specs.Outbox.{Outbox, sent_by}
-use Rattle.pg_map.specs.Entries.{ChangesRise, value_at, HasRisingIds as Rises}
+use Rattle.pg_map.specs.Entries.{ChangesRise, value_at, HasRisingIds as Rises, somes}
 use Rattle.pg_map.proofs.Parts.{rises_after}
 use Rattle.pg_map.proofs.Rising.{none_past}
 use Rattle.pg_model.specs.Share.{belongs}
@@ -22,7 +22,7 @@ use Rattle.pg_part_routing.specs.Sending.{items_to, pairs_by, pairs_of, sends_by
 use Rattle.pg_part_routing.proofs.Delivery.{either_order}
 use Rattle.pg_part_routing.proofs.Listing.{all_picked}
 use Rattle.pg_part_routing.proofs.Outbox.{items-append, sends-somes}
-use Rattle.pg_trace_index.proofs.Somes.{somes, somes_rise, value_at-somes}
+use Rattle.pg_map.proofs.Somes.{somes_rise, value_at-somes}
 use Rattle.pg_trace.specs.Trace.{Trace, record_at}
 
 -- ---- tests

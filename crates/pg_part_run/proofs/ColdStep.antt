@@ -40,7 +40,7 @@ use Rattle.pg_part_compute.proofs.ReadVertices.{IsRead, active_among, all_found,
 use Rattle.pg_part_compute.proofs.Recording.{IsCounted, IsRight, counted_are, no_other_record, records_are, records_rise}
 use Rattle.pg_part_compute.proofs.WorkItems.{nothing_rises}
 use Rattle.pg_part_routing.proofs.Outbox.{sends_of_changes}
-use Rattle.pg_trace_index.proofs.Somes.{somes_are}
+use Rattle.pg_map.proofs.Somes.{somes_are}
 use Rattle.pg_part_routing.proofs.Beginning.{own_rise}
 use Rattle.pg_part_run.proofs.Stepping.{reaching_next, stepped_holds}
 use Rattle.pg_inbox.proofs.Among.{in_neither, outside}

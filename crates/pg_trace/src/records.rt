@@ -4,11 +4,11 @@ ghost use Rattle.pg_map.specs.Entries.{ChangesRise, HasRisingIds};
 ghost use Rattle.pg_trace_index.specs.Occurrences.{IsIndex};
 ghost use Rattle.pg_trace_index.specs.Records.{put_at};
 
-use pg_graph::{Memory, VertexId};
+use pg_graph::{Memory, VertexId, checked_u32};
 use pg_model::{Record, VertexState};
 use pg_trace_index::Index;
 use pg_trace_records::{RecordChanges, RecordRef, Records};
-use std::alloc::{AllocError, Global};
+use std::alloc::Global;
 
 /// The same supersteps, in the same memory.
 pub(crate) fn shared<V: Drop, M: Drop>(
@@ -66,16 +66,6 @@ pub(crate) fn cut_index<V: Drop, M: Drop>(
         first = first.noted(alloc, checked_u32(left)?, none.as_slice())?;
     }
     first.sealed(alloc)
-}
-
-/// A number in 32 bits. No memory has so many supersteps that it doesn't fit.
-pub(crate) fn checked_u32(number: usize) -> Result<u32, Memory>
-    ensures { IfOk result (λ n. n ≡ number) }
-{
-    if number > u32::MAX as usize {
-        return Err(AllocError);
-    }
-    Ok(number as u32)
 }
 
 /// No place for the ids of a superstep's records.

@@ -9,9 +9,9 @@ ghost use Rattle.pg_trace.specs.Trace.{first_supersteps, with_replaced};
 
 use crate::StateRef;
 use crate::beginnings::Beginnings;
-use crate::records::{all_changed, all_given, checked_u32, cut_index, put_records, shared};
+use crate::records::{all_changed, all_given, cut_index, put_records, shared};
 use crate::states::StateCursor;
-use pg_graph::{Memory, Superstep, VertexId};
+use pg_graph::{Memory, Superstep, VertexId, checked_u32};
 use pg_model::{Place, Record, VertexState};
 use pg_trace_index::Index;
 use pg_trace_records::{RecordChanges, RecordRef, Records};

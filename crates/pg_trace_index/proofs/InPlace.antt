@@ -19,7 +19,7 @@ use Rattle.pg_map.proofs.Rising.{at_other, at_same, find-insert_other, find-inse
 use Rattle.pg_trace_index.specs.Occurrences.{IsIndex, IsNoted, IsNotedOf, last_of, steps_in, steps_noted, with_ran}
 use Rattle.pg_trace_index.specs.Records.{put_at}
 use Rattle.pg_trace_index.proofs.Noting.{TellsAlike, index-next, index-set}
-use Rattle.pg_trace_index.proofs.Somes.{nothing_rises}
+use Rattle.pg_map.proofs.Somes.{nothing_rises}
 use Rattle.pg_trace_index.proofs.Supersteps.{last_of_all, lower, not_lower}
 
 -- ---- a superstep after all others

@@ -7,5 +7,5 @@ pub mod Noting
 pub mod Over
 pub mod PartsOf
 pub mod Runs
-pub mod Somes
+pub mod Tested
 pub mod Supersteps

@@ -9,8 +9,8 @@ use crate::chunk::Chunk;
 use crate::log::LogEntry;
 use crate::overlay::count;
 use crate::ran::Occurrence;
-use crate::steps::{Steps, checked_u32};
-use pg_graph::{Memory, VertexId};
+use crate::steps::Steps;
+use pg_graph::{Memory, VertexId, checked_u32};
 use std::alloc::Global;
 use std::sync::Arc;
 

@@ -11,8 +11,8 @@ use crate::chain::{Occurrences, last_under};
 use crate::chunk::{Chunk, found, get, put};
 use crate::listing::listed;
 use crate::ran::Occurrence;
-use crate::steps::{Steps, checked_u32};
-use pg_graph::{Memory, VertexId};
+use crate::steps::Steps;
+use pg_graph::{Memory, VertexId, checked_u32};
 use std::alloc::Global;
 use std::marker::Model;
 

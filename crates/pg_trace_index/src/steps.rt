@@ -8,9 +8,9 @@ ghost use Rattle.pg_trace_index.specs.History.{IsPart, part_of, steps_of};
 ghost use Rattle.pg_trace_index.specs.Occurrences.{last_of, steps_below};
 
 use crate::ran::Occurrence;
-use pg_graph::Memory;
+use pg_graph::{Memory, checked_u32};
 use pg_map::CheapClone;
-use std::alloc::{AllocError, Global};
+use std::alloc::Global;
 use std::marker::Model;
 use std::sync::Arc;
 
@@ -184,16 +184,6 @@ fn longer(alloc: Global, runs: &[Occurrence], run: Occurrence) -> Result<Vec<Occ
     longer.extend_from_slice(runs)?;
     longer.push(run)?;
     Ok(longer)
-}
-
-/// A number in 32 bits. No list of runs is longer, also that of all runs of a first run: more memory is refused.
-pub(crate) fn checked_u32(number: usize) -> Result<u32, Memory>
-    ensures { IfOk result (λ n. n ≡ number) }
-{
-    if number > u32::MAX as usize {
-        return Err(AllocError);
-    }
-    Ok(number as u32)
 }
 
 /// The last of runs by rising superstep that is below one, found by halving.

@@ -11,14 +11,14 @@ use Rattle.std.proofs.lemmas.List.{map-append}
 use Rattle.std.proofs.lemmas.Option.{slice_get-get_or}
 use Rattle.std.proofs.lemmas.List.Concat.{flat_map-append}
 use Rattle.std.proofs.lemmas.List.Elements.{filter-append}
-use Rattle.pg_map.specs.Entries.{ChangesRise, HasRisingIds, value_at, with_changes}
+use Rattle.pg_map.specs.Entries.{ChangesRise, HasRisingIds, value_at, with_changes, somes}
 use Rattle.pg_map.proofs.Changing.{rises-changes, value_at-with_changes}
 use Rattle.pg_map.proofs.Rising.{same_entries}
 use Rattle.pg_model.specs.Superstep.{has_id}
 use Rattle.pg_model.specs.declared.record.Record.{Record}
-use Rattle.pg_trace_records.specs.RecordChanges.{given_at, given_to, somes, given_flags}
+use Rattle.pg_trace_records.specs.RecordChanges.{given_at, given_to, given_flags}
 use Rattle.pg_trace_records.specs.Records.{unhalted_after, contributions_of}
-use Rattle.pg_trace_records.proofs.Somes.{nothing_rises, somes-append, somes_rise, value_at-somes}
+use Rattle.pg_map.proofs.Somes.{nothing_rises, somes-append, somes_rise, value_at-somes}
 
 at_test : (q k : ℕ) → is_at (nat_cmp q) k ≡ (k == q)
 at_test q k = grind (arith, nat_tests)

@@ -1,4 +1,3 @@
 pub mod Changed
 pub mod Parting
 pub mod Senders
-pub mod Somes

@@ -17,12 +17,6 @@ module _ {X : Type 0} where
   abbrev pub given_flags : List (ℕ × Option X) → List (ℕ × Bool)
   given_flags changes = map (λ c. (c.0, is_some c.1)) changes
 
-  -- what is given, without those that are given nothing
-  abbrev pub somes : List (ℕ × Option X) → List (ℕ × X)
-  somes [] = []
-  somes ((id, None) ∷ changes) = somes changes
-  somes ((id, Some x) ∷ changes) = (id, x) ∷ somes changes
-
 module _ {V M : Type 0} where
   -- the messages that a vertex sends by its record, if it has one, each with its target, and its id beside each
   abbrev pub messages_by : ℕ × Option (Record V M) → List (ℕ × (ℕ × M))

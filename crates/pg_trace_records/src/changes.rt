@@ -12,7 +12,7 @@ ghost use Rattle.pg_trace_records.specs.RecordChanges.{given_to, messages_by, gi
 ghost use Rattle.pg_trace_records.specs.Parts.{AreWithin, AddsSenders, IsPart, changes_in, part_of, record_in};
 
 use crate::record::RecordRef;
-use pg_graph::{Edges, Memory, VertexId};
+use pg_graph::{Edges, Memory, VertexId, checked_u32};
 use pg_model::{Place, VertexState};
 use std::alloc::{AllocError, Global};
 use std::marker::Model;
@@ -357,14 +357,4 @@ fn appended<X: Drop>(into: &mut Vec<X>, items: Vec<X>) -> Result<Extent, Memory>
     let mut items = items;
     into.append(&mut items)?;
     Ok(Extent { first, count })
-}
-
-/// A number in 32 bits. No list is so long that it doesn't fit.
-fn checked_u32(number: usize) -> Result<u32, Memory>
-    ensures { IfOk result (λ n. n ≡ number) }
-{
-    if number > u32::MAX as usize {
-        return Err(AllocError);
-    }
-    Ok(number as u32)
 }

@@ -4,9 +4,8 @@ ghost use Rattle.std.specs.List.Sorted.{IsStrictlySortedBy};
 ghost use Rattle.std.specs.Map.{keys_of};
 ghost use Rattle.std.specs.Option.{option_copied};
 ghost use Rattle.std.specs.Ordering.{nat_cmp};
-ghost use Rattle.pg_map.specs.Entries.{ChangesRise, HasRisingIds, value_at, with_changes};
+ghost use Rattle.pg_map.specs.Entries.{ChangesRise, HasRisingIds, value_at, with_changes, somes};
 ghost use Rattle.pg_model.specs.Superstep.{has_id};
-ghost use Rattle.pg_trace_records.specs.RecordChanges.{somes};
 ghost use Rattle.pg_trace_records.specs.Records.{unhalted_after, contributions_of};
 
 use crate::change::RecordChange;

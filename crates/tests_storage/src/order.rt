@@ -1,4 +1,5 @@
-use pg_graph::{Memory, VertexId, reordered_by_id, sorted_by_id};
+use pg_graph::{Memory, VertexId};
+use pg_sort::{reordered_by_id, sorted_by_id};
 use std::alloc::{AllocError, Global};
 
 // Ids from one on, which jump among the next ones.

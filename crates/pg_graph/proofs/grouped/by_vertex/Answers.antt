@@ -1,6 +1,6 @@
 use Rattle.std.proofs.Common.{subst}
 use Rattle.std.proofs.lemmas.Result.{IfOk-weaker}
-use Rattle.pg_graph.specs.ById.{StandAt}
+use Rattle.pg_sort.specs.ById.{StandAt}
 use Rattle.pg_graph.specs.Grouped.{AreGrouped}
 use Rattle.pg_graph.specs.RowEdit.{placed}
 use Rattle.pg_graph.proofs.Taken.{grouped_by_id}

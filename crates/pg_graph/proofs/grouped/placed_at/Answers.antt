@@ -3,7 +3,8 @@ use Rattle.std.proofs.lemmas.List.{length-map, take_more}
 use Rattle.std.proofs.lemmas.Option.{slice_get_read, slice_get_within}
 use Rattle.pg_graph_rows.specs.RowEdit.{source_of}
 use Rattle.pg_graph.specs.RowEdit.{placed}
-use Rattle.pg_graph.proofs.Taken.{placed_there, zip_push}
+use Rattle.pg_graph.proofs.Taken.{placed_there}
+use Rattle.pg_sort.proofs.Taken.{zip_push}
 use Rattle.pg_graph.proofs.grouped.placed_at.Goals as goal
 
 pub loop-place-preserved : goal.loop-place-preserved

@@ -1,5 +1,5 @@
 use Rattle.std.proofs.Common.{take}
-use Rattle.pg_graph.specs.ById.{StandAt}
+use Rattle.pg_sort.specs.ById.{StandAt}
 use Rattle.pg_graph.specs.RowEdit.{placed}
 use Rattle.pg_graph.proofs.grouped.placed_at.Given as goal
 

@@ -1,4 +1,4 @@
-use Rattle.pg_graph.specs.ById.{AreEntriesOf}
+use Rattle.pg_sort.specs.ById.{AreEntriesOf}
 use Rattle.pg_import.specs.Ranks.{sources_of}
 use Rattle.pg_import.proofs.order.numbered_sources.Given as goal
 

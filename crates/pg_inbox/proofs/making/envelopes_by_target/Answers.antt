@@ -1,7 +1,7 @@
 use Rattle.std.proofs.Common.{map, subst}
 use Rattle.std.specs.List.Sorted.{IsNonDecreasingBy}
 use Rattle.std.proofs.lemmas.Result.{IfOk-weaker}
-use Rattle.pg_graph.specs.ById.{AreById, StandAt}
+use Rattle.pg_sort.specs.ById.{AreById, StandAt}
 use Rattle.pg_inbox_messages.specs.Grouping.{AreGroups, groups_of}
 use Rattle.pg_inbox.specs.Outbox.{as_item}
 use Rattle.pg_inbox.proofs.Bundling.{groups_by_id, rise_by_id}

@@ -3,7 +3,7 @@ use Rattle.std.specs.Option.{option_map}
 use Rattle.std.proofs.lemmas.List.{length-map, take_more}
 use Rattle.std.proofs.lemmas.Option.{slice_get-map, slice_get_read, slice_get_within}
 use Rattle.pg_inbox.specs.Outbox.{as_item}
-use Rattle.pg_graph.proofs.Taken.{zip_push}
+use Rattle.pg_sort.proofs.Taken.{zip_push}
 use Rattle.pg_map.proofs.Filling.{all_pushed}
 use Rattle.pg_inbox.proofs.making.envelopes_in_order.Goals as goal
 

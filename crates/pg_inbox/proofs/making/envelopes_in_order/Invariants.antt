@@ -1,6 +1,6 @@
 use Rattle.std.proofs.Common.{map, take}
 use Rattle.std.specs.List.{AllByRecursion}
-use Rattle.pg_graph.specs.ById.{StandAt}
+use Rattle.pg_sort.specs.ById.{StandAt}
 use Rattle.pg_inbox.specs.Outbox.{as_item}
 use Rattle.pg_inbox.proofs.making.envelopes_in_order.Given as goal
 

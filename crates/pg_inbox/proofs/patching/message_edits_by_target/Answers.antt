@@ -1,7 +1,7 @@
 use Rattle.std.proofs.Common.{refl, subst₂, sym, ap₂, ◌++◌, ◌∙◌}
 use Rattle.std.proofs.lemmas.List.{map-id}
 use Rattle.std.proofs.lemmas.Result.{IfOk-weaker}
-use Rattle.pg_graph.specs.ById.{AreById, StandAt}
+use Rattle.pg_sort.specs.ById.{AreById, StandAt}
 use Rattle.pg_inbox_messages.specs.Grouping.{AreGroups, groups_of}
 use Rattle.pg_inbox.specs.MessageEdits.{message_edits_of}
 use Rattle.pg_inbox.proofs.Bundling.{groups_taken}

@@ -1,8 +1,8 @@
 use Rattle.std.proofs.Common.{◌≡◌, ◌+◌, ◌∷◌, [], ◌++◌, Some, map, slice_get, take, ap, sym, ◌∙◌, subst, arith}
 use Rattle.std.proofs.lemmas.List.{length-map, take_all, take_more}
 use Rattle.std.proofs.lemmas.Option.{slice_get_within}
-use Rattle.pg_graph.specs.ById.{StandAt}
-use Rattle.pg_graph.proofs.Taken.{zip_push}
+use Rattle.pg_sort.specs.ById.{StandAt}
+use Rattle.pg_sort.proofs.Taken.{zip_push}
 use Rattle.pg_inbox.specs.MessageEdits.{message_edits_of}
 use Rattle.pg_inbox.proofs.Replacing.{length-message_edits_of}
 use Rattle.pg_inbox.proofs.patching.message_edits_in_order.Goals as goal

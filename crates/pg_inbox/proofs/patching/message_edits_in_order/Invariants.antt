@@ -1,5 +1,5 @@
 use Rattle.std.proofs.Common.{take}
-use Rattle.pg_graph.specs.ById.{StandAt}
+use Rattle.pg_sort.specs.ById.{StandAt}
 use Rattle.pg_inbox.specs.MessageEdits.{message_edits_of}
 use Rattle.pg_inbox.proofs.patching.message_edits_in_order.Given as goal
 

@@ -3,7 +3,7 @@ use Rattle.std.specs.List.Sorted.{IsPartitionPoint}
 use Rattle.pg_trace_index.specs.Chunks.{AreSound, listed}
 use Rattle.pg_trace_index.specs.declared.chunk.Chunk.{Chunk}
 use Rattle.pg_trace_index.proofs.InChunks.{Around, here, one_sound, put_sound, put_there}
-use Rattle.pg_trace_index.proofs.Somes.{nil_from_test}
+use Rattle.pg_trace_index.proofs.Tested.{nil_from_test}
 use Rattle.pg_trace_index.proofs.Supersteps.{one_at_least}
 use Rattle.pg_trace_index.proofs.chunk.put.Goals as goal
 

@@ -1,7 +1,7 @@
 use Rattle.std.proofs.Common.{◌≡◌, IfOk, ap, subst, sym, ◌∙◌}
 use Rattle.std.proofs.lemmas.List.{nil_from_length}
 use Rattle.pg_map.specs.Entries.{with_changes}
-use Rattle.pg_trace_index.proofs.Somes.{nil_from_test}
+use Rattle.pg_trace_index.proofs.Tested.{nil_from_test}
 use Rattle.pg_trace_index.proofs.maps.changed.Goals as goal
 
 pub returns-then-len-eq0 : goal.returns-then-len-eq0

@@ -1,8 +1,8 @@
 use Rattle.std.proofs.Common.{◌≡◌, ◌++◌, [], ◌∷◌, IfOk, append_assoc, sym, ap, ◌∙◌, subst}
 use Rattle.std.proofs.lemmas.List.{append-nil, nil_from_length}
 use Rattle.std.proofs.lemmas.Result.{IfOk-from_err}
-use Rattle.pg_map.specs.Entries.{HasRisingIds}
-use Rattle.pg_trace_index.proofs.Somes.{somes, somes_are, somes_rise}
+use Rattle.pg_map.specs.Entries.{HasRisingIds, somes}
+use Rattle.pg_map.proofs.Somes.{somes_are, somes_rise}
 use Rattle.pg_trace_index.proofs.maps.fresh.Goals as goal
 
 pub loop-id-preserved-in-Continue-branch-2 : goal.loop-id-preserved-in-Continue-branch-2

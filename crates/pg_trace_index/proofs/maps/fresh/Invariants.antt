@@ -1,5 +1,5 @@
 use Rattle.std.proofs.Common.{◌≡◌, ◌++◌}
-use Rattle.pg_trace_index.proofs.Somes.{somes}
+use Rattle.pg_map.specs.Entries.{somes}
 use Rattle.pg_trace_index.proofs.maps.fresh.Given as goal
 
 abbrev pub invariant-loop-id : goal.invariant-loop-id

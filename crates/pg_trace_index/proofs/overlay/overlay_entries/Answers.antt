@@ -1,7 +1,7 @@
 use Rattle.std.proofs.Common.{◌≡◌, ◌++◌, append_assoc, refl, ap, sym, ◌∙◌}
 use Rattle.std.proofs.lemmas.List.{append-nil}
 use Rattle.pg_trace_index.specs.Chunks.{all_of, listed}
-use Rattle.pg_trace_index.proofs.Somes.{nil_from_test}
+use Rattle.pg_trace_index.proofs.Tested.{nil_from_test}
 use Rattle.pg_trace_index.proofs.overlay.overlay_entries.Goals as goal
 
 pub loop-chunk-preserved : goal.loop-chunk-preserved

@@ -1,7 +1,7 @@
 use Rattle.std.proofs.Common.{◌<◌, ◌≤◌, ap, ◌∙◌, subst}
 use Rattle.std.proofs.lemmas.List.{take_all}
 use Rattle.pg_map.proofs.Filling.{joined_more}
-use Rattle.pg_trace_records.specs.RecordChanges.{somes}
+use Rattle.pg_map.specs.Entries.{somes}
 use Rattle.pg_trace_records.specs.Records.{contributions_of}
 use Rattle.pg_trace_records.proofs.Changed.{contributions-append, somes_given}
 use Rattle.pg_trace_records.proofs.records.contributions_by.Goals as goal

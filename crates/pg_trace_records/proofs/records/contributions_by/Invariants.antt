@@ -1,5 +1,5 @@
 use Rattle.std.proofs.Common.{◌≡◌, take}
-use Rattle.pg_trace_records.specs.RecordChanges.{somes}
+use Rattle.pg_map.specs.Entries.{somes}
 use Rattle.pg_trace_records.specs.Records.{contributions_of}
 use Rattle.pg_trace_records.proofs.records.contributions_by.Given as goal
 

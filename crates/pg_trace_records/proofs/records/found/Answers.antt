@@ -1,10 +1,9 @@
 use Rattle.std.proofs.Common.{◌≡◌, ℕ, List, ◌++◌, ◌∷◌, [], refl, ap, ◌∙◌}
 use Rattle.std.proofs.lemmas.List.{map-append, take_all}
-use Rattle.pg_map.specs.Entries.{value_at, with_changes}
+use Rattle.pg_map.specs.Entries.{value_at, with_changes, somes}
 use Rattle.pg_map.proofs.Filling.{joined_more}
-use Rattle.pg_trace_records.specs.RecordChanges.{somes}
 use Rattle.pg_trace_records.proofs.Changed.{all_looked, kept_rise, looked_up}
-use Rattle.pg_trace_records.proofs.Somes.{somes-append}
+use Rattle.pg_map.proofs.Somes.{somes-append}
 use Rattle.pg_trace_records.proofs.records.found.Goals as goal
 
 looked-append : {X : Type 0} (entries : List (ℕ × X)) (xs ys : List ℕ)

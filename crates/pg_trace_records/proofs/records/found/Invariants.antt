@@ -1,6 +1,5 @@
 use Rattle.std.proofs.Common.{◌≡◌, [], take}
-use Rattle.pg_map.specs.Entries.{with_changes}
-use Rattle.pg_trace_records.specs.RecordChanges.{somes}
+use Rattle.pg_map.specs.Entries.{with_changes, somes}
 use Rattle.pg_trace_records.proofs.Changed.{looked_up}
 use Rattle.pg_trace_records.proofs.records.found.Given as goal
 

@@ -1,9 +1,9 @@
 use Rattle.std.proofs.Common.{◌<◌, ◌≤◌, ap, ◌∙◌, subst}
 use Rattle.std.proofs.lemmas.List.{take_all}
 use Rattle.pg_map.proofs.Filling.{joined_more}
-use Rattle.pg_trace_records.specs.RecordChanges.{somes}
+use Rattle.pg_map.specs.Entries.{somes}
 use Rattle.pg_trace_records.proofs.Changed.{somes_given}
-use Rattle.pg_trace_records.proofs.Somes.{somes-append}
+use Rattle.pg_map.proofs.Somes.{somes-append}
 use Rattle.pg_trace_records.proofs.records.given_by.Goals as goal
 
 pub loop-place-init : goal.loop-place-init

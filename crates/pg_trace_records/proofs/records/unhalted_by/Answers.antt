@@ -1,7 +1,7 @@
 use Rattle.std.proofs.Common.{◌<◌, ◌≤◌, ap, ◌∙◌, subst}
 use Rattle.std.proofs.lemmas.List.{take_all}
 use Rattle.pg_map.proofs.Filling.{joined_more}
-use Rattle.pg_trace_records.specs.RecordChanges.{somes}
+use Rattle.pg_map.specs.Entries.{somes}
 use Rattle.pg_trace_records.specs.Records.{unhalted_after}
 use Rattle.pg_trace_records.proofs.Changed.{unhalted-append, somes_given}
 use Rattle.pg_trace_records.proofs.records.unhalted_by.Goals as goal

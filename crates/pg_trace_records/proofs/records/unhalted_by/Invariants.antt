@@ -1,5 +1,5 @@
 use Rattle.std.proofs.Common.{◌≡◌, take}
-use Rattle.pg_trace_records.specs.RecordChanges.{somes}
+use Rattle.pg_map.specs.Entries.{somes}
 use Rattle.pg_trace_records.specs.Records.{unhalted_after}
 use Rattle.pg_trace_records.proofs.records.unhalted_by.Given as goal
 

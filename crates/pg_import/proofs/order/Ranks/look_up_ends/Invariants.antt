@@ -1,5 +1,5 @@
 use Rattle.std.proofs.Common.{◌≡◌, ℕ, List}
-use Rattle.pg_graph.specs.ById.{AreEntriesOf}
+use Rattle.pg_sort.specs.ById.{AreEntriesOf}
 use Rattle.pg_import.specs.Ranks.{AreKnown}
 use Rattle.pg_import.proofs.order.Ranks.look_up_ends.Given as goal
 
