@@ -12,3 +12,6 @@ invariant_of-self g c =
     let rising = subst HasRisingIds (sym is) (rises-changes c.args.changes.now (all_of (groups_of c.self.inside.groups)) c.self.invariant.rise) in
     sound_of _ made _ c.in_ok-self-inside.ensures c.in_ok-made.ensures.groups rising
     (c.in_ok-count.ensures ∙ ap (sum_by (λ p. p.count)) c.as_slice-2.ensures.value)
+
+pub returns-clause-rising : goal.returns-clause-rising
+returns-clause-rising g c = (invariant_of-self g c).rise
