@@ -34,7 +34,8 @@ impl Meter {
 
     /// A meter that has counted as many.
     pub fn copy(&self) -> Meter
-        ensures { result ≡ self.now }
+        ensures value { result ≡ self.now }
+        ensures fits { result < 2 ^ 64 }
     {
         Meter { count: self.count }
     }

@@ -34,7 +34,7 @@ returns-clause-stepped g c job kept rows n p r program combining same held step_
     kept held.stats stepped.holds stepped.changed_are stepped.sends _ _ warm is_next in
     record {
       part_run =
-          subst (λ (m : ℕ). HasStepped job g.V.PartialEq.eq g.M.PartialEq.eq kept rows n p r part_run sent m c.step.new.meter) c.copy-counted.ensures stepped;
+          subst (λ (m : ℕ). HasStepped job g.V.PartialEq.eq g.M.PartialEq.eq kept rows n p r part_run sent m c.step.new.meter) c.copy-counted.ensures.value stepped;
       stats =
           has_next job kept rows n p r before _ held.stats (history.graph_is ∙ ap (λ s. s.graph) as_before)
           (history.member_changes_are ∙ ap (λ s. s.member_changes) as_before) (history.old_stats_are ∙ ap (λ s. s.old_stats) as_before)
