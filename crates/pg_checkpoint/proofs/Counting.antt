@@ -14,7 +14,7 @@ use Rattle.pg_checkpoint.specs.Records.{Supersteps, edges_behind, ids_behind}
 use Rattle.pg_trace_index.specs.Records.{last_record}
 use Rattle.pg_model.specs.Superstep.{has_id}
 use Rattle.pg_model.specs.declared.configuration.VertexState.{VertexState}
-use Rattle.pg_stats_counts.specs.VertexCounts.{states_among}
+use Rattle.pg_stats.specs.VertexCounts.{states_among}
 use Rattle.pg_stats.specs.Stats.{vertex_counts_of}
 use Rattle.pg_trace.specs.Trace.{Trace, left_by, state_of}
 

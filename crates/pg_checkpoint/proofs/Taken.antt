@@ -12,7 +12,7 @@ use Rattle.pg_checkpoint.specs.declared.contents.Contents.{Contents}
 use Rattle.pg_checkpoint.specs.declared.reading.Unread.{Unread}
 use Rattle.pg_checkpoint.specs.declared.reading.Unread.TheVariants.{Damaged, Memory}
 use Rattle.pg_checkpoint.proofs.Fitting.{stated, stated_fits, stated_is, stated_same}
-use Rattle.pg_part_run.specs.PartRun.{HasBegun, IsResumed}
+use Rattle.pg_part.specs.PartRun.{HasBegun, IsResumed}
 use Rattle.pg_graph.specs.Rows.{Rows}
 use Rattle.pg_graph.specs.declared.missing.Missing.{Missing as Policy}
 use Rattle.pg_model.specs.Job.{Job}

@@ -1,7 +1,7 @@
 -- Against which rows each partition goes on as events happen.
 use Rattle.std.proofs.Common.{◌≡◌, ℕ, Bool, true, false, cond, List, [], ◌∷◌, ◌++◌, Option, None, refl, ap, sym, ◌∙◌, subst}
 use Rattle.pg_core.specs.Progress.{HoldsAt, IsRightWith, Progress, has_lost, kept_for}
-use Rattle.pg_part_run.specs.PartRun.{IsSentTo}
+use Rattle.pg_part.specs.PartRun.{IsSentTo}
 use Rattle.pg_graph.specs.Rows.{Rows}
 use Rattle.pg_inbox.specs.LoggedBundle.{slot_at}
 use Rattle.pg_core_machine.specs.Machine.{Reaches, State, after_all, first_state, place_at, takes}

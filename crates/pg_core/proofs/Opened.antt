@@ -21,7 +21,7 @@ use Rattle.pg_model.specs.Job.{Combining, Job, Program}
 use Rattle.pg_model.specs.Run.{beginning, configuration, first, visible_at}
 use Rattle.pg_model.specs.Superstep.{capped, edges_of, visible_in}
 use Rattle.pg_model.specs.declared.view.Visible.{Visible}
-use Rattle.pg_part_run.specs.PartRun.{AreTouched}
+use Rattle.pg_part.specs.PartRun.{AreTouched}
 use Rattle.pg_part.specs.Part.{HoldsShare, PartState}
 use Rattle.pg_stats.specs.GlobalStats.{aggregators_of}
 

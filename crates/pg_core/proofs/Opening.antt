@@ -6,7 +6,7 @@ use Rattle.std.specs.Option.{option_map}
 use Rattle.std.proofs.lemmas.List.{get_or_append_left, get_or_push}
 use Rattle.std.proofs.lemmas.List.Sums.{sum_by-cons}
 use Rattle.pg_core.specs.Beginning.{IsFirst}
-use Rattle.pg_part_run.specs.PartRun as part_runs
+use Rattle.pg_part.specs.PartRun as part_runs
 use Rattle.pg_graph.specs.Rows.{Rows, edge_count}
 use Rattle.pg_graph.specs.declared.missing.Missing.{Missing}
 use Rattle.pg_graph_rows.specs.declared.row.Row.{Row}

@@ -12,7 +12,7 @@ use Rattle.pg_core.specs.Losing.{AreLost, IsAsFound, IsForgotten, IsOf, place_fo
 use Rattle.pg_core.specs.Progress.{HoldsAt, IsLawful, IsPartAt, IsRight, Progress, is_past, is_ready, kept_for, part_at, ready_of}
 use Rattle.pg_core.specs.declared.run_totals.RunTotals.{RunTotals}
 use Rattle.pg_core.proofs.Keeping.{IsRightWith-same, kept_more}
-use Rattle.pg_part_run.specs.PartRun.{IsSentTo}
+use Rattle.pg_part.specs.PartRun.{IsSentTo}
 use Rattle.pg_global.specs.Registry.{Registered}
 use Rattle.pg_graph.specs.Rows.{Rows}
 use Rattle.pg_inbox.specs.LoggedBundle.{Slots, slot_at}

@@ -5,7 +5,7 @@ use Rattle.pg_core_machine.specs.Limits.{AreLimits, Limits}
 use Rattle.pg_core_machine.specs.Machine.{first_state}
 use Rattle.pg_core.specs.declared.beginning.InitialCore.{InitialCore}
 use Rattle.pg_core.specs.Traces.{HasRetained}
-use Rattle.pg_part_run.specs.PartRun.{AreTouched}
+use Rattle.pg_part.specs.PartRun.{AreTouched}
 use Rattle.pg_global.specs.Master.{Master}
 use Rattle.pg_global.specs.Registry.{Registered}
 use Rattle.pg_graph.specs.Rows.{Rows, edge_count}
@@ -14,7 +14,7 @@ use Rattle.pg_model.specs.Job.{Deciding, Job, Program}
 use Rattle.pg_model.specs.Superstep.{capped, visible_in}
 use Rattle.pg_model.specs.declared.view.Visible.{Visible}
 use Rattle.pg_part.specs.Part.{HoldsShare, RetainedPartOf, PartState}
-use Rattle.pg_stats_counts.specs.MessageCounts.{AreMemberChanges}
+use Rattle.pg_stats.specs.MessageCounts.{AreMemberChanges}
 use Rattle.pg_stats.specs.GlobalStats.{aggregators_of}
 
 -- what a master shows in superstep 0 of a run on this graph, where these are the initial values

@@ -20,8 +20,8 @@ use Rattle.pg_model.specs.declared.run.Ending.{Ending}
 use Rattle.pg_model.specs.declared.view.Declared.{Declared}
 use Rattle.pg_model.specs.declared.view.Visible.{Visible}
 use Rattle.pg_part.specs.Part.{HoldsShare, PartState}
-use Rattle.pg_part_run.specs.StepInput.{IsStepInput, IsOldStepInput}
-use Rattle.pg_part_run.specs.PartRun.{IsSentTo}
+use Rattle.pg_part.specs.StepInput.{IsStepInput, IsOldStepInput}
+use Rattle.pg_part.specs.PartRun.{IsSentTo}
 
 -- what a run over partitions is made with, and where it stands: its state and its events so far; the parts that aren't
 -- away; what the partitions sent; what the master showed in each superstep up to the open one; what was counted as the

@@ -12,7 +12,7 @@ ghost use Rattle.pg_core.specs.Driving.{calls_in, losses_of};
 ghost use Rattle.pg_global.specs.Master.{has_places, is_registered, job_of};
 ghost use Rattle.pg_global.specs.Registry.{first_refusal};
 ghost use Rattle.pg_core.specs.Traces.{IsRetainedBy, KeepsRetainedRun, logs_in, visible_in};
-ghost use Rattle.pg_part_run.specs.PartRun.{AreTouched};
+ghost use Rattle.pg_part.specs.PartRun.{AreTouched};
 ghost use Rattle.std.specs.Option.{option_copied};
 ghost use Rattle.pg_graph.specs.Rows.{Rows};
 ghost use Rattle.pg_model.specs.Needed.{needed_count};

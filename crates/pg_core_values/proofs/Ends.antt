@@ -11,7 +11,7 @@ use Rattle.std.proofs.lemmas.Bool.{cases_lt, eq-eqb, eqb-true}
 use Rattle.pg_core_values.specs.Values.{Ended, HasEnded, HasShare, HaveEnded, HaveShares, KeepsEnd, apart_in, new_values, ran_between, state_by, traces_of}
 use Rattle.pg_core_values.proofs.ReadValues.{none_at, none_in_range, none_valued, rows_rise, same_state, state_is}
 use Rattle.pg_inbox.proofs.Among.{in_neither}
-use Rattle.pg_part_run.specs.PartRun.{diverged}
+use Rattle.pg_part.specs.PartRun.{diverged}
 use Rattle.pg_graph.specs.Rows.{Rows}
 use Rattle.pg_map.specs.Entries.{ChangesRise, HasRisingIds, value_at, with_changes}
 use Rattle.pg_map.proofs.Changing.{rises-changes, value_at-with_changes}

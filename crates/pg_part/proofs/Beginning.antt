@@ -3,7 +3,7 @@ use Rattle.std.proofs.Common.{◌≡◌, ℕ, ◌+◌, List, [], ◌∷◌, map,
 use Rattle.std.specs.List.{range_with_len, slice_get}
 use Rattle.std.specs.List.Sorted.{IsStrictlySortedBy}
 use Rattle.std.specs.Ordering.{nat_cmp}
-use Rattle.pg_part_run.specs.PartRun.{AreTouched}
+use Rattle.pg_part.specs.PartRun.{AreTouched}
 use Rattle.pg_part_routing.specs.Starting.{first_states}
 use Rattle.pg_part_routing.proofs.Beginning.{begun_holds}
 use Rattle.pg_global.specs.Registry.{Registered}

@@ -1,7 +1,7 @@
 -- What a partition leaves of a whole run.
 use Rattle.std.proofs.Common.{◌≡◌, ℕ, ◌≤◌, List, length, Option, arith, ◌∙◌, sym, ap, subst}
 use Rattle.std.proofs.lemmas.List.{length-take-le, take-take}
-use Rattle.pg_part_run.specs.PartRun.{PartRunState, Holds, IsWhole}
+use Rattle.pg_part.specs.PartRun.{PartRunState, Holds, IsWhole}
 use Rattle.pg_graph.specs.Rows.{Rows}
 use Rattle.pg_model.specs.Job.{Job}
 use Rattle.pg_model.specs.Run.{run_length}

@@ -1,8 +1,15 @@
 pub mod Beginning
+pub mod Both
+pub mod ColdStep
 pub mod Leaving
 pub mod Looked
 pub mod Moving
+pub mod OldStep
 pub mod Resuming
+pub mod RunBeginning
+pub mod RunResuming
+pub mod RunStepping
 pub mod Shares
 pub mod StatsHistories
 pub mod Stepping
+pub mod WarmStep

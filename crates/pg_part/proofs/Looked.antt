@@ -5,7 +5,7 @@ use Rattle.pg_graph.specs.declared.missing.Missing.{Missing}
 use Rattle.pg_inbox.specs.LoggedBundle.{Slots}
 use Rattle.pg_inbox.specs.declared.logs.LoggedBundle.{LoggedBundle}
 use Rattle.pg_part.specs.StatsHistories.{IsCountedWarm}
-use Rattle.pg_stats_counts.specs.MessageCounts.{HasMessageCountDelta}
+use Rattle.pg_stats.specs.MessageCounts.{HasMessageCountDelta}
 use Rattle.pg_stats.specs.declared.stats.VertexCounts.{VertexCounts}
 use Rattle.pg_stats.specs.declared.stats.MessageCounts.{MessageCounts}
 use Rattle.pg_trace.specs.Trace.{Trace}

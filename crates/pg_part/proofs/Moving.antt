@@ -4,11 +4,11 @@ use Rattle.std.specs.List.Sorted.{IsStrictlySortedBy}
 use Rattle.std.specs.Ordering.{nat_cmp}
 use Rattle.std.proofs.lemmas.Bool.{eqb-true}
 use Rattle.std.proofs.lemmas.List.Kept.{IsStrictlySortedBy-filter}
-use Rattle.pg_part_run.specs.PartRun.{AreTouched}
+use Rattle.pg_part.specs.PartRun.{AreTouched}
 use Rattle.pg_graph.specs.Rows.{Rows}
 use Rattle.pg_model.specs.Superstep.{has_id}
 use Rattle.pg_part.specs.MemberChanges.{member_changes_among, moves}
-use Rattle.pg_stats_counts.specs.MessageCounts.{AreMemberChanges, is_vertex}
+use Rattle.pg_stats.specs.MessageCounts.{AreMemberChanges, is_vertex}
 
 -- an id is among those that a test picks where it is among all and passes
 has_id-filter : (test : ℕ → Bool) (ids : List ℕ) (id : ℕ) → has_id (filter test ids) id ≡ (has_id ids id && test id)

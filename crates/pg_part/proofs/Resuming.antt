@@ -3,8 +3,8 @@ use Rattle.std.proofs.Common.{◌≡◌, ℕ, ◌+◌, ◌<◌, ◌≤◌, List,
 use Rattle.std.proofs.Common.{slice_index_or, refl, ap, sym, ◌∙◌, subst, subst₂, arith, add-one}
 use Rattle.std.specs.List.{AllByRecursion, slice_get}
 use Rattle.std.proofs.lemmas.List.{get_or_push, length-append, length-take-le, take-append-le, take_all}
-use Rattle.pg_part_run.specs.PartRun.{AreTheOnly, PartRunState, Holds, IsResumed, IsSentTo, with_resumed}
-use Rattle.pg_part_run.proofs.Resuming.{resumed_holds, resumed_only}
+use Rattle.pg_part.specs.PartRun.{AreTheOnly, PartRunState, Holds, IsResumed, IsSentTo, with_resumed}
+use Rattle.pg_part.proofs.RunResuming.{resumed_holds, resumed_only}
 use Rattle.pg_part_compute.proofs.Coverage.{length_below, records_held}
 use Rattle.pg_global.specs.Registry.{Registered}
 use Rattle.pg_graph.specs.Rows.{Rows}

@@ -9,7 +9,7 @@ use Rattle.std.proofs.lemmas.Bool.{cases_Bool, eqb-true}
 use Rattle.std.proofs.lemmas.Bool.Decides.{nat_tests}
 use Rattle.std.proofs.lemmas.List.Kept.{IsStrictlySortedBy-filter}
 use Rattle.std.proofs.lemmas.Simd.{map-map}
-use Rattle.pg_part_run.specs.PartRun.{HasSameTransition}
+use Rattle.pg_part.specs.PartRun.{HasSameTransition}
 use Rattle.pg_graph.specs.Rows.{HasRisingIds, Rows}
 use Rattle.pg_model.specs.ByIds.{state_at}
 use Rattle.pg_model.specs.Job.{Job}
@@ -21,8 +21,8 @@ use Rattle.pg_model.specs.declared.configuration.VertexState.{VertexState}
 use Rattle.pg_model.proofs.LawsIds.{in_order}
 use Rattle.pg_model.proofs.LawsLists.{filter-map}
 use Rattle.pg_part.specs.StatsHistories.{IsCountedWarm, AreCountsWithDelta}
-use Rattle.pg_stats_counts.specs.VertexCounts.{HasCountDelta, states_among}
-use Rattle.pg_stats_counts.proofs.LawsVertexCounts.{counted_warm_is, with_delta_is, some_of}
+use Rattle.pg_stats.specs.VertexCounts.{HasCountDelta, states_among}
+use Rattle.pg_stats.proofs.LawsVertexCounts.{counted_warm_is, with_delta_is, some_of}
 use Rattle.pg_stats.specs.Stats.{vertex_counts_of}
 use Rattle.pg_stats.specs.declared.stats.VertexCounts.{VertexCounts}
 use Rattle.pg_trace.specs.OfRun.{HoldsRun}

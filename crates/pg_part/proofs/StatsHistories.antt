@@ -5,7 +5,7 @@ use Rattle.std.specs.List.{AllByRecursion, list_all, range_with_len, slice_get}
 use Rattle.std.proofs.lemmas.Bool.{eqb-true}
 use Rattle.std.proofs.lemmas.List.{length-map}
 use Rattle.std.proofs.lemmas.Option.{slice_get-map}
-use Rattle.pg_part_run.specs.PartRun.{AreTheOnly, AreTheOnlyWarm, PartRunState, IsSentTo}
+use Rattle.pg_part.specs.PartRun.{AreTheOnly, AreTheOnlyWarm, PartRunState, IsSentTo}
 use Rattle.pg_part_routing.specs.Routes.{bundle_in, bundle_sent}
 use Rattle.pg_part_compute.proofs.Coverage.{records_held}
 use Rattle.pg_part_compute.proofs.Recording.{records_rise}
@@ -26,10 +26,10 @@ use Rattle.pg_model.specs.declared.record.Record.{Record}
 use Rattle.pg_part.specs.StatsHistories.{AreCountsWithDelta, IsStatsHistory, IsStatsHistoryWarm, IsStatsHistoryByRecords}
 use Rattle.pg_part.proofs.Shares.{all_among, vertex_counts_warm_is, vertex_counts_is, found, states_in}
 use Rattle.pg_trace_records.specs.Records.{contributions_of}
-use Rattle.pg_stats_counts.specs.Contributed.{contributed_by, contributes_alike}
-use Rattle.pg_stats_counts.specs.MessageCounts.{AreMemberChanges, HasMessageCountDelta, IsLoggedChange, message_counts_of, message_counts_recorded}
-use Rattle.pg_stats_counts.proofs.LawsOfRun.{bundle_to, contribute_the_same, gathered_of_run, same_contributions, message_counts_of_run, message_counts_recorded_of_run}
-use Rattle.pg_stats_counts.proofs.LawsMessageCounts.{message_counts_is}
+use Rattle.pg_stats.specs.Contributed.{contributed_by, contributes_alike}
+use Rattle.pg_stats.specs.MessageCounts.{AreMemberChanges, HasMessageCountDelta, IsLoggedChange, message_counts_of, message_counts_recorded}
+use Rattle.pg_stats.proofs.LawsOfRun.{bundle_to, contribute_the_same, gathered_of_run, same_contributions, message_counts_of_run, message_counts_recorded_of_run}
+use Rattle.pg_stats.proofs.LawsMessageCounts.{message_counts_is}
 use Rattle.pg_stats.specs.GlobalStats.{aggregators_of}
 use Rattle.pg_stats.specs.Stats.{vertex_counts_at, vertex_counts_of, gathered_afresh, gathered_in, stats_at, message_counts_in}
 use Rattle.pg_stats.specs.declared.stats.VertexCounts.{VertexCounts}

@@ -4,8 +4,8 @@ use Rattle.std.proofs.Common.{Option, None, Some, Ok, Result, IfOk, refl, ap, ap
 use Rattle.std.specs.List.{range_with_len, slice_get}
 use Rattle.std.proofs.lemmas.List.FromFn.{map-range_with_len_more}
 use Rattle.std.proofs.lemmas.Option.{get_or_from_slice_get}
-use Rattle.pg_part_run.specs.PartRun.{AreAllChanged, AreTheOnlyWarm, PartRunState, Holds, IsSentTo}
-use Rattle.pg_part_run.specs.StepInput.{IsOldStepInput}
+use Rattle.pg_part.specs.PartRun.{AreAllChanged, AreTheOnlyWarm, PartRunState, Holds, IsSentTo}
+use Rattle.pg_part.specs.StepInput.{IsOldStepInput}
 use Rattle.pg_global.specs.Registry.{Registered}
 use Rattle.pg_graph.specs.Rows.{Rows}
 use Rattle.pg_inbox.specs.LoggedBundle.{Slots}
@@ -16,7 +16,7 @@ use Rattle.pg_model.specs.declared.view.Visible.{Visible}
 use Rattle.pg_part.specs.Part.{HasOldStats, HasStats, PartState, stats_to}
 use Rattle.pg_part.specs.StatsHistories.{IsNextStats, IsStatsHistory, IsStatsHistoryWarm}
 use Rattle.pg_part.proofs.StatsHistories.{after_is, warm_is}
-use Rattle.pg_stats_counts.specs.MessageCounts.{AreMemberChanges}
+use Rattle.pg_stats.specs.MessageCounts.{AreMemberChanges}
 use Rattle.pg_stats.specs.GlobalStats.{aggregators_of}
 use Rattle.pg_stats.specs.Stats.{stats_at}
 use Rattle.pg_stats.specs.declared.stats.PartitionStats.{PartitionStats}

@@ -1,3 +1,7 @@
+pub mod Cold
 pub mod MemberChanges
 pub mod Part
+pub mod PartRun
 pub mod StatsHistories
+pub mod StepInput
+pub mod Warm

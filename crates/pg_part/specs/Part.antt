@@ -1,12 +1,12 @@
 -- One partition of a run at a superstep, with what it has come to.
 use Rattle.std.specs.Prelude.{◌≡◌, ℕ, ◌+◌, Bool, List, map, Option, None, Some}
 use Rattle.std.specs.List.{range_with_len}
-use Rattle.pg_part_run.specs.PartRun.{HasStepped, PartRunState, Holds, IsWhole}
+use Rattle.pg_part.specs.PartRun.{HasStepped, PartRunState, Holds, IsWhole}
 use Rattle.pg_graph.specs.Rows.{Rows}
 use Rattle.pg_inbox.specs.declared.logs.LoggedBundle.{LoggedBundle}
 use Rattle.pg_model.specs.Job.{Job}
 use Rattle.pg_model.specs.Run.{run_length}
-use Rattle.pg_stats_counts.specs.MessageCounts.{AreMemberChanges}
+use Rattle.pg_stats.specs.MessageCounts.{AreMemberChanges}
 use Rattle.pg_stats.specs.Stats.{stats_at}
 use Rattle.pg_stats.specs.declared.stats.PartitionStats.{PartitionStats}
 use Rattle.pg_trace.specs.Trace.{Trace}

@@ -1,16 +1,16 @@
 -- What a partition comes to in a superstep, by what it or an old run had come to.
 use Rattle.std.specs.Prelude.{◌≡◌, ℕ, ◌+◌, true, false, List, [], ◌∷◌, ◌++◌, map, ℤ, Option, Some}
 use Rattle.std.specs.List.{list_all, slice_get}
-use Rattle.pg_part_run.specs.PartRun.{PartRunState, diverged}
+use Rattle.pg_part.specs.PartRun.{PartRunState, diverged}
 use Rattle.pg_global.specs.Registry.{Registered}
 use Rattle.pg_graph.specs.Rows.{Rows}
 use Rattle.pg_part.specs.declared.stats_history.StatsHistory.{StatsHistory}
 use Rattle.pg_inbox.specs.LoggedBundle.{Slots}
 use Rattle.pg_inbox.specs.declared.logs.LoggedBundle.{LoggedBundle}
 use Rattle.pg_trace_records.specs.Records.{contributions_of}
-use Rattle.pg_stats_counts.specs.VertexCounts.{HasCountDelta, states_among}
-use Rattle.pg_stats_counts.specs.Contributed.{contributes_alike}
-use Rattle.pg_stats_counts.specs.MessageCounts.{HasMessageCountDelta, message_counts_of, message_counts_recorded}
+use Rattle.pg_stats.specs.VertexCounts.{HasCountDelta, states_among}
+use Rattle.pg_stats.specs.Contributed.{contributes_alike}
+use Rattle.pg_stats.specs.MessageCounts.{HasMessageCountDelta, message_counts_of, message_counts_recorded}
 use Rattle.pg_stats.specs.GlobalStats.{aggregators_of}
 use Rattle.pg_stats.specs.Stats.{vertex_counts_of, gathered_afresh}
 use Rattle.pg_stats.specs.declared.stats.VertexCounts.{VertexCounts}

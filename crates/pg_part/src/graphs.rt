@@ -1,11 +1,11 @@
 //! Which vertices two graphs don't share.
 ghost use Rattle.std.specs.Prelude.{◌≡◌, ◌++◌, ◌∷◌, [], IfOk, OnOk};
-ghost use Rattle.pg_part_run.specs.PartRun.{AreTouched};
+ghost use Rattle.pg_part.specs.PartRun.{AreTouched};
 ghost use Rattle.pg_part.specs.MemberChanges.{member_changes_among};
-ghost use Rattle.pg_stats_counts.specs.MessageCounts.{AreMemberChanges};
+ghost use Rattle.pg_stats.specs.MessageCounts.{AreMemberChanges};
 
 use pg_graph::{Graph, Memory, VertexId};
-use pg_part_run::rising;
+use pg_part_compute::rising;
 use std::alloc::Global;
 
 /// The ids that are a vertex of just one of two graphs, rising, where the graphs have the same rows outside of these

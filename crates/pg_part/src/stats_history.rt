@@ -5,19 +5,19 @@ ghost use Rattle.std.specs.Option.{option_copied};
 ghost use Rattle.pg_part.specs.StatsHistories.{HasBegunWarm, HasNextStats, HasResumedStats, IsCountedWarm, IsNextStats};
 ghost use Rattle.pg_part.specs.StatsHistories.{IsStatsHistory, IsStatsHistoryWarm, IsStatsHistoryByRecords};
 ghost use Rattle.pg_part.specs.StatsHistories.{AreCountsWithDelta, begun_with, gathered_of};
-ghost use Rattle.pg_stats_counts.specs.Contributed.{contributes_alike};
+ghost use Rattle.pg_stats.specs.Contributed.{contributes_alike};
 ghost use Rattle.pg_trace.specs.Trace.{Trace as TraceOf};
 
+use crate::PartRun;
 use pg_global::{Registry, copied};
 use pg_graph::{Graph, Memory, Superstep, VertexId};
 use pg_inbox::{LoggedBundle, Logs};
 use pg_model::Sequence;
-use pg_part_run::PartRun;
 use pg_program::Plain;
-use pg_stats::{MessageCounts, PartitionStats, VertexCounts};
-use pg_stats_counts::{
-    contribute_alike, gathered, message_counts, message_counts_recorded, message_counts_warm,
-    vertex_counts_among, vertex_counts_delta_among, with_delta,
+use pg_stats::{
+    MessageCounts, PartitionStats, VertexCounts, contribute_alike, gathered, message_counts,
+    message_counts_recorded, message_counts_warm, vertex_counts_among, vertex_counts_delta_among,
+    with_delta,
 };
 use pg_trace::Trace;
 use std::alloc::Global;

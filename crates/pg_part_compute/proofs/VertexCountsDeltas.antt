@@ -20,9 +20,9 @@ use Rattle.pg_model.specs.declared.configuration.VertexWithInbox.{VertexWithInbo
 use Rattle.pg_model.specs.declared.configuration.VertexState.{VertexState}
 use Rattle.pg_model.specs.declared.record.Record.{Record}
 use Rattle.pg_model.specs.declared.view.View.{View}
-use Rattle.pg_stats_counts.specs.VertexCounts.{IsSum, state_after}
-use Rattle.pg_stats_counts.specs.declared.vertices.VertexCountsDelta.{VertexCountsDelta}
-use Rattle.pg_stats_counts.proofs.Counting.{vertex_counts-append, same_sum}
+use Rattle.pg_stats.specs.VertexCounts.{IsSum, state_after}
+use Rattle.pg_stats.specs.declared.vertices.VertexCountsDelta.{VertexCountsDelta}
+use Rattle.pg_stats.proofs.Counting.{vertex_counts-append, same_sum}
 use Rattle.pg_part_routing.proofs.Listing.{flat_map-push}
 use Rattle.pg_stats.specs.Stats.{vertex_counts_of}
 use Rattle.pg_stats.specs.declared.stats.VertexCounts.{VertexCounts}

@@ -10,8 +10,8 @@ use Rattle.pg_model.specs.Job.{Program}
 use Rattle.pg_model.specs.declared.configuration.VertexState.{VertexState}
 use Rattle.pg_model.specs.declared.record.Record.{Record}
 use Rattle.pg_model.specs.declared.view.View.{View}
-use Rattle.pg_stats_counts.specs.VertexCounts.{state_after, states_among}
-use Rattle.pg_stats_counts.specs.declared.vertices.VertexCountsDelta.{VertexCountsDelta}
+use Rattle.pg_stats.specs.VertexCounts.{state_after, states_among}
+use Rattle.pg_stats.specs.declared.vertices.VertexCountsDelta.{VertexCountsDelta}
 use Rattle.pg_stats.specs.Stats.{vertex_counts_of}
 use Rattle.pg_trace.specs.Trace.{Trace, reaching, state_at, with_replaced}
 

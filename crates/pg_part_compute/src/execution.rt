@@ -16,7 +16,7 @@ use pg_global::{Visible, view_of};
 use pg_graph::{Memory, Superstep, VertexId};
 use pg_model::{Sequence, VertexState, VertexWithInbox, View};
 use pg_program::{Computation, Cx, EdgeRoom, Meter, Vertex};
-use pg_stats_counts::VertexCountsDelta;
+use pg_stats::VertexCountsDelta;
 use pg_trace::{Executed, Extent, RecordChanges, RecordRef, record_of};
 use std::alloc::Global;
 use std::mem;

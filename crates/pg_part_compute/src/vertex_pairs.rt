@@ -21,7 +21,7 @@ use pg_inbox::{Bundle, Inboxes, inbox, inboxes};
 use pg_model::{Sequence, VertexWithInbox};
 use pg_part_routing::PartitionOf;
 use pg_program::{Computation, Plain};
-use pg_stats_counts::VertexCountsDelta;
+use pg_stats::VertexCountsDelta;
 use pg_trace::{StateCursor, Trace};
 use std::alloc::Global;
 

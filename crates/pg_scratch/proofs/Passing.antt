@@ -20,8 +20,8 @@ use Rattle.pg_model.specs.declared.view.Declared.{Declared}
 use Rattle.pg_program.specs.Context.{Context, ShowsDeclared}
 use Rattle.pg_scratch.specs.Pass.{ran, context_after, ran_context, with_unhalted}
 use Rattle.pg_scratch.specs.Totals.{Counts, Exchanges}
-use Rattle.pg_scratch_delivery.specs.Worklist.{ListsActive}
-use Rattle.pg_scratch_delivery.proofs.LawsPlaces.{element, has_id-push}
+use Rattle.pg_scratch.specs.Worklist.{ListsActive}
+use Rattle.pg_scratch.proofs.LawsPlaces.{element, has_id-push}
 use Rattle.pg_model.proofs.LawsListed.{has_id-get_or, listed_place}
 use Rattle.pg_scratch.proofs.Executing.{ran-idle, idle_halted, context_after-idle}
 

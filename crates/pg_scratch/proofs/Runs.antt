@@ -32,7 +32,7 @@ use Rattle.pg_global.specs.Registry.{Registered, aggregating_of}
 use Rattle.pg_global.specs.declared.registry.Registration.{Registration}
 use Rattle.pg_scratch.specs.Running.{IsRunning}
 use Rattle.pg_scratch.specs.Stages.{HasStepped, IsPrepared}
-use Rattle.pg_scratch_delivery.specs.Worklist.{ListsActive}
+use Rattle.pg_scratch.specs.Worklist.{ListsActive}
 use Rattle.pg_scratch.specs.declared.superstep.Progress.{Progress}
 
 less_at : (a b : ℕ) → a < b → nat_cmp a b ≡ Less

@@ -17,17 +17,17 @@ use Rattle.pg_model.proofs.LawsIds.{IsInOrder-next, ids-next, length-gathered_fr
 use Rattle.pg_global.specs.Master.{Master}
 use Rattle.pg_global.specs.Registry.{Registered, aggregating_of}
 use Rattle.pg_global.specs.declared.registry.Registration.{Registration}
-use Rattle.pg_scratch_delivery.specs.Inbox.{with_messages}
+use Rattle.pg_scratch.specs.Inbox.{with_messages}
 use Rattle.pg_program.specs.Context.{Context}
 use Rattle.pg_scratch.specs.Pass.{ran, ran_context}
-use Rattle.pg_scratch_delivery.specs.VertexTable.{IsInPlace}
+use Rattle.pg_scratch.specs.VertexTable.{IsInPlace}
 use Rattle.pg_scratch.specs.Stages.{HasExecuted, HasStepped, IsReady}
-use Rattle.pg_scratch_delivery.specs.Received.{HasReceived}
-use Rattle.pg_scratch_delivery.specs.Worklist.{ListsActive}
-use Rattle.pg_scratch_delivery.specs.declared.vertex_table.VertexTable.{VertexTable}
+use Rattle.pg_scratch.specs.Received.{HasReceived}
+use Rattle.pg_scratch.specs.Worklist.{ListsActive}
+use Rattle.pg_scratch.specs.declared.vertex_table.VertexTable.{VertexTable}
 use Rattle.pg_scratch.specs.declared.superstep.Executed.{Executed}
 use Rattle.pg_scratch.specs.declared.superstep.Progress.{Progress}
-use Rattle.pg_scratch_delivery.specs.declared.receiving.Received.{Received}
+use Rattle.pg_scratch.specs.declared.receiving.Received.{Received}
 
 aggregators_of : (rs : Registered) → map aggregating_of (map (λ e. e.1) rs) ≡ map (λ e. aggregating_of e.1) rs
 aggregators_of [] = refl

@@ -1,4 +1,10 @@
+pub mod Arranged
+pub mod Inbox
 pub mod Pass
+pub mod Received
 pub mod Running
 pub mod Stages
 pub mod Totals
+pub mod Undeliverable
+pub mod VertexTable
+pub mod Worklist

@@ -11,8 +11,8 @@ use Rattle.pg_model.specs.declared.view.View.{View}
 use Rattle.pg_global.specs.Master.{Master, has_places}
 use Rattle.pg_global.specs.declared.registry.Registration.{Registration}
 use Rattle.pg_scratch.specs.Pass.{ran}
-use Rattle.pg_scratch_delivery.specs.Worklist.{ListsActive}
-use Rattle.pg_scratch_delivery.specs.declared.vertex_table.VertexTable.{VertexTable}
+use Rattle.pg_scratch.specs.Worklist.{ListsActive}
+use Rattle.pg_scratch.specs.declared.vertex_table.VertexTable.{VertexTable}
 use Rattle.pg_scratch.specs.declared.superstep.Executed.{Executed}
 use Rattle.pg_scratch.specs.declared.superstep.Progress.{Progress}
 

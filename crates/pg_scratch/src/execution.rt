@@ -8,13 +8,13 @@ ghost use Rattle.pg_model.specs.declared.configuration.VertexWithInbox.{VertexWi
 ghost use Rattle.pg_program.specs.Context.{ShowsDeclared};
 ghost use Rattle.pg_scratch.specs.Pass.{ran, context_after, ran_context, with_unhalted};
 ghost use Rattle.pg_scratch.specs.Totals.{Counts, Exchanges};
-ghost use Rattle.pg_scratch_delivery.specs.Worklist.{ListsActive};
+ghost use Rattle.pg_scratch.specs.Worklist.{ListsActive};
 
 use crate::totals::{exact, exchanged};
+use crate::worklist::is_active;
 use pg_graph::Memory;
 use pg_model::VertexWithInbox;
 use pg_program::{Computation, Cx, EdgeRoom, Plain, Vertex};
-use pg_scratch_delivery::is_active;
 use std::alloc::Global;
 
 /// What a pass over the vertices finds: the places of those that aren't halted then, and how many edges all

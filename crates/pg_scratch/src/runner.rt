@@ -9,15 +9,16 @@ ghost use Rattle.pg_model.specs.Superstep.{ids as ids_of, is_all_idle, capped};
 ghost use Rattle.pg_global.specs.Master.{job_of, is_registered, has_places};
 ghost use Rattle.pg_global.specs.Registry.{first_refusal, aggregating_of};
 ghost use Rattle.pg_scratch.specs.Stages.{IsPrepared};
-ghost use Rattle.pg_scratch_delivery.specs.Worklist.{ListsActive};
+ghost use Rattle.pg_scratch.specs.Worklist.{ListsActive};
 
 use crate::beginning::{initial_values, registrations_of, with_inboxes_of};
+use crate::ids::IdIndex;
 use crate::superstep::{Progress, Runner, Spare, superstep};
+use crate::worklist::is_anyone_active;
 use pg_global::{MasterCompute, MessageCombiner, RegisterFault, Registration, Registry};
 use pg_graph::{Graph, Memory, Missing, Superstep, VertexId};
 use pg_model::{Configuration, Declared, Ending, Run, Sequence, VertexState, VertexWithInbox};
 use pg_program::{Computation, Meter};
-use pg_scratch_delivery::{IdIndex, is_anyone_active};
 use std::alloc::Global;
 use thiserror::Error;
 

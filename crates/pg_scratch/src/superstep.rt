@@ -3,17 +3,19 @@ ghost use Rattle.std.specs.Prelude.{◌≡◌, ◌<◌, ◌^◌, length, IfOk};
 ghost use Rattle.pg_model.specs.Superstep.{capped, edges_of};
 ghost use Rattle.pg_program.specs.Context.{ShowsDeclared};
 ghost use Rattle.pg_global.specs.Master.{job_of};
-ghost use Rattle.pg_scratch_delivery.specs.VertexTable.{IsInPlace};
+ghost use Rattle.pg_scratch.specs.VertexTable.{IsInPlace};
 ghost use Rattle.pg_scratch.specs.Stages.{HasExecuted, HasStepped, IsReady, IsPrepared};
 
 use crate::execution::execute_all;
 use crate::gathering::gather_all;
+use crate::ids::IdIndex;
+use crate::receiving::{Received, receive};
 use crate::totals::capped_total;
+use crate::vertex_table::{VertexTable, with_waiting};
 use pg_global::{MasterCompute, MessageCombiner, Registration, view_of, visible_in};
 use pg_graph::{Memory, Missing, Superstep, VertexId};
 use pg_model::{Configuration, Place, Sequence, View};
 use pg_program::{Computation, Cx, Meter};
-use pg_scratch_delivery::{IdIndex, Received, VertexTable, receive, with_waiting};
 use std::alloc::Global;
 
 /// What a run is made with: all that stays the same in its supersteps.

@@ -18,7 +18,7 @@ use Rattle.pg_stats.specs.GlobalStats.{AreStatsBetween, AreStatsOf, aggregators_
 use Rattle.pg_stats.specs.Stats.{vertex_counts_at, sent_in, stats_at}
 use Rattle.pg_stats.specs.declared.global_stats.GlobalStats.{GlobalStats}
 use Rattle.pg_stats.specs.declared.stats.PartitionStats.{PartitionStats}
-use Rattle.pg_stats.proofs.Gathering.{GathersParts, all_gather_parts, gathered_afresh-none, gathered_from-none, gathered_in_parts, initial_values_fit}
+use Rattle.pg_stats.proofs.GatheredStats.{GathersParts, all_gather_parts, gathered_afresh-none, gathered_from-none, gathered_in_parts, initial_values_fit}
 use Rattle.pg_stats.proofs.Idle.{both_zero, is_all_idle-first, is_all_idle-next}
 use Rattle.pg_stats.proofs.Summing.{arrives, vertex_counts-unhalted, vertex_counts-edges, vertex_counts-vertices, dropped_in_shares, messages_in_shares, none_arrives}
 use Rattle.pg_stats.proofs.Summing.{sent_in_shares, sum_by-map, sum_of_sums}

@@ -1,8 +1,16 @@
 pub mod Adding
+pub mod Afresh
 pub mod Contributed
+pub mod Counting
 pub mod Cutting
-pub mod Gathering
+pub mod GatheredStats
 pub mod Idle
 pub mod LawsEnding
+pub mod LawsMessageCounts
+pub mod LawsOfRun
 pub mod LawsStats
+pub mod LawsVertexCounts
+pub mod Passing
+pub mod Recording
 pub mod Summing
+pub mod Sums

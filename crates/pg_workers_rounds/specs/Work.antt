@@ -1,8 +1,8 @@
 -- What a worker makes of its parts.
 use Rattle.std.specs.Prelude.{◌≡◌, ℕ, ◌+◌, ◌<◌, ◌^◌, Bool, true, false, List, ◌∷◌, ◌++◌, Option, All}
 use Rattle.std.specs.List.{AllZip}
-use Rattle.pg_part_run.specs.PartRun.{IsAdvanced}
-use Rattle.pg_part_run.specs.StepInput.{IsStepInput, IsOldStepInput}
+use Rattle.pg_part.specs.PartRun.{IsAdvanced}
+use Rattle.pg_part.specs.StepInput.{IsStepInput, IsOldStepInput}
 use Rattle.pg_graph.specs.Rows.{Rows}
 use Rattle.pg_model.specs.Job.{Combining, Job, Program}
 use Rattle.pg_part.specs.Part.{HasMadeStep, HoldsShare, PartState}

@@ -7,7 +7,7 @@ use crate::noting::{Noting, noting};
 use crate::part_run::{SIZES, cold_run, mixed_run, reported, warm_run};
 use pg_global::{AnyCombiner, MessageCombiner};
 use pg_graph::{Graph, PartitionId, VertexId};
-use pg_part_run::Partitioner;
+use pg_part::Partitioner;
 use pg_program::{Computation, Tally};
 use std::alloc::Global;
 use std::fmt::Write;

@@ -7,7 +7,7 @@ use pg_global::{AnyCombiner, MessageCombiner, Visible};
 use pg_graph::{Graph, Missing, PartitionId, Superstep, VertexId};
 use pg_inbox::Logs;
 use pg_model::Sequence;
-use pg_part_run::{PartRun, Partitioner, Sent};
+use pg_part::{PartRun, Partitioner, Sent};
 use pg_program::{Computation, Meter, Plain, Tally};
 use std::alloc::Global;
 use std::fmt::Write;

@@ -1,6 +1,6 @@
 // A step of a partition of a core, as whoever drives a run makes it.
 ghost use Rattle.std.specs.Prelude.{◌≤◌, ◌<◌, IfOk};
-ghost use Rattle.pg_part_run.specs.PartRun.{IsAdvanced};
+ghost use Rattle.pg_part.specs.PartRun.{IsAdvanced};
 
 use pg_core::Core;
 use pg_global::{MasterCompute, MessageCombiner};

@@ -5,7 +5,7 @@ use Rattle.pg_checkpoint.specs.Bytes.{superstep_coding}
 use Rattle.pg_checkpoint.specs.Records.{edges_behind}
 use Rattle.pg_checkpoint.proofs.Counting.{edges_are, those_taken}
 use Rattle.pg_checkpoint.proofs.Header.{same_framed, written}
-use Rattle.pg_stats_counts.specs.VertexCounts.{states_among}
+use Rattle.pg_stats.specs.VertexCounts.{states_among}
 use Rattle.pg_stats.specs.Stats.{vertex_counts_of}
 use Rattle.pg_checkpoint.proofs.checkpoint.bytes_of.Goals as goal
 

@@ -2,7 +2,7 @@ use Rattle.std.proofs.Common.{◌≡◌, ◌∙◌, ap, arith, length, sym, take
 use Rattle.std.proofs.lemmas.List.{take_all}
 use Rattle.pg_checkpoint.specs.Records.{edges_behind}
 use Rattle.pg_checkpoint.proofs.Counting.{edges_are}
-use Rattle.pg_stats_counts.specs.VertexCounts.{states_among}
+use Rattle.pg_stats.specs.VertexCounts.{states_among}
 use Rattle.pg_stats.specs.Stats.{vertex_counts_of}
 use Rattle.pg_checkpoint.proofs.vertex_counts.edges_of.Goals as goal
 

@@ -1,6 +1,6 @@
 use Rattle.std.proofs.Common.{List, ℕ, sym, subst, subst₂}
 use Rattle.pg_core.specs.Beginning.{HaveBegunWarm}
-use Rattle.pg_stats_counts.specs.MessageCounts.{AreMemberChanges}
+use Rattle.pg_stats.specs.MessageCounts.{AreMemberChanges}
 use Rattle.pg_core.proofs.beginning.begun_parts_warm.Goals as goal
 
 pub returns-clause-begun : goal.returns-clause-begun

@@ -3,7 +3,7 @@ use Rattle.std.proofs.lemmas.Result.{IfOk-weaker}
 use Rattle.pg_model.specs.Superstep.{has_id}
 use Rattle.pg_part.specs.MemberChanges.{member_changes_among}
 use Rattle.pg_part.proofs.Moving.{member_changes_are}
-use Rattle.pg_stats_counts.specs.MessageCounts.{AreMemberChanges}
+use Rattle.pg_stats.specs.MessageCounts.{AreMemberChanges}
 use Rattle.pg_part.proofs.graphs.member_changes.Goals as goal
 
 pub returns : goal.returns

@@ -2,9 +2,9 @@ use Rattle.std.proofs.Common.{get_or, ap, sym, ◌∙◌, subst₂}
 use Rattle.std.specs.Option.{option_copied}
 use Rattle.std.proofs.lemmas.Option.{get_or_from_slice_get, same_Some}
 use Rattle.std.proofs.lemmas.Result.{IfOk-weaker}
-use Rattle.pg_part_run.specs.PartRun.{diverged}
+use Rattle.pg_part.specs.PartRun.{diverged}
 use Rattle.pg_part.specs.StatsHistories.{begun_with}
-use Rattle.pg_stats_counts.specs.VertexCounts.{HasCountDelta, states_among}
+use Rattle.pg_stats.specs.VertexCounts.{HasCountDelta, states_among}
 use Rattle.pg_stats.specs.Stats.{vertex_counts_of}
 use Rattle.pg_stats.specs.declared.stats.VertexCounts.{VertexCounts}
 use Rattle.pg_trace.specs.Trace.{Trace}

@@ -2,7 +2,7 @@ use Rattle.std.proofs.Common.{◌≡◌, true, false, ap, sym, ◌∙◌, subst�
 use Rattle.std.specs.List.{list_all}
 use Rattle.pg_part.specs.StatsHistories.{gathered_of}
 use Rattle.pg_part.proofs.Looked.{counted_at, retold_at}
-use Rattle.pg_stats_counts.specs.Contributed.{contributes_alike}
+use Rattle.pg_stats.specs.Contributed.{contributes_alike}
 use Rattle.pg_part.proofs.stats_history.stats_warm.Goals as goal
 
 pub returns : goal.returns

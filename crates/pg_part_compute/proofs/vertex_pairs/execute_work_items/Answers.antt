@@ -11,8 +11,8 @@ use Rattle.pg_part_compute.specs.Found.{change_cold, reads, with_inbox_of, verte
 use Rattle.pg_part_compute.specs.Executor.{changes_of}
 use Rattle.pg_part_compute.specs.VertexCountsDeltas.{AreVertexCountsDelta, given_at, left_cold}
 use Rattle.pg_part_compute.proofs.VertexCountsDeltas.{counted_push, given_is, if_some}
-use Rattle.pg_stats_counts.specs.VertexCounts.{IsSum, state_after, states_among}
-use Rattle.pg_stats_counts.proofs.Counting.{with_push}
+use Rattle.pg_stats.specs.VertexCounts.{IsSum, state_after, states_among}
+use Rattle.pg_stats.proofs.Counting.{with_push}
 use Rattle.pg_stats.specs.Stats.{vertex_counts_of}
 use Rattle.pg_trace.specs.Trace.{state_at}
 use Rattle.pg_part_compute.specs.declared.found.VertexPair.{VertexPair}

@@ -7,7 +7,7 @@ use Rattle.pg_part_compute.specs.VertexPairs.{cold}
 use Rattle.pg_part_compute.specs.Found.{change_cold, reads}
 use Rattle.pg_part_compute.specs.Executor.{IsReady, changes_of}
 use Rattle.pg_part_compute.specs.VertexCountsDeltas.{left_cold}
-use Rattle.pg_stats_counts.specs.VertexCounts.{states_among}
+use Rattle.pg_stats.specs.VertexCounts.{states_among}
 use Rattle.pg_stats.specs.Stats.{vertex_counts_of}
 use Rattle.pg_part_compute.proofs.vertex_pairs.execute_work_items.Given as goal
 

@@ -1,7 +1,7 @@
 use Rattle.std.proofs.Common.{subst, sym, ◌∙◌, arith}
 use Rattle.std.proofs.lemmas.List.{nil_from_length}
 use Rattle.std.proofs.lemmas.Result.{IfOk-from_err}
-use Rattle.pg_scratch_delivery.specs.Worklist.{ListsActive}
+use Rattle.pg_scratch.specs.Worklist.{ListsActive}
 use Rattle.pg_model.proofs.LawsListed.{has_id-get_or}
 use Rattle.pg_scratch.proofs.Passing.{passed_first, passed_with_inboxes, passed_context, passed_lists, place_inside, still_shown, same_writes}
 use Rattle.pg_scratch.proofs.Passing.{still_fits, pass_on, known_within, nobody-with_inboxes, nobody-context, zero-from_test, positive-from_test}

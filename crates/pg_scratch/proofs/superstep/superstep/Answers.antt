@@ -7,7 +7,7 @@ use Rattle.pg_model.specs.Superstep.{capped, edges_of, ids, visible_in, view_of,
 use Rattle.pg_model.specs.declared.view.Declared.{Declared}
 use Rattle.pg_model.specs.declared.configuration.VertexWithInbox.{VertexWithInbox}
 use Rattle.pg_global.specs.Master.{job_of}
-use Rattle.pg_scratch_delivery.specs.Worklist.{ListsActive}
+use Rattle.pg_scratch.specs.Worklist.{ListsActive}
 use Rattle.pg_scratch.proofs.Edges.{edges-made}
 use Rattle.pg_scratch.proofs.Stepping.{shown_in}
 use Rattle.pg_scratch.proofs.Whole.{executed_ids, executed_empty, aggregators-registered, as_many-registered, stepped}

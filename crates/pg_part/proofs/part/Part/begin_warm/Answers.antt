@@ -1,11 +1,11 @@
 use Rattle.std.proofs.Common.{ap, sym, ◌∙◌, ◌∷◌, [], subst, arith, ◌≤◌}
 use Rattle.std.specs.List.{slice_get}
 use Rattle.std.proofs.lemmas.Result.{IfOk-from_err}
-use Rattle.pg_part_run.specs.PartRun.{IsWhole, diverged}
+use Rattle.pg_part.specs.PartRun.{IsWhole, diverged}
 use Rattle.pg_model.specs.Run.{run_length}
 use Rattle.pg_part.proofs.Beginning.{begun_stats, counts_with_delta_is}
 use Rattle.pg_part.proofs.Stepping.{stats_of}
-use Rattle.pg_stats_counts.specs.MessageCounts.{AreMemberChanges}
+use Rattle.pg_stats.specs.MessageCounts.{AreMemberChanges}
 use Rattle.pg_stats.specs.Stats.{stats_at}
 use Rattle.pg_part.proofs.part.Part.begin_warm.Goals as goal
 

@@ -1,8 +1,8 @@
 use Rattle.std.proofs.Common.{◌≡◌, ◌≤◌, ◌++◌, [], ◌∷◌, None, length, map, ap, sym, ◌∙◌, subst, arith, append_assoc}
 use Rattle.std.proofs.lemmas.List.{length-map, length_push, map-append, nil_from_length}
 use Rattle.std.proofs.lemmas.Result.{IfOk-from_err}
-use Rattle.pg_part_run.specs.PartRun.{IsResumed}
-use Rattle.pg_part_run.proofs.Resuming.{resumed_more, resumed_none}
+use Rattle.pg_part.specs.PartRun.{IsResumed}
+use Rattle.pg_part.proofs.RunResuming.{resumed_more, resumed_none}
 use Rattle.pg_map.specs.Entries.{HasRisingIds}
 use Rattle.pg_map.proofs.Moved.{moved_all}
 use Rattle.pg_model.specs.Run.{run_length}

@@ -1,5 +1,5 @@
 use Rattle.std.proofs.Common.{◌≡◌, ℕ, ◌≤◌, ◌++◌, None, length, map}
-use Rattle.pg_part_run.specs.PartRun.{IsResumed}
+use Rattle.pg_part.specs.PartRun.{IsResumed}
 use Rattle.pg_graph.specs.Rows.{Rows}
 use Rattle.pg_model.specs.Job.{Job}
 use Rattle.pg_model.specs.Run.{run_length}

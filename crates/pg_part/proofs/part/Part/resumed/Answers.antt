@@ -1,7 +1,7 @@
 use Rattle.std.proofs.Common.{◌≡◌, ℕ, ◌+◌, [], ◌∷◌, ◌++◌, length, ap, sym, ◌∙◌, subst}
 use Rattle.std.proofs.lemmas.List.{length_push}
 use Rattle.std.proofs.lemmas.Result.{IfOk-from_err}
-use Rattle.pg_part_run.specs.PartRun.{with_resumed}
+use Rattle.pg_part.specs.PartRun.{with_resumed}
 use Rattle.pg_part.proofs.Resuming.{recorded_at, resumed_one}
 use Rattle.pg_part.proofs.part.Part.resumed.Goals as goal
 

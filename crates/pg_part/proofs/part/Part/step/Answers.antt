@@ -2,7 +2,7 @@ use Rattle.std.proofs.Common.{◌≡◌, ℕ, ◌+◌, ◌^◌, ◌<◌, ◌≤�
 use Rattle.std.proofs.lemmas.List.{length_push}
 use Rattle.std.proofs.lemmas.Result.{IfOk-from_err}
 use Rattle.std.specs.Prelude.{Err, IfErr, Ok, Result}
-use Rattle.pg_part_run.specs.PartRun.{HasStepped, Holds, IsAdvanced}
+use Rattle.pg_part.specs.PartRun.{HasStepped, Holds, IsAdvanced}
 use Rattle.pg_part.proofs.Stepping.{has_next, next_is, next_stats_at, ok_of}
 use Rattle.pg_part.proofs.part.Part.step.Goals as goal
 

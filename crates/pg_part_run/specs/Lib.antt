@@ -1,4 +1,0 @@
-pub mod Cold
-pub mod PartRun
-pub mod StepInput
-pub mod Warm

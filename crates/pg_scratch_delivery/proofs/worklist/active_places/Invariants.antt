@@ -1,5 +1,0 @@
-use Rattle.pg_scratch_delivery.proofs.ActivePlaces.{FoundBelow}
-use Rattle.pg_scratch_delivery.proofs.worklist.active_places.Given as goal
-
-abbrev pub invariant-loop-place : goal.invariant-loop-place
-invariant-loop-place g l = FoundBelow l.with_inboxes l.place l.places.items

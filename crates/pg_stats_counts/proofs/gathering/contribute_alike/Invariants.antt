@@ -1,8 +1,0 @@
-use Rattle.std.proofs.Common.{◌≡◌, drop}
-use Rattle.std.specs.List.{list_all}
-use Rattle.pg_stats_counts.specs.Contributed.{contributes_alike}
-use Rattle.pg_stats_counts.proofs.gathering.contribute_alike.Given as goal
-
-abbrev pub invariant-loop-id : goal.invariant-loop-id
-invariant-loop-id g l =
-    list_all (contributes_alike l.old l.new l.superstep) (drop l.id-index l.ids) ≡ list_all (contributes_alike l.old l.new l.superstep) l.ids

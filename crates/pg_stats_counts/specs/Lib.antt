@@ -1,3 +1,0 @@
-pub mod Contributed
-pub mod MessageCounts
-pub mod VertexCounts
