@@ -2,12 +2,11 @@
 ghost use Rattle.std.specs.Prelude.{◌≡◌, IfOk};
 ghost use Rattle.std.specs.List.Sorted.{IsNonDecreasingBy};
 ghost use Rattle.std.specs.Option.{option_map};
-ghost use Rattle.pg_map.specs.Entries.{HasRisingIds, value_at};
+ghost use Rattle.pg_map.specs.Entries.{value_at};
 ghost use Rattle.pg_trace_index.specs.Occurrences.{last_of, steps_below, steps_in};
 
 use crate::chain::Occurrences;
 use crate::log::{Log, LogCursor};
-use crate::maps::ids_rise;
 use crate::ran::Occurrence;
 use crate::steps::Steps;
 use pg_graph::{Memory, VertexId};
@@ -149,16 +148,6 @@ impl Base {
         }
     }
 
-    /// Tells the prover that the ids rise.
-    pub(crate) fn ids_rise(&self)
-        ensures { HasRisingIds self.now }
-    {
-        match &self.lies {
-            Lies::InMap(map) => ids_rise(map),
-            Lies::InLog(log) => log.ids_rise(),
-        }
-    }
-
     /// The map of the steps, for which the base is used up. It costs O(1) where they lie in one, and else O(1) a run.
     pub(crate) fn into_map(self, alloc: Global) -> Result<Map<Steps>, Memory>
         ensures { IfOk result (λ map. map ≡ self) }
@@ -185,7 +174,6 @@ impl Base {
 fn map_of(alloc: Global, log: &Log) -> Result<Map<Steps>, Memory>
     ensures { IfOk result (λ map. map ≡ log.now) }
 {
-    log.ids_rise();
     let entries = log.listed(alloc)?;
     Map::from_rising(alloc, entries)
 }

@@ -1,6 +1,6 @@
 //! The index: in which supersteps each vertex ran.
 ghost use Rattle.std.specs.Prelude.{◌≡◌, [], IfOk};
-ghost use Rattle.pg_map.specs.Entries.{ChangesRise, with_changes};
+ghost use Rattle.pg_map.specs.Entries.{ChangesRise, HasRisingIds, with_changes};
 ghost use Rattle.pg_trace_index.specs.Chunks.{AreSound, all_of};
 ghost use Rattle.pg_trace_index.specs.Occurrences.{IsNoted, StepsRise};
 
@@ -58,6 +58,7 @@ impl Index {
 
     /// An index with no notes.
     fn of(alloc: Global, ran: Map<Steps>) -> Index
+        requires { HasRisingIds ran }
         ensures { result ≡ ran }
     {
         Index::over(Base::in_map(ran), Vec::new(alloc))
@@ -65,10 +66,10 @@ impl Index {
 
     /// An index of notes over a map or a log.
     fn over(base: Base, overlay: Overlay) -> Index
-        requires { AreSound overlay.items }
+        requires rising { HasRisingIds base }
+        requires sound { AreSound overlay.items }
         ensures { result ≡ with_changes (all_of overlay.items) base }
     {
-        base.ids_rise();
         Index { base, overlay }
     }
 

@@ -123,16 +123,10 @@ impl Log {
         LogCursor::of(self.last.as_slice(), self.earlier.as_slice())
     }
 
-    /// Tells the prover that the ids rise.
-    pub(crate) fn ids_rise(&self)
-        ensures { HasRisingIds self.now }
-    {
-        let _count = self.last.len();
-    }
-
     /// The runs of each vertex, by rising id, side by side in one list that all share. It costs O(1) a run.
     pub(crate) fn listed(&self, alloc: Global) -> Result<Vec<(VertexId, Steps)>, Memory>
-        ensures { IfOk result (λ listed. listed.items ≡ self.now) }
+        ensures listed { IfOk result (λ listed. listed.items ≡ self.now) }
+        ensures rising { HasRisingIds self.now }
     {
         listed(alloc, self.last.as_slice(), self.earlier.as_slice())
     }

@@ -14,7 +14,8 @@ pub(crate) fn changed<X: CheapClone>(
     changes: Vec<(VertexId, Option<X>)>,
 ) -> Result<Map<X>, Memory>
     requires { ChangesRise changes.items }
-    ensures { IfOk result (λ after. after ≡ with_changes changes.items map) }
+    ensures map { IfOk result (λ after. after ≡ with_changes changes.items map) }
+    ensures rising { IfOk result (λ after. HasRisingIds after) }
 {
     let mut map = map;
     if map.len() == 0 {
@@ -42,11 +43,4 @@ fn fresh<X: CheapClone>(
         }
     }
     Map::from_rising(alloc, there)
-}
-
-/// Tells the prover that a map's ids rise.
-pub(crate) fn ids_rise<X>(map: &Map<X>)
-    ensures { HasRisingIds map.now }
-{
-    let _count = map.len();
 }

@@ -35,13 +35,13 @@ pub(crate) fn note_over(
     given: &[(VertexId, Option<u32>)],
 ) -> Result<(), Memory>
     requires rise { ChangesRise given.now }
+    requires rising { HasRisingIds base.now }
     requires sound { AreSound overlay.old.items }
     requires steps { StepsRise (with_changes (all_of overlay.old.items) base.now) }
     ensures sound { OnOk result (AreSound overlay.new.items) }
     ensures noted { OnOk result (IsNoted superstep given.now
         (with_changes (all_of overlay.old.items) base.now) (with_changes (all_of overlay.new.items) base.now)) }
 {
-    base.ids_rise();
     let mut cursor = base.cursor();
     let mut near = 0;
     for (id, given) in given {
@@ -77,6 +77,7 @@ pub(crate) fn note_in_log(
     ensures sound { OnOk result (AreSound overlay.new.items) }
     ensures noted { IfOk result (λ after. IsNoted superstep given.now
         (with_changes (all_of overlay.old.items) log) (with_changes (all_of overlay.new.items) after)) }
+    ensures rising { IfOk result (λ after. HasRisingIds after) }
 {
     let Log {
         mut last,

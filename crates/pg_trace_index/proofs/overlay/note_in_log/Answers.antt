@@ -1,8 +1,9 @@
 use Rattle.std.proofs.Common.{sym, subst}
 use Rattle.std.specs.List.Sorted.{IsNonDecreasingBy}
-use Rattle.pg_map.specs.Entries.{with_changes}
+use Rattle.pg_map.specs.Entries.{HasRisingIds, with_changes}
 use Rattle.pg_trace_index.specs.Chunks.{all_of}
 use Rattle.pg_trace_index.specs.LogEntry.{chains}
+use Rattle.pg_trace_index.proofs.Chains.{chains_rise}
 use Rattle.pg_trace_index.proofs.InPlace.{noted_more, unsaid}
 use Rattle.pg_trace_index.proofs.overlay.note_in_log.Goals as goal
 
@@ -29,3 +30,6 @@ loop-id-preserved c =
       log = c.in_ok-note_one.ensures.log;
       within = c.in_ok-note_one.ensures.within;
     }
+
+pub returns-clause-rising : goal.returns-clause-rising
+returns-clause-rising c = chains_rise c.loop-id.earlier.items (all_of c.loop-id.last.items) c.loop-id.invariant.log.rise

@@ -13,7 +13,7 @@ note_of-requires c =
     let ran = with_changes (all_of c.args.overlay.now.items) base in
     let now = with_changes (all_of c.loop-id.overlay.items) base in
     record {
-      rising = subst HasRisingIds (sym c.loop-id.invariant.same) c.ids_rise.ensures;
+      rising = subst HasRisingIds (sym c.loop-id.invariant.same) c.requires.rising;
       sound = c.loop-id.invariant.sound;
       steps = subst (λ l. IsNonDecreasingBy (λ t. t) (steps_in (value_at e.0 (with_changes (all_of c.loop-id.overlay.items) l)))) (sym c.loop-id.invariant.same)
           (subst (IsNonDecreasingBy (λ t. t))
