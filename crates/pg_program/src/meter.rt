@@ -14,6 +14,8 @@ impl Model for Meter {
     ghost Value = { ℕ };
 
     ghost view = { λ m. m.count };
+
+    ghost invariant = { λ m. m.count < 2 ^ 64 };
 }
 
 impl Meter {
