@@ -177,8 +177,6 @@ fn begun_with<P: Computation>(
         graph.now touched.now member_changes.now retained_parts.items limits.partitions limits.partitions parts.items) }
 {
     let partitioner = partitioner_of(limits);
-    // Tells the prover that there are at most 64.
-    partitioner.partitions();
     let mut parts = Vec::new(alloc);
     let mut partition = 0u32;
     for retained in retained_parts {

@@ -23,8 +23,6 @@ impl<'a, P: Computation, C: MessageCombiner<P::Message>, M: MasterCompute> Core<
     pub fn may_close(&self) -> bool
         ensures { result ≡ is_allowed self.now.state (Event.Close Closed.Next) }
     {
-        // Tells the prover the most that it may be.
-        self.limits.limit();
         self.state.may_close()
     }
 
@@ -51,8 +49,6 @@ impl<'a, P: Computation, C: MessageCombiner<P::Message>, M: MasterCompute> Core<
             → AreStatsBetween (configuration job self.now.graph self.now.state.current)
             (configuration job self.now.graph (self.now.state.current + 1)) stats) }
     {
-        // Tells the prover that there are some partitions.
-        self.limits.limit();
         let visible = self.visible(self.state.current());
         let seen = visible.values.as_slice();
         let stats = combined_stats(alloc, &self.registry, seen, self.parts.as_slice())?;
@@ -107,8 +103,6 @@ impl<'a, P: Computation, C: MessageCombiner<P::Message>, M: MasterCompute> Core<
         requires places { length run_totals.gathered ≡ length (M.master self.old.master).registrations }
         ensures { OnOk result (self.new ≡ with_end ending run_totals self.old) }
     {
-        // Tells the prover the most that it may be.
-        self.limits.limit();
         self.history.push(Event::Close(Closed::Ended))?;
         self.state.close(Closed::Ended);
         self.run_totals = run_totals;
@@ -147,8 +141,6 @@ impl<'a, P: Computation, C: MessageCombiner<P::Message>, M: MasterCompute> Core<
         ensures value { result ≡ self.now.state.current + 1 }
         ensures small { result ≤ 10000 }
     {
-        // Tells the prover the most that it may be.
-        self.limits.limit();
         Superstep::new(self.state.current().number() + 1)
     }
 }

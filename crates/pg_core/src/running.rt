@@ -310,8 +310,6 @@ impl<'a, P: Computation, C: MessageCombiner<P::Message>, M: MasterCompute> Core<
             (kept : Option Rows) → IsRight job kept self.old
             → IsRight job kept self.new × HasStepInput job kept self.old partition result.part_run.place result }
     {
-        // Tells the prover the least and the most that they may be.
-        self.limits.limit();
         self.parts[partition.number() as usize].take().unwrap()
     }
 
@@ -498,6 +496,7 @@ pub(crate) fn put_all<M: Plain>(
 pub(crate) fn partitioner_of(limits: Limits) -> Partitioner
     ensures value { result ≡ limits.partitions }
     ensures some { 0 < limits.partitions }
+    ensures most { limits.partitions ≤ 64 }
 {
     Partitioner::new(limits.partitions()).unwrap()
 }

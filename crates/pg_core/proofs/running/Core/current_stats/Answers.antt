@@ -38,7 +38,7 @@ returns-clause-right g c kept right =
     let stays =
     subst (λ core. (p r : ℕ) → place_at p core.state ≡ Some r → core.state.current < r → IsSome (part_at p core))
     c.self.view_is c.self.invariant.stays in
-    let some = subst (λ core. 0 < core.limits.partitions) c.self.view_is c.limit.ensures.are.partitions_least in
+    let some = subst (λ core. 0 < core.limits.partitions) c.self.view_is c.self.invariant.limits_are.partitions_least in
     let now = c.current.ensures ∙ ap (λ core. core.state.current) c.self.view_is in
     let registry_is = c.self.invariant.registry_is ∙ ap (λ core. (master core.master).registrations) c.self.view_is in
     let parts_are = c.as_slice.ensures.value ∙ ap (λ core. core.parts) c.self.view_is in

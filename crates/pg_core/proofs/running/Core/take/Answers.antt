@@ -105,5 +105,5 @@ returns-clause-reached g c =
 pub returns-clause-small : goal.returns-clause-small
 returns-clause-small g c =
     let within = subst (λ core. core.state.current < core.limits.limit) c.self.view_is c.self.invariant.within in
-    let most = subst (λ core. core.limits.limit ≤ 10000) c.self.view_is c.limit.ensures.are.limit_most in
+    let most = subst (λ core. core.limits.limit ≤ 10000) c.self.view_is c.self.invariant.limits_are.limit_most in
     omega (arith, within, most)
