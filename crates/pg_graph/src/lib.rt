@@ -12,5 +12,7 @@ pub use batch::Batch;
 pub use graph::Graph;
 pub use missing::Missing;
 pub use pg_graph_rows::{Edges, Edit, EditFault, EditKind, Row};
-pub use pg_map::{Cursor, Edition, Ids, Iter, PartitionId, Superstep, VertexId, WorkerId, checked_u32};
+pub use pg_map::{
+    Cursor, Edition, Ids, Iter, PartitionId, Superstep, VertexId, WorkerId, checked_u32,
+};
 pub use std::alloc::AllocError as Memory;
