@@ -30,7 +30,7 @@ IsSound draft = IsCounted draft.graph.now draft.changes.entries draft.vertices d
 abbrev pub BecomesBy : Edit → Rows × Rows → Rows × Rows → Type 0
 BecomesBy edit before after = (after.0 ≡ before.0) × (edited before.1 edit ≡ Ok after.1)
 
--- want of memory, or why the edit has no result there
+-- out of memory, or why the edit has no result there
 abbrev pub RefusesEdit : Edit → Rows × Rows → EditKind → Type 0
 RefusesEdit edit before kind = (kind ≡ Memory) ⊎ (edited before.1 edit ≡ Err kind)
 

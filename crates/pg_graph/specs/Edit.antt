@@ -71,6 +71,6 @@ batch_edited rows edits =
 abbrev pub too_long_fault : EditFault
 too_long_fault = record { position = batch_limit + 1; kind = BatchTooLong }
 
--- want of memory, or the fault of the batch
+-- out of memory, or the fault of the batch
 abbrev pub RefusesBatch : Rows → List Edit → EditFault → Type 0
 RefusesBatch rows edits fault = (fault ≡ memory_fault) ⊎ (batch_edited rows edits ≡ Err fault)

@@ -30,7 +30,7 @@ pub(crate) struct RowChanges {
 }
 
 /// A graph with edits that aren't made of it yet. Each costs O(log(n + k)) for n vertices and k changed
-/// ones, and O(log d) where it edits one of d edges. Beside that, all edits of the edges of one vertex
+/// ones, and O(log d) where it edits one of d edges. In addition all edits of the edges of one vertex
 /// cost O(d log d) together. A contract sees the graph, and what the edits have made of it.
 #[derive(Drop)]
 pub(crate) struct Draft<'a> {

@@ -2,6 +2,6 @@
 use Rattle.pg_graph_rows.specs.declared.edit.EditFault.{EditFault}
 use Rattle.pg_graph_rows.specs.declared.edit.EditKind.TheVariants.{Memory}
 
--- want of memory, which is no edit's fault
+-- out of memory, which is no edit's fault
 abbrev pub memory_fault : EditFault
 memory_fault = record { position = 0; kind = Memory }

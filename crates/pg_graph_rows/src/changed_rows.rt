@@ -50,9 +50,9 @@ impl Model for ChangedRows {
 }
 
 impl ChangedRows {
-    /// None yet, with room for so many. Whether the edges of rows are gathered in common lists is told by `gathers`:
-    /// such a list stays until none of its rows is left, so that is for changes of many rows, which lead to rows being
-    /// laid anew before long.
+    /// None yet, with room for so many. With `gathers` the edges of rows are gathered in common lists. Such a list
+    /// stays until none of its rows is left, so this is for changes of many rows, which lead to rows being laid anew
+    /// before long.
     pub fn new(alloc: Global, rows: usize, gathers: bool) -> Result<ChangedRows, Memory>
         ensures { IfOk result (λ changed. changed ≡ []) }
     {

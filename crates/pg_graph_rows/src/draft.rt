@@ -84,8 +84,8 @@ impl DraftEdges {
     }
 }
 
-/// A row that is being edited. With d edges, all edits of it together cost O(d log d), and each of
-/// them O(log d) beside. A contract sees the row.
+/// A row that is being edited. With d edges, all edits of it together cost O(d log d), and each of them O(log d) more.
+/// A contract sees the row.
 pub struct DraftRow {
     input: i64,
     edges: DraftEdges,

@@ -16,7 +16,7 @@ const STEPS: usize = 16;
 /// Looks up ids in a map. Where an id lies from the first to the last of the chunk that was asked last, no other chunk
 /// is looked at. Where no id is missing from the first of a chunk up to the last, or up to this one, or it is past all
 /// of a chunk without gaps, it costs a step; where an id lies a few entries after the one before, a step for each; and
-/// elsewhere in the same chunk a search in that one alone.
+/// elsewhere in the same chunk a search in that one.
 ///
 /// A contract sees the entries of the map.
 #[derive(Drop)]
@@ -186,9 +186,9 @@ pub(crate) fn count_below<V>(entries: &[(VertexId, V)], before: usize, id: Verte
     }
 }
 
-/// How many of these entries are below an id, found by looking at the entries near it. Tested first is how far the id is
-/// from that of the first, which is the answer where no id is missing between them, or all of them where it is as far or
-/// farther; then the count before, or a few more; then it is searched for.
+/// How many of these entries are below an id, found by looking at the entries near it. Tested first is how far the id
+/// is from that of the first, which is the answer where no id is missing between them, or all of them where it is as
+/// far or farther; then the count before, or a few more; then it is searched for.
 fn count_searched<V>(entries: &[(VertexId, V)], before: usize, id: VertexId) -> usize
     requires { HasRisingIds entries.now }
     ensures { IsPartitionPoint (λ e. nat_lt e.0 id ≡ true) (λ e. nat_lt e.0 id ≡ false) entries.now result }

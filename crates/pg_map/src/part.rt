@@ -8,7 +8,7 @@ use std::alloc::{AllocError, Global};
 use std::sync::Arc;
 
 /// Some entries of a map, at least one, in what copies share. A part knows its first id and how many
-/// entries it has, so a search or a count among parts reads one vector alone.
+/// entries it has, so a search or a count among parts reads one vector.
 #[derive(Drop)]
 pub(crate) struct Node<T> {
     pub(crate) first: VertexId,

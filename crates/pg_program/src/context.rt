@@ -45,8 +45,8 @@ impl<M: Drop> Cx<M> {
         Cx::with_room(view, declared, meter, sent, contributed)
     }
 
-    /// A context as `new` makes it, where what is sent and contributed takes the memory of these lists, whose values are
-    /// let go of. So contexts that follow one another need not grow anew.
+    /// A context as `new` makes it, where what is sent and contributed takes the memory of these lists, whose values
+    /// are let go of. So contexts that follow one another need not grow anew.
     pub fn with_room(
         view: View,
         declared: Declared,
