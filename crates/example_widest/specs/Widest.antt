@@ -29,7 +29,7 @@ no_path = least_number
 abbrev pub no_edge : ℤ
 no_edge = greatest_number
 
--- an execution: where a wider path has come, it is kept, told along the edges, and at the target
+-- an execution: where a wider path has come, it is kept, sent along the edges, and at the target
 -- also to the aggregator
 unfoldable pub widest_step : ℕ → ℕ → Inputs ℤ ℤ → Record ℤ ℤ
 widest_step source target i =
@@ -63,7 +63,7 @@ halts_at enough s totals gathered =
 abbrev pub widest_master : ℤ → Master
 widest_master enough = record { registrations = found; deciding = halts_at enough }
 
--- what a service of a search runs: a vertex gets the greatest of its messages alone
+-- what a service of a search runs: a vertex gets only the greatest of its messages
 abbrev pub searched : Search → Limits → ServiceJob Widest AnyCombiner WidestMaster
 searched search limits = record {
   program = record { source = search.source; target = search.target };

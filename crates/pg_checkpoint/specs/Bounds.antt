@@ -15,7 +15,8 @@ use Rattle.pg_model.specs.Share.{belongs}
 use Rattle.pg_model.specs.declared.record.Record.{Record}
 use Rattle.pg_part_routing.specs.Starting.{PartRows}
 
--- the vertices of the partition, what becomes of messages to nobody, and the places to which the program contributes
+-- the vertices of the partition, what becomes of undeliverable messages, and the places to which the program
+-- contributes
 pub record Limits : Type 0 where
   pub rows : PartRows
   pub missing : Missing

@@ -44,11 +44,11 @@ module _ {V M : Type 0} (value : V → List ℕ) (message : M → List ℕ) wher
       natural_coding run ++ (half_coding partition ++ (half_coding (length records)
       ++ (natural_coding edges ++ flat_map superstep_coding records)))
 
--- four letters, how many bytes the whole has, and the rest
+-- four characters, how many bytes the whole has, and the rest
 abbrev pub framed : List ℕ → List ℕ → List ℕ
 framed magic rest = magic ++ (natural_coding (12 + length rest) ++ rest)
 
--- the letters PGC1, and PGC2
+-- the magic PGC1, and PGC2
 abbrev pub first_magic : List ℕ
 first_magic = 80 ∷ 71 ∷ 67 ∷ 49 ∷ []
 

@@ -1,4 +1,4 @@
--- What the bytes of a checkpoint say, and what it is to be told it.
+-- What the bytes of a checkpoint say, and what it is to read it.
 use Rattle.std.specs.Prelude.{◌≡◌, ℕ, ◌<◌, ◌^◌, ◌++◌, List, [], map, Option, None, Some, IfSome, Result, Ok, Err}
 use Rattle.std.specs.List.{flat_map}
 use Rattle.pg_checkpoint.specs.Bytes.{first_coding, second_coding}
@@ -22,7 +22,7 @@ record_of p =
 abbrev pub records_of : {V M : Type 0} → List (List (RecordParts V M)) → Supersteps V M
 records_of supersteps = map (λ parts. map record_of parts) supersteps
 
--- how many out-edges there are, in format 2 alone
+-- how many out-edges there are, only in format 2
 abbrev pub edges_coding : Option ℕ → List ℕ
 edges_coding None = []
 edges_coding (Some edges) = natural_coding edges
@@ -33,7 +33,7 @@ module _ {V M : Type 0} (value : V → List ℕ) (message : M → List ℕ) wher
   rest_coding contents =
       edges_coding contents.edges ++ flat_map (list_coding (parts_coding value message)) contents.supersteps
 
--- the letters with which the format begins, as a number
+-- the magic with which the format begins, as a number
 abbrev pub magic_of : Option ℕ → ℕ
 magic_of None = 826492752
 magic_of (Some edges) = 843269968

@@ -1,7 +1,7 @@
--- What it is to test a number that may be told.
+-- What it is to test a number that may be stated.
 use Rattle.std.specs.Prelude.{◌≡◌, ℕ, ◌<◌, ◌^◌, Bool, false, true, Option, None, Some}
 
--- where a number is told, it is this one, which fits eight bytes, or it is not
+-- where a number is stated, it is this one, which fits eight bytes, or it is not
 abbrev pub IsCount : Option ℕ → ℕ → Bool → Type 0
 IsCount None n is = is ≡ true
 IsCount (Some stated) n true = stated ≡ n

@@ -16,7 +16,7 @@ use Rattle.pg_model.specs.declared.configuration.VertexState.{VertexState}
 use Rattle.pg_part.specs.Part.{HoldsShare, PartState}
 use Rattle.pg_part_routing.specs.Starting.{PartRows, first_states}
 
--- the letter p, and the number of the partition in decimal
+-- a p, and the number of the partition in decimal
 abbrev pub key_of : ℕ → List ℕ
 key_of partition = 112 ∷ decimal partition
 

@@ -34,7 +34,7 @@ pub fn save<V: Coded, M: Coded, S: Shelf>(
     shelf.put(key.as_bytes(), bytes.as_slice())
 }
 
-/// The key of a partition: the letter p, and its number in decimal.
+/// The key of a partition: a `p`, and its number in decimal.
 pub(crate) fn key_of(alloc: Global, partition: PartitionId) -> Result<String, Memory>
     ensures { IfOk result (λ key. string_bytes key ≡ key_of partition) }
 {

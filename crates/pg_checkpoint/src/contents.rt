@@ -8,10 +8,10 @@ use pg_model::Sequence;
 use pg_program::Coded;
 use std::alloc::Global;
 
-/// The letters PGC1 of format 1, as the number that their bytes are.
+/// The magic PGC1 of format 1, as the number that its bytes are.
 const FIRST: u32 = 0x3143_4750;
 
-/// The letters PGC2 of format 2.
+/// The magic PGC2 of format 2.
 const SECOND: u32 = 0x3243_4750;
 
 /// What a checkpoint holds of a run of a partition.

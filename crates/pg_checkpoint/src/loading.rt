@@ -137,7 +137,7 @@ fn taken<V: Coded, M: Coded, P: Computation<Value = V, Message = M>>(
     }
 }
 
-/// Whether this is how many out-edges the vertices of a trace have behind its supersteps, if it is told.
+/// Whether this is how many out-edges the vertices of a trace have behind its supersteps, if it is stated.
 fn is_count<V: Plain, M: Plain>(
     alloc: Global,
     edges: Option<u64>,

@@ -45,7 +45,7 @@ pub struct RecordParts<V, M> {
 /// What stands at the beginning of a checkpoint in both formats.
 #[derive(Clone, Copy)]
 pub struct Opening {
-    /// The four letters, as a number.
+    /// The magic, as a number.
     pub magic: u32,
     /// How many bytes the checkpoint has.
     pub len: u64,

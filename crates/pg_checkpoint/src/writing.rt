@@ -12,7 +12,7 @@ use pg_program::{Coded, Plain};
 use pg_trace::{RecordRef, Trace};
 use std::alloc::Global;
 
-/// The letters PGC2, with which format 2 begins.
+/// The magic PGC2, with which format 2 begins.
 pub(crate) const SECOND: [u8; 4] = [0x50, 0x47, 0x43, 0x32];
 
 /// What stands before the supersteps in format 2.

@@ -211,7 +211,7 @@ module _ {P C A V M : Type 0} where
       (r : ℕ) → place_at p core.state ≡ Some r
       → IsStepFrom job (kept_for kept core p) core.graph core.limits.partitions p r part sent
 
-  -- what a step of partition p from r is lent of the run, against the run that is kept for it, if any, and the part
+  -- what a step of partition p from r borrows of the run, against the run that is kept for it, if any, and the part
   -- that makes it
   pub record HasStepInput (job : Job V M) (kept : Option Rows) (core : Progress P C A V M) (p r : ℕ)
       (part : PartState V M) : Type 0 where

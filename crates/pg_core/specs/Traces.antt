@@ -23,7 +23,7 @@ pub record Traces (V M : Type 0) : Type 0 where
   pub graph : Rows
   pub retained_run : RetainedRun V M
 
--- what a step in superstep s is lent of a kept run: its logs and what was visible, where that run has the superstep
+-- what a step in superstep s borrows of a kept run: its logs and what was visible, where that run has the superstep
 abbrev pub logs_in : {V M : Type 0} → ℕ → Option (RetainedRun V M) → Option (Slots M)
 logs_in s None = None
 logs_in s (Some kept) = cond (nat_lt s (length kept.shown)) (Some kept.logs) None

@@ -25,7 +25,7 @@ pub type Finished<V, M> = (Run<V>, Traces<V, M>, DeferredDrop<V, M>);
 
 impl<'a, P: Computation, C: MessageCombiner<P::Message>, M: MasterCompute> Core<'a, P, C, M> {
     /// The answer of a run that has ended, with an aggregate for each of the master's registrations, all that the run
-    /// leaves for a warm one, and what nobody needs any more.
+    /// leaves for a warm one, and what isn't needed any more.
     ///
     /// Costs a copy of the vertices' values, a look-up for each vertex that may have ended otherwise than in the kept
     /// run, and what is cut where that was longer. In a cold run, and where a loss took a partition, it costs a sort of

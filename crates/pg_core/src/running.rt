@@ -296,7 +296,7 @@ impl<'a, P: Computation, C: MessageCombiner<P::Message>, M: MasterCompute> Core<
         place < self.parts.len() && self.parts[place].is_some()
     }
 
-    /// Takes the part of a partition that is ready. A step of it is lent the logs, and what is visible in its
+    /// Takes the part of a partition that is ready. A step of it borrows the logs, and what is visible in its
     /// superstep.
     pub fn take(&mut self, partition: PartitionId) -> Part<P::Value, P::Message>
         requires { ready_test self.old partition ≡ true }

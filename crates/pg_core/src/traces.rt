@@ -120,9 +120,9 @@ impl<V, M: Plain> Traces<V, M> {
 }
 
 /// What is dropped only once the answer is out: of the run against which it was made, what each partition recorded,
-/// what the partitions sent, and the values with which it ended, as far as the two differ. It is good for nothing but
-/// to be let go of when nobody waits, which costs as much as it was to make what differs. A contract sees nothing of
-/// it.
+/// what the partitions sent, and the values with which it ended, as far as the two differ. It is kept
+/// only to be freed at a time when no caller waits, which costs as much as it was to make what differs. A contract sees
+/// nothing of it.
 pub struct DeferredDrop<V, M: Plain> {
     parts: Vec<DeferredPartDrop<V, M>>,
     kept: Option<RetainedRun<V, M>>,

@@ -3,7 +3,7 @@ use Rattle.std.specs.Prelude.{ℕ, ◌<◌, ◌≤◌}
 use Rattle.pg_graph.specs.declared.missing.Missing.{Missing}
 
 -- how many partitions and workers, how many supersteps at most, after how many a partition is saved (0 for never), how
--- many losses are borne, and what becomes of messages to nobody
+-- many losses are borne, and what becomes of undeliverable messages
 pub record Limits : Type 0 where
   pub partitions : ℕ
   pub workers : ℕ

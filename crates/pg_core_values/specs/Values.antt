@@ -97,7 +97,7 @@ module _ {V M : Type 0} where
     pub for_all : (p : ℕ) → p < n → keeps p ≡ Some old
     pub answered : AreAnswered job old ended
 
-  -- what is lent of an old run's end, if anything, is that of one kept for each partition
+  -- what is borrowed of an old run's end, if anything, is that of one kept for each partition
   abbrev pub KeepsEnd : Job V M → (ℕ → Option Rows) → ℕ → Option (Ended V) → Type 0
   KeepsEnd job keeps n None = Unit {0}
   KeepsEnd job keeps n (Some ended) = IsEndForAll job keeps n ended

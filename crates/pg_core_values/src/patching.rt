@@ -18,8 +18,8 @@ use std::alloc::Global;
 
 /// The values of the vertices as a run of so many supersteps ends, by rising id.
 ///
-/// How an old run ended may be lent only where each part is against that run: a part that isn't tells nothing of what
-/// ended otherwise. Then it costs a look-up for each vertex that may have ended otherwise, which the parts tell, and a
+/// How an old run ended may be given only where each part is against that run: a part that isn't doesn't know what
+/// ended otherwise. Then it costs a look-up for each vertex that may have ended otherwise, which the parts know, and a
 /// copy of those of the old run's values that lie near them; the others are shared. Else it costs a sort of the
 /// vertices' ids and a look-up for each; where messages make vertices, of the ids of all executions.
 pub fn values_warm<V: Plain, M: Plain>(

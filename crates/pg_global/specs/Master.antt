@@ -30,7 +30,7 @@ decided master state =
 abbrev pub leaves_all : Registered → Master
 leaves_all registrations = record { registrations = registrations; deciding = decides_nothing }
 
--- the job of a program, a combiner and a master, with a policy for messages to nobody and a limit
+-- the job of a program, a combiner and a master, with a policy for undeliverable messages and a limit
 abbrev pub job_of : {V M : Type 0} → Program V M → Option (Combining M) → Master → Missing → ℕ → Job V M
 job_of program combining master missing limit = record {
   program = program;

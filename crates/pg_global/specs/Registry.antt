@@ -14,7 +14,7 @@ use Rattle.pg_model.specs.Job.{Aggregating}
 abbrev pub Registered : Type 0
 Registered = List (List ℕ × Registration)
 
--- a letter, a digit, `_` or `-`
+-- an ASCII letter or digit, `_` or `-`
 abbrev pub is_name_byte : ℕ → Bool
 is_name_byte b = is_ascii_alphanumeric b || ((b == 95) || (b == 45))
 

@@ -94,7 +94,7 @@ impl Named {
         }
     }
 
-    // The same of a vertex that the graph may not have.
+    // A vertex that the graph may not have, likewise.
     fn name_missing(&mut self, graph: &Graph, id: VertexId, rank: u32) -> Result<bool, Memory>
         ensures { IfOk result (λ added. (rows : Rows) → Shows graph.now self.old rows
             → (added ≡ not (has_vertex id rows)) × Shows graph.now self.new (with_vertex id rows)) }

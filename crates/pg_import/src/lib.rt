@@ -1,4 +1,4 @@
-//! Edge lists: text that nobody vouches for, read as edges, and edges made into a batch of edits.
+//! Edge lists: untrusted text, read as edges, and edges made into a batch of edits.
 #![tactic(auto)]
 
 mod batch;

@@ -50,8 +50,9 @@ impl<'a> LookedUp<'a> {
         })
     }
 
-    /// Looks up a vertex, which is the last one or comes after it. One that the graph has is left out, and no place
-    /// told; of another it says where it stands. One that comes before is left out, and the last place told.
+    /// Looks up a vertex, which is the last one or comes after it. One that the graph has is left out, and the
+    /// answer is `None`; of another it is where it stands. One that comes before is left out, and the answer is the
+    /// last place.
     pub(crate) fn add_vertex(&mut self, id: VertexId) -> Result<Option<u32>, Memory>
         ensures there { IfOk result (λ place. IsNone place → has_vertex id self.old ≡ true) }
         ensures same { self.new ≡ self.old }
@@ -76,8 +77,8 @@ impl<'a> LookedUp<'a> {
     }
 
     /// Adds an edge, which is the last one or comes after it, and says where it stands. One that comes before is left
-    /// out, and the last place told. It costs no look-up among the rows where sources come in the order in which they
-    /// were added.
+    /// out, and the answer is the last place. It costs no look-up among the rows where sources come in the order in
+    /// which they were added.
     pub(crate) fn add_edge(&mut self, source: VertexId, target: VertexId) -> Result<u32, Memory>
         ensures { self.new ≡ self.old }
     {

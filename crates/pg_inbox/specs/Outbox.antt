@@ -8,11 +8,11 @@ abbrev pub Outbox : Type 0 → Type 0
 Outbox M = List (ℕ × ℕ × M)
 
 module _ {M : Type 0} where
-  -- a message with its target, beside its sender
+  -- a sender, with a message and its target
   abbrev pub as_send : ℕ × (ℕ × M) → ℕ × ℕ × M
   as_send p = (p.0, p.1.0, p.1.1)
 
-  -- messages beside their targets, and the senders at the same places
+  -- messages with their targets, and the senders at the same places
   abbrev pub sends_in : List ℕ → List (ℕ × M) → Outbox M
   sends_in senders sent = map as_send (zip senders sent)
 

@@ -59,7 +59,7 @@ impl<M: Plain> Bundle<M> {
         }
     }
 
-    /// The same bundle, in the same memory. Costs O(1).
+    /// A copy of the bundle, which shares its memory. Costs O(1).
     pub fn cheap_clone(&self) -> Result<Bundle<M>, Memory>
         ensures { IfOk result (λ bundle. bundle ≡ self.now) }
     {

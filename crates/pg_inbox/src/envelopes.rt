@@ -47,7 +47,7 @@ impl<M> Envelopes<M> {
         }
     }
 
-    /// The same envelopes, in the same memory.
+    /// A copy of the envelopes, which shares their memory.
     pub(crate) fn cheap_clone(&self) -> Result<Envelopes<M>, Memory>
         ensures { IfOk result (λ envelopes. envelopes_of envelopes ≡ envelopes_of self.now) }
     {

@@ -40,14 +40,14 @@ impl<M: Drop> Outbox<M> {
     pub fn push(&mut self, sender: VertexId, target: VertexId, message: M) -> Result<(), Memory>
         ensures { OnOk result (self.new ≡ self.old ++ (sender, target, message) ∷ []) }
     {
-        // Room for the one is there before the other is put, so that none is put alone.
+        // Room for the sender is made first, so that none of the two is put without the other.
         self.senders.reserve(1)?;
         self.sent.push((target, message))?;
         self.senders.push_reserved(sender);
         Ok(())
     }
 
-    /// All of them, lent.
+    /// A reference to all of them.
     pub fn lend(&self) -> OutboxRef<'_, M>
         ensures { result ≡ self.now }
     {
@@ -58,7 +58,7 @@ impl<M: Drop> Outbox<M> {
     }
 }
 
-/// Messages and who sent each, lent from where they lie. A contract sees the list of (sender, target, message).
+/// Messages and who sent each, borrowed from where they lie. A contract sees the list of (sender, target, message).
 #[derive(Drop)]
 pub struct OutboxRef<'a, M> {
     senders: &'a [VertexId],

@@ -1,4 +1,4 @@
--- What is lent of the messages to a target.
+-- What is borrowed of the messages to a target.
 use Rattle.std.specs.Prelude.{map, None}
 use Rattle.pg_inbox_messages.specs.Contents.{contents_of}
 use Rattle.pg_inbox_messages.specs.declared.repr_ref.ReprRef.{ReprRef}

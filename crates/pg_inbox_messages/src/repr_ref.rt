@@ -1,4 +1,4 @@
-//! The messages to one target, as they are lent.
+//! The messages to one target, as they are borrowed.
 ghost use Rattle.std.specs.Prelude.{◌≡◌, ◌<◌, length, get_or, map, None};
 ghost use Rattle.std.specs.Option.{option_copied};
 ghost use Rattle.pg_inbox_messages.specs.Contents.{contents_of};
@@ -15,7 +15,7 @@ pub(crate) enum ReprRef<'a, M: Plain> {
     Sent(&'a [(VertexId, (VertexId, M))]),
 }
 
-/// The messages to one target, lent from where they lie. A contract sees just what they are.
+/// The messages to one target, borrowed from where they lie. A contract sees just what they are.
 #[derive(Drop)]
 pub struct MessageListRef<'a, M: Plain> {
     repr_ref: ReprRef<'a, M>,

@@ -1,4 +1,4 @@
--- A run told by ids: what it has of each id, and of those that a test picks (this project's).
+-- A run seen by ids: what it has of each id, and of those that a test picks (this project's).
 use Rattle.std.specs.Prelude.{◌≡◌, ℕ, suc, ◌==◌, Bool, List, [], ◌∷◌, map, ℤ, Option, None, Some}
 use Rattle.std.specs.List.{find, filter, flat_map}
 use Rattle.std.specs.Option.{option_map}
@@ -49,8 +49,8 @@ module _ {V M : Type 0} where
   with_inbox_with program id None [] = None
   with_inbox_with program id None (m ∷ ms) = Some (made program (id, m ∷ ms))
 
-  -- what arrives of what is delivered to a vertex that has this state, if any: nothing where messages to nobody are
-  -- dropped
+  -- what arrives of what is delivered to a vertex that has this state, if any: nothing where undeliverable messages
+  -- are dropped
   abbrev pub arriving : Missing → Option (VertexState V) → List M → List M
   arriving Drop None messages = []
   arriving Drop (Some state) messages = messages

@@ -1,5 +1,5 @@
--- A job: a program, a combiner, aggregators and a master, each as pure functions, what becomes of messages to nobody,
--- and a limit.
+-- A job: a program, a combiner, aggregators and a master, each as pure functions, what becomes of undeliverable
+-- messages, and a limit.
 use Rattle.std.specs.Prelude.{ℕ, ◌/◌, ◌%◌, ◌^◌, ◌==◌, Bool, List, Option, ℤ}
 use Rattle.pg_graph_rows.specs.EdgeList.{EdgeList}
 use Rattle.pg_graph.specs.declared.missing.Missing.{Missing}

@@ -85,7 +85,7 @@ module _ {V M : Type 0} where
   abbrev pub is_active : VertexWithInbox V M → Bool
   is_active x = not x.state.halted || not (is_empty x.inbox)
 
-  -- nobody is active, and nothing waits
+  -- no vertex is active, and no message waits
   abbrev pub is_all_idle : Configuration V M → Bool
   is_all_idle c = list_all (λ x. not (is_active x)) c.with_inboxes && is_empty c.waiting
 

@@ -1,4 +1,4 @@
--- What a step is lent of a run, and of the run that was kept: the bundles to its partition, and what is visible.
+-- What a step borrows of a run, and of the run that was kept: the bundles to its partition, and what is visible.
 use Rattle.std.specs.Prelude.{◌≡◌, ℕ, ◌+◌, ◌<◌, ◌≤◌, Option, None, Some}
 use Rattle.pg_graph.specs.Rows.{Rows}
 use Rattle.pg_inbox.specs.LoggedBundle.{Slots, slot_at}
@@ -9,7 +9,7 @@ use Rattle.pg_model.specs.declared.view.Visible.{Visible}
 use Rattle.pg_part_routing.specs.Routes.{HasMessages, TellsAt, bundle_in, bundle_sent}
 
 module _ {V M : Type 0} (job : Job V M) (rows : Rows) where
-  -- a step from r is lent what it reads of the run
+  -- a step from r borrows what it reads of the run
   pub record IsStepInput (n p r : ℕ) (logs : Slots M) (visible : Visible) : Type 0 where
     pub within : r < run_length job rows
     pub messages : HasMessages job rows n p r logs
@@ -24,8 +24,8 @@ module _ {V M : Type 0} (job : Job V M) (rows : Rows) where
     pub lists_changes : (s q : ℕ) → s + 1 ≡ r → q < n → TellsAt (slot_at old_logs s q p) (slot_at logs s q p)
 
 module _ {V M : Type 0} (job : Job V M) where
-  -- a step is lent the logs and the visible values of the kept run where that has the superstep, and else not both; a
-  -- cold part run may be lent anything
+  -- a step borrows the logs and the visible values of the kept run where that has the superstep, and else not both; a
+  -- cold part run may be given anything
   abbrev pub IsOldStepInput : Option Rows → ℕ → ℕ → ℕ → Slots M → Option (Slots M) → Option Visible → Type 0
   IsOldStepInput None n p r logs old_logs old_visible = Unit {0}
   IsOldStepInput (Some old) n p r logs None old_visible = run_length job old ≤ r

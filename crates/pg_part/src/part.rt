@@ -85,7 +85,7 @@ impl<V, M> Model for RetainedPart<V, M> {
 }
 
 /// What a partition has no more use for once it has left a run: the trace of the old run, where it was warm, as far as
-/// its own is another. It is good for nothing but to be let go of when nobody waits. A contract sees nothing of it.
+/// its own is another. It is kept only to be freed at a time when no caller waits. A contract sees nothing of it.
 pub struct DeferredPartDrop<V, M> {
     kept: Option<Trace<V, M>>,
 }

@@ -85,8 +85,8 @@ pub(crate) struct Stepped<V, M: Plain> {
     pub meter: Meter,
 }
 
-/// What a step reads: what its executions see, with the meter, what the old run saw where that is lent, and the bundles
-/// that it receives.
+/// What a step reads: what its executions see, with the meter, what the old run saw where that is given, and the
+/// bundles that it receives.
 #[derive(Drop)]
 struct StepInput<M: Plain> {
     step_context: StepContext,
@@ -328,7 +328,7 @@ impl<V: Plain, M: Plain> PartRun<V, M> {
 }
 
 impl<V: Plain, M: Plain> PartRun<V, M> {
-    /// A step with what it is lent.
+    /// A step with its input.
     fn step_with_input<P: Computation<Value = V, Message = M>, C: MessageCombiner<M>>(
         self,
         alloc: Global,
@@ -535,7 +535,7 @@ impl<V: Plain, M: Plain> PartRun<V, M> {
     }
 }
 
-/// What the old run saw, where that is lent.
+/// What the old run saw, where that is given.
 fn old_view<P: Computation>(
     alloc: Global,
     program: &P,

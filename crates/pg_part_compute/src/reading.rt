@@ -34,7 +34,7 @@ pub(crate) fn inboxes_at<M: Plain, C: MessageCombiner<M>>(
     Ok(inboxes)
 }
 
-/// Bundles, lent.
+/// References to bundles.
 pub(crate) fn bundle_refs_of<M: Plain>(
     alloc: Global,
     bundles: &[Bundle<M>],

@@ -56,7 +56,7 @@ both_true : (a b : Bool) → IsTrue (a && b) → IsTrue a × IsTrue b
 both_true true b h = (refl, h)
 both_true false b h = absurd (true≢false (sym h))
 
--- of two pairs, and of two lists, whose parts are told apart
+-- of two pairs, and of two lists, whose parts differ only if `==` says so
 module _ {A : Type 0} {is_value : A → Type 0} {eq : A → A → Bool}
     (exact : (x y : A) → is_value x → is_value y → IsTrue (eq x y) → x ≡ y) where
   pub pair_exact : {B : Type 0} {is_second : B → Type 0} {eq_second : B → B → Bool}

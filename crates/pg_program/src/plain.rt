@@ -20,7 +20,7 @@ pub trait Plain: Eq + Send + Sync + Drop {
     fn fits(&self)
         ensures { is_value self.now };
 
-    /// The same value.
+    /// A copy of the value.
     fn copy(&self, alloc: Global) -> Result<Self, Memory>
         ensures { IfOk result (λ x. x ≡ self.now) };
 

@@ -45,11 +45,11 @@ impl<V> Vertex<V> {
         })
     }
 
-    /// Begins the execution of the vertex that is in this state, which is lent until [`Vertex::give_back`]: in
+    /// Begins the execution of the vertex that is in this state, which is taken until [`Vertex::give_back`]: in
     /// the meantime another state stands there, of which nothing is said. So one vertex may serve the
     /// executions of many, and no state is moved. The room grows where it has to.
     ///
-    /// Nothing is said of the vertex and the state where it answers want of memory.
+    /// Nothing is said of the vertex and the state where it is out of memory.
     pub fn take(&mut self, state: &mut VertexState<V>) -> Result<(), Memory>
         ensures { OnOk result
             (self.new

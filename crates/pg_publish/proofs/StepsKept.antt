@@ -5,7 +5,7 @@ use Rattle.std.specs.List.{Contains}
 use Rattle.std.proofs.lemmas.Bool.Decides.{nat_tests}
 use Rattle.std.proofs.lemmas.List.Elements.{Contains-append_cases}
 use mathlib.Core.List.{IsPrefix}
-use Rattle.pg_publish.specs.Steps.{VertexWithInbox, Step, publishes, tells, enters, learns, first, longer, sees, after, May, MayAll, AllBegin, GoesOn}
+use Rattle.pg_publish.specs.Steps.{PublicationState, Step, publishes, tells, enters, learns, first, longer, sees, after, May, MayAll, AllBegin, GoesOn}
 use Rattle.pg_publish.proofs.Fronts.{prefix_self, prefix_trans, prefix_shorter, prefix_append}
 
 module _ {E : Type 0} where
@@ -28,7 +28,7 @@ module _ {E : Type 0} where
   only x told (suc k) lt is = absurd (omega arith)
 
   -- what a step does, whoever takes it
-  pub step_keeps : (s : VertexWithInbox E) (step : Step E) → AllBegin s → May s step → AllBegin (after s step) × GoesOn s (after s step)
+  pub step_keeps : (s : PublicationState E) (step : Step E) → AllBegin s → May s step → AllBegin (after s step) × GoesOn s (after s step)
   step_keeps s (publishes entry) all may =
       let grown : IsPrefix s.list (s.list ++ entry ∷ []) = prefix_append s.list (entry ∷ []) in (
         record { seen = λ reader. prefix_trans _ _ _ (all.seen reader) grown; told = λ told there. prefix_trans _ _ _ (all.told told there) grown },
@@ -54,7 +54,7 @@ module _ {E : Type 0} where
         record { list = prefix_self s.list; seen = sees_all (λ r l. IsPrefix (s.seen r) l) reader now s.seen both.0 (λ r. prefix_self (s.seen r)) },
       )
 
-  steps_keep : (s : VertexWithInbox E) (steps : List (Step E)) → AllBegin s → MayAll s steps → AllBegin (fold after s steps) × GoesOn s (fold after s steps)
+  steps_keep : (s : PublicationState E) (steps : List (Step E)) → AllBegin s → MayAll s steps → AllBegin (fold after s steps) × GoesOn s (fold after s steps)
   steps_keep s [] all may = (all, record { list = prefix_self s.list; seen = λ reader. prefix_self (s.seen reader) })
   steps_keep s (step ∷ steps) all may =
       let one = step_keeps s step all may.0 in

@@ -1,4 +1,4 @@
--- The history of publications. It exists in proofs alone; what threads share is its length.
+-- The history of publications. It exists only in proofs; what threads share is its length.
 use Rattle.std.specs.Prelude.{◌≡◌, ℕ, ◌-◌, ◌<◌, ◌==◌, true, List, [], ◌∷◌, ◌++◌, length, MatchBool, Option, slice_get}
 use mathlib.Core.List.{IsPrefix}
 use Rattle.logbook.specs.Pages.{Cell, Step, View, Book, Named}

@@ -22,7 +22,7 @@ naming publisher = record {
 abbrev pub NamesNoOther : Book → KnownPrefix → Type 0
 NamesNoOther publisher known = known.named ≡ true → known ≡ naming publisher
 
--- nobody knows another history
+-- no seat knows another history
 abbrev pub AllName : Book → List KnownPrefix → Type 0
 AllName publisher knowns = (seat : ℕ) (known : KnownPrefix) → get_elem? knowns seat ≡ some known
     → NamesNoOther publisher known

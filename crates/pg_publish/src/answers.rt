@@ -73,7 +73,7 @@ impl<V> Answers<V> {
         })
     }
 
-    /// The same answer, with values of its own. Costs O(vertices).
+    /// A copy of the answer, with values of its own. Costs O(vertices).
     ///
     /// # Errors
     ///
@@ -152,7 +152,7 @@ impl<V> Answers<V> {
     }
 }
 
-/// The same values, in memory of their own.
+/// A copy of the values, in memory of their own.
 fn copy_values<V: Plain>(
     alloc: Global,
     values: &[(VertexId, V)],

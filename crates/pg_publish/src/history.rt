@@ -1,5 +1,5 @@
-//! The history of what was published: a list that only grows, at its end. Its entries stand in the
-//! proofs alone, and what threads share of it is its length.
+//! The history of what was published: a list that only grows, at its end. Its entries stand only
+//! in the proofs, and what threads share of it is its length.
 ghost use Rattle.std.specs.Prelude.{◌≡◌, ◌<◌, ◌^◌, ◌++◌, ◌∷◌, ◌⊎◌, [], length, MatchBool};
 ghost use mathlib.Core.List.{IsPrefix};
 ghost use Rattle.pg_publish.specs.History.{GoesFurther};

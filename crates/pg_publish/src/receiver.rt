@@ -73,7 +73,7 @@ impl<E: Drop> Receiver<E> {
         Receiver { seat, front }
     }
 
-    /// Looks at what is shown. It waits for nobody and takes no memory. The reader comes back as it
+    /// Looks at what is shown. It never waits and takes no memory. The reader comes back as it
     /// was where the publisher is closed, or where what is shown is less than it was told of.
     pub fn look(self) -> Result<ViewGuard<E>, Receiver<E>>
         ensures { MatchResult result

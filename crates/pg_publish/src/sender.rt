@@ -137,7 +137,7 @@ fn make_room<E: Drop, R: Wait>(
 }
 
 impl<E: Drop> Sender<E> {
-    /// The publisher of a new history, with places for 8 readers. It waits for nobody.
+    /// The publisher of a new history, with places for 8 readers. It doesn't wait.
     ///
     /// # Errors
     ///
@@ -220,7 +220,7 @@ impl<E: Drop> Sender<E> {
         self.front.again()
     }
 
-    /// Ends the publisher, once nobody looks any more. Readers look no more after that.
+    /// Ends the publisher, once no reader looks any more. Readers look no more after that.
     pub fn close<R: Wait>(self, rt: &R) {
         let Sender {
             writer,

@@ -25,7 +25,7 @@ pub(crate) fn started<H: Threads + Wait + Sync, R: BufRead, W: Write, E: Write>(
     start_leaving(rt, alloc, words, reader, writer, errors)
 }
 
-// The same of a session.
+// What a session writes, likewise.
 pub(crate) fn served<H: Threads + Wait + Sync, R: BufRead, W: Write>(
     rt: &H,
     alloc: Global,

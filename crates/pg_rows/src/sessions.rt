@@ -117,8 +117,8 @@ fn add_loops(text: &mut Vec<u8>, first: u64, count: u64) -> Result<(), Fail> {
 }
 
 // A graph may have 1,048,576 vertices. One more is refused, one that is there already has a fault of its own, and an
-// edge to nobody is no vertex. Before a proof this takes more than the minute that tests have: rt try --test --seconds
-// 600.
+// edge to a missing vertex is no vertex. Before a proof this takes more than the minute that tests have: rt try --test
+// --seconds 600.
 #[test]
 fn as_many_vertices_as_there_may_be(rt: HostRuntime) -> Result<(), Fail> {
     let alloc = rt.alloc();

@@ -25,7 +25,7 @@ pub(crate) struct Findings {
     pub edges: Option<u64>,
 }
 
-/// Executes an active vertex, which has then received nothing since. It is lent `vertex` to work in.
+/// Executes an active vertex, which has then received nothing since. It works in `vertex`.
 fn execute<P: Computation>(
     alloc: Global,
     program: &P,

@@ -46,7 +46,7 @@ impl From<Memory> for RunFault {
     }
 }
 
-/// Why the run ends after a superstep, if it does: the master halted; nobody is active and nothing waits; the
+/// Why the run ends after a superstep, if it does: the master halted; no vertex is active and no message waits; the
 /// limit is reached.
 fn ending_of<V, M>(
     halt: bool,

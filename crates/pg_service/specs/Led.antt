@@ -29,8 +29,8 @@ composed graph (batch ∷ batches) = and_then (batch_edited graph batch) (λ mad
 
 module _ {P C A V M : Type 0} (own : ServiceJob P C A) (job : Job V M) (names : Registered) (publisher : Book) where
   -- from a service as it begins, edits, refreshes and readers that were made have led here, and these batches were
-  -- accepted, in their order. An edit that is refused leaves the service as it was; a refresh that is refused lets go
-  -- of the kept run alone
+  -- accepted, in their order. An edit that is refused leaves the service as it was; a refresh that is refused drops
+  -- only the kept run
   pub data Led : List (List Edit) → ServiceState P C A V → Type 0 where
     begun : Led [] (fresh own publisher)
     accepted : (batches : List (List Edit)) (before : ServiceState P C A V) (batch : List Edit) (graph : Rows)
@@ -79,7 +79,7 @@ module _ {V M : Type 0} (job : Job V M) where
     pub own : state.told.publisher ≡ publisher
     pub published : AreAnswers names batches state.told.list
 
--- what a reader has seen or was told of is a beginning of what is published: then it shows answers too, and whoever has
+-- what a reader has seen or learned of is a beginning of what is published: then it shows answers too, and whoever has
 -- seen more looks at no earlier edition
 pub record LooksAtAnswers {V M : Type 0} (job : Job V M) (names : Registered) (batches : List (List Edit))
     (seen later : List (Answered V)) : Type 0 where

@@ -111,9 +111,9 @@ module _ {V M : Type 0} (job : Job V M) where
     abbrev pub calls_of : Option Rows → Rows → ℕ
     calls_of kept graph = capped (needed_count value_eq message_eq job kept graph)
 
-    -- what may be counted of a run against a kept one, if any, on workers that fall by a fate: what is told by a
-    -- history that the status machine allows. No more workers fell than may, by the fate those alone that it has fall,
-    -- and nobody where there is one worker. Where nobody fell, the calls are the needed executions, at most 2^64 - 1,
+    -- what may be counted of a run against a kept one, if any, on workers that fall by a fate: what a history
+    -- that the status machine allows has. No more workers fell than may, by the fate only those that it has fall, and
+    -- none where there is one worker. Where no worker fell, the calls are the needed executions, at most 2^64 - 1,
     -- and each partition has made each superstep once
     pub record MayCount (fated : Fated) (limits : Limits) (kept : Option Rows) (graph : Rows)
         (counts : Counts) : Type 0 where
@@ -137,7 +137,7 @@ module _ {V M : Type 0} (job : Job V M) where
       pub dropped_are : report.dropped ≡ (answer job graph).dropped
       pub counted : MayCount fated limits kept graph (counts_in report)
 
-    -- what is counted over n partitions where nobody fell, and the report then
+    -- what is counted over n partitions where no worker fell, and the report then
     abbrev pub unlost_counts : ℕ → Option Rows → Rows → Counts
     unlost_counts n kept graph =
         record { calls = calls_of kept graph; steps = replicate n (answer job graph).supersteps; losses = [] }
@@ -162,7 +162,7 @@ module _ {V M : Type 0} (job : Job V M) where
 
 -- what a service has fits together: its program can run with its master, whose aggregators have these names, what was
 -- published last is of this edition and the answer of its graph, or of an earlier edition, and the run that is kept was
--- on a graph that differs at the noted ids alone
+-- on a graph that differs only at the noted ids
 pub record Stands {V M : Type 0} (program : Program V M) (combining : Option (Combining M)) (master : Master)
     (limits : Limits) (names : Registered) (graph : Rows) (edition : ℕ) (published : Option (Answered V))
     (kept : Option (KeptRun V M)) : Type 0 where

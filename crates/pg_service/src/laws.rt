@@ -21,7 +21,7 @@ pub fn publications_are_answers<P, C, A, V, M>()
         → Follows job names publisher batches state }
 {}
 
-/// A reader has seen a beginning of what a service has published, also where it was told of it, and sees further ones:
+/// A reader has seen a beginning of what a service has published, also where it learned of it, and sees further ones:
 /// each of these is the answer of the run on the graph of its edition, and no later look is at an earlier edition. It
 /// does nothing.
 pub fn looks_are_answers<P, C, A, V, M>()

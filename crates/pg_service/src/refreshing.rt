@@ -23,9 +23,10 @@ use std::thread::Threads;
 impl<P: Computation, C: MessageCombiner<P::Message>, M: MasterCompute> Service<P, C, M> {
     /// Runs the program on the graph as it stands, against the last run where that is kept, on workers of which some
     /// may fall, publishes the answer to readers, and keeps what the run leaves. The answer is that of the run from
-    /// scratch, whoever fell. Where nobody fell, the calls of compute are as many as the vertices and supersteps whose
-    /// inputs aren't those of the kept run, at most 2^64 - 1. The shelf is where checkpoints are put; a refresh goes on
-    /// from none that it didn't put itself. It waits for readers that still look at the publication before the last.
+    /// scratch, whoever fell. Where no worker fell, the calls of compute are as many as the vertices and supersteps
+    /// whose inputs aren't those of the kept run, at most 2^64 - 1. The shelf is where checkpoints are put; a refresh
+    /// goes on from none that it didn't put itself. It waits for readers that still look at the publication before the
+    /// last.
     ///
     /// # Errors
     ///

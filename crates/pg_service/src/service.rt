@@ -74,7 +74,7 @@ impl<P: Computation, C: MessageCombiner<P::Message>, M: MasterCompute> Model for
 }
 
 impl<P: Computation, C: MessageCombiner<P::Message>, M: MasterCompute> Service<P, C, M> {
-    /// A service with an empty graph of edition 0, nothing published, and places for 8 readers. It waits for nobody.
+    /// A service with an empty graph of edition 0, nothing published, and places for 8 readers. It doesn't wait.
     ///
     /// # Errors
     ///
@@ -144,7 +144,7 @@ impl<P: Computation, C: MessageCombiner<P::Message>, M: MasterCompute> Service<P
         self.publisher.last()
     }
 
-    /// A reader, for any thread, who looks at what is published and waits for nobody. None after the eighth, also where
+    /// A reader, for any thread, who looks at what is published and never waits. None after the eighth, also where
     /// one was dropped, or where there is no place for it. A look that is kept has a refresh wait before it publishes a
     /// second time after it.
     pub fn reader(&mut self) -> Option<AnswerReader<P::Value>>
@@ -201,7 +201,7 @@ impl<P: Computation, C: MessageCombiner<P::Message>, M: MasterCompute> Service<P
     }
 
     /// Lets go of what the last refresh had no more use for: what the run before it recorded and sent otherwise. The
-    /// next refresh does so as it begins; whoever calls this before has it done while nobody waits.
+    /// next refresh does so as it begins; whoever calls this before has it done at a time when no one waits.
     ///
     /// # Cost
     ///
@@ -253,8 +253,8 @@ impl<P: Computation, C: MessageCombiner<P::Message>, M: MasterCompute> Service<P
         value.to_string(alloc)
     }
 
-    /// Ends the service: its publisher, once nobody looks any more, and all that it keeps. Readers look no more after
-    /// that.
+    /// Ends the service: its publisher, once no reader looks any more, and all that it keeps. Readers look no more
+    /// after that.
     pub fn close<R: Wait>(self, rt: &R)
     where
         P: Drop,

@@ -123,7 +123,7 @@ module _ {M : Type 0} where
   IsLoggedChange before after old (Some logged) =
       (bundle_at old ≡ before) × ((logged.bundle ≡ after) × TellsChanges before logged)
 
--- just the ids that are a vertex of one of two graphs alone, rising
+-- just the ids that are a vertex of only one of two graphs, rising
 pub record AreMemberChanges (ids : List ℕ) (before after : Rows) : Type 0 where
   pub rise : IsStrictlySortedBy nat_cmp ids
   pub member_changes : (id : ℕ) → has_id ids id ≡ true → is_vertex after id ≡ is_no_vertex before id

@@ -65,8 +65,8 @@ fn with_bundle<M: Plain>(
 /// the superstep, of which these are the logs. `member_changes` has the ids that are a vertex in just one of the two
 /// graphs.
 ///
-/// Costs look-ups in the bundles, and where messages to nobody are dropped in the graph, for each target that a bundle
-/// names as changed and for each id that moved; where those rise, each is looked for near the one before.
+/// Costs look-ups in the bundles, and where undeliverable messages are dropped in the graph, for each target that a
+/// bundle names as changed and for each id that moved; where those rise, each is looked for near the one before.
 pub fn message_counts_warm<M: Plain>(
     before: MessageCounts,
     old_logs: &Logs<M>,

@@ -9,8 +9,8 @@ use pg_program::Plain;
 use pg_trace::RecordRef;
 use std::alloc::AllocError;
 
-/// What these records send, and what of it is dropped. Costs O(1) a record, and where messages to nobody are dropped a
-/// look-up of each target.
+/// What these records send, and what of it is dropped. Costs O(1) a record, and where undeliverable messages are
+/// dropped a look-up of each target.
 pub fn message_counts_recorded<V: Plain, M: Plain>(
     records: &[(VertexId, RecordRef<'_, V, M>)],
     graph: &Graph,

@@ -13,7 +13,7 @@ left id value = record { id = id; value = value; edges = []; halted = true }
 abbrev gave : ℤ → Record ℤ ℤ
 gave value = record { value = value; edges = []; halted = true; sent = []; contributed = [] }
 
--- 3 and 5 run, then 5 alone, then 5 and 7, which a message makes
+-- 3 and 5 run, then only 5, then 5 and 7, which a message makes
 abbrev three : Trace ℤ ℤ
 three = record {
   initial = began 3 (pos 30) ∷ began 5 (pos 50) ∷ [];

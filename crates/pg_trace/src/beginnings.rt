@@ -151,7 +151,7 @@ impl<V: Drop> Beginnings<V> {
         Ok(Beginnings { states })
     }
 
-    /// The same states, in the same memory. Costs O(1).
+    /// A copy of the states, which shares their memory. Costs O(1).
     pub(crate) fn cheap_clone(&self) -> Result<Beginnings<V>, Memory>
         ensures { IfOk result (λ beginnings. beginnings ≡ self.now) }
     {

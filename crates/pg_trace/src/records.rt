@@ -10,7 +10,7 @@ use pg_trace_index::Index;
 use pg_trace_records::{RecordChanges, RecordRef, Records};
 use std::alloc::Global;
 
-/// The same supersteps, in the same memory.
+/// A copy of the supersteps, which shares their memory.
 pub(crate) fn shared<V: Drop, M: Drop>(
     alloc: Global,
     supersteps: &[Records<V, M>],

@@ -1,4 +1,4 @@
-//! The state of a vertex, lent from where a trace has it.
+//! The state of a vertex, borrowed from where a trace has it.
 ghost use Rattle.std.specs.Prelude.{◌≡◌};
 ghost use Rattle.pg_trace.specs.Trace.{left_by};
 

@@ -142,8 +142,8 @@ impl<V: Drop, M: Drop> Trace<V, M> {
         StateCursor::of(&self.initial, &self.ran, self.supersteps.as_slice())
     }
 
-    /// The same trace, in the same memory. Costs one count a superstep; where the trace isn't sealed, also a copy of
-    /// what was noted since, and of the chunks of the index with these vertices; in a first run O(1) a record.
+    /// A copy of the trace, which shares its memory. Costs one count a superstep; where the trace isn't sealed, also a
+    /// copy of what was noted since, and of the chunks of the index with these vertices; in a first run O(1) a record.
     pub fn cheap_clone(&self, alloc: Global) -> Result<Trace<V, M>, Memory>
         ensures { IfOk result (λ trace. trace ≡ self.now) }
     {
@@ -157,7 +157,7 @@ impl<V: Drop, M: Drop> Trace<V, M> {
         })
     }
 
-    /// The same trace, whose copies share all its memory from now on. Costs O(1) where nothing was recorded since it
+    /// The trace, whose copies share all its memory from now on. Costs O(1) where nothing was recorded since it
     /// was sealed or restarted; else one change of the index, of the chunks with the vertices that were recorded. For a
     /// new trace that is O(1) a record.
     pub fn sealed(self, alloc: Global) -> Result<Trace<V, M>, Memory>

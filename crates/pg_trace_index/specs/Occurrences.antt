@@ -54,7 +54,7 @@ module _ {Y : Type 0} where
   IsNoted s changes before after =
       (id : ℕ) → steps_in (value_at id after) ≡ steps_noted s (value_at id changes) (steps_in (value_at id before))
 
--- an index after a note of one id alone, that it ran in superstep s or didn't
+-- an index after a note of only one id, that it ran in superstep s or didn't
 abbrev pub IsNotedOf : ℕ → ℕ → Bool → List (ℕ × List ℕ) → List (ℕ × List ℕ) → Type 0
 IsNotedOf id s runs before after =
     (q : ℕ) → steps_in (value_at q after)

@@ -3,7 +3,7 @@ use Rattle.std.specs.Prelude.{◌≡◌, ℕ, true, false, List, [], ◌∷◌, 
 use Rattle.pg_trace_index.specs.Occurrences.{ran_from, with_ran}
 use Rattle.pg_trace_index.specs.Records.{last_record, put_at}
 
--- 3 and 5 run, then 5 alone, then 5 and 7
+-- 3 and 5 run, then only 5, then 5 and 7
 abbrev three : List (List (ℕ × ℕ))
 three = ((3, 31) ∷ (5, 51) ∷ []) ∷ ((5, 52) ∷ []) ∷ ((5, 53) ∷ (7, 70) ∷ []) ∷ []
 

@@ -15,7 +15,7 @@ use pg_graph::{Memory, VertexId};
 use std::alloc::Global;
 
 /// Values that lie side by side, by rising id: at least one. A chunk knows its first id, so a search among chunks reads
-/// one vector alone.
+/// one vector.
 #[derive(Drop)]
 pub(crate) struct Chunk<X> {
     pub(crate) first: VertexId,
@@ -40,7 +40,7 @@ pub(crate) fn get<'a, X>(chunks: &'a [Chunk<X>], near: &mut usize, id: VertexId)
 
 /// In which chunk the value at an id stands, and at which place there. `near` becomes how many chunks begin at the id
 /// or below it. Where it was that before, or one fewer, from a look-up near this one, it costs a binary search in one
-/// chunk alone; else two. The one in the chunk is spared where the chunk has each id from its first up to this, or none
+/// chunk; else two. The one in the chunk is spared where the chunk has each id from its first up to this, or none
 /// from this on.
 #[inline(always)]
 pub(crate) fn found<X>(

@@ -39,7 +39,7 @@ pub(crate) fn after_runs(
     }
 }
 
-/// The same for a vertex that has runs or none.
+/// The last run of a vertex that has runs or none, likewise.
 pub(crate) fn after(
     alloc: Global,
     superstep: u32,

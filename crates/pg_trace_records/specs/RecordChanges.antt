@@ -18,7 +18,7 @@ module _ {X : Type 0} where
   given_flags changes = map (λ c. (c.0, is_some c.1)) changes
 
 module _ {V M : Type 0} where
-  -- the messages that a vertex sends by its record, if it has one, each with its target, and its id beside each
+  -- the messages that a vertex sends by its record, if it has one, each with its target, behind its id
   abbrev pub messages_by : ℕ × Option (Record V M) → List (ℕ × (ℕ × M))
   messages_by (id, None) = []
   messages_by (id, Some r) = map (λ m. (id, m)) r.sent

@@ -1,11 +1,11 @@
-//! A record, lent from where it is kept.
+//! A record, borrowed from where it is kept.
 ghost use Rattle.std.specs.Prelude.{◌≡◌};
 
 use pg_graph::{Edges, VertexId};
 use pg_model::Place;
 use std::marker::Model;
 
-/// What one execution of a vertex gave, lent from where it is kept. A contract sees it as a `Record`.
+/// What one execution of a vertex gave, borrowed from where it is kept. A contract sees it as a `Record`.
 #[derive(Drop)]
 pub struct RecordRef<'a, V, M> {
     pub(crate) value: &'a V,

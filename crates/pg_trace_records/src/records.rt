@@ -62,7 +62,7 @@ impl<V: Drop, M: Drop> Records<V, M> {
         })
     }
 
-    /// The same records, in the same memory. Costs O(1).
+    /// A copy of the records, which shares their memory. Costs O(1).
     pub fn cheap_clone(&self) -> Result<Records<V, M>, Memory>
         ensures { IfOk result (λ records. records ≡ self.now) }
     {
@@ -108,7 +108,7 @@ impl<V: Drop, M: Drop> Records<V, M> {
         })
     }
 
-    /// All of them, lent. Where nothing was changed it costs O(1) each; else a look-up each besides.
+    /// References to all of them. Where nothing was changed it costs O(1) each; else a look-up each besides.
     pub fn listed(&self, alloc: Global) -> Result<Vec<(VertexId, RecordRef<'_, V, M>)>, Memory>
         ensures records { IfOk result (λ found. found.items ≡ self.now) }
         ensures rising { HasRisingIds self.now }
@@ -209,7 +209,7 @@ fn found_by<'a, V: Drop, M: Drop>(
     }
 }
 
-/// The records that changes give, lent.
+/// References to the records that changes give.
 fn given_by<V: Drop, M: Drop>(
     alloc: Global,
     given: &RecordChanges<V, M>,

@@ -48,7 +48,7 @@ module _ {P C A V M : Type 0} (own : Meaning P C A V M) where
         (job_of_meaning own core) kept core.graph core.limits.partitions core.limits.workers history counts
 
   -- the run of a core was driven to its end through a history that the status machine allows. No more workers fell than
-  -- may, by the fate those alone that it has fall; each partition leaves something; there is an aggregate for each of
+  -- may, by the fate only those that it has fall; each partition leaves something; there is an aggregate for each of
   -- the master's registrations; and where the core was right it is answered, if the shelf is honest or nothing that it
   -- gave was used
   pub record IsDriven (fated : Fated) (honest : Bool) (core : Progress P C A V M) (run : Run V) (left : Traces V M)
@@ -62,7 +62,7 @@ module _ {P C A V M : Type 0} (own : Meaning P C A V M) where
     pub right : (kept : Option Rows) → IsRight (job_of_meaning own core) kept core → Trusts honest history
         → IsAnswered kept core history run left counts
 
-  -- nobody fell: the answer and what is left are those of the run from scratch whatever the shelf is, just the
+  -- no worker fell: the answer and what is left are those of the run from scratch whatever the shelf is, just the
   -- executions that differ from the kept run's, if any, were called, and each partition has made each superstep once
   pub record IsUnlost (kept : Option Rows) (core : Progress P C A V M) (run : Run V) (left : Traces V M)
       (counts : Counts) : Type 0 where

@@ -29,7 +29,7 @@ module _ (fated : Fated) where
   AreFated place [] = Unit {0}
   AreFated place (loss ∷ losses) = (loss.cause ≡ Fate → WasFated place loss) × AreFated (place + 1) losses
 
--- each worker is among these losses once, and nobody else is
+-- each worker is among these losses once, and no other is
 abbrev pub AreAll : ℕ → List Loss → Type 0
 AreAll workers losses = (w : ℕ) → falls_of w (map as_reported losses) ≡ cond (nat_lt w workers) 1 0
 

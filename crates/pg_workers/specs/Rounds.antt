@@ -32,7 +32,7 @@ ComesEarlier a b = a.worker < b.worker
 
 module _ {P C A V M : Type 0} (own : Meaning P C A V M) (core : Progress P C A V M) where
   -- a part was taken from a core, and may make a step from this superstep; its worker hosts it, and where the core was
-  -- right the step is lent what it reads
+  -- right the step borrows what it reads
   pub record IsTaken (superstep worker : ℕ) (part : PartState V M) : Type 0 where
     pub within : part.part_run.partition < core.limits.partitions
     pub host_is : host_of part.part_run.partition core.state ≡ worker

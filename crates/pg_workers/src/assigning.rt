@@ -102,7 +102,7 @@ pub(crate) fn step_input<'a, P: Computation, C: MessageCombiner<P::Message>, M: 
     )
 }
 
-/// Whether one worker alone has anything to do, or the steps of these parts look at so few vertices that to start
+/// Whether only one worker has anything to do, or the steps of these parts look at so few vertices that to start
 /// threads would take longer. Of few it is never so where the kept run hasn't the superstep, or a part is cold. It is a
 /// hint, of which nothing is promised.
 pub(crate) fn is_little<P: Computation, C: MessageCombiner<P::Message>, M: MasterCompute>(

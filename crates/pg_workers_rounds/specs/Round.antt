@@ -1,4 +1,4 @@
--- What a worker is lent for one round.
+-- What a worker borrows for one round.
 use Rattle.std.specs.Prelude.{ℕ, Option}
 use Rattle.pg_global.specs.Registry.{Registered}
 use Rattle.pg_inbox.specs.LoggedBundle.{Slots}

@@ -21,7 +21,7 @@ pub trait Fate: Sync {
         ensures { result ≡ fated self.now superstep attempt worker partition };
 }
 
-/// The fate by which nobody falls.
+/// The fate by which no worker falls.
 #[derive(Clone, Copy, Debug, PartialEq, Eq)]
 pub struct NoFate;
 

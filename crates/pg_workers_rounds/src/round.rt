@@ -1,4 +1,4 @@
-//! What a worker is lent for one round.
+//! What a worker borrows for one round.
 ghost use Rattle.std.specs.Prelude.{◌≡◌, ◌≤◌, length, IfSome};
 ghost use Rattle.std.specs.Option.{option_copied};
 
@@ -8,7 +8,7 @@ use pg_inbox::Logs;
 use pg_program::Plain;
 use std::marker::Model;
 
-/// What a worker is lent for one round: what was sent so far, and what is visible in the superstep at which its parts
+/// What a worker borrows for one round: what was sent so far, and what is visible in the superstep at which its parts
 /// stand; the same of the old run, where this has the superstep; the master's aggregators; that superstep, how many
 /// losses were recorded before the round, and which worker it is.
 #[derive(Drop)]
@@ -82,7 +82,7 @@ impl<'a, M: Plain> Round<'a, M> {
         }
     }
 
-    /// The same round, of this worker.
+    /// The round of this worker.
     pub fn of(&self, worker: WorkerId) -> Round<'a, M>
         ensures { result ≡ record self.now { worker = worker } }
     {

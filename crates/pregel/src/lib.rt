@@ -32,7 +32,7 @@
 //! takes a [`Shelf`] for checkpoints, as [`MemShelf`]; a [`Fate`], by which tests have workers fall, as [`NoFate`];
 //! and a [`Gate`] that workers pass, as [`NoGate`]. A [`Loss`] is a worker that fell.
 //!
-//! An [`AnswerReader`] looks at what is published from any thread, and waits for nobody. A [`Look`] shows one
+//! An [`AnswerReader`] looks at what is published from any thread, and never waits. A [`Look`] shows one
 //! publication. A reader that learns what the service has [`Told`] looks at nothing earlier.
 //!
 //! # One run

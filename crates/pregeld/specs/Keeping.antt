@@ -1,4 +1,4 @@
--- What a service and the notes beside it keep of a session, and what it is answered with.
+-- What a service and its notes keep of a session, and what it is answered with.
 use Rattle.std.specs.Prelude.{◌≡◌, ◌≢◌, ◌⊎◌, ℕ, ◌<◌, ◌≤◌, List, []}
 use Rattle.std.specs.Prelude.{length, take, drop, Option, None, Some, Result}
 use Rattle.std.specs.List.{concat}
@@ -73,7 +73,7 @@ Checks old reply =
     (reply ≡ Checked (check_of (ready_job old.job) int_eq int_eq old.edition old.graph (last_published old.told.list)))
     ⊎ (reply ≡ RunRefused 1)
 
--- ---- a service beside a session
+-- ---- a service and its session
 
 -- what is noted of a session: its pending edits, and its last report
 pub record AreSessionState (session_state : Noted) (state : State) : Type 0 where
@@ -106,7 +106,7 @@ pub record AnswersLine (line : List ℕ) (here : Place) (old : ReadyState) (new 
   pub left_is : left ≡ Some answer.next.lines
   pub wrote : Appends before now answer.text
 
--- what was to be told couldn't be written, or there was no memory for it
+-- what was to be written couldn't be, or there was no memory for it
 abbrev pub FailsToTell : ServeFault → Option (List ℕ) → Option (List ℕ) → Type 0
 FailsToTell fault before now = (fault ≡ Write) ⊎ ((fault ≢ Write) × (now ≡ before))
 

@@ -183,7 +183,7 @@ abbrev pub report_line : Option Report → List ℕ
 report_line None = line_of_reply Unpublished
 report_line (Some report) = json_text report ++ 10 ∷ []
 
--- what is told by a job, of what was published last and of the last report
+-- the answer to a query, by a job, of what was published last and of the last report
 abbrev pub query_text : ReadyJob → Query → Option (Publication ℤ) → Option Report → List ℕ
 query_text own Dump published report = dump_text published
 query_text own (Get id) published report = line_of_reply (get_reply id published)
@@ -191,7 +191,7 @@ query_text own (Aggregate name) published report =
     aggregate_text name (ready_names own) published
 query_text own Reported published report = report_line report
 
--- nobody falls
+-- no worker falls
 abbrev pub no_fate : ℕ → ℕ → ℕ → ℕ → Bool
 no_fate superstep attempt worker partition = false
 
@@ -213,7 +213,7 @@ module _ (own : ReadyJob) where
         };
       })
 
-  -- the report of a refresh in which nobody fell
+  -- the report of a refresh in which no worker fell
   abbrev pub report_at : State → Report
   report_at state = report_of (ready_job own) int_eq int_eq own.limits.partitions state.kept state.edition state.graph
 

@@ -74,7 +74,7 @@ fn apply(alloc: Global, batch: &Batch, service: &mut ReadyService) -> Reply
     }
 }
 
-/// Runs the program, publishes the answer and keeps the report. Nobody falls by a fate, and checkpoints are kept in
+/// Runs the program, publishes the answer and keeps the report. No worker falls by a fate, and checkpoints are kept in
 /// memory until the refresh is done.
 fn refresh<H: Threads + Wait + Sync>(
     rt: &H,

@@ -46,7 +46,7 @@ fn master_of(options: &Options) -> ReadyMaster
     }
 }
 
-/// Want of memory, which alone keeps a ready program from being run.
+/// Out of memory, the only fault that keeps a ready program from being run.
 fn memory_of(_fault: RunFault) -> Memory {
     AllocError
 }

@@ -28,8 +28,8 @@ const NO_FILES: &str =
 
 /// Runs the program on its words, the program's name first, with `rt` to start threads by, and gives its exit status: 0
 /// at the end of the input or after help; 1 where memory, the input or the output failed; 2 where the words are at
-/// fault, and then nothing was read or written. With 1 and 2 `errors` is told why, and after a session what is at fault
-/// with the first line that was, if it can be written.
+/// fault, and then nothing was read or written. With 1 and 2 `errors` gets the reason, and after a session what is at
+/// fault with the first line that was, if it can be written.
 pub fn start<H: Threads + Wait + Sync, S: AsStr, R: BufRead, W: Write, E: Write>(
     rt: &H,
     alloc: Global,

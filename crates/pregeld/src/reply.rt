@@ -78,7 +78,7 @@ pub(crate) struct RefreshSummary {
 }
 
 impl RefreshSummary {
-    /// What is told of a report.
+    /// The summary of a report.
     pub(crate) fn of(report: &Report) -> RefreshSummary
         ensures { result ≡ summary_of report.now }
     {

@@ -47,7 +47,7 @@ combiner_word Sum = codes "sum"
 abbrev pub combiner_words : List Text
 combiner_words = map combiner_word (NoCombiner ∷ Min ∷ MaxCombiner ∷ Sum ∷ [])
 
--- what becomes of messages to nobody
+-- what becomes of undeliverable messages
 abbrev pub missing_word : Missing → Text
 missing_word Drop = codes "drop"
 missing_word Create = codes "create"

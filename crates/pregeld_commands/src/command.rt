@@ -103,7 +103,7 @@ pub enum Action {
     Recompute,
 }
 
-/// What a line asks to be told.
+/// What a line asks for.
 #[derive(Drop)]
 pub enum Query<'a> {
     /// All published values.

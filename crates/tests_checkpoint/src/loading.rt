@@ -7,7 +7,7 @@ use pregeld_programs::Sssp;
 use std::alloc::Global;
 use std::test::*;
 
-// The same part in format 1.
+// That part in format 1.
 const FIRST: [u8; 118] = [
     0x50, 0x47, 0x43, 0x31, 0x76, 0, 0, 0, 0, 0, 0, 0, 1, 0, 0, 0, 0, 0, 0, 0, 1, 0, 0, 0, 1, 0, 0,
     0, 1, 0, 0, 0, 0, 0, 0, 0, 1, 0, 0, 0, 0, 0, 0, 0, 1, 0, 0, 0, 0, 0, 0, 0, 0, 1, 0, 0, 0, 0, 0,
@@ -146,7 +146,7 @@ fn another_run_is_damage(rt: HostRuntime) -> Result<(), Fail> {
 #[test]
 fn wrong_bytes_are_damage(rt: HostRuntime) -> Result<(), Fail> {
     let alloc = rt.alloc();
-    // The letters, the length, the partition.
+    // The magic, the length, the partition.
     assert_eq!(rt; with_byte(alloc, 3, 0x33)?, Answer::Damaged);
     assert_eq!(rt; with_byte(alloc, 4, 0x7d)?, Answer::Damaged);
     assert_eq!(rt; with_byte(alloc, 20, 2)?, Answer::Damaged);

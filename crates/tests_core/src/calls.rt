@@ -101,7 +101,7 @@ fn called_warm(
     noted(alloc, &program, calls)
 }
 
-// The same where the edges were those of the first graph, and the ids are told by their numbers.
+// The calls where the edges were those of the first graph, by the numbers of the ids.
 fn called_after(
     alloc: Global,
     edges: &[(u64, u64)],

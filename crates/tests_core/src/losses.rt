@@ -182,8 +182,8 @@ fn warm<P: Computation, C: MessageCombiner<P::Message>, M: MasterCompute>(
     Ok(Some(retained))
 }
 
-// How many calls of compute a run takes against one on the same graph, where nobody falls; nothing where its answer is
-// another.
+// How many calls of compute a run takes against one on the same graph, where no worker falls; nothing where its answer
+// is another.
 fn again<P: Computation, C: MessageCombiner<P::Message>, M: MasterCompute>(
     alloc: Global,
     graph: &Graph,

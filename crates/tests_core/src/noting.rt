@@ -8,10 +8,10 @@ use std::sync::atomic::{AtomicU64, Ordering};
 use std::test::Fail;
 use tests_kit::{Heard, Listener, Moment};
 
-/// The supersteps in which calls are told apart.
+/// The supersteps whose calls are counted apart.
 const SUPERSTEPS: u32 = 3;
 
-/// The ids that are told apart, from 0 on.
+/// The ids that are counted apart, from 0 on.
 const IDS: u32 = 10;
 
 /// The listener that counts how often each vertex is called in each superstep.
@@ -43,7 +43,7 @@ impl Notes {
         })
     }
 
-    // Counts a call. One that can't be told apart is counted too.
+    // Counts a call. One that has no count of its own is counted too.
     fn note(&self, superstep: Superstep, vertex: VertexId) {
         let row = match self.calls.get(superstep.number() as usize) {
             Some(row) => row.get(vertex.number() as usize),

@@ -105,7 +105,7 @@ fn add_advanced<P: Computation, C: MessageCombiner<P::Message>>(
     log(alloc, logs, place, partition, sent)
 }
 
-// Each part run one superstep further, with as many edges as are told. What it sends is put into the logs.
+// Each part run one superstep further, with as many edges as are given. What it sends is put into the logs.
 fn advanced<P: Computation, C: MessageCombiner<P::Message>>(
     alloc: Global,
     part_runs: Vec<PartRun<P::Value, P::Message>>,

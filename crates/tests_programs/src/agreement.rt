@@ -295,7 +295,7 @@ fn execute(
 
 // ---- a run once more
 
-// What the aggregator comes to: a change is told of one superstep, all else of the whole run.
+// What the aggregator comes to: a change is of one superstep, all else of the whole run.
 fn gathered(program: &ReadyProgram, before: i64, contributed: &[i64]) -> i64 {
     let mut value = match program {
         ReadyProgram::Pagerank(_) => 0,
@@ -397,7 +397,7 @@ fn execute_all(
     Ok(calls)
 }
 
-// Delivers what was sent, and tells whether nobody is active any more.
+// Delivers what was sent, and tells whether no vertex is active any more.
 fn settle(
     combiner: AnyCombiner,
     missing: Missing,

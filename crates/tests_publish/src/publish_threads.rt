@@ -41,7 +41,7 @@ struct Seat<J: Naming> {
     ghost own: { reader.publisher ≡ J.book },
 }
 
-/// What this publisher told.
+/// What this publisher tells.
 #[derive(Drop)]
 struct News<J: Naming> {
     told: Told<i64>,

@@ -243,7 +243,7 @@ fn changed_at_one_target(rt: HostRuntime) -> Result<(), Memory> {
     Ok(())
 }
 
-// The first bundle alone has the targets 2 and 7, the second alone 4 and 9; they agree at 3, and differ at 5.
+// Only the first bundle has the targets 2 and 7, only the second 4 and 9; they agree at 3, and differ at 5.
 fn changed_on_each_side(alloc: Global, combiner: AnyCombiner) -> Result<String, Memory> {
     let old = bundle_of(
         alloc,

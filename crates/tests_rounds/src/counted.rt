@@ -1,4 +1,4 @@
-//! Runs in which nobody falls, with the calls of each step.
+//! Runs in which no worker falls, with the calls of each step.
 ghost use Rattle.std.specs.Prelude.{◌≡◌, [], true, None, length, IfOk};
 ghost use Rattle.pg_global.specs.Master.{is_registered};
 ghost use Rattle.pg_global.specs.Registry.{first_refusal};
@@ -86,7 +86,8 @@ fn left_by<P: Computation, C: MessageCombiner<P::Message>, M: MasterCompute>(
     Ok(retained)
 }
 
-/// Of a run from scratch in which nobody falls: the calls of its steps, by superstep and partition, and what it leaves.
+/// Of a run from scratch in which no worker falls: the calls of its steps, by superstep and partition, and what it
+/// leaves.
 pub fn unlost<P: Computation, C: MessageCombiner<P::Message>, M: MasterCompute>(
     alloc: Global,
     graph: &Graph,
@@ -105,7 +106,8 @@ pub fn unlost<P: Computation, C: MessageCombiner<P::Message>, M: MasterCompute>(
     Ok((rows, retained))
 }
 
-/// Of a run against another in which nobody falls, on a graph that differs at these ids: its calls and what it leaves.
+/// Of a run against another in which no worker falls, on a graph that differs at these ids: its calls and what it
+/// leaves.
 pub fn unlost_warm<P: Computation, C: MessageCombiner<P::Message>, M: MasterCompute>(
     alloc: Global,
     graph: &Graph,

@@ -105,7 +105,7 @@ impl Fate for AllFall {
 // How many supersteps, attempts, workers and partitions a table has.
 const TABLE: u32 = 8 * 17 * 5 * 7;
 
-/// The fate by a table, by rising superstep, attempt, worker and partition. Past the table nobody falls.
+/// The fate by a table, by rising superstep, attempt, worker and partition. Past the table no worker falls.
 #[derive(Drop)]
 pub struct Table {
     pub falls: Vec<bool>,

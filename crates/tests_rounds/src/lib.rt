@@ -1,4 +1,4 @@
-//! What tests of workers and of services share: fates, a place to meet, runs in which nobody falls, the rounds of a
+//! What tests of workers and of services share: fates, a place to meet, runs in which no worker falls, the rounds of a
 //! run, simulated with plain numbers, and counts of what came of runs at random.
 #![tactic(auto)]
 

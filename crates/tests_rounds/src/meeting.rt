@@ -16,7 +16,7 @@ pub struct Meeting {
 }
 
 impl Meeting {
-    /// Nobody has come yet.
+    /// None has come yet.
     pub fn new() -> Meeting {
         Meeting {
             first: AtomicBool::new(false),

@@ -88,7 +88,7 @@ fn show<T: Plain>(value: &T, text: &mut String) -> Result<(), Memory> {
     value.show(text)
 }
 
-// The same value.
+// A copy of the value.
 fn copy_of<T: Plain>(alloc: Global, value: &T) -> Result<T, Memory> {
     value.copy(alloc)
 }

@@ -45,7 +45,7 @@ impl MessageCombiner<i64> for Least {
     }
 }
 
-/// Distances from a source, by way of the first message alone: where several come at once, it finds the
+/// Distances from a source, by way of only the first message: where several come at once, it finds the
 /// least of them only if they are combined, and else shows which one came first.
 #[derive(Drop)]
 struct FirstDistance {
@@ -291,7 +291,7 @@ fn are_distances<C: MessageCombiner<i64>>(
     Ok(())
 }
 
-// The same in ten supersteps at most, where messages to no vertex are dropped.
+// The run in ten supersteps at most, where messages to no vertex are dropped.
 fn finds<C: MessageCombiner<i64>>(
     rt: &impl Abort,
     alloc: Global,

@@ -114,7 +114,7 @@ fn paths_counted<R: Threads + Wait + Sync>(
     reported
 }
 
-// Whether so many calls were told and counted in each refresh, of these vertices.
+// Whether so many calls were reported and counted in each refresh, of these vertices.
 fn are(counts: &[(String, u64, u64)], wanted: &[(&str, u64, u64)]) -> bool {
     counts.len() == wanted.len()
         && counts.iter().zip(wanted).all(|(count, want)| {
@@ -123,7 +123,7 @@ fn are(counts: &[(String, u64, u64)], wanted: &[(&str, u64, u64)]) -> bool {
 }
 
 // As many calls as are reported, of the vertices whose inputs differ: all of them; 1, which has an edge more, and 3,
-// which hears of it; nobody, where an edge is added and taken away again.
+// which hears of it; none, where an edge is added and taken away again.
 #[test]
 fn those_are_called_whose_inputs_differ(rt: HostRuntime) -> Result<(), Fail> {
     let alloc = rt.alloc();

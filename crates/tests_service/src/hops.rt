@@ -252,7 +252,7 @@ pub(crate) fn refreshed_on<
     Ok(text)
 }
 
-// What a refresh tells in which nobody is made to fall, with checkpoints in memory.
+// What a refresh tells in which no worker is made to fall, with checkpoints in memory.
 pub(crate) fn refreshed<
     R: Threads + Wait + Sync,
     P: Computation,
@@ -306,7 +306,7 @@ pub(crate) fn told_on<
     Ok(text)
 }
 
-// What is told so of a refresh after each of these batches, with nobody made to fall.
+// What a refresh tells so after each of these batches, with no worker made to fall.
 fn told_after_each<R: Threads + Wait + Sync>(
     rt: &R,
     alloc: Global,
@@ -323,7 +323,7 @@ fn told_after_each<R: Threads + Wait + Sync>(
     Ok(text)
 }
 
-// What is told so of a service with these limits.
+// What a service with these limits tells so.
 pub(crate) fn told<R: Threads + Wait + Sync>(
     rt: &R,
     alloc: Global,

@@ -177,7 +177,7 @@ fn there_are_eight_readers(rt: HostRuntime) -> Result<(), Fail> {
     Ok(())
 }
 
-// What a reader looks at once it has learned one thing that was told, and then another.
+// What a reader looks at once it has learned of one publication, and then of another.
 fn learned_in_turn(
     reader: AnswerReader<i64>,
     one: Told<i64>,
@@ -191,7 +191,8 @@ fn learned_in_turn(
     (shown, again)
 }
 
-// What a reader looks at that learns what was told after each of two refreshes: of the second one first, or last.
+// What a reader looks at that learns what the service tells after each of two refreshes: of the second one first, or
+// last.
 fn learned<R: Threads + Wait + Sync>(
     rt: &R,
     alloc: Global,
@@ -234,8 +235,8 @@ fn look_within(reader: AnswerReader<i64>, gate: &Watched) -> (Option<Shown>, Ans
 }
 
 // What a reader in another thread has looked at while a worker of a refresh stood at its gate, and once it has learned
-// what is told after the refresh; whether the refresh gave a report, and whether the worker waited in vain; and how
-// often worker 0 and worker 1 have passed.
+// what the service tells after the refresh; whether the refresh gave a report, and whether the worker waited in vain;
+// and how often worker 0 and worker 1 have passed.
 #[derive(Clone, Copy, Debug, PartialEq, Eq)]
 struct Previous {
     within: Option<Shown>,
@@ -300,8 +301,8 @@ fn a_reader_looks_while_a_refresh_runs(rt: HostRuntime) -> Result<(), Fail> {
     Ok(())
 }
 
-// Whether a refresh gives a report whose workers all fall; and what a reader looks at then that learns what was told
-// before it, and what is told after it.
+// Whether a refresh gives a report whose workers all fall; and what a reader looks at then that learns what the
+// service told before it, and what it tells after it.
 fn refused<R: Threads + Wait + Sync>(
     rt: &R,
     alloc: Global,

@@ -80,7 +80,7 @@ fn refreshed<
     }
 }
 
-// The same with a shelf that keeps so much, and how often the shelf was asked.
+// That with a shelf that keeps so much, and how often the shelf was asked.
 fn refreshed_by<
     R: Threads + Wait + Sync,
     P: Computation,
@@ -145,7 +145,7 @@ struct Previous {
     touched: Vec<VertexId>,
 }
 
-// The calls of the steps in which nobody falls, and what such a run leaves: from scratch.
+// The calls of the steps in which no worker falls, and what such a run leaves: from scratch.
 fn unlost_first(
     alloc: Global,
     graph: &Graph,
@@ -159,7 +159,7 @@ fn unlost_first(
     unlost(alloc, graph, &program, &combiner, &master, limits)
 }
 
-// The calls of the steps in which nobody falls, and what such a run leaves: against what one left before.
+// The calls of the steps in which no worker falls, and what such a run leaves: against what one left before.
 fn unlost_next(
     alloc: Global,
     previous: &Previous,
@@ -214,7 +214,7 @@ fn is_answered(
     Ok(is_run && published(service) == Some(edition_of(service)))
 }
 
-// Refreshes, and gives what is kept then: what a run leaves in which nobody falls, or nothing after a refusal.
+// Refreshes, and gives what is kept then: what a run leaves in which no worker falls, or nothing after a refusal.
 fn tried<R: Threads + Wait + Sync>(
     rt: &R,
     alloc: Global,

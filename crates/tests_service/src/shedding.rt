@@ -1,4 +1,4 @@
-// Refreshes of a program that takes edges away, and of shortest paths beside which messages are combined, vertices
+// Refreshes of a program that takes edges away, and of shortest paths whose messages are combined, vertices
 // made, checkpoints counted. All was found by hand.
 use crate::hops::{
     Line, TWO_HOPS, batch_of, limits_of, master, program, refreshed, refreshed_on, service_of,
@@ -68,7 +68,7 @@ fn told_twice<
     Ok((first, second))
 }
 
-// The same of the three edges, by the program that takes edges away.
+// What comes of the three edges, by the program that takes edges away.
 fn shed<R: Threads + Wait + Sync, F: Fate>(
     rt: &R,
     alloc: Global,
@@ -83,7 +83,7 @@ fn shed<R: Threads + Wait + Sync, F: Fate>(
     reported
 }
 
-// Superstep 0 has another total of edges, so all are called there; superstep 1 has the same, so nobody is.
+// Superstep 0 has another total of edges, so all are called there; superstep 1 has the same, so none is.
 #[test]
 fn an_edge_is_added_and_taken_away(rt: HostRuntime) -> Result<(), Fail> {
     let alloc = rt.alloc();
@@ -238,7 +238,7 @@ fn told_and_ended<
     Ok((reported, ending_of(service)?))
 }
 
-// The same of a run of at most so many supersteps.
+// What comes of a run of at most so many supersteps.
 fn limited<R: Threads + Wait + Sync>(
     rt: &R,
     alloc: Global,
@@ -271,7 +271,7 @@ fn the_limit_is_reached(rt: HostRuntime) -> Result<(), Fail> {
     Ok(())
 }
 
-// What a refresh tells with nobody made to fall, and how many checkpoints were put and looked for.
+// What a refresh tells with no worker made to fall, and how many checkpoints were put and looked for.
 fn counted<
     R: Threads + Wait + Sync,
     P: Computation,
@@ -283,7 +283,7 @@ fn counted<
     Ok((reported, shelf.calls()))
 }
 
-// The same of a first refresh of two hops, where three partitions are saved after so many supersteps.
+// What comes of a first refresh of two hops, where three partitions are saved after so many supersteps.
 fn saved<R: Threads + Wait + Sync>(
     rt: &R,
     alloc: Global,
@@ -295,7 +295,7 @@ fn saved<R: Threads + Wait + Sync>(
     found
 }
 
-// All partitions are saved before superstep 1 and before superstep 2, or before superstep 2 alone, or never.
+// All partitions are saved before superstep 1 and before superstep 2, or only before superstep 2, or never.
 #[test]
 fn checkpoints_are_put_as_often_as_they_are_to_be(rt: HostRuntime) -> Result<(), Fail> {
     let alloc = rt.alloc();

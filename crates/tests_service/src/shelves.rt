@@ -1,4 +1,4 @@
-//! Honest shelves that count what they are asked: one that may fail, one that keeps beginnings alone, and one that
+//! Honest shelves that count what they are asked: one that may fail, one that keeps only beginnings, and one that
 //! keeps nothing.
 ghost use Rattle.std.specs.Prelude.{◌≡◌};
 

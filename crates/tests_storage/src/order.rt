@@ -95,7 +95,7 @@ fn are_put_in_order(alloc: Global, count: u32, spread: Jumping) -> Result<bool, 
     )
 }
 
-// Few ids are compared, and more are told apart by some bits at a time: at most 11 where there are 300, 15 with 5,000,
+// Few ids are compared, and more are sorted by some bits at a time: at most 11 where there are 300, 15 with 5,000,
 // and 18 with 40,000.
 #[test]
 fn ids_are_put_in_order(rt: HostRuntime) -> Result<(), Memory> {

@@ -1,4 +1,4 @@
-// A graph over the standard library's maps, of which edits are made one at a time, and what the tests beside it share.
+// A graph over the standard library's maps, of which edits are made one at a time, and what these tests share.
 ghost use Rattle.std.specs.Prelude.{◌≡◌, ◌<◌};
 
 use pg_graph::{Edit, Graph, Memory, Row, VertexId};

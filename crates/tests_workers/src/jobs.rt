@@ -122,7 +122,7 @@ pub(crate) fn driven<
     }
 }
 
-// The same of a run from scratch.
+// What comes of a run from scratch.
 pub(crate) fn first<
     R: Threads + Wait + Sync,
     P: Computation,
@@ -153,7 +153,7 @@ pub(crate) fn first<
     driven(rt, alloc, core, shelf, fate, gate, &wanted)
 }
 
-// The same of a run against what another one left, on a graph that differs at these ids.
+// What comes of a run against what another one left, on a graph that differs at these ids.
 pub(crate) fn after_first<
     R: Threads + Wait + Sync,
     P: Computation,

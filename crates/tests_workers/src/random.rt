@@ -146,7 +146,7 @@ fn tried_first<R: Threads + Wait + Sync>(
     })
 }
 
-// The same against what both left before.
+// Whether both agree against what both left before.
 fn tried_warm<R: Threads + Wait + Sync>(
     rt: &R,
     alloc: Global,
@@ -184,7 +184,7 @@ fn tried_warm<R: Threads + Wait + Sync>(
     })
 }
 
-// The same against what both left before, or from scratch where the run before was refused.
+// Whether both agree against what both left before, or from scratch where the run before was refused.
 fn tried_next<R: Threads + Wait + Sync>(
     rt: &R,
     alloc: Global,

@@ -26,7 +26,7 @@ enum Way {
     Turn,
 }
 
-// The fate by which the second worker falls in its first round, and nobody else.
+// The fate by which the second worker falls in its first round, and no other.
 #[derive(Drop)]
 struct SecondFalls;
 
