@@ -64,7 +64,8 @@ impl<V: Drop, M: Drop> Records<V, M> {
 
     /// A copy of the records, which shares their memory. Costs O(1).
     pub fn cheap_clone(&self) -> Result<Records<V, M>, Memory>
-        ensures { IfOk result (λ records. records ≡ self.now) }
+        ensures records { IfOk result (λ records. records ≡ self.now) }
+        ensures rising { HasRisingIds self.now }
     {
         Ok(Records {
             given: Arc::try_clone(&self.given)?,
@@ -95,7 +96,6 @@ impl<V: Drop, M: Drop> Records<V, M> {
         ensures records { IfOk result (λ records. records ≡ with_changes changes self.now) }
         ensures rising { HasRisingIds self.now }
     {
-        ids_rise(&self.changes);
         if changes.len() == 0 {
             return self.cheap_clone();
         }
@@ -113,7 +113,6 @@ impl<V: Drop, M: Drop> Records<V, M> {
         ensures records { IfOk result (λ found. found.items ≡ self.now) }
         ensures rising { HasRisingIds self.now }
     {
-        ids_rise(&self.changes);
         if self.changes.len() == 0 {
             return given_by(alloc, &self.given);
         }
@@ -126,7 +125,6 @@ impl<V: Drop, M: Drop> Records<V, M> {
     pub fn contributions(&self, alloc: Global) -> Result<Vec<(Place, i64)>, Memory>
         ensures { IfOk result (λ all. all.items ≡ contributions_of self.now) }
     {
-        ids_rise(&self.changes);
         if self.changes.len() == 0 {
             return contributions_by(alloc, &self.given);
         }
@@ -140,20 +138,12 @@ impl<V: Drop, M: Drop> Records<V, M> {
         ensures ids { IfOk result (λ ids. ids.items ≡ unhalted_after self.now) }
         ensures rising { HasRisingIds self.now }
     {
-        ids_rise(&self.changes);
         if self.changes.len() == 0 {
             return unhalted_by(alloc, &self.given);
         }
         let records = self.listed(alloc)?;
         unhalted_among(alloc, records.as_slice())
     }
-}
-
-/// Tells the prover that a map's ids rise.
-fn ids_rise<X>(map: &Map<X>)
-    ensures { HasRisingIds map.now }
-{
-    let _count = map.len();
 }
 
 /// The records of those of these vertices that have one by what is given and what is changed of that, where no other

@@ -7,7 +7,7 @@ use Rattle.pg_trace.proofs.records.shared.Goals as goal
 pub loop-records-preserved : goal.loop-records-preserved
 loop-records-preserved g c =
     taken_more c.args.supersteps.now c.loop-records.records-index c.loop-records-test.true c.records-item.is c.loop-records.invariant
-    (c.in_ok-push.ensures.items ∙ ap (λ r. c.loop-records.shared.items ++ r ∷ []) c.in_ok-cheap_clone.ensures)
+    (c.in_ok-push.ensures.items ∙ ap (λ r. c.loop-records.shared.items ++ r ∷ []) c.in_ok-cheap_clone.ensures.records)
 
 pub returns : goal.returns
 returns g c = c.loop-records.invariant ∙ take_all c.loop-records.records-index c.args.supersteps.now c.loop-records-test.false

@@ -24,9 +24,6 @@ returns-clause-records g c =
     ∙ changed_over c.args.changes c.self.inside.changes (with_changes given []) c.requires c.self.invariant.1 (given_rises given)
     ∙ ap (with_changes c.args.changes) c.self.view_is
 
-pub returns-then-len-eq0-clause-rising : goal.returns-then-len-eq0-clause-rising
-returns-then-len-eq0-clause-rising g c = kept_rise c.self.inside.changes (arc_value c.self.inside.given) c.self.view_is
-
 pub returns-clause-rising : goal.returns-clause-rising
 returns-clause-rising g c = kept_rise c.self.inside.changes (arc_value c.self.inside.given) c.self.view_is
 
