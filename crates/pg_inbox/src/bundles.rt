@@ -99,6 +99,8 @@ impl<M: Plain> Bundle<M> {
     pub(crate) fn unchanged(&self) -> Option<&[(VertexId, (VertexId, M))]>
         ensures message_lists { IfSome result (λ envelopes. self.now ≡ sent_message_lists envelopes.now) }
         ensures rise { IfSome result (λ envelopes. IsNonDecreasingBy (λ l. l.0) envelopes.now) }
+        ensures ids_rise { HasRisingIds self.now }
+        ensures hold { HoldAll M.is_value self.now }
     {
         if self.changes.len() > 0 {
             return None;

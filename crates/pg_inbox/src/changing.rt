@@ -47,8 +47,6 @@ fn differing<M: Plain>(
 ) -> Result<Vec<VertexId>, Memory>
     ensures { IfOk result (λ ids. AreChanged old.now new.now ids.items) }
 {
-    old.holds();
-    new.holds();
     let before = old.message_lists(alloc)?;
     let after = new.message_lists(alloc)?;
     differing_message_lists(alloc, before.as_slice(), after.as_slice())

@@ -2,7 +2,7 @@
 ghost use Rattle.std.specs.Prelude.{◌≡◌, length, map, None};
 ghost use Rattle.std.specs.List.Sorted.{IsNonDecreasingBy};
 ghost use Rattle.std.specs.Option.{option_map};
-ghost use Rattle.pg_map.specs.Entries.{value_at};
+ghost use Rattle.pg_map.specs.Entries.{HasRisingIds, value_at};
 ghost use Rattle.pg_inbox_messages.specs.Contents.{contents_of};
 ghost use Rattle.pg_inbox_messages.specs.Grouping.{any_of, items_to};
 ghost use Rattle.pg_inbox.specs.Holding.{HoldsAt};
@@ -42,7 +42,8 @@ impl<'a, M: Plain> Model for BundleCursor<'a, M> {
 impl<M: Plain> Bundle<M> {
     /// Look-ups of targets that come near one another.
     pub fn cursor(&self) -> BundleCursor<'_, M>
-        ensures { result ≡ self.now }
+        ensures value { result ≡ self.now }
+        ensures rise { HasRisingIds self.now }
     {
         BundleCursor {
             envelopes: self.envelopes.as_slice(),

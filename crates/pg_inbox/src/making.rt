@@ -101,8 +101,8 @@ fn envelopes_in_order<M: Plain>(
     Ok(envelopes)
 }
 
-/// A copy of a message.
-fn copied<M: Plain>(alloc: Global, message: &M) -> Result<M, Memory>
+/// A copy of a message, which is a value of its type.
+pub(crate) fn copied<M: Plain>(alloc: Global, message: &M) -> Result<M, Memory>
     ensures same { IfOk result (λ copied. copied ≡ message.now) }
     ensures value { IfOk result (λ copied. M.is_value copied) }
 {

@@ -1,8 +1,9 @@
 //! The message lists of a bundle: those of its envelopes, with what is changed of them.
 ghost use Rattle.std.specs.Prelude.{◌≡◌, ◌++◌, ◌∷◌, [], ℕ, List, Option, nat_le, nat_lt, IfOk, OnOk};
 ghost use Rattle.std.specs.List.Sorted.{IsNonDecreasingBy};
-ghost use Rattle.pg_map.specs.Entries.{ChangesRise, with_change};
+ghost use Rattle.pg_map.specs.Entries.{ChangesRise, HasRisingIds, with_change};
 ghost use Rattle.pg_inbox_messages.specs.declared.message_list.Contents.{Contents};
+ghost use Rattle.pg_inbox.specs.Holding.{HoldAll};
 ghost use Rattle.pg_inbox.specs.Sound.{message_lists_with, sent_message_lists};
 
 use crate::Bundle;
@@ -18,7 +19,9 @@ impl<M: Plain> Bundle<M> {
         &self,
         alloc: Global,
     ) -> Result<Vec<(VertexId, MessageListRef<'_, M>)>, Memory>
-        ensures { IfOk result (λ message_lists. message_lists.items ≡ self.now) }
+        ensures message_lists { IfOk result (λ message_lists. message_lists.items ≡ self.now) }
+        ensures rise { HasRisingIds self.now }
+        ensures hold { HoldAll M.is_value self.now }
     {
         let mut message_lists = Vec::with_capacity(alloc, self.changes.len())?;
         let mut left = self.envelopes.as_slice();

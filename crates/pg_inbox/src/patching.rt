@@ -17,6 +17,7 @@ ghost use Rattle.pg_inbox.specs.Patched.{IsPatched, TellsChanges};
 ghost use Rattle.pg_inbox.specs.Sound.{needed};
 
 use crate::changing::add_if_changed;
+use crate::making::copied;
 use crate::{Bundle, LoggedBundle, OutboxRef};
 use pg_global::MessageCombiner;
 use pg_graph::{Memory, VertexId};
@@ -227,7 +228,6 @@ fn changes_at<M: Plain, C: MessageCombiner<M>>(
     ensures changed { IfOk result (λ after. ChangesRise after.changes.items
         → AreChanged old.now (with_changes after.changes.items old.now) after.changed.items) }
 {
-    old.holds();
     let mut changes = Vec::with_capacity(alloc, message_edits.len())?;
     let mut changed = Vec::with_capacity(alloc, message_edits.len())?;
     let mut cursor = old.cursor();
@@ -435,8 +435,6 @@ fn add_envelope<M: Plain>(
     ensures items { OnOk result (envelopes.new.items ≡ envelopes.old.items ++ (sender, message.now) ∷ []) }
     ensures values { AllByRecursion (λ l. M.is_value l.1) envelopes.new.items }
 {
-    let message = message.copy(alloc)?;
-    message.fits();
-    envelopes.push((sender, message))?;
+    envelopes.push((sender, copied(alloc, message)?))?;
     Ok(())
 }

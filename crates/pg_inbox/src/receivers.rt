@@ -48,7 +48,6 @@ fn inboxes_in<M: Plain>(alloc: Global, bundle: &Bundle<M>) -> Result<Inboxes<M>,
     ensures rise { IfOk result (λ _. HasRisingIds bundle.now) }
     ensures hold { IfOk result (λ _. HoldAll M.is_value bundle.now) }
 {
-    bundle.holds();
     match bundle.unchanged() {
         Some(envelopes) => inboxes_sent(alloc, envelopes),
         None => inboxes_changed(alloc, bundle),
@@ -120,7 +119,6 @@ fn add_message_lists<'a, M: Plain>(
     ensures rise { HasRisingIds bundle.now }
     ensures hold { HoldAll M.is_value bundle.now }
 {
-    bundle.holds();
     let mut message_lists = bundle.message_lists(alloc)?;
     all.append(&mut message_lists)?;
     Ok(())

@@ -13,7 +13,7 @@ pub loop-target-init : goal.loop-target-init
 loop-target-init g c =
     let combining = g.C.MessageCombiner.combining c.args.combiner.now in
     record {
-      same = c.cursor-cursor.ensures;
+      same = c.cursor-cursor.ensures.value;
       items = ap (λ l. l ++ changes_of combining c.args.old.now (groups_of c.args.message_edits.now)) c.in_ok-changes.ensures.items;
       found = subst₂ (AreFound c.args.old.now) (sym c.in_ok-changes.ensures.items) (sym c.in_ok-changed.ensures.items) (found-none c.args.old.now);
       hold = subst (AllByRecursion (λ x. HoldsAt g.M.Plain.is_value x.1)) (sym c.in_ok-changes.ensures.items) tt;
@@ -41,4 +41,4 @@ loop-target-preserved g c =
 pub returns-clause-changed : goal.returns-clause-changed
 returns-clause-changed g c rise =
     found_all c.args.old.now c.loop-target.changes.items c.loop-target.changed.items
-    c.holds.ensures.rise c.loop-target.invariant.found rise
+    c.cursor-cursor.ensures.rise c.loop-target.invariant.found rise

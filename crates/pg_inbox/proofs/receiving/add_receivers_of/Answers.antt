@@ -7,7 +7,7 @@ use Rattle.pg_inbox.proofs.receiving.add_receivers_of.Goals as goal
 
 pub loop-id-init : goal.loop-id-init
 loop-id-init g c = record {
-  same = c.cursor-cursor.ensures;
+  same = c.cursor-cursor.ensures.value;
   added = λ q. sym (or_false (has_id c.args.receivers.now.items q));
 }
 

@@ -1,9 +1,11 @@
 use Rattle.pg_inbox_messages.specs.declared.message_list.Contents.{Contents}
 use Rattle.std.proofs.Common.{ℕ, Option, ◌++◌, ap, ◌∙◌, subst, sym}
 use Rattle.std.specs.List.Sorted.{IsNonDecreasingBy}
-use Rattle.pg_map.specs.Entries.{ChangesRise}
+use Rattle.pg_map.specs.Entries.{ChangesRise, HasRisingIds}
 use Rattle.pg_map.proofs.Parts.{rises_after}
+use Rattle.pg_inbox.specs.Shared.{envelopes_of}
 use Rattle.pg_inbox.specs.Sound.{message_lists_with}
+use Rattle.pg_inbox.proofs.Sent.{with_rise}
 use Rattle.pg_inbox.proofs.bundles.Bundle.message_lists.Goals as goal
 
 pub loop-id-init : goal.loop-id-init
@@ -29,8 +31,24 @@ loop-id-preserved g c =
           ∙ c.loop-id.invariant.message_lists;
     }
 
-pub returns : goal.returns
-returns g c =
+pub returns-clause-message_lists : goal.returns-clause-message_lists
+returns-clause-message_lists g c =
     c.in_ok-add_sent.ensures
     ∙ ap (λ cs. c.loop-id.message_lists.items ++ message_lists_with cs c.loop-id.left.now) (sym c.in-None.ensures.steps.0)
     ∙ c.loop-id.invariant.message_lists
+
+pub returns-clause-rise : goal.returns-clause-rise
+returns-clause-rise g c =
+    subst HasRisingIds c.self.view_is (with_rise c.self.inside.changes (envelopes_of c.self.inside.envelopes) c.self.invariant.envelopes_rise)
+
+pub returns-in_err-message_lists-clause-rise : goal.returns-in_err-message_lists-clause-rise
+returns-in_err-message_lists-clause-rise g c =
+    subst HasRisingIds c.self.view_is (with_rise c.self.inside.changes (envelopes_of c.self.inside.envelopes) c.self.invariant.envelopes_rise)
+
+pub returns-in_err-left-clause-rise : goal.returns-in_err-left-clause-rise
+returns-in_err-left-clause-rise g c =
+    subst HasRisingIds c.self.view_is (with_rise c.self.inside.changes (envelopes_of c.self.inside.envelopes) c.self.invariant.envelopes_rise)
+
+pub returns-in_err-add_sent-clause-rise : goal.returns-in_err-add_sent-clause-rise
+returns-in_err-add_sent-clause-rise g c =
+    subst HasRisingIds c.self.view_is (with_rise c.self.inside.changes (envelopes_of c.self.inside.envelopes) c.self.invariant.envelopes_rise)

@@ -5,5 +5,5 @@ use Rattle.pg_inbox.proofs.bundles.Bundle.messages_counted.Goals as goal
 
 pub returns : goal.returns
 returns g c =
-    IfOk-weaker c.messages_listed.result _ _ (λ count is. is ∙ ap (messages_where (λ _. true)) (c.as_slice.ensures.value ∙ c.in_ok-message_lists.ensures))
+    IfOk-weaker c.messages_listed.result _ _ (λ count is. is ∙ ap (messages_where (λ _. true)) (c.as_slice.ensures.value ∙ c.in_ok-message_lists.ensures.message_lists))
     c.messages_listed.ensures
