@@ -6,7 +6,7 @@ ghost use Rattle.pg_model.specs.ByIds.{state_first};
 ghost use Rattle.pg_part_routing.specs.Starting.{own, first_changes, first_states};
 
 use crate::PartitionOf;
-use pg_graph::{Graph, Memory, Row, VertexId};
+use pg_graph::{Cursor, Graph, Memory, Row, VertexId};
 use pg_model::VertexState;
 use pg_program::Computation;
 use std::alloc::Global;
@@ -67,7 +67,7 @@ fn begun<P: Computation>(
 }
 
 /// The states with which those of these vertices begin that belong to a partition, or none where the graph hasn't
-/// the vertex. Costs a look-up for each.
+/// the vertex. Costs a look-up for each, which is cheaper where ids come near one another.
 pub fn first_changes<P: Computation>(
     alloc: Global,
     graph: &Graph,
@@ -79,11 +79,10 @@ pub fn first_changes<P: Computation>(
         ≡ first_changes (P.program program.now) graph.now share.now.partitions share.now.partition ids.now) }
     ensures rising { HasRisingIds graph.now }
 {
-    // Tells the prover that the ids of the graph rise.
-    graph.iter();
+    let mut rows = graph.cursor();
     let mut changes = Vec::new(alloc);
     for id in ids {
-        add_change(alloc, &mut changes, graph, share, *id, program)?;
+        add_change(alloc, &mut changes, &mut rows, share, *id, program)?;
     }
     Ok(changes)
 }
@@ -92,18 +91,19 @@ pub fn first_changes<P: Computation>(
 fn add_change<P: Computation>(
     alloc: Global,
     changes: &mut Vec<(VertexId, Option<VertexState<P::Value>>)>,
-    graph: &Graph,
+    rows: &mut Cursor<'_, Row>,
     share: &PartitionOf,
     id: VertexId,
     program: &P,
 ) -> Result<(), Memory>
-    ensures { OnOk result (changes.new.items ≡ changes.old.items
-        ++ first_changes (P.program program.now) graph.now share.now.partitions share.now.partition (id ∷ [])) }
+    ensures changes { OnOk result (changes.new.items ≡ changes.old.items
+        ++ first_changes (P.program program.now) rows.old share.now.partitions share.now.partition (id ∷ [])) }
+    ensures same { rows.new ≡ rows.old }
 {
     if !share.has(id) {
         return Ok(());
     }
-    let state = first_state(alloc, graph.row(id), id, program)?;
+    let state = first_state(alloc, rows.get(id), id, program)?;
     changes.push((id, state))?;
     Ok(())
 }
