@@ -1,16 +1,13 @@
 -- States that are found the same.
-use Rattle.std.proofs.Common.{◌≡◌, ℕ, ℤ, ◌==◌, ◌&&◌, not, Bool, true, false, cond, List, [], ◌∷◌, refl, sym, ap₂, true≢false, IsTrue}
+use Rattle.std.proofs.Common.{◌≡◌, ℕ, ℤ, ◌==◌, ◌&&◌, not, Bool, true, false, cond, List, [], ◌∷◌, refl, sym, true≢false}
 use Rattle.std.specs.Cmp.Lexicographic.{pointwise}
 use Rattle.std.specs.List.{AllByRecursion}
 use Rattle.std.specs.Bool.{Decides}
 use Rattle.std.specs.Ordering.{int_eq}
 use Rattle.std.proofs.lemmas.Bool.{eqb-true}
-use Rattle.pg_model.specs.Needed.{edge_eq}
-use Rattle.pg_model.specs.declared.configuration.VertexWithInbox.{VertexWithInbox}
 use Rattle.pg_model.specs.declared.configuration.VertexState.{VertexState}
 use Rattle.pg_model.proofs.LawsDecides.{Decides-edge_eq, Decides-pointwise}
 use Rattle.pg_part_compute.specs.Diverged.{has_same_rest}
-use Rattle.pg_part_compute.specs.Found.{IsSameVertex, is_same_vertex}
 
 both : (a b : Bool) → (a && b) ≡ true → (a ≡ true) × (b ≡ true)
 both true b h = (refl, h)
@@ -25,7 +22,7 @@ all_anything : (es : List (ℕ × ℤ)) → AllByRecursion (λ e. Unit {0}) es
 all_anything [] = tt
 all_anything (e ∷ es) = (tt, all_anything es)
 
-edges_are : (es fs : List (ℕ × ℤ)) → Decides (pointwise (λ a b. (a.0 == b.0) && int_eq a.1 b.1) es fs) (es ≡ fs)
+pub edges_are : (es fs : List (ℕ × ℤ)) → Decides (pointwise (λ a b. (a.0 == b.0) && int_eq a.1 b.1) es fs) (es ≡ fs)
 edges_are es fs =
     Decides-pointwise (λ a b. (a.0 == b.0) && int_eq a.1 b.1) (λ e. Unit {0}) (λ a b _ _. Decides-edge_eq no_eq no_eq a b) es fs
     (all_anything es) (all_anything fs)
@@ -42,23 +39,3 @@ same_state x y values h =
     let edges : x.edges ≡ y.edges = (edges_are x.edges y.edges).0 d.0 in
     let votes = same_votes x.halted y.halted d.1 in
     λ i. record { id = ids i; value = values i; edges = edges i; halted = votes i }
-
--- lists that are equal one by one, where equal values are the same
-pub same_list : {X : Type 0} (eq : X → X → Bool) (is_value : X → Type 0) → ((x y : X) → is_value x → is_value y → IsTrue (eq x y) → x ≡ y)
-    → (xs ys : List X) → AllByRecursion is_value xs → AllByRecursion is_value ys → pointwise eq xs ys ≡ true → xs ≡ ys
-same_list eq is_value exact [] [] h k e = refl
-same_list eq is_value exact [] (y ∷ ys) h k e = absurd (true≢false (sym e))
-same_list eq is_value exact (x ∷ xs) [] h k e = absurd (true≢false (sym e))
-same_list eq is_value exact (x ∷ xs) (y ∷ ys) h k e =
-    let parts = both (eq x y) (pointwise eq xs ys) e in
-    ap₂ ◌∷◌ (exact x y h.0 k.0 parts.0) (same_list eq is_value exact xs ys h.1 k.1 parts.1)
-
--- vertices with the same id, value, edges and messages
-pub same_vertex : {V M : Type 0} (value_eq : V → V → Bool) (message_eq : M → M → Bool) (x y : VertexWithInbox V M)
-    → (value_eq x.state.value y.state.value ≡ true → x.state.value ≡ y.state.value) → (pointwise message_eq x.inbox y.inbox ≡ true → x.inbox ≡ y.inbox)
-    → is_same_vertex value_eq message_eq x y ≡ true → IsSameVertex x y
-same_vertex value_eq message_eq x y values messages h =
-    let a = both (x.state.id == y.state.id) _ h in
-    let b = both (value_eq x.state.value y.state.value) _ a.1 in
-    let c = both (pointwise (edge_eq value_eq message_eq) x.state.edges y.state.edges) (pointwise message_eq x.inbox y.inbox) b.1 in
-    record { id = eqb-true x.state.id y.state.id a.0; value = values b.0; edges = (edges_are x.state.edges y.state.edges).0 c.0; inbox = messages c.1 }

@@ -94,9 +94,9 @@ module _ {V M : Type 0} where
     abbrev pub is_reused : Bool → VertexPair V M → Bool
     is_reused same_view c = is_taken_over same_view c || are_inactive c.old c.new
 
-    -- one that is found the same is
-    abbrev pub IsEqSound : VertexPair V M → Type 0
-    IsEqSound c = are_same_reading c.old c.new ≡ true → AreSameVertices c.old c.new
+    -- one that is taken over is the same in both runs
+    abbrev pub IsEqSound : Bool → VertexPair V M → Type 0
+    IsEqSound same_view c = is_taken_over same_view c ≡ true → AreSameVertices c.old c.new
 
     module _ (program : Program V M) (view : View) (same_view : Bool) where
       -- what the superstep makes of its record: nothing new, or that of its execution, or none

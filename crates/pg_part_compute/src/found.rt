@@ -1,12 +1,12 @@
 //! The vertices that a step looks at.
 ghost use Rattle.std.specs.Prelude.{◌≡◌, ◌&&◌, not, IfOk, true};
 ghost use Rattle.std.specs.Cmp.Lexicographic.{pointwise};
-ghost use Rattle.std.specs.List.{AllByRecursion};
 ghost use Rattle.pg_model.specs.Superstep.{is_active};
 ghost use Rattle.pg_part_compute.specs.Found.{AreSameVertices, IsSameVertex, are_same_reading, is_running};
 ghost use Rattle.pg_part_compute.specs.Found.{is_same_vertex, with_inbox_of, vertex_of};
 ghost use Rattle.pg_trace.specs.Trace.{state_at};
 
+use crate::diverged::is_same_value;
 use pg_graph::{Edges, Memory, Missing, Superstep, VertexId};
 use pg_model::{Sequence, VertexState, VertexWithInbox};
 use pg_program::{Computation, Plain};
@@ -142,6 +142,7 @@ pub(crate) fn are_same_reading<V: Plain, M: Plain>(
     new: &Option<VertexWithInbox<V, M>>,
 ) -> bool
     ensures value { result ≡ are_same_reading V.PartialEq.eq M.PartialEq.eq old.now new.now }
+    ensures eq_is_sound { result ≡ true → AreSameVertices old.now new.now }
 {
     match (old, new) {
         (Some(old), Some(new)) => is_active(old) && is_active(new) && is_same_vertex(old, new),
@@ -175,52 +176,26 @@ fn is_same_vertex<V: Plain, M: Plain>(
     new: &VertexWithInbox<V, M>,
 ) -> bool
     ensures value { result ≡ is_same_vertex V.PartialEq.eq M.PartialEq.eq old.now new.now }
+    ensures eq_is_sound { result ≡ true → IsSameVertex old.now new.now }
 {
     old.state.id == new.state.id
-        && old.state.value == new.state.value
+        && is_same_value(&old.state.value, &new.state.value)
         && old.state.edges.as_slice() == new.state.edges.as_slice()
-        && old.inbox.as_slice() == new.inbox.as_slice()
+        && are_same_messages(old.inbox.as_slice(), new.inbox.as_slice())
 }
 
-/// Tells the prover that a vertex that is found the same in both runs is the same.
-pub(crate) fn pair_eq_is_sound<V: Plain, M: Plain>(
-    old: &Option<VertexWithInbox<V, M>>,
-    new: &Option<VertexWithInbox<V, M>>,
-)
-    ensures { are_same_reading V.PartialEq.eq M.PartialEq.eq old.now new.now ≡ true → AreSameVertices old.now new.now }
+/// Whether two lists have the same messages, in the same order.
+fn are_same_messages<M: Plain>(old: &[M], new: &[M]) -> bool
+    ensures value { result ≡ pointwise M.PartialEq.eq old.now new.now }
+    ensures eq_is_sound { result ≡ true → old.now ≡ new.now }
 {
-    if let (Some(old), Some(new)) = (old, new) {
-        vertex_eq_is_sound(old, new);
+    if old.len() != new.len() {
+        return false;
     }
-}
-
-/// Tells the prover that two vertices that `==` finds equal are equal, with their inboxes.
-fn vertex_eq_is_sound<V: Plain, M: Plain>(old: &VertexWithInbox<V, M>, new: &VertexWithInbox<V, M>)
-    ensures { is_same_vertex V.PartialEq.eq M.PartialEq.eq old.now new.now ≡ true → IsSameVertex old.now new.now }
-{
-    value_eq_is_sound(&old.state.value, &new.state.value);
-    messages_eq_is_sound(old.inbox.as_slice(), new.inbox.as_slice());
-}
-
-fn value_eq_is_sound<X: Plain>(old: &X, new: &X)
-    ensures { X.PartialEq.eq old.now new.now ≡ true → old.now ≡ new.now }
-{
-    old.fits();
-    new.fits();
-}
-
-fn messages_eq_is_sound<M: Plain>(old: &[M], new: &[M])
-    ensures { pointwise M.PartialEq.eq old.now new.now ≡ true → old.now ≡ new.now }
-{
-    messages_fit(old);
-    messages_fit(new);
-}
-
-/// Tells the prover that these messages are values of their type.
-fn messages_fit<M: Plain>(messages: &[M])
-    ensures { AllByRecursion M.is_value messages.now }
-{
-    for message in messages {
-        message.fits();
+    for place in 0..old.len() {
+        if !is_same_value(&old[place], &new[place]) {
+            return false;
+        }
     }
+    true
 }

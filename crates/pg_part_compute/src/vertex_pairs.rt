@@ -8,12 +8,12 @@ ghost use Rattle.std.specs.Map.{keys_of};
 ghost use Rattle.pg_part_compute.specs.VertexPairs.{AreWorkItems, AreFound, IsStepDelta, cold, unhalted_ids, found_at};
 ghost use Rattle.pg_part_routing.specs.Starting.{own};
 ghost use Rattle.pg_part_compute.specs.VertexCountsDeltas.{AreVertexCountsDelta, IsVertexCountsDelta};
-ghost use Rattle.pg_part_compute.specs.Found.{IsFound, IsEqSound, change_cold, reads};
+ghost use Rattle.pg_part_compute.specs.Found.{IsFound, change_cold, reads};
 ghost use Rattle.pg_model.specs.Superstep.{capped};
 ghost use Rattle.pg_program.specs.Context.{ShowsDeclared};
 
 use crate::execution::{Executor, StepContext, StepDelta, execute_found, execute_pairs};
-use crate::found::{VertexPair, copied_messages, pair_eq_is_sound, state_by, vertex_at};
+use crate::found::{VertexPair, copied_messages, state_by, vertex_at};
 use crate::reading::{bundle_refs_of, inboxes_at, with_empty};
 use pg_global::MessageCombiner;
 use pg_graph::{Memory, Missing, Superstep, VertexId};
@@ -302,10 +302,9 @@ fn found_warm<P: Computation, C: MessageCombiner<P::Message>>(
 ) -> Result<Vec<VertexPair<P::Value, P::Message>>, Memory>
     requires { IsStrictlySortedBy nat_cmp ids.now }
     ensures { IfOk result (λ vertex_pairs.
-        AreFound P.Value.PartialEq.eq P.Message.PartialEq.eq (P.program program.now) missing (C.combining combiner.now)
-        share.now.partitions share.now.partition superstep trace.now bundles.now (Some (old.now, old_bundles.now))
-        ids.now
-        (not same_view) vertex_pairs.items) }
+        AreFound (P.program program.now) missing (C.combining combiner.now) share.now.partitions share.now.partition
+        superstep trace.now bundles.now (Some (old.now, old_bundles.now)) ids.now (not same_view)
+        vertex_pairs.items) }
 {
     let refs = bundle_refs_of(alloc, bundles)?;
     let work_items = work_items(alloc, refs.as_slice(), ids, !same_view, combiner)?;
@@ -343,8 +342,6 @@ fn candidates_warm<P: Computation, C: MessageCombiner<P::Message>>(
     ensures old { IfOk result (λ vertex_pairs.
         AllByRecursion (λ c. IsFound (P.program program.now) missing (C.combining combiner.now) old.now superstep
         (map (λ b. b.now) old_bundles.now) c.id c.old) vertex_pairs.items) }
-    ensures eq_is_sound { IfOk result (λ vertex_pairs.
-        AllByRecursion (IsEqSound P.Value.PartialEq.eq P.Message.PartialEq.eq) vertex_pairs.items) }
 {
     let mut states = trace.states();
     let mut old_states = old.states();
@@ -371,7 +368,6 @@ fn candidates_warm<P: Computation, C: MessageCombiner<P::Message>>(
             old_bundles,
             id,
         )?;
-        pair_eq_is_sound(&old, &new);
         vertex_pairs.push(VertexPair { id, old, new })?;
     }
     Ok(vertex_pairs)

@@ -5,7 +5,7 @@ use Rattle.std.specs.Map.{keys_of}
 use Rattle.pg_model.proofs.LawsLists.{all-append}
 use Rattle.pg_part_routing.proofs.Listing.{one_taken}
 use Rattle.pg_part_compute.specs.VertexPairs.{found_at}
-use Rattle.pg_part_compute.specs.Found.{IsFound, IsEqSound, vertex_of}
+use Rattle.pg_part_compute.specs.Found.{IsFound, vertex_of}
 use Rattle.pg_trace.specs.Trace.{state_at}
 use Rattle.pg_part_compute.specs.declared.found.VertexPair.{VertexPair}
 use Rattle.pg_part_compute.proofs.vertex_pairs.candidates_warm.Goals as goal
@@ -20,8 +20,6 @@ loop-place-preserved g c =
     let next = one_taken all i (subst (λ n. i < n) c.len-place-end.ensures c.loop-place-test.true) (c.at-id.ensures one) in
     let have = c.loop-place.vertex_pairs.items in
     let more : VertexPair g.row.P-Value.Denot g.row.P-Message.Denot = record { id = one.0; old = c.in_ok-old.old; new = c.in_ok-new.new } in
-    let value_eq = g.P.Value.PartialEq.eq in
-    let message_eq = g.P.Message.PartialEq.eq in
     let combining = g.C.MessageCombiner.combining c.args.combiner.now in
     let warm : VertexPair g.row.P-Value.Denot g.row.P-Message.Denot → Type 0 =
     λ x. IsFound program c.args.missing combining c.args.old.now c.args.superstep (map (λ b. b.now) c.args.old_bundles.now) x.id x.old in
@@ -43,8 +41,6 @@ loop-place-preserved g c =
                 (map (λ b. b.now) c.args.old_bundles.now) one.0 c.in_ok-old.old) c.loop-place.invariant.old_states c.in_ok-old.ensures.found,
             tt,
           ));
-      eq_is_sound = subst (AllByRecursion (IsEqSound value_eq message_eq)) (sym pushed)
-          (all-append (IsEqSound value_eq message_eq) have (more ∷ []) c.loop-place.invariant.eq_is_sound (c.pair_eq_is_sound.ensures, tt));
       states = c.in_ok-new.ensures.same ∙ c.loop-place.invariant.states;
       old_states = c.in_ok-old.ensures.same ∙ c.loop-place.invariant.old_states;
     }

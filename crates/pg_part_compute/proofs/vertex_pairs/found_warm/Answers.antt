@@ -15,7 +15,7 @@ returns g c =
     let are = subst (λ bundles. AreWorkItems combining bundles c.args.ids.now (not c.args.same_view) work_items)
     (ap (map (λ b. b.now)) c.as_slice.ensures.value ∙ c.in_ok-refs.ensures) c.in_ok-work_items.ensures in
     let found = c.candidates_warm.ensures in
-    IfOk-four c.candidates_warm.result _ _ _ _ _ (λ vertex_pairs ids new old eq_is_sound. record {
+    IfOk-four c.candidates_warm.result _ _ _ _ _ (λ vertex_pairs ids new old _. record {
       work_items = work_items;
       are = are;
       ids_are = ids ∙ ap keys_of own;
@@ -24,5 +24,4 @@ returns g c =
           subst (λ bundles. AllByRecursion
           (λ k. IsFound program c.args.missing combining c.args.old.now c.args.superstep bundles k.id k.old) vertex_pairs.items)
           (ap (map (λ b. b.now)) c.as_slice-2.ensures.value ∙ c.in_ok-old_refs.ensures) old;
-      eq_is_sound = eq_is_sound;
-    }) found.ids found.new found.old found.eq_is_sound
+    }) found.ids found.new found.old found.old
