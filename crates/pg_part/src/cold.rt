@@ -35,12 +35,9 @@ pub(crate) fn step_delta<P: Computation, C: MessageCombiner<P::Message>>(
         part_run.now.trace
         bundles.now None (unhalted_ids part_run.now.place part_run.now.trace) true false step_context.meter
         step_delta) }
-    ensures some { IfOk result (λ _. 0 < part_run.now.partitions) }
     ensures vertex_counts_delta { IfOk result (λ step_delta. IfSome step_delta.vertex_counts_delta
         (IsVertexCountsDelta part_run.now.place part_run.now.trace step_delta.dirty_ids.items step_delta.changes)) }
 {
-    // Tells the prover that there is a partition.
-    part_run.partitions.partitions();
     let share = PartitionOf {
         partition: part_run.partition,
         partitions: part_run.partitions,
@@ -69,6 +66,7 @@ pub(crate) fn finish_step_cold<V: Plain, M: Plain, C: MessageCombiner<M>>(
     requires counts { part_run.place + 1 < 2 ^ 32 }
     requires vertex_counts_delta { IfSome step_delta.vertex_counts_delta
         (IsVertexCountsDelta part_run.place part_run.trace step_delta.dirty_ids.items step_delta.changes) }
+    ensures some { 0 < part_run.partitions }
     ensures finish_step { IfOk result (λ stepped.
         IsFinishedStepCold part_run step_delta.dirty_ids.items step_delta.changes (C.combining combiner.now)
         stepped.part_run stepped.sent) }

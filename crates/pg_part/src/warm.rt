@@ -40,10 +40,7 @@ pub(crate) fn step_delta_warm<P: Computation, C: MessageCombiner<P::Message>>(
         IsStepDeltaWarm P.Value.PartialEq.eq P.Message.PartialEq.eq (C.combining combiner.now) part_run.now old.now
         old_logs.now
         (P.program program.now) logs.now old_view.now step_context.view bundles.now step_context.meter step_delta) }
-    ensures some { IfOk result (λ _. 0 < part_run.now.partitions) }
 {
-    // Tells the prover that there is a partition.
-    part_run.partitions.partitions();
     let old_bundles = bundles_before(
         alloc,
         old_logs,
@@ -97,6 +94,7 @@ pub(crate) fn finish_step<V: Plain, M: Plain, C: MessageCombiner<M>>(
     requires rise { ChangesRise step_delta.changes }
     requires dirty_ids_rise { IsStrictlySortedBy nat_cmp step_delta.dirty_ids.items }
     requires counts { part_run.place + 1 < 2 ^ 32 }
+    ensures some { 0 < part_run.partitions }
     ensures finish_step { IfOk result (λ stepped.
         IsFinishedStep V.PartialEq.eq M.PartialEq.eq (C.combining combiner.now) part_run old old_logs.now
         step_delta.dirty_ids.items step_delta.changes stepped.part_run stepped.sent) }
@@ -126,8 +124,9 @@ fn rebuilt<V: Plain, M: Plain, C: MessageCombiner<M>>(
     old_logs: &Logs<M>,
     combiner: &C,
 ) -> Result<Sent<M>, Memory>
-    ensures { IfOk result (λ sent. IsSentWarm (C.combining combiner.now) part_run.now old.now old_logs.now changes.now
-        sent) }
+    ensures some { 0 < part_run.now.partitions }
+    ensures sent { IfOk result (λ sent.
+        IsSentWarm (C.combining combiner.now) part_run.now old.now old_logs.now changes.now sent) }
 {
     rebuilt_bundles(
         alloc,

@@ -1,5 +1,5 @@
 //! What a step sends, by the partition that receives it.
-ghost use Rattle.std.specs.Prelude.{◌≡◌, [], ◌∷◌, length, map, IfOk, OnOk};
+ghost use Rattle.std.specs.Prelude.{◌≡◌, ◌<◌, [], ◌∷◌, length, map, IfOk, OnOk};
 ghost use Rattle.std.specs.List.{flat_map};
 ghost use Rattle.std.specs.Option.{option_copied};
 ghost use Rattle.pg_part_routing.specs.Sending.{AreParts, HaveMore, pairs_by, pairs_of, sends_by, sends_by_records};
@@ -126,6 +126,7 @@ pub(crate) fn retracted_of<V: Plain, M: Plain>(
     superstep: Superstep,
     changes: &RecordChanges<V, M>,
 ) -> Result<Vec<Sequence<(VertexId, VertexId)>>, Memory>
+    ensures some { 0 < partitions }
     ensures len { IfOk result (λ parts. length parts.items ≡ partitions) }
     ensures parts { IfOk result
         (λ parts. AreParts partitions (flat_map (pairs_of old.now superstep) changes.now) parts.items) }
@@ -190,6 +191,7 @@ fn put<X: Drop>(
 
 /// Nothing for each partition.
 fn nothing_each<X: Drop>(alloc: Global, partitions: Partitioner) -> Result<Vec<Sequence<X>>, Memory>
+    ensures some { 0 < partitions }
     ensures len { IfOk result (λ none. length none.items ≡ partitions) }
     ensures none { IfOk result (λ none. AreParts partitions [] none.items) }
 {

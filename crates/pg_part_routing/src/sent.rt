@@ -71,6 +71,7 @@ pub fn fresh_bundles<V: Plain, M: Plain, C: MessageCombiner<M>>(
     changes: &RecordChanges<V, M>,
     combiner: &C,
 ) -> Result<Sent<M>, Memory>
+    ensures some { 0 < partitions }
     ensures to_each { IfOk result (λ sent. length sent ≡ partitions) }
     ensures sends { IfOk result (λ sent. (q : ℕ) → q < partitions
         → IsFresh (C.combining combiner.now) (items_to partitions q (flat_map sends_of changes.now))
@@ -169,6 +170,7 @@ pub fn rebuilt_bundles<V: Plain, M: Plain, C: MessageCombiner<M>>(
     logs: &Logs<M>,
     combiner: &C,
 ) -> Result<Sent<M>, Memory>
+    ensures some { 0 < partitions }
     ensures to_each { IfOk result (λ sent. length sent ≡ partitions) }
     ensures sends { IfOk result (λ sent. (q : ℕ) → q < partitions
         → IsRebuilt (C.combining combiner.now)

@@ -4,6 +4,9 @@ use Rattle.std.proofs.lemmas.Result.{IfOk-from_err}
 use Rattle.pg_part_routing.specs.Sending.{IsFresh, items_to, sends_of}
 use Rattle.pg_part.proofs.cold.finish_step_cold.Goals as goal
 
+pub returns-clause-some : goal.returns-clause-some
+returns-clause-some g c = subst (λ n. 0 < n) c.partitions.ensures c.in_ok-sent.ensures.some
+
 pub returns-clause-finish_step : goal.returns-clause-finish_step
 returns-clause-finish_step g c =
     let all = c.partitions.ensures in
@@ -19,10 +22,18 @@ pub returns-in_err-sent : goal.returns-in_err-sent
 returns-in_err-sent g c =
     let none = c.from_residual.ensures.0 in
     let at = c.from_residual.result in
-    record { finish_step = IfOk-from_err at _ none; counted = IfOk-from_err at _ none }
+    record {
+      some = subst (λ n. 0 < n) c.partitions.ensures c.in_err-sent.ensures.some;
+      finish_step = IfOk-from_err at _ none;
+      counted = IfOk-from_err at _ none;
+    }
 
 pub returns-in_err-part_run : goal.returns-in_err-part_run
 returns-in_err-part_run g c =
     let none = c.from_residual-in_err-part_run.ensures.0 in
     let at = c.from_residual-in_err-part_run.result in
-    record { finish_step = IfOk-from_err at _ none; counted = IfOk-from_err at _ none }
+    record {
+      some = subst (λ n. 0 < n) c.partitions.ensures c.in_ok-sent.ensures.some;
+      finish_step = IfOk-from_err at _ none;
+      counted = IfOk-from_err at _ none;
+    }

@@ -1,4 +1,4 @@
-use Rattle.std.proofs.Common.{◌<◌, None, true, false, IfSome, subst}
+use Rattle.std.proofs.Common.{None, true, false, IfSome, subst}
 use Rattle.std.proofs.lemmas.Result.{IfOk-weaker}
 use Rattle.pg_part_compute.specs.VertexPairs.{IsStepDelta, unhalted_ids}
 use Rattle.pg_part_compute.specs.VertexCountsDeltas.{IsVertexCountsDelta}
@@ -11,10 +11,6 @@ returns-clause-step_delta g c =
     IfOk-weaker c.execute_cold.result _ _ (λ step_delta is.
     subst (λ h. IsStepDelta g.P.Value.PartialEq.eq g.P.Message.PartialEq.eq program h.missing combining c.args.step_context.view h.partitions h.partition h.place h.trace
     c.args.bundles.now None (unhalted_ids h.place h.trace) true false c.args.step_context.meter step_delta) c.part_run.view_is is) c.execute_cold.ensures.step_delta
-
-pub returns-clause-some : goal.returns-clause-some
-returns-clause-some g c =
-    IfOk-weaker c.execute_cold.result _ _ (λ step_delta is. subst (λ h. 0 < h.partitions) c.part_run.view_is c.partitions.ensures.some) c.execute_cold.ensures.step_delta
 
 pub returns-clause-vertex_counts_delta : goal.returns-clause-vertex_counts_delta
 returns-clause-vertex_counts_delta g c =

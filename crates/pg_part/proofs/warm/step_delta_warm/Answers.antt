@@ -1,4 +1,4 @@
-use Rattle.std.proofs.Common.{◌<◌, Some, not, sym, ◌∙◌, subst, subst₂}
+use Rattle.std.proofs.Common.{Some, not, sym, ◌∙◌, subst, subst₂}
 use Rattle.std.specs.List.Sorted.{IsStrictlySortedBy}
 use Rattle.std.specs.Ordering.{nat_cmp}
 use Rattle.std.proofs.lemmas.Result.{IfOk-weaker}
@@ -50,10 +50,6 @@ returns-clause-step_delta_warm g c =
           (c.as_slice-2.ensures.value ∙ c.in_ok-old_bundles.ensures) c.as_slice-3.ensures.value is_step_delta);
       alike = λ id. subst (λ l. DeliverAlike combining id l bundles) (c.as_slice.ensures.value ∙ c.in_ok-old_bundles.ensures) (c.same_delivery.ensures id);
     })) c.execute_warm.ensures
-
-pub returns-clause-some : goal.returns-clause-some
-returns-clause-some g c =
-    IfOk-weaker c.execute_warm.result _ _ (λ step_delta is. subst (λ h. 0 < h.partitions) c.part_run.view_is c.partitions.ensures.some) c.execute_warm.ensures
 
 pub execute_warm-requires-clause-rise : goal.execute_warm-requires-clause-rise
 execute_warm-requires-clause-rise g c κs within =

@@ -32,7 +32,7 @@ returns-clause-stepped g c =
     subst (HasStepped job value_eq message_eq kept rows n p s stepped.part_run stepped.sent c.args.step_context.meter) (sym counted)
     (cold_steps value_eq message_eq c.args.self (g.P.Computation.program c.args.program.now)
     (g.C.MessageCombiner.combining c.args.combiner.now) c.args.step_context.view
-    c.args.step_context.meter c.args.bundles.now c.in_ok-step_delta.step_delta c.in_ok-step_delta.ensures.step_delta c.in_ok-step_delta.ensures.some stepped.part_run stepped.sent
+    c.args.step_context.meter c.args.bundles.now c.in_ok-step_delta.step_delta c.in_ok-step_delta.ensures.step_delta c.finish_step_cold.ensures.some stepped.part_run stepped.sent
     finish_step job kept rows n p s logs program combining holds advanced_past_end within has bundled sees))
     c.finish_step_cold.ensures.finish_step c.finish_step_cold.ensures.counted
 

@@ -49,7 +49,7 @@ returns-in_ok-step_delta-in-Some-clause-stepped g c =
     (λ stepped finish_step counted job kept rows n p s program combining holds within has bundled sees step_input.
     let steps = warm_steps value_eq message_eq values.laws.refl messages.laws.refl c.args.self old combining' program' c.args.logs.now c.args.old_logs.now
     c.args.old_view.now c.args.step_context.view c.args.bundles.now c.args.step_context.meter step_delta
-    (subst (λ h. 0 < h.partitions) rest c.in_ok-step_delta-in-Some.ensures.some)
+    (subst (λ h. 0 < h.partitions) rest c.finish_step.ensures.some)
     (sym c.split_trace-part_run.ensures.kept ∙ c.in-Some.is)
     (subst (λ h. IsStepDeltaWarm value_eq message_eq combining' h old c.args.old_logs.now program' c.args.logs.now c.args.old_view.now c.args.step_context.view
     c.args.bundles.now c.args.step_context.meter step_delta) rest c.in_ok-step_delta-in-Some.ensures.step_delta_warm)
