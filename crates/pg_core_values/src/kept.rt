@@ -76,8 +76,6 @@ impl<V: Plain> Values<V> {
     {
         let mut map = self.map.cheap_clone()?;
         map.change(alloc, changes)?;
-        // Tells the prover that ids rise.
-        map.len();
         Ok(Values { map })
     }
 
