@@ -272,8 +272,6 @@ impl<V: Plain, M: Plain> Part<V, M> {
             stats_history,
         } = self;
         let superstep = part_run.place();
-        // Tells the prover that there are at most 64.
-        part_run.partitions().partitions();
         let mut counted = meter.copy();
         let (part_run, sent) = part_run.step(
             alloc,

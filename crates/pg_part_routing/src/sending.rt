@@ -1,5 +1,5 @@
 //! What a step sends, by the partition that receives it.
-ghost use Rattle.std.specs.Prelude.{◌≡◌, ◌<◌, [], ◌∷◌, length, map, IfOk, OnOk};
+ghost use Rattle.std.specs.Prelude.{◌≡◌, ◌<◌, ◌≤◌, [], ◌∷◌, length, map, IfOk, OnOk};
 ghost use Rattle.std.specs.List.{flat_map};
 ghost use Rattle.std.specs.Option.{option_copied};
 ghost use Rattle.pg_part_routing.specs.Sending.{AreParts, HaveMore, pairs_by, pairs_of, sends_by, sends_by_records};
@@ -54,6 +54,7 @@ pub(crate) fn recorded_sends<V: Plain, M: Plain>(
     records: &[(VertexId, RecordRef<'_, V, M>)],
 ) -> Result<Vec<Outbox<M>>, Memory>
     ensures len { IfOk result (λ parts. length parts.items ≡ partitions) }
+    ensures few { IfOk result (λ _. (0 < partitions) × (partitions ≤ 64)) }
     ensures parts { IfOk result (λ parts. AreParts partitions (sends_by_records records.now) parts.items) }
 {
     let mut parts = no_sends_each(alloc, partitions, 0)?;
@@ -107,6 +108,7 @@ fn no_sends_each<M: Drop>(
     messages: usize,
 ) -> Result<Vec<Outbox<M>>, Memory>
     ensures len { IfOk result (λ none. length none.items ≡ partitions) }
+    ensures few { IfOk result (λ _. (0 < partitions) × (partitions ≤ 64)) }
     ensures none { IfOk result (λ none. AreParts partitions [] none.items) }
 {
     let share = messages / partitions.partitions() as usize;

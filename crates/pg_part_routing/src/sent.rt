@@ -1,5 +1,5 @@
 //! The bundles that a step sends, or has sent.
-ghost use Rattle.std.specs.Prelude.{◌≡◌, ℕ, ◌<◌, [], length, map, slice_get, slice_index_or, Some, IfOk, IfSome};
+ghost use Rattle.std.specs.Prelude.{◌≡◌, ℕ, ◌<◌, ◌≤◌, [], length, map, slice_get, slice_index_or, Some, IfOk, IfSome};
 ghost use Rattle.std.specs.List.{flat_map};
 ghost use Rattle.std.specs.Option.{option_copied};
 ghost use Rattle.pg_inbox.specs.LoggedBundle.{slot_at};
@@ -17,8 +17,8 @@ use pg_trace::{RecordChanges, Trace};
 use std::alloc::Global;
 use std::marker::Model;
 
-/// What a step sends: its bundle to each partition, with the targets at which that differs from the old run's
-/// where it has the superstep.
+/// What a step sends: its bundle to each of 1 to 64 partitions, with the targets at which that differs from the old
+/// run's where it has the superstep.
 pub struct Sent<M: Plain> {
     bundles: Vec<LoggedBundle<M>>,
 }
@@ -31,18 +31,22 @@ impl<M: Plain> Drop for Sent<M> {
 }
 
 impl<M: Plain> Model for Sent<M> {
-    ghost use Rattle.std.specs.Prelude.{List};
+    ghost use Rattle.std.specs.Prelude.{◌<◌, ◌≤◌, List, length};
     ghost use Rattle.pg_inbox.specs.declared.logs.LoggedBundle.{LoggedBundle};
 
     ghost Value = { List (LoggedBundle M) };
 
     ghost view = { λ s. s.bundles.items };
+
+    ghost invariant = { λ s. (0 < length s.bundles.items) × (length s.bundles.items ≤ 64) };
 }
 
 impl<M: Plain> Sent<M> {
     /// The bundles, by the partition that receives them.
     pub fn bundles(&self) -> &[LoggedBundle<M>]
-        ensures { result.now ≡ self.now }
+        ensures value { result.now ≡ self.now }
+        ensures some { 0 < length self.now }
+        ensures most { length self.now ≤ 64 }
     {
         self.bundles.as_slice()
     }
@@ -56,6 +60,8 @@ impl<M: Plain> Sent<M> {
     }
 
     fn of(bundles: Vec<LoggedBundle<M>>) -> Sent<M>
+        requires some { 0 < length bundles.items }
+        requires most { length bundles.items ≤ 64 }
         ensures { result ≡ bundles.items }
     {
         Sent { bundles }
@@ -207,6 +213,7 @@ fn each_rebuilt<M: Plain, C: MessageCombiner<M>>(
     requires retracted { length retracted.now ≡ partitions }
     requires added { length added.now ≡ partitions }
     ensures len { IfOk result (λ bundles. length bundles.items ≡ partitions) }
+    ensures few { IfOk result (λ _. (0 < partitions) × (partitions ≤ 64)) }
     ensures bundles { IfOk result (λ bundles. (q : ℕ) → q < partitions
         → IsRebuilt (C.combining combiner.now) (slice_index_or retracted.now q []) (slice_index_or added.now q [])
         (slot_at logs.now superstep from q) (slice_get bundles.items q)) }

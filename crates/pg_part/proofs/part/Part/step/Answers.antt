@@ -25,11 +25,10 @@ returns-clause-stepped g c job kept rows n p r program combining same held step_
     let registry = c.args.registry.now in
     let holds = subst (λ s. Holds job kept rows n p r s.part_run) (sym as_before) held.part_run in
     let stepped = c.in_ok-part_run.ensures.stepped job kept rows n p r program combining holds step_input warm in
-    let few = c.partitions.ensures ∙ holds.partitions_are in
-    let some = subst (λ (k : ℕ). 0 < k) few c.partitions-2.ensures.some in
+    let some = subst (λ (k : ℕ). 0 < k) stepped.to_each c.bundles-bundles.ensures.some in
     let is_next = next_stats_at registry _ before.graph _ before.member_changes _ before.stats _ before.old_stats _ _ part_run _ r _ sent next
     (ap (λ s. s.graph) as_before) (ap (λ s. s.member_changes) as_before) (ap (λ s. s.stats) as_before)
-    (ap (λ s. s.old_stats) as_before) refl (c.place-superstep.ensures ∙ holds.place_is) c.bundles-bundles.ensures history.is_next in
+    (ap (λ s. s.old_stats) as_before) refl (c.place-superstep.ensures ∙ holds.place_is) c.bundles-bundles.ensures.value history.is_next in
     let after = next_is job rows n p r some registry same before part_run sent stepped.to_each c.args.logs.now next
     kept held.stats stepped.holds stepped.changed_are stepped.sends _ _ warm is_next in
     record {
@@ -50,8 +49,7 @@ after-stats_history-requires-clause-counts g c κs lives =
 
 pub after-stats_history-requires-clause-few : goal.after-stats_history-requires-clause-few
 after-stats_history-requires-clause-few g c κs lives =
-    let many = ap length c.bundles-bundles.ensures ∙ (c.in_ok-part_run.ensures.to_each ∙ sym c.partitions.ensures) in
-    subst (λ (k : ℕ). k ≤ 64) (sym many) c.partitions-2.ensures.most
+    subst (λ (k : ℕ). k ≤ 64) (sym (ap length c.bundles-bundles.ensures.value)) c.bundles-bundles.ensures.most
 
 pub after-stats_history-requires-clause-there : goal.after-stats_history-requires-clause-there
 after-stats_history-requires-clause-there g c κs lives = below_next c.place-superstep.ensures c.self.invariant
