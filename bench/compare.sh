@@ -1,5 +1,5 @@
 #!/usr/bin/env bash
-# Times pregeld beside baseline.rs, a Pregel written by hand in plain Rust, on the same sessions.
+# Compares pregeld with baseline.rs, a Pregel written by hand in plain Rust, on the same sessions.
 # usage: bench/compare.sh [small|full] [TURNS]        needs rustc and python3
 # For each shape: the import alone, the first refresh (the whole session less the import), those of programs by hand
 # that keep what pregeld keeps, the ratios, and whether all wrote the same answers. Times are the least of TURNS turns (5),

@@ -1,5 +1,5 @@
 #!/usr/bin/env bash
-# Times refreshes after one changed edge beside the first refresh of the same session.
+# Times refreshes after one changed edge, compared with the first refresh of the same session.
 # usage: bench/edits.sh [small|full] [ROUNDS] [PROGRAM] [options of pregeld]        needs python3
 # For each shape: the first refresh (the session with it less the import), one commit, and one refresh after it (the
 # rounds with refreshes less those without, by their number), with its calls of compute. Times are the least of 3 turns.

@@ -1,5 +1,5 @@
 #!/usr/bin/env python3
-"""Runs sessions that nobody would write by the program and by the second computation of reference.py, and says for each
+"""Runs sessions that no one would write by the program and by the second computation of reference.py, and says for each
 kind how many were answered otherwise: python3 bench/hostile.py PROGRAM [RANDOM [JOBS]]
 
 bytes    each byte in each command: before it, in its first word, between words, behind it
@@ -10,7 +10,7 @@ quotes   a comma list with a quote more, or two, at each place
 random   RANDOM sessions (20,000 where it isn't said), 1 to 12 bytes of each changed, taken out or put in
 
 Statuses are compared too, and that standard error is empty or tells of the first line at fault. Sessions that are answered
-otherwise are written to the folder `hostile` beside the program."""
+otherwise are written to the folder `hostile` next to the program."""
 import multiprocessing
 import os
 import random

@@ -1,5 +1,5 @@
 #!/usr/bin/env python3
-"""What several partitions and workers cost beside one: python3 bench/partitions.py PROGRAM.. [--clock TURNS] [--path]
+"""What several partitions and workers cost compared with one: python3 bench/partitions.py PROGRAM.. [--clock TURNS] [--path]
 
 Instructions of a first refresh on 1, 2 and 4 partitions by one worker, on a grid of 10,000 vertices and on 100,000 random
 edges, of the shortest paths, and of ranks on the latter. With --clock, by turns on the large inputs (a million random edges,

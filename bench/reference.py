@@ -1,5 +1,5 @@
 #!/usr/bin/env python3
-"""A second computation of what sessions answer, written from the rules of the programs and commands alone.
+"""A second computation of what sessions answer, written only from the rules of the programs and commands.
 
 reference.py FOLDER..               says of each stored session (args, stdin, stdout) below the folders whether it answers this
 reference.py --random FOLDER ROUNDS  writes a random session for each program and policy into the folder, with its answers
@@ -392,7 +392,7 @@ def compare(folders):
 
 
 def random_edit(draw, graph):
-    """An edit that has a result, mostly; vertices are 1 to 12, and edges may lead to nobody."""
+    """An edit that has a result, mostly; vertices are 1 to 12, and edges may lead to missing vertices."""
     ids = sorted(graph)
     edges = [(id, target) for id in ids for target in graph[id][1]]
     what = draw.choice(["vertex", "input", "unvertex", "edge", "edge", "edge", "reweigh", "reweigh", "unedge", "unedge"])

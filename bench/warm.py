@@ -24,7 +24,7 @@ def edges_of(lines):
 
 
 def change(program, edge):
-    """The commands that change an edge, and that change it back: weights are read by the shortest paths alone."""
+    """The commands that change an edge, and that change it back: weights are read only by the shortest paths."""
     source, target, weight = edge
     if program == "sssp":
         return f"reweigh {source} {target} {100 - int(weight) // 2}\n", f"reweigh {source} {target} {weight}\n"
