@@ -84,8 +84,8 @@ fn finds<R: Threads + Wait + Sync + Abort>(
     service: &mut Searching,
     wanted: &Wanted<'_>,
 ) -> Result<(), Fail> {
-    let told = searched(rt, alloc, service)?;
-    assert_eq!(rt; told, (wanted.ending, wanted.supersteps, wanted.calls));
+    let found = searched(rt, alloc, service)?;
+    assert_eq!(rt; found, (wanted.ending, wanted.supersteps, wanted.calls));
     let answers = service.answers().ok_or("answers")?;
     assert!(rt; are_published(answers, wanted));
     Ok(())
