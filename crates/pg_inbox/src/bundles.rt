@@ -61,7 +61,8 @@ impl<M: Plain> Bundle<M> {
 
     /// A copy of the bundle, which shares its memory. Costs O(1).
     pub fn cheap_clone(&self) -> Result<Bundle<M>, Memory>
-        ensures { IfOk result (λ bundle. bundle ≡ self.now) }
+        ensures value { IfOk result (λ bundle. bundle ≡ self.now) }
+        ensures hold { HoldAll M.is_value self.now }
     {
         let envelopes = self.envelopes.cheap_clone()?;
         let changes = self.changes.cheap_clone()?;
@@ -73,14 +74,6 @@ impl<M: Plain> Bundle<M> {
         ensures { IsTrue result → self.now ≡ [] }
     {
         self.changes.len() == 0 && self.envelopes.as_slice().is_empty()
-    }
-
-    /// Tells the prover that each of its messages is a value of its type, and that its targets rise.
-    pub(crate) fn holds(&self)
-        ensures hold { HoldAll M.is_value self.now }
-        ensures rise { HasRisingIds self.now }
-    {
-        let _ = &self.changes;
     }
 
     /// The messages to a target. Costs a search among the changes and one among the envelopes, and as much as there

@@ -5,7 +5,7 @@ ghost use Rattle.std.specs.Option.{option_map};
 ghost use Rattle.pg_map.specs.Entries.{HasRisingIds, value_at};
 ghost use Rattle.pg_inbox_messages.specs.Contents.{contents_of};
 ghost use Rattle.pg_inbox_messages.specs.Grouping.{any_of, items_to};
-ghost use Rattle.pg_inbox.specs.Holding.{HoldsAt};
+ghost use Rattle.pg_inbox.specs.Holding.{HoldAll, HoldsAt};
 ghost use Rattle.pg_inbox.specs.Inboxes.{envelopes_at};
 
 use crate::Bundle;
@@ -44,6 +44,7 @@ impl<M: Plain> Bundle<M> {
     pub fn cursor(&self) -> BundleCursor<'_, M>
         ensures value { result ≡ self.now }
         ensures rise { HasRisingIds self.now }
+        ensures hold { HoldAll M.is_value self.now }
     {
         BundleCursor {
             envelopes: self.envelopes.as_slice(),

@@ -1,7 +1,6 @@
 //! What partitions send to each other: bundles, the inboxes that they make, and the logs of a run.
 #![tactic(auto)]
 
-mod alike;
 mod bundles;
 mod changing;
 mod counting;
@@ -19,7 +18,6 @@ mod receivers;
 mod receiving;
 mod sent_row;
 
-pub use alike::same_delivery;
 pub use bundles::Bundle;
 pub use changing::changed_targets;
 pub use cursor::BundleCursor;

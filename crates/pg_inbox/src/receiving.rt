@@ -6,7 +6,7 @@ ghost use Rattle.std.specs.Option.{option_to_list};
 ghost use Rattle.pg_map.specs.Entries.{value_at};
 ghost use Rattle.pg_model.specs.Superstep.{combined, has_id};
 ghost use Rattle.pg_inbox_messages.specs.Contents.{messages};
-ghost use Rattle.pg_inbox.specs.Holding.{HoldsAt};
+ghost use Rattle.pg_inbox.specs.Holding.{HoldAll, HoldsAt};
 ghost use Rattle.pg_inbox.specs.Inboxes.{Delivers, contents_to, folded_of, is_receiver, received_of};
 ghost use Rattle.pg_inbox.specs.Ordered.{in_order};
 
@@ -59,8 +59,9 @@ pub fn add_receivers<M: Plain>(
     ids: &[VertexId],
     bundles: &[Bundle<M>],
 ) -> Result<(), Memory>
-    ensures { OnOk result ((id : ℕ) → has_id receivers.new.items id
+    ensures added { OnOk result ((id : ℕ) → has_id receivers.new.items id
         ≡ (has_id receivers.old.items id || (has_id ids.now id && is_receiver bundles.now id))) }
+    ensures hold { OnOk result (AllByRecursion (HoldAll M.is_value) bundles.now) }
 {
     for bundle in bundles {
         add_receivers_of(receivers, ids, bundle)?;
@@ -74,8 +75,9 @@ fn add_receivers_of<M: Plain>(
     ids: &[VertexId],
     bundle: &Bundle<M>,
 ) -> Result<(), Memory>
-    ensures { OnOk result ((id : ℕ) → has_id receivers.new.items id
+    ensures added { OnOk result ((id : ℕ) → has_id receivers.new.items id
         ≡ (has_id receivers.old.items id || (has_id ids.now id && is_some (value_at id bundle.now)))) }
+    ensures hold { HoldAll M.is_value bundle.now }
 {
     let mut cursor = bundle.cursor();
     for id in ids {

@@ -26,8 +26,8 @@ loop-id-preserved g c = record {
       ∙ ap (λ b. has_id c.args.receivers.now.items q || (b && found)) (sym (has_id-more ids i id q c.loop-id-test.true c.id-item.is));
 }
 
-pub returns : goal.returns
-returns g c q =
+pub returns-clause-added : goal.returns-clause-added
+returns-clause-added g c q =
     let all = take_all c.loop-id.id-index c.args.ids.now c.loop-id-test.false in
     c.loop-id.invariant.added q
     ∙ ap (λ ids. has_id c.args.receivers.now.items q || (has_id ids q && is_some (value_at q c.args.bundle.now))) all
