@@ -1,5 +1,7 @@
 //! The bundles that a partition receives.
 ghost use Rattle.std.specs.Prelude.{◌≡◌, IfOk};
+ghost use Rattle.std.specs.List.{AllByRecursion};
+ghost use Rattle.pg_inbox.specs.Holding.{HoldAll};
 ghost use Rattle.pg_part_routing.specs.Routes.{bundles_at, bundles_before};
 
 use crate::Partitioner;
@@ -16,8 +18,9 @@ pub fn bundles_before<M: Plain>(
     to: PartitionId,
     superstep: Superstep,
 ) -> Result<Vec<Bundle<M>>, Memory>
-    ensures { IfOk result
+    ensures value { IfOk result
         (λ bundles. bundles.items ≡ bundles_before logs.now partitions to superstep) }
+    ensures hold { IfOk result (λ bundles. AllByRecursion (HoldAll M.is_value) bundles.items) }
 {
     match superstep.number().checked_sub(1) {
         Some(before) => bundles_at(alloc, logs, partitions, to, Superstep::new(before)),
@@ -33,7 +36,8 @@ fn bundles_at<M: Plain>(
     to: PartitionId,
     superstep: Superstep,
 ) -> Result<Vec<Bundle<M>>, Memory>
-    ensures { IfOk result (λ bundles. bundles.items ≡ bundles_at logs.now partitions to superstep) }
+    ensures value { IfOk result (λ bundles. bundles.items ≡ bundles_at logs.now partitions to superstep) }
+    ensures hold { IfOk result (λ bundles. AllByRecursion (HoldAll M.is_value) bundles.items) }
 {
     let mut bundles = Vec::new(alloc);
     for from in 0..partitions.partitions() {
