@@ -36,7 +36,7 @@ pub(crate) fn step_delta_warm<P: Computation, C: MessageCombiner<P::Message>>(
 ) -> Result<StepDelta<P::Value, P::Message>, Memory>
     requires shown { ShowsDeclared (P.program program.now).declared step_context.view }
     requires fits { step_context.meter < 2 ^ 64 }
-    ensures step_delta_warm { IfOk result (λ step_delta.
+    ensures { IfOk result (λ step_delta.
         IsStepDeltaWarm P.Value.PartialEq.eq P.Message.PartialEq.eq (C.combining combiner.now) part_run.now old.now
         old_logs.now
         (P.program program.now) logs.now old_view.now step_context.view bundles.now step_context.meter step_delta) }

@@ -9,8 +9,8 @@ use Rattle.pg_part.specs.PartRun.{PartRunState}
 use Rattle.pg_part.specs.Warm.{IsStepDeltaWarm}
 use Rattle.pg_part.proofs.warm.step_delta_warm.Goals as goal
 
-pub returns-clause-step_delta_warm : goal.returns-clause-step_delta_warm
-returns-clause-step_delta_warm g c =
+pub returns : goal.returns
+returns g c =
     let value_eq = g.P.Value.PartialEq.eq in
     let message_eq = g.P.Message.PartialEq.eq in
     let combining = g.C.MessageCombiner.combining c.args.combiner.now in

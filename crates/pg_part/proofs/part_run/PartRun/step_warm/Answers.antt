@@ -9,11 +9,11 @@ use Rattle.pg_part.proofs.part_run.PartRun.step_warm.Goals as goal
 
 pub finish_step-requires-clause-rise : goal.finish_step-requires-clause-rise
 finish_step-requires-clause-rise g c κs within =
-    step_delta_rise g.V.PartialEq.eq g.M.PartialEq.eq _ _ _ _ _ _ _ _ _ _ _ _ _ _ _ c.in_ok-step_delta-in-Some.ensures.step_delta_warm.is
+    step_delta_rise g.V.PartialEq.eq g.M.PartialEq.eq _ _ _ _ _ _ _ _ _ _ _ _ _ _ _ c.in_ok-step_delta-in-Some.ensures.is
 
 pub finish_step-requires-clause-dirty_ids_rise : goal.finish_step-requires-clause-dirty_ids_rise
 finish_step-requires-clause-dirty_ids_rise g c κs within =
-    dirty_ids_rise g.V.PartialEq.eq g.M.PartialEq.eq _ _ _ _ _ _ _ _ _ _ _ _ _ _ _ c.in_ok-step_delta-in-Some.ensures.step_delta_warm.is
+    dirty_ids_rise g.V.PartialEq.eq g.M.PartialEq.eq _ _ _ _ _ _ _ _ _ _ _ _ _ _ _ c.in_ok-step_delta-in-Some.ensures.is
 
 pub returns-in_ok-step_delta-in-Some-clause-advanced : goal.returns-in_ok-step_delta-in-Some-clause-advanced
 returns-in_ok-step_delta-in-Some-clause-advanced g c =
@@ -52,7 +52,7 @@ returns-in_ok-step_delta-in-Some-clause-stepped g c =
     (subst (λ h. 0 < h.partitions) rest c.finish_step.ensures.some)
     (sym c.split_trace-part_run.ensures.kept ∙ c.in-Some.is)
     (subst (λ h. IsStepDeltaWarm value_eq message_eq combining' h old c.args.old_logs.now program' c.args.logs.now c.args.old_view.now c.args.step_context.view
-    c.args.bundles.now c.args.step_context.meter step_delta) rest c.in_ok-step_delta-in-Some.ensures.step_delta_warm)
+    c.args.bundles.now c.args.step_context.meter step_delta) rest c.in_ok-step_delta-in-Some.ensures)
     stepped.part_run stepped.sent
     (subst
     (λ h. IsFinishedStep value_eq message_eq combining' h old c.args.old_logs.now step_delta.dirty_ids.items step_delta.changes stepped.part_run stepped.sent) rest
