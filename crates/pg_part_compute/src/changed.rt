@@ -1,6 +1,8 @@
 //! The vertices that a step against an old run has to look at.
 ghost use Rattle.std.specs.Prelude.{◌≡◌, ℕ, ◌+◌, ◌<◌, false, Option, IfOk, OnOk};
+ghost use Rattle.std.specs.List.{AllByRecursion};
 ghost use Rattle.std.specs.Option.{option_copied};
+ghost use Rattle.pg_inbox.specs.Holding.{HoldAll};
 ghost use Rattle.pg_inbox.specs.LoggedBundle.{slot_at};
 ghost use Rattle.pg_model.specs.Job.{Combining};
 ghost use Rattle.pg_model.specs.Superstep.{has_id};
@@ -45,9 +47,10 @@ pub fn dirty_ids<V: Plain, M: Plain>(
     bundles: &[Bundle<M>],
     same_view: bool,
 ) -> Result<Vec<VertexId>, Memory>
-    ensures { IfOk result (λ ids. (combining : Option (Combining M)) →
+    ensures dirty { IfOk result (λ ids. (combining : Option (Combining M)) →
         AreDirtyIds combining bundles.now partitions partition superstep trace.now diverged.now.live.items
         diverged.now.quiescent.items logs.now old_logs.now same_view ids.items) }
+    ensures hold { IfOk result (λ _. AllByRecursion (HoldAll M.is_value) bundles.now) }
 {
     let mut ids = changed_before(alloc, partitions, partition, superstep, logs, old_logs)?;
     add_all(&mut ids, diverged.live.as_slice())?;

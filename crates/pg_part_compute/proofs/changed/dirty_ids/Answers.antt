@@ -5,8 +5,8 @@ use Rattle.pg_inbox.proofs.Among.{in_neither, neither, not_second}
 use Rattle.pg_inbox.proofs.Delivery.{delivers_nothing}
 use Rattle.pg_part_compute.proofs.changed.dirty_ids.Goals as goal
 
-pub returns : goal.returns
-returns g c combining =
+pub returns-clause-dirty : goal.returns-clause-dirty
+returns-clause-dirty g c combining =
     let live = c.args.diverged.now.live.items in
     let before : (id : ℕ) → has_id c.rising.result.items id ≡ false → has_id c.add_unhalted.new.ids.items id ≡ false =
     λ id other. sym (c.rising.ensures.same id) ∙ other in
@@ -14,7 +14,7 @@ returns g c combining =
     × (has_id c.as_slice-2.result.now id ≡ true → is_receiver c.args.bundles.now id ≡ false) =
     λ id other.
     let none = neither (has_id c.add_all.new.ids.items id) (has_id c.as_slice-2.result.now id && is_receiver c.args.bundles.now id)
-    (sym (c.in_ok-add_receivers.ensures id) ∙ (c.in_ok-add_unhalted.ensures id (before id other)).0) in
+    (sym (c.in_ok-add_receivers.ensures.added id) ∙ (c.in_ok-add_unhalted.ensures id (before id other)).0) in
     (none.0, not_second (has_id c.as_slice-2.result.now id) (is_receiver c.args.bundles.now id) none.1) in
     let parts : (id : ℕ) → has_id c.rising.result.items id ≡ false → (has_id c.in_ok-ids.ids.items id ≡ false) × (has_id live id ≡ false) =
     λ id other. in_neither c.in_ok-ids.ids.items live c.add_all.new.ids.items
