@@ -11,7 +11,7 @@ use crate::PartRun;
 use crate::part_run::{Stepped, with_records};
 use pg_global::MessageCombiner;
 use pg_graph::{Memory, Superstep, VertexId};
-use pg_inbox::{Bundle, Logs, same_delivery};
+use pg_inbox::{Bundle, Logs};
 use pg_model::View;
 use pg_part_compute::{
     StepContext, StepDelta, dirty_ids, diverged_after, execute_warm, is_same_view,
@@ -48,7 +48,6 @@ pub(crate) fn step_delta_warm<P: Computation, C: MessageCombiner<P::Message>>(
         part_run.partition,
         part_run.place,
     )?;
-    same_delivery(old_bundles.as_slice(), bundles, combiner);
     let same_view = is_same_view(old_view, &step_context.view);
     let ids = dirty_ids(
         alloc,

@@ -1,8 +1,10 @@
 use Rattle.std.proofs.Common.{Some, not, sym, ◌∙◌, subst, subst₂}
 use Rattle.std.specs.List.Sorted.{IsStrictlySortedBy}
+use Rattle.std.specs.List.{AllByRecursion}
 use Rattle.std.specs.Ordering.{nat_cmp}
 use Rattle.std.proofs.lemmas.Result.{IfOk-weaker}
-use Rattle.pg_inbox.specs.Alike.{DeliverAlike}
+use Rattle.pg_inbox.specs.Holding.{HoldAll}
+use Rattle.pg_inbox.proofs.SameDelivery.{alike}
 use Rattle.pg_part_compute.specs.VertexPairs.{AreDirtyIds, IsStepDelta}
 use Rattle.pg_part_routing.specs.Routes.{bundles_before}
 use Rattle.pg_part.specs.PartRun.{PartRunState}
@@ -13,6 +15,8 @@ pub returns : goal.returns
 returns g c =
     let value_eq = g.P.Value.PartialEq.eq in
     let message_eq = g.P.Message.PartialEq.eq in
+    let is_value = g.P.Message.Plain.is_value in
+    let laws = g.met.C.MessageCombiner g.world.𝓛 g.world.𝓜 g.world.𝓡 ((λ s x. x), (λ x. x), (λ x. x), λ x. x) in
     let combining = g.C.MessageCombiner.combining c.args.combiner.now in
     let program = g.P.Computation.program c.args.program.now in
     let old = c.args.old.now in
@@ -41,17 +45,18 @@ returns g c =
       ids = ids;
       looked = subst
           (λ b. AreDirtyIds combining bundles part_run.partitions part_run.partition part_run.place part_run.trace part_run.live part_run.quiescent logs old_logs b ids)
-          c.is_same_view-same_view.ensures (c.in_ok-ids.ensures combining);
+          c.is_same_view-same_view.ensures (c.in_ok-ids.ensures.dirty combining);
       is = subst (λ b. IsStepDelta value_eq message_eq program part_run.missing combining view part_run.partitions part_run.partition part_run.place part_run.trace bundles
           (Some (old, bundles_before old_logs part_run.partitions part_run.partition part_run.place)) ids (not b) b meter step_delta) c.is_same_view-same_view.ensures
           (subst₂
           (λ x y. IsStepDelta value_eq message_eq program part_run.missing combining view part_run.partitions part_run.partition part_run.place part_run.trace bundles
           (Some (old, x)) y (not same_view) same_view meter step_delta)
-          (c.as_slice-2.ensures.value ∙ c.in_ok-old_bundles.ensures) c.as_slice-3.ensures.value is_step_delta);
-      alike = λ id. subst (λ l. DeliverAlike combining id l bundles) (c.as_slice.ensures.value ∙ c.in_ok-old_bundles.ensures) (c.same_delivery.ensures id);
+          (c.as_slice.ensures.value ∙ c.in_ok-old_bundles.ensures.value) c.as_slice-2.ensures.value is_step_delta);
+      alike = λ id. alike id is_value combining (laws.lawful c.args.combiner.now) (bundles_before old_logs part_run.partitions part_run.partition part_run.place) bundles
+          (subst (AllByRecursion (HoldAll is_value)) c.in_ok-old_bundles.ensures.value c.in_ok-old_bundles.ensures.hold) c.in_ok-ids.ensures.hold;
     })) c.execute_warm.ensures
 
 pub execute_warm-requires-clause-rise : goal.execute_warm-requires-clause-rise
 execute_warm-requires-clause-rise g c κs within =
-    subst (IsStrictlySortedBy nat_cmp) (sym c.as_slice-3.ensures.value)
-    (c.in_ok-ids.ensures (g.C.MessageCombiner.combining c.args.combiner.now)).rise
+    subst (IsStrictlySortedBy nat_cmp) (sym c.as_slice-2.ensures.value)
+    (c.in_ok-ids.ensures.dirty (g.C.MessageCombiner.combining c.args.combiner.now)).rise
