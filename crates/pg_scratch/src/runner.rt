@@ -295,7 +295,6 @@ pub fn run<P: Computation, C: MessageCombiner<P::Message>, M: MasterCompute>(
         return Err(RunFault::Unregistered);
     }
     let registrations = registrations_of(alloc, &registry)?;
-    let _count = meter.count();
     let runner = Runner {
         program,
         combiner,
