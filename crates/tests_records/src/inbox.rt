@@ -470,8 +470,8 @@ fn counted_with_changes(rt: HostRuntime) -> Result<(), Memory> {
 
 // What 4 receives where who sent first doesn't have the lower id.
 fn inbox_of_turned(alloc: Global) -> Result<String, Memory> {
-    let turned = bundle_of(alloc, &[(3, 4, 2), (1, 4, 3)], AnyCombiner::NoCombiner)?;
-    inbox_of(alloc, &[&turned], 4, AnyCombiner::NoCombiner)
+    let reversed = bundle_of(alloc, &[(3, 4, 2), (1, 4, 3)], AnyCombiner::NoCombiner)?;
+    inbox_of(alloc, &[&reversed], 4, AnyCombiner::NoCombiner)
 }
 
 #[test]

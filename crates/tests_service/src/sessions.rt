@@ -247,10 +247,10 @@ fn tried<R: Threads + Wait + Sync>(
         is_answered(alloc, service, &previous.graph, setting)?
     };
     if told != wanted {
-        return Err(Fail::from("a refresh went otherwise than it is played"));
+        return Err(Fail::from("a refresh went otherwise than it is simulated"));
     }
     if asked != simulation.puts().saturating_add(simulation.gets()) {
-        return Err(Fail::from("the shelf was asked otherwise than it is played"));
+        return Err(Fail::from("the shelf was asked otherwise than it is simulated"));
     }
     if !is_published {
         return Err(Fail::from("what is published isn't what should be"));

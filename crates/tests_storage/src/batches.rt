@@ -140,7 +140,7 @@ fn a_hub_is_edited(rt: HostRuntime) -> Result<(), EditFault> {
     for (vertices, degree) in [(191, 192), (191, 257), (192, 192), (192, 257)] {
         for edits in EDITS {
             let is_edited = hub_is_edited(rt.alloc(), vertices, degree, edits)?;
-            assert!(rt; is_edited, "{edits} edits of {degree} beside {vertices}");
+            assert!(rt; is_edited, "{edits} edits of {degree} among {vertices}");
         }
     }
     Ok(())

@@ -113,7 +113,7 @@ fn as_simulated(
     {
         return Ok(simulated);
     }
-    Err(Fail::from("a run went otherwise than it is played"))
+    Err(Fail::from("a run went otherwise than it is simulated"))
 }
 
 // A run from scratch at random, and one without losses: what both leave where the first one ended.
