@@ -3,7 +3,7 @@ use Rattle.std.proofs.Common.{◌≡◌, ℕ, ◌+◌, ◌<◌, ◌≤◌, List,
 use Rattle.std.specs.List.{AllByRecursion, flat_map}
 use Rattle.std.proofs.lemmas.List.{map-append, take_all, take_more}
 use Rattle.pg_model.proofs.LawsLists.{all-append}
-use Rattle.pg_part_routing.proofs.Listing.{flat_map-push}
+use Rattle.pg_part.proofs.Handed.{flat_map-push}
 
 -- six parts, one after another
 pub six_parts : {X E : Type 0} (r : Result X E) (old one two three four five six a b c d e f : List ℕ) → a ≡ old ++ one → b ≡ a ++ two

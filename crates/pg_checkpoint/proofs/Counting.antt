@@ -11,7 +11,7 @@ use Rattle.std.specs.Ordering.{is_lt, nat_cmp}
 use Rattle.std.specs.declared.cmp.Ordering.TheVariants.{Less}
 use Rattle.std.proofs.lemmas.List.{take_all}
 use Rattle.pg_checkpoint.specs.Records.{Supersteps, edges_behind, ids_behind}
-use Rattle.pg_trace_index.specs.Records.{last_record}
+use Rattle.pg_trace.specs.Handed.{last_record}
 use Rattle.pg_model.specs.Superstep.{has_id}
 use Rattle.pg_model.specs.declared.configuration.VertexState.{VertexState}
 use Rattle.pg_stats.specs.VertexCounts.{states_among}

@@ -11,7 +11,7 @@ use Rattle.pg_model.specs.Job.{Job}
 use Rattle.pg_model.specs.Run.{run_length}
 use Rattle.pg_model.specs.declared.configuration.VertexState.{VertexState}
 use Rattle.pg_part.specs.Part.{HoldsShare, PartState}
-use Rattle.pg_part_routing.proofs.Beginning.{begun_holds}
+use Rattle.pg_part.proofs.Handed.{begun_holds}
 
 module _ {V M : Type 0} (is_value : V → Type 0) (value : V → List ℕ) (is_message : M → Type 0) (message : M → List ℕ) (asked : Asked V M)
     (job : Job V M) (kept : Option Rows) (r : ℕ) (saved : PartState V M) where

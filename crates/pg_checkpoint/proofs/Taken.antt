@@ -20,8 +20,8 @@ use Rattle.pg_model.specs.Run.{run_length}
 use Rattle.pg_model.specs.declared.configuration.VertexState.{VertexState}
 use Rattle.pg_part.specs.Part.{HoldsShare, PartState}
 use Rattle.pg_program.specs.Coding.{natural_coding}
-use Rattle.pg_part_routing.specs.Starting.{PartRows}
-use Rattle.pg_part_routing.proofs.Beginning.{begun_holds}
+use Rattle.pg_part.specs.Handed.{PartRows}
+use Rattle.pg_part.proofs.Handed.{begun_holds}
 
 -- the number of out-edges that is told, where it is told and fits
 abbrev Agrees : Option ℕ → ℕ → Type 0

@@ -5,7 +5,7 @@ use Rattle.std.specs.List.{AllByRecursion, list_all}
 use Rattle.pg_checkpoint.specs.Records.{Supersteps}
 use Rattle.pg_checkpoint.specs.declared.reading.Unread.{Unread}
 use Rattle.pg_checkpoint.specs.declared.reading.Unread.TheVariants.{Damaged, Memory}
-use Rattle.pg_graph_rows.specs.EdgeList.{IsRising}
+use Rattle.pg_graph.specs.Handed.{IsRising}
 use Rattle.pg_graph.specs.Rows.{row_at}
 use Rattle.pg_graph.specs.declared.missing.Missing.{Missing}
 use Rattle.pg_graph.specs.declared.missing.Missing.TheVariants.{Create, Drop}
@@ -13,7 +13,7 @@ use Rattle.pg_map.specs.Entries.{HasRisingIds}
 use Rattle.pg_model.specs.Job.{has_place}
 use Rattle.pg_model.specs.Share.{belongs}
 use Rattle.pg_model.specs.declared.record.Record.{Record}
-use Rattle.pg_part_routing.specs.Starting.{PartRows}
+use Rattle.pg_part.specs.Handed.{PartRows}
 
 -- the vertices of the partition, what becomes of undeliverable messages, and the places to which the program
 -- contributes

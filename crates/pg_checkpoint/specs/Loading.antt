@@ -14,7 +14,7 @@ use Rattle.pg_model.specs.Job.{Aggregating, Job, Program}
 use Rattle.pg_model.specs.Run.{run_length}
 use Rattle.pg_model.specs.declared.configuration.VertexState.{VertexState}
 use Rattle.pg_part.specs.Part.{HoldsShare, PartState}
-use Rattle.pg_part_routing.specs.Starting.{PartRows, first_states}
+use Rattle.pg_part.specs.Handed.{PartRows, first_states}
 
 -- a p, and the number of the partition in decimal
 abbrev pub key_of : ℕ → List ℕ

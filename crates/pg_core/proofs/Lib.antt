@@ -11,3 +11,4 @@ pub mod Recovery
 pub mod Resending
 pub mod Steps
 pub mod AllStats
+pub mod Handed

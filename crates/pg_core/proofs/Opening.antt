@@ -9,12 +9,12 @@ use Rattle.pg_core.specs.Beginning.{IsFirst}
 use Rattle.pg_part.specs.PartRun as part_runs
 use Rattle.pg_graph.specs.Rows.{Rows, edge_count}
 use Rattle.pg_graph.specs.declared.missing.Missing.{Missing}
-use Rattle.pg_graph_rows.specs.declared.row.Row.{Row}
+use Rattle.pg_graph.specs.Handed.{Row}
 use Rattle.pg_model.specs.Job.{Program}
 use Rattle.pg_model.specs.Run.{beginning}
 use Rattle.pg_model.specs.Superstep.{edges_of}
 use Rattle.pg_part.specs.Part.{PartState}
-use Rattle.pg_part_routing.specs.Starting.{PartRows}
+use Rattle.pg_part.specs.Handed.{PartRows}
 
 module _ {E X Y : Type 0} (part : E → X) (made : X → Y) where
   next_taken : (es : List E) (i : ℕ) (x : X) → option_map part (slice_get es i) ≡ Some x

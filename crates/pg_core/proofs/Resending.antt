@@ -8,7 +8,7 @@ use Rattle.pg_core.specs.Progress.{HasPut}
 use Rattle.pg_inbox.specs.LoggedBundle.{Slots, slot_at}
 use Rattle.pg_inbox.specs.declared.logs.LoggedBundle.{LoggedBundle}
 use Rattle.pg_model.specs.Job.{Combining}
-use Rattle.pg_part_routing.specs.Sending.{IsFresh, items_to, sends_by_records}
+use Rattle.pg_part.specs.Handed.{IsFresh, items_to, sends_by_records}
 use Rattle.pg_trace.specs.Trace.{Trace, records_of}
 
 module _ {V M : Type 0} (combining : Option (Combining M)) (n p : ℕ) (trace : Trace V M) where

@@ -30,7 +30,7 @@ use Rattle.pg_model.specs.Job.{Job}
 use Rattle.pg_model.specs.Run.{run_length, visible_at}
 use Rattle.pg_model.specs.declared.view.Declared.{Declared}
 use Rattle.pg_model.specs.declared.view.Visible.{Visible}
-use Rattle.pg_part_routing.specs.Routes.{HasMessages, TellsAt, TellsFrom, bundle_in, bundle_sent}
+use Rattle.pg_part.specs.Handed.{HasMessages, TellsAt, TellsFrom, bundle_in, bundle_sent}
 use Rattle.pg_part.specs.StepInput.{IsStepInput, IsOldStepInput, LendsLogs}
 use Rattle.pg_part.specs.PartRun.{IsAdvanced, IsSentTo}
 use Rattle.pg_part.specs.Part as parts_of

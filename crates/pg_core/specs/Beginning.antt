@@ -8,7 +8,7 @@ use Rattle.pg_core.specs.Traces.{HasRetained}
 use Rattle.pg_part.specs.PartRun.{AreTouched}
 use Rattle.pg_global.specs.Master.{Master}
 use Rattle.pg_global.specs.Registry.{Registered}
-use Rattle.pg_graph.specs.Rows.{Rows, edge_count}
+use Rattle.pg_graph.specs.Rows.{HasRisingIds, Rows, edge_count}
 use Rattle.pg_graph.specs.declared.missing.Missing.{Missing}
 use Rattle.pg_model.specs.Job.{Deciding, Job, Program}
 use Rattle.pg_model.specs.Superstep.{capped, visible_in}
@@ -22,9 +22,10 @@ abbrev pub first_visible : Deciding → Rows → List ℤ → Visible
 first_visible deciding rows gathered =
     visible_in deciding (record { vertices = length rows; edges = capped (edge_count rows) }) 0 gathered
 
--- what a run has as it opens, besides its parts: the master's aggregators, the first state, what is shown in superstep
--- 0, and the initial values as all that was counted
+-- what a run on a graph, whose ids rise, has as it opens, besides its parts: the master's aggregators, the first state,
+-- what is shown in superstep 0, and the initial values as all that was counted
 pub record HasStarted (master : Master) (rows : Rows) (limits : Limits) (start : InitialCore) : Type 0 where
+  pub rising : HasRisingIds rows
   pub limits_are : AreLimits limits
   pub registry_is : start.registry ≡ master.registrations
   pub few : length master.registrations ≤ 16

@@ -1,6 +1,7 @@
 pub mod Beginning
 pub mod Closing
 pub mod Driving
+pub mod Handed
 pub mod Losing
 pub mod Progress
 pub mod Together

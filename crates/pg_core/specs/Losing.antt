@@ -8,7 +8,7 @@ use Rattle.pg_core_machine.specs.declared.event.Event.{Event}
 use Rattle.pg_core_machine.specs.declared.event.Event.TheVariants.{Lose, Restore}
 use Rattle.pg_model.specs.Job.{Combining, Job}
 use Rattle.pg_part.specs.Part.{HoldsShare, PartState}
-use Rattle.pg_part_routing.specs.Sending.{IsFresh, items_to, sends_by_records}
+use Rattle.pg_part.specs.Handed.{IsFresh, items_to, sends_by_records}
 use Rattle.pg_trace.specs.Trace.{Trace, records_of}
 
 -- the parts of the partitions that worker w hosts are gone, and all others are as they were

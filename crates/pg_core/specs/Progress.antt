@@ -10,7 +10,7 @@ use Rattle.pg_core_machine.specs.declared.event.Event.TheVariants.{Step}
 use Rattle.pg_core.specs.declared.run_totals.RunTotals.{RunTotals}
 use Rattle.pg_global.specs.Master.{Master, has_places, job_of}
 use Rattle.pg_global.specs.Registry.{Registered}
-use Rattle.pg_graph.specs.Rows.{Rows}
+use Rattle.pg_graph.specs.Rows.{HasRisingIds, Rows}
 use Rattle.pg_inbox.specs.LoggedBundle.{Slots, slot_at}
 use Rattle.pg_inbox.specs.declared.logs.LoggedBundle.{LoggedBundle}
 use Rattle.pg_model.specs.Job.{Combining, Job, Program}
@@ -157,13 +157,14 @@ module _ {P C A V M : Type 0} where
   ready_of core = map (λ p. (host_of p core.state, p))
       (filter (is_ready core) (range_with_len 0 core.limits.partitions))
 
-  -- as a run opens: nothing has happened, and all parts are here
+  -- as a run opens on a graph, whose ids rise: nothing has happened, and all parts are here
   pub record IsOpened (core : Progress P C A V M) (program : P) (combiner : C) (master : A) (graph : Rows)
       (limits : Limits) (run : ℕ) : Type 0 where
     pub program_is : core.program ≡ program
     pub combiner_is : core.combiner ≡ combiner
     pub master_is : core.master ≡ master
     pub graph_is : core.graph ≡ graph
+    pub rising : HasRisingIds graph
     pub limits_are : core.limits ≡ limits
     pub run_is : core.run ≡ run
     pub state_is : core.state ≡ first_state limits.partitions limits.workers

@@ -6,7 +6,7 @@ use Rattle.pg_inbox.specs.LoggedBundle.{Slots, slot_at}
 use Rattle.pg_model.specs.Job.{Job}
 use Rattle.pg_model.specs.Run.{configuration, run_length, values_of, visible_at}
 use Rattle.pg_model.specs.declared.view.Visible.{Visible}
-use Rattle.pg_part_routing.specs.Routes.{bundle_in, bundle_sent}
+use Rattle.pg_part.specs.Handed.{bundle_in, bundle_sent}
 use Rattle.pg_part.specs.Part.{IsRetained, RetainedPartOf, PartState}
 use Rattle.pg_core_values.specs.Values.{Ended, HasEnded}
 

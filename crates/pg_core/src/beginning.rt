@@ -2,6 +2,7 @@
 ghost use Rattle.std.specs.Prelude.{◌≡◌, ◌≤◌, length, map, [], ◌∷◌, All, None, IfOk, OnOk};
 ghost use Rattle.pg_core.specs.Beginning.{AreFirst, HasStarted, HaveBegun, HaveBegunWarm, HaveBegunWith, first_visible};
 ghost use Rattle.pg_global.specs.Registry.{aggregating_of, first_refusal};
+ghost use Rattle.pg_graph.specs.Rows.{HasRisingIds};
 
 use crate::running::partitioner_of;
 use crate::traces::RetainedRun;
@@ -87,6 +88,7 @@ fn first_shown<M: MasterCompute>(
     ensures value { IfOk result (λ shown. shown.items
         ≡ first_visible (M.master master.now).deciding graph.now gathered.now ∷ []) }
     ensures places { IfOk result (λ shown. All (λ v. length v.values ≡ length gathered.now) shown.items) }
+    ensures rising { HasRisingIds graph.now }
 {
     let (vertices, edges) = (graph.vertices(), graph.edges());
     let seen = copied(alloc, gathered)?;

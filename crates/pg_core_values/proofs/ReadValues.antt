@@ -32,9 +32,9 @@ use Rattle.pg_model.proofs.LawsPresent.{at_key, with_inbox_at-none}
 use Rattle.pg_model.proofs.LawsRising.{flat_map-rising, has_id-filter}
 use Rattle.pg_model.proofs.LawsVerticesWithInbox.{found_by_id}
 use Rattle.pg_part.specs.Part.{PartState}
-use Rattle.pg_part_routing.proofs.Listing.{flat_map-push}
+use Rattle.pg_part.proofs.Handed.{flat_map-push}
 use Rattle.pg_trace.specs.OfRun.{HoldsRun, run_state}
-use Rattle.pg_trace_index.specs.Records.{last_record}
+use Rattle.pg_trace.specs.Handed.{last_record}
 use Rattle.pg_trace.specs.Trace.{Trace, left_by, records_of, state_at}
 use Rattle.pg_trace.proofs.RunStates.{state_of_run}
 

@@ -144,8 +144,8 @@ impl Registry {
         requires { place < length self.now }
         ensures { option_map (λ e. e.1) (slice_get self.now place) ≡ Some result }
     {
-        let _ = &self.registered;
-        match self.registered.get_index(place) {
+        let registered = &self.registered;
+        match registered.get_index(place) {
             Some((_, registration)) => *registration,
             None => unreachable!(),
         }

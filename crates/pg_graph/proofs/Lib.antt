@@ -2,6 +2,7 @@ pub mod Batches
 pub mod Dealing
 pub mod Drafting
 pub mod Edited
+pub mod Handed
 pub mod Laws
 pub mod RowLaw
 pub mod Search

@@ -1,6 +1,7 @@
 pub mod Draft
 pub mod Edit
 pub mod Grouped
+pub mod Handed
 pub mod RowChanges
 pub mod RowEdit
 pub mod Rows

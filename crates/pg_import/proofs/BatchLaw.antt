@@ -5,14 +5,8 @@ use Rattle.std.specs.Option.{is_some}
 use Rattle.std.proofs.lemmas.Bool.{cases_Bool}
 use borrow.Author.Tests.{leb-true, ltb-true}
 use Rattle.pg_graph.specs.Edit.{all_edited, at_row, batch_edited, batch_limit, edge_limit, edited, vertex_limit}
-use Rattle.pg_graph_rows.specs.EdgeList.{weight_at}
+use Rattle.pg_graph.specs.Handed.{weight_at, Row, Edit, AddVertex, AddEdge, SetEdge, EditFault, EditKind, Full}
 use Rattle.pg_graph.specs.Rows.{Rows, edge_count, row_at, vertex_count, with_row}
-use Rattle.pg_graph_rows.specs.declared.row.Row.{Row}
-use Rattle.pg_graph_rows.specs.declared.edit.Edit.{Edit}
-use Rattle.pg_graph_rows.specs.declared.edit.Edit.TheVariants.{AddVertex, AddEdge, SetEdge}
-use Rattle.pg_graph_rows.specs.declared.edit.EditFault.{EditFault}
-use Rattle.pg_graph_rows.specs.declared.edit.EditKind.{EditKind}
-use Rattle.pg_graph_rows.specs.declared.edit.EditKind.TheVariants.{Full}
 use Rattle.pg_import.proofs.Graphs.{has_vertex-with_ends, row_there, with_line_edge-at, with_vertex-new, with_vertex-there}
 use Rattle.pg_import.proofs.Limits.{Grows, Grows-with_lines, Grows-with_line_edge, Grows-with_vertex, edge_count-new, vertex_count-new}
 use Rattle.pg_import.specs.Batch.{Makes, batch_of, edge_edit, has_edge, has_vertex, line_edits, vertex_edits, with_ends, with_line, with_line_edge}

@@ -3,7 +3,7 @@ use Rattle.std.proofs.Common.{◌≡◌, ℕ, ◌+◌, ◌<◌, ◌≤◌, List,
 use Rattle.std.proofs.lemmas.List.{append-nil, at_drop_more, drop_all}
 use Rattle.std.proofs.lemmas.List.Sums.{fold_more}
 use Rattle.pg_graph.specs.Rows.{Rows}
-use Rattle.pg_graph_rows.specs.declared.edit.Edit.{Edit}
+use Rattle.pg_graph.specs.Handed.{Edit}
 use Rattle.pg_import.specs.Batch.{batch_of, edge_edit, vertex_edits, with_ends, with_line, with_lines, with_vertex}
 use Rattle.pg_import.specs.declared.line.Line.{Line}
 

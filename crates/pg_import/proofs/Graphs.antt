@@ -8,9 +8,8 @@ use Rattle.std.specs.Ordering.{is_eq, nat_cmp, ordering_reverse}
 use Rattle.std.proofs.lemmas.Bool.{cases_Bool}
 use Rattle.std.proofs.lemmas.Cmp.{nat_cmp_total}
 use Rattle.std.proofs.lemmas.Map.Lookups.{exact_unsigned}
-use Rattle.pg_graph_rows.specs.EdgeList.{weight_at, with_edge}
+use Rattle.pg_graph.specs.Handed.{weight_at, with_edge, Row}
 use Rattle.pg_graph.specs.Rows.{Rows, row_at, with_row}
-use Rattle.pg_graph_rows.specs.declared.row.Row.{Row}
 use Rattle.pg_import.specs.Batch.{has_edge, has_vertex, with_ends, with_line_edge, with_vertex}
 use Rattle.pg_import.specs.declared.line.Line.{Line}
 

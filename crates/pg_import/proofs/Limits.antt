@@ -6,9 +6,8 @@ use Rattle.std.specs.Option.{is_some}
 use Rattle.std.specs.Ordering.{nat_cmp}
 use Rattle.std.proofs.lemmas.Bool.{cases_Bool}
 use Rattle.std.proofs.lemmas.List.Sums.{sum_by-cons}
-use Rattle.pg_graph_rows.specs.EdgeList.{weight_at, with_edge}
+use Rattle.pg_graph.specs.Handed.{weight_at, with_edge, Row}
 use Rattle.pg_graph.specs.Rows.{Rows, edge_count, row_at, vertex_count, with_row}
-use Rattle.pg_graph_rows.specs.declared.row.Row.{Row}
 use Rattle.pg_import.proofs.Graphs.{cases_Ordering, has_vertex-with_ends, row_there, with_line_edge-at, with_vertex-new, with_vertex-there}
 use Rattle.pg_import.specs.Batch.{has_vertex, with_ends, with_line, with_line_edge, with_lines, with_vertex}
 use Rattle.pg_import.specs.declared.line.Line.{Line}

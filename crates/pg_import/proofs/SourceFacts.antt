@@ -7,8 +7,7 @@ use Rattle.std.specs.Ordering.{nat_cmp}
 use Rattle.std.proofs.lemmas.Bool.{cases_Bool}
 use Rattle.std.proofs.lemmas.Bool.Decides.{nat_tests}
 use Rattle.std.proofs.lemmas.Option.{same_Some}
-use Rattle.pg_graph_rows.specs.EdgeList.{EdgeList, weight_at}
-use Rattle.pg_graph_rows.specs.declared.row.Row.{Row}
+use Rattle.pg_graph.specs.Handed.{EdgeList, weight_at, Row}
 use Rattle.pg_graph.specs.Rows.{Rows}
 use Rattle.pg_import.specs.Sources.{AreNoted, LeadAsFrom, edges_of}
 

@@ -2,11 +2,8 @@
 use Rattle.std.specs.Prelude.{◌≡◌, ◌⊎◌, ℕ, pos, ◌<◌, Bool, if◌then◌else◌, List, [], ◌∷◌, ◌++◌, length, fold, None, Some}
 use Rattle.std.specs.Prelude.{is_some, option_and_then, MatchResult}
 use Rattle.pg_graph.specs.Edit.{batch_edited, batch_limit, edge_limit, vertex_limit}
-use Rattle.pg_graph_rows.specs.EdgeList.{weight_at, with_edge}
+use Rattle.pg_graph.specs.Handed.{weight_at, with_edge, Edit, AddVertex, AddEdge, SetEdge, BatchTooLong, Full}
 use Rattle.pg_graph.specs.Rows.{Rows, edge_count, row_at, vertex_count, with_row}
-use Rattle.pg_graph_rows.specs.declared.edit.Edit.{Edit}
-use Rattle.pg_graph_rows.specs.declared.edit.Edit.TheVariants.{AddVertex, AddEdge, SetEdge}
-use Rattle.pg_graph_rows.specs.declared.edit.EditKind.TheVariants.{BatchTooLong, Full}
 use Rattle.pg_import.specs.declared.line.Line.{Line}
 
 -- whether a graph has a vertex

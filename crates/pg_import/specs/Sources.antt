@@ -1,7 +1,6 @@
 -- The edges that a graph has of vertices, as they were noted.
 use Rattle.std.specs.Prelude.{◌≡◌, ℕ, ⊤, List, [], ◌∷◌, Option, None, Some, is_some}
-use Rattle.pg_graph_rows.specs.EdgeList.{EdgeList, IsRising, weight_at}
-use Rattle.pg_graph_rows.specs.declared.row.Row.{Row}
+use Rattle.pg_graph.specs.Handed.{EdgeList, IsRising, weight_at, Row}
 use Rattle.pg_graph.specs.Rows.{Rows}
 use Rattle.pg_import.specs.Batch.{has_edge}
 

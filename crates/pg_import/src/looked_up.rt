@@ -2,7 +2,7 @@
 //! in memory come one after another.
 ghost use Rattle.std.specs.Prelude.{◌≡◌, true, is_some, option_and_then, IfOk, IsNone};
 ghost use Rattle.std.specs.Option.{option_copied};
-ghost use Rattle.pg_graph_rows.specs.EdgeList.{weight_at};
+ghost use Rattle.pg_graph.specs.Handed.{weight_at};
 ghost use Rattle.pg_import.specs.Batch.{has_edge, has_vertex};
 ghost use Rattle.pg_import.specs.NamedEdges.{AreThereAs};
 

@@ -2,6 +2,7 @@ pub mod Alike
 pub mod Bundles
 pub mod Changed
 pub mod Counting
+pub mod Handed
 pub mod Holding
 pub mod Inboxes
 pub mod LoggedBundle

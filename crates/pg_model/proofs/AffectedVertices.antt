@@ -4,9 +4,8 @@ use Rattle.std.specs.List.Sorted.{IsStrictlySortedBy}
 use Rattle.std.specs.Ordering.{int_eq}
 use Rattle.std.proofs.lemmas.Bool.{or_parts}
 use Rattle.std.proofs.lemmas.Bool.Decides.{Decides-int_eq}
-use Rattle.pg_graph_rows.specs.EdgeList.{EdgeList}
+use Rattle.pg_graph.specs.Handed.{EdgeList, Row}
 use Rattle.pg_graph.specs.Rows.{Rows, HasRisingIds, row_at}
-use Rattle.pg_graph_rows.specs.declared.row.Row.{Row}
 use Rattle.pg_graph.specs.declared.missing.Missing.{Missing}
 use Rattle.pg_graph.specs.declared.missing.Missing.TheVariants.{Drop, Create}
 use Rattle.pg_model.specs.Affected.{IsUnaffected, AreCandidates}

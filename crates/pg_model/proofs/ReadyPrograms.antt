@@ -2,8 +2,7 @@
 use Rattle.std.proofs.Common.{◌≡◌, ℕ, ℤ, pos, List, [], ◌∷◌, None, Some, refl}
 use Rattle.std.specs.Ordering.{int_eq}
 use Rattle.pg_graph.specs.Rows.{Rows}
-use Rattle.pg_graph_rows.specs.EdgeList.{EdgeList}
-use Rattle.pg_graph_rows.specs.declared.row.Row.{Row}
+use Rattle.pg_graph.specs.Handed.{EdgeList, Row}
 use Rattle.pg_graph.specs.declared.missing.Missing.TheVariants.{Drop}
 use Rattle.pg_model.specs.Job.{Job, Aggregating, Program}
 use Rattle.pg_model.specs.Superstep.{visible_in, view_of, outcome, gathered_from, next}

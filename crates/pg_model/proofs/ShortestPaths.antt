@@ -1,8 +1,7 @@
 -- Shortest paths, worked: answers and needed executions of small graphs, computed from the definitions.
 use Rattle.std.proofs.Common.{◌≡◌, ℕ, ℤ, pos, negsuc, [], ◌∷◌, Option, None, Some, refl}
 use Rattle.pg_graph.specs.Rows.{Rows}
-use Rattle.pg_graph_rows.specs.EdgeList.{EdgeList}
-use Rattle.pg_graph_rows.specs.declared.row.Row.{Row}
+use Rattle.pg_graph.specs.Handed.{EdgeList, Row}
 use Rattle.pg_graph.specs.declared.missing.Missing.TheVariants.{Drop}
 use Rattle.std.specs.Ordering.{int_eq}
 use Rattle.pg_model.specs.Aggregators.{least_message}

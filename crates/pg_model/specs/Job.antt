@@ -1,7 +1,7 @@
 -- A job: a program, a combiner, aggregators and a master, each as pure functions, what becomes of undeliverable
 -- messages, and a limit.
 use Rattle.std.specs.Prelude.{ℕ, ◌/◌, ◌%◌, ◌^◌, ◌==◌, Bool, List, Option, ℤ}
-use Rattle.pg_graph_rows.specs.EdgeList.{EdgeList}
+use Rattle.pg_graph.specs.Handed.{EdgeList}
 use Rattle.pg_graph.specs.declared.missing.Missing.{Missing}
 use Rattle.pg_model.specs.declared.record.Record.{Record}
 use Rattle.pg_model.specs.declared.view.Declared.{Declared}

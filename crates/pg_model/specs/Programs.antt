@@ -6,7 +6,7 @@ use Rattle.std.specs.Option.{unwrap_or}
 use Rattle.std.specs.Ordering.{int_eq}
 use Rattle.std.specs.Int.{w64, int_min, int_max, int_wrapping_add, saturate_signed}
 use Rattle.std.specs.List.{fold, slice_get}
-use Rattle.pg_graph_rows.specs.EdgeList.{EdgeList, without_edge}
+use Rattle.pg_graph.specs.Handed.{EdgeList, without_edge}
 use Rattle.pg_model.specs.Aggregators.{greatest_number, long_sum, long_max}
 use Rattle.pg_model.specs.Job.{Inputs, Program, Aggregating, Deciding}
 use Rattle.pg_model.specs.Superstep.{is_empty}

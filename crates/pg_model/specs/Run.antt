@@ -4,7 +4,7 @@ use Rattle.std.specs.Prelude.{ℕ, zero, suc, ◌+◌, ◌-◌, false, List, [],
 use Rattle.std.specs.Option.{unwrap_or}
 use Rattle.std.specs.List.{count_by}
 use Rattle.pg_graph.specs.Rows.{Rows}
-use Rattle.pg_graph_rows.specs.declared.row.Row.{Row}
+use Rattle.pg_graph.specs.Handed.{Row}
 use Rattle.pg_model.specs.Job.{Program, Job}
 use Rattle.pg_model.specs.Superstep.{is_active, present, visible, view_in, next, ending}
 use Rattle.pg_model.specs.declared.configuration.VertexWithInbox.{VertexWithInbox}

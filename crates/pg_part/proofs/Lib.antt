@@ -1,6 +1,7 @@
 pub mod Beginning
 pub mod Both
 pub mod ColdStep
+pub mod Handed
 pub mod Leaving
 pub mod Looked
 pub mod Moving

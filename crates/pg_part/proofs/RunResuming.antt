@@ -15,7 +15,7 @@ use Rattle.pg_model.specs.Superstep.{has_id}
 use Rattle.pg_model.specs.declared.record.Record.{Record}
 use Rattle.pg_model.proofs.LawsPresent.{IsIdleAt-from_inputs}
 use Rattle.pg_model.proofs.LawsSharesAlike.{record_in_share}
-use Rattle.pg_trace_records.proofs.Changed.{each_some, given_some}
+use Rattle.pg_trace.proofs.Handed.{each_some, given_some}
 use Rattle.pg_part_compute.proofs.WorkItems.{has_key, not_key}
 use Rattle.pg_part_compute.proofs.Recording.{no_other_record, records_rise}
 use Rattle.pg_part.specs.PartRun.{AreTheOnly, PartRunState, Holds, IsResumed, with_resumed}

@@ -25,7 +25,7 @@ use Rattle.pg_model.specs.Superstep.{has_id}
 use Rattle.pg_model.specs.declared.record.Record.{Record}
 use Rattle.pg_part.specs.StatsHistories.{AreCountsWithDelta, IsStatsHistory, IsStatsHistoryWarm, IsStatsHistoryByRecords}
 use Rattle.pg_part.proofs.Shares.{all_among, vertex_counts_warm_is, vertex_counts_is, found, states_in}
-use Rattle.pg_trace_records.specs.Records.{contributions_of}
+use Rattle.pg_trace.specs.Handed.{contributions_of}
 use Rattle.pg_stats.specs.Contributed.{contributed_by, contributes_alike}
 use Rattle.pg_stats.specs.MessageCounts.{AreMemberChanges, HasMessageCountDelta, IsLoggedChange, message_counts_of, message_counts_recorded}
 use Rattle.pg_stats.proofs.LawsOfRun.{bundle_to, contribute_the_same, gathered_of_run, same_contributions, message_counts_of_run, message_counts_recorded_of_run}

@@ -1,4 +1,5 @@
 pub mod Cold
+pub mod Handed
 pub mod MemberChanges
 pub mod Part
 pub mod PartRun

@@ -7,7 +7,7 @@ use Rattle.pg_graph.specs.Rows.{Rows}
 use Rattle.pg_part.specs.declared.stats_history.StatsHistory.{StatsHistory}
 use Rattle.pg_inbox.specs.LoggedBundle.{Slots}
 use Rattle.pg_inbox.specs.declared.logs.LoggedBundle.{LoggedBundle}
-use Rattle.pg_trace_records.specs.Records.{contributions_of}
+use Rattle.pg_trace.specs.Handed.{contributions_of}
 use Rattle.pg_stats.specs.VertexCounts.{HasCountDelta, states_among}
 use Rattle.pg_stats.specs.Contributed.{contributes_alike}
 use Rattle.pg_stats.specs.MessageCounts.{HasMessageCountDelta, message_counts_of, message_counts_recorded}

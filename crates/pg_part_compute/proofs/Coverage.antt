@@ -20,7 +20,7 @@ use Rattle.pg_model.specs.declared.configuration.VertexWithInbox.{VertexWithInbo
 use Rattle.pg_model.specs.declared.configuration.VertexState.{VertexState}
 use Rattle.pg_model.specs.declared.record.Record.{Record}
 use Rattle.pg_part_compute.specs.VertexPairs.{unhalted_ids}
-use Rattle.pg_trace_records.specs.Records.{unhalted_after}
+use Rattle.pg_trace.specs.Handed.{unhalted_after}
 use Rattle.pg_trace.specs.OfRun.{HoldsRun}
 use Rattle.pg_trace.specs.Trace.{Trace, records_of}
 

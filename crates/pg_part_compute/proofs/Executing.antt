@@ -10,10 +10,8 @@ use Rattle.pg_model.specs.declared.record.Record.{Record}
 use Rattle.pg_program.specs.Computation.{Executes, step_on}
 use Rattle.pg_program.specs.Context.{Context}
 use Rattle.pg_part_compute.specs.VertexCountsDeltas.{given_at}
-use Rattle.pg_trace_records.specs.Parts.{AreWithin, changes_in, record_in}
-use Rattle.pg_trace_records.specs.declared.changes.Executed.{Executed}
-use Rattle.pg_trace_records.specs.declared.changes.Extent.{Extent}
-use Rattle.pg_trace_records.proofs.Parting.{one_added, within_added}
+use Rattle.pg_trace.specs.Handed.{AreWithin, changes_in, record_in, Executed, Extent}
+use Rattle.pg_trace.proofs.Handed.{one_added, within_added}
 
 module _ {V M : Type 0} (program : Program V M) (state vertex vertex' state' : VertexState V) (inbox : List M) (cx cx' : Context M)
     (vertex_is : vertex ≡ record { id = state.id; value = state.value; edges = state.edges; halted = false })

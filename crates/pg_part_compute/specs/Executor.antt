@@ -2,7 +2,7 @@
 use Rattle.std.specs.Prelude.{◌≡◌, ℕ, List, Option}
 use Rattle.pg_model.specs.declared.record.Record.{Record}
 use Rattle.pg_model.specs.declared.view.Declared.{Declared}
-use Rattle.pg_trace_records.specs.Parts.{AreWithin, changes_in}
+use Rattle.pg_trace.specs.Handed.{AreWithin, changes_in}
 use Rattle.pg_part_compute.specs.declared.execution.Executor.{Executor}
 
 module _ {V M : Type 0} where

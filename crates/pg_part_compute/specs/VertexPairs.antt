@@ -16,7 +16,7 @@ use Rattle.pg_model.specs.declared.view.View.{View}
 use Rattle.pg_part_compute.specs.Found.{IsFound, IsEqSound, change_of, is_run, vertex_of}
 use Rattle.pg_part_routing.specs.Routes.{AreSameTo}
 use Rattle.pg_part_routing.specs.Starting.{own}
-use Rattle.pg_trace_records.specs.Records.{unhalted_after}
+use Rattle.pg_trace.specs.Handed.{unhalted_after}
 use Rattle.pg_part_compute.specs.declared.execution.StepDelta.{StepDelta}
 use Rattle.pg_part_compute.specs.declared.found.VertexPair.{VertexPair}
 use Rattle.pg_trace.specs.Trace.{Trace, records_of, state_at}

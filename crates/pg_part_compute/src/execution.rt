@@ -9,7 +9,7 @@ ghost use Rattle.pg_part_compute.specs.Found.{reads, with_inbox_of};
 ghost use Rattle.pg_program.specs.Context.{ShowsDeclared};
 ghost use Rattle.pg_part_compute.specs.Executor.{IsReady, changes_of};
 ghost use Rattle.pg_part_compute.specs.VertexCountsDeltas.{given_at};
-ghost use Rattle.pg_trace_records.specs.Parts.{AreWithin};
+ghost use Rattle.pg_trace.specs.Handed.{AreWithin};
 
 use crate::found::{VertexPair, are_same_reading, is_stopping};
 use pg_global::{Visible, view_of};

@@ -10,7 +10,7 @@ use Rattle.std.specs.Ordering.{nat_cmp}
 use Rattle.std.specs.declared.cmp.Ordering.TheVariants.{Less}
 use Rattle.std.proofs.lemmas.Bool.{eqb-true}
 use Rattle.pg_graph.specs.Rows.{HasRisingIds, Rows, row_at}
-use Rattle.pg_graph_rows.specs.declared.row.Row.{Row}
+use Rattle.pg_graph.specs.Handed.{Row}
 use Rattle.pg_map.specs.Entries.{ChangesRise, HasRisingIds as Rises, value_at, with_changes}
 use Rattle.pg_map.proofs.Changing.{rises-changes, value_at-with_changes}
 use Rattle.pg_map.proofs.Rising.{same_entries}

@@ -9,7 +9,7 @@ use Rattle.pg_model.specs.Order.{Sending, sendings_from}
 use Rattle.pg_model.specs.Share.{belongs, sendings_of}
 use Rattle.pg_model.specs.declared.record.Record.{Record}
 use Rattle.pg_inbox.specs.Outbox.{as_send}
-use Rattle.pg_trace_records.specs.RecordChanges.{messages_by}
+use Rattle.pg_trace.specs.Handed.{messages_by}
 use Rattle.pg_part_routing.specs.Routes.{as_sends}
 use Rattle.pg_part_routing.specs.Sending.{IsFresh, items_to, sends_by_records, sends_of}
 use Rattle.pg_map.specs.Entries.{somes}

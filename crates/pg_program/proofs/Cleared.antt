@@ -1,7 +1,7 @@
 -- Room that holds no edges.
 use Rattle.std.proofs.Common.{◌≡◌, [], sym, subst}
 use Rattle.std.specs.List.Sorted.{IsStrictlySortedBy}
-use Rattle.pg_graph_rows.specs.EdgeList.{EdgeList, IsRising}
+use Rattle.pg_graph.specs.Handed.{EdgeList, IsRising}
 
 none_rise : IsRising []
 unfolding IsStrictlySortedBy

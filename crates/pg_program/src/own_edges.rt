@@ -1,7 +1,6 @@
 //! The out-edges of a vertex in one execution.
 ghost use Rattle.std.specs.Prelude.{◌≡◌, true, false, ◌≤◌, length, cond, is_some, IfOk, OnOk, OnErr, vec_capacity};
-ghost use Rattle.pg_graph_rows.specs.EdgeList.{IsRising, weight_at, with_edge, without_edge};
-ghost use Rattle.pg_graph_rows.specs.Places.{IsPlaceOf, IsGapFor};
+ghost use Rattle.pg_graph.specs.Handed.{IsRising, weight_at, with_edge, without_edge, IsPlaceOf, IsGapFor};
 
 use crate::search::place_of;
 use pg_graph::{Edges, Memory, VertexId};
@@ -36,7 +35,7 @@ pub(crate) struct OwnEdges {
 
 impl Model for OwnEdges {
     ghost use Rattle.std.specs.Prelude.{◌≡◌, ◌≤◌, false, length, vec_capacity};
-    ghost use Rattle.pg_graph_rows.specs.EdgeList.{EdgeList, IsRising};
+    ghost use Rattle.pg_graph.specs.Handed.{EdgeList, IsRising};
 
     ghost Value = { EdgeList };
 
@@ -161,12 +160,17 @@ impl OwnEdges {
     pub(crate) fn into_parts(self, alloc: Global) -> Result<(Edges, EdgeRoom), Memory>
         ensures { IfOk result (λ parts. parts.0 ≡ self) }
     {
-        let _ = &self.shared;
-        if !self.is_changed {
-            return Ok((self.shared, EdgeRoom { items: self.room }));
-        }
-        let edges = Edges::from_rising(alloc, Vec::from_slice(alloc, self.room.as_slice())?)?;
-        Ok((edges, EdgeRoom { items: self.room }))
+        let OwnEdges {
+            shared,
+            room,
+            is_changed,
+        } = self;
+        let edges = if is_changed {
+            Edges::from_rising(alloc, Vec::from_slice(alloc, room.as_slice())?)?
+        } else {
+            shared
+        };
+        Ok((edges, EdgeRoom { items: room }))
     }
 }
 

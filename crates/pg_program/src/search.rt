@@ -1,7 +1,6 @@
 //! A binary search among edges.
 ghost use Rattle.std.specs.Prelude.{IfOk, IfErr};
-ghost use Rattle.pg_graph_rows.specs.EdgeList.{IsRising};
-ghost use Rattle.pg_graph_rows.specs.Places.{IsPlaceOf, IsGapFor};
+ghost use Rattle.pg_graph.specs.Handed.{IsRising, IsPlaceOf, IsGapFor};
 
 use pg_graph::VertexId;
 

@@ -1,6 +1,6 @@
 //! A vertex in one execution.
 ghost use Rattle.std.specs.Prelude.{◌≡◌, false, true, length, cond, is_some, IfOk, OnOk, OnErr};
-ghost use Rattle.pg_graph_rows.specs.EdgeList.{IsRising, weight_at, with_edge, without_edge};
+ghost use Rattle.pg_graph.specs.Handed.{IsRising, weight_at, with_edge, without_edge};
 
 use crate::own_edges::{EdgeRoom, OwnEdges};
 use pg_graph::{Edges, Memory, VertexId};

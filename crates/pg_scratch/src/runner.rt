@@ -195,10 +195,11 @@ fn run_registered<P: Computation, C: MessageCombiner<P::Message>, M: MasterCompu
     requires prepared { IsPrepared (P.program runner.now.program.now)
         (M.master runner.now.master.now) runner.now.registrations.now }
     requires fits { meter < 2 ^ 64 }
-    ensures { let job = job_of (P.program runner.now.program.now)
+    ensures run { let job = job_of (P.program runner.now.program.now)
         (C.combining runner.now.combiner.now)
         (M.master runner.now.master.now) runner.now.missing runner.now.limit in
         IfOk result (λ r. (r.0 ≡ answer job graph.now) × (r.1 ≡ capped (meter + executions job graph.now))) }
+    ensures rising { IfOk result (λ _. HasRisingIds graph.now) }
 {
     let mut progress = begin(alloc, graph, runner.program, runner.registrations, meter)?;
     for done in 0..runner.limit {
@@ -285,6 +286,7 @@ pub fn run<P: Computation, C: MessageCombiner<P::Message>, M: MasterCompute>(
     ensures answer { let job = job_of (P.program program.now) (C.combining combiner.now)
         (M.master master.now) missing limit in
         IfOk result (λ r. r ≡ answer job graph.now) }
+    ensures rising { IfOk result (λ _. HasRisingIds graph.now) }
     ensures meter { let job = job_of (P.program program.now) (C.combining combiner.now)
         (M.master master.now) missing limit in
         OnOk result (meter.new ≡ capped (meter.old + executions job graph.now)) }

@@ -29,7 +29,7 @@ unfolding answer
 supersteps_of job graph = refl
 
 module _ {P C A V M : Type 0} (own : Meaning P C A V M) (job : ServiceJob P C A) (graph : Rows) (kept : Option Rows) (core : Progress P C A V M)
-    (fated : Fated) (honest : Bool) (number : ℕ) (rising : HasRisingIds graph)
+    (fated : Fated) (honest : Bool) (number : ℕ)
     (opened : IsOpened core job.program job.combiner job.master graph job.limits number) (right : IsRight (job_of_meaning own core) kept core) where
   abbrev Meant : Job V M
   Meant = job_of_service own.program own.combining own.master job
@@ -68,7 +68,7 @@ module _ {P C A V M : Type 0} (own : Meaning P C A V M) (job : ServiceJob P C A)
         subst (λ (l : Limits). Ran Meant graph l run retained counts) opened.limits_are
         (subst (λ (r : Rows). Ran Meant r core.limits run retained counts) opened.graph_is
         (subst (λ (j : Job V M). Ran j core.graph core.limits run retained counts) (sym (job_as_opened own.program own.combining own.master opened)) at_core))
-        rising
+        opened.rising
 
   -- so it is of whatever a run answers
   pub ran_if : {X E : Type 0} (result : Result ((Run V × Traces V M × X) × Counts) E) → honest ≡ true

@@ -2,16 +2,11 @@
 use Rattle.std.proofs.Common.{◌≡◌, ℕ, ◌+◌, Bool, true, false, cond, ◌||◌, ◌==◌, List, [], ◌∷◌, ◌++◌, Option}
 use Rattle.std.proofs.Common.{None, Some, is_some, Result, Ok, Err, refl, sym, ap, ◌∙◌, subst, true≢false}
 use Rattle.std.proofs.lemmas.Bool.{eq-eqb}
-use Rattle.pg_graph_rows.specs.EdgeList.{weight_at, with_edge, without_edge}
+use Rattle.pg_graph.specs.Handed.{weight_at, with_edge, without_edge, source_of, Row, Edit}
 use Rattle.pg_graph.specs.Edit.{all_edited, batch_edited, edited}
-use Rattle.pg_graph_rows.specs.RowEdit.{source_of}
 use Rattle.pg_graph.specs.Rows.{Rows, row_at, with_row, without_row}
-use Rattle.pg_graph_rows.specs.declared.row.Row.{Row}
-use Rattle.pg_graph_rows.specs.declared.edit.Edit.{Edit}
-use Rattle.pg_graph_rows.specs.declared.edit.Edit.TheVariants.{AddVertex, RemoveVertex, SetInput, AddEdge, SetEdge, RemoveEdge}
-use Rattle.pg_graph_rows.specs.declared.edit.EditFault.{EditFault}
-use Rattle.pg_graph_rows.specs.declared.edit.EditKind.{EditKind}
-use Rattle.pg_graph_rows.specs.declared.edit.EditKind.TheVariants.{EdgeExists, Full, NoEdge, NoVertex, VertexExists}
+use Rattle.pg_graph.specs.Handed.{AddVertex, RemoveVertex, SetInput, AddEdge, SetEdge, RemoveEdge, EditFault, EditKind}
+use Rattle.pg_graph.specs.Handed.{EdgeExists, Full, NoEdge, NoVertex, VertexExists}
 use Rattle.pg_graph.proofs.Batches.{Err_not_Ok}
 use Rattle.pg_map.proofs.Changing.{change_other}
 use Rattle.pg_workers.specs.Handed.{AreTouched, IsRetainedBy, Traces}

@@ -1,9 +1,8 @@
 -- What a service keeps of its last run, for the next one.
 use Rattle.std.specs.Prelude.{ℕ, List, map}
 use Rattle.pg_workers.specs.Handed.{AreTouched, IsRetainedBy, Traces}
-use Rattle.pg_graph_rows.specs.RowEdit.{source_of}
+use Rattle.pg_graph.specs.Handed.{source_of, Edit}
 use Rattle.pg_graph.specs.Rows.{Rows}
-use Rattle.pg_graph_rows.specs.declared.edit.Edit.{Edit}
 use Rattle.pg_model.specs.Job.{Job}
 
 -- what a run left, and ids that batches have named since

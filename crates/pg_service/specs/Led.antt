@@ -6,8 +6,7 @@ use Rattle.logbook.specs.Pages.{Book}
 use Rattle.pg_global.specs.Registry.{Registered}
 use Rattle.pg_graph.specs.Edit.{batch_edited}
 use Rattle.pg_graph.specs.Rows.{Rows}
-use Rattle.pg_graph_rows.specs.declared.edit.Edit.{Edit}
-use Rattle.pg_graph_rows.specs.declared.edit.EditFault.{EditFault}
+use Rattle.pg_graph.specs.Handed.{Edit, EditFault}
 use Rattle.pg_model.specs.Job.{Job}
 use Rattle.pg_model.specs.Publications.{Publication}
 use Rattle.pg_model.specs.Run.{answer}

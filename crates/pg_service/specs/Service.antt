@@ -6,11 +6,8 @@ use Rattle.logbook.specs.Pages.{Book}
 use Rattle.pg_workers.specs.Handed.{Event, IsRetainedBy, Limits, Traces}
 use Rattle.pg_global.specs.Master.{Master, job_of}
 use Rattle.pg_graph.specs.Edit.{batch_edited, batch_limit}
-use Rattle.pg_graph_rows.specs.EditFault.{memory_fault}
+use Rattle.pg_graph.specs.Handed.{memory_fault, Edit, EditFault, Full}
 use Rattle.pg_graph.specs.Rows.{Rows}
-use Rattle.pg_graph_rows.specs.declared.edit.Edit.{Edit}
-use Rattle.pg_graph_rows.specs.declared.edit.EditFault.{EditFault}
-use Rattle.pg_graph_rows.specs.declared.edit.EditKind.TheVariants.{Full}
 use Rattle.pg_global.specs.Registry.{Registered}
 use Rattle.pg_model.specs.Job.{Combining, Job, Program}
 use Rattle.pg_model.specs.Needed.{needed_count}

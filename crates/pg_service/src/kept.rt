@@ -1,7 +1,7 @@
 //! What a service keeps of its last run, for the next one.
 ghost use Rattle.std.specs.Prelude.{◌≡◌, ◌≤◌, ◌++◌, ℕ, List, [], length, Ok, IfErr, IfSome, OnOk, OnErr, option_map};
 ghost use Rattle.pg_graph.specs.Edit.{batch_edited, batch_limit};
-ghost use Rattle.pg_graph_rows.specs.RowEdit.{source_of};
+ghost use Rattle.pg_graph.specs.Handed.{source_of};
 ghost use Rattle.pg_graph.specs.Rows.{Rows};
 ghost use Rattle.pg_model.specs.Job.{Job};
 ghost use Rattle.pg_service.specs.Kept.{IsKept, sources};

@@ -2,7 +2,7 @@
 ghost use Rattle.std.specs.Prelude.{List};
 ghost use Rattle.logbook.specs.Pages.{Book};
 ghost use mathlib.Core.List.{IsPrefix};
-ghost use Rattle.pg_graph_rows.specs.declared.edit.Edit.{Edit};
+ghost use Rattle.pg_graph.specs.Handed.{Edit};
 ghost use Rattle.pg_global.specs.Registry.{Registered};
 ghost use Rattle.pg_model.specs.Job.{Job};
 ghost use Rattle.pg_publish.specs.Answers.{Answered};

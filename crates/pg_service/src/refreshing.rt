@@ -9,7 +9,6 @@ ghost use Rattle.pg_service.specs.Service.{IsRun, MayReport, entry_of, with_entr
 ghost use Rattle.pg_workers.specs.Refused.{MayRefuse, is_failure};
 
 use crate::kept::KeptRun;
-use crate::service::rises;
 use crate::{RefreshFault, Report, Service};
 use pg_global::{MasterCompute, MessageCombiner};
 use pg_graph::Memory;
@@ -105,7 +104,6 @@ impl<P: Computation, C: MessageCombiner<P::Message>, M: MasterCompute> Service<P
         ensures refused { IfErr result (MayRefuse (F.fated fate.now) self.now.job.limits) }
         ensures counted { IsCounted (S.state shelf.old) (is_failure result) (S.state shelf.new) }
     {
-        rises(&self.graph);
         let core = self.opened(alloc, kept, self.runs)?;
         run_job(rt, alloc, core, shelf, fate, gate)
     }

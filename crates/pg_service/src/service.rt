@@ -5,7 +5,6 @@ ghost use Rattle.std.specs.Option.{option_copied};
 ghost use Rattle.std.specs.String.{string_bytes};
 ghost use Rattle.pg_global.specs.Master.{is_registered};
 ghost use Rattle.pg_global.specs.Registry.{first_refusal};
-ghost use Rattle.pg_graph.specs.Rows.{HasRisingIds};
 ghost use Rattle.pg_model.specs.Run.{answer};
 ghost use Rattle.pg_publish.specs.History.{last_of};
 ghost use Rattle.pg_service.specs.Job.{job_of_service, registered_by};
@@ -308,7 +307,6 @@ impl<P: Computation, C: MessageCombiner<P::Message>, M: MasterCompute> Service<P
         ensures calls { let job = job_of_service P.program C.combining M.master self.now.job in
             IfOk result (λ r. r.1 ≡ calls_of job P.Value.PartialEq.eq P.Message.PartialEq.eq None self.now.graph) }
     {
-        rises(&self.graph);
         let mut meter = Meter::new();
         let run = run(
             alloc,
@@ -332,10 +330,3 @@ const NO_EDITION_LEFT: EditFault = EditFault {
     position: 0,
     kind: EditKind::Full,
 };
-
-/// The ids of a graph rise. Costs O(1).
-pub(crate) fn rises(graph: &Graph)
-    ensures { HasRisingIds graph.now }
-{
-    let _ids = graph.ids();
-}

@@ -10,7 +10,7 @@ use Rattle.std.proofs.lemmas.List.Sums.{sum_by-cons}
 use Rattle.pg_graph.specs.Rows.{Rows}
 use Rattle.pg_graph.specs.declared.missing.Missing.{Missing}
 use Rattle.pg_graph.specs.declared.missing.Missing.TheVariants.{Drop, Create}
-use Rattle.pg_inbox_messages.specs.declared.message_list.Contents.{Contents}
+use Rattle.pg_inbox.specs.Handed.{Contents}
 use Rattle.pg_inbox.specs.Bundles.{Entry, MessageLists, entries_in, entries_of, entries_to, each_entry}
 use Rattle.pg_inbox.specs.Changed.{AreChanged}
 use Rattle.pg_inbox.specs.Counting.{messages_where}

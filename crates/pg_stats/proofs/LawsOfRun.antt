@@ -13,7 +13,7 @@ use Rattle.std.proofs.lemmas.List.Sums.{length-filter, sum_by-cons}
 use Rattle.pg_graph.specs.Rows.{HasRisingIds as RowsRise, Rows, row_at}
 use Rattle.pg_graph.specs.declared.missing.Missing.{Missing}
 use Rattle.pg_graph.specs.declared.missing.Missing.TheVariants.{Drop, Create}
-use Rattle.pg_inbox_messages.specs.declared.message_list.Contents.{Contents}
+use Rattle.pg_inbox.specs.Handed.{Contents}
 use Rattle.pg_inbox.specs.Bundles.{MessageLists, bundle_of}
 use Rattle.pg_inbox.specs.Counting.{messages_where}
 use Rattle.pg_inbox.specs.Outbox.{Outbox, envelopes_to}
@@ -33,7 +33,7 @@ use Rattle.pg_model.proofs.LawsLists.{count-classes, count_by-map, same_count}
 use Rattle.pg_model.proofs.LawsPresent.{at_key}
 use Rattle.pg_model.proofs.LawsRising.{flat_map-rising}
 use Rattle.pg_model.proofs.LawsShares.{contributions-active, sendings-records_in, sends-records_in}
-use Rattle.pg_trace_records.specs.Records.{contributions_of}
+use Rattle.pg_trace.specs.Handed.{contributions_of}
 use Rattle.pg_stats.specs.Contributed.{are_same, contributed_by}
 use Rattle.pg_stats.specs.MessageCounts.{dropped_of, dropped_of_sent, is_any, is_no_vertex, message_counts_of, message_counts_of_sent, message_counts_recorded}
 use Rattle.pg_stats.proofs.LawsMessageCounts.{at_message_lists, sum_map, weight}

@@ -5,7 +5,7 @@ use Rattle.std.proofs.lemmas.List.Elements.{All-weaker}
 use Rattle.pg_checkpoint.specs.Shelf.{ShelfState}
 use Rattle.pg_core.specs.Progress.{IsRight, Progress}
 use Rattle.pg_graph.specs.Rows.{Rows}
-use Rattle.pg_core_machine.specs.Machine.{State}
+use Rattle.pg_core.specs.Handed.{State}
 use Rattle.pg_model.specs.Job.{Job}
 use Rattle.pg_workers_rounds.specs.Handed.{PartState}
 use Rattle.pg_workers.specs.Losses.{Fated, Trusts}

@@ -11,13 +11,9 @@ use Rattle.pg_core.specs.Progress.{IsRight, Progress}
 use Rattle.pg_core.specs.Traces.{IsRetainedBy, Traces}
 use Rattle.pg_core.proofs.Keeping.{nowhere_yet}
 use Rattle.pg_graph.specs.Rows.{Rows}
-use Rattle.pg_core_machine.specs.Limits.{Limits}
-use Rattle.pg_core_machine.specs.Losses.{counts_in, falls_of, losses_in}
-use Rattle.pg_core_machine.specs.Machine.{Reaches, State, StepsTell, first_state, is_alive, saved_at, steps_of}
-use Rattle.pg_core_machine.specs.declared.event.Event.{Event}
-use Rattle.pg_core_machine.proofs.LawsCounts.{none_was_lost, unlost_anew}
-use Rattle.pg_core_machine.proofs.LawsFallen.{fell_all}
-use Rattle.pg_core_machine.proofs.LawsLosses.{none_fell_of_one}
+use Rattle.pg_core.specs.Handed.{Limits, counts_in, falls_of, losses_in}
+use Rattle.pg_core.specs.Handed.{Reaches, State, StepsTell, first_state, is_alive, saved_at, steps_of, Event}
+use Rattle.pg_core.proofs.Handed.{none_was_lost, unlost_anew, fell_all, none_fell_of_one}
 use Rattle.pg_model.specs.Job.{Job}
 use Rattle.pg_model.specs.Needed.{needed_count}
 use Rattle.pg_model.specs.Run.{answer, run_length}

@@ -10,12 +10,9 @@ use Rattle.pg_core.specs.Driving.{IsSameRun, calls_in, losses_of, needs_of}
 use Rattle.pg_core.specs.Progress.{IsRight, Progress, has_lost}
 use Rattle.pg_core.proofs.Onward.{job_same}
 use Rattle.pg_graph.specs.Rows.{Rows}
-use Rattle.pg_core_machine.specs.Limits.{Limits}
-use Rattle.pg_core_machine.specs.Losses.{counts_by, counts_in, is_anew, losses_in, lost_by}
-use Rattle.pg_core_machine.specs.Machine.{Reaches, State, after, first_state, is_allowed}
-use Rattle.pg_core_machine.specs.declared.event.Event.{Event}
-use Rattle.pg_core_machine.proofs.LawsLosses.{counts_in-more, losses_in-more}
-use Rattle.pg_core_machine.proofs.LawsMachine.{Reaches-push}
+use Rattle.pg_core.specs.Handed.{Limits, counts_by, counts_in, is_anew, losses_in, lost_by}
+use Rattle.pg_core.specs.Handed.{Reaches, State, after, first_state, is_allowed, Event}
+use Rattle.pg_core.proofs.Handed.{counts_in-more, losses_in-more, Reaches-push}
 use Rattle.pg_model.specs.Job.{Job}
 use Rattle.pg_model.specs.Superstep.{capped}
 use Rattle.pg_workers.specs.Losses.{AreFated, Fated, Trusts, as_reported}

@@ -9,11 +9,10 @@ use Rattle.pg_checkpoint.specs.Shelf.{ShelfState}
 use Rattle.pg_core.specs.Losing.{HasFallen as HasLost}
 use Rattle.pg_core.specs.Progress.{IsRight, Progress}
 use Rattle.pg_graph.specs.Rows.{Rows}
-use Rattle.pg_core_machine.specs.Losses.{least_hosted, lesser, lost_by}
-use Rattle.pg_core_machine.specs.Machine.{Reaches, State, after, first_state, host_of, is_alive, is_allowed, place_at}
-use Rattle.pg_core_machine.specs.declared.event.Event.TheVariants.{Lose}
-use Rattle.pg_core_machine.proofs.LawsLosses.{alive_within}
-use Rattle.pg_core_machine.proofs.LawsMachine.{length-first, length-hosts_all, length-hosts_first, length-places_all, place_after_lose}
+use Rattle.pg_core.specs.Handed.{least_hosted, lesser, lost_by}
+use Rattle.pg_core.specs.Handed.{Reaches, State, after, first_state, host_of, is_alive, is_allowed, place_at, Lose}
+use Rattle.pg_core.proofs.Handed.{alive_within}
+use Rattle.pg_core.proofs.Handed.{length-first, length-hosts_all, length-hosts_first, length-places_all, place_after_lose}
 use Rattle.pg_model.specs.Superstep.{capped}
 use Rattle.pg_workers.specs.Losses.{AreFated, Fated, WasFated, as_reported}
 use Rattle.pg_workers.specs.Meaning.{Meaning, job_of_meaning}

@@ -12,10 +12,8 @@ use Rattle.pg_core.specs.Progress.{IsNext, IsRight, IsStepOf, Progress, kept_for
 use Rattle.pg_core.specs.Traces.{logs_in, visible_in}
 use Rattle.pg_core.proofs.Steps.{IsNext-from_IsAdvanced, IsStepOf-from_HasMadeStep, lent_warm, lent_run}
 use Rattle.pg_graph.specs.Rows.{Rows}
-use Rattle.pg_core_machine.specs.Machine.{State, host_of, is_allowed, is_from, place_at}
-use Rattle.pg_core_machine.specs.declared.event.Event.TheVariants.{Step}
-use Rattle.pg_core_machine.proofs.LawsMachine.{some_within}
-use Rattle.pg_core_machine.proofs.LawsSteps.{StepsFrom-from_allowed}
+use Rattle.pg_core.specs.Handed.{State, host_of, is_allowed, is_from, place_at, Step}
+use Rattle.pg_core.proofs.Handed.{some_within, StepsFrom-from_allowed}
 use Rattle.pg_model.specs.Job.{Job}
 use Rattle.pg_model.specs.Needed.{needed_in}
 use Rattle.pg_model.specs.Run.{visible_at}

@@ -18,21 +18,16 @@ use Rattle.pg_core.specs.Closing.{ClosesRight, HasClosed}
 use Rattle.pg_core.specs.Losing.{IsRestored, IsShareFound, place_found, with_event}
 use Rattle.pg_core.specs.Progress.{HoldsAt, IsPartAt, IsRight, Progress, kept_for, part_at}
 use Rattle.pg_graph.specs.Rows.{Rows}
-use Rattle.pg_core_machine.specs.Limits.{Limits}
-use Rattle.pg_core_machine.specs.Losses.{is_anew}
-use Rattle.pg_core_machine.specs.Machine.{Reaches, State, after, after_all, first_state, is_allowed, place_at, saved_at}
-use Rattle.pg_core_machine.specs.declared.event.Closed.{Closed}
-use Rattle.pg_core_machine.specs.declared.event.Closed.TheVariants.{Next, Ended}
-use Rattle.pg_core_machine.specs.declared.event.Event.{Event}
-use Rattle.pg_core_machine.specs.declared.event.Event.TheVariants.{Close, Host, Lose, Restore, Save, Step}
-use Rattle.pg_core_machine.proofs.LawsNear.{AreNear-from_Reaches}
+use Rattle.pg_core.specs.Handed.{Limits, is_anew}
+use Rattle.pg_core.specs.Handed.{Reaches, State, after, after_all, first_state, is_allowed, place_at, saved_at, Closed}
+use Rattle.pg_core.specs.Handed.{Next, Ended, Event, Close, Host, Lose, Restore, Save, Step}
+use Rattle.pg_core.proofs.Handed.{AreNear-from_Reaches}
 use Rattle.pg_model.specs.Job.{Job}
 use Rattle.pg_model.specs.Run.{run_length}
 use Rattle.pg_model.specs.Superstep.{capped}
-use Rattle.pg_workers_rounds.specs.Handed.{HoldsShare, PartState}
+use Rattle.pg_workers_rounds.specs.Handed.{HoldsShare, PartState, PartRows}
 use Rattle.pg_workers.specs.Losses.{AreFated, Fated, Trusts, as_reported}
 use Rattle.pg_workers.specs.Meaning.{Meaning, job_of_meaning}
-use Rattle.pg_part_routing.specs.Starting.{PartRows}
 use Rattle.pg_workers.specs.Recovering.{IsFoundRight}
 use Rattle.pg_workers.specs.Running.{AreSaved, Coordination, Happens, IsRunning, IsSaved}
 use Rattle.pg_workers.proofs.Going.{job_stays, running_after, running_quiet}

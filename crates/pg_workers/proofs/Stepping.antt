@@ -10,11 +10,10 @@ use Rattle.pg_checkpoint.specs.Shelf.{ShelfState}
 use Rattle.pg_core.specs.Driving.{IsSameRun, needs_of}
 use Rattle.pg_core.specs.Progress.{IsNext, IsRight, IsStepFrom, IsStepOf, Progress, TakesIn, has_lost, kept_for}
 use Rattle.pg_graph.specs.Rows.{Rows}
-use Rattle.pg_core_machine.specs.Limits.{Limits}
-use Rattle.pg_core_machine.specs.Machine.{State, after, first_state, is_allowed, is_from, may_step, place_at, was_lost}
-use Rattle.pg_core_machine.specs.declared.event.Event.TheVariants.{Step}
-use Rattle.pg_core_machine.proofs.LawsMachine.{length-places, was_lost-stays}
-use Rattle.pg_core_machine.proofs.LawsSteps.{StepsFrom-from_allowed, place_after_other, place_after_own}
+use Rattle.pg_core.specs.Handed.{Limits, State, after, first_state, is_allowed, is_from, may_step, place_at, was_lost}
+use Rattle.pg_core.specs.Handed.{Step}
+use Rattle.pg_core.proofs.Handed.{length-places, was_lost-stays}
+use Rattle.pg_core.proofs.Handed.{StepsFrom-from_allowed, place_after_other, place_after_own}
 use Rattle.pg_model.specs.Job.{Job}
 use Rattle.pg_model.specs.Needed.{needed_in}
 use Rattle.pg_model.specs.Share.{belongs}

@@ -7,8 +7,7 @@ use Rattle.std.proofs.lemmas.List.Quantifiers.{all_pairs_push}
 use Rattle.std.proofs.lemmas.Option.{same_Some}
 use Rattle.pg_core.specs.Progress.{IsPartAt, IsRight, HasStepInput, Progress, is_ready, without_part}
 use Rattle.pg_graph.specs.Rows.{Rows}
-use Rattle.pg_core_machine.specs.Machine.{host_of, is_allowed, place_at}
-use Rattle.pg_core_machine.specs.declared.event.Event.TheVariants.{Step}
+use Rattle.pg_core.specs.Handed.{host_of, is_allowed, place_at, Step}
 use Rattle.pg_model.specs.Job.{Job}
 use Rattle.pg_workers_rounds.specs.Handed.{PartState}
 use Rattle.pg_workers.specs.Meaning.{Meaning, job_of_meaning}

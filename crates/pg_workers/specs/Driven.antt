@@ -5,9 +5,7 @@ use Rattle.pg_core.specs.Driving.{needs_of}
 use Rattle.pg_core.specs.Progress.{IsRight, Progress}
 use Rattle.pg_core.specs.Traces.{IsRetainedBy, Traces}
 use Rattle.pg_graph.specs.Rows.{Rows}
-use Rattle.pg_core_machine.specs.Losses.{counts_in, losses_in}
-use Rattle.pg_core_machine.specs.Machine.{Reaches, State, first_state, steps_of}
-use Rattle.pg_core_machine.specs.declared.event.Event.{Event}
+use Rattle.pg_core.specs.Handed.{counts_in, losses_in, Reaches, State, first_state, steps_of, Event}
 use Rattle.pg_model.specs.Job.{Job}
 use Rattle.pg_model.specs.Needed.{needed_count}
 use Rattle.pg_model.specs.Run.{answer, run_length}

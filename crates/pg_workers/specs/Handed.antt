@@ -4,5 +4,4 @@ pub use Rattle.pg_checkpoint.specs.Shelf.{IsCounted}
 pub use Rattle.pg_core.specs.Progress.{IsOpened, IsRight, Progress, job_of_core}
 pub use Rattle.pg_core.specs.Traces.{IsRetainedBy, Traces}
 pub use Rattle.pg_workers_rounds.specs.Handed.{AreTouched}
-pub use Rattle.pg_core_machine.specs.Limits.{Limits}
-pub use Rattle.pg_core_machine.specs.declared.event.Event.{Event}
+pub use Rattle.pg_core.specs.Handed.{Limits, Event}

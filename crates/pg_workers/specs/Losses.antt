@@ -1,8 +1,7 @@
 -- The workers that fell, why they fell, and what may be said of a run where a shelf isn't to be trusted.
 use Rattle.std.specs.Prelude.{◌≡◌, ℕ, ◌+◌, ◌≤◌, nat_lt, Bool, true, cond, ◌||◌, List, [], ◌∷◌, map, Option, Some}
 use Rattle.std.specs.List.{list_all}
-use Rattle.pg_core_machine.specs.Losses.{falls_of, is_anew}
-use Rattle.pg_core_machine.specs.declared.event.Event.{Event}
+use Rattle.pg_core.specs.Handed.{falls_of, is_anew, Event}
 use Rattle.pg_workers.specs.declared.counts.Loss.{Loss}
 use Rattle.pg_workers_rounds.specs.declared.cause.Cause.TheVariants.{Fate}
 

@@ -4,8 +4,7 @@ use Rattle.pg_checkpoint.specs.Shelf.{ShelfState}
 use Rattle.pg_core.specs.Losing.{IsShareFound, place_found}
 use Rattle.pg_core.specs.Progress.{IsRight, Progress}
 use Rattle.pg_graph.specs.Rows.{Rows}
-use Rattle.pg_core_machine.specs.Machine.{State, host_of, is_alive, place_at}
-use Rattle.pg_core_machine.specs.declared.event.Event.TheVariants.{Restore}
+use Rattle.pg_core.specs.Handed.{State, host_of, is_alive, place_at, Restore}
 use Rattle.pg_workers_rounds.specs.Handed.{PartState}
 use Rattle.pg_workers.specs.Losses.{Fated, Trusts, WasFated}
 use Rattle.pg_workers.specs.Meaning.{Meaning, job_of_meaning}

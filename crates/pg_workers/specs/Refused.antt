@@ -2,10 +2,7 @@
 use Rattle.std.specs.Prelude.{◌≡◌, ℕ, ◌<◌, ◌≤◌, Bool, true, false, List, map, length, Result, Ok, Err}
 use Rattle.pg_checkpoint.specs.declared.shelf.ShelfFault.{ShelfFault}
 use Rattle.pg_checkpoint.specs.declared.shelf.ShelfFault.TheVariants.{Memory as OutOfMemory, Device as Failed}
-use Rattle.pg_core_machine.specs.Limits.{Limits}
-use Rattle.pg_core_machine.specs.Losses.{losses_in}
-use Rattle.pg_core_machine.specs.Machine.{Reaches, State, first_state}
-use Rattle.pg_core_machine.specs.declared.event.Event.{Event}
+use Rattle.pg_core.specs.Handed.{Limits, losses_in, Reaches, State, first_state, Event}
 use Rattle.pg_workers.specs.Losses.{AreAll, AreFated, Fated, as_reported}
 use Rattle.pg_workers.specs.declared.counts.Loss.{Loss}
 use Rattle.pg_workers.specs.declared.fault.RefreshFault.{RefreshFault}

@@ -5,8 +5,7 @@ use Rattle.std.specs.List.{AllPairs}
 use Rattle.pg_core.specs.Progress.{IsNext, IsPartAt, IsRight, HasStepInput, IsStepOf, Progress, kept_for}
 use Rattle.pg_core.specs.Traces.{logs_in, visible_in}
 use Rattle.pg_graph.specs.Rows.{Rows}
-use Rattle.pg_core_machine.specs.Machine.{State, host_of, is_allowed, place_at}
-use Rattle.pg_core_machine.specs.declared.event.Event.TheVariants.{Step}
+use Rattle.pg_core.specs.Handed.{State, host_of, is_allowed, place_at, Step}
 use Rattle.pg_model.specs.Needed.{needed_in}
 use Rattle.pg_model.specs.Run.{visible_at}
 use Rattle.pg_model.specs.Share.{belongs}

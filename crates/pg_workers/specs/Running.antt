@@ -8,8 +8,7 @@ use Rattle.pg_checkpoint.specs.declared.shelf.ShelfFault.{ShelfFault}
 use Rattle.pg_core.specs.Driving.{IsSameRun, calls_in, losses_of}
 use Rattle.pg_core.specs.Progress.{IsPartAt, IsRight, Progress, part_at}
 use Rattle.pg_graph.specs.Rows.{Rows}
-use Rattle.pg_core_machine.specs.Machine.{Reaches, State, after, first_state, saved_at}
-use Rattle.pg_core_machine.specs.declared.event.Event.{Event}
+use Rattle.pg_core.specs.Handed.{Reaches, State, after, first_state, saved_at, Event}
 use Rattle.pg_model.specs.Job.{Job}
 use Rattle.pg_model.specs.Run.{run_length}
 use Rattle.pg_model.specs.Superstep.{capped}

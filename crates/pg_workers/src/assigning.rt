@@ -2,7 +2,7 @@
 ghost use Rattle.std.specs.Prelude.{◌≡◌, ◌≤◌, true, length, IfOk, IsTrue, Some};
 ghost use Rattle.pg_core.specs.Progress.{is_ready as ready_test};
 ghost use Rattle.pg_global.specs.Master.{has_places};
-ghost use Rattle.pg_core_machine.specs.Machine.{host_of, place_at};
+ghost use Rattle.pg_core.specs.Handed.{host_of, place_at};
 ghost use Rattle.pg_workers.specs.Meaning.{meaning};
 ghost use Rattle.pg_workers.specs.Rounds.{AreAssigned, Lends, TakesParts};
 

@@ -1,6 +1,6 @@
 //! The coordinator: a run on workers between two of its rounds.
 ghost use Rattle.std.specs.Prelude.{◌≡◌, ◌≤◌, [], IfSome};
-ghost use Rattle.pg_core_machine.specs.Machine.{Reaches, first_state};
+ghost use Rattle.pg_core.specs.Handed.{Reaches, first_state};
 
 use crate::Loss;
 use pg_core::Core;

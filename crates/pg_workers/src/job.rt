@@ -5,7 +5,7 @@ ghost use Rattle.std.specs.List.{range_with_len};
 ghost use Rattle.pg_checkpoint.specs.Shelf.{IsCounted, ShelfState};
 ghost use Rattle.pg_core.specs.Progress.{IsRight, Progress};
 ghost use Rattle.pg_graph.specs.Rows.{Rows};
-ghost use Rattle.pg_core_machine.specs.Machine.{is_allowed, is_step as step_test, steps_of};
+ghost use Rattle.pg_core.specs.Handed.{is_allowed, is_step as step_test, steps_of};
 ghost use Rattle.pg_workers.specs.Losses.{Fated};
 ghost use Rattle.pg_workers.specs.Driven.{IsDriven, IsUnlost};
 ghost use Rattle.pg_workers.specs.Meaning.{job_of_meaning, meaning};

@@ -4,7 +4,7 @@ ghost use Rattle.std.specs.Prelude.{IfOk, IfSome, OnOk};
 ghost use Rattle.pg_checkpoint.specs.Shelf.{IsCounted, ShelfState};
 ghost use Rattle.pg_core.specs.Losing.{IsOf, place_found};
 ghost use Rattle.pg_core.specs.Progress.{Progress};
-ghost use Rattle.pg_core_machine.specs.Machine.{is_alive, saved_at};
+ghost use Rattle.pg_core.specs.Handed.{is_alive, saved_at};
 ghost use Rattle.pg_workers.specs.Losses.{Fated};
 ghost use Rattle.pg_workers.specs.Meaning.{meaning};
 ghost use Rattle.pg_workers.specs.Recovering.{AreFalls, IsFoundRight, LosesOn};

@@ -3,7 +3,7 @@ ghost use Rattle.std.specs.Prelude.{◌≡◌, ◌≤◌, ◌<◌, ◌+◌, ◌^
 ghost use Rattle.pg_checkpoint.specs.Shelf.{IsCounted, ShelfState};
 ghost use Rattle.pg_core.specs.Progress.{IsNext, IsRight, Progress};
 ghost use Rattle.pg_graph.specs.Rows.{Rows};
-ghost use Rattle.pg_core_machine.specs.Machine.{is_allowed};
+ghost use Rattle.pg_core.specs.Handed.{is_allowed};
 ghost use Rattle.pg_workers.specs.Losses.{Fated, Trusts};
 ghost use Rattle.pg_workers.specs.Meaning.{job_of_meaning, meaning};
 ghost use Rattle.pg_workers.specs.Refused.{is_failure};

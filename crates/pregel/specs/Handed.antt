@@ -1,9 +1,7 @@
 -- The definitions that a program, its master, its service and their contracts name, handed on from below.
 
 -- the graph and its edits
-pub use Rattle.pg_graph_rows.specs.EdgeList.{EdgeList, weight_at, with_edge, without_edge}
-pub use Rattle.pg_graph_rows.specs.declared.edit.Edit.{Edit}
-pub use Rattle.pg_graph_rows.specs.declared.edit.EditFault.{EditFault}
+pub use Rattle.pg_graph.specs.Handed.{EdgeList, weight_at, with_edge, without_edge, Edit, EditFault}
 pub use Rattle.pg_graph.specs.Edit.{batch_edited}
 pub use Rattle.pg_graph.specs.Rows.{HasRisingIds, Rows, edge_count, row_at, vertex_count}
 pub use Rattle.pg_graph.specs.declared.missing.Missing.{Missing}

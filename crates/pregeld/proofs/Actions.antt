@@ -4,7 +4,7 @@ use Rattle.std.proofs.Common.{◌∙◌, inl, inr, arith}
 use Rattle.std.specs.List.{concat}
 use Rattle.std.proofs.lemmas.Bool.Decides.{nat_tests}
 use Rattle.std.proofs.lemmas.Grind.{common_steps}
-use Rattle.pg_graph_rows.specs.declared.edit.Edit.{Edit}
+use Rattle.pg_graph.specs.Handed.{Edit}
 use Rattle.pregeld.specs.Job.{ReadyState, ready_job}
 use Rattle.pregeld.specs.SessionState.{ServiceWithSession, Noted, stored}
 use Rattle.pregeld.specs.Reading.{SkipsLines, TakesLines}

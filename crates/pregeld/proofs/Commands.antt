@@ -3,7 +3,7 @@ use Rattle.std.proofs.Common.{◌≡◌, ◌≢◌, ℕ, ℤ, List, [], ◌∷�
 use Rattle.std.proofs.Common.{ap, ap₂, subst, ◌∙◌, inl, inr, codes}
 use Rattle.std.specs.Io.KnownBytes.{Appends}
 use Rattle.std.specs.Fmt.{signed_decimal}
-use Rattle.pg_graph_rows.specs.declared.edit.Edit.{Edit as OneEdit}
+use Rattle.pg_graph.specs.Handed.{Edit as OneEdit}
 use Rattle.pg_service.specs.Handed.{aggregate_of}
 use Rattle.pg_service.specs.Service.{last_published}
 use Rattle.pregeld.specs.Job.{ReadyJob, ReadyState, ready_names}

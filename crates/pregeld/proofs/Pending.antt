@@ -6,7 +6,7 @@ use Rattle.std.proofs.lemmas.Grind.{common_steps}
 use Rattle.std.proofs.lemmas.List.{length-take-le, take_all, take_at}
 use Rattle.pg_graph.specs.Edit.{batch_edited, batch_limit}
 use Rattle.pg_graph.specs.Rows.{Rows}
-use Rattle.pg_graph_rows.specs.declared.edit.Edit.{Edit}
+use Rattle.pg_graph.specs.Handed.{Edit}
 use Rattle.pregeld.specs.SessionState.{stored, stored_limit}
 use Rattle.pg_service.specs.Service.{IsTried, next_graph}
 

@@ -4,8 +4,7 @@ use Rattle.std.specs.Prelude.{length, take, drop, Option, None, Some, Result}
 use Rattle.std.specs.List.{concat}
 use Rattle.std.specs.Ordering.{int_eq}
 use Rattle.std.specs.Io.KnownBytes.{Appends}
-use Rattle.pg_graph_rows.specs.EditFault.{memory_fault}
-use Rattle.pg_graph_rows.specs.declared.edit.Edit.{Edit}
+use Rattle.pg_graph.specs.Handed.{memory_fault, Edit}
 use Rattle.pg_import.specs.Import.{no_memory}
 use Rattle.pg_import.specs.declared.line.ImportFault.{ImportFault}
 use Rattle.pg_import.specs.declared.line.Line.{Line}

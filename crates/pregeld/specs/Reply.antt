@@ -2,7 +2,7 @@
 use Rattle.std.specs.Prelude.{ℕ, ℤ, List, [], ◌∷◌, ◌++◌, length, flat_map, Option, None, Some}
 use Rattle.std.specs.Prelude.{decimal, codes}
 use Rattle.std.specs.Fmt.{signed_decimal}
-use Rattle.pg_graph_rows.specs.EditKind as edit
+use Rattle.pg_graph.specs.Handed.{number_of as edit_number}
 use Rattle.pg_import.specs.ImportKind as import
 use Rattle.pg_service.specs.declared.report.Report.{Report}
 use Rattle.pregeld_commands.specs.LineFault.{fault_number}
@@ -39,7 +39,7 @@ text_of (ImportRefused fault) =
     codes "import refused " ++ decimal (import.number_of fault.kind)
     ++ codes " line " ++ decimal fault.line
 text_of (BatchRefused fault) =
-    codes "refused " ++ decimal (edit.number_of fault.kind)
+    codes "refused " ++ decimal (edit_number fault.kind)
     ++ codes " position " ++ decimal fault.position
 text_of (Refreshed told) = summary_text told
 text_of (RunRefused number) = codes "refused " ++ decimal number

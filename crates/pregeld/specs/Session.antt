@@ -5,10 +5,8 @@ use Rattle.std.specs.Prelude.{Ok, Err}
 use Rattle.std.specs.Io.KnownBytes.{Appends}
 use Rattle.std.specs.List.{concat}
 use Rattle.std.specs.Ordering.{int_eq}
-use Rattle.pg_graph_rows.specs.EditFault.{memory_fault}
+use Rattle.pg_graph.specs.Handed.{memory_fault, Edit as OneEdit, EditFault}
 use Rattle.pg_graph.specs.Rows.{Rows}
-use Rattle.pg_graph_rows.specs.declared.edit.Edit.{Edit as OneEdit}
-use Rattle.pg_graph_rows.specs.declared.edit.EditFault.{EditFault}
 use Rattle.pg_import.specs.Batch.{batch_of}
 use Rattle.pg_import.specs.Comma.{csv_of}
 use Rattle.pg_import.specs.Import.{list_of, no_memory}

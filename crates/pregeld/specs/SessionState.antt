@@ -1,6 +1,6 @@
 -- What a session has in addition to its service.
 use Rattle.std.specs.Prelude.{ℕ, List, take, Option}
-use Rattle.pg_graph_rows.specs.declared.edit.Edit.{Edit}
+use Rattle.pg_graph.specs.Handed.{Edit}
 use Rattle.pg_service.specs.declared.report.Report.{Report}
 use Rattle.pregeld.specs.Job.{ReadyState}
 

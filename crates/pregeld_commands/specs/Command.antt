@@ -8,7 +8,7 @@ use Rattle.pg_import.specs.Import.{begins_with}
 use Rattle.pg_import.specs.Number.{id_of}
 use Rattle.pg_import.specs.Text.{line_of, words_of}
 use Rattle.pg_import.specs.declared.line.ImportKind.{ImportKind}
-use Rattle.pg_graph_rows.specs.declared.edit.Edit.{Edit as OneEdit}
+use Rattle.pg_graph.specs.Handed.{Edit as OneEdit}
 use Rattle.pregeld_commands.specs.Edits.{edge_of, given, in_place, input_of, reweigh_of, unedge_of}
 use Rattle.pregeld_commands.specs.Edits.{unvertex_of, vertex_of}
 use Rattle.pregeld_commands.specs.declared.command.Command.{Command}

@@ -1,8 +1,6 @@
 -- The edits that words ask for.
 use Rattle.std.specs.Prelude.{ℕ, ℤ, pos, List, [], ◌∷◌, Result, Ok, Err}
-use Rattle.pg_graph_rows.specs.declared.edit.Edit.{Edit}
-use Rattle.pg_graph_rows.specs.declared.edit.Edit.TheVariants.{AddVertex, RemoveVertex, SetInput}
-use Rattle.pg_graph_rows.specs.declared.edit.Edit.TheVariants.{AddEdge, SetEdge, RemoveEdge}
+use Rattle.pg_graph.specs.Handed.{Edit, AddVertex, RemoveVertex, SetInput, AddEdge, SetEdge, RemoveEdge}
 use Rattle.pg_import.specs.Number.{id_of, weight_of}
 use Rattle.pg_import.specs.declared.line.ImportKind.{ImportKind}
 use Rattle.pregeld_commands.specs.declared.command.LineFault.{LineFault}

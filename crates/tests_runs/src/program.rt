@@ -1,5 +1,5 @@
 ghost use Rattle.std.specs.Prelude.{◌≡◌, ◌++◌, ◌∷◌, [], map, true, false, pos, slice_get, unwrap_or, None, IfOk};
-ghost use Rattle.pg_graph_rows.specs.EdgeList.{with_edge};
+ghost use Rattle.pg_graph.specs.Handed.{with_edge};
 ghost use Rattle.pg_program.specs.Context.{ShowsDeclared};
 
 use pg_graph::{Edges, Memory, Superstep, VertexId};

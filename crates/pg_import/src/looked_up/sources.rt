@@ -1,7 +1,7 @@
 //! The edges that a graph has of the sources of lines.
 ghost use Rattle.std.specs.Prelude.{◌≡◌, Some, is_some, map, slice_get, IfOk, IfSome};
 ghost use Rattle.std.specs.Option.{option_copied};
-ghost use Rattle.pg_graph_rows.specs.EdgeList.{IsRising, weight_at};
+ghost use Rattle.pg_graph.specs.Handed.{IsRising, weight_at};
 ghost use Rattle.pg_graph.specs.Rows.{row_at};
 ghost use Rattle.pg_import.specs.Batch.{has_edge};
 ghost use Rattle.pg_import.specs.Sources.{LeadAsFrom, edges_of};

@@ -10,7 +10,7 @@ use Rattle.pg_checkpoint.proofs.Held.{all_rise}
 use Rattle.pg_checkpoint.proofs.Taken.{first_is, is_found, limits_at, not_counted, not_held, not_said, records_are, same_limits}
 use Rattle.pg_model.specs.declared.record.Record.{Record}
 use Rattle.pg_model.specs.declared.view.Declared.{Declared}
-use Rattle.pg_part_routing.specs.Starting.{PartRows}
+use Rattle.pg_part.specs.Handed.{PartRows}
 use Rattle.pg_stats.specs.GlobalStats.{aggregators_of}
 use Rattle.pg_trace.specs.Trace.{Trace}
 use Rattle.pg_checkpoint.proofs.loading.taken.Goals as goal

@@ -2,7 +2,7 @@ use Rattle.std.proofs.Common.{◌≡◌, ℕ, ◌+◌, List, [], ◌∷◌, ◌+
 use Rattle.std.proofs.lemmas.List.{length_push}
 use Rattle.pg_core.specs.Beginning.{HasBegun, IsHereFirst}
 use Rattle.pg_core.proofs.Opening.{first_of, one_more}
-use Rattle.pg_part_routing.specs.Starting.{PartRows}
+use Rattle.pg_part.specs.Handed.{PartRows}
 use Rattle.pg_part.specs.Part.{HoldsShare}
 use Rattle.pg_core.proofs.beginning.begun_parts.Goals as goal
 

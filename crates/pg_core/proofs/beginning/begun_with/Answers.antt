@@ -5,7 +5,7 @@ use Rattle.pg_core.specs.Beginning.{HasBegun, IsHereFirst}
 use Rattle.pg_core.proofs.Opening.{first_of, one_more, slice_get-between}
 use Rattle.pg_core.specs.Traces.{HasRetained}
 use Rattle.pg_part.specs.PartRun.{AreTouched}
-use Rattle.pg_part_routing.specs.Starting.{PartRows}
+use Rattle.pg_part.specs.Handed.{PartRows}
 use Rattle.pg_part.specs.Part.{HoldsShare, IsRetained}
 use Rattle.pg_stats.specs.MessageCounts.{AreMemberChanges}
 use Rattle.pg_core.proofs.beginning.begun_with.Goals as goal

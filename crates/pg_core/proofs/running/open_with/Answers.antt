@@ -27,6 +27,7 @@ returns-clause-opened g c =
       combiner_is = refl;
       master_is = refl;
       graph_is = refl;
+      rising = c.requires.started.rising;
       limits_are = refl;
       run_is = refl;
       state_is = c.requires.started.state_is;

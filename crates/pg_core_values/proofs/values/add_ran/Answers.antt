@@ -1,7 +1,7 @@
 use Rattle.std.proofs.Common.{◌≡◌, ℕ, List, ◌+◌, ◌-◌, ◌≤◌, ◌++◌, ap, ap₂, sym, ◌∙◌, append_assoc, flat_map, arith}
 use Rattle.std.specs.List.{range_with_len}
 use Rattle.std.specs.Map.{keys_of}
-use Rattle.pg_part_routing.proofs.Listing.{flat_map-range_from}
+use Rattle.pg_part.proofs.Handed.{flat_map-range_from}
 use Rattle.pg_core_values.specs.Values.{ran_between}
 use Rattle.pg_trace.specs.Trace.{records_of}
 use Rattle.pg_core_values.proofs.values.add_ran.Goals as goal

@@ -1,6 +1,6 @@
 use Rattle.std.proofs.Common.{ℕ, List, ◌≡◌, ◌++◌, [], ◌∷◌, flat_map, take, ap, ap₂, sym, ◌∙◌, arith}
 use Rattle.std.proofs.lemmas.List.{take_all, take_more}
-use Rattle.pg_part_routing.proofs.Listing.{flat_map-push}
+use Rattle.pg_part.proofs.Handed.{flat_map-push}
 use Rattle.pg_core_values.specs.Values.{state_by, traces_of, valued}
 use Rattle.pg_core_values.proofs.values.values_of_ids.Goals as goal
 

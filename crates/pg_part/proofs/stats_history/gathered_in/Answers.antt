@@ -1,6 +1,6 @@
 use Rattle.std.proofs.Common.{◌≡◌, ℕ, ℤ, List, [], ◌∷◌, arith, length, refl, sym, ◌∙◌}
 use Rattle.pg_global.specs.Registry.{Registered}
-use Rattle.pg_trace_records.specs.Records.{contributions_of}
+use Rattle.pg_trace.specs.Handed.{contributions_of}
 use Rattle.pg_stats.specs.GlobalStats.{aggregators_of}
 use Rattle.pg_stats.specs.Stats.{gathered_afresh}
 use Rattle.pg_trace.specs.Trace.{records_of}

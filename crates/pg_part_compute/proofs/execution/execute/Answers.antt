@@ -1,5 +1,5 @@
 use Rattle.std.proofs.Common.{ap, length, Some, [], ◌∷◌, ◌++◌, ◌∙◌}
-use Rattle.pg_trace_records.specs.declared.changes.Executed.{Executed}
+use Rattle.pg_trace.specs.Handed.{Executed}
 use Rattle.pg_part_compute.proofs.Executing.{executed, executed_within}
 use Rattle.pg_part_compute.proofs.execution.execute.Goals as goal
 

@@ -7,7 +7,7 @@ use Rattle.std.specs.Ordering.{nat_cmp}
 use Rattle.std.specs.declared.cmp.Ordering.TheVariants.{Less}
 use Rattle.pg_map.specs.Entries.{HasRisingIds}
 use Rattle.pg_model.specs.declared.record.Record.{Record}
-use Rattle.pg_trace_records.specs.Records.{unhalted_after}
+use Rattle.pg_trace.specs.Handed.{unhalted_after}
 use Rattle.pg_part_compute.proofs.vertex_pairs.unhalted_ids.Goals as goal
 
 module _ {V M : Type 0} where

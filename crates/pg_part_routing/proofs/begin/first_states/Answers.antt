@@ -1,5 +1,5 @@
 use Rattle.std.proofs.Common.{ℕ, ◌++◌, [], ◌∷◌, append_assoc, map, ap, sym, ◌∙◌}
-use Rattle.pg_graph_rows.specs.declared.row.Row.{Row}
+use Rattle.pg_graph.specs.Handed.{Row}
 use Rattle.pg_model.specs.ByIds.{state_first}
 use Rattle.pg_model.specs.declared.configuration.VertexState.{VertexState}
 use Rattle.pg_part_routing.specs.Starting.{own}

@@ -1,7 +1,7 @@
 use Rattle.std.proofs.Common.{sym, ◌∙◌, arith}
 use Rattle.std.proofs.lemmas.Grind.{common_steps}
 use Rattle.std.proofs.lemmas.Int.{to_z-of_z}
-use Rattle.pg_graph_rows.proofs.AtPlace.{rises_inserted}
+use Rattle.pg_graph.proofs.Handed.{rises_inserted}
 use Rattle.pg_program.proofs.own_edges.insert_at.Goals as goal
 
 pub returns-clause-ok : goal.returns-clause-ok

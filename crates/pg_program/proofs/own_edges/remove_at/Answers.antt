@@ -1,4 +1,4 @@
-use Rattle.pg_graph_rows.proofs.AtPlace.{rises_removed}
+use Rattle.pg_graph.proofs.Handed.{rises_removed}
 use Rattle.pg_program.proofs.own_edges.remove_at.Goals as goal
 
 pub returns-clause-value : goal.returns-clause-value

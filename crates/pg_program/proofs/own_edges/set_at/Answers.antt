@@ -1,7 +1,7 @@
 use Rattle.std.proofs.Common.{arith}
 use Rattle.std.proofs.lemmas.Grind.{common_steps}
 use Rattle.std.proofs.lemmas.Int.{to_z-of_z}
-use Rattle.pg_graph_rows.proofs.AtPlace.{rises_written}
+use Rattle.pg_graph.proofs.Handed.{rises_written}
 use Rattle.pg_program.proofs.own_edges.set_at.Goals as goal
 
 pub returns-clause-value : goal.returns-clause-value

@@ -1,6 +1,6 @@
 use Rattle.std.proofs.Common.{rules}
 use Rattle.std.proofs.lemmas.List.Sorted.{answers_always}
-use Rattle.pg_graph_rows.proofs.AtPlace.{searched}
+use Rattle.pg_graph.proofs.Handed.{searched}
 use Rattle.pg_program.proofs.search.place_of.Goals as goal
 
 pub returns : goal.returns

@@ -20,10 +20,10 @@ run_registered-requires-clause-prepared g c κs within =
     }
 
 pub returns-clause-answer : goal.returns-clause-answer
-returns-clause-answer g c = c.in_ok-answer.ensures.0
+returns-clause-answer g c = c.in_ok-answer.ensures.run.0
 
 pub returns-clause-meter : goal.returns-clause-meter
 returns-clause-meter g c =
     let job = job_of (g.P.Computation.program c.args.program.now) (g.C.MessageCombiner.combining c.args.combiner.now)
     (g.M.MasterCompute.master c.args.master.now) c.args.missing c.args.limit in
-    c.in_ok-answer.ensures.1 ∙ ap (λ (n : ℕ). capped (n + executions job c.args.graph.now)) c.copy.ensures.value
+    c.in_ok-answer.ensures.run.1 ∙ ap (λ (n : ℕ). capped (n + executions job c.args.graph.now)) c.copy.ensures.value

@@ -19,8 +19,8 @@ loop-done-init g c =
       meter = c.in_ok-progress.ensures.meter;
     })
 
-pub returns-in-Some : goal.returns-in-Some
-returns-in-Some g c =
+pub returns-in-Some-clause-run : goal.returns-in-Some-clause-run
+returns-in-Some-clause-run g c =
     let job =
     job_of (g.P.Computation.program c.args.runner.now.program.now)
     (g.C.MessageCombiner.combining c.args.runner.now.combiner.now)

@@ -1,6 +1,6 @@
 use Rattle.std.proofs.Common.{◌++◌, [], ◌∷◌, take, append_assoc, ap, sym, ◌∙◌}
 use Rattle.std.proofs.lemmas.List.{map_more}
-use Rattle.pg_graph_rows.specs.RowEdit.{source_of}
+use Rattle.pg_graph.specs.Handed.{source_of}
 use Rattle.pg_service.specs.Kept.{sources}
 use Rattle.pg_service.proofs.kept.add_sources.Goals as goal
 

@@ -1,8 +1,7 @@
 use Rattle.std.proofs.Common.{◌≡◌, ◌+◌, ℕ, List, [], ◌∷◌, ◌++◌, ap, sym, ◌∙◌, arith}
 use Rattle.std.specs.Prelude.{map}
 use Rattle.std.specs.List.{range_with_len}
-use Rattle.pg_core_machine.specs.Machine.{steps_of}
-use Rattle.pg_core_machine.specs.declared.event.Event.{Event}
+use Rattle.pg_core.specs.Handed.{steps_of, Event}
 use Rattle.std.proofs.lemmas.List.FromFn.{map-range_with_len_more}
 use Rattle.pg_workers.proofs.job.steps_made.Goals as goal
 

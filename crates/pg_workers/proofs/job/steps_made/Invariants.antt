@@ -1,6 +1,6 @@
 use Rattle.std.proofs.Common.{◌≡◌, map}
 use Rattle.std.specs.List.{range_with_len}
-use Rattle.pg_core_machine.specs.Machine.{steps_of}
+use Rattle.pg_core.specs.Handed.{steps_of}
 use Rattle.pg_workers.proofs.job.steps_made.Given as goal
 
 -- those of the partitions so far

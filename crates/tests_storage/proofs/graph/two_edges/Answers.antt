@@ -3,7 +3,7 @@ use Rattle.std.specs.List.Sorted.{IsStrictlySortedBy}
 use Rattle.std.specs.Ordering.{nat_cmp}
 use Rattle.std.specs.declared.cmp.Ordering.TheVariants.{Less}
 use Rattle.std.proofs.lemmas.Bool.Decides.{nat_tests}
-use Rattle.pg_graph_rows.specs.EdgeList.{IsRising}
+use Rattle.pg_graph.specs.Handed.{IsRising}
 use Rattle.tests_storage.proofs.graph.two_edges.Goals as goal
 
 pub from_rising-requires : goal.from_rising-requires

@@ -11,6 +11,7 @@ returns g c =
     let registry_is = c.in_ok-registry.ensures in
     let many = ap length c.in_ok-gathered.ensures.value ∙ (length-map _ _ ∙ ap length registry_is) in
     record {
+      rising = c.in_ok-shown.ensures.rising;
       limits_are = c.partitions.ensures.are;
       registry_is = registry_is;
       few = subst (λ (n : ℕ). n ≤ 16) (ap length registry_is) c.in_ok-gathered.ensures.few;

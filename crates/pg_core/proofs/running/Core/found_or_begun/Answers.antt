@@ -4,7 +4,7 @@ use Rattle.pg_core.specs.Progress.{job_of_core}
 use Rattle.pg_core.proofs.Recovery.{IfOk-both}
 use Rattle.pg_global.specs.Master.{job_of}
 use Rattle.pg_part.specs.Part.{HoldsShare}
-use Rattle.pg_part_routing.specs.Starting.{PartRows}
+use Rattle.pg_part.specs.Handed.{PartRows}
 use Rattle.pg_stats.specs.GlobalStats.{aggregators_of}
 use Rattle.pg_core.proofs.running.Core.found_or_begun.Goals as goal
 

@@ -1,6 +1,6 @@
 use Rattle.std.proofs.Common.{not, is_some, refl, ap, sym, ◌∙◌}
 use Rattle.std.specs.Option.{option_and_then}
-use Rattle.pg_graph_rows.specs.EdgeList.{weight_at}
+use Rattle.pg_graph.specs.Handed.{weight_at}
 use Rattle.pg_import.specs.Batch.{has_edge}
 use Rattle.pg_import.proofs.NamedEdgeFacts.{there_in-apart}
 use Rattle.pg_import.proofs.NamedFacts.{Shows-edge}

@@ -2,7 +2,7 @@ use Rattle.std.proofs.Common.{◌≡◌, ◌+◌, ◌≤◌, None, false, length
 use Rattle.std.specs.Map.{keys_of}
 use Rattle.std.proofs.lemmas.List.{length_push}
 use Rattle.pg_map.specs.Entries.{ChangesRise}
-use Rattle.pg_trace_records.proofs.Changed.{some_rise}
+use Rattle.pg_trace.proofs.Handed.{some_rise}
 use Rattle.pg_part.specs.PartRun.{PartRunState, with_resumed}
 use Rattle.pg_part.proofs.RunResuming.{resumed_trace}
 use Rattle.pg_part.proofs.part_run.PartRun.resumed.Goals as goal

@@ -1,7 +1,7 @@
 use Rattle.std.proofs.Common.{Some, ap, ap₂, sym, option_map, ◌∙◌}
 use Rattle.pg_part_compute.specs.VertexCountsDeltas.{given_at}
 use Rattle.pg_part_compute.proofs.Executing.{given_in}
-use Rattle.pg_trace_records.specs.Parts.{changes_in, record_in}
+use Rattle.pg_trace.specs.Handed.{changes_in, record_in}
 use Rattle.pg_part_compute.proofs.execution.Executor.given_at.Goals as goal
 
 pub returns-in-Some : goal.returns-in-Some

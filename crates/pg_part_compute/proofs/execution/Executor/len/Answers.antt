@@ -1,5 +1,5 @@
 use Rattle.std.proofs.Common.{sym, ◌∙◌}
-use Rattle.pg_trace_records.proofs.Parting.{length_in}
+use Rattle.pg_trace.proofs.Handed.{length_in}
 use Rattle.pg_part_compute.proofs.execution.Executor.len.Goals as goal
 
 pub returns : goal.returns

@@ -1,5 +1,5 @@
 use Rattle.std.proofs.Common.{sym, ap, ◌∙◌, is_some}
-use Rattle.pg_graph_rows.specs.EdgeList.{EdgeList, weight_at}
+use Rattle.pg_graph.specs.Handed.{EdgeList, weight_at}
 use Rattle.pg_program.proofs.own_edges.OwnEdges.set.Goals as goal
 
 pub returns-in-Err-clause-known : goal.returns-in-Err-clause-known

@@ -1,15 +1,13 @@
-use Rattle.std.proofs.Common.{ap, length, option_map, subst, ◌∙◌}
+use Rattle.std.proofs.Common.{ap, length, option_map, ◌∙◌}
 use Rattle.std.proofs.lemmas.Result.{IfOk-weaker}
-use Rattle.pg_graph.specs.Rows.{HasRisingIds}
 use Rattle.pg_service.proofs.Ran.{ran_if}
 use Rattle.pg_service.proofs.service.Service.run_warm.Goals as goal
 
 pub returns-clause-ran : goal.returns-clause-ran
 returns-clause-ran g c =
     let state = c.args.self.now in
-    let rising : HasRisingIds state.graph = subst HasRisingIds (ap (λ s. s.graph) c.self.view_is) c.rises.ensures in
     ran_if _ state.job state.graph (option_map (λ run. run.traces.graph) c.args.kept) c.in_ok-core.core (g.F.Fate.fated c.args.fate.now)
-    (g.S.Shelf.state c.args.shelf.now).is_honest _ rising c.in_ok-core.ensures.opened c.in_ok-core.ensures.right c.run_job.result
+    (g.S.Shelf.state c.args.shelf.now).is_honest _ c.in_ok-core.ensures.opened c.in_ok-core.ensures.right c.run_job.result
     c.requires.honest c.run_job.ensures.driven c.run_job.ensures.unlost c.run_job.ensures.cold
 
 pub returns-clause-named : goal.returns-clause-named

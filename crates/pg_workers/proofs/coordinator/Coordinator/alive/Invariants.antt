@@ -1,5 +1,5 @@
 use Rattle.std.proofs.Common.{◌≡◌, ℕ, ◌<◌, [], false}
-use Rattle.pg_core_machine.specs.Machine.{is_alive}
+use Rattle.pg_core.specs.Handed.{is_alive}
 use Rattle.pg_workers.proofs.coordinator.Coordinator.alive.Given as goal
 
 -- where none was found, none of the workers so far is alive

@@ -1,9 +1,7 @@
 use Rattle.std.proofs.Common.{◌≡◌, true, refl, sym, subst}
 use Rattle.std.proofs.lemmas.Result.{on_ok_weaker}
 use Rattle.pg_workers.specs.Meaning.{meaning}
-use Rattle.pg_core_machine.specs.Machine.{is_allowed}
-use Rattle.pg_core_machine.specs.declared.event.Closed.TheVariants.{Next}
-use Rattle.pg_core_machine.specs.declared.event.Event.TheVariants.{Close}
+use Rattle.pg_core.specs.Handed.{is_allowed, Next, Close}
 use Rattle.pg_workers.specs.Running.{Coordination, IsRunning}
 use Rattle.pg_workers.proofs.Saved.{running_close}
 use Rattle.pg_workers.proofs.coordinator.Coordinator.close.Goals as goal

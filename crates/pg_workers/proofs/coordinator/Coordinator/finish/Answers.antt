@@ -2,8 +2,7 @@ use Rattle.std.proofs.Common.{◌≡◌, ◌≤◌, ◌<◌, true, length, refl,
 use Rattle.pg_workers.specs.Meaning.{meaning}
 use Rattle.std.specs.Prelude.{map}
 use Rattle.std.specs.List.{range_with_len}
-use Rattle.pg_core_machine.specs.Limits.{Limits}
-use Rattle.pg_core_machine.specs.Machine.{steps_of}
+use Rattle.pg_core.specs.Handed.{Limits, steps_of}
 use Rattle.pg_workers.specs.Running.{Coordination, IsRunning}
 use Rattle.pg_workers.proofs.Ending.{cold_unlost, is_driven, is_unlost}
 use Rattle.pg_workers.proofs.coordinator.Coordinator.finish.Goals as goal

@@ -2,8 +2,8 @@ use Rattle.std.proofs.Common.{rules, ◌≡◌, ◌<◌, ℕ, List, ap, sym, ◌
 use Rattle.pg_workers.specs.Meaning.{meaning}
 use Rattle.pg_checkpoint.specs.Loading.{Asked, IsLoaded, key_of}
 use Rattle.pg_checkpoint.specs.Shelf.{at_key}
-use Rattle.pg_core_machine.specs.Machine.{saved_at}
-use Rattle.pg_part_routing.specs.Starting.{PartRows}
+use Rattle.pg_core.specs.Handed.{saved_at}
+use Rattle.pg_workers_rounds.specs.Handed.{PartRows}
 use Rattle.pg_stats.specs.GlobalStats.{aggregators_of}
 use Rattle.pg_workers.specs.Recovering.{IsFoundRight}
 use Rattle.pg_workers.specs.Running.{Coordination, IsRunning}

@@ -1,7 +1,6 @@
 use Rattle.std.proofs.Common.{◌≡◌, true, refl, ap, sym, ◌∙◌, subst}
 use Rattle.pg_workers.specs.Meaning.{meaning}
-use Rattle.pg_core_machine.specs.Machine.{is_allowed}
-use Rattle.pg_core_machine.specs.declared.event.Event.TheVariants.{Host}
+use Rattle.pg_core.specs.Handed.{is_allowed, Host}
 use Rattle.pg_workers.specs.Running.{Coordination, IsRunning}
 use Rattle.pg_workers.proofs.Saved.{running_host}
 use Rattle.pg_workers.proofs.coordinator.Coordinator.host.Goals as goal

@@ -1,7 +1,6 @@
 use Rattle.std.proofs.Common.{◌≡◌, true, ◌∷◌, refl, ap, sym, ◌∙◌, subst}
 use Rattle.pg_workers.specs.Meaning.{meaning}
-use Rattle.pg_core_machine.specs.Machine.{is_allowed}
-use Rattle.pg_core_machine.specs.declared.event.Event.TheVariants.{Lose}
+use Rattle.pg_core.specs.Handed.{is_allowed, Lose}
 use Rattle.pg_workers.specs.Recovering.{LosesOn}
 use Rattle.pg_workers.specs.Running.{Coordination}
 use Rattle.pg_workers.proofs.Losing.{loses_none, loses_one}

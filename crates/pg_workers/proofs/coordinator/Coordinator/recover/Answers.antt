@@ -5,7 +5,7 @@ use Rattle.std.proofs.lemmas.List.{nil_from_length}
 use Rattle.std.proofs.lemmas.Result.{on_ok_weaker}
 use Rattle.pg_workers.specs.Losses.{AreAll}
 use Rattle.pg_workers.specs.Refused.{AreLosses}
-use Rattle.pg_core_machine.specs.Limits.{Limits}
+use Rattle.pg_core.specs.Handed.{Limits}
 use Rattle.pg_workers.specs.declared.counts.Loss.{Loss}
 use Rattle.pg_workers.proofs.Ending.{all_fell, losses_are}
 use Rattle.pg_workers.proofs.coordinator.Coordinator.recover.Goals as goal

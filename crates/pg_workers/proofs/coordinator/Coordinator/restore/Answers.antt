@@ -1,8 +1,7 @@
 use Rattle.std.proofs.Common.{◌≡◌, ℕ, true, refl, ap, sym, ◌∙◌, subst}
 use Rattle.pg_workers.specs.Meaning.{meaning}
 use Rattle.pg_core.specs.Losing.{place_found}
-use Rattle.pg_core_machine.specs.Machine.{is_allowed}
-use Rattle.pg_core_machine.specs.declared.event.Event.TheVariants.{Restore}
+use Rattle.pg_core.specs.Handed.{is_allowed, Restore}
 use Rattle.pg_workers.specs.Recovering.{IsFoundRight}
 use Rattle.pg_workers.specs.Running.{Coordination, IsRunning}
 use Rattle.pg_workers.proofs.Saved.{running_restore}

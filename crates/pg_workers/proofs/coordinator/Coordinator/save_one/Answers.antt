@@ -1,7 +1,6 @@
 use Rattle.std.proofs.Common.{◌≡◌, ◌≤◌, ◌<◌, true, refl, ap, sym, ◌∙◌, subst, Ok}
 use Rattle.pg_workers.specs.Meaning.{meaning}
-use Rattle.pg_core_machine.specs.Machine.{is_allowed}
-use Rattle.pg_core_machine.specs.declared.event.Event.TheVariants.{Save}
+use Rattle.pg_core.specs.Handed.{is_allowed, Save}
 use Rattle.pg_workers.specs.Running.{Coordination, HasPut, IsRunning}
 use Rattle.pg_workers.proofs.Saved.{running_save}
 use Rattle.pg_workers.proofs.coordinator.Coordinator.save_one.Goals as goal

@@ -3,8 +3,7 @@ use Rattle.pg_workers.specs.Meaning.{meaning}
 use Rattle.pg_workers.specs.Rounds.{IsStepRight}
 use Rattle.pg_workers.specs.Running.{Coordination, IsRunning}
 use Rattle.pg_model.specs.Superstep.{capped}
-use Rattle.pg_core_machine.specs.Machine.{is_allowed}
-use Rattle.pg_core_machine.specs.declared.event.Event.TheVariants.{Step}
+use Rattle.pg_core.specs.Handed.{is_allowed, Step}
 use Rattle.pg_core.specs.Progress.{IsRight}
 use Rattle.pg_workers.specs.Losses.{Trusts}
 use Rattle.pg_workers.specs.Meaning.{job_of_meaning}

@@ -1,6 +1,6 @@
 use Rattle.std.proofs.Common.{is_some, map, ◌∷◌, [], ap, ◌∙◌}
 use Rattle.std.proofs.lemmas.List.{map-append}
-use Rattle.pg_graph_rows.specs.EdgeList.{weight_at}
+use Rattle.pg_graph.specs.Handed.{weight_at}
 use Rattle.pg_graph.specs.Rows.{row_at}
 use Rattle.pg_import.specs.Sources.{LeadAsFrom, edges_of}
 use Rattle.pg_import.proofs.SourceFacts.{AreNoted-push, targets_of_row}
