@@ -1,6 +1,7 @@
 pub mod Ends
 pub mod Keeping
 pub mod RetainedPart
+pub mod Moved
 pub mod Needs
 pub mod Onward
 pub mod Opened

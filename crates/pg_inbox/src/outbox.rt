@@ -48,7 +48,7 @@ impl<M: Drop> Outbox<M> {
     }
 
     /// A reference to all of them.
-    pub fn lend(&self) -> OutboxRef<'_, M>
+    pub fn as_ref(&self) -> OutboxRef<'_, M>
         ensures { result ≡ self.now }
     {
         OutboxRef {

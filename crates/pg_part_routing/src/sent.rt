@@ -125,7 +125,7 @@ fn each_fresh<M: Plain, C: MessageCombiner<M>>(
 {
     let mut bundles = Vec::with_capacity(alloc, parts.len())?;
     for sends in parts {
-        bundles.push(fresh(alloc, &sends.lend(), combiner)?)?;
+        bundles.push(fresh(alloc, &sends.as_ref(), combiner)?)?;
     }
     Ok(bundles)
 }
@@ -222,7 +222,7 @@ fn each_rebuilt<M: Plain, C: MessageCombiner<M>>(
     for to in 0..partitions.partitions() {
         let before = logs.get(superstep, from, PartitionId::new(to));
         let retracted = retracted[to as usize].as_slice();
-        let added = added[to as usize].lend();
+        let added = added[to as usize].as_ref();
         bundles.push(rebuilt(alloc, before, retracted, &added, combiner)?)?;
     }
     Ok(bundles)

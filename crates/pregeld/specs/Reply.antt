@@ -25,12 +25,12 @@ summary_of report = record {
 
 -- the answer to a refresh, without its line feed
 unfoldable pub summary_text : RefreshSummary → List ℕ
-summary_text told =
-    codes "refreshed edition " ++ (decimal told.edition
-    ++ (codes " supersteps " ++ (decimal told.supersteps
-    ++ (codes " ending " ++ (ending_name told.ending
-    ++ (codes " calls " ++ (decimal told.calls
-    ++ (codes " losses " ++ decimal told.losses))))))))
+summary_text summary =
+    codes "refreshed edition " ++ (decimal summary.edition
+    ++ (codes " supersteps " ++ (decimal summary.supersteps
+    ++ (codes " ending " ++ (ending_name summary.ending
+    ++ (codes " calls " ++ (decimal summary.calls
+    ++ (codes " losses " ++ decimal summary.losses))))))))
 
 -- an answer, without its line feed
 unfoldable pub text_of : Reply → List ℕ
@@ -41,7 +41,7 @@ text_of (ImportRefused fault) =
 text_of (BatchRefused fault) =
     codes "refused " ++ decimal (edit_number fault.kind)
     ++ codes " position " ++ decimal fault.position
-text_of (Refreshed told) = summary_text told
+text_of (Refreshed summary) = summary_text summary
 text_of (RunRefused number) = codes "refused " ++ decimal number
 text_of (Checked check) = check_text check
 text_of Unpublished = codes "unpublished"

@@ -89,9 +89,9 @@ fn refresh<H: Threads + Wait + Sync>(
     let (fate, gate) = (NoFate, NoGate);
     match service.refresh(rt, alloc, &mut shelf, &fate, &gate) {
         Ok(report) => {
-            let told = RefreshSummary::of(&report);
+            let summary = RefreshSummary::of(&report);
             session_state.keep_report(report);
-            Reply::Refreshed(told)
+            Reply::Refreshed(summary)
         }
         Err(fault) => Reply::RunRefused(fault.number()),
     }

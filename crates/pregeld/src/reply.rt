@@ -55,7 +55,7 @@ impl fmt::Display for Reply {
                 let (number, position) = (fault.kind.number(), fault.position);
                 write!(f, "refused {number} position {position}")
             }
-            Reply::Refreshed(told) => write!(f, "{told}"),
+            Reply::Refreshed(summary) => write!(f, "{summary}"),
             Reply::RunRefused(number) => write!(f, "refused {number}"),
             Reply::Checked(check) => write!(f, "{check}"),
             Reply::Unpublished => write!(f, "unpublished"),
@@ -96,7 +96,7 @@ impl fmt::Display for RefreshSummary {
     ghost use Rattle.std.specs.Prelude.{Some};
     ghost use Rattle.pregeld.specs.Reply.{summary_text};
 
-    ghost output = { λ told. Some (summary_text told) };
+    ghost output = { λ summary. Some (summary_text summary) };
 
     #[tactic(auto, unfolding(crate::specs::Reply::summary_text))]
     fn fmt<W: fmt::Write>(&self, f: &mut fmt::Formatter<W>) -> fmt::Result {

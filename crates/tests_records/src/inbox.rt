@@ -25,7 +25,7 @@ fn bundle_of(
     for (sender, target, message) in sent {
         sends.push(id(*sender), id(*target), *message)?;
     }
-    bundle(alloc, &sends.lend(), &combiner)
+    bundle(alloc, &sends.as_ref(), &combiner)
 }
 
 fn three(alloc: Global, combiner: AnyCombiner) -> Result<Bundle<i64>, Memory> {
@@ -185,7 +185,7 @@ fn bundle_of_even(alloc: Global) -> Result<Bundle<i64>, Memory> {
     for half in 1..61u32 {
         sends.push(id(1), id(half * 2), i64::from(half))?;
     }
-    bundle(alloc, &sends.lend(), &AnyCombiner::NoCombiner)
+    bundle(alloc, &sends.as_ref(), &AnyCombiner::NoCombiner)
 }
 
 // Whether a target from 0 to 130 has one message where it is even and from 2 to 120, and else none.

@@ -21,7 +21,7 @@ loop-sends-preserved g c =
           (sym (ap (λ l. slice_get l q) pushed ∙ slice_get-before have one q (subst (λ n. q < n) (sym len) below)))
           (c.loop-sends.invariant.bundles q below))
           (subst₂ (λ sends l. IsFresh combining sends l)
-          (c.lend.ensures ∙ (c.sends-item.is ∙ get_or_default parts c.loop-sends.sends-index c.sends-item.result [] c.loop-sends-test.true))
+          (c.as_ref.ensures ∙ (c.sends-item.is ∙ get_or_default parts c.loop-sends.sends-index c.sends-item.result [] c.loop-sends-test.true))
           (sym (ap (slice_get c.push.new.self.items) (sym len) ∙ (ap (λ l. slice_get l (length have)) pushed ∙ slice_get-last have one)))
           c.in_ok-fresh.ensures);
     }

@@ -25,7 +25,7 @@ loop-to-preserved g c =
           (same_rebuilt combining
           (c.as_slice-retracted.ensures ∙ (c.index-retracted-to.is ∙ get_or_default c.args.retracted.now to c.index-retracted-to.result []
           (omega (arith, c.requires.retracted, c.loop-to-test.true))))
-          (c.lend-added.ensures ∙
+          (c.as_ref-added.ensures ∙
           (c.index-added-to.is ∙ get_or_default c.args.added.now to c.index-added-to.result [] (omega (arith, c.requires.added, c.loop-to-test.true))))
           (c.get-before.ensures ∙ ap (λ q. slot_at c.args.logs.now c.args.superstep c.args.from q) c.new.ensures)
           (sym (ap (slice_get c.push.new.self.items) (sym len) ∙ (ap (λ l. slice_get l (length have)) pushed ∙ slice_get-last have one)))

@@ -4,6 +4,7 @@ use Rattle.pg_core.specs.Progress.{IsLawful, IsRight, job_of_core}
 use Rattle.pg_core.proofs.Recovery.{IsLawful-event, IsRight-host}
 use Rattle.pg_core_machine.specs.Machine.{Reaches, after, first_state, is_allowed}
 use Rattle.pg_core_machine.specs.declared.event.Event.TheVariants.{Host}
+use Rattle.pg_core.proofs.Moved.{moved}
 use Rattle.pg_core.proofs.running.Core.host.Goals as goal
 
 pub invariant_of-self-2 : goal.invariant_of-self-2
@@ -27,20 +28,5 @@ returns-clause-right g c kept right =
     let event = Host c.args.partition c.args.worker in
     let events =
     subst (λ core. Reaches (first_state core.limits.partitions core.limits.workers) core.history core.state) c.self.view_is c.self.invariant.events in
-    let new = (λ i. record {
-      program = inside.program.now;
-      combiner = inside.combiner.now;
-      master = inside.master.now;
-      graph = inside.graph.now;
-      limits = inside.limits;
-      run = inside.run;
-      state = c.host_on.ensures i;
-      history = c.in_ok-push.ensures.items i;
-      parts = inside.parts.items;
-      logs = inside.logs;
-      shown = inside.shown.items;
-      run_totals = inside.run_totals;
-      ending = inside.ending;
-      kept = inside.kept;
-    }) ∙ ap (with_event event) c.self.view_is in
+    let new = moved c.self.view_is c.host_on.ensures c.in_ok-push.ensures.items refl ∙ ap (with_event event) c.self.view_is in
     subst (IsRight job kept) (sym new) (IsRight-host job kept core right events c.args.partition c.args.worker)

@@ -1,9 +1,10 @@
-use Rattle.std.proofs.Common.{◌≡◌, ℕ, true, ap, sym, ◌∙◌, subst}
+use Rattle.std.proofs.Common.{refl, ◌≡◌, ℕ, true, ap, sym, ◌∙◌, subst}
 use Rattle.pg_core.specs.Losing.{AreLost, IsForgotten, with_event}
 use Rattle.pg_core.specs.Progress.{IsLawful, IsRight, job_of_core}
 use Rattle.pg_core.proofs.Recovery.{IsLawful-lose, IsRight-lose}
 use Rattle.pg_core_machine.specs.Machine.{Reaches, after, first_state, is_allowed}
 use Rattle.pg_core_machine.specs.declared.event.Event.TheVariants.{Lose}
+use Rattle.pg_core.proofs.Moved.{moved}
 use Rattle.pg_core.proofs.running.Core.lose.Goals as goal
 
 pub invariant_of-self-2 : goal.invariant_of-self-2
@@ -34,20 +35,5 @@ returns-clause-right g c kept right =
     let forgotten =
     subst (λ core. IsForgotten core.limits.partitions w core.state core.logs logs) c.self.view_is
     (subst (λ (n : ℕ). IsForgotten n w inside.state inside.logs logs) c.partitions-partitions.ensures.value c.lose_hosted.ensures.logs) in
-    let new = (λ i. record {
-      program = inside.program.now;
-      combiner = inside.combiner.now;
-      master = inside.master.now;
-      graph = inside.graph.now;
-      limits = inside.limits;
-      run = inside.run;
-      state = c.lose.ensures i;
-      history = c.in_ok-push.ensures.items i;
-      parts = parts;
-      logs = logs;
-      shown = inside.shown.items;
-      run_totals = inside.run_totals;
-      ending = inside.ending;
-      kept = inside.kept;
-    }) ∙ ap (λ core. record (with_event (Lose w) core) { parts = parts; logs = logs }) c.self.view_is in
+    let new = moved c.self.view_is c.lose.ensures c.in_ok-push.ensures.items refl ∙ ap (λ core. record (with_event (Lose w) core) { parts = parts; logs = logs }) c.self.view_is in
     subst (IsRight job kept) (sym new) (IsRight-lose job kept core right events w parts logs lost forgotten)

@@ -6,6 +6,7 @@ use Rattle.pg_core_machine.specs.Machine.{Reaches, after, first_state, is_allowe
 use Rattle.pg_core_machine.specs.declared.event.Event.TheVariants.{Restore}
 use Rattle.pg_part.specs.Part.{HoldsShare}
 use Rattle.pg_part.proofs.Resuming.{fresh_is_sent}
+use Rattle.pg_core.proofs.Moved.{moved}
 use Rattle.pg_core.proofs.running.Core.restore.Goals as goal
 
 pub returns-clause-core : goal.returns-clause-core
@@ -19,22 +20,7 @@ returns-clause-core g c =
     record {
       part = part;
       as_found = c.in_ok-part.ensures.found;
-      core_is = (λ i. record {
-        program = inside.program.now;
-        combiner = inside.combiner.now;
-        master = inside.master.now;
-        graph = inside.graph.now;
-        limits = inside.limits;
-        run = inside.run;
-        state = c.restore.ensures i;
-        history = c.in_ok-push.ensures.items i;
-        parts = c.put_part.ensures i;
-        logs = logs;
-        shown = inside.shown.items;
-        run_totals = inside.run_totals;
-        ending = inside.ending;
-        kept = inside.kept;
-      })
+      core_is = moved c.self.view_is c.restore.ensures c.in_ok-push.ensures.items c.put_part.ensures
           ∙ (ap (λ core. record (with_event (Restore p c.place-place.result) core) { parts = set core.parts p (Some part); logs = logs }) c.self.view_is
           ∙ ap (λ (r : ℕ). record (with_event (Restore p r) core) { parts = set core.parts p (Some part); logs = logs })
           (c.place-place.ensures ∙ sym found_at));

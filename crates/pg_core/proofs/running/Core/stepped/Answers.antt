@@ -5,6 +5,7 @@ use Rattle.pg_core_machine.specs.declared.event.Event.TheVariants.{Step}
 use Rattle.pg_core.proofs.Steps.{IsLawful-step, IsRight-step, part_within}
 use Rattle.pg_core_machine.proofs.LawsSteps.{StepsFrom-from_allowed, length-places_lawful}
 use Rattle.pg_core_machine.proofs.LawsMachine.{some_within}
+use Rattle.pg_core.proofs.Moved.{moved}
 use Rattle.pg_core.proofs.running.Core.stepped.Goals as goal
 
 pub step-requires : goal.step-requires
@@ -60,22 +61,7 @@ returns-clause-core g c =
     let part = c.args.part in
     let logs = c.note_step.new.logs in
     record {
-      core_is = (λ i. record {
-        program = inside.program.now;
-        combiner = inside.combiner.now;
-        master = inside.master.now;
-        graph = inside.graph.now;
-        limits = inside.limits;
-        run = inside.run;
-        state = c.step.ensures i;
-        history = c.in_ok-note_step.ensures.history i;
-        parts = c.put_part.ensures i;
-        logs = logs;
-        shown = inside.shown.items;
-        run_totals = inside.run_totals;
-        ending = inside.ending;
-        kept = inside.kept;
-      }) ∙ ap (λ core. record (with_step p part core) { logs = logs }) c.self.view_is;
+      core_is = moved c.self.view_is c.step.ensures c.in_ok-note_step.ensures.history c.put_part.ensures ∙ ap (λ core. record (with_step p part core) { logs = logs }) c.self.view_is;
       logs_are = λ r at.
           let place : c.new-place.result ≡ r = omega (arith, c.new-place.ensures, c.number.ensures, c.place.ensures, c.requires.next.place_is r at) in
           subst (λ core. HasPut r p (take core.limits.partitions c.args.sent) core.logs logs) c.self.view_is

@@ -1,4 +1,4 @@
-use Rattle.std.proofs.Common.{◌≡◌, ℕ, ◌<◌, ◌≤◌, List, arith, true, length, get_or, set, None, Some, ap, sym, ◌∙◌, subst}
+use Rattle.std.proofs.Common.{refl, ◌≡◌, ℕ, ◌<◌, ◌≤◌, List, arith, true, length, get_or, set, None, Some, ap, sym, ◌∙◌, subst}
 use Rattle.std.specs.Option.{IsSome}
 use Rattle.std.proofs.lemmas.Bool.{and_parts}
 use Rattle.std.proofs.lemmas.List.{get_or-set_same}
@@ -9,6 +9,7 @@ use Rattle.pg_core_machine.specs.declared.event.Event.TheVariants.{Step}
 use Rattle.pg_core.proofs.Parts.{here_is, some_inside}
 use Rattle.pg_core.proofs.Steps.{IsLawful-take, IsRight-take, HasStepInput-taken}
 use Rattle.pg_core_machine.proofs.LawsSteps.{StepsFrom-from_allowed, length-places_lawful}
+use Rattle.pg_core.proofs.Moved.{moved}
 use Rattle.pg_core.proofs.running.Core.take.Goals as goal
 
 pub invariant_of-self : goal.invariant_of-self
@@ -63,22 +64,7 @@ returns-clause-right g c kept right =
     let many =
     subst (λ core. length core.state.places ≡ core.limits.partitions) c.self.view_is
     (length-places_lawful inside.limits inside.state inside.history.items c.self.invariant.events) in
-    let new = (λ i. record {
-      program = inside.program.now;
-      combiner = inside.combiner.now;
-      master = inside.master.now;
-      graph = inside.graph.now;
-      limits = inside.limits;
-      run = inside.run;
-      state = inside.state;
-      history = inside.history.items;
-      parts = set parts (c.number.ensures i) (c.take.ensures.after i);
-      logs = inside.logs;
-      shown = inside.shown.items;
-      run_totals = inside.run_totals;
-      ending = inside.ending;
-      kept = inside.kept;
-    }) ∙ ap (without_part p) c.self.view_is in (
+    let new = moved c.self.view_is refl refl (λ i. set parts (c.number.ensures i) (c.take.ensures.after i)) ∙ ap (without_part p) c.self.view_is in (
       subst (IsRight job kept) (sym new)
           (IsRight-take job kept core p right was.0 (some_inside core.parts p was.1)),
       HasStepInput-taken job kept core p right was.0 many c.unwrap.result there,
