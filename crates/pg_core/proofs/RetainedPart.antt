@@ -141,7 +141,7 @@ module _ {P C A V M : Type 0} (job : Job V M) (kept : Option Rows) (core : Progr
   pub have_all_ended : 0 < core.limits.partitions → HaveEnded job (kept_for kept core) core.graph core.limits.partitions end core.parts
   have_all_ended some = record { parts_are = have_ended; some = some; last = last }
 
-  -- where all of them are warm, how the kept run ended may be lent
+  -- where all of them are warm, how the kept run ended may be borrowed
   end_kept : list_all is_warm core.parts ≡ true → KeepsEnd job (kept_for kept core) core.limits.partitions (option_map ended_by core.kept)
   end_kept warm = keeps_end job kept (kept_for kept core) core.limits.partitions core.kept right.warm all
     where
@@ -153,9 +153,9 @@ module _ {P C A V M : Type 0} (job : Job V M) (kept : Option Rows) (core : Progr
           by None h is = absurd h
           by (Some part) h is = no_warm_share job kept core.graph core.limits.partitions p end (has_lost core p) part h is
 
-  -- else nothing is lent
-  pub end_lent : KeepsEnd job (kept_for kept core) core.limits.partitions (cond (list_all is_warm core.parts) (option_map ended_by core.kept) None)
-  end_lent = by (list_all is_warm core.parts) refl
+  -- else nothing borrows
+  pub end_borrowed : KeepsEnd job (kept_for kept core) core.limits.partitions (cond (list_all is_warm core.parts) (option_map ended_by core.kept) None)
+  end_borrowed = by (list_all is_warm core.parts) refl
     where
       by : (b : Bool) → list_all is_warm core.parts ≡ b
           → KeepsEnd job (kept_for kept core) core.limits.partitions (cond b (option_map ended_by core.kept) None)

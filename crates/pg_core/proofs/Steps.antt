@@ -31,7 +31,7 @@ use Rattle.pg_model.specs.Run.{run_length, visible_at}
 use Rattle.pg_model.specs.declared.view.Declared.{Declared}
 use Rattle.pg_model.specs.declared.view.Visible.{Visible}
 use Rattle.pg_part.specs.Handed.{HasMessages, TellsAt, TellsFrom, bundle_in, bundle_sent}
-use Rattle.pg_part.specs.StepInput.{IsStepInput, IsOldStepInput, LendsLogs}
+use Rattle.pg_part.specs.StepInput.{IsStepInput, IsOldStepInput, HasOldLogs}
 use Rattle.pg_part.specs.PartRun.{IsAdvanced, IsSentTo}
 use Rattle.pg_part.specs.Part as parts_of
 use Rattle.pg_part.specs.Part.{HoldsShare, PartState}
@@ -157,7 +157,7 @@ TellsAt-from_sent job old rows false n q p s old_slot (Some logged) within had h
     by None h = absurd h
     by (Some ids) h = h
 
--- what a step is lent of the kept run: what it reads there, and its logs tell, if anything, where they differ
+-- what a step borrows of the kept run: what it reads there, and its logs tell, if anything, where they differ
 IsOldStepInput-old : {V M : Type 0} (job : Job V M) (old : Option Rows) (lost : ℕ → Bool) (rows : Rows) (n p r : ℕ) (logs : Slots M)
     (kept : Option (RetainedRun V M)) → p < n → KeepsRetainedRun job old n kept
     → ((s q : ℕ) → s + 1 ≡ r → q < n → IsSentTo job (cond (lost q) None old) rows n q p s (slot_at logs s q p))
@@ -171,7 +171,7 @@ IsOldStepInput-old {V} {M} job (Some old) lost rows n p r logs (Some kept) mine 
           cond-true (nat_lt r (length kept.shown)) (Some kept.logs) None (lt-ltb r (length kept.shown) (omega (arith, many, less))) in
           let shows : visible_in r (Some kept) ≡ Some (visible_at job old r) =
           ap (λ l. slice_get l r) keeps.shown ∙ slice_get-made (visible_at job old) (run_length job old) r less in
-          let lends : LendsLogs job old n p r logs kept.logs = record {
+          let has_logs : HasOldLogs job old n p r logs kept.logs = record {
             there = less;
             received = λ s q before within. keeps.sent s q p (omega (arith, before, less)) within mine;
             sent = λ q within. keeps.sent r p q less mine within;
@@ -179,7 +179,7 @@ IsOldStepInput-old {V} {M} job (Some old) lost rows n p r logs (Some kept) mine 
                 λ s q before within. TellsAt-from_sent job old rows (lost q) n q p s (slot_at kept.logs s q p) (slot_at logs s q p)
                 (omega (arith, before, less)) (keeps.sent s q p (omega (arith, before, less)) within mine) (sent s q before within);
           } in
-          subst₂ (IsOldStepInput job (Some old) n p r logs) (sym there) (sym shows) (lends, refl)
+          subst₂ (IsOldStepInput job (Some old) n p r logs) (sym there) (sym shows) (has_logs, refl)
           )
       | inr more ↦ (
           let gone : logs_in r (Some kept) ≡ None =
@@ -191,7 +191,7 @@ IsOldStepInput-old {V} {M} job (Some old) lost rows n p r logs (Some kept) mine 
     many : length kept.shown ≡ run_length job old
     many = ap length keeps.shown ∙ length-map-range_with_len (visible_at job old) 0 (run_length job old)
 
--- one that a loss took is cold, and may be lent anything
+-- one that a loss took is cold, and may be borrowed anything
 IsOldStepInput-kept : {V M : Type 0} (job : Job V M) (old : Option Rows) (lost : ℕ → Bool) (rows : Rows) (n p r : ℕ) (logs : Slots M)
     (kept : Option (RetainedRun V M)) → p < n → KeepsRetainedRun job old n kept
     → ((s q : ℕ) → s + 1 ≡ r → q < n → IsSentTo job (cond (lost q) None old) rows n q p s (slot_at logs s q p))
@@ -224,7 +224,7 @@ module _ {V M : Type 0} (job : Job V M) (kept : Option Rows) {P C A : Type 0} (c
         warm = right.warm;
       }
 
-  -- a step is lent what it reads of the run
+  -- a step borrows what it reads of the run
   pub HasStepInput-taken : (many : length core.state.places ≡ core.limits.partitions) (part : PartState V M) → part_at p core ≡ Some part
       → HasStepInput job kept core p part.part_run.place part
   HasStepInput-taken many part at =
@@ -363,15 +363,15 @@ IsStepOf-from_HasMadeStep job kept core p r part sent value_eq message_eq calls 
     } in
     subst (λ (s : ℕ). IsStepFrom job (kept_for kept core p) core.graph core.limits.partitions p s part sent) (same_Some r s (sym at ∙ is)) made
 
--- what a step was lent is what it asks for: the same by other names
+-- what a step borrowed is what it asks for: the same by other names
 module _ {V M : Type 0} (job : Job V M) (kept : Option Rows) {P C A : Type 0} (core : Progress P C A V M) (p r : ℕ) (part : PartState V M)
     (step_input : HasStepInput job kept core p r part) (logs : Slots M) (visible : Visible) (old_logs : Option (Slots M))
     (old_visible : Option Visible) where
-  pub lent_run : logs ≡ core.logs → visible ≡ visible_at job core.graph r → IsStepInput job core.graph core.limits.partitions p r logs visible
-  lent_run same shows = subst₂ (IsStepInput job core.graph core.limits.partitions p r) (sym same) (sym shows) step_input.step_input
+  pub borrowed_run : logs ≡ core.logs → visible ≡ visible_at job core.graph r → IsStepInput job core.graph core.limits.partitions p r logs visible
+  borrowed_run same shows = subst₂ (IsStepInput job core.graph core.limits.partitions p r) (sym same) (sym shows) step_input.step_input
 
-  pub lent_warm : logs ≡ core.logs → old_logs ≡ logs_in r core.kept → old_visible ≡ visible_in r core.kept
+  pub borrowed_warm : logs ≡ core.logs → old_logs ≡ logs_in r core.kept → old_visible ≡ visible_in r core.kept
       → IsOldStepInput job (kept_for kept core p) core.limits.partitions p r logs old_logs old_visible
-  lent_warm same old shows =
+  borrowed_warm same old shows =
       subst (λ logs. IsOldStepInput job (kept_for kept core p) core.limits.partitions p r logs old_logs old_visible) (sym same)
       (subst₂ (IsOldStepInput job (kept_for kept core p) core.limits.partitions p r core.logs) (sym old) (sym shows) step_input.warm)

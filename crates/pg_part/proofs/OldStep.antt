@@ -27,7 +27,7 @@ use Rattle.pg_part_routing.specs.Starting.{own}
 use Rattle.pg_part_compute.specs.Diverged.{are_quiescent, is_quiescent}
 use Rattle.pg_part_compute.specs.Found.{IsFound, is_same_view}
 use Rattle.pg_part_routing.specs.Routes.{AreSameIn, HasMessages, as_sends, bundle_sent, bundles_at, bundles_before}
-use Rattle.pg_part.specs.StepInput.{LendsLogs}
+use Rattle.pg_part.specs.StepInput.{HasOldLogs}
 use Rattle.pg_part.specs.PartRun.{PartRunState, Holds}
 use Rattle.pg_part_compute.specs.declared.execution.StepDelta.{StepDelta}
 use Rattle.pg_part_compute.specs.declared.found.VertexPair.{VertexPair}
@@ -50,7 +50,7 @@ pub record IsWarmStep {V M : Type 0} (value_eq : V → V → Bool) (message_eq :
   pub holds : Holds job (Some old) rows n p s part_run
   pub within : s < run_length job rows
   pub has : HasMessages job rows n p s logs
-  pub lends : LendsLogs job old n p s logs old_logs
+  pub has_logs : HasOldLogs job old n p s logs old_logs
   pub saw : old_view ≡ view_at job old s
   pub sees : view ≡ view_at job rows s
   pub bundled : bundles ≡ bundles_before logs n p s
@@ -80,7 +80,7 @@ module _ {V M : Type 0} (value_eq : V → V → Bool) (message_eq : M → M → 
   kept = w.holds.warm.trace
 
   pub kept_holds : HoldsRun job old n p s kept
-  kept_holds = holds_shorter job old n p kept s (run_length job old) (let there = w.lends.there in omega (arith, there)) w.holds.warm.whole
+  kept_holds = holds_shorter job old n p kept s (run_length job old) (let there = w.has_logs.there in omega (arith, there)) w.holds.warm.whole
 
   abbrev pub vertex_pairs : List (VertexPair V M)
   vertex_pairs = w.is.vertex_pairs
@@ -116,7 +116,7 @@ module _ {V M : Type 0} (value_eq : V → V → Bool) (message_eq : M → M → 
       each (c ∷ cs) mine found = (
         record {
           mine = mine.0;
-          old = found_in_run job old n p w.some kept old_logs c.id mine.0 s kept_holds w.lends.received c.old found.0;
+          old = found_in_run job old n p w.some kept old_logs c.id mine.0 s kept_holds w.has_logs.received c.old found.0;
         },
         each cs mine.1 found.1,
       )
@@ -132,7 +132,7 @@ module _ {V M : Type 0} (value_eq : V → V → Bool) (message_eq : M → M → 
       → state_at job old s id ≡ state_at job rows s id
   same_state id mine live other =
       w.holds.warm.others id mine (outside part_run.live part_run.quiescent id (w.looked.states id (not_dirty_ids id mine other)) live)
-      (omega (arith, w.lends.there))
+      (omega (arith, w.has_logs.there))
 
   -- the same is delivered to it
   same_delivered : (r : ℕ) → suc r ≡ s → (id : ℕ) → belongs n p id ≡ true → has_id vertex_pair_ids id ≡ false
@@ -154,15 +154,15 @@ module _ {V M : Type 0} (value_eq : V → V → Bool) (message_eq : M → M → 
       old_are : bundles_before old_logs n p s ≡ map (λ q. bundle_sent job old n q p r) (range_with_len 0 n)
       old_are =
           bundles_are_before old_logs
-          ∙ bundles_are job old n p r w.holds.warm.whole.rise old_logs (λ t q i below. w.lends.received t q (omega (arith, i, next)) below)
+          ∙ bundles_are job old n p r w.holds.warm.whole.rise old_logs (λ t q i below. w.has_logs.received t q (omega (arith, i, next)) below)
 
       new_are : bundles_before logs n p s ≡ map (λ q. bundle_sent job rows n q p r) (range_with_len 0 n)
       new_are = bundles_are_before logs ∙ bundles_are job rows n p r w.holds.run.rise logs (λ t q i below. w.has t q (omega (arith, i, next)) below)
 
       one : (q : ℕ) → q < 0 + n → AreSameAt (bundle_sent job old n q p r) (bundle_sent job rows n q p r) id
       one q below =
-          subst₂ (AreSameIn id) (w.lends.received r q next (omega (arith, below))) (w.has r q next (omega (arith, below)))
-          (w.looked.messages r q id next (omega (arith, below)) (not_dirty_ids id mine other) (w.lends.lists_changes r q next (omega (arith, below))))
+          subst₂ (AreSameIn id) (w.has_logs.received r q next (omega (arith, below))) (w.has r q next (omega (arith, below)))
+          (w.looked.messages r q id next (omega (arith, below)) (not_dirty_ids id mine other) (w.has_logs.lists_changes r q next (omega (arith, below))))
 
       all_same : AllSameAt id (bundles_before old_logs n p s) bundles
       all_same =
@@ -200,12 +200,12 @@ module _ {V M : Type 0} (value_eq : V → V → Bool) (message_eq : M → M → 
         (subst (λ k. Delivers job.combining id (bundles_before logs n p k) []) (sym e) nothing)))
 
     rest : are_quiescent (state_at job old s id) (state_at job rows s id) ≡ true
-    rest = w.holds.warm.rest id mine quiescent w.lends.there
+    rest = w.holds.warm.rest id mine quiescent w.has_logs.there
 
     -- so it isn't executed in either
     pub old_reads_nothing : inputs_at job old s id ≡ None
     old_reads_nothing =
-        no_inputs_at_rest job old s id w.lends.there (old_inbox s refl) (both (is_quiescent (state_at job old s id)) (is_quiescent (state_at job rows s id)) rest).0
+        no_inputs_at_rest job old s id w.has_logs.there (old_inbox s refl) (both (is_quiescent (state_at job old s id)) (is_quiescent (state_at job rows s id)) rest).0
 
     pub reads_nothing : inputs_at job rows s id ≡ None
     reads_nothing =
@@ -241,7 +241,7 @@ module _ {V M : Type 0} (value_eq : V → V → Bool) (message_eq : M → M → 
       by : (same_view ≡ true) ⊎ (same_view ≡ false) → IsSeenAgain job old rows s ⊎ HaveActive job old rows live s vertex_pair_ids
       by (inl on) =
           inl (record {
-            within = w.lends.there;
+            within = w.has_logs.there;
             view = sym w.saw ∙ ((Decides-view_eq (λ (x y : ℕ). true) (λ (x y : ℕ). true) old_view view).0 on ∙ w.sees);
           })
       by (inr unseen) = inr (λ id x picked at active. active_are unseen id x (both (belongs n p id) (not (has_id part_run.quiescent id)) picked).0 at active)

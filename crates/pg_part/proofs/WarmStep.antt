@@ -36,7 +36,7 @@ use Rattle.pg_part_compute.specs.VertexPairs.{IsStepDelta}
 use Rattle.pg_part_compute.specs.Diverged.{AreEqSound, HaveSameIds, are_quiescent, has_same_state, quiescent_among, live_among, without}
 use Rattle.pg_part_compute.specs.Found.{IsEqSound, are_inactive, is_reused, is_run, is_same_view, is_taken_over, reads}
 use Rattle.pg_part_routing.specs.Routes.{HasMessages, as_sends, bundle_in, bundle_sent, bundles_before}
-use Rattle.pg_part.specs.StepInput.{IsOldStepView, IsOldStepInput, LendsLogs}
+use Rattle.pg_part.specs.StepInput.{IsOldStepView, IsOldStepInput, HasOldLogs}
 use Rattle.pg_trace.specs.Trace.{reaching, Trace, records_of, state_at as trace_state_at, with_replaced, with_superstep}
 use Rattle.pg_part.specs.PartRun.{AreAllChanged, AreTheOnlyWarm, HasStepped, PartRunState, Holds, IsSentTo, kept_length}
 use Rattle.pg_part_routing.specs.Sending.{IsRebuilt, items_to, pairs_of, sends_by_records, sends_of}
@@ -64,7 +64,7 @@ module _ {V M : Type 0} (value_eq : V → V → Bool) (message_eq : M → M → 
     (part_run : PartRunState V M) (logs old_logs : Slots M) (old_view view : View) (bundles : List (MessageLists M)) (before : ℕ) (step_delta : StepDelta V M)
     (w : IsWarmStep value_eq message_eq job old rows n p s part_run logs old_logs old_view view bundles before step_delta) where
   there : s < run_length job old
-  there = w.lends.there
+  there = w.has_logs.there
 
   -- the trace of the old run, and the vertex pairs
   abbrev pub trace : Trace V M
@@ -125,7 +125,7 @@ module _ {V M : Type 0} (value_eq : V → V → Bool) (message_eq : M → M → 
 
   inputs_once : (c : VertexPair V M) → IsKnown c → reads old_view c.old ≡ inputs_at job old s c.id
   inputs_once c k =
-      reads_inputs job old n p s w.some trace old_logs trace_holds w.lends.received there old_view w.saw
+      reads_inputs job old n p s w.some trace old_logs trace_holds w.has_logs.received there old_view w.saw
       (record { id = c.id; old = None; new = c.old }) (record { mine = k.once.mine; new = k.once.old })
 
   -- one that is taken over read the same
@@ -272,7 +272,7 @@ module _ {V M : Type 0} (value_eq : V → V → Bool) (message_eq : M → M → 
   reached = ap (λ (b : Bool). cond b (with_superstep [] part_run.trace) part_run.trace) (by (length part_run.trace.records == s) refl)
     where
       by : (b : Bool) → (length part_run.trace.records == s) ≡ b → b ≡ false
-      by true e = let long = w.holds.supersteps in let same = eqb-true (length part_run.trace.records) s e in absurd (omega (arith, long, same, w.lends.there))
+      by true e = let long = w.holds.supersteps in let same = eqb-true (length part_run.trace.records) s e in absurd (omega (arith, long, same, w.has_logs.there))
       by false e = refl
 
   records_left : with_changes step_delta.changes (records_of s (reaching s part_run.trace)) ≡ records_in job rows n p s
@@ -281,7 +281,7 @@ module _ {V M : Type 0} (value_eq : V → V → Bool) (message_eq : M → M → 
   next_holds : HoldsRun job rows n p (s + 1) next_trace
   next_holds =
       stepped_holds job rows n p s part_run.trace step_delta.changes w.holds.run
-      (let long = w.holds.supersteps in omega (arith, long, w.lends.there)) records_left
+      (let long = w.holds.supersteps in omega (arith, long, w.has_logs.there)) records_left
 
   later_records : (t : ℕ) → s + 1 ≤ t → t < run_length job old → records_of t next_trace ≡ records_in job old n p t
   later_records t low high =
@@ -424,7 +424,7 @@ module _ {V M : Type 0} (value_eq : V → V → Bool) (message_eq : M → M → 
           let more = length-set (reaching s part_run.trace).records s (with_changes step_delta.changes (records_of s (reaching s part_run.trace))) in
           let same = ap (λ (t : Trace V M). length t.records) reached in
           let long = w.holds.supersteps in
-          omega (arith, more, same, long, w.lends.there);
+          omega (arith, more, same, long, w.has_logs.there);
       warm = record {
         trace = trace;
         is = refl;
@@ -432,14 +432,14 @@ module _ {V M : Type 0} (value_eq : V → V → Bool) (message_eq : M → M → 
         later = later_records;
         others = λ id mine apart within. alike_then id mine eq_is_sound (apart_from id apart);
         as_ended = λ id mine apart low.
-            subst (λ k. state_at job old k id ≡ state_at job rows (s + 1) id) (let e : s + 1 ≡ run_length job old = omega (arith, low, w.lends.there) in e)
+            subst (λ k. state_at job old k id ≡ state_at job rows (s + 1) id) (let e : s + 1 ≡ run_length job old = omega (arith, low, w.has_logs.there) in e)
             (alike_then id mine eq_is_sound (apart_from id apart));
         rest = λ id mine among _. rest_then id mine (sym (rested_are id) ∙ among);
       };
     });
     to_each = to_each;
     sends = λ q below.
-        sent_is q (slot_at old_logs s p q) (slice_get sent q) (w.lends.sent q below)
+        sent_is q (slot_at old_logs s p q) (slice_get sent q) (w.has_logs.sent q below)
         (subst (λ l. IsRebuilt job.combining (items_to n q (flat_map (pairs_of trace s) l)) (items_to n q (flat_map sends_of l))
         (slot_at old_logs s p q) (slice_get sent q)) changed (rebuilt q below));
     changed_are = subst (λ (h : PartRunState V M). AreAllChanged job (Some old) rows n p s h.was_warm h.changed) (sym advanced) only;
@@ -463,14 +463,14 @@ module _ {V M : Type 0} (value_eq : V → V → Bool) (message_eq : M → M → 
     abbrev StepsAt : ℕ → ℕ → ℕ → Type 0
     StepsAt n p s =
         Holds job (Some old) rows n p s part_run → s < run_length job rows → HasMessages job rows n p s logs → bundles ≡ bundles_before logs n p s
-        → view ≡ view_at job rows s → LendsLogs job old n p s logs old_logs → old_view ≡ view_at job old s
+        → view ≡ view_at job rows s → HasOldLogs job old n p s logs old_logs → old_view ≡ view_at job old s
         → HasStepped job value_eq message_eq (Some old) rows n p s after sent before step_delta.meter
 
     abbrev emptied : PartRunState V M
     emptied = record part_run { kept = None }
 
     steps_here : StepsAt part_run.partitions part_run.partition part_run.place
-    steps_here holds within has bundled sees lends saw =
+    steps_here holds within has bundled sees has_logs saw =
         warm_step value_eq message_eq job old rows part_run.partitions part_run.partition part_run.place part_run logs old_logs old_view view bundles before step_delta w
         after sent ending.quiescent ending.quiescent_are ending.part_is ending.eq_is_sound ending.sent_is.to_each ending.sent_is.sends
       where
@@ -505,7 +505,7 @@ module _ {V M : Type 0} (value_eq : V → V → Bool) (message_eq : M → M → 
           holds = holds;
           within = within;
           has = has;
-          lends = lends;
+          has_logs = has_logs;
           saw = saw;
           sees = sees;
           bundled = bundled;
@@ -537,7 +537,7 @@ pub nothing_kept : {V M : Type 0} (job : Job V M) (kept : Option Rows) (rows : R
 nothing_kept job None rows n p s part_run holds none = omega arith
 nothing_kept job (Some old) rows n p s part_run holds none = absurd (none-some holds.warm.trace (sym none ∙ holds.warm.is))
 
--- where a step is lent nothing of the old run, it is past its end
+-- where a step borrows nothing of the old run, it is past its end
 pub advanced_past_end_without : {V M : Type 0} (job : Job V M) (kept : Option Rows) (n p r : ℕ) (logs : Slots M) (old_logs : Option (Slots M)) (old_visible : Option Visible)
     → (old_logs ≡ None) ⊎ (option_map (view_of job.program.declared r) old_visible ≡ None)
     → IsOldStepInput job kept n p r logs old_logs old_visible → kept_length job kept ≤ r
@@ -547,7 +547,7 @@ advanced_past_end_without job (Some old) n p r logs (Some l) None none step_inpu
 advanced_past_end_without job (Some old) n p r logs (Some l) (Some v) (inl none) step_input = absurd (none-some l (sym none))
 advanced_past_end_without job (Some old) n p r logs (Some l) (Some v) (inr none) step_input = absurd (none-some (view_of job.program.declared r v) (sym none))
 
--- what it is lent of what was visible is lent of what was seen
+-- what it borrows of what was visible borrows of what was seen
 pub same_view_warm : {V M : Type 0} (job : Job V M) (kept : Option Rows) (n p r : ℕ) (logs : Slots M) (old_logs : Option (Slots M)) (old_visible : Option Visible)
     (l : Slots M) (view : View) → old_logs ≡ Some l → option_map (view_of job.program.declared r) old_visible ≡ Some view
     → IsOldStepInput job kept n p r logs old_logs old_visible → IsOldStepView job kept n p r logs l view
@@ -555,6 +555,6 @@ same_view_warm job None n p r logs old_logs old_visible l view is_l same_view st
 same_view_warm job (Some old) n p r logs None old_visible l view is_l same_view step_input = absurd (none-some l is_l)
 same_view_warm job (Some old) n p r logs (Some l') None l view is_l same_view step_input = absurd (none-some view same_view)
 same_view_warm job (Some old) n p r logs (Some l') (Some v) l view is_l same_view step_input = (
-  subst (LendsLogs job old n p r logs) (same_Some l' l is_l) step_input.0,
+  subst (HasOldLogs job old n p r logs) (same_Some l' l is_l) step_input.0,
   sym (same_Some (view_of job.program.declared r v) view same_view) ∙ ap (view_of job.program.declared r) step_input.1,
 )

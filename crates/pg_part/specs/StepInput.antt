@@ -17,7 +17,7 @@ module _ {V M : Type 0} (job : Job V M) (rows : Rows) where
 
   -- the run on the old rows, which has superstep r, lends its logs to a step from r: what was sent to the partition
   -- before, and what it sent in r. What is new tells, if anything, at which targets it differs
-  pub record LendsLogs (n p r : ℕ) (logs old_logs : Slots M) : Type 0 where
+  pub record HasOldLogs (n p r : ℕ) (logs old_logs : Slots M) : Type 0 where
     pub there : r < run_length job rows
     pub received : HasMessages job rows n p r old_logs
     pub sent : (q : ℕ) → q < n → bundle_in (slot_at old_logs r p q) ≡ Some (bundle_sent job rows n p q r)
@@ -31,10 +31,10 @@ module _ {V M : Type 0} (job : Job V M) where
   IsOldStepInput (Some old) n p r logs None old_visible = run_length job old ≤ r
   IsOldStepInput (Some old) n p r logs (Some old_logs) None = run_length job old ≤ r
   IsOldStepInput (Some old) n p r logs (Some old_logs) (Some old_visible) =
-      LendsLogs job old n p r logs old_logs × (old_visible ≡ visible_at job old r)
+      HasOldLogs job old n p r logs old_logs × (old_visible ≡ visible_at job old r)
 
   -- the same of what is seen
   abbrev pub IsOldStepView : Option Rows → ℕ → ℕ → ℕ → Slots M → Slots M → View → Type 0
   IsOldStepView None n p r logs old_logs old_view = Unit {0}
   IsOldStepView (Some old) n p r logs old_logs old_view =
-      LendsLogs job old n p r logs old_logs × (old_view ≡ view_at job old r)
+      HasOldLogs job old n p r logs old_logs × (old_view ≡ view_at job old r)

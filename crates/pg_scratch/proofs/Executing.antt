@@ -15,7 +15,7 @@ use Rattle.std.proofs.lemmas.Bool.{or_parts}
 use Rattle.pg_scratch.specs.Pass.{ran, context_after}
 
 module _ {V M : Type 0} (program : Program V M) (view : View) (x : VertexWithInbox V M) where
-  -- the vertex and the context that an execution is lent
+  -- the vertex and the context that an execution borrows
   module _ (vertex vertex' : VertexState V) (inbox : List M) (cx cx' : Context M) (active : is_active x ≡ true) (begins : vertex ≡ record {
     id = x.state.id;
     value = x.state.value;

@@ -104,7 +104,7 @@ pub as_many-registered : (master : Master) (registrations : List Registration)
 as_many-registered master registrations registered =
     sym (ap length (aggregators-registered master registrations registered)) ∙ length-map registrations aggregating_of
 
--- ---- a superstep, by what its stages are lent and give
+-- ---- a superstep, by what its stages borrow and give
 pub record Stages (V M : Type 0) : Type 0 where
   pub shown : Visible
   pub view : View

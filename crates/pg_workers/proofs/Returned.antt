@@ -10,7 +10,7 @@ use Rattle.std.proofs.lemmas.Option.{same_Some}
 use Rattle.std.proofs.lemmas.Result.{IfErr-weaker, IfOk-weaker}
 use Rattle.pg_core.specs.Progress.{IsNext, IsRight, IsStepOf, Progress, kept_for}
 use Rattle.pg_core.specs.Traces.{logs_in, visible_in}
-use Rattle.pg_core.proofs.Steps.{IsNext-from_IsAdvanced, IsStepOf-from_HasMadeStep, lent_warm, lent_run}
+use Rattle.pg_core.proofs.Steps.{IsNext-from_IsAdvanced, IsStepOf-from_HasMadeStep, borrowed_warm, borrowed_run}
 use Rattle.pg_graph.specs.Rows.{Rows}
 use Rattle.pg_core.specs.Handed.{State, host_of, is_allowed, is_from, place_at, Step}
 use Rattle.pg_core.proofs.Handed.{some_within, StepsFrom-from_allowed}
@@ -21,13 +21,13 @@ use Rattle.pg_model.specs.Share.{belongs}
 use Rattle.pg_model.specs.Superstep.{capped}
 use Rattle.pg_workers_rounds.specs.Handed.{PartState}
 use Rattle.pg_stats.specs.GlobalStats.{aggregators_of}
-use Rattle.pg_workers.proofs.Taking.{lends_before}
+use Rattle.pg_workers.proofs.Taking.{borrows_before}
 use Rattle.pg_workers.specs.Losses.{Fated}
 use Rattle.pg_workers.specs.Meaning.{Meaning, job_of_meaning}
 use Rattle.pg_workers.specs.Recovering.{IsFall}
 use Rattle.pg_workers.specs.Rounds.{AreAssigned, AreNext, AreRecorded, AreReturned, AreStepsRight, ComesEarlier, HasFallen}
 use Rattle.pg_workers.specs.Rounds.{HasNone, IsAssigned, IsBack, IsReturned, IsStepRight}
-use Rattle.pg_workers.specs.Rounds.{IsTaken, Lends, NoneBefore, fallen_in, with_outcome, with_outcomes, with_steps}
+use Rattle.pg_workers.specs.Rounds.{IsTaken, Borrows, NoneBefore, fallen_in, with_outcome, with_outcomes, with_steps}
 use Rattle.pg_workers.specs.declared.counts.Loss.{Loss}
 use Rattle.pg_workers_rounds.specs.Outcomes.{AreOutcomes, IsOutcome}
 use Rattle.pg_workers_rounds.specs.Round.{RoundOf}
@@ -48,7 +48,7 @@ zip_all R Q W (x ∷ xs) (y ∷ ys) f all zip =
     All-cons W y ys (f x y (All-head Q x xs all) zip.0) (zip_all R Q W xs ys f (All-tail Q x xs all) zip.1)
 
 module _ {P C A V M : Type 0} (own : Meaning P C A V M) (fated : Fated) (superstep attempt : ℕ) (core : Progress P C A V M)
-    (round : RoundOf M) (lends : Lends own core superstep attempt round) where
+    (round : RoundOf M) (borrows : Borrows own core superstep attempt round) where
   abbrev job : Job V M
   job = job_of_meaning own core
 
@@ -63,13 +63,13 @@ module _ {P C A V M : Type 0} (own : Meaning P C A V M) (fated : Fated) (superst
       let same : done.part.part_run.partition ≡ p = is.advanced.partition_stays in
       let made = λ (kept : Option Rows) (right : IsRight job kept core).
       (let step_input = taken.step_input kept right in
-      is.stepped job (kept_for kept core p) core.graph n p r refl refl (ap (λ l. aggregators_of l) (sym lends.registry_is))
+      is.stepped job (kept_for kept core p) core.graph n p r refl refl (ap (λ l. aggregators_of l) (sym borrows.registry_is))
       step_input.holds
-      (lent_run job kept core p r part step_input round.logs round.visible None None lends.logs_are
-      (lends.shows kept right ∙ ap (visible_at job core.graph) (sym taken.place_is)))
-      (lent_warm job kept core p r part step_input round.logs round.visible round.old_logs round.old_visible lends.logs_are
-      (lends.old_logs_are ∙ ap (λ (s : ℕ). logs_in s core.kept) (sym taken.place_is))
-      (lends.old_visible_is ∙ ap (λ (s : ℕ). visible_in s core.kept) (sym taken.place_is)))) in
+      (borrowed_run job kept core p r part step_input round.logs round.visible None None borrows.logs_are
+      (borrows.shows kept right ∙ ap (visible_at job core.graph) (sym taken.place_is)))
+      (borrowed_warm job kept core p r part step_input round.logs round.visible round.old_logs round.old_visible borrows.logs_are
+      (borrows.old_logs_are ∙ ap (λ (s : ℕ). logs_in s core.kept) (sym taken.place_is))
+      (borrows.old_visible_is ∙ ap (λ (s : ℕ). visible_in s core.kept) (sym taken.place_is)))) in
       record {
         within = subst (λ (q : ℕ). q < n) (sym same) taken.within;
         host_is = ap (λ (q : ℕ). host_of q core.state) same ∙ taken.host_is;
@@ -104,7 +104,7 @@ module _ {P C A V M : Type 0} (own : Meaning P C A V M) (fated : Fated) (superst
               attempt = attempt;
               partition = by.part.part_run.partition;
               early = omega arith;
-              falls = (λ i. fated (sym lends.superstep_is i) (sym lends.attempt_is i) worker by.part.part_run.partition) ∙ by.struck;
+              falls = (λ i. fated (sym borrows.superstep_is i) (sym borrows.attempt_is i) worker by.part.part_run.partition) ∙ by.struck;
             };
       }
 
@@ -371,7 +371,7 @@ module _ {P C A V M : Type 0} (own : Meaning P C A V M) (core : Progress P C A V
 
 -- what the workers of a round made of what they were assigned is returned, of whatever core their parts were taken from
 module _ {P C A V M : Type 0} (own : Meaning P C A V M) (fated : Fated) (superstep attempt : ℕ) (now : Progress P C A V M)
-    (round : RoundOf M) (lends : Lends own now superstep attempt round) (program : P) (combiner : C)
+    (round : RoundOf M) (borrows : Borrows own now superstep attempt round) (program : P) (combiner : C)
     (program_is : program ≡ now.program) (combiner_is : combiner ≡ now.combiner) (assignments : List (Assignment V M)) where
   pub all_returned : {E : Type 0} (result : Result (Vec (Outcome V M) Global) E)
       → IfOk result (λ outcomes. AreOutcomes own.value_eq own.message_eq (own.program program) (own.combining combiner) fated round
@@ -381,7 +381,7 @@ module _ {P C A V M : Type 0} (own : Meaning P C A V M) (fated : Fated) (superst
   all_returned result are =
       IfOk-weaker result _ _ (λ outcomes each before below assigned.
       let left = assigned.taken in
-      returned own fated superstep attempt before round (lends_before own before now superstep attempt round left lends) below now
+      returned own fated superstep attempt before round (borrows_before own before now superstep attempt round left borrows) below now
       assignments outcomes.items assigned
       (subst₂ (λ (p : P) (c : C). AreOutcomes own.value_eq own.message_eq (own.program p) (own.combining c) fated round assignments
       outcomes.items)

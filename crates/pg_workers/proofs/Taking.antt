@@ -11,7 +11,7 @@ use Rattle.pg_core.specs.Handed.{host_of, is_allowed, place_at, Step}
 use Rattle.pg_model.specs.Job.{Job}
 use Rattle.pg_workers_rounds.specs.Handed.{PartState}
 use Rattle.pg_workers.specs.Meaning.{Meaning, job_of_meaning}
-use Rattle.pg_workers.specs.Rounds.{AreAssigned, IsAssigned, IsEarlier, IsRest, IsTaken, Lends, TakesParts}
+use Rattle.pg_workers.specs.Rounds.{AreAssigned, IsAssigned, IsEarlier, IsRest, IsTaken, Borrows, TakesParts}
 use Rattle.pg_workers_rounds.specs.Round.{RoundOf}
 use Rattle.pg_workers_rounds.specs.declared.threads.Assignment.{Assignment}
 
@@ -64,12 +64,12 @@ module _ {P C A V M : Type 0} (own : Meaning P C A V M) where
       → ((kept : Option Rows) → IsRight (job_of_meaning own core) kept core → IsRight (job_of_meaning own core) kept now
       × HasStepInput (job_of_meaning own core) kept core p part.part_run.place part)
       → TakesParts own first now superstep worker (parts ++ part ∷ [])
-  takes_more first core now p superstep worker part parts was within host place ready is reached small at lends =
+  takes_more first core now p superstep worker part parts was within host place ready is reached small at borrows =
       let mine : part.part_run.partition ≡ p = at.partition_is in
       let there : part.part_run.place ≡ superstep = same_Some part.part_run.place superstep (sym at.place_is ∙ place) in
       let left : IsRest own core now = record {
         core_is = is ∙ ap (λ l. record core { parts = l }) (sym (ap (λ (c : Progress P C A V M). c.parts) is));
-        right = λ kept right. (lends kept right).0;
+        right = λ kept right. (borrows kept right).0;
       } in
       let one : IsTaken own core superstep worker part = record {
         within = subst (λ (q : ℕ). q < core.limits.partitions) (sym mine) within;
@@ -78,7 +78,7 @@ module _ {P C A V M : Type 0} (own : Meaning P C A V M) where
         at = subst (λ (q : ℕ). IsPartAt core.limits.partitions core.state q part) (sym mine) at;
         place_is = there;
         small = omega (arith, reached, small, there);
-        step_input = λ kept right. subst (λ (q : ℕ). HasStepInput (job_of_meaning own core) kept core q part.part_run.place part) (sym mine) (lends kept right).1;
+        step_input = λ kept right. subst (λ (q : ℕ). HasStepInput (job_of_meaning own core) kept core q part.part_run.place part) (sym mine) (borrows kept right).1;
       } in
       record {
         taken = rest_then first core now was.taken left;
@@ -124,24 +124,24 @@ module _ {P C A V M : Type 0} (own : Meaning P C A V M) where
     workers = All-push (λ (a : Assignment V M). a.worker < k + 1) assignments one (below_more k assignments was.workers) (omega (arith, worker));
   }
 
-  -- ---- what a round is lent
+  -- ---- what a round borrows
 
-  lends_whole : (before : Progress P C A V M) (parts : List (Option (PartState V M))) (superstep attempt : ℕ) (round : RoundOf M)
+  borrows_whole : (before : Progress P C A V M) (parts : List (Option (PartState V M))) (superstep attempt : ℕ) (round : RoundOf M)
       → ((kept : Option Rows) → IsRight (job_of_meaning own before) kept before → IsRight (job_of_meaning own before) kept (record before { parts = parts }))
-      → Lends own (record before { parts = parts }) superstep attempt round → Lends own before superstep attempt round
-  lends_whole before parts superstep attempt round rightly lends = record {
-    superstep_is = lends.superstep_is;
-    attempt_is = lends.attempt_is;
-    registry_is = lends.registry_is;
-    logs_are = lends.logs_are;
-    old_logs_are = lends.old_logs_are;
-    old_visible_is = lends.old_visible_is;
-    shows = λ kept right. lends.shows kept (rightly kept right);
+      → Borrows own (record before { parts = parts }) superstep attempt round → Borrows own before superstep attempt round
+  borrows_whole before parts superstep attempt round rightly borrows = record {
+    superstep_is = borrows.superstep_is;
+    attempt_is = borrows.attempt_is;
+    registry_is = borrows.registry_is;
+    logs_are = borrows.logs_are;
+    old_logs_are = borrows.old_logs_are;
+    old_visible_is = borrows.old_visible_is;
+    shows = λ kept right. borrows.shows kept (rightly kept right);
   }
 
-  pub lends_before : (before rest : Progress P C A V M) (superstep attempt : ℕ) (round : RoundOf M) → IsRest own before rest
-      → Lends own rest superstep attempt round → Lends own before superstep attempt round
-  lends_before before rest superstep attempt round left lends =
-      lends_whole before rest.parts superstep attempt round
+  pub borrows_before : (before rest : Progress P C A V M) (superstep attempt : ℕ) (round : RoundOf M) → IsRest own before rest
+      → Borrows own rest superstep attempt round → Borrows own before superstep attempt round
+  borrows_before before rest superstep attempt round left borrows =
+      borrows_whole before rest.parts superstep attempt round
       (λ kept right. subst (λ (c : Progress P C A V M). IsRight (job_of_meaning own before) kept c) left.core_is (left.right kept right))
-      (subst (λ (c : Progress P C A V M). Lends own c superstep attempt round) left.core_is lends)
+      (subst (λ (c : Progress P C A V M). Borrows own c superstep attempt round) left.core_is borrows)

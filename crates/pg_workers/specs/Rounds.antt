@@ -67,7 +67,7 @@ module _ {P C A V M : Type 0} (own : Meaning P C A V M) (core : Progress P C A V
     pub workers : All (λ assignment. assignment.worker < below) assignments
 
   -- a round lends what a step from a superstep reads of a core
-  pub record Lends (superstep attempt : ℕ) (round : RoundOf M) : Type 0 where
+  pub record Borrows (superstep attempt : ℕ) (round : RoundOf M) : Type 0 where
     pub superstep_is : round.superstep ≡ superstep
     pub attempt_is : round.attempt ≡ attempt
     pub registry_is : round.registry ≡ (own.master core.master).registrations

@@ -4,7 +4,7 @@ ghost use Rattle.pg_core.specs.Progress.{is_ready as ready_test};
 ghost use Rattle.pg_global.specs.Master.{has_places};
 ghost use Rattle.pg_core.specs.Handed.{host_of, place_at};
 ghost use Rattle.pg_workers.specs.Meaning.{meaning};
-ghost use Rattle.pg_workers.specs.Rounds.{AreAssigned, Lends, TakesParts};
+ghost use Rattle.pg_workers.specs.Rounds.{AreAssigned, Borrows, TakesParts};
 
 use pg_core::Core;
 use pg_global::{MasterCompute, MessageCombiner};
@@ -85,9 +85,9 @@ pub(crate) fn step_input<'a, P: Computation, C: MessageCombiner<P::Message>, M: 
     attempt: u32,
 ) -> Round<'a, P::Message>
     requires { superstep ≤ core.now.state.current }
-    ensures lends { let own = meaning P.program C.combining M.master P.Value.PartialEq.eq P.Message.PartialEq.eq
+    ensures borrows { let own = meaning P.program C.combining M.master P.Value.PartialEq.eq P.Message.PartialEq.eq
         P.Value.is_value P.Value.coding P.Message.is_value P.Message.coding in
-        Lends own core.now superstep attempt result }
+        Borrows own core.now superstep attempt result }
     ensures declared { has_places (P.program core.now.program).declared (length result.visible.values) ≡ true }
 {
     Round::new(

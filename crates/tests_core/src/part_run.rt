@@ -28,7 +28,7 @@ fn showing(alloc: Global, total_edges: u64) -> Visible
 }
 
 // This, or nothing.
-fn lent_if<X>(there: bool, value: &X) -> Option<&X>
+fn borrowed_if<X>(there: bool, value: &X) -> Option<&X>
     ensures { IfSome (option_copied result) (λ x. x ≡ value.now) }
 {
     if there { Some(value) } else { None }
@@ -56,8 +56,8 @@ fn stepped<P: Computation, C: MessageCombiner<P::Message>>(
         alloc,
         logs,
         visible,
-        lent_if(warm, old_logs),
-        lent_if(warm, visible),
+        borrowed_if(warm, old_logs),
+        borrowed_if(warm, visible),
         program,
         combiner,
         meter,

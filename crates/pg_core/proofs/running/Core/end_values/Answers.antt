@@ -7,7 +7,7 @@ use Rattle.pg_core.specs.Progress.{job_of_core, kept_for, part_at}
 use Rattle.pg_core.specs.Traces.{ended_by}
 use Rattle.pg_core_values.specs.Values.{HaveEnded, KeepsEnd, is_warm}
 use Rattle.pg_core_machine.proofs.LawsMachine.{place_at_end}
-use Rattle.pg_core.proofs.RetainedPart.{end_lent, have_all_ended}
+use Rattle.pg_core.proofs.RetainedPart.{end_borrowed, have_all_ended}
 use Rattle.pg_model.specs.Run.{configuration, values_of}
 use Rattle.pg_core.proofs.running.Core.end_values.Goals as goal
 
@@ -42,6 +42,6 @@ returns g c =
     (subst (HaveEnded job keeps rows n (core.state.current + 1)) (sym parts_are) have)) in
     let step_input = c.end_warm-ended.ensures
     ∙ (λ i. cond (list_all is_warm (parts_are i)) (option_map ended_by (c.self.view_is i).kept) None) in
-    let end = subst₂ (KeepsEnd job keeps) (sym partitions_are) (sym step_input) (end_lent job kept core right ended places here each) in
+    let end = subst₂ (KeepsEnd job keeps) (sym partitions_are) (sym step_input) (end_borrowed job kept core right ended places here each) in
     are job keeps rows policy all_ended end ∙ ap (λ (k : ℕ). values_of job rows (configuration job rows k)) many)
     c.values_warm.ensures

@@ -1,7 +1,7 @@
 use Rattle.std.proofs.Common.{rules, ℕ, length, ap, ◌∙◌, subst₂}
 use Rattle.pg_core.specs.Progress.{Progress}
 use Rattle.pg_workers.specs.Meaning.{meaning}
-use Rattle.pg_workers.specs.Rounds.{Lends}
+use Rattle.pg_workers.specs.Rounds.{Borrows}
 use Rattle.pg_workers.specs.Running.{Coordination}
 use Rattle.pg_workers.proofs.Returned.{all_returned}
 use Rattle.pg_workers.proofs.coordinator.Coordinator.outcomes.Goals as goal
@@ -14,8 +14,8 @@ returns-then-is_little g c =
     let now = c.args.self.now in
     let here = ap (λ (s : Coordination _ _ _ _ _). s.core) c.self.view_is in
     all_returned own (g.F.Fate.fated c.args.fate.now) c.args.superstep (length now.losses) now.core c.step_input-round.result
-    (subst₂ (λ (core : Progress _ _ _ _ _) (k : ℕ). Lends own core c.args.superstep k c.step_input-round.result) here (search rules)
-    c.step_input-round.ensures.lends) _ _
+    (subst₂ (λ (core : Progress _ _ _ _ _) (k : ℕ). Borrows own core c.args.superstep k c.step_input-round.result) here (search rules)
+    c.step_input-round.ensures.borrows) _ _
     (c.program-program.ensures ∙ ap (λ (core : Progress _ _ _ _ _). core.program) here)
     (c.combiner-combiner.ensures ∙ ap (λ (core : Progress _ _ _ _ _). core.combiner) here)
     c.args.assignments.items c.in_turn.result c.in_turn.ensures
@@ -28,8 +28,8 @@ returns-else-is_little g c =
     let now = c.args.self.now in
     let here = ap (λ (s : Coordination _ _ _ _ _). s.core) c.self.view_is in
     all_returned own (g.F.Fate.fated c.args.fate.now) c.args.superstep (length now.losses) now.core c.step_input-round.result
-    (subst₂ (λ (core : Progress _ _ _ _ _) (k : ℕ). Lends own core c.args.superstep k c.step_input-round.result) here (search rules)
-    c.step_input-round.ensures.lends) _ _
+    (subst₂ (λ (core : Progress _ _ _ _ _) (k : ℕ). Borrows own core c.args.superstep k c.step_input-round.result) here (search rules)
+    c.step_input-round.ensures.borrows) _ _
     (c.program-program.ensures ∙ ap (λ (core : Progress _ _ _ _ _). core.program) here)
     (c.combiner-combiner.ensures ∙ ap (λ (core : Progress _ _ _ _ _). core.combiner) here)
     c.args.assignments.items c.in_threads.result c.in_threads.ensures
