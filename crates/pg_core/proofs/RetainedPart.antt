@@ -153,7 +153,7 @@ module _ {P C A V M : Type 0} (job : Job V M) (kept : Option Rows) (core : Progr
           by None h is = absurd h
           by (Some part) h is = no_warm_share job kept core.graph core.limits.partitions p end (has_lost core p) part h is
 
-  -- else nothing borrows
+  -- else nothing is borrowed
   pub end_borrowed : KeepsEnd job (kept_for kept core) core.limits.partitions (cond (list_all is_warm core.parts) (option_map ended_by core.kept) None)
   end_borrowed = by (list_all is_warm core.parts) refl
     where

@@ -191,7 +191,7 @@ IsOldStepInput-old {V} {M} job (Some old) lost rows n p r logs (Some kept) mine 
     many : length kept.shown ≡ run_length job old
     many = ap length keeps.shown ∙ length-map-range_with_len (visible_at job old) 0 (run_length job old)
 
--- one that a loss took is cold, and may be borrowed anything
+-- one that a loss took is cold, and may borrow anything
 IsOldStepInput-kept : {V M : Type 0} (job : Job V M) (old : Option Rows) (lost : ℕ → Bool) (rows : Rows) (n p r : ℕ) (logs : Slots M)
     (kept : Option (RetainedRun V M)) → p < n → KeepsRetainedRun job old n kept
     → ((s q : ℕ) → s + 1 ≡ r → q < n → IsSentTo job (cond (lost q) None old) rows n q p s (slot_at logs s q p))

@@ -189,7 +189,7 @@ module _ {V M : Type 0} (job : Job V M) (old rows : Rows) (n s : ℕ) (parts : L
           value_of q (configuration job old (run_length job old)).with_inboxes
           ∙ (ap (option_map (λ x. x.value)) (state_kept q (sym (same q) ∙ e)) ∙ sym (value_of q (configuration job rows s).with_inboxes))
 
--- the same of what borrows of the old run's end, where that run is kept for each partition
+-- the same of what is borrowed of the old run's end, where that run is kept for each partition
 module _ {V M : Type 0} (job : Job V M) (rows : Rows) (n s : ℕ) (parts : List (Option (PartState V M))) (step_input : Ended V) where
   pub patched_warm : (keeps : ℕ → Option Rows) → HaveEnded job keeps rows n s parts → KeepsEnd job keeps n (Some step_input) → (is : List ℕ)
       → IsStrictlySortedBy nat_cmp is → ((id : ℕ) → has_id is id ≡ has_id (flat_map (apart_in s step_input.supersteps) parts) id)

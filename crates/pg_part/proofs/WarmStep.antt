@@ -547,7 +547,7 @@ advanced_past_end_without job (Some old) n p r logs (Some l) None none step_inpu
 advanced_past_end_without job (Some old) n p r logs (Some l) (Some v) (inl none) step_input = absurd (none-some l (sym none))
 advanced_past_end_without job (Some old) n p r logs (Some l) (Some v) (inr none) step_input = absurd (none-some (view_of job.program.declared r v) (sym none))
 
--- what it borrows of what was visible borrows of what was seen
+-- what it borrows of what was visible is what it borrows of what was seen
 pub same_view_warm : {V M : Type 0} (job : Job V M) (kept : Option Rows) (n p r : ℕ) (logs : Slots M) (old_logs : Option (Slots M)) (old_visible : Option Visible)
     (l : Slots M) (view : View) → old_logs ≡ Some l → option_map (view_of job.program.declared r) old_visible ≡ Some view
     → IsOldStepInput job kept n p r logs old_logs old_visible → IsOldStepView job kept n p r logs l view

@@ -15,8 +15,8 @@ module _ {V M : Type 0} (job : Job V M) (rows : Rows) where
     pub messages : HasMessages job rows n p r logs
     pub sees : visible ≡ visible_at job rows r
 
-  -- the run on the old rows, which has superstep r, lends its logs to a step from r: what was sent to the partition
-  -- before, and what it sent in r. What is new tells, if anything, at which targets it differs
+  -- the run on the old rows, which has superstep r, has in its logs what a step from r borrows: what was sent to the
+  -- partition before, and what it sent in r. What is new tells, if anything, at which targets it differs
   pub record HasOldLogs (n p r : ℕ) (logs old_logs : Slots M) : Type 0 where
     pub there : r < run_length job rows
     pub received : HasMessages job rows n p r old_logs

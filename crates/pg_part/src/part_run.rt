@@ -394,7 +394,7 @@ impl<V: Plain, M: Plain> PartRun<V, M> {
         })
     }
 
-    /// A step with what it reads: against the old run where that lends both its logs and what it saw.
+    /// A step with what it reads: against the old run where both its logs and what it saw are borrowed.
     fn step_with<P: Computation<Value = V, Message = M>, C: MessageCombiner<M>>(
         self,
         alloc: Global,

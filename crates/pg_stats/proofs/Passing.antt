@@ -91,7 +91,7 @@ none_among M picks (id ∷ ids) =
     by true = refl
     by false = refl
 
--- whether a row borrows tells whether it is there
+-- a row is borrowed just where it is there
 module _ {X : Type 0} where
   pub none_is : (o : Option (Bor X)) (b : Bool) {row : Option X} → option_copied o ≡ row → is_some o ≡ not b → b ≡ not (is_some row)
   none_is None true row is = ap (λ r. not (is_some r)) row

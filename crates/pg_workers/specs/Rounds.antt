@@ -66,7 +66,7 @@ module _ {P C A V M : Type 0} (own : Meaning P C A V M) (core : Progress P C A V
     pub each : All (IsAssigned superstep) assignments
     pub workers : All (λ assignment. assignment.worker < below) assignments
 
-  -- a round lends what a step from a superstep reads of a core
+  -- a round borrows what a step from a superstep reads of a core
   pub record Borrows (superstep attempt : ℕ) (round : RoundOf M) : Type 0 where
     pub superstep_is : round.superstep ≡ superstep
     pub attempt_is : round.attempt ≡ attempt

@@ -1,4 +1,4 @@
-//! The parts that a round hands to the workers, and what it lends them.
+//! The parts that a round hands to the workers, and what they borrow.
 ghost use Rattle.std.specs.Prelude.{◌≡◌, ◌≤◌, true, length, IfOk, IsTrue, Some};
 ghost use Rattle.pg_core.specs.Progress.{is_ready as ready_test};
 ghost use Rattle.pg_global.specs.Master.{has_places};
@@ -77,7 +77,7 @@ fn is_due<P: Computation, C: MessageCombiner<P::Message>, M: MasterCompute>(
         && core.is_ready(partition)
 }
 
-/// What a round at a superstep lends, where so many losses were recorded before it. The worker that it names is to be
+/// What a round at a superstep borrows, where so many losses were recorded before it. The worker that it names is to be
 /// replaced by each.
 pub(crate) fn step_input<'a, P: Computation, C: MessageCombiner<P::Message>, M: MasterCompute>(
     core: &'a Core<'_, P, C, M>,

@@ -46,7 +46,7 @@ impl<'a, M: Plain> Model for Round<'a, M> {
 }
 
 impl<'a, M: Plain> Round<'a, M> {
-    /// A round of a worker that lends just this.
+    /// A round of a worker that borrows just this.
     pub fn new(
         logs: &'a Logs<M>,
         visible: &'a Visible,
