@@ -13,3 +13,4 @@ pub mod Sending
 pub mod Sent
 pub mod Slots
 pub mod Taking
+pub mod Valued

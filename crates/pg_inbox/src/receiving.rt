@@ -5,7 +5,7 @@ ghost use Rattle.std.specs.List.{AllByRecursion, flat_map, fold};
 ghost use Rattle.std.specs.Option.{option_to_list};
 ghost use Rattle.pg_map.specs.Entries.{value_at};
 ghost use Rattle.pg_model.specs.Superstep.{combined, has_id};
-ghost use Rattle.pg_inbox_messages.specs.Contents.{messages};
+ghost use Rattle.pg_inbox_messages.specs.Contents.{Holds, messages};
 ghost use Rattle.pg_inbox.specs.Holding.{HoldAll, HoldsAt};
 ghost use Rattle.pg_inbox.specs.Inboxes.{Delivers, contents_to, folded_of, is_receiver, received_of};
 ghost use Rattle.pg_inbox.specs.Ordered.{in_order};
@@ -28,7 +28,9 @@ pub fn inbox<M: Plain, C: MessageCombiner<M>>(
     id: VertexId,
     combiner: &C,
 ) -> Result<Vec<M>, Memory>
-    ensures { IfOk result (λ inbox. Delivers (C.combining combiner.now) id (map (λ b. b.now) bundles.now) inbox.items) }
+    ensures delivers { IfOk result
+        (λ inbox. Delivers (C.combining combiner.now) id (map (λ b. b.now) bundles.now) inbox.items) }
+    ensures values { IfOk result (λ inbox. AllByRecursion M.is_value inbox.items) }
 {
     if let [bundle] = bundles {
         return inbox_of(alloc, bundle, id, combiner);
@@ -44,7 +46,8 @@ fn inbox_of<M: Plain, C: MessageCombiner<M>>(
     id: VertexId,
     combiner: &C,
 ) -> Result<Vec<M>, Memory>
-    ensures { IfOk result (λ inbox. Delivers (C.combining combiner.now) id (bundle.now ∷ []) inbox.items) }
+    ensures delivers { IfOk result (λ inbox. Delivers (C.combining combiner.now) id (bundle.now ∷ []) inbox.items) }
+    ensures values { IfOk result (λ inbox. AllByRecursion M.is_value inbox.items) }
 {
     match bundle.message_list(id) {
         Some(message_list) => received(alloc, &[(id, message_list)], combiner),
@@ -142,8 +145,10 @@ pub(crate) fn received<M: Plain, C: MessageCombiner<M>>(
     message_lists: &[(VertexId, MessageListRef<'_, M>)],
     combiner: &C,
 ) -> Result<Vec<M>, Memory>
-    ensures { IfOk result (λ inbox. inbox.items ≡ received_of (C.combining combiner.now)
+    ensures inbox { IfOk result (λ inbox. inbox.items ≡ received_of (C.combining combiner.now)
         (map (λ p. p.1) message_lists.now)) }
+    ensures values { AllByRecursion (Holds M.is_value) (map (λ p. p.1) message_lists.now)
+        → IfOk result (λ inbox. AllByRecursion M.is_value inbox.items) }
 {
     if combiner.combines() {
         return combined(alloc, message_lists, combiner);
@@ -205,7 +210,9 @@ fn combined<M: Plain, C: MessageCombiner<M>>(
     combiner: &C,
 ) -> Result<Vec<M>, Memory>
     requires { IsSome (C.combining combiner.now) }
-    ensures { IfOk result (λ inbox. inbox.items ≡ combined (C.combining combiner.now) (folded_of message_lists.now)) }
+    ensures inbox { IfOk result
+        (λ inbox. inbox.items ≡ combined (C.combining combiner.now) (folded_of message_lists.now)) }
+    ensures values { IfOk result (λ inbox. AllByRecursion M.is_value inbox.items) }
 {
     let mut so_far = combiner.initial_message(alloc)?;
     let mut is_any = false;
@@ -215,8 +222,17 @@ fn combined<M: Plain, C: MessageCombiner<M>>(
     if !is_any {
         return Ok(Vec::new(alloc));
     }
+    inbox_of_one(alloc, so_far)
+}
+
+/// An inbox of one message, which is a value of its type.
+fn inbox_of_one<M: Plain>(alloc: Global, message: M) -> Result<Vec<M>, Memory>
+    ensures inbox { IfOk result (λ inbox. inbox.items ≡ message ∷ []) }
+    ensures value { IfOk result (λ inbox. AllByRecursion M.is_value inbox.items) }
+{
+    message.fits();
     let mut inbox = Vec::with_capacity(alloc, 1)?;
-    inbox.push(so_far)?;
+    inbox.push(message)?;
     Ok(inbox)
 }
 

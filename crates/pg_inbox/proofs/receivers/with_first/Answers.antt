@@ -23,4 +23,4 @@ returns-clause-more g c =
     moved_one c.args.inboxes (made (groups_of (drop n items))) (ap made group.groups) refl
     (c.in_ok-more.ensures
     ∙ ap₂ (λ t i. c.args.inboxes ++ (t, i) ∷ []) (ap (λ e. e.0) (sym c.index-message_lists-0.is))
-    (c.in_ok-inbox.ensures ∙ ap (λ h. received_of combining (map (λ p. p.1) h)) c.split_at.ensures.front))
+    (c.in_ok-inbox.ensures.inbox ∙ ap (λ h. received_of combining (map (λ p. p.1) h)) c.split_at.ensures.front))
