@@ -13,7 +13,8 @@ use std::thread::Threads;
 
 const TWO_HOPS: &[u8] = b"import list 2\n1 2 5\n2 3\nrefresh\ndump\n";
 
-// The program, by any streams: so the prover doesn't go through what it promises of the bytes of these.
+// The program with these words, on streams of any kind: its exit status, and the service of its session, if there was
+// one.
 pub(crate) fn started<H: Threads + Wait + Sync, R: BufRead, W: Write, E: Write>(
     rt: &H,
     alloc: Global,
@@ -25,7 +26,7 @@ pub(crate) fn started<H: Threads + Wait + Sync, R: BufRead, W: Write, E: Write>(
     start_leaving(rt, alloc, words, reader, writer, errors)
 }
 
-// What a session writes, likewise.
+// A session of a service, on streams of any kind: how it ended.
 pub(crate) fn served<H: Threads + Wait + Sync, R: BufRead, W: Write>(
     rt: &H,
     alloc: Global,
