@@ -1,6 +1,4 @@
-// A service of shortest paths from 1, and the calls of a service, with what they tell as plain values.
-//
-// A function round a call is of any service, so that the prover doesn't unfold what the program means.
+// A service of shortest paths from 1, and the calls of any service, with what they tell as plain values.
 ghost use Rattle.std.specs.Prelude.{◌≡◌, true};
 
 use pg_global::{AnyCombiner, MasterCompute, MessageCombiner};
@@ -39,7 +37,7 @@ pub(crate) fn limits_of(
     Ok(Limits::new(partitions, workers, 1_000, every, max_losses).ok_or("limits")?)
 }
 
-// A service, which is ended by `close`.
+// A service of any program. It is ended by `close`.
 pub(crate) fn service_of<
     R: Wait,
     P: Computation + Drop,
