@@ -13,29 +13,6 @@ use std::thread::Threads;
 
 const TWO_HOPS: &[u8] = b"import list 2\n1 2 5\n2 3\nrefresh\ndump\n";
 
-// The program, by any streams: so the prover doesn't go through what it promises of the bytes of these.
-pub(crate) fn started<H: Threads + Wait + Sync, R: BufRead, W: Write, E: Write>(
-    rt: &H,
-    alloc: Global,
-    words: &[&str],
-    reader: &mut R,
-    writer: &mut W,
-    errors: &mut E,
-) -> (u8, Option<ReadyService>) {
-    start_leaving(rt, alloc, words, reader, writer, errors)
-}
-
-// What a session writes, likewise.
-pub(crate) fn served<H: Threads + Wait + Sync, R: BufRead, W: Write>(
-    rt: &H,
-    alloc: Global,
-    reader: &mut R,
-    writer: &mut W,
-    service: &mut ReadyService,
-) -> Result<(), ServeFault> {
-    serve(rt, alloc, reader, writer, service)
-}
-
 // What a run of the program came to.
 #[derive(Drop)]
 struct Ended {
@@ -46,16 +23,29 @@ struct Ended {
     reached: Option<Reached>,
 }
 
-// The program with these words on this input.
-fn run<H: Threads + Wait + Sync>(rt: &H, alloc: Global, words: &[&str], input: &[u8]) -> Ended {
-    let mut reader = input;
-    let mut output = Vec::new(alloc);
+// What the program comes to with these words on these streams: its exit status, what is said of it, and how far its
+// session has come, if there was one.
+fn ended<H: Threads + Wait + Sync, R: BufRead, W: Write>(
+    rt: &H,
+    alloc: Global,
+    words: &[&str],
+    reader: &mut R,
+    writer: &mut W,
+) -> (u8, Vec<u8>, Option<Reached>) {
     let mut errors = Vec::new(alloc);
-    let (status, service) = started(rt, alloc, words, &mut reader, &mut output, &mut errors);
+    let (status, service) = start_leaving(rt, alloc, words, reader, writer, &mut errors);
     let reached = match service {
         Some(service) => Some(reached_at_end(rt, service)),
         None => None,
     };
+    (status, errors, reached)
+}
+
+// The program with these words on this input.
+fn run<H: Threads + Wait + Sync>(rt: &H, alloc: Global, words: &[&str], input: &[u8]) -> Ended {
+    let mut reader = input;
+    let mut output = Vec::new(alloc);
+    let (status, errors, reached) = ended(rt, alloc, words, &mut reader, &mut output);
     Ended {
         status,
         output,
@@ -171,12 +161,8 @@ fn said<H: Threads + Wait + Sync, R: BufRead, W: Write>(
     reader: &mut R,
     writer: &mut W,
 ) -> (u8, Vec<u8>) {
-    let mut errors = Vec::new(alloc);
     let words = ["pregeld", "--program", "sssp"];
-    let (status, service) = started(rt, alloc, words.as_slice(), reader, writer, &mut errors);
-    if let Some(service) = service {
-        service.close(rt);
-    }
+    let (status, errors, _) = ended(rt, alloc, words.as_slice(), reader, writer);
     (status, errors)
 }
 
@@ -257,7 +243,7 @@ fn paths_from(source: VertexId) -> ReadyProgram {
 }
 
 // Shortest paths from 1, on no graph yet. It is ended by `close`.
-pub(crate) fn shortest_paths<H: Wait>(rt: &H, alloc: Global) -> Result<ReadyService, Fail> {
+fn shortest_paths<H: Wait>(rt: &H, alloc: Global) -> Result<ReadyService, Fail> {
     let source = VertexId::new(1).ok_or("an id")?;
     let limits = Limits::new(1, 1, 1000, 0, 0).ok_or("limits")?;
     let master = ReadyMaster {
@@ -291,10 +277,22 @@ fn reached_by(service: &ReadyService) -> Reached {
 }
 
 // Ends a service, and tells how far it has come.
-pub(crate) fn reached_at_end<H: Wait>(rt: &H, service: ReadyService) -> Reached {
+fn reached_at_end<H: Wait>(rt: &H, service: ReadyService) -> Reached {
     let reached = reached_by(&service);
     service.close(rt);
     reached
+}
+
+// A session of shortest paths on these streams: how it ends, and how far it has come.
+pub(crate) fn session<H: Threads + Wait + Sync, R: BufRead, W: Write>(
+    rt: &H,
+    alloc: Global,
+    reader: &mut R,
+    writer: &mut W,
+) -> Result<(Result<(), ServeFault>, Reached), Fail> {
+    let mut service = shortest_paths(rt, alloc)?;
+    let served = serve(rt, alloc, reader, writer, &mut service);
+    Ok((served, reached_at_end(rt, service)))
 }
 
 // How shortest paths end whose writer has room for four bytes, and how far they have come.
@@ -302,12 +300,10 @@ fn with_four_bytes<H: Threads + Wait + Sync>(
     rt: &H,
     alloc: Global,
 ) -> Result<(Result<(), ServeFault>, Reached), Fail> {
-    let mut service = shortest_paths(rt, alloc)?;
     let mut reader: &[u8] = TWO_HOPS;
     let mut room = [0_u8; 4];
     let mut writer = room.as_mut_slice();
-    let served = served(rt, alloc, &mut reader, &mut writer, &mut service);
-    Ok((served, reached_at_end(rt, service)))
+    session(rt, alloc, &mut reader, &mut writer)
 }
 
 #[test]

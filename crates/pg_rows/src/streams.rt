@@ -1,5 +1,5 @@
 // Sessions whose reader or writer fails in mid-stream.
-use crate::runs::{Reached, Session, reached_at_end, served, shortest_paths};
+use crate::runs::{Reached, Session, session};
 use pregeld::ServeFault;
 use std::alloc::Global;
 use std::io;
@@ -113,12 +113,11 @@ fn read_by<H: Threads + Wait + Sync, R: Read + Drop>(
 ) -> Result<Session, Fail> {
     let mut reader = BufReader::with_capacity(alloc, 16, inner)?;
     let mut written = Vec::new(alloc);
-    let mut service = shortest_paths(rt, alloc)?;
-    let served = served(rt, alloc, &mut reader, &mut written, &mut service);
+    let (served, reached) = session(rt, alloc, &mut reader, &mut written)?;
     Ok(Session {
         served,
         written,
-        reached: reached_at_end(rt, service),
+        reached,
     })
 }
 
@@ -191,17 +190,16 @@ fn with_broken_writer<H: Threads + Wait + Sync>(
     alloc: Global,
     calls: usize,
 ) -> Result<Session, Fail> {
-    let mut service = shortest_paths(rt, alloc)?;
     let mut reader = INPUT;
     let mut writer = NthWriter {
         written: Vec::new(alloc),
         calls_left: calls,
     };
-    let served = served(rt, alloc, &mut reader, &mut writer, &mut service);
+    let (served, reached) = session(rt, alloc, &mut reader, &mut writer)?;
     Ok(Session {
         served,
         written: writer.written,
-        reached: reached_at_end(rt, service),
+        reached,
     })
 }
 

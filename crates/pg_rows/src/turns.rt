@@ -1,5 +1,5 @@
 // Each answer is written before the next line is read.
-use crate::runs::{served, shortest_paths};
+use crate::runs::session;
 use pregeld::ServeFault;
 use std::alloc::Global;
 use std::cell::Cell;
@@ -96,9 +96,7 @@ fn served_in_turns<H: Threads + Wait + Sync>(
         handed_on: &handed_on,
         flushes,
     };
-    let mut service = shortest_paths(rt, alloc)?;
-    let ended = served(rt, alloc, &mut reader, &mut writer, &mut service);
-    service.close(rt);
+    let (ended, _) = session(rt, alloc, &mut reader, &mut writer)?;
     Ok((ended, handed_on.get()))
 }
 

@@ -101,6 +101,15 @@ fn called_warm(
     noted(alloc, &program, calls)
 }
 
+// The ids with these numbers.
+fn ids_of(alloc: Global, numbers: &[u64]) -> Result<Vec<VertexId>, Fail> {
+    let mut ids = Vec::new(alloc);
+    for number in numbers {
+        ids.push(id(*number)?)?;
+    }
+    Ok(ids)
+}
+
 // The calls where the edges were those of the first graph, by the numbers of the ids.
 fn called_after(
     alloc: Global,
@@ -110,10 +119,7 @@ fn called_after(
 ) -> Result<String, Fail> {
     let before = graph_of(alloc, &INPUTS, &EDGES)?;
     let after = graph_of(alloc, &INPUTS, edges)?;
-    let mut ids = Vec::new(alloc);
-    for number in touched {
-        ids.push(id(*number)?)?;
-    }
+    let ids = ids_of(alloc, touched)?;
     called_warm(alloc, &before, &after, ids.as_slice(), partitions)
 }
 
@@ -189,10 +195,7 @@ fn called_mixed(
 ) -> Result<String, Fail> {
     let before = graph_of(alloc, &INPUTS, &EDGES)?;
     let after = graph_of(alloc, &INPUTS, edges)?;
-    let mut ids = Vec::new(alloc);
-    for number in touched {
-        ids.push(id(*number)?)?;
-    }
+    let ids = ids_of(alloc, touched)?;
     let partitioner = Partitioner::new(2).ok_or("no such number of partitions")?;
     let (first, program) = (noting(alloc, Tally)?, noting(alloc, Tally)?);
     let old = cold_run(alloc, &before, partitioner, &[0, 0], &first, &combiner)?;

@@ -7,6 +7,7 @@ use crate::recovery::finished;
 use pg_core::{Core, Limits, Traces};
 use pg_global::{AnyCombiner, MasterCompute, MessageCombiner};
 use pg_graph::{Graph, Memory, Missing, PartitionId, VertexId, WorkerId};
+use pg_model::Run;
 use pg_program::{Computation, Meter};
 use pregeld_programs::{Cc, Indegree, MaxValue, Pagerank, Peel, ReadyMaster, ReadyProgram, Sssp};
 use std::alloc::{AllocError, Global};
@@ -132,6 +133,25 @@ fn go_on<P: Computation, C: MessageCombiner<P::Message>, M: MasterCompute>(
     Err(AllocError)
 }
 
+// What a run leaves that goes on at random, to its end; nothing where its answer isn't this one.
+fn left_by<P: Computation, C: MessageCombiner<P::Message>, M: MasterCompute>(
+    alloc: Global,
+    core: Core<'_, P, C, M>,
+    limits: Limits,
+    wanted: &Run<P::Value>,
+    trials: &mut Trials,
+) -> Result<Option<Traces<P::Value, P::Message>>, Fail>
+    ensures { IfOk result (λ found. IfSome found (λ retained. length retained.retained_parts ≡ limits.partitions)) }
+{
+    let mut core = core;
+    go_on(alloc, &mut core, trials)?;
+    let (run, retained) = finished(alloc, core, limits)?;
+    if !is_same(&run, wanted) {
+        return Ok(None);
+    }
+    Ok(Some(retained))
+}
+
 // What a run from scratch leaves, with losses at random; nothing where its answer is another than that of the plain
 // runner.
 fn first<P: Computation, C: MessageCombiner<P::Message>, M: MasterCompute>(
@@ -146,13 +166,8 @@ fn first<P: Computation, C: MessageCombiner<P::Message>, M: MasterCompute>(
     ensures { IfOk result (λ found. IfSome found (λ retained. length retained.retained_parts ≡ limits.partitions)) }
 {
     let wanted = scratch(alloc, graph, program, combiner, master, limits)?;
-    let mut core = Core::open(alloc, graph, program, combiner, master, limits, 1)?;
-    go_on(alloc, &mut core, trials)?;
-    let (run, retained) = finished(alloc, core, limits)?;
-    if !is_same(&run, &wanted) {
-        return Ok(None);
-    }
-    Ok(Some(retained))
+    let core = Core::open(alloc, graph, program, combiner, master, limits, 1)?;
+    left_by(alloc, core, limits, &wanted, trials)
 }
 
 // The same against what a run on another graph left.
@@ -171,15 +186,10 @@ fn warm<P: Computation, C: MessageCombiner<P::Message>, M: MasterCompute>(
     ensures { IfOk result (λ found. IfSome found (λ retained. length retained.retained_parts ≡ limits.partitions)) }
 {
     let wanted = scratch(alloc, graph, program, combiner, master, limits)?;
-    let mut core = Core::open_warm(
+    let core = Core::open_warm(
         alloc, graph, retained, touched, program, combiner, master, limits, 2,
     )?;
-    go_on(alloc, &mut core, trials)?;
-    let (run, retained) = finished(alloc, core, limits)?;
-    if !is_same(&run, &wanted) {
-        return Ok(None);
-    }
-    Ok(Some(retained))
+    left_by(alloc, core, limits, &wanted, trials)
 }
 
 // How many calls of compute a run takes against one on the same graph, where no worker falls; nothing where its answer

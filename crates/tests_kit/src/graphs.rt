@@ -1,6 +1,7 @@
 //! Graphs by hand.
-use pg_graph::{Batch, Edit, Graph, VertexId};
+use pg_graph::{Batch, Edit, Graph, Memory, VertexId};
 use std::alloc::Global;
+use std::fmt::Write;
 use std::test::Fail;
 
 /// The id with this number.
@@ -24,4 +25,23 @@ pub fn graph_of(
     let mut graph = Graph::new(alloc);
     graph.apply(alloc, &batch)?;
     Ok(graph)
+}
+
+/// Each edge as `target=weight,`.
+pub fn write_edges(text: &mut String, edges: &[(VertexId, i64)]) -> Result<(), Memory> {
+    for (target, weight) in edges {
+        write!(text, "{target}={weight},")?;
+    }
+    Ok(())
+}
+
+/// Each row of a graph as `id:input[target=weight,]`.
+pub fn text_of(alloc: Global, graph: &Graph) -> Result<String, Memory> {
+    let mut text = String::new(alloc);
+    for (id, row) in graph.iter() {
+        write!(&mut text, "{id}:{}[", row.input)?;
+        write_edges(&mut text, row.edges.as_slice())?;
+        text.push_str("]")?;
+    }
+    Ok(text)
 }

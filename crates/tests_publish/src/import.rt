@@ -1,11 +1,11 @@
-use pg_graph::{Batch, Edit, Graph, Memory, Row, VertexId};
+use pg_graph::{Batch, Edit, Graph, VertexId};
 use pg_import::{
     ImportFault, Line, Words, bare_line, into_batch, read_csv, read_id, read_list, read_weight,
 };
 use std::alloc::Global;
-use std::fmt::Write;
 use std::process::Abort;
 use std::test::Fail;
+use tests_kit::text_of;
 
 type Edge = (u64, u64, i64);
 
@@ -27,31 +27,6 @@ fn has_fault(rt: &impl Abort, answer: Result<Vec<Line>, ImportFault>, fault: (u6
         Ok(lines) => assert_eq!(rt; lines.len(), usize::MAX, "no fault"),
         Err(found) => assert_eq!(rt; (found.line, found.kind.number()), fault),
     }
-}
-
-// Each edge as `target=weight,`.
-fn write_edges(text: &mut String, edges: &[(VertexId, i64)]) -> Result<(), Memory> {
-    for (target, weight) in edges {
-        write!(text, "{target}={weight},")?;
-    }
-    Ok(())
-}
-
-fn write_row(text: &mut String, id: VertexId, row: &Row) -> Result<(), Memory> {
-    let input = row.input;
-    write!(text, "{id}:{input}[")?;
-    write_edges(text, row.edges.as_slice())?;
-    write!(text, "]")?;
-    Ok(())
-}
-
-// Each row as `id:input[target=weight,]`.
-fn text_of(alloc: Global, graph: &Graph) -> Result<String, Memory> {
-    let mut text = String::new(alloc);
-    for (id, row) in graph.iter() {
-        write_row(&mut text, *id, row)?;
-    }
-    Ok(text)
 }
 
 #[test]

@@ -256,21 +256,6 @@ fn reported<V: Plain, M: Plain>(
     Ok(text)
 }
 
-// Executes a program, of which the prover needs to know nothing more.
-fn execute<P: Computation>(
-    alloc: Global,
-    program: &P,
-    vertex: &mut Vertex<P::Value>,
-    messages: &[P::Message],
-    cx: &mut Cx<P::Message>,
-) -> Result<(), Memory>
-    requires votes { vertex.old.halted ≡ false }
-    requires shown { ShowsDeclared (P.program program.now).declared cx.old.view }
-    requires writes { cx.old.writes ≡ (P.program program.now).declared.writes }
-{
-    program.compute(alloc, vertex, messages, cx)
-}
-
 // What one execution of a program leaves at vertex 5, of this input with an edge to 2: the value, the edges, and what
 // it added to a context.
 fn executed<P: Computation>(
@@ -285,7 +270,7 @@ fn executed<P: Computation>(
 {
     let value = program.initial(alloc, id(5)?, input)?;
     let mut vertex = begun(alloc, value)?;
-    execute(alloc, program, &mut vertex, messages, &mut cx)?;
+    program.compute(alloc, &mut vertex, messages, &mut cx)?;
     reported(alloc, &vertex, cx)
 }
 

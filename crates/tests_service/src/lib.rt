@@ -1,7 +1,6 @@
 //! Tests of the service, by its public calls: what no contract says.
 //!
-//! A call of the service has a function of its own that hands on plain values, so that no test has two of its contracts
-//! at hand.
+//! A call of the service has a function of its own that hands on plain values, which the tests compare.
 #![tactic(auto)]
 
 #[cfg(test)]

@@ -2,7 +2,7 @@ ghost use Rattle.std.specs.Prelude.{◌≡◌, ◌<◌};
 
 use pg_graph::{Batch, Edges, Edit, EditFault, Graph, Memory, Row, VertexId};
 use std::alloc::Global;
-use std::fmt::Write;
+use tests_kit::{text_of, write_edges};
 
 fn id(number: u32) -> VertexId
     ensures { result ≡ number }
@@ -36,31 +36,6 @@ fn fault_in(answer: Result<(), EditFault>) -> (u64, u8) {
         Ok(()) => (0, 0),
         Err(fault) => (fault.position, fault.kind.number()),
     }
-}
-
-// Each edge as `target=weight,`.
-fn write_edges(text: &mut String, edges: &Edges) -> Result<(), Memory> {
-    for (target, weight) in edges.as_slice() {
-        write!(text, "{target}={weight},")?;
-    }
-    Ok(())
-}
-
-fn write_row(text: &mut String, id: VertexId, row: &Row) -> Result<(), Memory> {
-    let input = row.input;
-    write!(text, "{id}:{input}[")?;
-    write_edges(text, &row.edges)?;
-    write!(text, "]")?;
-    Ok(())
-}
-
-// Each row as `id:input[target=weight,]`.
-fn text_of(alloc: Global, graph: &Graph) -> Result<String, Memory> {
-    let mut text = String::new(alloc);
-    for (id, row) in graph.iter() {
-        write_row(&mut text, *id, row)?;
-    }
-    Ok(text)
 }
 
 // The graph of 1 with edges to 2 and to itself, and of 2 with an edge to a missing 9.
@@ -256,7 +231,7 @@ fn has_all_where_no_id_is_left_out(rt: HostRuntime) -> Result<(), EditFault> {
 fn copies_edges(rt: HostRuntime) -> Result<(), Memory> {
     let edges = two_edges(rt.alloc(), id(1), id(9))?.copy()?;
     let mut text = String::new(rt.alloc());
-    write_edges(&mut text, &edges)?;
+    write_edges(&mut text, edges.as_slice())?;
     assert_eq!(rt; text.as_str(), "1=3,9=-4,");
     assert_eq!(rt; weight_to(&edges, 9), -4);
     Ok(())

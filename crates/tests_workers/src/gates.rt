@@ -1,6 +1,6 @@
 // In each superstep a worker passes the gate before it computes its vertices.
 use crate::jobs::heard;
-use crate::rows::{limits_of, two_hops};
+use crate::rows::two_hops;
 use pg_global::AnyCombiner;
 use pg_graph::{Memory, Superstep, WorkerId};
 use pg_workers::{Gate, NoFate, NoGate};
@@ -11,7 +11,7 @@ use std::sync::atomic::{AtomicU64, Ordering};
 use std::sync::{Arc, Wait};
 use std::test::Fail;
 use std::thread::Threads;
-use tests_kit::{Heard, Listener, Moment, id};
+use tests_kit::{Heard, Listener, Moment, id, limits_of};
 
 // A gate for one worker: how many supersteps it was passed for, and how many calls came before it was.
 #[derive(Drop)]

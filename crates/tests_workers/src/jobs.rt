@@ -7,15 +7,14 @@ use pg_global::{MasterCompute, MessageCombiner};
 use pg_graph::{Graph, Memory, VertexId};
 use pg_model::Run;
 use pg_program::{Computation, Plain};
-use pg_workers::{
-    Cause, Core, Counts, Fate, Gate, Limits, Loss, MemShelf, RefreshFault, Shelf, Traces, run_job,
-};
+use pg_workers::{Core, Counts, Fate, Gate, Limits, MemShelf, Shelf, Traces, run_job};
 use std::alloc::Global;
 use std::fmt::Write;
 use std::sync::Wait;
 use std::test::Fail;
 use std::thread::Threads;
 use tests_kit::{Heard, Listener, is_same, scratch};
+use tests_rounds::{tell_losses, tell_refusal};
 
 // What a run adds to its text where its answer isn't the one from scratch.
 pub(crate) const OTHERWISE: &str = " otherwise than from scratch";
@@ -29,31 +28,10 @@ pub(crate) fn tell_steps(text: &mut String, calls: u64, steps: &[u64]) -> Result
     Ok(())
 }
 
-// A worker that fell, the superstep in which it did, and why.
-pub(crate) fn tell_loss(
-    text: &mut String,
-    worker: u32,
-    superstep: u32,
-    cause: &str,
-) -> Result<(), Memory> {
-    write!(text, " ({worker} {superstep} {cause})")
-}
-
-fn tell_losses(text: &mut String, losses: &[Loss]) -> Result<(), Memory> {
-    write!(text, " losses")?;
-    for loss in losses {
-        let cause = match loss.cause {
-            Cause::Fate => "fate",
-            Cause::Memory => "memory",
-        };
-        tell_loss(text, loss.worker.number(), loss.superstep.number(), cause)?;
-    }
-    write!(text, ";")
-}
-
 fn tell_counts(text: &mut String, counts: &Counts) -> Result<(), Memory> {
     tell_steps(text, counts.calls, counts.steps.as_slice())?;
-    tell_losses(text, counts.losses.as_slice())
+    tell_losses(text, counts.losses.as_slice())?;
+    write!(text, ";")
 }
 
 // The values of an answer, and whether it is another than this one.
@@ -67,17 +45,6 @@ fn tell_answer<V: Plain>(text: &mut String, run: &Run<V>, wanted: &Run<V>) -> Re
         text.push_str(OTHERWISE)?;
     }
     Ok(())
-}
-
-// The number of a refusal, and the workers that fell where it tells them.
-fn tell_refusal(text: &mut String, fault: &RefreshFault) -> Result<(), Memory> {
-    write!(text, "refused {}", fault.number())?;
-    match fault {
-        RefreshFault::TooManyLosses(losses) => tell_losses(text, losses.as_slice()),
-        RefreshFault::NoWorkers(losses) => tell_losses(text, losses.as_slice()),
-        RefreshFault::Memory => Ok(()),
-        RefreshFault::Device => Ok(()),
-    }
 }
 
 // What a run tells that is driven by workers, and what it leaves where it ended: the calls, the steps of each
@@ -117,6 +84,7 @@ pub(crate) fn driven<
         }
         Err(fault) => {
             tell_refusal(&mut text, &fault)?;
+            text.push_str(";")?;
             Ok((text, None))
         }
     }

@@ -1,6 +1,5 @@
 // Workers work at the same time: each of two waits for the other, at a gate and within compute.
 use crate::jobs::{first, heard};
-use crate::rows::limits_of;
 use pg_global::AnyCombiner;
 use pg_graph::Graph;
 use pg_workers::{MemShelf, NoFate, NoGate};
@@ -9,7 +8,7 @@ use std::alloc::Global;
 use std::process::Abort;
 use std::sync::Arc;
 use std::test::Fail;
-use tests_kit::{Heard, graph_of, id};
+use tests_kit::{Heard, graph_of, id, limits_of};
 use tests_rounds::{Meeting, Waiting};
 
 // The vertices 1 and 2 without an edge.

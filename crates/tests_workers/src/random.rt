@@ -2,7 +2,7 @@
 // refusals and puts those of rounds that are simulated with plain numbers.
 ghost use Rattle.std.specs.Prelude.{◌≡◌, length, IfOk, IfSome};
 
-use crate::jobs::{OTHERWISE, after_first, first, tell_loss, tell_steps};
+use crate::jobs::{OTHERWISE, after_first, first, tell_steps};
 use crate::shelves::{Keeping, TestShelf};
 use pg_global::AnyCombiner;
 use pg_graph::{Graph, Memory, Missing, VertexId};
@@ -16,7 +16,7 @@ use std::test::Fail;
 use std::thread::Threads;
 use tests_kit::{GraphSize, Random, edited, id, random_graph};
 use tests_rounds::{
-    Calls, RunCounts, Simulated, Simulation, Table, random_limits, unlost, unlost_warm,
+    Calls, RunCounts, Simulated, Simulation, Table, random_limits, tell_loss, unlost, unlost_warm,
 };
 
 // Numbers at random, and what came of the runs.

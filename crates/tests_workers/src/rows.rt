@@ -13,18 +13,8 @@ use std::process::Abort;
 use std::sync::Wait;
 use std::test::Fail;
 use std::thread::Threads;
-use tests_kit::{graph_of, id};
+use tests_kit::{graph_of, id, limits_of};
 use tests_rounds::{AllFall, Strike, Strikes};
-
-// So many partitions and workers; each partition is saved after so many supersteps, and so many losses are borne.
-pub(crate) fn limits_of(
-    partitions: u32,
-    workers: u32,
-    every: u32,
-    max_losses: u32,
-) -> Result<Limits, Fail> {
-    Ok(Limits::new(partitions, workers, 1_000, every, max_losses).ok_or("no such limits")?)
-}
 
 // Vertices 1 to 3, an edge from 1 to 2 of weight 5 and one from 2 to 3. Vertex 3 is of partition 0 of three.
 pub(crate) fn two_hops(alloc: Global) -> Result<Graph, Fail> {
@@ -320,12 +310,12 @@ fn the_device_fails(rt: HostRuntime) -> Result<(), Fail> {
     let alloc = rt.alloc();
     for put in 1..7 {
         let (reported, counted) = failing(&rt, alloc, put, 0)?;
-        assert_eq!(rt; reported.as_str(), "refused 4");
+        assert_eq!(rt; reported.as_str(), "refused 4;");
         assert_eq!(rt; counted, (1, put, if put < 4 { 0 } else { 2 }));
     }
     for get in 1..3 {
         let (reported, counted) = failing(&rt, alloc, 0, get)?;
-        assert_eq!(rt; reported.as_str(), "refused 4");
+        assert_eq!(rt; reported.as_str(), "refused 4;");
         assert_eq!(rt; counted, (1, 3, get));
     }
     let (reported, counted) = failing(&rt, alloc, 7, 3)?;

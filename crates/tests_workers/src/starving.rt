@@ -1,6 +1,6 @@
 // Workers that are out of memory: one falls as a call of compute is, and the others go on.
 use crate::jobs::heard;
-use crate::rows::{limits_of, two_hops};
+use crate::rows::two_hops;
 use pg_global::AnyCombiner;
 use pg_workers::{Fate, Limits, NoFate, NoGate};
 use pregeld_programs::{ReadyMaster, ReadyProgram, Sssp};
@@ -9,7 +9,7 @@ use std::process::Abort;
 use std::sync::Wait;
 use std::test::Fail;
 use std::thread::Threads;
-use tests_kit::{Heard, Starving, id};
+use tests_kit::{Heard, Starving, id, limits_of};
 use tests_rounds::{Strike, Strikes};
 
 // What a run of the shortest paths on two hops tells that is out of memory at this call, on workers that fall by this
