@@ -83,7 +83,7 @@ module _ {V M : Type 0} (value_eq : V → V → Bool) (message_eq : M → M → 
   record IsKnown (c : VertexPair V M) : Type 0 where
     now : IsRead job rows n p s c
     once : WasRead job old n p s c
-    eq_is_sound : IsEqSound value_eq message_eq (is_same_view old_view view) c
+    eq_is_sound : IsEqSound value_eq message_eq c
 
   known : AllByRecursion IsKnown cs
   known =
@@ -93,7 +93,7 @@ module _ {V M : Type 0} (value_eq : V → V → Bool) (message_eq : M → M → 
       w.is.eq_is_sound
     where
       each : (cs : List (VertexPair V M)) → AllByRecursion (IsRead job rows n p s) cs → AllByRecursion (WasRead job old n p s) cs
-          → AllByRecursion (IsEqSound value_eq message_eq (is_same_view old_view view)) cs → AllByRecursion IsKnown cs
+          → AllByRecursion (IsEqSound value_eq message_eq) cs → AllByRecursion IsKnown cs
       each [] a b c = tt
       each (x ∷ cs) a b c = (record { now = a.0; once = b.0; eq_is_sound = c.0 }, each cs a.1 b.1 c.1)
 
@@ -133,7 +133,7 @@ module _ {V M : Type 0} (value_eq : V → V → Bool) (message_eq : M → M → 
   same_inputs c k h =
       let parts = both (is_same_view old_view view) _ h in
       let views : old_view ≡ view = (Decides-view_eq (λ (x y : ℕ). true) (λ (x y : ℕ). true) old_view view).0 parts.0 in
-      sym (inputs_once c k) ∙ (ap (λ v. reads v c.old) views ∙ (reads_same value_eq message_eq view c.old c.new parts.1 (k.eq_is_sound h) ∙ inputs_now c k))
+      sym (inputs_once c k) ∙ (ap (λ v. reads v c.old) views ∙ (reads_same value_eq message_eq view c.old c.new parts.1 (k.eq_is_sound parts.1) ∙ inputs_now c k))
 
   -- and one that is left reads the same, or nothing in both
   left_same : (c : VertexPair V M) → IsKnown c → left c ≡ true → inputs_at job old s c.id ≡ inputs_at job rows s c.id

@@ -27,7 +27,7 @@ use Rattle.pg_model.specs.declared.view.View.{View}
 use Rattle.pg_part_compute.specs.VertexPairs.{AreWorkItems, unhalted_ids, found_at}
 use Rattle.pg_part_routing.specs.Starting.{own}
 use Rattle.pg_part_compute.specs.Diverged.{is_quiescent}
-use Rattle.pg_part_compute.specs.Found.{IsFound, IsEqSound, reads, vertex_of}
+use Rattle.pg_part_compute.specs.Found.{IsFound, IsEqSound, are_same_reading, reads, vertex_of}
 use Rattle.pg_part_routing.specs.Routes.{HasMessages, bundles_before}
 use Rattle.pg_part_compute.specs.declared.found.VertexPair.{VertexPair}
 use Rattle.pg_part_compute.proofs.Coverage.{unhalted_in_run}
@@ -115,10 +115,12 @@ module _ {V M : Type 0} where
             (tails c.new (found_at program missing s trace w) (map (λ c. c.new) cs) (map (found_at program missing s trace) ws) news) h.1,
       )
 
-  -- in a cold step nothing is taken over
-  pub none_taken_over : (value_eq : V → V → Bool) (message_eq : M → M → Bool) (cs : List (VertexPair V M)) → AllByRecursion (IsEqSound value_eq message_eq false) cs
-  none_taken_over value_eq message_eq [] = tt
-  none_taken_over value_eq message_eq (c ∷ cs) = ((λ taken. absurd (true≢false (sym taken))), none_taken_over value_eq message_eq cs)
+  -- in a cold step nothing is found the same
+  pub eq_is_sound_of_none : (value_eq : V → V → Bool) (message_eq : M → M → Bool) (cs : List (VertexPair V M)) → AllByRecursion (λ c. c.old ≡ None) cs
+      → AllByRecursion (IsEqSound value_eq message_eq) cs
+  eq_is_sound_of_none value_eq message_eq [] h = tt
+  eq_is_sound_of_none value_eq message_eq (c ∷ cs) h =
+      ((λ same. absurd (true≢false (sym same ∙ ap (λ o. are_same_reading value_eq message_eq o c.new) h.0))), eq_is_sound_of_none value_eq message_eq cs h.1)
 
   module _ (job : Job V M) (rows : Rows) (n p r : ℕ) where
     -- a vertex pair is of the partition, and found as it stands in the run

@@ -2,6 +2,7 @@
 use Rattle.std.specs.Prelude.{◌≡◌, ℕ, ◌==◌, ◌&&◌, ◌||◌, not, Bool, true, false, cond, List, [], ◌∷◌, Option, None, Some}
 use Rattle.std.specs.Prelude.{is_some}
 use Rattle.std.specs.Cmp.Lexicographic.{pointwise}
+use Rattle.std.specs.List.{AllByRecursion}
 use Rattle.std.specs.Option.{option_and_then, option_map}
 use Rattle.pg_graph.specs.declared.missing.Missing.{Missing}
 use Rattle.pg_inbox.specs.Bundles.{MessageLists}
@@ -64,6 +65,16 @@ module _ {V M : Type 0} where
   AreSameVertices (Some x) None = Unit {0}
   AreSameVertices (Some x) (Some y) = IsSameVertex x y
 
+  module _ (is_value : V → Type 0) (is_message : M → Type 0) where
+    -- its value and the messages to it are values of their types, if it is there
+    abbrev pub HasValues : Option (VertexWithInbox V M) → Type 0
+    HasValues None = Unit {0}
+    HasValues (Some x) = is_value x.state.value × AllByRecursion is_message x.inbox
+
+    -- in both runs
+    abbrev pub HaveValues : VertexPair V M → Type 0
+    HaveValues c = HasValues c.old × HasValues c.new
+
   -- what its execution makes of its record, or that there is none, unless the record is left
   abbrev pub change_unless : Program V M → View → Bool → VertexPair V M → List (ℕ × Option (Record V M))
   change_unless program view left c = cond left [] ((c.id, option_map program.step (reads view c.new)) ∷ [])
@@ -94,9 +105,9 @@ module _ {V M : Type 0} where
     abbrev pub is_reused : Bool → VertexPair V M → Bool
     is_reused same_view c = is_taken_over same_view c || are_inactive c.old c.new
 
-    -- one that is taken over is the same in both runs
-    abbrev pub IsEqSound : Bool → VertexPair V M → Type 0
-    IsEqSound same_view c = is_taken_over same_view c ≡ true → AreSameVertices c.old c.new
+    -- one that is found the same is
+    abbrev pub IsEqSound : VertexPair V M → Type 0
+    IsEqSound c = are_same_reading c.old c.new ≡ true → AreSameVertices c.old c.new
 
     module _ (program : Program V M) (view : View) (same_view : Bool) where
       -- what the superstep makes of its record: nothing new, or that of its execution, or none

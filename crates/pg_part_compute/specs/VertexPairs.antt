@@ -55,7 +55,8 @@ pub record AreWorkItems {M : Type 0} (combining : Option (Combining M)) (bundles
   pub others : all ≡ true → (id : ℕ) → has_id (keys_of work_items) id ≡ false → Delivers combining id bundles []
 
 -- these are the vertices that a step looks at, as it finds them
-pub record AreFound {V M : Type 0} (program : Program V M) (missing : Missing)
+pub record AreFound {V M : Type 0} (value_eq : V → V → Bool) (message_eq : M → M → Bool) (program : Program V M)
+    (missing : Missing)
     (combining : Option (Combining M)) (n p s : ℕ) (trace : Trace V M) (bundles : List (MessageLists M))
     (warm : Option (Trace V M × List (MessageLists M))) (ids : List ℕ) (all : Bool)
     (vertex_pairs : List (VertexPair V M)) : Type 0 where
@@ -64,6 +65,7 @@ pub record AreFound {V M : Type 0} (program : Program V M) (missing : Missing)
   pub ids_are : map (λ c. c.id) vertex_pairs ≡ keys_of (own n p work_items)
   pub new_are : map (λ c. c.new) vertex_pairs ≡ map (found_at program missing s trace) (own n p work_items)
   pub warm_are : AllByRecursion (λ c. IsFoundWarm program missing combining s warm c.id c.old) vertex_pairs
+  pub eq_is_sound : AllByRecursion (IsEqSound value_eq message_eq) vertex_pairs
 
 -- these vertices were looked at, with this view, and executed where they didn't read what they read in another run,
 -- where that saw the same
@@ -78,7 +80,7 @@ pub record IsStepDelta {V M : Type 0} (value_eq : V → V → Bool) (message_eq 
   pub ids_are : map (λ c. c.id) vertex_pairs ≡ keys_of (own n p work_items)
   pub new_are : map (λ c. c.new) vertex_pairs ≡ map (found_at program missing s trace) (own n p work_items)
   pub warm_are : AllByRecursion (λ c. IsFoundWarm program missing combining s warm c.id c.old) vertex_pairs
-  pub eq_is_sound : AllByRecursion (IsEqSound value_eq message_eq same_view) vertex_pairs
+  pub eq_is_sound : AllByRecursion (IsEqSound value_eq message_eq) vertex_pairs
   pub dirty_ids_are : step_delta.dirty_ids.items ≡ map (λ c. c.id) vertex_pairs
   pub changes_are : step_delta.changes ≡ flat_map (change_of value_eq message_eq program view same_view) vertex_pairs
   pub counted : step_delta.meter ≡ capped

@@ -153,7 +153,7 @@ fn is_same_state<V: Plain>(old: &StateRef<'_, V>, new: &StateRef<'_, V>) -> bool
 }
 
 /// Whether two values are the same.
-pub(crate) fn is_same_value<V: Plain>(old: &V, new: &V) -> bool
+fn is_same_value<V: Plain>(old: &V, new: &V) -> bool
     ensures value { result ≡ V.PartialEq.eq old.now new.now }
     ensures eq_is_sound { result ≡ true → old.now ≡ new.now }
 {

@@ -1,11 +1,11 @@
 //! The executions of a step.
 ghost use Rattle.std.specs.Prelude.{◌≡◌, ◌+◌, ◌^◌, ◌<◌, ◌≤◌, true, length, cond, is_some, map, IfOk, OnOk, None, []};
 ghost use Rattle.std.specs.Prelude.{◌∷◌, ◌++◌};
-ghost use Rattle.std.specs.List.{AllByRecursion, count_by, flat_map};
+ghost use Rattle.std.specs.List.{count_by, flat_map};
 ghost use Rattle.pg_global.specs.Master.{has_places};
 ghost use Rattle.pg_model.specs.Superstep.{capped, inputs_of, view_of};
-ghost use Rattle.pg_part_compute.specs.Found.{IsEqSound, are_inactive, change_cold, change_of, change_unless, is_run};
-ghost use Rattle.pg_part_compute.specs.Found.{reads, with_inbox_of};
+ghost use Rattle.pg_part_compute.specs.Found.{are_inactive, change_cold, change_of, change_unless, is_run, reads};
+ghost use Rattle.pg_part_compute.specs.Found.{with_inbox_of};
 ghost use Rattle.pg_program.specs.Context.{ShowsDeclared};
 ghost use Rattle.pg_part_compute.specs.Executor.{IsReady, changes_of};
 ghost use Rattle.pg_part_compute.specs.VertexCountsDeltas.{given_at};
@@ -157,8 +157,6 @@ pub(crate) fn execute_pairs<P: Computation>(
         ≡ capped (step_context.meter + count_by
         (is_run P.Value.PartialEq.eq P.Message.PartialEq.eq (P.program program.now) step_context.view same_view)
         vertex_pairs.items)) }
-    ensures eq_is_sound { IfOk result (λ _. AllByRecursion
-        (IsEqSound P.Value.PartialEq.eq P.Message.PartialEq.eq same_view) vertex_pairs.items) }
 {
     let mut dirty_ids = Vec::with_capacity(alloc, vertex_pairs.len())?;
     let mut executor = Executor::of(alloc, program, step_context, 0, 0)?;
@@ -189,7 +187,6 @@ fn execute_one<P: Computation>(
         ≡ capped (executor.old.cx.calls
         + cond (is_run P.Value.PartialEq.eq P.Message.PartialEq.eq (P.program program.now)
         executor.old.cx.view same_view vertex_pair) 1 0)) }
-    ensures eq_is_sound { IsEqSound P.Value.PartialEq.eq P.Message.PartialEq.eq same_view vertex_pair }
 {
     if same_view && are_same_reading(&vertex_pair.old, &vertex_pair.new) {
         return Ok(());

@@ -1,12 +1,11 @@
 //! The vertices that a step looks at.
-ghost use Rattle.std.specs.Prelude.{◌≡◌, ◌&&◌, not, IfOk, true};
-ghost use Rattle.std.specs.Cmp.Lexicographic.{pointwise};
+ghost use Rattle.std.specs.Prelude.{◌≡◌, ◌&&◌, not, IfOk};
+ghost use Rattle.std.specs.List.{AllByRecursion};
 ghost use Rattle.pg_model.specs.Superstep.{is_active};
-ghost use Rattle.pg_part_compute.specs.Found.{AreSameVertices, IsSameVertex, are_same_reading, is_running};
-ghost use Rattle.pg_part_compute.specs.Found.{is_same_vertex, with_inbox_of, vertex_of};
+ghost use Rattle.pg_part_compute.specs.Found.{HasValues, are_same_reading, is_running, is_same_vertex, with_inbox_of};
+ghost use Rattle.pg_part_compute.specs.Found.{vertex_of};
 ghost use Rattle.pg_trace.specs.Trace.{state_at};
 
-use crate::diverged::is_same_value;
 use pg_graph::{Edges, Memory, Missing, Superstep, VertexId};
 use pg_model::{Sequence, VertexState, VertexWithInbox};
 use pg_program::{Computation, Plain};
@@ -31,8 +30,10 @@ pub(crate) fn vertex_at<P: Computation>(
     id: VertexId,
     delivered: Sequence<P::Message>,
 ) -> Result<Option<VertexWithInbox<P::Value, P::Message>>, Memory>
+    requires { AllByRecursion P.Message.is_value delivered }
     ensures found { IfOk result
         (λ x. x ≡ vertex_of (P.program program.now) missing id (state_at id superstep states.old) delivered) }
+    ensures values { IfOk result (HasValues P.Value.is_value P.Message.is_value) }
     ensures same { states.new ≡ states.old }
 {
     let state = states.state_at(id, superstep);
@@ -49,15 +50,29 @@ fn vertex_by<P: Computation>(
     state: &Option<StateRef<'_, P::Value>>,
     delivered: Sequence<P::Message>,
 ) -> Result<Option<VertexWithInbox<P::Value, P::Message>>, Memory>
-    ensures { IfOk result (λ x. x ≡ vertex_of (P.program program.now) missing id state.now delivered) }
+    requires { AllByRecursion P.Message.is_value delivered }
+    ensures found { IfOk result (λ x. x ≡ vertex_of (P.program program.now) missing id state.now delivered) }
+    ensures values { IfOk result (HasValues P.Value.is_value P.Message.is_value) }
 {
     let state = state_by(alloc, program, missing, id, state, delivered.as_slice())?;
     match state {
-        Some(state) => Ok(Some(VertexWithInbox {
-            state,
-            inbox: delivered,
-        })),
+        Some(state) => Ok(Some(with_inbox(state, delivered))),
         None => Ok(None),
+    }
+}
+
+/// A vertex with what is delivered to it. Its value is one of its type.
+fn with_inbox<V: Plain, M: Plain>(
+    state: VertexState<V>,
+    delivered: Sequence<M>,
+) -> VertexWithInbox<V, M>
+    ensures same { result ≡ record { state = state; inbox = delivered } }
+    ensures value { V.is_value state.value }
+{
+    state.value.fits();
+    VertexWithInbox {
+        state,
+        inbox: delivered,
     }
 }
 
@@ -80,18 +95,29 @@ pub(crate) fn state_by<P: Computation>(
     }
 }
 
-/// Copies of messages.
+/// Copies of messages, which are values of their type.
 pub(crate) fn copied_messages<M: Plain>(
     alloc: Global,
     messages: &[M],
 ) -> Result<Sequence<M>, Memory>
-    ensures { IfOk result (λ copies. copies ≡ messages.now) }
+    ensures same { IfOk result (λ copies. copies ≡ messages.now) }
+    ensures values { IfOk result (λ copies. AllByRecursion M.is_value copies) }
 {
     let mut copies = Vec::with_capacity(alloc, messages.len())?;
     for message in messages {
-        copies.push(message.copy(alloc)?)?;
+        copies.push(copied_message(alloc, message)?)?;
     }
     Ok(Sequence::from_vec(copies))
+}
+
+/// A copy of a message, which is a value of its type.
+fn copied_message<M: Plain>(alloc: Global, message: &M) -> Result<M, Memory>
+    ensures same { IfOk result (λ copy. copy ≡ message.now) }
+    ensures value { IfOk result (λ copy. M.is_value copy) }
+{
+    let copy = message.copy(alloc)?;
+    copy.fits();
+    Ok(copy)
 }
 
 /// A copy of a state, which shares its edges.
@@ -141,8 +167,7 @@ pub(crate) fn are_same_reading<V: Plain, M: Plain>(
     old: &Option<VertexWithInbox<V, M>>,
     new: &Option<VertexWithInbox<V, M>>,
 ) -> bool
-    ensures value { result ≡ are_same_reading V.PartialEq.eq M.PartialEq.eq old.now new.now }
-    ensures eq_is_sound { result ≡ true → AreSameVertices old.now new.now }
+    ensures { result ≡ are_same_reading V.PartialEq.eq M.PartialEq.eq old.now new.now }
 {
     match (old, new) {
         (Some(old), Some(new)) => is_active(old) && is_active(new) && is_same_vertex(old, new),
@@ -175,27 +200,10 @@ fn is_same_vertex<V: Plain, M: Plain>(
     old: &VertexWithInbox<V, M>,
     new: &VertexWithInbox<V, M>,
 ) -> bool
-    ensures value { result ≡ is_same_vertex V.PartialEq.eq M.PartialEq.eq old.now new.now }
-    ensures eq_is_sound { result ≡ true → IsSameVertex old.now new.now }
+    ensures { result ≡ is_same_vertex V.PartialEq.eq M.PartialEq.eq old.now new.now }
 {
     old.state.id == new.state.id
-        && is_same_value(&old.state.value, &new.state.value)
+        && old.state.value == new.state.value
         && old.state.edges.as_slice() == new.state.edges.as_slice()
-        && are_same_messages(old.inbox.as_slice(), new.inbox.as_slice())
-}
-
-/// Whether two lists have the same messages, in the same order.
-fn are_same_messages<M: Plain>(old: &[M], new: &[M]) -> bool
-    ensures value { result ≡ pointwise M.PartialEq.eq old.now new.now }
-    ensures eq_is_sound { result ≡ true → old.now ≡ new.now }
-{
-    if old.len() != new.len() {
-        return false;
-    }
-    for place in 0..old.len() {
-        if !is_same_value(&old[place], &new[place]) {
-            return false;
-        }
-    }
-    true
+        && old.inbox.as_slice() == new.inbox.as_slice()
 }

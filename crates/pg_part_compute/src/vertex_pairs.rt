@@ -8,7 +8,7 @@ ghost use Rattle.std.specs.Map.{keys_of};
 ghost use Rattle.pg_part_compute.specs.VertexPairs.{AreWorkItems, AreFound, IsStepDelta, cold, unhalted_ids, found_at};
 ghost use Rattle.pg_part_routing.specs.Starting.{own};
 ghost use Rattle.pg_part_compute.specs.VertexCountsDeltas.{AreVertexCountsDelta, IsVertexCountsDelta};
-ghost use Rattle.pg_part_compute.specs.Found.{IsFound, change_cold, reads};
+ghost use Rattle.pg_part_compute.specs.Found.{HasValues, HaveValues, IsFound, change_cold, reads};
 ghost use Rattle.pg_model.specs.Superstep.{capped};
 ghost use Rattle.pg_program.specs.Context.{ShowsDeclared};
 
@@ -302,9 +302,10 @@ fn found_warm<P: Computation, C: MessageCombiner<P::Message>>(
 ) -> Result<Vec<VertexPair<P::Value, P::Message>>, Memory>
     requires { IsStrictlySortedBy nat_cmp ids.now }
     ensures { IfOk result (λ vertex_pairs.
-        AreFound (P.program program.now) missing (C.combining combiner.now) share.now.partitions share.now.partition
-        superstep trace.now bundles.now (Some (old.now, old_bundles.now)) ids.now (not same_view)
-        vertex_pairs.items) }
+        AreFound P.Value.PartialEq.eq P.Message.PartialEq.eq (P.program program.now) missing (C.combining combiner.now)
+        share.now.partitions share.now.partition superstep trace.now bundles.now (Some (old.now, old_bundles.now))
+        ids.now
+        (not same_view) vertex_pairs.items) }
 {
     let refs = bundle_refs_of(alloc, bundles)?;
     let work_items = work_items(alloc, refs.as_slice(), ids, !same_view, combiner)?;
@@ -342,6 +343,8 @@ fn candidates_warm<P: Computation, C: MessageCombiner<P::Message>>(
     ensures old { IfOk result (λ vertex_pairs.
         AllByRecursion (λ c. IsFound (P.program program.now) missing (C.combining combiner.now) old.now superstep
         (map (λ b. b.now) old_bundles.now) c.id c.old) vertex_pairs.items) }
+    ensures values { IfOk result (λ vertex_pairs. AllByRecursion
+        (HaveValues P.Value.is_value P.Message.is_value) vertex_pairs.items) }
 {
     let mut states = trace.states();
     let mut old_states = old.states();
@@ -387,6 +390,7 @@ fn found<P: Computation, C: MessageCombiner<P::Message>>(
     ensures found { IfOk result
         (λ x. IsFound (P.program program.now) missing (C.combining combiner.now) states.old superstep
         (map (λ b. b.now) bundles.now) id x) }
+    ensures values { IfOk result (HasValues P.Value.is_value P.Message.is_value) }
     ensures same { states.new ≡ states.old }
 {
     let delivered = inbox(alloc, bundles, id, combiner)?;

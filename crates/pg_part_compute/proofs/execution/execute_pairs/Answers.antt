@@ -1,11 +1,10 @@
 use Rattle.std.proofs.Common.{◌≡◌, ℕ, ◌+◌, ◌<◌, ◌^◌, ◌++◌, cond, [], ◌∷◌, append_assoc, map, ap, ap₂, sym, ◌∙◌, subst, arith}
-use Rattle.std.specs.List.{AllByRecursion, count_by, flat_map}
+use Rattle.std.specs.List.{count_by, flat_map}
 use Rattle.pg_model.specs.Superstep.{capped}
 use Rattle.pg_model.specs.declared.view.View.{View}
-use Rattle.pg_part_compute.specs.Found.{IsEqSound, change_of, is_run}
+use Rattle.pg_part_compute.specs.Found.{change_of, is_run}
 use Rattle.std.proofs.lemmas.List.{map-append, nil_from_length}
 use Rattle.pg_part_routing.proofs.Listing.{all_yielded, count_by-push, flat_map-push, more_calls}
-use Rattle.pg_model.proofs.LawsLists.{all-append}
 use Rattle.pg_program.specs.Context.{ShowsDeclared}
 use Rattle.pg_part_compute.proofs.Playing.{capped_fits, capped_same}
 use Rattle.pg_part_compute.proofs.execution.execute_pairs.Goals as goal
@@ -28,8 +27,6 @@ loop-vertex_pair-preserved g c =
           ∙ ap₂ (λ m v. capped (m + cond (runs v one) 1 0)) now.meter now.view
           ∙ more_calls c.args.step_context.meter (count_by (runs c.args.step_context.view) before) (cond (runs c.args.step_context.view one) 1 0)
           ∙ ap (λ n. capped (c.args.step_context.meter + n)) (sym (count_by-push (runs c.args.step_context.view) before one));
-      eq_is_sound = all-append (IsEqSound g.P.Value.PartialEq.eq g.P.Message.PartialEq.eq c.args.same_view) before (one ∷ []) now.eq_is_sound
-          (step_delta.eq_is_sound, tt);
       whole =
           append_assoc before (one ∷ []) c.next.new.self.rest.items
           ∙ (ap (λ l. before ++ l) (sym c.in-Some.ensures.steps.0) ∙ now.whole);
@@ -49,7 +46,6 @@ returns g c =
           ∙ ap (flat_map (change_of value_eq message_eq program c.args.step_context.view c.args.same_view)) all;
       meter = c.into_step_delta.ensures.meter ∙ c.loop-vertex_pair.invariant.meter
           ∙ ap (λ l. capped (c.args.step_context.meter + count_by (is_run value_eq message_eq program c.args.step_context.view c.args.same_view) l)) all;
-      eq_is_sound = subst (AllByRecursion (IsEqSound value_eq message_eq c.args.same_view)) all c.loop-vertex_pair.invariant.eq_is_sound;
     }
 
 pub loop-vertex_pair-init : goal.loop-vertex_pair-init
@@ -58,7 +54,6 @@ loop-vertex_pair-init g c = record {
   changes = c.in_ok-executor.ensures.changes;
   view = c.in_ok-executor.ensures.view;
   ready = c.in_ok-executor.ensures.ready;
-  eq_is_sound = tt;
   meter = c.in_ok-executor.ensures.meter ∙ capped_same c.args.step_context.meter c.requires.fits;
   whole = c.into_iter-vertex_pair-iterator.ensures.into_iter_gives.0;
 }

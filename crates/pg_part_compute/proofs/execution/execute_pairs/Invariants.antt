@@ -1,7 +1,7 @@
 use Rattle.std.proofs.Common.{◌≡◌, ◌+◌, ◌++◌, map}
-use Rattle.std.specs.List.{AllByRecursion, count_by, flat_map}
+use Rattle.std.specs.List.{count_by, flat_map}
 use Rattle.pg_model.specs.Superstep.{capped}
-use Rattle.pg_part_compute.specs.Found.{IsEqSound, change_of, is_run}
+use Rattle.pg_part_compute.specs.Found.{change_of, is_run}
 use Rattle.pg_part_compute.specs.Executor.{IsReady, changes_of}
 use Rattle.pg_part_compute.proofs.execution.execute_pairs.Given as goal
 
@@ -15,6 +15,5 @@ invariant-loop-vertex_pair g l =
       ready : IsReady program.declared l.executor;
       meter : l.executor.cx.calls ≡ capped (l.fn.step_context.meter + count_by
           (is_run g.P.Value.PartialEq.eq g.P.Message.PartialEq.eq program l.fn.step_context.view l.same_view) l.yielded);
-      eq_is_sound : AllByRecursion (IsEqSound g.P.Value.PartialEq.eq g.P.Message.PartialEq.eq l.same_view) l.yielded;
       whole : l.yielded ++ l.vertex_pair-iterator.rest.items ≡ l.fn.vertex_pairs.items;
     }

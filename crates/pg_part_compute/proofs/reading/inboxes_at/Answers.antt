@@ -20,5 +20,5 @@ loop-id-preserved g c =
           ∙ ap (λ x. take c.loop-id.id-index c.args.ids.now ++ x ∷ []) (sym c.id-item.is))));
       delivered = subst (AllByRecursion (λ w. Delivers combining w.0 bundles w.1)) (sym pushed)
           (all-append (λ w. Delivers combining w.0 bundles w.1) c.loop-id.inboxes (one ∷ []) c.loop-id.invariant.delivered
-          (c.in_ok-inbox.ensures, tt));
+          (c.in_ok-inbox.ensures.delivers, tt));
     }

@@ -2,10 +2,11 @@ use Rattle.std.proofs.Common.{ℕ, ◌++◌, [], ◌∷◌, List, ◌<◌, ◌�
 use Rattle.std.specs.List.{AllByRecursion}
 use Rattle.std.proofs.lemmas.List.{map-append, take_all}
 use Rattle.std.specs.Map.{keys_of}
+use Rattle.pg_map.proofs.Filling.{all_pushed}
 use Rattle.pg_model.proofs.LawsLists.{all-append}
 use Rattle.pg_part_routing.proofs.Listing.{one_taken}
 use Rattle.pg_part_compute.specs.VertexPairs.{found_at}
-use Rattle.pg_part_compute.specs.Found.{IsFound, vertex_of}
+use Rattle.pg_part_compute.specs.Found.{HaveValues, IsFound, vertex_of}
 use Rattle.pg_trace.specs.Trace.{state_at}
 use Rattle.pg_part_compute.specs.declared.found.VertexPair.{VertexPair}
 use Rattle.pg_part_compute.proofs.vertex_pairs.candidates_warm.Goals as goal
@@ -30,7 +31,7 @@ loop-place-preserved g c =
       new =
           ap (map (λ x. x.new)) pushed ∙ (map-append (λ x. x.new) have (more ∷ []) ∙ (ap₂ ◌++◌ c.loop-place.invariant.new
           (ap (λ x. x ∷ []) (c.in_ok-new.ensures.found
-          ∙ ap (vertex_of program c.args.missing one.0 (state_at one.0 c.args.superstep c.loop-place.states)) c.in_ok-delivered.ensures
+          ∙ ap (vertex_of program c.args.missing one.0 (state_at one.0 c.args.superstep c.loop-place.states)) c.in_ok-delivered.ensures.same
           ∙ ap (λ t. found_at program c.args.missing c.args.superstep t one) c.loop-place.invariant.states))
           ∙ (sym (map-append (found_at program c.args.missing c.args.superstep c.args.trace.now) before (one ∷ []))
           ∙ ap (map (found_at program c.args.missing c.args.superstep c.args.trace.now)) next)));
@@ -41,6 +42,8 @@ loop-place-preserved g c =
                 (map (λ b. b.now) c.args.old_bundles.now) one.0 c.in_ok-old.old) c.loop-place.invariant.old_states c.in_ok-old.ensures.found,
             tt,
           ));
+      values = all_pushed (HaveValues g.P.Value.Plain.is_value g.P.Message.Plain.is_value) have c.loop-place.invariant.values pushed
+          (c.in_ok-old.ensures.values, c.in_ok-new.ensures.values);
       states = c.in_ok-new.ensures.same ∙ c.loop-place.invariant.states;
       old_states = c.in_ok-old.ensures.same ∙ c.loop-place.invariant.old_states;
     }

@@ -8,7 +8,7 @@ use Rattle.pg_model.specs.Job.{Program}
 use Rattle.pg_part_compute.specs.VertexPairs.{AreWorkItems, cold, found_at}
 use Rattle.pg_part_compute.specs.Found.{change_cold, change_of}
 use Rattle.pg_part_compute.specs.VertexCountsDeltas.{IsVertexCountsDelta}
-use Rattle.pg_part_compute.proofs.ReadVertices.{IfOk-four, none_taken_over}
+use Rattle.pg_part_compute.proofs.ReadVertices.{IfOk-four, eq_is_sound_of_none}
 use Rattle.pg_part_compute.proofs.VertexCountsDeltas.{if_some, vertex_counts_delta_are}
 use Rattle.pg_map.specs.Entries.{HasRisingIds}
 use Rattle.pg_part_routing.proofs.Beginning.{own_rise}
@@ -48,7 +48,7 @@ returns g c =
         new_are = map-map (λ x. x.new) found mine
             ∙ ap (map (found_at program c.args.missing c.args.superstep c.args.trace.now)) c.in_ok-work_items-2.ensures;
         warm_are = none;
-        eq_is_sound = none_taken_over value_eq message_eq (map found mine);
+        eq_is_sound = eq_is_sound_of_none value_eq message_eq (map found mine) none;
         dirty_ids_are = dirty_ids ∙ sym (map-map (λ x. x.id) found mine);
         changes_are = changes ∙ flat_map-map (change_cold program view) found mine
             ∙ sym (flat_map-map (change_of value_eq message_eq program view false) found mine);
