@@ -144,7 +144,6 @@ fn inboxes_of<M: Plain, C: MessageCombiner<M>>(
 }
 
 /// Inboxes with that of the first target of message lists by target, and how many message lists go to it.
-/// (`first_group` would give parts of the list of borrowed message lists, which the prover doesn't follow.)
 fn with_first<M: Plain, C: MessageCombiner<M>>(
     alloc: Global,
     inboxes: Inboxes<M>,
