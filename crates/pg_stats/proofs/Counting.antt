@@ -48,7 +48,7 @@ module _ {V : Type 0} where
 
   module _ {M : Type 0} (s : ℕ) (trace : Trace V M) where
     -- with the state of one id more, if it has one
-    pub among_push : (ids : List ℕ) (id : ℕ) (after : VertexCounts) → IsSum (vertex_counts_of (states_among s ids trace)) (vertex_counts_of (states_among s (id ∷ []) trace)) after
+    among_push : (ids : List ℕ) (id : ℕ) (after : VertexCounts) → IsSum (vertex_counts_of (states_among s ids trace)) (vertex_counts_of (states_among s (id ∷ []) trace)) after
         → after ≡ vertex_counts_of (states_among s (ids ++ id ∷ []) trace)
     among_push ids id after h =
         let more : states_among s (ids ++ id ∷ []) trace ≡ states_among s ids trace ++ states_among s (id ∷ []) trace =

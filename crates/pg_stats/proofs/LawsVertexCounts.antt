@@ -52,38 +52,22 @@ module _ {V : Type 0} where
         (λ id n. at_states w xs rise id ∙ (ap (weighed (λ (x : VertexState V). x.id) w) (same id n) ∙ sym (at_states w ys rise' id)))
         ∙ ap (λ n. sum_by w ys + n) (among ids w xs rise))
 
+    -- so each count of states that is such a sum
+    count_is : (count : VertexCounts → ℕ) (w : VertexState V → ℕ) → ((states : List (VertexState V)) → count (vertex_counts_of states) ≡ sum_by w states)
+        → (before removed added after : VertexCounts) → before ≡ vertex_counts_of xs → removed ≡ vertex_counts_of (some_of ids xs) → added ≡ vertex_counts_of (some_of ids ys)
+        → count after + count removed ≡ count before + count added → count after ≡ count (vertex_counts_of ys)
+    count_is count w is before removed added after b g c h =
+        omega (arith, h, ap count b, ap count g, ap count c, vertex_counts_delta w, is xs, is ys, is (some_of ids xs), is (some_of ids ys))
+
     -- the vertex counts of the one, without what the others have at these ids and with what it has there
     pub with_delta_is : (before removed added after : VertexCounts) → before ≡ vertex_counts_of xs → removed ≡ vertex_counts_of (some_of ids xs) → added ≡ vertex_counts_of (some_of ids ys)
         → HasCountDelta before removed added after → after ≡ vertex_counts_of ys
     with_delta_is before removed added after b g c h =
-        let v : after.vertices ≡ length ys = omega (
-          arith,
-          h.vertices,
-          ap (λ (x : VertexCounts). x.vertices) b,
-          ap (λ (x : VertexCounts). x.vertices) g,
-          ap (λ (x : VertexCounts). x.vertices) c,
-          vertex_counts_delta (λ x. 1),
-          length_is_sum xs,
-          length_is_sum ys,
-          length_is_sum (some_of ids xs),
-          length_is_sum (some_of ids ys),
-        ) in
-        let e : after.edges ≡ sum_by (λ (x : VertexState V). length x.edges) ys = omega (
-          arith,
-          h.edges,
-          ap (λ (x : VertexCounts). x.edges) b,
-          ap (λ (x : VertexCounts). x.edges) g,
-          ap (λ (x : VertexCounts). x.edges) c,
-          vertex_counts_delta (λ x. length x.edges),
-        ) in
-        let a : after.unhalted ≡ sum_by (λ (x : VertexState V). cond (not x.halted) 1 0) ys = omega (
-          arith,
-          h.unhalted,
-          ap (λ (x : VertexCounts). x.unhalted) b,
-          ap (λ (x : VertexCounts). x.unhalted) g,
-          ap (λ (x : VertexCounts). x.unhalted) c,
-          vertex_counts_delta (λ x. cond (not x.halted) 1 0),
-        ) in
+        let v : after.vertices ≡ length ys = count_is (λ x. x.vertices) (λ x. 1) length_is_sum before removed added after b g c h.vertices in
+        let e : after.edges ≡ sum_by (λ (x : VertexState V). length x.edges) ys =
+        count_is (λ x. x.edges) (λ x. length x.edges) (λ states. refl) before removed added after b g c h.edges in
+        let a : after.unhalted ≡ sum_by (λ (x : VertexState V). cond (not x.halted) 1 0) ys =
+        count_is (λ x. x.unhalted) (λ x. cond (not x.halted) 1 0) (λ states. refl) before removed added after b g c h.unhalted in
         λ i. record { vertices = v i; edges = e i; unhalted = a i }
 
   -- of two runs: the states before and after a superstep in the old one, and in the new one
@@ -120,6 +104,33 @@ module _ {V : Type 0} where
             swapped : (a b c d : ℕ) → a ≡ d → c ≡ b → a + b ≡ c + d
             swapped a b c d e f = omega (arith, e, f)
 
+    -- so each count of states that is such a sum
+    count_warm_is : (count : VertexCounts → ℕ) (w : VertexState V → ℕ) → ((states : List (VertexState V)) → count (vertex_counts_of states) ≡ sum_by w states)
+        → (before old_before old_after vertex_counts_delta old_vertex_counts_delta after : VertexCounts) → before ≡ vertex_counts_of new
+        → old_before ≡ vertex_counts_of old → old_after ≡ vertex_counts_of old'
+        → count vertex_counts_delta + count (vertex_counts_of (some_of ids new)) ≡ count before + count (vertex_counts_of (some_of ids new'))
+        → count old_vertex_counts_delta + count (vertex_counts_of (some_of ids old)) ≡ count old_before + count (vertex_counts_of (some_of ids old'))
+        → count after + count old_vertex_counts_delta ≡ count vertex_counts_delta + count old_after → count after ≡ count (vertex_counts_of new')
+    count_warm_is count w is before old_before old_after vertex_counts_delta old_vertex_counts_delta after b ob oa t ot h =
+        omega (
+          arith,
+          h,
+          t,
+          ot,
+          ap count b,
+          ap count ob,
+          ap count oa,
+          vertex_counts_delta_alike w,
+          is old,
+          is old',
+          is new,
+          is new',
+          is (some_of ids old),
+          is (some_of ids old'),
+          is (some_of ids new),
+          is (some_of ids new'),
+        )
+
     -- the vertex counts of the new run after it
     pub counted_warm_is : (before old_before old_after vertex_counts_delta old_vertex_counts_delta after : VertexCounts) → before ≡ vertex_counts_of new
         → old_before ≡ vertex_counts_of old → old_after ≡ vertex_counts_of old'
@@ -127,42 +138,10 @@ module _ {V : Type 0} where
         → HasCountDelta old_before (vertex_counts_of (some_of ids old)) (vertex_counts_of (some_of ids old')) old_vertex_counts_delta
         → HasCountDelta vertex_counts_delta old_vertex_counts_delta old_after after → after ≡ vertex_counts_of new'
     counted_warm_is before old_before old_after vertex_counts_delta old_vertex_counts_delta after b ob oa t ot h =
-        let v : after.vertices ≡ length new' = omega (
-          arith,
-          h.vertices,
-          t.vertices,
-          ot.vertices,
-          ap (λ (x : VertexCounts). x.vertices) b,
-          ap (λ (x : VertexCounts). x.vertices) ob,
-          ap (λ (x : VertexCounts). x.vertices) oa,
-          vertex_counts_delta_alike (λ x. 1),
-          length_is_sum old,
-          length_is_sum old',
-          length_is_sum new,
-          length_is_sum new',
-          length_is_sum (some_of ids old),
-          length_is_sum (some_of ids old'),
-          length_is_sum (some_of ids new),
-          length_is_sum (some_of ids new'),
-        ) in
-        let e : after.edges ≡ sum_by (λ (x : VertexState V). length x.edges) new' = omega (
-          arith,
-          h.edges,
-          t.edges,
-          ot.edges,
-          ap (λ (x : VertexCounts). x.edges) b,
-          ap (λ (x : VertexCounts). x.edges) ob,
-          ap (λ (x : VertexCounts). x.edges) oa,
-          vertex_counts_delta_alike (λ x. length x.edges),
-        ) in
-        let a : after.unhalted ≡ sum_by (λ (x : VertexState V). cond (not x.halted) 1 0) new' = omega (
-          arith,
-          h.unhalted,
-          t.unhalted,
-          ot.unhalted,
-          ap (λ (x : VertexCounts). x.unhalted) b,
-          ap (λ (x : VertexCounts). x.unhalted) ob,
-          ap (λ (x : VertexCounts). x.unhalted) oa,
-          vertex_counts_delta_alike (λ x. cond (not x.halted) 1 0),
-        ) in
+        let v : after.vertices ≡ length new' =
+        count_warm_is (λ x. x.vertices) (λ x. 1) length_is_sum before old_before old_after vertex_counts_delta old_vertex_counts_delta after b ob oa t.vertices ot.vertices h.vertices in
+        let e : after.edges ≡ sum_by (λ (x : VertexState V). length x.edges) new' =
+        count_warm_is (λ x. x.edges) (λ x. length x.edges) (λ states. refl) before old_before old_after vertex_counts_delta old_vertex_counts_delta after b ob oa t.edges ot.edges h.edges in
+        let a : after.unhalted ≡ sum_by (λ (x : VertexState V). cond (not x.halted) 1 0) new' =
+        count_warm_is (λ x. x.unhalted) (λ x. cond (not x.halted) 1 0) (λ states. refl) before old_before old_after vertex_counts_delta old_vertex_counts_delta after b ob oa t.unhalted ot.unhalted h.unhalted in
         λ i. record { vertices = v i; edges = e i; unhalted = a i }

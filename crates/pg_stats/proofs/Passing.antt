@@ -1,6 +1,6 @@
 -- The messages of more bundles.
 use Rattle.std.proofs.Common.{◌≡◌, ℕ, ◌+◌, ◌<◌, List, [], ◌∷◌, ◌++◌, get_or, map, refl, take, ap, ap₂, sym, ◌∙◌, sum_by, zero-add}
-use Rattle.std.proofs.Common.{Bool, true, false, cond, is_some, length, not, true≢false, Option, None, Some}
+use Rattle.std.proofs.Common.{Bool, true, false, cond, length, Option, None, Some}
 use Rattle.std.proofs.lemmas.List.{map-append}
 use Rattle.std.proofs.lemmas.List.Sums.{sum_by-cons, sum_by_push}
 use Rattle.pg_graph.specs.Rows.{Rows}
@@ -10,14 +10,13 @@ use Rattle.pg_inbox.specs.Bundles.{MessageLists, message_lists_in}
 use Rattle.pg_inbox.specs.Inboxes.{envelopes_at}
 use Rattle.pg_inbox.specs.LoggedBundle.{Slots, slot_at}
 use Rattle.std.specs.List.{range_with_len, slice_get}
-use Rattle.std.specs.Option.{option_copied, option_map}
+use Rattle.std.specs.Option.{option_map}
 use Rattle.std.proofs.lemmas.List.FromFn.{sum_by-map-range_with_len_more}
 use Rattle.pg_inbox.specs.Counting.{messages_where}
 use Rattle.pg_inbox.specs.declared.logs.LoggedBundle.{LoggedBundle}
 use Rattle.pg_stats.specs.MessageCounts.{IsWithBundle, bundle_at, dropped_of, is_any, is_no_vertex, messages_among, message_counts_of, vertex_counts_delta, vertex_counts_delta_at}
 use Rattle.pg_stats.proofs.Counting.{one_taken}
 use Rattle.pg_stats.specs.declared.stats.MessageCounts.{MessageCounts}
-use denote.Ref.{Bor}
 
 module _ {M : Type 0} (rows : Rows) where
   dropped_push : (missing : Missing) (bs : List (MessageLists M)) (b : MessageLists M)
@@ -55,13 +54,13 @@ module _ {M : Type 0} where
   among_push picks ids id message_lists = sum_by_push (λ k. cond (picks k) (length (envelopes_at k message_lists)) 0) ids id
 
   -- so a count of them goes on, by a cursor that is the bundle
-  pub among_more : (picks : ℕ → Bool) (ids : List ℕ) (i : ℕ) (message_lists : MessageLists M) {id : ℕ} {b : Bool} {before after : ℕ} {found : MessageLists M}
+  pub among_more : (picks : ℕ → Bool) (ids : List ℕ) (i : ℕ) (message_lists : MessageLists M) {id before after : ℕ} {found : MessageLists M}
       → i < length ids → id ≡ get_or ids i id → before ≡ messages_among picks (take i ids) message_lists → found ≡ message_lists
-      → after ≡ before + cond b (length (envelopes_at id found)) 0 → b ≡ picks id
+      → after ≡ before + cond (picks id) (length (envelopes_at id found)) 0
       → after ≡ messages_among picks (take (i + 1) ids) message_lists
-  among_more picks ids i message_lists {id} {b} {before} within is so_far near more changed_targets =
-      more ∙ ap (λ (ps : MessageLists M). before + cond b (length (envelopes_at id ps)) 0) near
-      ∙ ap₂ (λ (n : ℕ) (b : Bool). n + cond b (length (envelopes_at id message_lists)) 0) so_far changed_targets ∙ sym (among_push picks (take i ids) id message_lists)
+  among_more picks ids i message_lists {id} {before} within is so_far near more =
+      more ∙ ap (λ (ps : MessageLists M). before + cond (picks id) (length (envelopes_at id ps)) 0) near
+      ∙ ap (λ n. n + cond (picks id) (length (envelopes_at id message_lists)) 0) so_far ∙ sym (among_push picks (take i ids) id message_lists)
       ∙ ap (λ l. messages_among picks l message_lists) (one_taken ids i within is)
 
   -- the change at one receiver more
@@ -90,15 +89,3 @@ none_among M picks (id ∷ ids) =
     by : (b : Bool) → 0 ≡ cond {A = ℕ} b 0 0
     by true = refl
     by false = refl
-
--- a row is borrowed just where it is there
-module _ {X : Type 0} where
-  pub none_is : (o : Option (Bor X)) (b : Bool) {row : Option X} → option_copied o ≡ row → is_some o ≡ not b → b ≡ not (is_some row)
-  none_is None true row is = ap (λ r. not (is_some r)) row
-  none_is None false row is = absurd (true≢false (sym is))
-  none_is (Some x) true row is = absurd (true≢false is)
-  none_is (Some x) false row is = ap (λ r. not (is_some r)) row
-
-  pub some_is : (o : Option (Bor X)) (b : Bool) {row : Option X} → option_copied o ≡ row → b ≡ is_some o → b ≡ is_some row
-  some_is None b row is = is ∙ ap is_some row
-  some_is (Some x) b row is = is ∙ ap is_some row

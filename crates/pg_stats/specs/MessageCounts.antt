@@ -16,6 +16,8 @@ use Rattle.pg_inbox.specs.Counting.{messages_where}
 use Rattle.pg_inbox.specs.Inboxes.{envelopes_at}
 use Rattle.pg_inbox.specs.LoggedBundle.{Slots, slot_at}
 use Rattle.pg_inbox.specs.declared.logs.LoggedBundle.{LoggedBundle}
+use Rattle.pg_stats.specs.declared.messages.Counted.{Counted}
+use Rattle.pg_stats.specs.declared.messages.Counted.TheVariants.{All, NoVertices, Vertices}
 use Rattle.pg_stats.specs.declared.stats.MessageCounts.{MessageCounts}
 
 -- an id is no vertex of a graph
@@ -27,6 +29,12 @@ is_vertex rows id = is_some (row_at id rows)
 
 abbrev pub is_any : ℕ → Bool
 is_any id = true
+
+-- the targets that are counted
+abbrev pub is_counted : Counted → ℕ → Bool
+is_counted All = is_any
+is_counted (NoVertices rows) = is_no_vertex rows
+is_counted (Vertices rows) = is_vertex rows
 
 module _ {M : Type 0} where
   -- how many messages of bundles are dropped on a graph

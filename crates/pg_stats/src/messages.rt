@@ -4,12 +4,12 @@ ghost use Rattle.std.specs.Prelude.{◌≤◌, cond, ◌≡◌, ◌+◌, length,
 ghost use Rattle.std.specs.Option.{option_copied, option_map};
 ghost use Rattle.pg_inbox.specs.Bundles.{message_lists_in};
 ghost use Rattle.pg_stats.specs.MessageCounts.{HasMessageCountDelta, IsWithBundle, dropped_added, message_counts_of};
-ghost use Rattle.pg_stats.specs.MessageCounts.{dropped_removed, is_any, is_no_vertex, is_vertex};
-ghost use Rattle.pg_stats.specs.MessageCounts.{messages_among, sent_added, sent_removed, changed_targets_of};
+ghost use Rattle.pg_stats.specs.MessageCounts.{changed_targets_of, dropped_removed, is_counted, is_no_vertex};
+ghost use Rattle.pg_stats.specs.MessageCounts.{is_vertex, messages_among, sent_added, sent_removed};
 
 use crate::MessageCounts;
 use crate::vertices::with_count_delta;
-use pg_graph::{Graph, Memory, Missing, PartitionId, Superstep, VertexId};
+use pg_graph::{Cursor, Graph, Memory, Missing, PartitionId, Row, Superstep, VertexId};
 use pg_inbox::{Bundle, BundleCursor, LoggedBundle, Logs};
 use pg_program::Plain;
 use std::alloc::{AllocError, Global};
@@ -35,7 +35,7 @@ pub fn message_counts<M: Plain>(
     Ok(message_counts)
 }
 
-/// With the messages of one bundle more. No memory holds more than fit the counts.
+/// With the messages of one bundle more.
 fn with_bundle<M: Plain>(
     alloc: Global,
     message_counts: MessageCounts,
@@ -49,11 +49,20 @@ fn with_bundle<M: Plain>(
         Missing::Drop => bundle.undeliverable(alloc, graph)?,
         Missing::Create => 0,
     };
+    with_messages(message_counts, bundle.messages(alloc)?, dropped)
+}
+
+/// With so many messages more, sent and dropped. No memory holds more than fit the counts.
+pub(crate) fn with_messages(
+    message_counts: MessageCounts,
+    sent: u64,
+    dropped: u64,
+) -> Result<MessageCounts, Memory>
+    ensures sent { IfOk result (λ after. after.sent ≡ message_counts.sent + sent) }
+    ensures dropped { IfOk result (λ after. after.dropped ≡ message_counts.dropped + dropped) }
+{
     Ok(MessageCounts {
-        sent: message_counts
-            .sent
-            .checked_add(bundle.messages(alloc)?)
-            .ok_or(AllocError)?,
+        sent: message_counts.sent.checked_add(sent).ok_or(AllocError)?,
         dropped: message_counts
             .dropped
             .checked_add(dropped)
@@ -132,8 +141,8 @@ fn sent_count_delta<M: Plain>(
 {
     let changed_targets = changed_targets_of(new);
     Ok(CountDelta {
-        removed: messages_among(old, changed_targets)?,
-        added: messages_among(Some(&new.bundle), changed_targets)?,
+        removed: messages_among(old, changed_targets, Counted::All)?,
+        added: messages_among(Some(&new.bundle), changed_targets, Counted::All)?,
     })
 }
 
@@ -189,31 +198,7 @@ fn bundle_of<M: Plain>(logged: Option<&LoggedBundle<M>>) -> Option<&Bundle<M>>
     }
 }
 
-/// How many messages a bundle has to these ids. Costs a look-up in it for each, near the one before where they rise.
-fn messages_among<M: Plain>(bundle: Option<&Bundle<M>>, ids: &[VertexId]) -> Result<u64, Memory>
-    ensures { IfOk result
-        (λ count. count ≡ messages_among is_any ids.now (message_lists_in (option_copied bundle.entry))) }
-{
-    match bundle {
-        Some(bundle) => messages_to_each(bundle, ids),
-        None => Ok(0),
-    }
-}
-
-/// How many messages a bundle has to these ids.
-fn messages_to_each<M: Plain>(bundle: &Bundle<M>, ids: &[VertexId]) -> Result<u64, Memory>
-    ensures { IfOk result (λ count. count ≡ messages_among is_any ids.now bundle.now) }
-{
-    let mut cursor = bundle.cursor();
-    let mut count = 0u64;
-    for id in ids {
-        count = with_messages_to(count, &mut cursor, *id, true)?;
-    }
-    Ok(count)
-}
-
-/// How many it has to those of these ids that are no vertices of a graph. Costs a look-up in the graph for each, and
-/// one in the bundle for each that is counted, near the one before where they rise.
+/// How many messages a bundle has to those of these ids that are no vertices of a graph.
 fn undeliverable_among<M: Plain>(
     bundle: Option<&Bundle<M>>,
     ids: &[VertexId],
@@ -223,30 +208,10 @@ fn undeliverable_among<M: Plain>(
         (λ count. count ≡ messages_among (is_no_vertex graph.now) ids.now
         (message_lists_in (option_copied bundle.entry))) }
 {
-    match bundle {
-        Some(bundle) => undeliverable_to_each(bundle, ids, graph),
-        None => Ok(0),
-    }
+    messages_among(bundle, ids, Counted::NoVertices(graph.cursor()))
 }
 
-/// How many messages a bundle has to those of these ids that are no vertices.
-fn undeliverable_to_each<M: Plain>(
-    bundle: &Bundle<M>,
-    ids: &[VertexId],
-    graph: &Graph,
-) -> Result<u64, Memory>
-    ensures { IfOk result (λ count. count ≡ messages_among (is_no_vertex graph.now) ids.now bundle.now) }
-{
-    let mut rows = graph.cursor();
-    let mut cursor = bundle.cursor();
-    let mut count = 0u64;
-    for id in ids {
-        count = with_messages_to(count, &mut cursor, *id, rows.get(*id).is_none())?;
-    }
-    Ok(count)
-}
-
-/// How many it has to the others of them. Costs the same.
+/// How many it has to the others of them.
 fn arriving_among<M: Plain>(
     bundle: Option<&Bundle<M>>,
     ids: &[VertexId],
@@ -256,43 +221,83 @@ fn arriving_among<M: Plain>(
         (λ count. count ≡ messages_among (is_vertex graph.now) ids.now
         (message_lists_in (option_copied bundle.entry))) }
 {
+    messages_among(bundle, ids, Counted::Vertices(graph.cursor()))
+}
+
+/// Which targets of messages are counted.
+#[derive(Drop)]
+enum Counted<'a> {
+    /// All.
+    All,
+    /// Those that are no vertices of a graph.
+    NoVertices(Cursor<'a, Row>),
+    /// Those that are vertices of a graph.
+    Vertices(Cursor<'a, Row>),
+}
+
+impl<'a> Counted<'a> {
+    /// Whether a target is counted. Costs a look-up in the graph, if there is one.
+    fn has(&mut self, target: VertexId) -> bool
+        ensures counted { result ≡ is_counted self.old target }
+        ensures same { self.new ≡ self.old }
+    {
+        match self {
+            Counted::All => true,
+            Counted::NoVertices(rows) => rows.get(target).is_none(),
+            Counted::Vertices(rows) => rows.get(target).is_some(),
+        }
+    }
+}
+
+/// How many messages a bundle has to those of these ids that are counted. Costs a look-up in the graph for each, if
+/// there is one, and one in the bundle for each that is counted, near the one before where they rise.
+fn messages_among<M: Plain>(
+    bundle: Option<&Bundle<M>>,
+    ids: &[VertexId],
+    counted: Counted<'_>,
+) -> Result<u64, Memory>
+    ensures { IfOk result
+        (λ count. count ≡ messages_among (is_counted counted.entry) ids.now
+        (message_lists_in (option_copied bundle.entry))) }
+{
     match bundle {
-        Some(bundle) => arriving_to_each(bundle, ids, graph),
+        Some(bundle) => messages_to_each(bundle, ids, counted),
         None => Ok(0),
     }
 }
 
-/// How many messages a bundle has to those of these ids that are vertices.
-fn arriving_to_each<M: Plain>(
+/// How many messages a bundle has to those of these ids that are counted.
+fn messages_to_each<M: Plain>(
     bundle: &Bundle<M>,
     ids: &[VertexId],
-    graph: &Graph,
+    mut counted: Counted<'_>,
 ) -> Result<u64, Memory>
-    ensures { IfOk result (λ count. count ≡ messages_among (is_vertex graph.now) ids.now bundle.now) }
+    ensures { IfOk result (λ count. count ≡ messages_among (is_counted counted.entry) ids.now bundle.now) }
 {
-    let mut rows = graph.cursor();
     let mut cursor = bundle.cursor();
     let mut count = 0u64;
     for id in ids {
-        count = with_messages_to(count, &mut cursor, *id, rows.get(*id).is_some())?;
+        count = with_messages_to(count, &mut cursor, *id, &mut counted)?;
     }
     Ok(count)
 }
 
-/// A count with the messages to one id, where they are counted. No memory holds more than fit the count.
+/// A count with the messages to one target, if it is counted. No memory holds more than fit the count.
 fn with_messages_to<M: Plain>(
     count: u64,
     bundle: &mut BundleCursor<'_, M>,
-    id: VertexId,
-    counts: bool,
+    target: VertexId,
+    counted: &mut Counted<'_>,
 ) -> Result<u64, Memory>
-    ensures count { IfOk result (λ after. after ≡ count + cond counts (length (envelopes_at id bundle.old)) 0) }
+    ensures count { IfOk result
+        (λ after. after ≡ count + cond (is_counted counted.old target) (length (envelopes_at target bundle.old)) 0) }
     ensures same { bundle.new ≡ bundle.old }
+    ensures same_targets { counted.new ≡ counted.old }
 {
-    if !counts {
+    if !counted.has(target) {
         return Ok(count);
     }
     count
-        .checked_add(bundle.messages_to(id) as u64)
+        .checked_add(bundle.messages_to(target) as u64)
         .ok_or(AllocError)
 }

@@ -4,10 +4,10 @@ ghost use Rattle.std.specs.List.{count_by};
 ghost use Rattle.pg_stats.specs.MessageCounts.{IsWithSent, is_no_vertex, message_counts_recorded};
 
 use crate::MessageCounts;
+use crate::messages::with_messages;
 use pg_graph::{Graph, Memory, Missing, VertexId};
 use pg_program::Plain;
 use pg_trace::RecordRef;
-use std::alloc::AllocError;
 
 /// What these records send, and what of it is dropped. Costs O(1) a record, and where undeliverable messages are
 /// dropped a look-up of each target.
@@ -28,7 +28,7 @@ pub fn message_counts_recorded<V: Plain, M: Plain>(
     Ok(message_counts)
 }
 
-/// With these messages more. No memory holds more than fit the counts.
+/// With these messages more.
 fn with_sent<M>(
     message_counts: MessageCounts,
     sent: &[(VertexId, M)],
@@ -41,16 +41,7 @@ fn with_sent<M>(
         Missing::Drop => sent_to_no_vertex(sent, graph),
         Missing::Create => 0,
     };
-    Ok(MessageCounts {
-        sent: message_counts
-            .sent
-            .checked_add(sent.len() as u64)
-            .ok_or(AllocError)?,
-        dropped: message_counts
-            .dropped
-            .checked_add(dropped as u64)
-            .ok_or(AllocError)?,
-    })
+    with_messages(message_counts, sent.len() as u64, dropped as u64)
 }
 
 /// How many of these messages are sent to no vertex of a graph.

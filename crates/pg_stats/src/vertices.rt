@@ -1,5 +1,5 @@
 //! How many vertices there are, from how many there were.
-ghost use Rattle.std.specs.Prelude.{◌≡◌, ℕ, [], ◌∷◌, ◌+◌, cond, IfOk};
+ghost use Rattle.std.specs.Prelude.{◌≡◌, ℕ, ◌+◌, cond, IfOk};
 ghost use Rattle.std.specs.Option.{option_copied, option_to_list};
 ghost use Rattle.pg_stats.specs.VertexCounts.{HasCountDelta, IsSum, AddsToVertexCountsDelta, of_none, of_one};
 ghost use Rattle.pg_stats.specs.VertexCounts.{states_among};
@@ -9,7 +9,7 @@ use crate::VertexCounts;
 use pg_graph::{Memory, Superstep, VertexId};
 use pg_model::VertexState;
 use pg_program::Plain;
-use pg_trace::{RecordRef, StateCursor, StateRef, Trace};
+use pg_trace::{RecordRef, StateRef, Trace};
 use std::alloc::AllocError;
 
 /// The counts of these vertices.
@@ -35,7 +35,7 @@ pub fn vertex_counts_among<V: Plain, M: Plain>(
     let mut states = trace.states();
     let mut vertex_counts = no_vertices();
     for id in ids {
-        vertex_counts = with_vertex_at(vertex_counts, &mut states, superstep, *id)?;
+        vertex_counts = with_state(vertex_counts, &states.state_at(*id, superstep))?;
     }
     Ok(vertex_counts)
 }
@@ -170,27 +170,6 @@ fn with_state<V: Plain>(
     ensures { IfOk result (λ after. IsSum vertex_counts (vertex_counts_of (option_to_list state.now)) after) }
 {
     match state {
-        Some(state) => with_vertex(
-            vertex_counts,
-            state.edges().as_slice().len(),
-            state.halted(),
-        ),
-        None => Ok(vertex_counts),
-    }
-}
-
-/// With one vertex more, where it has a state.
-fn with_vertex_at<V: Plain, M: Plain>(
-    vertex_counts: VertexCounts,
-    states: &mut StateCursor<'_, V, M>,
-    superstep: Superstep,
-    id: VertexId,
-) -> Result<VertexCounts, Memory>
-    ensures sum { IfOk result
-        (λ after. IsSum vertex_counts (vertex_counts_of (states_among superstep (id ∷ []) states.old)) after) }
-    ensures same { states.new ≡ states.old }
-{
-    match states.state_at(id, superstep) {
         Some(state) => with_vertex(
             vertex_counts,
             state.edges().as_slice().len(),

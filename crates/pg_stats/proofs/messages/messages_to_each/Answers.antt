@@ -1,17 +1,20 @@
-use Rattle.std.proofs.Common.{true, refl, ap, ◌∙◌}
+use Rattle.std.proofs.Common.{◌+◌, ap, cond, length, ◌∙◌}
 use Rattle.std.proofs.lemmas.List.{take_all}
-use Rattle.pg_stats.specs.MessageCounts.{is_any, messages_among}
+use Rattle.pg_inbox.specs.Inboxes.{envelopes_at}
+use Rattle.pg_stats.specs.MessageCounts.{is_counted, messages_among}
 use Rattle.pg_stats.proofs.Passing.{among_more}
 use Rattle.pg_stats.proofs.messages.messages_to_each.Goals as goal
 
 pub loop-id-preserved : goal.loop-id-preserved
 loop-id-preserved g c = record {
+  same_targets = c.in_ok-count.ensures.same_targets ∙ c.loop-id.invariant.same_targets;
   cursor = c.in_ok-count.ensures.same ∙ c.loop-id.invariant.cursor;
-  counted = among_more is_any c.args.ids.now c.loop-id.id-index c.args.bundle.now {b = true} c.loop-id-test.true c.id-item.is
-      c.loop-id.invariant.counted c.loop-id.invariant.cursor c.in_ok-count.ensures.count refl;
+  counted = among_more (is_counted c.args.counted) c.args.ids.now c.loop-id.id-index c.args.bundle.now c.loop-id-test.true c.id-item.is
+      c.loop-id.invariant.counted c.loop-id.invariant.cursor
+      (c.in_ok-count.ensures.count ∙ ap (λ t. c.loop-id.count + cond (is_counted t c.id-item.result) (length (envelopes_at c.id-item.result c.loop-id.cursor)) 0) c.loop-id.invariant.same_targets);
 }
 
 pub returns : goal.returns
 returns g c =
-    c.loop-id.invariant.counted ∙ ap (λ ids. messages_among is_any ids c.args.bundle.now)
+    c.loop-id.invariant.counted ∙ ap (λ ids. messages_among (is_counted c.args.counted) ids c.args.bundle.now)
     (take_all c.loop-id.id-index c.args.ids.now c.loop-id-test.false)

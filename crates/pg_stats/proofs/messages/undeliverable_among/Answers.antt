@@ -1,9 +1,12 @@
-use Rattle.pg_stats.specs.MessageCounts.{is_no_vertex}
-use Rattle.pg_stats.proofs.Passing.{none_among}
+use Rattle.std.proofs.Common.{ap, ◌∙◌}
+use Rattle.std.proofs.lemmas.Result.{IfOk-weaker}
+use Rattle.std.specs.Option.{option_copied}
+use Rattle.pg_inbox.specs.Bundles.{message_lists_in}
+use Rattle.pg_stats.specs.MessageCounts.{is_no_vertex, messages_among}
 use Rattle.pg_stats.proofs.messages.undeliverable_among.Goals as goal
 
-pub returns-in-None : goal.returns-in-None
-returns-in-None g c = rw c.in-None.is (none_among g.row.M.Denot (is_no_vertex c.args.graph.now) c.args.ids.now)
-
-pub returns-in-Some : goal.returns-in-Some
-returns-in-Some g c = rw c.in-Some.is c.undeliverable_to_each.ensures
+pub returns : goal.returns
+returns g c =
+    IfOk-weaker c.messages_among.result _ _
+    (λ count is. is ∙ ap (λ rows. messages_among (is_no_vertex rows) c.args.ids.now (message_lists_in (option_copied c.args.bundle))) c.cursor.ensures)
+    c.messages_among.ensures
