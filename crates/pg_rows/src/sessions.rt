@@ -34,7 +34,9 @@ fn too_many_edits(rt: HostRuntime) -> Result<(), Fail> {
 
 // Each command that has a number, with a mark for it.
 const COMMANDS: &[u8] =
-    b"vertex #\nvertex 1 #\ninput # 1\ninput 1 #\nunvertex #\nedge # 1\nedge 1 #\nedge # 1 1\nedge 1 # 1\nedge 1 1 #\nreweigh # 1 1\nreweigh 1 # 1\nreweigh 1 1 #\nunedge # 1\nunedge 1 #\nget #\nimport list #\nimport csv #\n";
+    b"vertex #\nvertex 1 #\ninput # 1\ninput 1 #\nunvertex #\nedge # 1\nedge 1 #\nedge # 1 1\n\
+    edge 1 # 1\nedge 1 1 #\nreweigh # 1 1\nreweigh 1 # 1\nreweigh 1 1 #\nunedge # 1\nunedge 1 #\n\
+    get #\nimport list #\nimport csv #\n";
 
 // How many they are.
 const COMMANDS_COUNT: u64 = 18;
@@ -101,7 +103,10 @@ fn a_megabyte_of_zeros(rt: HostRuntime) -> Result<(), Fail> {
         &rt,
         alloc,
         input.as_slice(),
-        b"error 5 line 4\nedition 1\nrefreshed edition 1 supersteps 1 ending finished calls 1 losses 0\n{\"calls\":1,\"dropped\":0,\"edition\":1,\"ending\":\"finished\",\"losses\":0,\"sent\":0,\"supersteps\":1}\nvalue 7 9223372036854775807\n",
+        b"error 5 line 4\nedition 1\n\
+        refreshed edition 1 supersteps 1 ending finished calls 1 losses 0\n\
+        {\"calls\":1,\"dropped\":0,\"edition\":1,\"ending\":\"finished\",\"losses\":0,\"sent\":0,\"supersteps\":1}\n\
+        value 7 9223372036854775807\n",
         b"pregeld: line 4: no import while edits are pending, commit them first\n",
     );
     Ok(())

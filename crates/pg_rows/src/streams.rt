@@ -11,10 +11,15 @@ use std::thread::Threads;
 // A comment, a block of each form, refreshes, a fault of a line, an edit with its commit, each of the
 // questions, and the check.
 const INPUT: &[u8] =
-    b"dump\n# a list\nimport list 2\n1 2 5\n2 3\nrefresh\nimport csv 1\n3,1\nfly\nrefresh\ndump\nedge 1 3 2\nget 3\nagg reached\ncommit\nreport\ncheck\n";
+    b"dump\n# a list\nimport list 2\n1 2 5\n2 3\nrefresh\nimport csv 1\n3,1\nfly\nrefresh\ndump\n\
+    edge 1 3 2\nget 3\nagg reached\ncommit\nreport\ncheck\n";
 
 const OUTPUT: &[u8] =
-    b"unpublished\nedition 1\nrefreshed edition 1 supersteps 3 ending finished calls 5 losses 0\nedition 2\nerror 1 line 9\nrefreshed edition 2 supersteps 4 ending finished calls 3 losses 0\nvalue 1 0\nvalue 2 5\nvalue 3 6\nend 3\nvalue 3 6\naggregate reached 3\nedition 3\n{\"calls\":3,\"dropped\":0,\"edition\":2,\"ending\":\"finished\",\"losses\":0,\"sent\":3,\"supersteps\":4}\ncheck stale\n";
+    b"unpublished\nedition 1\nrefreshed edition 1 supersteps 3 ending finished calls 5 losses 0\n\
+    edition 2\nerror 1 line 9\nrefreshed edition 2 supersteps 4 ending finished calls 3 losses 0\n\
+    value 1 0\nvalue 2 5\nvalue 3 6\nend 3\nvalue 3 6\naggregate reached 3\nedition 3\n\
+    {\"calls\":3,\"dropped\":0,\"edition\":2,\"ending\":\"finished\",\"losses\":0,\"sent\":3,\"supersteps\":4}\n\
+    check stale\n";
 
 // Gives its text a byte a call, and fails at the nth call.
 #[derive(Drop)]

@@ -236,7 +236,8 @@ fn a_cold_partition_and_a_warm_one(rt: HostRuntime) -> Result<(), Fail> {
     );
     assert_eq!(rt;
         called_mixed(alloc, &more, &[4, 2], 1, none)?.as_str(),
-        "0:1 0:3 0:4 0:5 1:1 1:2 1:3 others 0 calls 7 1=(1 [30]) 2=(1 [40]) 3=(4 [10 20 40 50]) 4=(40 []) 5=(50 []) calls 7"
+        "0:1 0:3 0:4 0:5 1:1 1:2 1:3 others 0 calls 7 \
+        1=(1 [30]) 2=(1 [40]) 3=(4 [10 20 40 50]) 4=(40 []) 5=(50 []) calls 7"
     );
     assert_eq!(rt;
         called_mixed(alloc, &less, &[4, 3], 0, AnyCombiner::Sum)?.as_str(),
