@@ -28,6 +28,14 @@ module _ {V M : Type 0} (s : ℕ) where
           true_false : true ≡ false → ⊥
           true_false h = cc
 
+  -- with changed records of the superstep, the one after it can come next
+  pub next_within : (trace : Trace V M) (changes : List (ℕ × Option (Record V M))) {after : Trace V M} {next : ℕ} → s ≤ length trace.records
+      → after ≡ with_replaced s changes (reaching s trace) → next ≡ s + 1 → next ≤ length after.records
+  next_within trace changes within is next =
+      let reached = length-reaching trace within in
+      let long = ap (λ t. length t.records) is ∙ length-set (reaching s trace).records s (with_changes changes (records_of s (reaching s trace))) in
+      omega (arith, next, long, reached)
+
   -- the superstep that comes next has no records yet
   pub reaching_next : (trace : Trace V M) → length trace.records ≡ s → (records_of s (reaching s trace) ≡ []) × (length (reaching s trace).records ≡ s + 1)
   unfolding nothing

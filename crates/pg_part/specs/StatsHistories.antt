@@ -26,6 +26,15 @@ begun_with registry vertex_counts =
       gathered = gathered_afresh 0 (aggregators_of registry) [];
     }
 
+-- a history with stats more of which this holds, and else the same
+pub record HasMoreStats (IsNext : PartitionStats → Type 0) (before after : StatsHistory) : Type 0 where
+  pub graph_is : after.graph ≡ before.graph
+  pub member_changes_are : after.member_changes.items ≡ before.member_changes.items
+  pub old_stats_are : after.old_stats.items ≡ before.old_stats.items
+  pub next : PartitionStats
+  pub stats_are : after.stats.items ≡ before.stats.items ++ next ∷ []
+  pub is_next : IsNext next
+
 module _ {V M : Type 0} where
   -- vertex counts as superstep `to` begins in one trace, by those as `from` begins in another, where the others
   -- have the same states
@@ -101,25 +110,15 @@ module _ {V M : Type 0} where
         → slice_get old_stats (s + 1) ≡ Some old_after
         → IsStatsHistoryWarm registry rows member_changes old logs part_run s bundles before old_before old_after after
 
-  -- with the stats after superstep s, what was counted before it is this
-  pub record HasNextStats (registry : Registered) (old_logs : Option (Slots M)) (part_run : PartRunState V M) (s : ℕ)
-      (bundles : List (LoggedBundle M))
-      (before after : StatsHistory) : Type 0 where
-    pub graph_is : after.graph ≡ before.graph
-    pub member_changes_are : after.member_changes.items ≡ before.member_changes.items
-    pub old_stats_are : after.old_stats.items ≡ before.old_stats.items
-    pub next : PartitionStats
-    pub stats_are : after.stats.items ≡ before.stats.items ++ next ∷ []
-    pub is_next : IsNextStats registry before.graph before.member_changes.items before.stats.items
-        before.old_stats.items old_logs part_run s bundles next
+  -- with the stats after superstep s more
+  abbrev pub HasNextStats : Registered → Option (Slots M) → PartRunState V M → ℕ → List (LoggedBundle M) → StatsHistory
+      → StatsHistory → Type 0
+  HasNextStats registry old_logs part_run s bundles before after =
+      HasMoreStats (λ next. IsNextStats registry before.graph before.member_changes.items before.stats.items
+      before.old_stats.items old_logs part_run s bundles next) before after
 
   -- the same by the records of the superstep
-  pub record HasResumedStats (registry : Registered) (part_run : PartRunState V M) (s : ℕ)
-      (before after : StatsHistory) : Type 0 where
-    pub graph_is : after.graph ≡ before.graph
-    pub member_changes_are : after.member_changes.items ≡ before.member_changes.items
-    pub old_stats_are : after.old_stats.items ≡ before.old_stats.items
-    pub next : PartitionStats
-    pub stats_are : after.stats.items ≡ before.stats.items ++ next ∷ []
-    pub is_next : (earlier : PartitionStats) → slice_get before.stats.items s ≡ Some earlier
-        → IsStatsHistoryByRecords registry before.graph part_run s earlier next
+  abbrev pub HasResumedStats : Registered → PartRunState V M → ℕ → StatsHistory → StatsHistory → Type 0
+  HasResumedStats registry part_run s before after =
+      HasMoreStats (λ next. (earlier : PartitionStats) → slice_get before.stats.items s ≡ Some earlier
+      → IsStatsHistoryByRecords registry before.graph part_run s earlier next) before after

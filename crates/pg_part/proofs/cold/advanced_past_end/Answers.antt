@@ -1,24 +1,18 @@
-use Rattle.std.proofs.Common.{◌≡◌, ℕ, ◌+◌, ◌≤◌, length, ap, sym, IfSome, ◌∙◌, subst, subst₂, arith, false}
-use Rattle.std.proofs.lemmas.List.{length-set}
-use Rattle.pg_map.specs.Entries.{with_changes}
+use Rattle.std.proofs.Common.{◌≡◌, ℕ, ◌+◌, ap, sym, IfSome, ◌∙◌, subst, subst₂, arith, false}
 use Rattle.pg_part_compute.specs.VertexCountsDeltas.{IsVertexCountsDelta}
 use Rattle.pg_part_compute.proofs.VertexCountsDeltas.{if_some}
 use Rattle.pg_stats.specs.VertexCounts.{states_among}
 use Rattle.pg_stats.specs.Stats.{vertex_counts_of}
 use Rattle.pg_part.specs.Cold.{diverged_past_end, advanced_past_end}
 use Rattle.pg_part.specs.PartRun.{PartRunState}
-use Rattle.pg_part.proofs.RunStepping.{length-reaching}
-use Rattle.pg_trace.specs.Trace.{reaching, records_of}
+use Rattle.pg_part.proofs.RunStepping.{next_within}
 use Rattle.pg_part.proofs.cold.advanced_past_end.Goals as goal
 
 pub invariant_of-result : goal.invariant_of-result
 invariant_of-result g c =
     let place = c.part_run.inside.place in
-    let trace = reaching place c.part_run.inside.trace in
-    let reached = length-reaching place c.part_run.inside.trace c.part_run.invariant.0 in
-    let long = ap (λ t. length t.records) c.in_ok-trace.ensures ∙ length-set trace.records place (with_changes c.args.changes (records_of place trace)) in
     let next = c.new.ensures ∙ ap (λ k. k + 1) c.number.ensures in
-    let fact : c.new.result ≤ length c.in_ok-trace.trace.records = omega (arith, next, long, reached) in (
+    let fact = next_within place c.part_run.inside.trace c.args.changes c.part_run.invariant.0 c.in_ok-trace.ensures next in (
       fact,
       if_some c.args.vertex_counts_delta (λ t vertex_counts_delta. λ s later.
           let same : place ≡ s = omega (arith, later, next) in

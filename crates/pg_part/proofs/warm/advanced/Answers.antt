@@ -1,23 +1,18 @@
-use Rattle.std.proofs.Common.{◌≡◌, ◌+◌, ◌≤◌, ◌++◌, length, Some, ap, ◌∙◌, subst, subst₂, arith, true}
-use Rattle.std.proofs.lemmas.List.{length-set}
+use Rattle.std.proofs.Common.{◌≡◌, ◌+◌, ◌++◌, Some, ap, ◌∙◌, subst, subst₂, true}
 use Rattle.std.proofs.lemmas.Result.{IfOk-from_err}
-use Rattle.pg_map.specs.Entries.{with_changes}
 use Rattle.pg_model.specs.Superstep.{has_id}
 use Rattle.pg_part_compute.specs.Diverged.{AreEqSound, quiescent_among, live_among, without}
 use Rattle.pg_part.specs.PartRun.{PartRunState}
 use Rattle.pg_part.specs.Warm.{AreCompared, AreTheQuiescent, advanced}
-use Rattle.pg_part.proofs.RunStepping.{length-reaching}
-use Rattle.pg_trace.specs.Trace.{reaching, records_of, with_replaced}
+use Rattle.pg_part.proofs.RunStepping.{next_within}
+use Rattle.pg_trace.specs.Trace.{reaching, with_replaced}
 use Rattle.pg_part.proofs.warm.advanced.Goals as goal
 
 pub invariant_of-result : goal.invariant_of-result
 invariant_of-result g c =
     let place = c.part_run.inside.place in
-    let trace = reaching place c.part_run.inside.trace in
-    let reached = length-reaching place c.part_run.inside.trace c.part_run.invariant.0 in
-    let long = ap (λ t. length t.records) c.in_ok-trace.ensures ∙ length-set trace.records place (with_changes c.args.changes (records_of place trace)) in
     let next = c.new-place.ensures ∙ ap (λ k. k + 1) c.number.ensures in
-    let fact : c.new-place.result ≤ length c.in_ok-trace.trace.records = omega (arith, next, long, reached) in
+    let fact = next_within place c.part_run.inside.trace c.args.changes c.part_run.invariant.0 c.in_ok-trace.ensures next in
     (fact, tt)
 
 pub returns-clause-advanced : goal.returns-clause-advanced
