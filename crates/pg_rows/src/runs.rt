@@ -25,7 +25,7 @@ struct Ended {
 
 // What the program comes to with these words on these streams: its exit status, what is said of it, and how far its
 // session has come, if there was one.
-fn ended<H: Threads + Wait + Sync, R: BufRead, W: Write>(
+fn run_on<H: Threads + Wait + Sync, R: BufRead, W: Write>(
     rt: &H,
     alloc: Global,
     words: &[&str],
@@ -45,7 +45,7 @@ fn ended<H: Threads + Wait + Sync, R: BufRead, W: Write>(
 fn run<H: Threads + Wait + Sync>(rt: &H, alloc: Global, words: &[&str], input: &[u8]) -> Ended {
     let mut reader = input;
     let mut output = Vec::new(alloc);
-    let (status, errors, reached) = ended(rt, alloc, words, &mut reader, &mut output);
+    let (status, errors, reached) = run_on(rt, alloc, words, &mut reader, &mut output);
     Ended {
         status,
         output,
@@ -162,7 +162,7 @@ fn said<H: Threads + Wait + Sync, R: BufRead, W: Write>(
     writer: &mut W,
 ) -> (u8, Vec<u8>) {
     let words = ["pregeld", "--program", "sssp"];
-    let (status, errors, _) = ended(rt, alloc, words.as_slice(), reader, writer);
+    let (status, errors, _) = run_on(rt, alloc, words.as_slice(), reader, writer);
     (status, errors)
 }
 
@@ -284,7 +284,7 @@ fn reached_at_end<H: Wait>(rt: &H, service: ReadyService) -> Reached {
 }
 
 // A session of shortest paths on these streams: how it ends, and how far it has come.
-pub(crate) fn session<H: Threads + Wait + Sync, R: BufRead, W: Write>(
+pub(crate) fn session_on<H: Threads + Wait + Sync, R: BufRead, W: Write>(
     rt: &H,
     alloc: Global,
     reader: &mut R,
@@ -303,7 +303,7 @@ fn with_four_bytes<H: Threads + Wait + Sync>(
     let mut reader: &[u8] = TWO_HOPS;
     let mut room = [0_u8; 4];
     let mut writer = room.as_mut_slice();
-    session(rt, alloc, &mut reader, &mut writer)
+    session_on(rt, alloc, &mut reader, &mut writer)
 }
 
 #[test]

@@ -1,5 +1,5 @@
 // Sessions whose reader or writer fails in mid-stream.
-use crate::runs::{Reached, Session, session};
+use crate::runs::{Reached, Session, session_on};
 use pregeld::ServeFault;
 use std::alloc::Global;
 use std::io;
@@ -118,7 +118,7 @@ fn read_by<H: Threads + Wait + Sync, R: Read + Drop>(
 ) -> Result<Session, Fail> {
     let mut reader = BufReader::with_capacity(alloc, 16, inner)?;
     let mut written = Vec::new(alloc);
-    let (served, reached) = session(rt, alloc, &mut reader, &mut written)?;
+    let (served, reached) = session_on(rt, alloc, &mut reader, &mut written)?;
     Ok(Session {
         served,
         written,
@@ -200,7 +200,7 @@ fn with_broken_writer<H: Threads + Wait + Sync>(
         written: Vec::new(alloc),
         calls_left: calls,
     };
-    let (served, reached) = session(rt, alloc, &mut reader, &mut writer)?;
+    let (served, reached) = session_on(rt, alloc, &mut reader, &mut writer)?;
     Ok(Session {
         served,
         written: writer.written,

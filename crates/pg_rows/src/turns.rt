@@ -1,5 +1,5 @@
 // Each answer is written before the next line is read.
-use crate::runs::session;
+use crate::runs::session_on;
 use pregeld::ServeFault;
 use std::alloc::Global;
 use std::cell::Cell;
@@ -96,7 +96,7 @@ fn served_in_turns<H: Threads + Wait + Sync>(
         handed_on: &handed_on,
         flushes,
     };
-    let (ended, _) = session(rt, alloc, &mut reader, &mut writer)?;
+    let (ended, _) = session_on(rt, alloc, &mut reader, &mut writer)?;
     Ok((ended, handed_on.get()))
 }
 
