@@ -1,5 +1,5 @@
 // Which vertices a refresh calls, and how often, as the program itself counts.
-use crate::hops::{BRANCHES, Line, TWO_HOPS, accepted, master, program, refreshed, service_of};
+use crate::hops::{Line, TWO_HOPS, batch_of, limits_of, master, program, refreshed, service_of};
 use pg_global::{AnyCombiner, MasterCompute, MessageCombiner};
 use pg_graph::{Memory, VertexId};
 use pg_program::Computation;
@@ -10,7 +10,7 @@ use std::sync::atomic::{AtomicU64, Ordering};
 use std::sync::{Arc, Wait};
 use std::test::Fail;
 use std::thread::Threads;
-use tests_kit::{Heard, Listener, Moment, limits_of};
+use tests_kit::{Heard, Listener, Moment};
 
 // How many calls were made, and of which vertices: bit n is set where vertex n was called, for n below 64.
 #[derive(Drop)]
@@ -61,7 +61,9 @@ fn counted<
     board: &Board,
     lines: &[Line],
 ) -> Result<(String, u64, u64), Fail> {
-    accepted(alloc, service, lines)?;
+    service
+        .edit(alloc, &batch_of(alloc, lines)?)
+        .map_err(|_| "a batch that is refused")?;
     let reported = refreshed(rt, alloc, service)?;
     let calls = board.calls.swap(0, Ordering::SeqCst);
     Ok((reported, calls, board.called.swap(0, Ordering::SeqCst)))
@@ -136,11 +138,21 @@ fn those_are_called_whose_inputs_differ(rt: HostRuntime) -> Result<(), Fail> {
     Ok(())
 }
 
+const TWO_WAYS: [Line; 7] = [
+    Line::Vertex(1),
+    Line::Vertex(2),
+    Line::Vertex(3),
+    Line::Vertex(4),
+    Line::Edge(1, 2, 1),
+    Line::Edge(1, 3, 1),
+    Line::Edge(2, 4, 1),
+];
+
 // Vertex 3 has an edge more; vertex 4 hears of it, but what it is given is the same where the least is taken.
 #[test]
 fn what_is_combined_calls_nobody(rt: HostRuntime) -> Result<(), Fail> {
     let alloc = rt.alloc();
-    let batches: [&[Line]; 2] = [&BRANCHES, &[Line::Edge(3, 4, 5)]];
+    let batches: [&[Line]; 2] = [&TWO_WAYS, &[Line::Edge(3, 4, 5)]];
     for (partitions, workers) in [(1, 1), (3, 2)] {
         let limits = limits_of(partitions, workers, 0, 0)?;
         let least = paths_counted(&rt, alloc, limits, AnyCombiner::Min, &batches)?;

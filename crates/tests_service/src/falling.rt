@@ -1,5 +1,5 @@
 // Refreshes on workers that fall, with checkpoints. All was found by hand.
-use crate::hops::{Line, Paths, accepted, refreshed, told_on, two_hops};
+use crate::hops::{Line, Paths, accepted, limits_of, refreshed, told_on, two_hops};
 use crate::shelves::{NthShelf, ShortShelf};
 use pg_service::{Fate, Limits, MemShelf, NoFate, NoGate, Shelf};
 use std::alloc::Global;
@@ -7,7 +7,6 @@ use std::process::Abort;
 use std::sync::Wait;
 use std::test::Fail;
 use std::thread::Threads;
-use tests_kit::limits_of;
 use tests_rounds::{AllFall, Strike, Strikes};
 
 // Worker 1 of two falls after it has stepped partition 1 from superstep 1.

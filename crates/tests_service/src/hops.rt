@@ -5,7 +5,8 @@ use pg_global::{AnyCombiner, MasterCompute, MessageCombiner};
 use pg_graph::{Batch, Edit, EditKind, Graph, Memory};
 use pg_program::{Computation, Plain};
 use pg_service::{
-    Fate, Gate, Limits, MemShelf, NoFate, NoGate, RefreshFault, Report, Service, Shelf, same,
+    Cause, Fate, Gate, Limits, Loss, MemShelf, NoFate, NoGate, RefreshFault, Report, Service,
+    Shelf, same,
 };
 use pregeld_programs::{ReadyMaster, ReadyProgram, Sssp};
 use std::alloc::Global;
@@ -13,8 +14,7 @@ use std::fmt::Write;
 use std::sync::Wait;
 use std::test::Fail;
 use std::thread::Threads;
-use tests_kit::{id, limits_of, scratch};
-use tests_rounds::{tell_losses, tell_refusal};
+use tests_kit::{id, scratch};
 
 pub(crate) type Paths = Service<ReadyProgram, AnyCombiner, ReadyMaster>;
 
@@ -25,6 +25,16 @@ pub(crate) fn program() -> Result<ReadyProgram, Fail> {
 pub(crate) fn master() -> Result<ReadyMaster, Fail> {
     let program = program()?;
     Ok(ReadyMaster { program })
+}
+
+// So many partitions and workers; each partition is saved after so many supersteps, and so many losses are borne.
+pub(crate) fn limits_of(
+    partitions: u32,
+    workers: u32,
+    every: u32,
+    max_losses: u32,
+) -> Result<Limits, Fail> {
+    Ok(Limits::new(partitions, workers, 1_000, every, max_losses).ok_or("limits")?)
 }
 
 // A service of any program. It is ended by `close`.
@@ -78,7 +88,7 @@ fn edit_of(line: Line) -> Result<Edit, Fail> {
     }
 }
 
-fn batch_of(alloc: Global, lines: &[Line]) -> Result<Batch, Fail> {
+pub(crate) fn batch_of(alloc: Global, lines: &[Line]) -> Result<Batch, Fail> {
     let mut batch = Batch::new(alloc);
     for line in lines {
         batch.push(edit_of(*line)?)?;
@@ -86,27 +96,33 @@ fn batch_of(alloc: Global, lines: &[Line]) -> Result<Batch, Fail> {
     Ok(batch)
 }
 
-// The edition that a batch makes, or the place and the kind of its fault.
-pub(crate) fn commit<P: Computation, C: MessageCombiner<P::Message>, M: MasterCompute>(
+fn edit<P: Computation, C: MessageCombiner<P::Message>, M: MasterCompute>(
     alloc: Global,
     service: &mut Service<P, C, M>,
+    batch: &Batch,
+) -> Result<u64, (u64, EditKind)>
+    ensures { service.new.told ≡ service.old.told }
+{
+    match service.edit(alloc, batch) {
+        Ok(edition) => Ok(edition.number()),
+        Err(fault) => Err((fault.position, fault.kind)),
+    }
+}
+
+// The edition that a batch makes, or the place and the kind of its fault.
+pub(crate) fn commit(
+    alloc: Global,
+    service: &mut Paths,
     lines: &[Line],
 ) -> Result<Result<u64, (u64, EditKind)>, Fail>
     ensures { service.new.told ≡ service.old.told }
 {
     let batch = batch_of(alloc, lines)?;
-    match service.edit(alloc, &batch) {
-        Ok(edition) => Ok(Ok(edition.number())),
-        Err(fault) => Ok(Err((fault.position, fault.kind))),
-    }
+    Ok(edit(alloc, service, &batch))
 }
 
 // The edition that a batch makes which isn't to be refused.
-pub(crate) fn accepted<P: Computation, C: MessageCombiner<P::Message>, M: MasterCompute>(
-    alloc: Global,
-    service: &mut Service<P, C, M>,
-    lines: &[Line],
-) -> Result<u64, Fail>
+pub(crate) fn accepted(alloc: Global, service: &mut Paths, lines: &[Line]) -> Result<u64, Fail>
     ensures { service.new.told ≡ service.old.told }
 {
     match commit(alloc, service, lines)? {
@@ -123,17 +139,6 @@ pub(crate) const TWO_HOPS: [Line; 5] = [
     Line::Edge(2, 3, 1),
 ];
 
-// From 1 to 2 and 3, and from 2 to 4.
-pub(crate) const BRANCHES: [Line; 7] = [
-    Line::Vertex(1),
-    Line::Vertex(2),
-    Line::Vertex(3),
-    Line::Vertex(4),
-    Line::Edge(1, 2, 1),
-    Line::Edge(1, 3, 1),
-    Line::Edge(2, 4, 1),
-];
-
 // A service with the edges from 1 to 2, of weight 5, and from 2 to 3, of weight 1.
 pub(crate) fn two_hops<R: Wait>(rt: &R, alloc: Global, limits: Limits) -> Result<Paths, Fail> {
     let mut service = empty(rt, alloc, limits)?;
@@ -144,6 +149,24 @@ pub(crate) fn two_hops<R: Wait>(rt: &R, alloc: Global, limits: Limits) -> Result
             Err(fail)
         }
     }
+}
+
+// A worker that fell, the superstep in which it did, and why.
+fn tell_losses(text: &mut String, losses: &[Loss]) -> Result<(), Memory> {
+    write!(text, " losses")?;
+    for loss in losses {
+        let cause = match loss.cause {
+            Cause::Fate => "fate",
+            Cause::Memory => "memory",
+        };
+        write!(
+            text,
+            " ({} {} {cause})",
+            loss.worker.number(),
+            loss.superstep.number()
+        )?;
+    }
+    Ok(())
 }
 
 // What a report tells: calls of compute, supersteps, the steps of each partition where they aren't as many, and the
@@ -161,6 +184,17 @@ fn tell_report(text: &mut String, report: &Report) -> Result<(), Memory> {
         }
     }
     tell_losses(text, report.losses.as_slice())
+}
+
+// The number of a refusal, and the workers that fell where it tells them.
+fn tell_refusal(text: &mut String, fault: &RefreshFault) -> Result<(), Memory> {
+    write!(text, "refused {}", fault.number())?;
+    match fault {
+        RefreshFault::TooManyLosses(losses) => tell_losses(text, losses.as_slice()),
+        RefreshFault::NoWorkers(losses) => tell_losses(text, losses.as_slice()),
+        RefreshFault::Memory => Ok(()),
+        RefreshFault::Device => Ok(()),
+    }
 }
 
 // The report or the refusal of a refresh on workers that fall by this fate and pass this gate, with checkpoints on this
@@ -270,27 +304,6 @@ pub(crate) fn told_on<
     Ok(text)
 }
 
-// What a refresh tells so after a batch, with checkpoints in memory.
-pub(crate) fn told_after<
-    R: Threads + Wait + Sync,
-    P: Computation,
-    C: MessageCombiner<P::Message>,
-    M: MasterCompute,
-    F: Fate,
-    G: Gate,
->(
-    rt: &R,
-    alloc: Global,
-    service: &mut Service<P, C, M>,
-    lines: &[Line],
-    fate: &F,
-    gate: &G,
-) -> Result<String, Fail> {
-    accepted(alloc, service, lines)?;
-    let mut shelf = MemShelf::new(alloc);
-    told_on(rt, alloc, service, &mut shelf, fate, gate)
-}
-
 // What a refresh tells so after each of these batches, with no worker made to fall.
 fn told_after_each<R: Threads + Wait + Sync>(
     rt: &R,
@@ -300,7 +313,9 @@ fn told_after_each<R: Threads + Wait + Sync>(
 ) -> Result<String, Fail> {
     let mut text = String::new(alloc);
     for lines in batches {
-        let told = told_after(rt, alloc, service, lines, &NoFate, &NoGate)?;
+        accepted(alloc, service, lines)?;
+        let mut shelf = MemShelf::new(alloc);
+        let told = told_on(rt, alloc, service, &mut shelf, &NoFate, &NoGate)?;
         text.push_str(told.as_str())?;
     }
     Ok(text)

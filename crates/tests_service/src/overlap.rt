@@ -1,14 +1,14 @@
 // Workers of a refresh work at the same time: each of two waits for the other, at the gate or within compute.
-use crate::hops::{Line, empty, master, program, service_of, told_after};
+use crate::hops::{Line, batch_of, empty, limits_of, master, program, service_of, told_on};
 use pg_global::{AnyCombiner, MasterCompute, MessageCombiner};
 use pg_program::Computation;
-use pg_service::{Gate, NoFate, NoGate, Service};
+use pg_service::{Gate, MemShelf, NoFate, NoGate, Service};
 use std::alloc::Global;
 use std::process::Abort;
 use std::sync::{Arc, Wait};
 use std::test::Fail;
 use std::thread::Threads;
-use tests_kit::{Heard, limits_of};
+use tests_kit::Heard;
 use tests_rounds::{Meeting, Waiting};
 
 // What the first refresh of the vertices 1 and 2 tells. Nothing is kept before it, so its workers are threads.
@@ -19,8 +19,12 @@ fn refreshed_two<
     M: MasterCompute,
     G: Gate,
 >(rt: &R, alloc: Global, service: &mut Service<P, C, M>, gate: &G) -> Result<String, Fail> {
-    let lines = [Line::Vertex(1), Line::Vertex(2)];
-    told_after(rt, alloc, service, &lines, &NoFate, gate)
+    let batch = batch_of(alloc, &[Line::Vertex(1), Line::Vertex(2)])?;
+    service
+        .edit(alloc, &batch)
+        .map_err(|_| "a batch that is refused")?;
+    let mut shelf = MemShelf::new(alloc);
+    told_on(rt, alloc, service, &mut shelf, &NoFate, gate)
 }
 
 const TWO_VERTICES: &str = "calls 2 supersteps 1 losses; of 1: 1=0 2=9223372036854775807\n";

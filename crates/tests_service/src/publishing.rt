@@ -2,7 +2,7 @@
 ghost use Rattle.std.specs.Prelude.{◌≡◌, IfOk};
 
 use crate::gates::Watched;
-use crate::hops::{Line, Paths, accepted, empty, refreshed, two_hops};
+use crate::hops::{Line, Paths, accepted, empty, limits_of, refreshed, two_hops};
 use pg_global::{MasterCompute, MessageCombiner};
 use pg_graph::VertexId;
 use pg_model::Ending;
@@ -13,7 +13,6 @@ use std::process::Abort;
 use std::sync::Wait;
 use std::test::Fail;
 use std::thread::{Threads, join};
-use tests_kit::limits_of;
 use tests_rounds::AllFall;
 
 // What a look shows: the values of the vertices 1 to 3, and of the aggregates the one named `reached`.

@@ -1,6 +1,7 @@
 // What a service has published, against runs from scratch. All was found by hand.
 use crate::hops::{
-    Line, Paths, TWO_HOPS, accepted, commit, is_run_of, refreshed, told, told_on, two_hops,
+    Line, Paths, TWO_HOPS, accepted, commit, is_run_of, limits_of, refreshed, told, told_on,
+    two_hops,
 };
 use pg_graph::{EditKind, Missing};
 use pg_service::{MemShelf, NoFate, NoGate};
@@ -9,7 +10,6 @@ use std::process::Abort;
 use std::sync::Wait;
 use std::test::Fail;
 use std::thread::Threads;
-use tests_kit::limits_of;
 
 const SHORTCUT: [Line; 6] = [
     Line::Vertex(1),

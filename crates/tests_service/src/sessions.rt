@@ -16,9 +16,7 @@ use std::sync::Wait;
 use std::test::Fail;
 use std::thread::Threads;
 use tests_kit::{GraphSize, edit_if_lawful, id, random_edit, scratch};
-use tests_rounds::{
-    Calls, Findable, Simulated, Simulation, Table, Traces, losses_of, unlost, unlost_warm,
-};
+use tests_rounds::{Calls, Findable, Simulated, Simulation, Table, Traces, unlost, unlost_warm};
 
 // What is the same for all refreshes of a session.
 #[derive(Clone, Copy)]
@@ -50,12 +48,11 @@ fn reported(alloc: Global, report: &Report) -> Result<Simulated, Memory> {
 }
 
 fn refused(alloc: Global, fault: &RefreshFault) -> Result<Simulated, Memory> {
-    if matches!(fault, RefreshFault::Memory) {
-        return Err(AllocError);
-    }
-    let losses = match losses_of(fault) {
-        Some(losses) => plain_losses(alloc, losses)?,
-        None => Vec::new(alloc),
+    let losses = match fault {
+        RefreshFault::TooManyLosses(losses) => plain_losses(alloc, losses.as_slice())?,
+        RefreshFault::NoWorkers(losses) => plain_losses(alloc, losses.as_slice())?,
+        RefreshFault::Memory => return Err(AllocError),
+        RefreshFault::Device => Vec::new(alloc),
     };
     Ok(Simulated::Refused(fault.number(), losses))
 }

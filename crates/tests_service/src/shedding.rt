@@ -1,8 +1,8 @@
 // Refreshes of a program that takes edges away, and of shortest paths whose messages are combined, vertices
 // made, checkpoints counted. All was found by hand.
 use crate::hops::{
-    BRANCHES, Line, TWO_HOPS, master, program, refreshed, refreshed_on, service_of, told_after,
-    two_hops,
+    Line, TWO_HOPS, batch_of, limits_of, master, program, refreshed, refreshed_on, service_of,
+    told_on, two_hops,
 };
 use crate::shelves::NthShelf;
 use pg_global::{AnyCombiner, MasterCompute, MessageCombiner, NoMaster};
@@ -15,7 +15,6 @@ use std::process::Abort;
 use std::sync::Wait;
 use std::test::Fail;
 use std::thread::Threads;
-use tests_kit::limits_of;
 use tests_rounds::{Strike, Strikes};
 
 // Two are taken away, one of vertex 1 and one of vertex 2, and one is left.
@@ -27,6 +26,27 @@ const THREE_EDGES: [Line; 6] = [
     Line::Edge(1, 3, 1),
     Line::Edge(2, 3, 1),
 ];
+
+// What a refresh after a batch tells, with checkpoints in memory.
+fn told_after<
+    R: Threads + Wait + Sync,
+    P: Computation,
+    C: MessageCombiner<P::Message>,
+    M: MasterCompute,
+    F: Fate,
+>(
+    rt: &R,
+    alloc: Global,
+    service: &mut Service<P, C, M>,
+    lines: &[Line],
+    fate: &F,
+) -> Result<String, Fail> {
+    service
+        .edit(alloc, &batch_of(alloc, lines)?)
+        .map_err(|_| "a batch that is refused")?;
+    let mut shelf = MemShelf::new(alloc);
+    told_on(rt, alloc, service, &mut shelf, fate, &NoGate)
+}
 
 // What a first refresh tells where workers fall by this fate, and one after a further edge.
 fn told_twice<
@@ -43,8 +63,8 @@ fn told_twice<
     fate: &F,
     edge: Line,
 ) -> Result<(String, String), Fail> {
-    let first = told_after(rt, alloc, service, lines, fate, &NoGate)?;
-    let second = told_after(rt, alloc, service, &[edge], &NoFate, &NoGate)?;
+    let first = told_after(rt, alloc, service, lines, fate)?;
+    let second = told_after(rt, alloc, service, &[edge], &NoFate)?;
     Ok((first, second))
 }
 
@@ -101,6 +121,17 @@ fn edges_are_taken_away_after_a_loss(rt: HostRuntime) -> Result<(), Fail> {
     Ok(())
 }
 
+// From 1 to 2 and 3, and from 2 to 4.
+const BRANCHES: [Line; 7] = [
+    Line::Vertex(1),
+    Line::Vertex(2),
+    Line::Vertex(3),
+    Line::Vertex(4),
+    Line::Edge(1, 2, 1),
+    Line::Edge(1, 3, 1),
+    Line::Edge(2, 4, 1),
+];
+
 // What a first refresh of the branches tells by this combiner, and one after an edge from 3 to 4.
 fn combined<R: Threads + Wait + Sync>(
     rt: &R,
@@ -150,7 +181,7 @@ fn paths<R: Threads + Wait + Sync, F: Fate>(
 ) -> Result<String, Fail> {
     let none = AnyCombiner::NoCombiner;
     let mut service = service_of(rt, alloc, limits, program()?, none, master()?)?;
-    let reported = told_after(rt, alloc, &mut service, lines, fate, &NoGate);
+    let reported = told_after(rt, alloc, &mut service, lines, fate);
     service.close(rt);
     reported
 }
@@ -203,7 +234,7 @@ fn told_and_ended<
     alloc: Global,
     service: &mut Service<P, C, M>,
 ) -> Result<(String, (Ending, Option<i64>)), Fail> {
-    let reported = told_after(rt, alloc, service, &TWO_HOPS, &NoFate, &NoGate)?;
+    let reported = told_after(rt, alloc, service, &TWO_HOPS, &NoFate)?;
     Ok((reported, ending_of(service)?))
 }
 

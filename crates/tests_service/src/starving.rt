@@ -1,14 +1,16 @@
 // Refreshes whose workers want memory: one falls as a call of compute is refused it, and the others go on.
-use crate::hops::{Line, TWO_HOPS, accepted, master, program, refreshed, service_of, told_after};
+use crate::hops::{
+    Line, TWO_HOPS, batch_of, limits_of, master, program, refreshed, service_of, told_on,
+};
 use pg_global::{AnyCombiner, MasterCompute, MessageCombiner};
 use pg_program::Computation;
-use pg_service::{Limits, NoFate, NoGate, Service};
+use pg_service::{Limits, MemShelf, NoFate, NoGate, Service};
 use std::alloc::Global;
 use std::process::Abort;
 use std::sync::Wait;
 use std::test::Fail;
 use std::thread::Threads;
-use tests_kit::{Heard, Starving, limits_of};
+use tests_kit::{Heard, Starving};
 
 // What a first refresh of two hops tells, with what is published after it, and what the next one tells.
 fn refreshed_twice<
@@ -17,7 +19,18 @@ fn refreshed_twice<
     C: MessageCombiner<P::Message>,
     M: MasterCompute,
 >(rt: &R, alloc: Global, service: &mut Service<P, C, M>) -> Result<(String, String), Fail> {
-    let first = told_after(rt, alloc, service, &TWO_HOPS, &NoFate, &NoGate)?;
+    let batch = batch_of(alloc, &TWO_HOPS)?;
+    service
+        .edit(alloc, &batch)
+        .map_err(|_| "a batch that is refused")?;
+    let first = told_on(
+        rt,
+        alloc,
+        service,
+        &mut MemShelf::new(alloc),
+        &NoFate,
+        &NoGate,
+    )?;
     Ok((first, refreshed(rt, alloc, service)?))
 }
 
@@ -46,9 +59,13 @@ fn refreshed_thrice<
     C: MessageCombiner<P::Message>,
     M: MasterCompute,
 >(rt: &R, alloc: Global, service: &mut Service<P, C, M>) -> Result<[String; 3], Fail> {
-    accepted(alloc, service, &TWO_HOPS)?;
+    service
+        .edit(alloc, &batch_of(alloc, &TWO_HOPS)?)
+        .map_err(|_| "a batch that is refused")?;
     let first = refreshed(rt, alloc, service)?;
-    accepted(alloc, service, &[Line::Vertex(4)])?;
+    service
+        .edit(alloc, &batch_of(alloc, &[Line::Vertex(4)])?)
+        .map_err(|_| "a batch that is refused")?;
     let second = refreshed(rt, alloc, service)?;
     Ok([first, second, refreshed(rt, alloc, service)?])
 }
