@@ -7,7 +7,7 @@ use Rattle.std.proofs.lemmas.Bool.{cases_order, cond-true, cond-false, eq-eqb, n
 use Rattle.std.proofs.lemmas.List.{length_push}
 use Rattle.pg_core.specs.Progress.{HasPut}
 use Rattle.pg_inbox.specs.LoggedBundle.{Slots, is_pair, slot_at}
-use Rattle.pg_inbox.specs.declared.logs.LoggedBundle.{LoggedBundle}
+use Rattle.pg_inbox.specs.Handed.{LoggedBundle}
 
 pub slice_get_pushed : {X : Type 0} (xs : List X) (x : X) → slice_get (xs ++ x ∷ []) (length xs) ≡ Some x
 slice_get_pushed [] x = refl

@@ -6,7 +6,7 @@ use Rattle.std.proofs.lemmas.Bool.{and_cases, and_left, and_right, cases_eq, con
 use Rattle.pg_core.specs.Losing.{HasSentAgain, HasSentIn}
 use Rattle.pg_core.specs.Progress.{HasPut}
 use Rattle.pg_inbox.specs.LoggedBundle.{Slots, slot_at}
-use Rattle.pg_inbox.specs.declared.logs.LoggedBundle.{LoggedBundle}
+use Rattle.pg_inbox.specs.Handed.{LoggedBundle}
 use Rattle.pg_model.specs.Job.{Combining}
 use Rattle.pg_part.specs.Handed.{IsFresh, items_to, sends_by_records}
 use Rattle.pg_trace.specs.Trace.{Trace, records_of}

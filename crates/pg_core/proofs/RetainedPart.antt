@@ -13,7 +13,7 @@ use Rattle.pg_core_values.specs.Values.{HasEnded, HaveEnded, KeepsEnd, is_warm}
 use Rattle.pg_core.specs.declared.run_totals.RunTotals.{RunTotals}
 use Rattle.pg_graph.specs.Rows.{Rows}
 use Rattle.pg_inbox.specs.LoggedBundle.{Slots, slot_at}
-use Rattle.pg_inbox.specs.declared.logs.LoggedBundle.{LoggedBundle}
+use Rattle.pg_inbox.specs.Handed.{LoggedBundle}
 use Rattle.pg_model.specs.Job.{Job}
 use Rattle.pg_model.specs.Run.{answer, configuration, ending_after, run_length, values_of, visible_at}
 use Rattle.pg_model.specs.declared.run.Ending.{Ending}

@@ -22,10 +22,8 @@ use Rattle.pg_core_machine.proofs.LawsMachine.{Reaches-push, some_within}
 use Rattle.pg_core_machine.proofs.LawsSteps.{StepsFrom-from_allowed, length-places_lawful, place_after_other, place_after_own}
 use Rattle.pg_global.specs.Registry.{Registered}
 use Rattle.pg_graph.specs.Rows.{Rows}
-use Rattle.pg_inbox.specs.Bundles.{MessageLists, message_lists_in}
-use Rattle.pg_inbox.specs.Changed.{AreChanged}
+use Rattle.pg_inbox.specs.Handed.{AreChanged, LoggedBundle, MessageLists, message_lists_in}
 use Rattle.pg_inbox.specs.LoggedBundle.{Slots, slot_at}
-use Rattle.pg_inbox.specs.declared.logs.LoggedBundle.{LoggedBundle}
 use Rattle.pg_model.specs.Job.{Job}
 use Rattle.pg_model.specs.Run.{run_length, visible_at}
 use Rattle.pg_model.specs.declared.view.Declared.{Declared}

@@ -12,7 +12,7 @@ use Rattle.pg_global.specs.Master.{Master, has_places, job_of}
 use Rattle.pg_global.specs.Registry.{Registered}
 use Rattle.pg_graph.specs.Rows.{HasRisingIds, Rows}
 use Rattle.pg_inbox.specs.LoggedBundle.{Slots, slot_at}
-use Rattle.pg_inbox.specs.declared.logs.LoggedBundle.{LoggedBundle}
+use Rattle.pg_inbox.specs.Handed.{LoggedBundle}
 use Rattle.pg_model.specs.Job.{Combining, Job, Program}
 use Rattle.pg_model.specs.Run.{configuration, ending_after, run_length, visible_at}
 use Rattle.pg_model.specs.declared.configuration.Configuration.{Configuration}

@@ -4,7 +4,7 @@ use Rattle.std.proofs.Common.{length, take, get_or, refl, sym, ap, ap₂, ◌∙
 use Rattle.std.proofs.lemmas.Bool.{cases_Bool}
 use Rattle.std.proofs.lemmas.List.{take_more}
 use Rattle.pg_model.specs.Superstep.{has_id}
-use Rattle.pg_inbox.proofs.Differing.{has_id-append}
+use Rattle.pg_inbox_bundles.proofs.Differing.{has_id-append}
 
 pub or_false : (b : Bool) → (b || false) ≡ b
 or_false true = refl

@@ -1,6 +1,6 @@
 -- The bundles of lists of sends come to what the superstep delivers of all of them.
-use Rattle.std.proofs.Common.{◌≡◌, ℕ, ◌==◌, ◌≤◌, Bool, true, false, cond, List, [], ◌∷◌, ◌++◌, map, Option, None, Some, refl, sym, ap, ap₂}
-use Rattle.std.proofs.Common.{◌∙◌, subst, ◌||◌, All, IsPermutation, filter, flat_map, fold, is_some, length, arith, take, get_or, ◌+◌, ◌<◌}
+use Rattle.std.proofs.Common.{◌≡◌, ℕ, ◌==◌, Bool, true, false, cond, List, [], ◌∷◌, ◌++◌, map, Option, None, Some, refl, sym, ap, ap₂, ◌∙◌, subst, ◌||◌, All}
+use Rattle.std.proofs.Common.{IsPermutation, filter, flat_map, fold, is_some, length, arith, take, get_or, ◌+◌, ◌<◌}
 use Rattle.std.specs.List.{AllByRecursion, list_any}
 use Rattle.std.specs.Option.{option_to_list, option_map}
 use Rattle.std.proofs.lemmas.List.{append-nil, map-append, take_more}
@@ -12,10 +12,9 @@ use Rattle.std.specs.BTreeMap.{is_at}
 use Rattle.std.specs.Ordering.{nat_cmp}
 use Rattle.std.proofs.lemmas.Grind.{flat_map-append}
 use Rattle.pg_map.specs.Entries.{HasRisingIds, value_at}
-use Rattle.pg_map.proofs.Filling.{gathered_after}
 use Rattle.pg_map.proofs.Parts.{rises_after}
 use Rattle.pg_map.proofs.Rising.{none_past}
-use Rattle.pg_model.proofs.LawsByNumber.{IsUp, up-filter, up_from}
+use Rattle.pg_model.proofs.LawsByNumber.{IsUp}
 use Rattle.pg_model.proofs.LawsFolds.{fold-IsPermutation, fold_from}
 use Rattle.pg_model.proofs.LawsLists.{all-append, all_from_map, all_to_map}
 use Rattle.pg_model.specs.Folds.{IsCommutativeMonoid}
@@ -25,37 +24,20 @@ use Rattle.pg_global.specs.Combiner.{IsLawful}
 use Rattle.pg_inbox_messages.specs.Contents.{contents_of, messages, Holds}
 use Rattle.pg_inbox_messages.specs.Grouping.{AreGroups, any_of, items_to}
 use Rattle.pg_inbox_messages.specs.declared.message_list.Contents.{Contents}
-use Rattle.pg_inbox.specs.Bundles.{MessageLists, bundle_of}
-use Rattle.pg_inbox.specs.Holding.{HoldsAt}
-use Rattle.pg_inbox.specs.Ordered.{in_order}
-use Rattle.pg_inbox.specs.Inboxes.{AreInboxes, Delivers, contents_to, each_inbox, inboxes_of, is_receiver, envelopes_at, received_of}
-use Rattle.pg_inbox.specs.Outbox.{AreAllOf, RiseBySender, Outbox, envelopes_to, sent_by, without_senders}
+use Rattle.pg_inbox_bundles.specs.Bundles.{MessageLists, bundle_of, envelopes_at}
+use Rattle.pg_inbox_bundles.specs.Holding.{HoldsAt}
+use Rattle.pg_inbox_bundles.specs.Ordered.{in_order}
+use Rattle.pg_inbox.specs.Inboxes.{AreInboxes, Delivers, contents_to, each_inbox, inboxes_of, is_receiver, received_of}
+use Rattle.pg_inbox_bundles.specs.Outbox.{Outbox, envelopes_to, without_senders}
 use Rattle.pg_inbox.proofs.Among.{or_false}
-use Rattle.pg_inbox.proofs.Bundling.{at_id, rises-values, value_at-bundle_of, value_at-values}
-use Rattle.pg_inbox.proofs.Senders.{from, in_order-from, in_order-up, permutation_by_number, same_by_number}
-
-module _ {X Y Z : Type 0} where
-  pub flat_map-of_map : (f : Y → List Z) (g : X → Y) (xs : List X) → flat_map f (map g xs) ≡ flat_map (λ x. f (g x)) xs
-  flat_map-of_map f g [] = refl
-  flat_map-of_map f g (x ∷ xs) = ap (λ l. f (g x) ++ l) (flat_map-of_map f g xs)
-
-  -- a step of a loop that gathers what is made of a part of each element
-  pub gathered_parts : (g : X → Y) (f : Y → List Z) (start : List Z) (xs : List X) (i : ℕ) {x : X} {before after : List Z} → i < length xs
-      → x ≡ get_or xs i x → before ≡ start ++ flat_map f (map g (take i xs)) → after ≡ before ++ f (g x)
-      → after ≡ start ++ flat_map f (map g (take (i + 1) xs))
-  gathered_parts g f start xs i within is so_far pushed =
-      gathered_after (λ x. f (g x)) start xs i within is (so_far ∙ ap (λ l. start ++ l) (flat_map-of_map f g (take i xs))) pushed
-      ∙ ap (λ l. start ++ l) (sym (flat_map-of_map f g (take (i + 1) xs)))
+use Rattle.pg_inbox_bundles.proofs.Bundling.{at_id, rises-values, value_at-bundle_of, value_at-values}
+use Rattle.pg_inbox_bundles.proofs.Senders.{from, in_order-from, in_order-up, permutation_by_number, same_by_number}
+use Rattle.pg_inbox_bundles.proofs.ToTarget.{envelopes_at-bundle_of, flat_map-of_map, same_envelopes, up_envelopes}
 
 module _ {X Y : Type 0} where
   same_flat_map : (f g : X → List Y) → ((x : X) → f x ≡ g x) → (xs : List X) → flat_map f xs ≡ flat_map g xs
   same_flat_map f g same [] = refl
   same_flat_map f g same (x ∷ xs) = ap (λ l. l ++ flat_map f xs) (same x) ∙ ap (λ l. g x ++ l) (same_flat_map f g same xs)
-
-module _ {X Y : Type 0} where
-  pub list_any-of_map : (p : Y → Bool) (f : X → Y) (xs : List X) → list_any p (map f xs) ≡ list_any (λ x. p (f x)) xs
-  list_any-of_map p f [] = refl
-  list_any-of_map p f (x ∷ xs) = ap (λ b. p (f x) || b) (list_any-of_map p f xs)
 
 -- what the messages to a target in one bundle come to
 abbrev pub folded_at : {M : Type 0} → ℕ → MessageLists M → List M
@@ -64,54 +46,6 @@ folded_at id message_lists = elim (value_at id message_lists) [ None ↦ [] | So
 -- ---- the messages to one target
 
 module _ {M : Type 0} (id : ℕ) where
-  envelopes-from : (q : ℕ) (sent : Outbox M) → from q (envelopes_to id sent) ≡ envelopes_to id (sent_by q sent)
-  envelopes-from q [] = refl
-  envelopes-from q (s ∷ sent) = by (s.1 == id) (s.0 == q) refl refl (envelopes-from q sent)
-    where
-      envelope : ℕ × M
-      envelope = (s.0, s.2)
-
-      pairs : List (ℕ × ℕ × M) → List (ℕ × M)
-      pairs l = map (λ s. (s.0, s.2)) l
-
-      mine : List (ℕ × ℕ × M)
-      mine = filter (λ s. s.1 == id) sent
-
-      by : (a b : Bool) → (s.1 == id) ≡ a → (s.0 == q) ≡ b → from q (envelopes_to id sent) ≡ envelopes_to id (sent_by q sent)
-          → from q (pairs (cond a (s ∷ mine) mine)) ≡ envelopes_to id (cond b (s ∷ sent_by q sent) (sent_by q sent))
-      by true true e f h =
-          ap (λ b. cond b (envelope ∷ from q (envelopes_to id sent)) (from q (envelopes_to id sent))) f
-          ∙ (ap (λ l. envelope ∷ l) h
-          ∙ sym (ap (λ a. pairs (cond a (s ∷ filter (λ s. s.1 == id) (sent_by q sent)) (filter (λ s. s.1 == id) (sent_by q sent)))) e))
-      by true false e f h = ap (λ b. cond b (envelope ∷ from q (envelopes_to id sent)) (from q (envelopes_to id sent))) f ∙ h
-      by false true e f h = h ∙ sym (ap (λ a. pairs (cond a (s ∷ filter (λ s. s.1 == id) (sent_by q sent)) (filter (λ s. s.1 == id) (sent_by q sent)))) e)
-      by false false e f h = h
-
-  envelopes-append : (a b : Outbox M) → envelopes_to id (a ++ b) ≡ envelopes_to id a ++ envelopes_to id b
-  envelopes-append a b =
-      ap (map (λ (s : ℕ × ℕ × M). (s.0, s.2))) (filter-append (λ (s : ℕ × ℕ × M). s.1 == id) a b)
-      ∙ map-append (λ (s : ℕ × ℕ × M). (s.0, s.2)) (filter (λ s. s.1 == id) a) (filter (λ s. s.1 == id) b)
-
-  -- the messages of one sender are those of the lists
-  sender_in_lists : (q : ℕ) (lists : List (Outbox M)) → envelopes_to id (flat_map (sent_by q) lists) ≡ from q (flat_map (envelopes_to id) lists)
-  sender_in_lists q [] = refl
-  sender_in_lists q (l ∷ lists) =
-      envelopes-append (sent_by q l) (flat_map (sent_by q) lists)
-      ∙ (ap (λ x. x ++ envelopes_to id (flat_map (sent_by q) lists)) (sym (envelopes-from q l))
-      ∙ (ap (λ x. from q (envelopes_to id l) ++ x) (sender_in_lists q lists)
-      ∙ sym (filter-append (λ (x : ℕ × M). x.0 == q) (envelopes_to id l) (flat_map (envelopes_to id) lists))))
-
-  pub same_envelopes : (lists : List (Outbox M)) (all : Outbox M) → AreAllOf lists all → (q : ℕ)
-      → from q (envelopes_to id all) ≡ from q (flat_map (envelopes_to id) lists)
-  same_envelopes lists all are q = envelopes-from q all ∙ (ap (envelopes_to id) (are.same q) ∙ sender_in_lists q lists)
-
-  pairs_up : (l : Outbox M) → IsUp (λ (s : ℕ × ℕ × M). s.0) l → IsUp (λ (x : ℕ × M). x.0) (map (λ s. (s.0, s.2)) l)
-  pairs_up [] h = tt
-  pairs_up (s ∷ l) h = (all_to_map (λ s. (s.0, s.2)) (λ x. s.0 ≤ x.0) l h.0, pairs_up l h.1)
-
-  pub up_envelopes : (all : Outbox M) → RiseBySender all → IsUp (λ (x : ℕ × M). x.0) (envelopes_to id all)
-  up_envelopes all rise = pairs_up (filter (λ s. s.1 == id) all) (up-filter (λ s. s.0) (λ s. s.1 == id) all (up_from (λ s. s.0) all rise))
-
   messages-envelopes : (sent : Outbox M) → messages (envelopes_to id sent) ≡ messages_to id (without_senders sent)
   messages-envelopes [] = refl
   messages-envelopes (s ∷ sent) = by (s.1 == id) (messages-envelopes sent)
@@ -122,31 +56,19 @@ module _ {M : Type 0} (id : ℕ) where
       by true h = ap (λ l. s.2 ∷ l) h
       by false h = h
 
-  -- ---- in the bundles
-
-  any_envelopes : (combining : Option (Combining M)) (l : List (ℕ × M))
-      → elim (option_map (contents_of combining) (any_of l)) [ None ↦ [] | Some contents ↦ contents.envelopes ] ≡ l
-  any_envelopes combining [] = refl
-  any_envelopes combining (x ∷ l) = refl
-
-  pub envelopes_at-bundle_of : (combining : Option (Combining M)) (sent : Outbox M) → envelopes_at id (bundle_of combining sent) ≡ envelopes_to id sent
-  envelopes_at-bundle_of combining sent =
-      ap (λ (o : Option (Contents M)). elim o [ None ↦ [] | Some contents ↦ contents.envelopes ]) (value_at-bundle_of combining id sent)
-      ∙ any_envelopes combining (envelopes_to id sent)
-
   envelopes_in_bundles : (combining : Option (Combining M)) (bundles : List (MessageLists M)) (lists : List (Outbox M))
       → bundles ≡ map (bundle_of combining) lists → flat_map (envelopes_at id) bundles ≡ flat_map (envelopes_to id) lists
   envelopes_in_bundles combining bundles lists are =
       ap (flat_map (envelopes_at id)) are ∙ (flat_map-of_map (envelopes_at id) (bundle_of combining) lists
-      ∙ same_flat_map (λ l. envelopes_at id (bundle_of combining l)) (envelopes_to id) (envelopes_at-bundle_of combining) lists)
+      ∙ same_flat_map (λ l. envelopes_at id (bundle_of combining l)) (envelopes_to id) (envelopes_at-bundle_of id combining) lists)
 
   -- the messages of all bundles by sender, where they aren't combined
   pub delivers_in_order : (bundles : List (MessageLists M)) (sorted : List (ℕ × M)) → IsUp (λ x. x.0) sorted
       → ((q : ℕ) → from q sorted ≡ from q (flat_map (envelopes_at id) bundles)) → Delivers None id bundles (messages sorted)
   delivers_in_order bundles sorted up same lists all are of =
       let is : sorted ≡ envelopes_to id all =
-      same_by_number sorted (envelopes_to id all) up (up_envelopes all of.rise)
-      (λ q. same q ∙ (ap (from q) (envelopes_in_bundles None bundles lists are) ∙ sym (same_envelopes lists all of q))) in
+      same_by_number sorted (envelopes_to id all) up (up_envelopes id all of.rise)
+      (λ q. same q ∙ (ap (from q) (envelopes_in_bundles None bundles lists are) ∙ sym (same_envelopes id lists all of q))) in
       ap messages is ∙ messages-envelopes all
 
 -- ---- where they are combined

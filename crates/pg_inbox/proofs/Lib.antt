@@ -1,16 +1,10 @@
 pub mod Among
 pub mod AtPlaces
-pub mod Bundling
 pub mod Delivery
-pub mod Differing
+pub mod Handed
 pub mod Merged
-pub mod Merging
 pub mod Parting
-pub mod Replacing
 pub mod SameDelivery
-pub mod Senders
-pub mod Sending
-pub mod Sent
 pub mod Slots
 pub mod Taking
 pub mod Valued

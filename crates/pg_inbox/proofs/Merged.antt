@@ -19,14 +19,14 @@ use Rattle.pg_model.specs.Superstep.{is_empty}
 use Rattle.pg_inbox_messages.proofs.Grouping.{after_run, all_higher, any_of_some, others_after_run, run_is, run_later, some_not_empty}
 use Rattle.pg_inbox_messages.specs.Contents.{contents_of, messages}
 use Rattle.pg_inbox_messages.specs.Grouping.{any_of, items_to, run_len}
-use Rattle.pg_inbox.specs.Bundles.{MessageLists}
-use Rattle.pg_inbox.specs.Inboxes.{AreInboxes, Delivers, inbox_at, is_receiver, envelopes_at, envelopes_in}
+use Rattle.pg_inbox_bundles.specs.Bundles.{MessageLists, envelopes_at, envelopes_in}
+use Rattle.pg_inbox.specs.Inboxes.{AreInboxes, Delivers, inbox_at, is_receiver}
 use Rattle.pg_inbox.specs.Merged.{AreMerged, IsLowest, IsLowestOf, StandByTarget, StandFrom, all_to, inbox_by_sender, lists_after}
-use Rattle.pg_inbox.specs.Ordered.{in_order}
-use Rattle.pg_inbox.specs.Sound.{sent_message_lists}
+use Rattle.pg_inbox_bundles.specs.Ordered.{in_order}
+use Rattle.pg_inbox_bundles.specs.Sound.{sent_message_lists}
 use Rattle.pg_inbox.proofs.Delivery.{delivers_in_order}
-use Rattle.pg_inbox.proofs.Senders.{from, in_order-from, in_order-up}
-use Rattle.pg_inbox.proofs.Sent.{value_at_sent}
+use Rattle.pg_inbox_bundles.proofs.Senders.{from, in_order-from, in_order-up}
+use Rattle.pg_inbox_bundles.proofs.Sent.{value_at_sent}
 
 not_same : (a b : ℕ) → (a ≡ b → ⊥) → (a == b) ≡ false
 not_same a b h = grind (arith, nat_tests)

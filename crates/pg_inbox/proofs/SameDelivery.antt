@@ -1,59 +1,31 @@
--- Bundles that are the same at a target deliver the same to it; and what bundles hold as they are made.
+-- Bundles that are the same at a target deliver the same to it.
 use Rattle.std.proofs.Common.{◌≡◌, ℕ, List, [], ◌∷◌, ◌++◌, map, Option, None, Some, option_map, refl, sym, ap, ap₂, ◌∙◌, subst₂, flat_map}
-use Rattle.std.specs.BTreeMap.{insert_entry, is_at}
 use Rattle.std.specs.List.{AllByRecursion}
-use Rattle.std.specs.Map.{remove_entry, values_of}
-use Rattle.std.specs.Option.{IfSome, option_to_list}
-use Rattle.std.specs.Ordering.{nat_cmp}
-use Rattle.std.proofs.lemmas.List.Elements.{All-from_recursion}
-use Rattle.std.proofs.lemmas.Map.Views.{All-map-remove_entry, All-values-insert_entry, IfSome-lookup_from_All}
+use Rattle.std.specs.Option.{option_to_list}
 use Rattle.pg_global.specs.Combiner.{IsLawful}
-use Rattle.pg_map.specs.Entries.{value_at, with_changes}
+use Rattle.pg_map.specs.Entries.{value_at}
 use Rattle.pg_model.specs.Job.{Combining}
 use Rattle.pg_model.specs.Superstep.{combined}
-use Rattle.pg_inbox_messages.specs.Contents.{contents_of, messages, Holds}
+use Rattle.pg_inbox_messages.specs.Contents.{contents_of, messages}
 use Rattle.pg_inbox_messages.specs.Grouping.{any_of}
 use Rattle.pg_inbox_messages.specs.declared.message_list.Contents.{Contents}
 use Rattle.pg_inbox.specs.Alike.{AllSameAt, DeliverAlike}
-use Rattle.pg_inbox.specs.Bundles.{Entry, MessageLists, bundle_of, entries_in, entries_to}
-use Rattle.pg_inbox.specs.Holding.{HoldAll, HoldsAt}
-use Rattle.pg_inbox.specs.Inboxes.{contents_to, envelopes_at, received_of}
-use Rattle.pg_inbox.specs.Ordered.{in_order}
-use Rattle.pg_inbox.specs.Outbox.{Outbox, envelopes_to}
-use Rattle.pg_inbox.proofs.Bundling.{value_at-bundle_of}
-use Rattle.pg_inbox.proofs.Delivery.{delivers_received, folded_at, folded_of_all, envelopes_at-bundle_of, envelopes_of_all}
-use Rattle.pg_model.proofs.LawsLists.{all_to_map}
-use Rattle.pg_inbox.proofs.Differing.{envelope_of, envelopes_back}
-
--- ---- what is held
+use Rattle.pg_inbox_bundles.specs.Bundles.{Entry, MessageLists, bundle_of, entries_in, entries_to, envelopes_at}
+use Rattle.pg_inbox_bundles.specs.Holding.{HoldAll, HoldsAt}
+use Rattle.pg_inbox.specs.Inboxes.{contents_to, received_of}
+use Rattle.pg_inbox_bundles.specs.Ordered.{in_order}
+use Rattle.pg_inbox_bundles.specs.Outbox.{Outbox, envelopes_to}
+use Rattle.pg_inbox_bundles.proofs.Bundling.{value_at-bundle_of}
+use Rattle.pg_inbox_bundles.proofs.ToTarget.{envelopes_at-bundle_of}
+use Rattle.pg_inbox.proofs.Delivery.{delivers_received, envelopes_of_all, folded_at, folded_of_all}
+use Rattle.pg_inbox_bundles.proofs.Differing.{envelope_of, envelopes_back}
+use Rattle.pg_inbox_bundles.proofs.Held.{holds_at}
 
 module _ {M : Type 0} (is_value : M → Type 0) where
-  -- of each target
-  pub hold-all : (message_lists : MessageLists M) → AllByRecursion (λ e. Holds is_value e.1) message_lists → HoldAll is_value message_lists
-  hold-all message_lists hold = All-from_recursion (Holds is_value) (values_of message_lists) (all_to_map (λ e. e.1) (Holds is_value) message_lists hold)
-
-  -- after changes that hold
-  pub hold-changes : (changes : List (ℕ × Option (Contents M))) (old : MessageLists M) → AllByRecursion (λ c. HoldsAt is_value c.1) changes
-      → HoldAll is_value old → HoldAll is_value (with_changes changes old)
-  hold-changes [] old h before = before
-  hold-changes ((id, None) ∷ changes) old h before =
-      hold-changes changes (remove_entry (is_at (nat_cmp id)) old) h.1 (All-map-remove_entry (is_at (nat_cmp id)) (λ e. e.1) (Holds is_value) old before)
-  hold-changes ((id, Some contents) ∷ changes) old h before =
-      hold-changes changes (insert_entry nat_cmp old id contents) h.1 (All-values-insert_entry nat_cmp id contents (Holds is_value) old before h.0)
-
-  pub holds_at : (id : ℕ) (b : MessageLists M) → HoldAll is_value b → HoldsAt is_value (value_at id b)
-  holds_at id b h = by (value_at id b) (IfSome-lookup_from_All (Holds is_value) (is_at (nat_cmp id)) b h)
-    where
-      by : (o : Option (Contents M)) → IfSome o (Holds is_value) → HoldsAt is_value o
-      by None h = tt
-      by (Some c) h = h
-
   all_hold : (id : ℕ) (bundles : List (MessageLists M)) → AllByRecursion (HoldAll is_value) bundles
       → AllByRecursion (λ b. HoldsAt is_value (value_at id b)) bundles
   all_hold id [] h = tt
   all_hold id (b ∷ bundles) h = (holds_at id b h.0, all_hold id bundles h.1)
-
--- ---- what is seen of it tells what is delivered
 
 module _ {M : Type 0} (id : ℕ) where
   -- the messages that entries have, and with their senders

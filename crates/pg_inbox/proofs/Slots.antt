@@ -7,7 +7,7 @@ use Rattle.std.proofs.lemmas.List.{get_or_append_left, get_or_push, length-appen
 use Rattle.pg_model.proofs.LawsLists.{all-append, all_weaker}
 use Rattle.pg_inbox.specs.SparseVec.{value_in}
 use Rattle.pg_inbox.specs.SentRow.{AreBelow, IsLastAt, last_at, slot_in, slots_in}
-use Rattle.pg_inbox.specs.declared.logs.LoggedBundle.{LoggedBundle}
+use Rattle.pg_inbox_bundles.specs.declared.logged_bundle.LoggedBundle.{LoggedBundle}
 
 module _ {X : Type 0} where
   pub last_at-push : (number : ℕ) (es : List (ℕ × X)) (e : ℕ × X)

@@ -6,10 +6,10 @@ use Rattle.pg_map.specs.Entries.{value_at}
 use Rattle.pg_model.proofs.LawsLists.{all-append, all_to_map}
 use Rattle.pg_inbox_messages.specs.Contents.{Holds, messages}
 use Rattle.pg_inbox_messages.specs.declared.message_list.Contents.{Contents}
-use Rattle.pg_inbox.specs.Bundles.{MessageLists}
-use Rattle.pg_inbox.specs.Holding.{HoldsAt}
+use Rattle.pg_inbox_bundles.specs.Bundles.{MessageLists}
+use Rattle.pg_inbox_bundles.specs.Holding.{HoldsAt}
 use Rattle.pg_inbox.specs.Inboxes.{contents_to}
-use Rattle.pg_inbox.specs.Ordered.{in_order, put}
+use Rattle.pg_inbox_bundles.specs.Ordered.{in_order, put}
 
 module _ {X : Type 0} (P : ℕ × X → Type 0) where
   all_put : (x : ℕ × X) (ys : List (ℕ × X)) → P x → AllByRecursion P ys → AllByRecursion P (put x ys)

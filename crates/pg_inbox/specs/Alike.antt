@@ -2,9 +2,9 @@
 use Rattle.std.specs.Prelude.{◌≡◌, ℕ, List, [], ◌∷◌, map, Option}
 use Rattle.pg_model.specs.Job.{Combining}
 use Rattle.pg_model.specs.Superstep.{delivered}
-use Rattle.pg_inbox.specs.Bundles.{MessageLists, bundle_of}
-use Rattle.pg_inbox.specs.Changed.{AreSameAt}
-use Rattle.pg_inbox.specs.Outbox.{AreAllOf, Outbox, without_senders}
+use Rattle.pg_inbox_bundles.specs.Bundles.{MessageLists, bundle_of}
+use Rattle.pg_inbox_bundles.specs.Changed.{AreSameAt}
+use Rattle.pg_inbox_bundles.specs.Outbox.{AreAllOf, Outbox, without_senders}
 
 module _ {M : Type 0} where
   -- bundles that are the same at a target, one by one

@@ -7,19 +7,11 @@ use Rattle.pg_model.specs.Job.{Combining}
 use Rattle.pg_model.specs.Superstep.{combined, delivered}
 use Rattle.pg_inbox_messages.specs.Contents.{messages}
 use Rattle.pg_inbox_messages.specs.declared.message_list.Contents.{Contents}
-use Rattle.pg_inbox.specs.Bundles.{MessageLists, bundle_of}
-use Rattle.pg_inbox.specs.Ordered.{in_order}
-use Rattle.pg_inbox.specs.Outbox.{AreAllOf, Outbox, without_senders}
+use Rattle.pg_inbox_bundles.specs.Bundles.{MessageLists, bundle_of}
+use Rattle.pg_inbox_bundles.specs.Ordered.{in_order}
+use Rattle.pg_inbox_bundles.specs.Outbox.{AreAllOf, Outbox, without_senders}
 
 module _ {M : Type 0} where
-  -- the messages to a target, if there are any
-  abbrev pub envelopes_in : Option (Contents M) → List (ℕ × M)
-  envelopes_in contents = elim contents [ None ↦ [] | Some contents ↦ contents.envelopes ]
-
-  -- those in one bundle
-  abbrev pub envelopes_at : ℕ → MessageLists M → List (ℕ × M)
-  envelopes_at id message_lists = envelopes_in (value_at id message_lists)
-
   -- of whatever sends these are the bundles: what the superstep delivers of all of them
   abbrev pub Delivers : Option (Combining M) → ℕ → List (MessageLists M) → List M → Type 0
   Delivers combining id bundles inbox =

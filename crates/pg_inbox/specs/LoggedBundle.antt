@@ -1,7 +1,7 @@
 -- What a log has of each superstep and each pair of partitions.
 use Rattle.std.specs.Prelude.{ℕ, ◌==◌, ◌&&◌, Bool, List, Option}
 use Rattle.pg_inbox.specs.SparseVec.{inside, value_in}
-use Rattle.pg_inbox.specs.declared.logs.LoggedBundle.{LoggedBundle}
+use Rattle.pg_inbox_bundles.specs.declared.logged_bundle.LoggedBundle.{LoggedBundle}
 
 -- by superstep, and by the partition that receives
 abbrev pub Sent : Type 0 → Type 0

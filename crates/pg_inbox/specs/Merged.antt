@@ -7,7 +7,7 @@ use Rattle.pg_map.specs.Entries.{HasRisingIds, value_at}
 use Rattle.pg_model.specs.Superstep.{is_empty}
 use Rattle.pg_inbox_messages.specs.Contents.{messages}
 use Rattle.pg_inbox_messages.specs.Grouping.{any_of, items_to, run_len}
-use Rattle.pg_inbox.specs.Ordered.{in_order}
+use Rattle.pg_inbox_bundles.specs.Ordered.{in_order}
 
 module _ {X : Type 0} where
   -- what the lists have for a target, list by list

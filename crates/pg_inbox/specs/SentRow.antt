@@ -2,7 +2,7 @@
 use Rattle.std.specs.Prelude.{◌≡◌, ◌==◌, ◌<◌, ℕ, cond, List, [], ◌∷◌, length, map, get_or, Option, None, Some}
 use Rattle.std.specs.Prelude.{MatchOption}
 use Rattle.std.specs.List.{AllByRecursion, range_with_len}
-use Rattle.pg_inbox.specs.declared.logs.LoggedBundle.{LoggedBundle}
+use Rattle.pg_inbox_bundles.specs.declared.logged_bundle.LoggedBundle.{LoggedBundle}
 
 module _ {X : Type 0} where
   -- the last entry with a number

@@ -2,7 +2,7 @@
 ghost use Rattle.std.specs.Prelude.{◌≡◌, ◌++◌, ◌∷◌, ◌<◌, ◌≤◌, ℕ, List, [], drop, length, map, slice_index_or, IfOk};
 ghost use Rattle.std.specs.Prelude.{OnOk};
 ghost use Rattle.pg_inbox_messages.specs.Contents.{messages};
-ghost use Rattle.pg_inbox.specs.Ordered.{in_order};
+ghost use Rattle.pg_inbox_bundles.specs.Ordered.{in_order};
 
 use crate::receiving::add_by_sender;
 use pg_graph::{Memory, VertexId};

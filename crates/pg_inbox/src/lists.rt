@@ -1,13 +1,13 @@
 //! The inboxes of a superstep in whose bundles messages lie as they were sent: the lists are merged by target.
 ghost use Rattle.std.specs.Prelude.{◌≡◌, ◌++◌, [], map, IfOk, IfSome, OnOk};
 ghost use Rattle.std.specs.List.Sorted.{IsNonDecreasingBy};
-ghost use Rattle.std.specs.Prelude.{List, ℕ, ◌∷◌, Option};
+ghost use Rattle.std.specs.Prelude.{List, ℕ, ◌∷◌, Option, nat_lt};
 ghost use Rattle.pg_inbox.specs.Merged.{AreMerged, IsLowestOf, StandByTarget, StandFrom, all_to, lists_after};
-ghost use Rattle.pg_inbox.specs.Sound.{sent_message_lists};
+ghost use Rattle.pg_inbox_bundles.specs.Sound.{sent_message_lists};
 
-use crate::message_lists::is_below;
-use crate::{Bundle, Inboxes};
+use crate::Inboxes;
 use pg_graph::{Memory, VertexId};
+use pg_inbox_bundles::Bundle;
 use pg_inbox_messages::run_len;
 use pg_program::Plain;
 use std::alloc::Global;
@@ -87,6 +87,13 @@ fn lower<M>(lowest: Option<VertexId>, list: &[(VertexId, (VertexId, M))]) -> Opt
         Some(target) if is_below(target, first) => lowest,
         _ => Some(first),
     }
+}
+
+/// Whether an id is below another.
+fn is_below(id: VertexId, other: VertexId) -> bool
+    ensures { result ≡ nat_lt id other }
+{
+    id < other
 }
 
 /// Takes the envelopes to a target from the beginning of each list, where no list has a lower one.

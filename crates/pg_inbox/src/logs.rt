@@ -4,22 +4,13 @@ ghost use Rattle.std.specs.Option.{option_copied};
 ghost use Rattle.pg_inbox.specs.LoggedBundle.{is_pair, slot_at, slot_of};
 ghost use Rattle.pg_inbox.specs.SparseVec.{inside, value_in};
 
-use crate::Bundle;
 use crate::places::SparseVec;
 use crate::sent_row::SentRow;
-use pg_graph::{Memory, PartitionId, Superstep, VertexId};
-use pg_model::Sequence;
+use pg_graph::{Memory, PartitionId, Superstep};
+use pg_inbox_bundles::LoggedBundle;
 use pg_program::Plain;
 use std::alloc::Global;
 use std::marker::Model;
-
-/// A bundle of a run, and, where they are known, the targets at which it differs from that of the run before,
-/// by rising id.
-#[derive(Drop)]
-pub struct LoggedBundle<M: Plain> {
-    pub bundle: Bundle<M>,
-    pub changed: Option<Sequence<VertexId>>,
-}
 
 /// The bundles of a run, by superstep and by the partitions that sent and receive them.
 pub struct Logs<M: Plain> {

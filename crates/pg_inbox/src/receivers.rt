@@ -3,15 +3,16 @@ ghost use Rattle.std.specs.Prelude.{◌≡◌, ◌++◌, ◌<◌, ◌≤◌, dro
 ghost use Rattle.std.specs.List.{AllByRecursion, flat_map};
 ghost use Rattle.pg_map.specs.Entries.{HasRisingIds};
 ghost use Rattle.pg_inbox_messages.specs.Grouping.{groups_of};
-ghost use Rattle.pg_inbox.specs.Holding.{HoldAll};
+ghost use Rattle.pg_inbox_bundles.specs.Holding.{HoldAll};
 ghost use Rattle.pg_inbox.specs.Inboxes.{AreInboxes, each_inbox, inboxes_of};
-ghost use Rattle.pg_inbox.specs.Sound.{sent_message_lists};
+ghost use Rattle.pg_inbox_bundles.specs.Sound.{sent_message_lists};
 
+use crate::Inboxes;
 use crate::lists::{all_unchanged, inboxes_merged};
 use crate::receiving::received;
-use crate::{Bundle, Inboxes};
 use pg_global::MessageCombiner;
 use pg_graph::{Memory, VertexId};
+use pg_inbox_bundles::Bundle;
 use pg_inbox_messages::{MessageListRef, by_target, first_group, run_len};
 use pg_program::Plain;
 use std::alloc::Global;

@@ -6,13 +6,13 @@ ghost use Rattle.std.specs.Option.{option_to_list};
 ghost use Rattle.pg_map.specs.Entries.{value_at};
 ghost use Rattle.pg_model.specs.Superstep.{combined, has_id};
 ghost use Rattle.pg_inbox_messages.specs.Contents.{Holds, messages};
-ghost use Rattle.pg_inbox.specs.Holding.{HoldAll, HoldsAt};
+ghost use Rattle.pg_inbox_bundles.specs.Holding.{HoldAll, HoldsAt};
 ghost use Rattle.pg_inbox.specs.Inboxes.{Delivers, contents_to, folded_of, is_receiver, received_of};
-ghost use Rattle.pg_inbox.specs.Ordered.{in_order};
+ghost use Rattle.pg_inbox_bundles.specs.Ordered.{in_order};
 
-use crate::{Bundle, BundleCursor};
 use pg_global::MessageCombiner;
 use pg_graph::{Memory, VertexId};
+use pg_inbox_bundles::{Bundle, BundleCursor};
 use pg_inbox_messages::MessageListRef;
 use pg_program::Plain;
 use std::alloc::Global;

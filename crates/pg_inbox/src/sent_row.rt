@@ -5,8 +5,8 @@ ghost use Rattle.std.specs.Option.{option_copied};
 ghost use Rattle.pg_inbox.specs.SparseVec.{value_in};
 ghost use Rattle.pg_inbox.specs.SentRow.{AreNone, IsLastAt};
 
-use crate::{Bundle, LoggedBundle};
 use pg_graph::Memory;
+use pg_inbox_bundles::{Bundle, LoggedBundle};
 use pg_program::Plain;
 use std::alloc::Global;
 use std::marker::Model;
@@ -22,7 +22,7 @@ pub(crate) struct SentRow<M: Plain> {
 impl<M: Plain> Model for SentRow<M> {
     ghost use Rattle.std.specs.Prelude.{List, Option};
     ghost use Rattle.pg_inbox.specs.SentRow.{AreBelow, slots_in};
-    ghost use Rattle.pg_inbox.specs.declared.logs.LoggedBundle.{LoggedBundle};
+    ghost use Rattle.pg_inbox_bundles.specs.declared.logged_bundle.LoggedBundle.{LoggedBundle};
 
     ghost Value = { List (Option (LoggedBundle M)) };
 

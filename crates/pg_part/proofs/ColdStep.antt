@@ -7,9 +7,8 @@ use Rattle.std.specs.Ordering.{nat_cmp}
 use Rattle.std.proofs.lemmas.Bool.{cases_Bool, false_from_ne_true}
 use Rattle.std.proofs.lemmas.List.{length-set}
 use Rattle.pg_graph.specs.Rows.{Rows}
-use Rattle.pg_inbox.specs.Bundles.{MessageLists, bundle_of}
+use Rattle.pg_inbox.specs.Handed.{LoggedBundle, MessageLists, bundle_of}
 use Rattle.pg_inbox.specs.LoggedBundle.{Slots}
-use Rattle.pg_inbox.specs.declared.logs.LoggedBundle.{LoggedBundle}
 use Rattle.pg_map.specs.Entries.{ChangesRise, value_at, with_changes}
 use Rattle.pg_map.proofs.Changing.{unchanged_at}
 use Rattle.pg_model.specs.Job.{Combining, Inputs, Job, Program}

@@ -3,7 +3,7 @@ use Rattle.std.proofs.Common.{◌≡◌, ℕ, List, subst}
 use Rattle.pg_graph.specs.Rows.{Rows}
 use Rattle.pg_graph.specs.declared.missing.Missing.{Missing}
 use Rattle.pg_inbox.specs.LoggedBundle.{Slots}
-use Rattle.pg_inbox.specs.declared.logs.LoggedBundle.{LoggedBundle}
+use Rattle.pg_inbox.specs.Handed.{LoggedBundle}
 use Rattle.pg_part.specs.StatsHistories.{IsCountedWarm}
 use Rattle.pg_stats.specs.MessageCounts.{HasMessageCountDelta}
 use Rattle.pg_stats.specs.declared.stats.VertexCounts.{VertexCounts}

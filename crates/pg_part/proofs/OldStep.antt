@@ -7,8 +7,7 @@ use Rattle.std.specs.Ordering.{nat_cmp}
 use Rattle.std.proofs.lemmas.Bool.{cases_Bool, false_from_ne_true, true_from_ne_false}
 use Rattle.pg_graph.specs.Rows.{Rows}
 use Rattle.pg_inbox.specs.Alike.{AllSameAt, DeliverAlike}
-use Rattle.pg_inbox.specs.Bundles.{MessageLists}
-use Rattle.pg_inbox.specs.Changed.{AreSameAt}
+use Rattle.pg_inbox.specs.Handed.{AreSameAt, MessageLists}
 use Rattle.pg_inbox.specs.Inboxes.{Delivers}
 use Rattle.pg_inbox.specs.LoggedBundle.{Slots}
 use Rattle.pg_model.specs.Affected.{AreCandidates, HaveActive, IsSeenAgain, StandsAlike}

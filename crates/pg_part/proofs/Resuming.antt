@@ -8,8 +8,7 @@ use Rattle.pg_part.proofs.RunResuming.{resumed_holds, resumed_only}
 use Rattle.pg_part_compute.proofs.Coverage.{length_below, records_held}
 use Rattle.pg_global.specs.Registry.{Registered}
 use Rattle.pg_graph.specs.Rows.{Rows}
-use Rattle.pg_inbox.specs.Bundles.{bundle_of}
-use Rattle.pg_inbox.specs.declared.logs.LoggedBundle.{LoggedBundle}
+use Rattle.pg_inbox.specs.Handed.{LoggedBundle, bundle_of}
 use Rattle.pg_model.specs.Job.{Combining, Job}
 use Rattle.pg_model.specs.Run.{run_length}
 use Rattle.pg_model.specs.Share.{records_below, records_in}

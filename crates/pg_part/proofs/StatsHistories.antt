@@ -11,10 +11,9 @@ use Rattle.pg_part_compute.proofs.Coverage.{records_held}
 use Rattle.pg_part_compute.proofs.Recording.{records_rise}
 use Rattle.pg_global.specs.Registry.{Registered}
 use Rattle.pg_graph.specs.Rows.{Rows}
-use Rattle.pg_inbox.specs.Bundles.{MessageLists, message_lists_in}
+use Rattle.pg_inbox.specs.Handed.{LoggedBundle, MessageLists, message_lists_in}
 use Rattle.pg_inbox.specs.LoggedBundle.{Slots, slot_at}
-use Rattle.pg_inbox.specs.declared.logs.LoggedBundle.{LoggedBundle}
-use Rattle.pg_inbox.proofs.Bundling.{rises-bundle_of}
+use Rattle.pg_inbox.proofs.Handed.{rises-bundle_of}
 use Rattle.pg_map.specs.Entries.{value_at}
 use Rattle.pg_model.specs.ByIds.{state_at}
 use Rattle.pg_model.specs.Job.{Aggregating, Job}

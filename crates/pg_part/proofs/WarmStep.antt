@@ -8,11 +8,8 @@ use Rattle.std.proofs.lemmas.Bool.{cases_Bool, eqb-true}
 use Rattle.std.proofs.lemmas.List.{get_or-set_other, length-set}
 use Rattle.std.proofs.lemmas.Option.{none-some, same_Some}
 use Rattle.pg_graph.specs.Rows.{HasRisingIds, Rows}
-use Rattle.pg_inbox.specs.Bundles.{MessageLists}
+use Rattle.pg_inbox.specs.Handed.{AreAllOf, LoggedBundle, MessageLists, Outbox, TellsChanges, sent_by, staying}
 use Rattle.pg_inbox.specs.LoggedBundle.{Slots, slot_at}
-use Rattle.pg_inbox.specs.Patched.{TellsChanges, staying}
-use Rattle.pg_inbox.specs.Outbox.{AreAllOf, Outbox, sent_by}
-use Rattle.pg_inbox.specs.declared.logs.LoggedBundle.{LoggedBundle}
 use Rattle.pg_map.specs.Entries.{ChangesRise, value_at, with_changes}
 use Rattle.pg_map.proofs.Changing.{unchanged_at, value_at-with_changes}
 use Rattle.pg_model.specs.Affected.{IsUnaffected}

@@ -1,7 +1,7 @@
 -- What a step from scratch makes of a part run, by what it looked at.
 use Rattle.std.specs.Prelude.{◌≡◌, ℕ, ◌+◌, ◌<◌, ◌++◌, false, length, List, Option, None, Some}
 use Rattle.std.specs.List.{flat_map, slice_get}
-use Rattle.pg_inbox.specs.declared.logs.LoggedBundle.{LoggedBundle}
+use Rattle.pg_inbox.specs.Handed.{LoggedBundle}
 use Rattle.pg_model.specs.Job.{Combining}
 use Rattle.pg_model.specs.declared.record.Record.{Record}
 use Rattle.pg_part.specs.PartRun.{PartRunState}

@@ -3,7 +3,7 @@ use Rattle.std.specs.Prelude.{◌≡◌, ℕ, ◌+◌, Bool, List, map, Option, 
 use Rattle.std.specs.List.{range_with_len}
 use Rattle.pg_part.specs.PartRun.{HasStepped, PartRunState, Holds, IsWhole}
 use Rattle.pg_graph.specs.Rows.{Rows}
-use Rattle.pg_inbox.specs.declared.logs.LoggedBundle.{LoggedBundle}
+use Rattle.pg_inbox.specs.Handed.{LoggedBundle}
 use Rattle.pg_model.specs.Job.{Job}
 use Rattle.pg_model.specs.Run.{run_length}
 use Rattle.pg_stats.specs.MessageCounts.{AreMemberChanges}

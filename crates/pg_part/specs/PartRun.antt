@@ -8,8 +8,7 @@ use Rattle.std.specs.Ordering.{nat_cmp}
 use Rattle.pg_graph.specs.Rows.{Rows, row_at}
 use Rattle.pg_map.specs.Entries.{value_at}
 use Rattle.pg_graph.specs.declared.missing.Missing.{Missing}
-use Rattle.pg_inbox.specs.Patched.{TellsChanges}
-use Rattle.pg_inbox.specs.declared.logs.LoggedBundle.{LoggedBundle}
+use Rattle.pg_inbox.specs.Handed.{LoggedBundle, TellsChanges}
 use Rattle.pg_model.specs.ByIds.{state_at}
 use Rattle.pg_model.specs.Job.{Job}
 use Rattle.pg_model.specs.Needed.{needed_in}

@@ -6,7 +6,7 @@ use Rattle.pg_global.specs.Registry.{Registered}
 use Rattle.pg_graph.specs.Rows.{Rows}
 use Rattle.pg_part.specs.declared.stats_history.StatsHistory.{StatsHistory}
 use Rattle.pg_inbox.specs.LoggedBundle.{Slots}
-use Rattle.pg_inbox.specs.declared.logs.LoggedBundle.{LoggedBundle}
+use Rattle.pg_inbox.specs.Handed.{LoggedBundle}
 use Rattle.pg_trace.specs.Handed.{contributions_of}
 use Rattle.pg_stats.specs.VertexCounts.{HasCountDelta, states_among}
 use Rattle.pg_stats.specs.Contributed.{contributes_alike}

@@ -2,9 +2,8 @@
 use Rattle.std.specs.Prelude.{◌≡◌, ℕ, ◌+◌, ◌<◌, ◌++◌, not, true, length, Bool, List, Option, Some}
 use Rattle.std.specs.List.{flat_map, slice_get}
 use Rattle.pg_inbox.specs.Alike.{DeliverAlike}
-use Rattle.pg_inbox.specs.Bundles.{MessageLists}
+use Rattle.pg_inbox.specs.Handed.{LoggedBundle, MessageLists}
 use Rattle.pg_inbox.specs.LoggedBundle.{Slots, slot_at}
-use Rattle.pg_inbox.specs.declared.logs.LoggedBundle.{LoggedBundle}
 use Rattle.pg_model.specs.Job.{Combining, Program}
 use Rattle.pg_model.specs.declared.record.Record.{Record}
 use Rattle.pg_model.specs.declared.view.View.{View}

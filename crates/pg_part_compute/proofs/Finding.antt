@@ -5,7 +5,7 @@ use Rattle.pg_graph.specs.declared.missing.Missing.{Missing}
 use Rattle.pg_graph.specs.declared.missing.Missing.TheVariants.{Drop, Create}
 use Rattle.pg_inbox.specs.Inboxes.{Delivers}
 use Rattle.pg_inbox.specs.LoggedBundle.{Slots}
-use Rattle.pg_inbox.specs.Outbox.{AreAllOf}
+use Rattle.pg_inbox.specs.Handed.{AreAllOf}
 use Rattle.pg_model.specs.ByIds.{arriving, inbox_at, with_inbox_with, state_at as run_state_at}
 use Rattle.pg_model.specs.Job.{Combining, Job}
 use Rattle.pg_model.specs.Needed.{with_inbox_at}

@@ -1,7 +1,7 @@
 -- The ids that a step against an old run looks at.
 use Rattle.std.proofs.Common.{◌≡◌, ℕ, ◌||◌, ◌&&◌, Bool, true, false, List, ◌++◌, refl, sym, ap, ap₂, ◌∙◌, true≢false}
 use Rattle.pg_inbox.proofs.Among.{both}
-use Rattle.pg_inbox.proofs.Differing.{has_id-append}
+use Rattle.pg_inbox.proofs.Handed.{has_id-append}
 use Rattle.pg_model.proofs.LawsRising.{has_id-filter}
 use Rattle.std.specs.List.{filter}
 use Rattle.pg_model.specs.Superstep.{has_id}

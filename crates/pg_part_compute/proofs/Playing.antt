@@ -3,7 +3,7 @@ use Rattle.std.proofs.Common.{◌≡◌, ℕ, ◌+◌, ◌<◌, ◌^◌, Bool, L
 use Rattle.std.specs.List.Sorted.{IsStrictlySortedBy}
 use Rattle.std.specs.Ordering.{nat_cmp}
 use Rattle.pg_graph.specs.declared.missing.Missing.{Missing}
-use Rattle.pg_inbox.specs.Bundles.{MessageLists}
+use Rattle.pg_inbox.specs.Handed.{MessageLists}
 use Rattle.pg_map.specs.Entries.{ChangesRise}
 use Rattle.pg_model.specs.Job.{Combining, Program}
 use Rattle.pg_model.specs.Superstep.{capped}

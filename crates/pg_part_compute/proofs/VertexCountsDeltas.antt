@@ -11,7 +11,7 @@ use Rattle.std.proofs.lemmas.List.Folds.{flat_map-map}
 use Rattle.std.proofs.lemmas.Option.{same_Some}
 use Rattle.std.proofs.lemmas.Simd.{map-map}
 use Rattle.pg_graph.specs.declared.missing.Missing.{Missing}
-use Rattle.pg_inbox.proofs.Bundling.{all_from_lookups}
+use Rattle.pg_inbox.proofs.Handed.{all_from_lookups}
 use Rattle.pg_map.specs.Entries.{HasRisingIds, value_at, with_changes}
 use Rattle.pg_map.proofs.Changing.{value_at-with_changes}
 use Rattle.pg_model.specs.Job.{Program}

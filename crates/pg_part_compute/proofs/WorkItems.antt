@@ -6,9 +6,9 @@ use Rattle.std.specs.Map.{keys_of}
 use Rattle.std.specs.Option.{option_or}
 use Rattle.std.specs.Ordering.{nat_cmp}
 use Rattle.std.proofs.lemmas.Option.{none-some, same_Some}
-use Rattle.pg_inbox.specs.Bundles.{MessageLists}
+use Rattle.pg_inbox.specs.Handed.{MessageLists}
 use Rattle.pg_inbox.specs.Inboxes.{AreInboxes, Delivers}
-use Rattle.pg_inbox.proofs.Bundling.{all_from_lookups, rises-values, value_at-values}
+use Rattle.pg_inbox.proofs.Handed.{all_from_lookups, rises-values, value_at-values}
 use Rattle.pg_map.specs.Entries.{ChangesRise, HasRisingIds, value_at}
 use Rattle.pg_map.proofs.Changing.{rises-changes, value_at-with_changes}
 use Rattle.pg_map.proofs.Parts.{From, above_first, from_first, from_weaker}

@@ -5,7 +5,7 @@ use Rattle.std.specs.Cmp.Lexicographic.{pointwise}
 use Rattle.std.specs.List.{AllByRecursion}
 use Rattle.std.specs.Option.{option_and_then, option_map}
 use Rattle.pg_graph.specs.declared.missing.Missing.{Missing}
-use Rattle.pg_inbox.specs.Bundles.{MessageLists}
+use Rattle.pg_inbox.specs.Handed.{MessageLists}
 use Rattle.pg_inbox.specs.Inboxes.{Delivers}
 use Rattle.pg_model.specs.ByIds.{arriving, with_inbox_with}
 use Rattle.pg_model.specs.Job.{Combining, Inputs, Program}

@@ -5,7 +5,7 @@ use Rattle.std.specs.List.Sorted.{IsStrictlySortedBy}
 use Rattle.std.specs.Map.{keys_of}
 use Rattle.std.specs.Ordering.{nat_cmp}
 use Rattle.pg_graph.specs.declared.missing.Missing.{Missing}
-use Rattle.pg_inbox.specs.Bundles.{MessageLists}
+use Rattle.pg_inbox.specs.Handed.{MessageLists}
 use Rattle.pg_inbox.specs.Inboxes.{Delivers}
 use Rattle.pg_inbox.specs.LoggedBundle.{Slots, slot_at}
 use Rattle.pg_map.specs.Entries.{HasRisingIds}

@@ -2,7 +2,7 @@
 ghost use Rattle.std.specs.Prelude.{◌≡◌, ℕ, ◌+◌, ◌<◌, false, Option, IfOk, OnOk};
 ghost use Rattle.std.specs.List.{AllByRecursion};
 ghost use Rattle.std.specs.Option.{option_copied};
-ghost use Rattle.pg_inbox.specs.Holding.{HoldAll};
+ghost use Rattle.pg_inbox.specs.Handed.{HoldAll};
 ghost use Rattle.pg_inbox.specs.LoggedBundle.{slot_at};
 ghost use Rattle.pg_model.specs.Job.{Combining};
 ghost use Rattle.pg_model.specs.Superstep.{has_id};

@@ -10,11 +10,10 @@ use Rattle.std.proofs.lemmas.Bool.Decides.{nat_tests}
 use Rattle.std.proofs.lemmas.List.{append-nil}
 use Rattle.std.proofs.lemmas.List.Elements.{filter-append}
 use Rattle.pg_graph.specs.Rows.{HasRisingIds, Rows}
-use Rattle.pg_inbox.specs.Bundles.{bundle_of}
+use Rattle.pg_inbox.specs.Handed.{AreAllOf, Outbox, RiseBySender, bundle_of, sent_by, without_senders}
 use Rattle.pg_inbox.specs.Inboxes.{Delivers}
 use Rattle.pg_inbox.specs.LoggedBundle.{Slots, slot_at}
-use Rattle.pg_inbox.specs.Outbox.{AreAllOf, RiseBySender, Outbox, sent_by, without_senders}
-use Rattle.pg_inbox.proofs.Delivery.{flat_map-of_map}
+use Rattle.pg_inbox.proofs.Handed.{flat_map-of_map}
 use Rattle.pg_model.specs.ByIds.{delivered_at}
 use Rattle.pg_model.specs.Job.{Job, Program}
 use Rattle.pg_model.specs.Order.{Sending, sending_cmp, sendings, sendings_from}

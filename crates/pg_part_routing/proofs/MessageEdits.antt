@@ -1,7 +1,6 @@
 -- Bundles with messages replaced.
 use Rattle.std.proofs.Common.{◌≡◌, ℕ, List, Option, subst₂}
-use Rattle.pg_inbox.specs.Outbox.{Outbox}
-use Rattle.pg_inbox.specs.declared.logs.LoggedBundle.{LoggedBundle}
+use Rattle.pg_inbox.specs.Handed.{LoggedBundle, Outbox}
 use Rattle.pg_model.specs.Job.{Combining}
 use Rattle.pg_part_routing.specs.Sending.{IsRebuilt}
 

@@ -3,12 +3,11 @@ use Rattle.std.proofs.Common.{◌≡◌, ℕ, ◌+◌, ◌<◌, ◌%◌, arith, 
 use Rattle.std.specs.List.{AllByRecursion, slice_get}
 use Rattle.std.proofs.lemmas.List.{map-append}
 use Rattle.std.proofs.lemmas.List.Elements.{filter-append}
-use Rattle.pg_inbox.specs.declared.logs.LoggedBundle.{LoggedBundle}
+use Rattle.pg_inbox.specs.Handed.{LoggedBundle, as_send}
 use Rattle.pg_model.specs.Job.{Combining}
 use Rattle.pg_model.specs.Order.{Sending, sendings_from}
 use Rattle.pg_model.specs.Share.{belongs, sendings_of}
 use Rattle.pg_model.specs.declared.record.Record.{Record}
-use Rattle.pg_inbox.specs.Outbox.{as_send}
 use Rattle.pg_trace.specs.Handed.{messages_by}
 use Rattle.pg_part_routing.specs.Routes.{as_sends}
 use Rattle.pg_part_routing.specs.Sending.{IsFresh, items_to, sends_by_records, sends_of}

@@ -9,8 +9,7 @@ use Rattle.std.proofs.lemmas.Bool.{eq-eqb, eqb-true, or_left, or_right}
 use Rattle.std.proofs.lemmas.List.{append-nil}
 use Rattle.std.proofs.lemmas.List.Elements.{filter-append}
 use Rattle.std.proofs.lemmas.Option.{none-some}
-use Rattle.pg_inbox.specs.Patched.{is_retracted, staying}
-use Rattle.pg_inbox.specs.Outbox.{Outbox, sent_by}
+use Rattle.pg_inbox.specs.Handed.{Outbox, is_retracted, sent_by, staying}
 use Rattle.pg_map.specs.Entries.{ChangesRise, value_at, HasRisingIds as Rises, somes}
 use Rattle.pg_map.proofs.Parts.{rises_after}
 use Rattle.pg_map.proofs.Rising.{none_past}

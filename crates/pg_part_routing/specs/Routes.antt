@@ -3,11 +3,9 @@ use Rattle.std.specs.Prelude.{◌≡◌, ℕ, zero, suc, ◌+◌, ◌<◌, List,
 use Rattle.std.specs.List.{flat_map, range_with_len}
 use Rattle.std.specs.Option.{option_map, option_to_list}
 use Rattle.pg_graph.specs.Rows.{Rows}
-use Rattle.pg_inbox.specs.Bundles.{MessageLists, bundle_of, message_lists_in}
-use Rattle.pg_inbox.specs.Changed.{AreChanged, AreSameAt}
+use Rattle.pg_inbox.specs.Handed.{AreChanged, AreSameAt, LoggedBundle, MessageLists, Outbox, bundle_of}
+use Rattle.pg_inbox.specs.Handed.{message_lists_in}
 use Rattle.pg_inbox.specs.LoggedBundle.{Slots, slot_at}
-use Rattle.pg_inbox.specs.Outbox.{Outbox}
-use Rattle.pg_inbox.specs.declared.logs.LoggedBundle.{LoggedBundle}
 use Rattle.pg_model.specs.Job.{Job}
 use Rattle.pg_model.specs.Order.{Sending}
 use Rattle.pg_model.specs.Share.{sent_to}

@@ -1,10 +1,7 @@
 -- What a step sends, and what of the old run it retracts, by the changes of records; and what records send.
 use Rattle.std.specs.Prelude.{◌≡◌, ℕ, ◌<◌, List, [], ◌++◌, map, slice_index_or, Option, None, Some}
 use Rattle.std.specs.List.{filter, flat_map}
-use Rattle.pg_inbox.specs.Bundles.{bundle_of}
-use Rattle.pg_inbox.specs.Patched.{IsPatched, TellsChanges}
-use Rattle.pg_inbox.specs.Outbox.{Outbox}
-use Rattle.pg_inbox.specs.declared.logs.LoggedBundle.{LoggedBundle}
+use Rattle.pg_inbox.specs.Handed.{IsPatched, LoggedBundle, Outbox, TellsChanges, bundle_of}
 use Rattle.pg_model.specs.Job.{Combining}
 use Rattle.pg_model.specs.Share.{belongs}
 use Rattle.pg_model.specs.declared.record.Record.{Record}

@@ -1,7 +1,7 @@
 //! The bundles that a partition receives.
 ghost use Rattle.std.specs.Prelude.{◌≡◌, IfOk};
 ghost use Rattle.std.specs.List.{AllByRecursion};
-ghost use Rattle.pg_inbox.specs.Holding.{HoldAll};
+ghost use Rattle.pg_inbox.specs.Handed.{HoldAll};
 ghost use Rattle.pg_part_routing.specs.Routes.{bundles_at, bundles_before};
 
 use crate::Partitioner;

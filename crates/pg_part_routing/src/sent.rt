@@ -32,7 +32,7 @@ impl<M: Plain> Drop for Sent<M> {
 
 impl<M: Plain> Model for Sent<M> {
     ghost use Rattle.std.specs.Prelude.{◌<◌, ◌≤◌, List, length};
-    ghost use Rattle.pg_inbox.specs.declared.logs.LoggedBundle.{LoggedBundle};
+    ghost use Rattle.pg_inbox.specs.Handed.{LoggedBundle};
 
     ghost Value = { List (LoggedBundle M) };
 

@@ -10,14 +10,9 @@ use Rattle.std.proofs.lemmas.List.Sums.{sum_by-cons}
 use Rattle.pg_graph.specs.Rows.{Rows}
 use Rattle.pg_graph.specs.declared.missing.Missing.{Missing}
 use Rattle.pg_graph.specs.declared.missing.Missing.TheVariants.{Drop, Create}
-use Rattle.pg_inbox.specs.Handed.{Contents}
-use Rattle.pg_inbox.specs.Bundles.{Entry, MessageLists, entries_in, entries_of, entries_to, each_entry}
-use Rattle.pg_inbox.specs.Changed.{AreChanged}
-use Rattle.pg_inbox.specs.Counting.{messages_where}
-use Rattle.pg_inbox.specs.Inboxes.{envelopes_at, envelopes_in}
+use Rattle.pg_inbox.specs.Handed.{AreChanged, Contents, Entry, LoggedBundle, MessageLists, TellsChanges, each_entry, entries_in, entries_of, entries_to}
+use Rattle.pg_inbox.specs.Handed.{envelopes_at, envelopes_in, messages_where}
 use Rattle.pg_inbox.specs.LoggedBundle.{Slots, slot_at}
-use Rattle.pg_inbox.specs.Patched.{TellsChanges}
-use Rattle.pg_inbox.specs.declared.logs.LoggedBundle.{LoggedBundle}
 use Rattle.pg_map.specs.Entries.{HasRisingIds, value_at}
 use Rattle.pg_model.proofs.LawsPresent.{at_key}
 use Rattle.pg_model.specs.Superstep.{has_id}

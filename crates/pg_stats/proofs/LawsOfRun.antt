@@ -13,12 +13,8 @@ use Rattle.std.proofs.lemmas.List.Sums.{length-filter, sum_by-cons}
 use Rattle.pg_graph.specs.Rows.{HasRisingIds as RowsRise, Rows, row_at}
 use Rattle.pg_graph.specs.declared.missing.Missing.{Missing}
 use Rattle.pg_graph.specs.declared.missing.Missing.TheVariants.{Drop, Create}
-use Rattle.pg_inbox.specs.Handed.{Contents}
-use Rattle.pg_inbox.specs.Bundles.{MessageLists, bundle_of}
-use Rattle.pg_inbox.specs.Counting.{messages_where}
-use Rattle.pg_inbox.specs.Outbox.{Outbox, envelopes_to}
-use Rattle.pg_inbox.proofs.Bundling.{rises-bundle_of}
-use Rattle.pg_inbox.proofs.Delivery.{envelopes_at-bundle_of}
+use Rattle.pg_inbox.specs.Handed.{Contents, MessageLists, Outbox, bundle_of, envelopes_to, messages_where}
+use Rattle.pg_inbox.proofs.Handed.{envelopes_at-bundle_of, rises-bundle_of}
 use Rattle.pg_map.specs.Entries.{HasRisingIds, value_at}
 use Rattle.pg_model.specs.Job.{Combining, Job}
 use Rattle.pg_model.specs.Order.{Sending, sendings}

@@ -6,14 +6,11 @@ use Rattle.std.proofs.lemmas.List.Sums.{sum_by-cons, sum_by_push}
 use Rattle.pg_graph.specs.Rows.{Rows}
 use Rattle.pg_graph.specs.declared.missing.Missing.{Missing}
 use Rattle.pg_graph.specs.declared.missing.Missing.TheVariants.{Drop, Create}
-use Rattle.pg_inbox.specs.Bundles.{MessageLists, message_lists_in}
-use Rattle.pg_inbox.specs.Inboxes.{envelopes_at}
+use Rattle.pg_inbox.specs.Handed.{LoggedBundle, MessageLists, envelopes_at, message_lists_in, messages_where}
 use Rattle.pg_inbox.specs.LoggedBundle.{Slots, slot_at}
 use Rattle.std.specs.List.{range_with_len, slice_get}
 use Rattle.std.specs.Option.{option_map}
 use Rattle.std.proofs.lemmas.List.FromFn.{sum_by-map-range_with_len_more}
-use Rattle.pg_inbox.specs.Counting.{messages_where}
-use Rattle.pg_inbox.specs.declared.logs.LoggedBundle.{LoggedBundle}
 use Rattle.pg_stats.specs.MessageCounts.{IsWithBundle, bundle_at, dropped_of, is_any, is_no_vertex, messages_among, message_counts_of, vertex_counts_delta, vertex_counts_delta_at}
 use Rattle.pg_stats.proofs.Counting.{one_taken}
 use Rattle.pg_stats.specs.declared.stats.MessageCounts.{MessageCounts}

@@ -5,17 +5,14 @@ use Rattle.std.specs.List.{count_by, flat_map, range_with_len, slice_get, sum_by
 use Rattle.std.specs.List.Sorted.{IsStrictlySortedBy}
 use Rattle.std.specs.Option.{option_map}
 use Rattle.std.specs.Ordering.{nat_cmp}
-use Rattle.pg_inbox.specs.Patched.{TellsChanges}
+use Rattle.pg_inbox.specs.Handed.{LoggedBundle, MessageLists, TellsChanges, envelopes_at, message_lists_in}
+use Rattle.pg_inbox.specs.Handed.{messages_where}
 use Rattle.pg_model.specs.Superstep.{has_id}
 use Rattle.pg_model.specs.declared.record.Record.{Record}
 use Rattle.pg_graph.specs.Rows.{Rows, row_at}
 use Rattle.pg_graph.specs.declared.missing.Missing.{Missing}
 use Rattle.pg_graph.specs.declared.missing.Missing.TheVariants.{Drop, Create}
-use Rattle.pg_inbox.specs.Bundles.{MessageLists, message_lists_in}
-use Rattle.pg_inbox.specs.Counting.{messages_where}
-use Rattle.pg_inbox.specs.Inboxes.{envelopes_at}
 use Rattle.pg_inbox.specs.LoggedBundle.{Slots, slot_at}
-use Rattle.pg_inbox.specs.declared.logs.LoggedBundle.{LoggedBundle}
 use Rattle.pg_stats.specs.declared.messages.Counted.{Counted}
 use Rattle.pg_stats.specs.declared.messages.Counted.TheVariants.{All, NoVertices, Vertices}
 use Rattle.pg_stats.specs.declared.stats.MessageCounts.{MessageCounts}

@@ -1,8 +1,7 @@
 //! How many messages were sent and dropped in a superstep, from how many there were in an old run.
-ghost use Rattle.pg_inbox.specs.Inboxes.{envelopes_at};
+ghost use Rattle.pg_inbox.specs.Handed.{envelopes_at, message_lists_in};
 ghost use Rattle.std.specs.Prelude.{◌≤◌, cond, ◌≡◌, ◌+◌, length, map, IfOk};
 ghost use Rattle.std.specs.Option.{option_copied, option_map};
-ghost use Rattle.pg_inbox.specs.Bundles.{message_lists_in};
 ghost use Rattle.pg_stats.specs.MessageCounts.{HasMessageCountDelta, IsWithBundle, dropped_added, message_counts_of};
 ghost use Rattle.pg_stats.specs.MessageCounts.{changed_targets_of, dropped_removed, is_counted, is_no_vertex};
 ghost use Rattle.pg_stats.specs.MessageCounts.{is_vertex, messages_among, sent_added, sent_removed};

@@ -1,6 +1,6 @@
 use Rattle.std.proofs.Common.{◌≡◌, map, take}
 use Rattle.pg_inbox.specs.Merged.{StandByTarget}
-use Rattle.pg_inbox.specs.Sound.{sent_message_lists}
+use Rattle.pg_inbox_bundles.specs.Sound.{sent_message_lists}
 use Rattle.pg_inbox.proofs.lists.all_unchanged.Given as goal
 
 abbrev pub invariant-loop-bundle : goal.invariant-loop-bundle

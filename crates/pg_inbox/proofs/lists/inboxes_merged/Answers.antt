@@ -2,7 +2,7 @@ use Rattle.std.proofs.Common.{◌<◌, ◌++◌, ◌∷◌, [], None, ap, map, s
 use Rattle.pg_model.proofs.LawsLists.{all_weaker}
 use Rattle.pg_inbox_messages.specs.Contents.{messages}
 use Rattle.pg_inbox.specs.Merged.{IsLowest, IsLowestOf, StandByTarget, all_to}
-use Rattle.pg_inbox.specs.Ordered.{in_order}
+use Rattle.pg_inbox_bundles.specs.Ordered.{in_order}
 use Rattle.pg_inbox.proofs.Merged.{AreMergedSoFar, fewer, items_in_all, merged_all, merged_more, merged_none}
 use Rattle.pg_inbox.proofs.lists.inboxes_merged.Goals as goal
 

@@ -3,7 +3,7 @@ use Rattle.pg_map.specs.Entries.{HasRisingIds}
 use Rattle.pg_map.proofs.Filling.{all_more, gathered_more}
 use Rattle.std.specs.List.{AllByRecursion, flat_map}
 use Rattle.std.proofs.lemmas.List.{take_all}
-use Rattle.pg_inbox.specs.Holding.{HoldAll}
+use Rattle.pg_inbox_bundles.specs.Holding.{HoldAll}
 use Rattle.pg_inbox.proofs.receivers.all_message_lists.Goals as goal
 
 pub loop-bundle-preserved : goal.loop-bundle-preserved

@@ -1,7 +1,7 @@
 use Rattle.std.proofs.Common.{◌≡◌, take}
 use Rattle.std.specs.List.{AllByRecursion, flat_map}
 use Rattle.pg_map.specs.Entries.{HasRisingIds}
-use Rattle.pg_inbox.specs.Holding.{HoldAll}
+use Rattle.pg_inbox_bundles.specs.Holding.{HoldAll}
 use Rattle.pg_inbox.proofs.receivers.all_message_lists.Given as goal
 
 abbrev pub invariant-loop-bundle : goal.invariant-loop-bundle

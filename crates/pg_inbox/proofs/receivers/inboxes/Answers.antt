@@ -7,11 +7,12 @@ use Rattle.pg_map.specs.Entries.{HasRisingIds}
 use Rattle.pg_model.proofs.LawsLists.{all_from_map, all_to_map, all_weaker}
 use Rattle.pg_inbox_messages.specs.Grouping.{AreGroups, groups_of}
 use Rattle.pg_inbox_messages.specs.Contents.{Holds}
-use Rattle.pg_inbox.specs.Holding.{HoldAll}
+use Rattle.pg_inbox_bundles.specs.Holding.{HoldAll}
 use Rattle.pg_inbox.specs.Inboxes.{AreInboxes, inboxes_of}
-use Rattle.pg_inbox.proofs.Delivery.{are_inboxes, flat_map-of_map, inboxes_of_one, only_one}
+use Rattle.pg_inbox.proofs.Delivery.{are_inboxes, inboxes_of_one, only_one}
+use Rattle.pg_inbox_bundles.proofs.ToTarget.{flat_map-of_map}
 use Rattle.pg_inbox.specs.Merged.{StandByTarget}
-use Rattle.pg_inbox.specs.Sound.{sent_message_lists}
+use Rattle.pg_inbox_bundles.specs.Sound.{sent_message_lists}
 use Rattle.pg_inbox.proofs.Merged.{merged_inboxes}
 use Rattle.pg_inbox.proofs.receivers.inboxes.Goals as goal
 

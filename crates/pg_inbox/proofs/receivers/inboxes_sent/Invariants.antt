@@ -1,6 +1,6 @@
 use Rattle.std.proofs.Common.{◌≡◌, ◌++◌, length}
 use Rattle.pg_inbox.specs.Inboxes.{each_inbox}
-use Rattle.pg_inbox.specs.Sound.{sent_message_lists}
+use Rattle.pg_inbox_bundles.specs.Sound.{sent_message_lists}
 use Rattle.pg_inbox.proofs.receivers.inboxes_sent.Given as goal
 
 abbrev pub invariant-loop-target : goal.invariant-loop-target

@@ -4,7 +4,7 @@ use Rattle.std.proofs.lemmas.List.{take_all}
 use Rattle.pg_map.specs.Entries.{value_at}
 use Rattle.pg_map.proofs.Filling.{all_more}
 use Rattle.pg_model.specs.Superstep.{has_id}
-use Rattle.pg_inbox.specs.Holding.{HoldAll}
+use Rattle.pg_inbox_bundles.specs.Holding.{HoldAll}
 use Rattle.pg_inbox.specs.Inboxes.{is_receiver}
 use Rattle.pg_inbox.proofs.Among.{and_false, or_and_other, or_false}
 use Rattle.pg_inbox.proofs.Delivery.{is_receiver-more}

@@ -1,7 +1,7 @@
 use Rattle.std.proofs.Common.{◌≡◌, ℕ, ◌||◌, ◌&&◌, take}
 use Rattle.std.specs.List.{AllByRecursion}
 use Rattle.pg_model.specs.Superstep.{has_id}
-use Rattle.pg_inbox.specs.Holding.{HoldAll}
+use Rattle.pg_inbox_bundles.specs.Holding.{HoldAll}
 use Rattle.pg_inbox.specs.Inboxes.{is_receiver}
 use Rattle.pg_inbox.proofs.receiving.add_receivers.Given as goal
 

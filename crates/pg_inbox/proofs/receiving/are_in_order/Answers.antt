@@ -1,6 +1,6 @@
 use Rattle.std.proofs.Common.{◌≡◌, ◌+◌, ◌-◌, ◌<◌, ◌≤◌, drop, arith, subst}
 use Rattle.pg_model.proofs.LawsByNumber.{IsUp}
-use Rattle.pg_inbox.proofs.Senders.{up_in_order, up_short, up_step}
+use Rattle.pg_inbox_bundles.proofs.Senders.{up_in_order, up_short, up_step}
 use Rattle.pg_inbox.proofs.receiving.are_in_order.Goals as goal
 
 pub loop-place-preserved : goal.loop-place-preserved

@@ -5,7 +5,7 @@ use Rattle.std.proofs.lemmas.List.{take_all}
 use Rattle.std.proofs.lemmas.Result.{IfOk-weaker}
 use Rattle.pg_model.specs.Superstep.{is_empty}
 use Rattle.pg_inbox.specs.Inboxes.{folded_of}
-use Rattle.pg_inbox.proofs.Delivery.{gathered_parts}
+use Rattle.pg_inbox_bundles.proofs.ToTarget.{gathered_parts}
 use Rattle.pg_inbox.proofs.Taking.{any_more, combined_all, combined_more, combined_none, none_or_any}
 use Rattle.pg_inbox.proofs.receiving.combined.Goals as goal
 

@@ -1,6 +1,6 @@
 use Rattle.std.proofs.Common.{[], ap, flat_map, map, ◌∙◌}
 use Rattle.std.proofs.lemmas.List.{take_all}
-use Rattle.pg_inbox.proofs.Delivery.{gathered_parts}
+use Rattle.pg_inbox_bundles.proofs.ToTarget.{gathered_parts}
 use Rattle.pg_inbox.proofs.receiving.envelopes_in.Goals as goal
 
 pub loop-message_list-preserved : goal.loop-message_list-preserved

@@ -3,7 +3,7 @@ use Rattle.std.proofs.lemmas.Result.{IfOk-weaker}
 use Rattle.std.specs.List.{AllByRecursion}
 use Rattle.pg_map.specs.Entries.{value_at}
 use Rattle.pg_inbox_messages.specs.Contents.{Holds}
-use Rattle.pg_inbox.specs.Holding.{HoldsAt}
+use Rattle.pg_inbox_bundles.specs.Holding.{HoldsAt}
 use Rattle.pg_inbox.specs.Inboxes.{Delivers, received_of}
 use Rattle.pg_inbox.proofs.Delivery.{delivers_received}
 use Rattle.pg_inbox.proofs.Valued.{hold_at}

@@ -1,7 +1,7 @@
 use Rattle.std.proofs.Common.{◌∷◌, [], ap, ◌∙◌, ◌++◌, ◌||◌, false, is_some, subst, sym}
 use Rattle.std.proofs.lemmas.Result.{IfOk-weaker}
 use Rattle.std.specs.Option.{option_to_list}
-use Rattle.pg_inbox.specs.Holding.{HoldsAt}
+use Rattle.pg_inbox_bundles.specs.Holding.{HoldsAt}
 use Rattle.pg_inbox.specs.Inboxes.{Delivers, received_of}
 use Rattle.pg_inbox.proofs.Delivery.{delivers_nothing, delivers_received}
 use Rattle.pg_inbox.proofs.receiving.inbox_of.Goals as goal

@@ -3,7 +3,7 @@ use Rattle.std.specs.Option.{option_to_list}
 use Rattle.std.proofs.lemmas.Grind.{flat_map-append}
 use Rattle.std.proofs.lemmas.List.{append-nil, map-append, take_all}
 use Rattle.pg_map.specs.Entries.{value_at}
-use Rattle.pg_inbox.specs.Holding.{HoldsAt}
+use Rattle.pg_inbox_bundles.specs.Holding.{HoldsAt}
 use Rattle.pg_inbox.specs.Inboxes.{contents_to}
 use Rattle.pg_map.proofs.Filling.{all_more, joined_more}
 use Rattle.std.specs.List.{AllByRecursion}

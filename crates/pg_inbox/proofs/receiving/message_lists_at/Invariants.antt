@@ -1,7 +1,7 @@
 use Rattle.std.proofs.Common.{◌≡◌, map, take}
 use Rattle.std.specs.List.{AllByRecursion}
 use Rattle.pg_map.specs.Entries.{value_at}
-use Rattle.pg_inbox.specs.Holding.{HoldsAt}
+use Rattle.pg_inbox_bundles.specs.Holding.{HoldsAt}
 use Rattle.pg_inbox.specs.Inboxes.{contents_to}
 use Rattle.pg_inbox.proofs.receiving.message_lists_at.Given as goal
 

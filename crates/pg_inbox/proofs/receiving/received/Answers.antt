@@ -5,7 +5,7 @@ use Rattle.std.proofs.lemmas.Result.{IfOk-weaker}
 use Rattle.pg_model.proofs.LawsLists.{all_from_map}
 use Rattle.pg_inbox_messages.specs.Contents.{Holds, messages}
 use Rattle.pg_inbox.specs.Inboxes.{received_of}
-use Rattle.pg_inbox.specs.Ordered.{in_order}
+use Rattle.pg_inbox_bundles.specs.Ordered.{in_order}
 use Rattle.pg_inbox.proofs.Delivery.{received_in_order, received_nothing}
 use Rattle.pg_inbox.proofs.Merged.{all_at}
 use Rattle.pg_inbox.proofs.Valued.{values_in_order, values_of_all}

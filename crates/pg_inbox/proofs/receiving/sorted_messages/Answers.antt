@@ -3,7 +3,7 @@ use Rattle.std.proofs.lemmas.Fn.{always_returns_same}
 use Rattle.std.proofs.lemmas.List.Sorted.{IsNonDecreasingBy-from_sort}
 use Rattle.std.proofs.lemmas.Result.{IfOk-weaker}
 use Rattle.pg_inbox_messages.specs.Contents.{messages}
-use Rattle.pg_inbox.proofs.Replacing.{sorted_in_order}
+use Rattle.pg_inbox_bundles.proofs.Replacing.{sorted_in_order}
 use Rattle.pg_inbox.proofs.receiving.sorted_messages.Goals as goal
 
 pub returns : goal.returns

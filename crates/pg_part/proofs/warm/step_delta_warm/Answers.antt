@@ -3,7 +3,7 @@ use Rattle.std.specs.List.Sorted.{IsStrictlySortedBy}
 use Rattle.std.specs.List.{AllByRecursion}
 use Rattle.std.specs.Ordering.{nat_cmp}
 use Rattle.std.proofs.lemmas.Result.{IfOk-weaker}
-use Rattle.pg_inbox.specs.Holding.{HoldAll}
+use Rattle.pg_inbox.specs.Handed.{HoldAll}
 use Rattle.pg_inbox.proofs.SameDelivery.{alike}
 use Rattle.pg_part_compute.specs.VertexPairs.{AreDirtyIds, IsStepDelta}
 use Rattle.pg_part_routing.specs.Routes.{bundles_before}

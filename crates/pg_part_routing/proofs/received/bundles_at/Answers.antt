@@ -2,8 +2,7 @@ use Rattle.std.proofs.Common.{ℕ, ◌++◌, List, [], ◌∷◌, ap, ap₂, sym
 use Rattle.std.specs.List.{AllByRecursion}
 use Rattle.std.specs.Option.{option_to_list}
 use Rattle.std.proofs.lemmas.List.{append-nil}
-use Rattle.pg_inbox.specs.Bundles.{MessageLists}
-use Rattle.pg_inbox.specs.Holding.{HoldAll}
+use Rattle.pg_inbox.specs.Handed.{HoldAll, MessageLists}
 use Rattle.pg_inbox.specs.LoggedBundle.{slot_at}
 use Rattle.pg_model.proofs.LawsLists.{all-append}
 use Rattle.pg_part_routing.specs.Routes.{bundle_in}

@@ -1,6 +1,6 @@
 use Rattle.std.proofs.Common.{◌≡◌}
 use Rattle.std.specs.List.{AllByRecursion}
-use Rattle.pg_inbox.specs.Holding.{HoldAll}
+use Rattle.pg_inbox.specs.Handed.{HoldAll}
 use Rattle.pg_part_routing.specs.Routes.{bundles_at}
 use Rattle.pg_part_routing.proofs.received.bundles_at.Given as goal
 

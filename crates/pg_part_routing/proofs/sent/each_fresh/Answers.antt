@@ -1,7 +1,7 @@
 use Rattle.std.proofs.Common.{[], ◌+◌, ◌<◌, ap, sym, ◌∙◌, subst, subst₂, slice_index_or, length, below_more}
 use Rattle.std.specs.List.{slice_get}
 use Rattle.std.proofs.lemmas.List.{get_or_default, length_push}
-use Rattle.pg_inbox.specs.declared.logs.LoggedBundle.{LoggedBundle}
+use Rattle.pg_inbox.specs.Handed.{LoggedBundle}
 use Rattle.pg_part_routing.specs.Sending.{IsFresh}
 use Rattle.pg_part_routing.proofs.Listing.{slice_get-before, slice_get-last}
 use Rattle.pg_part_routing.proofs.sent.each_fresh.Goals as goal

@@ -2,7 +2,7 @@ use Rattle.std.proofs.Common.{[], ap, sym, ◌∙◌, subst, slice_index_or, len
 use Rattle.std.specs.List.{slice_get}
 use Rattle.std.proofs.lemmas.List.{get_or_default}
 use Rattle.pg_inbox.specs.LoggedBundle.{slot_at}
-use Rattle.pg_inbox.specs.declared.logs.LoggedBundle.{LoggedBundle}
+use Rattle.pg_inbox.specs.Handed.{LoggedBundle}
 use Rattle.pg_part_routing.specs.Sending.{IsRebuilt}
 use Rattle.pg_part_routing.proofs.MessageEdits.{same_rebuilt}
 use Rattle.pg_part_routing.proofs.Listing.{slice_get-before, slice_get-last}

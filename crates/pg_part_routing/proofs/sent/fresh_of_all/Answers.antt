@@ -1,6 +1,6 @@
 use Rattle.std.proofs.Common.{◌≡◌, Some, IfSome, ap, map, subst, ◌∙◌}
 use Rattle.std.specs.List.{flat_map, zip}
-use Rattle.pg_inbox.specs.Outbox.{as_send, sends_in}
+use Rattle.pg_inbox.specs.Handed.{as_send, sends_in}
 use Rattle.pg_trace.specs.Handed.{messages_by}
 use Rattle.pg_part_routing.specs.Sending.{IsFresh}
 use Rattle.pg_part_routing.proofs.Outbox.{all_sends}

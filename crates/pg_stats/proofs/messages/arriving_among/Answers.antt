@@ -1,7 +1,7 @@
 use Rattle.std.proofs.Common.{ap, ◌∙◌}
 use Rattle.std.proofs.lemmas.Result.{IfOk-weaker}
 use Rattle.std.specs.Option.{option_copied}
-use Rattle.pg_inbox.specs.Bundles.{message_lists_in}
+use Rattle.pg_inbox.specs.Handed.{message_lists_in}
 use Rattle.pg_stats.specs.MessageCounts.{is_vertex, messages_among}
 use Rattle.pg_stats.proofs.messages.arriving_among.Goals as goal
 

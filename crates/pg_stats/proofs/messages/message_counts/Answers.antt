@@ -1,6 +1,6 @@
 use Rattle.std.proofs.Common.{ap, map, subst, take, ◌∙◌}
 use Rattle.std.proofs.lemmas.List.{take_all}
-use Rattle.pg_inbox.specs.declared.logs.LoggedBundle.{LoggedBundle}
+use Rattle.pg_inbox.specs.Handed.{LoggedBundle}
 use Rattle.pg_stats.specs.MessageCounts.{IsWithBundle, message_counts_of}
 use Rattle.pg_stats.proofs.Counting.{one_taken}
 use Rattle.pg_stats.proofs.Passing.{message_counts_push}

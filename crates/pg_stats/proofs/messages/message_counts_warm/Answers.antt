@@ -3,7 +3,7 @@ use Rattle.std.specs.List.{slice_get}
 use Rattle.std.specs.Option.{option_copied, option_map}
 use Rattle.std.proofs.lemmas.Option.{slice_get-get_or}
 use Rattle.pg_inbox.specs.LoggedBundle.{slot_at}
-use Rattle.pg_inbox.specs.declared.logs.LoggedBundle.{LoggedBundle}
+use Rattle.pg_inbox.specs.Handed.{LoggedBundle}
 use Rattle.pg_stats.proofs.Passing.{vertex_counts_delta_on}
 use Rattle.pg_stats.specs.MessageCounts.{dropped_added, dropped_removed, sent_added, sent_removed}
 use Rattle.pg_stats.proofs.messages.message_counts_warm.Goals as goal

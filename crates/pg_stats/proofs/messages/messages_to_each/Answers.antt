@@ -1,6 +1,6 @@
 use Rattle.std.proofs.Common.{◌+◌, ap, cond, length, ◌∙◌}
 use Rattle.std.proofs.lemmas.List.{take_all}
-use Rattle.pg_inbox.specs.Inboxes.{envelopes_at}
+use Rattle.pg_inbox.specs.Handed.{envelopes_at}
 use Rattle.pg_stats.specs.MessageCounts.{is_counted, messages_among}
 use Rattle.pg_stats.proofs.Passing.{among_more}
 use Rattle.pg_stats.proofs.messages.messages_to_each.Goals as goal

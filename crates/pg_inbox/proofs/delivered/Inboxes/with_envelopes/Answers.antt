@@ -3,9 +3,9 @@ use Rattle.std.proofs.lemmas.Fn.{always_returns_same}
 use Rattle.std.proofs.lemmas.List.Sorted.{IsNonDecreasingBy-from_sort}
 use Rattle.std.proofs.lemmas.Result.{IfOk-weaker}
 use Rattle.pg_inbox_messages.specs.Contents.{messages}
-use Rattle.pg_inbox.specs.Ordered.{in_order}
+use Rattle.pg_inbox_bundles.specs.Ordered.{in_order}
 use Rattle.pg_inbox.proofs.Parting.{added}
-use Rattle.pg_inbox.proofs.Replacing.{sorted_in_order}
+use Rattle.pg_inbox_bundles.proofs.Replacing.{sorted_in_order}
 use Rattle.pg_inbox.proofs.delivered.Inboxes.with_envelopes.Goals as goal
 
 pub returns-clause-inboxes : goal.returns-clause-inboxes

@@ -1,7 +1,7 @@
 use Rattle.std.proofs.Common.{◌++◌, ◌∷◌, [], ap, ◌∙◌}
 use Rattle.std.proofs.lemmas.Result.{IfOk-weaker}
 use Rattle.pg_inbox_messages.specs.Contents.{messages}
-use Rattle.pg_inbox.specs.Ordered.{in_order}
+use Rattle.pg_inbox_bundles.specs.Ordered.{in_order}
 use Rattle.pg_inbox.proofs.Parting.{added}
 use Rattle.pg_inbox.proofs.delivered.Inboxes.with_message_list.Goals as goal
 

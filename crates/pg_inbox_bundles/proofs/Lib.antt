@@ -1,0 +1,10 @@
+pub mod Bundling
+pub mod Counted
+pub mod Differing
+pub mod Held
+pub mod Merging
+pub mod Replacing
+pub mod Senders
+pub mod Sending
+pub mod Sent
+pub mod ToTarget

@@ -1,0 +1,11 @@
+pub mod Bundles
+pub mod Changed
+pub mod Counting
+pub mod Holding
+pub mod MessageEdits
+pub mod Ordered
+pub mod Outbox
+pub mod Patched
+pub mod Rows
+pub mod Shared
+pub mod Sound
