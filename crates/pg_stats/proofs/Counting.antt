@@ -40,27 +40,31 @@ module _ {V : Type 0} where
       by false = refl
 
   -- with one vertex more
-  pub vertex_counts_push : (xs : List (VertexState V)) (x : VertexState V) (after : VertexCounts) → IsSum (vertex_counts_of xs) (of_one (length x.edges) x.halted) after
-      → after ≡ vertex_counts_of (xs ++ x ∷ [])
+  pub vertex_counts_push : (xs : List (VertexState V)) (x : VertexState V) (after : VertexCounts)
+      → IsSum (vertex_counts_of xs) (of_one (length x.edges) x.halted) after → after ≡ vertex_counts_of (xs ++ x ∷ [])
   vertex_counts_push xs x after h =
       same_sum (vertex_counts_of xs) (of_one (length x.edges) x.halted) after (vertex_counts_of (xs ++ x ∷ [])) h
       (subst (λ (c : VertexCounts). IsSum (vertex_counts_of xs) c (vertex_counts_of (xs ++ x ∷ []))) (one x) (vertex_counts-append xs (x ∷ [])))
 
   module _ {M : Type 0} (s : ℕ) (trace : Trace V M) where
+    -- the counts of the states that some ids have
+    abbrev pub counts_among : List ℕ → VertexCounts
+    counts_among ids = vertex_counts_of (states_among s ids trace)
+
     -- with the state of one id more, if it has one
-    among_push : (ids : List ℕ) (id : ℕ) (after : VertexCounts) → IsSum (vertex_counts_of (states_among s ids trace)) (vertex_counts_of (states_among s (id ∷ []) trace)) after
-        → after ≡ vertex_counts_of (states_among s (ids ++ id ∷ []) trace)
+    among_push : (ids : List ℕ) (id : ℕ) (after : VertexCounts) → IsSum (counts_among ids) (counts_among (id ∷ [])) after
+        → after ≡ counts_among (ids ++ id ∷ [])
     among_push ids id after h =
         let more : states_among s (ids ++ id ∷ []) trace ≡ states_among s ids trace ++ states_among s (id ∷ []) trace =
         flat_map-append (λ k. option_to_list (state_at k s trace)) ids (id ∷ []) in
-        same_sum (vertex_counts_of (states_among s ids trace)) (vertex_counts_of (states_among s (id ∷ []) trace)) after _ h
+        same_sum (counts_among ids) (counts_among (id ∷ [])) after _ h
         (vertex_counts-append (states_among s ids trace) (states_among s (id ∷ []) trace))
         ∙ ap vertex_counts_of (sym more)
 
     -- the same where that state was found
     pub with_push : (ids : List ℕ) (id : ℕ) (found : Option (VertexState V)) (after : VertexCounts) → found ≡ state_at id s trace
-        → IsSum (vertex_counts_of (states_among s ids trace)) (vertex_counts_of (option_to_list found)) after → after ≡ vertex_counts_of (states_among s (ids ++ id ∷ []) trace)
+        → IsSum (counts_among ids) (vertex_counts_of (option_to_list found)) after → after ≡ counts_among (ids ++ id ∷ [])
     with_push ids id found after is h =
         among_push ids id after
-        (subst (λ l. IsSum (vertex_counts_of (states_among s ids trace)) (vertex_counts_of l) after)
+        (subst (λ l. IsSum (counts_among ids) (vertex_counts_of l) after)
         (ap option_to_list is ∙ sym (append-nil (option_to_list (state_at id s trace)))) h)

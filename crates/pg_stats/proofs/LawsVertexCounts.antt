@@ -24,6 +24,10 @@ module _ {V : Type 0} where
   abbrev pub some_of : List ℕ → List (VertexState V) → List (VertexState V)
   some_of ids states = flat_map (λ id. option_to_list (state_of id states)) ids
 
+  -- a count is a sum over the states that are counted
+  abbrev IsSumOver : (VertexCounts → ℕ) → (VertexState V → ℕ) → Type 0
+  IsSumOver count w = (states : List (VertexState V)) → count (vertex_counts_of states) ≡ sum_by w states
+
   id_of : VertexState V → ℕ
   id_of x = x.id
 
@@ -52,23 +56,34 @@ module _ {V : Type 0} where
         (λ id n. at_states w xs rise id ∙ (ap (weighed (λ (x : VertexState V). x.id) w) (same id n) ∙ sym (at_states w ys rise' id)))
         ∙ ap (λ n. sum_by w ys + n) (among ids w xs rise))
 
-    -- so each count of states that is such a sum
-    count_is : (count : VertexCounts → ℕ) (w : VertexState V → ℕ) → ((states : List (VertexState V)) → count (vertex_counts_of states) ≡ sum_by w states)
-        → (before removed added after : VertexCounts) → before ≡ vertex_counts_of xs → removed ≡ vertex_counts_of (some_of ids xs) → added ≡ vertex_counts_of (some_of ids ys)
-        → count after + count removed ≡ count before + count added → count after ≡ count (vertex_counts_of ys)
-    count_is count w is before removed added after b g c h =
-        omega (arith, h, ap count b, ap count g, ap count c, vertex_counts_delta w, is xs, is ys, is (some_of ids xs), is (some_of ids ys))
+    module _ (before removed added after : VertexCounts) (before_is : before ≡ vertex_counts_of xs)
+        (removed_is : removed ≡ vertex_counts_of (some_of ids xs)) (added_is : added ≡ vertex_counts_of (some_of ids ys)) where
+      -- so each count of states that is such a sum
+      count_is : (count : VertexCounts → ℕ) (w : VertexState V → ℕ) → IsSumOver count w
+          → count after + count removed ≡ count before + count added → count after ≡ count (vertex_counts_of ys)
+      count_is count w is h =
+          omega (
+            arith,
+            h,
+            ap count before_is,
+            ap count removed_is,
+            ap count added_is,
+            vertex_counts_delta w,
+            is xs,
+            is ys,
+            is (some_of ids xs),
+            is (some_of ids ys),
+          )
 
-    -- the vertex counts of the one, without what the others have at these ids and with what it has there
-    pub with_delta_is : (before removed added after : VertexCounts) → before ≡ vertex_counts_of xs → removed ≡ vertex_counts_of (some_of ids xs) → added ≡ vertex_counts_of (some_of ids ys)
-        → HasCountDelta before removed added after → after ≡ vertex_counts_of ys
-    with_delta_is before removed added after b g c h =
-        let v : after.vertices ≡ length ys = count_is (λ x. x.vertices) (λ x. 1) length_is_sum before removed added after b g c h.vertices in
-        let e : after.edges ≡ sum_by (λ (x : VertexState V). length x.edges) ys =
-        count_is (λ x. x.edges) (λ x. length x.edges) (λ states. refl) before removed added after b g c h.edges in
-        let a : after.unhalted ≡ sum_by (λ (x : VertexState V). cond (not x.halted) 1 0) ys =
-        count_is (λ x. x.unhalted) (λ x. cond (not x.halted) 1 0) (λ states. refl) before removed added after b g c h.unhalted in
-        λ i. record { vertices = v i; edges = e i; unhalted = a i }
+      -- the vertex counts of the one, without what the others have at these ids and with what it has there
+      pub with_delta_is : HasCountDelta before removed added after → after ≡ vertex_counts_of ys
+      with_delta_is h =
+          let v : after.vertices ≡ length ys = count_is (λ x. x.vertices) (λ x. 1) length_is_sum h.vertices in
+          let e : after.edges ≡ sum_by (λ (x : VertexState V). length x.edges) ys =
+          count_is (λ x. x.edges) (λ x. length x.edges) (λ states. refl) h.edges in
+          let a : after.unhalted ≡ sum_by (λ (x : VertexState V). cond (not x.halted) 1 0) ys =
+          count_is (λ x. x.unhalted) (λ x. cond (not x.halted) 1 0) (λ states. refl) h.unhalted in
+          λ i. record { vertices = v i; edges = e i; unhalted = a i }
 
   -- of two runs: the states before and after a superstep in the old one, and in the new one
   module _ (old old' new new' : List (VertexState V)) (ids : List ℕ) (old_rise : StatesRise old) (old_rise' : StatesRise old')
@@ -104,44 +119,41 @@ module _ {V : Type 0} where
             swapped : (a b c d : ℕ) → a ≡ d → c ≡ b → a + b ≡ c + d
             swapped a b c d e f = omega (arith, e, f)
 
-    -- so each count of states that is such a sum
-    count_warm_is : (count : VertexCounts → ℕ) (w : VertexState V → ℕ) → ((states : List (VertexState V)) → count (vertex_counts_of states) ≡ sum_by w states)
-        → (before old_before old_after vertex_counts_delta old_vertex_counts_delta after : VertexCounts) → before ≡ vertex_counts_of new
-        → old_before ≡ vertex_counts_of old → old_after ≡ vertex_counts_of old'
-        → count vertex_counts_delta + count (vertex_counts_of (some_of ids new)) ≡ count before + count (vertex_counts_of (some_of ids new'))
-        → count old_vertex_counts_delta + count (vertex_counts_of (some_of ids old)) ≡ count old_before + count (vertex_counts_of (some_of ids old'))
-        → count after + count old_vertex_counts_delta ≡ count vertex_counts_delta + count old_after → count after ≡ count (vertex_counts_of new')
-    count_warm_is count w is before old_before old_after vertex_counts_delta old_vertex_counts_delta after b ob oa t ot h =
-        omega (
-          arith,
-          h,
-          t,
-          ot,
-          ap count b,
-          ap count ob,
-          ap count oa,
-          vertex_counts_delta_alike w,
-          is old,
-          is old',
-          is new,
-          is new',
-          is (some_of ids old),
-          is (some_of ids old'),
-          is (some_of ids new),
-          is (some_of ids new'),
-        )
+    module _ (before old_before old_after vertex_counts_delta old_vertex_counts_delta after : VertexCounts) (before_is : before ≡ vertex_counts_of new)
+        (old_before_is : old_before ≡ vertex_counts_of old) (old_after_is : old_after ≡ vertex_counts_of old') where
+      -- so each count of states that is such a sum
+      count_warm_is : (count : VertexCounts → ℕ) (w : VertexState V → ℕ) → IsSumOver count w
+          → count vertex_counts_delta + count (vertex_counts_of (some_of ids new)) ≡ count before + count (vertex_counts_of (some_of ids new'))
+          → count old_vertex_counts_delta + count (vertex_counts_of (some_of ids old)) ≡ count old_before + count (vertex_counts_of (some_of ids old'))
+          → count after + count old_vertex_counts_delta ≡ count vertex_counts_delta + count old_after → count after ≡ count (vertex_counts_of new')
+      count_warm_is count w is t ot h =
+          omega (
+            arith,
+            h,
+            t,
+            ot,
+            ap count before_is,
+            ap count old_before_is,
+            ap count old_after_is,
+            vertex_counts_delta_alike w,
+            is old,
+            is old',
+            is new,
+            is new',
+            is (some_of ids old),
+            is (some_of ids old'),
+            is (some_of ids new),
+            is (some_of ids new'),
+          )
 
-    -- the vertex counts of the new run after it
-    pub counted_warm_is : (before old_before old_after vertex_counts_delta old_vertex_counts_delta after : VertexCounts) → before ≡ vertex_counts_of new
-        → old_before ≡ vertex_counts_of old → old_after ≡ vertex_counts_of old'
-        → HasCountDelta before (vertex_counts_of (some_of ids new)) (vertex_counts_of (some_of ids new')) vertex_counts_delta
-        → HasCountDelta old_before (vertex_counts_of (some_of ids old)) (vertex_counts_of (some_of ids old')) old_vertex_counts_delta
-        → HasCountDelta vertex_counts_delta old_vertex_counts_delta old_after after → after ≡ vertex_counts_of new'
-    counted_warm_is before old_before old_after vertex_counts_delta old_vertex_counts_delta after b ob oa t ot h =
-        let v : after.vertices ≡ length new' =
-        count_warm_is (λ x. x.vertices) (λ x. 1) length_is_sum before old_before old_after vertex_counts_delta old_vertex_counts_delta after b ob oa t.vertices ot.vertices h.vertices in
-        let e : after.edges ≡ sum_by (λ (x : VertexState V). length x.edges) new' =
-        count_warm_is (λ x. x.edges) (λ x. length x.edges) (λ states. refl) before old_before old_after vertex_counts_delta old_vertex_counts_delta after b ob oa t.edges ot.edges h.edges in
-        let a : after.unhalted ≡ sum_by (λ (x : VertexState V). cond (not x.halted) 1 0) new' =
-        count_warm_is (λ x. x.unhalted) (λ x. cond (not x.halted) 1 0) (λ states. refl) before old_before old_after vertex_counts_delta old_vertex_counts_delta after b ob oa t.unhalted ot.unhalted h.unhalted in
-        λ i. record { vertices = v i; edges = e i; unhalted = a i }
+      -- the vertex counts of the new run after it
+      pub counted_warm_is : HasCountDelta before (vertex_counts_of (some_of ids new)) (vertex_counts_of (some_of ids new')) vertex_counts_delta
+          → HasCountDelta old_before (vertex_counts_of (some_of ids old)) (vertex_counts_of (some_of ids old')) old_vertex_counts_delta
+          → HasCountDelta vertex_counts_delta old_vertex_counts_delta old_after after → after ≡ vertex_counts_of new'
+      counted_warm_is t ot h =
+          let v : after.vertices ≡ length new' = count_warm_is (λ x. x.vertices) (λ x. 1) length_is_sum t.vertices ot.vertices h.vertices in
+          let e : after.edges ≡ sum_by (λ (x : VertexState V). length x.edges) new' =
+          count_warm_is (λ x. x.edges) (λ x. length x.edges) (λ states. refl) t.edges ot.edges h.edges in
+          let a : after.unhalted ≡ sum_by (λ (x : VertexState V). cond (not x.halted) 1 0) new' =
+          count_warm_is (λ x. x.unhalted) (λ x. cond (not x.halted) 1 0) (λ states. refl) t.unhalted ot.unhalted h.unhalted in
+          λ i. record { vertices = v i; edges = e i; unhalted = a i }

@@ -15,10 +15,10 @@ loop-id-preserved g c =
     let id = c.id-item.result in
     let found = c.state_at.result in
     let after = c.in_ok-vertex_counts.vertex_counts in
+    let sum = subst (λ counts. IsSum counts (vertex_counts_of (option_to_list found)) after) c.loop-id.invariant.counted c.in_ok-vertex_counts.ensures in
     record {
       counted = with_push s trace (take i ids) id found after
-          (c.state_at.ensures.value ∙ ap (state_at id s) c.loop-id.invariant.same)
-          (subst (λ vertex_counts. IsSum vertex_counts (vertex_counts_of (option_to_list found)) after) c.loop-id.invariant.counted c.in_ok-vertex_counts.ensures)
+          (c.state_at.ensures.value ∙ ap (state_at id s) c.loop-id.invariant.same) sum
           ∙ ap (λ l. vertex_counts_of (states_among s l trace)) (one_taken ids i c.loop-id-test.true c.id-item.is);
       same = c.state_at.ensures.same ∙ c.loop-id.invariant.same;
     }

@@ -16,14 +16,16 @@ loop-id-preserved g c =
     let turn = c.transition_at-turn.result in
     let same = c.loop-id.invariant.same in
     let more = one_taken ids i c.loop-id-test.true c.id-item.is in
+    let old = vertex_counts_of (option_to_list turn.before) in
+    let new = vertex_counts_of (option_to_list turn.after) in
     record {
       removed = with_push s trace (take i ids) id turn.before c.in_ok-removed.removed
           (c.transition_at-turn.ensures.before ∙ ap (state_at id s) same)
-          (subst (λ vertex_counts. IsSum vertex_counts (vertex_counts_of (option_to_list turn.before)) c.in_ok-removed.removed) c.loop-id.invariant.removed c.in_ok-removed.ensures)
+          (subst (λ counts. IsSum counts old c.in_ok-removed.removed) c.loop-id.invariant.removed c.in_ok-removed.ensures)
           ∙ ap (λ l. vertex_counts_of (states_among s l trace)) more;
       added = with_push (s + 1) trace (take i ids) id turn.after c.in_ok-added.added
           (c.transition_at-turn.ensures.after ∙ ap (state_at id (s + 1)) same)
-          (subst (λ vertex_counts. IsSum vertex_counts (vertex_counts_of (option_to_list turn.after)) c.in_ok-added.added) c.loop-id.invariant.added c.in_ok-added.ensures)
+          (subst (λ counts. IsSum counts new c.in_ok-added.added) c.loop-id.invariant.added c.in_ok-added.ensures)
           ∙ ap (λ l. vertex_counts_of (states_among (s + 1) l trace)) more;
       same = c.transition_at-turn.ensures.same ∙ same;
     }
