@@ -23,7 +23,7 @@ use Rattle.pg_model.proofs.LawsPresent.{inbox_at-first, inbox_at-next}
 use Rattle.pg_model.specs.declared.view.View.{View}
 use Rattle.pg_part_compute.specs.VertexPairs.{AreWorkItems, AreDirtyIds, IsStepDelta}
 use Rattle.pg_part_routing.specs.Starting.{own}
-use Rattle.pg_part_compute.specs.Diverged.{are_quiescent, is_quiescent}
+use Rattle.pg_part_compute.specs.Diverged.{is_quiescent}
 use Rattle.pg_part_compute.specs.Found.{IsFound, is_same_view}
 use Rattle.pg_part_routing.specs.Routes.{AreSameIn, HasMessages, as_sends, bundle_sent, bundles_at, bundles_before}
 use Rattle.pg_part.specs.StepInput.{HasOldLogs}
@@ -198,17 +198,16 @@ module _ {V M : Type 0} (value_eq : V → V → Bool) (message_eq : M → M → 
         ∙ sym (delivers_in_part job rows n p r w.holds.run.rise w.some logs (λ t q i below. w.has t q (omega (arith, i, e)) below) id mine []
         (subst (λ k. Delivers job.combining id (bundles_before logs n p k) []) (sym e) nothing)))
 
-    rest : are_quiescent (state_at job old s id) (state_at job rows s id) ≡ true
-    rest = w.holds.warm.rest id mine quiescent w.has_logs.there
+    rest : (is_quiescent (state_at job old s id) ≡ true) × (is_quiescent (state_at job rows s id) ≡ true)
+    rest =
+        both (is_quiescent (state_at job old s id)) (is_quiescent (state_at job rows s id)) (w.holds.warm.rest id mine quiescent w.has_logs.there)
 
     -- so it isn't executed in either
     pub old_reads_nothing : inputs_at job old s id ≡ None
-    old_reads_nothing =
-        no_inputs_at_rest job old s id w.has_logs.there (old_inbox s refl) (both (is_quiescent (state_at job old s id)) (is_quiescent (state_at job rows s id)) rest).0
+    old_reads_nothing = no_inputs_at_rest job old s id w.has_logs.there (old_inbox s refl) rest.0
 
     pub reads_nothing : inputs_at job rows s id ≡ None
-    reads_nothing =
-        no_inputs_at_rest job rows s id w.within new_inbox (both (is_quiescent (state_at job old s id)) (is_quiescent (state_at job rows s id)) rest).1
+    reads_nothing = no_inputs_at_rest job rows s id w.within new_inbox rest.1
 
   -- where the old run saw something else, each active vertex is a vertex pair
   active_are : same_view ≡ false → HaveActive job old rows (belongs n p) s vertex_pair_ids

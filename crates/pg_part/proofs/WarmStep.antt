@@ -130,7 +130,8 @@ module _ {V M : Type 0} (value_eq : V → V → Bool) (message_eq : M → M → 
   same_inputs c k h =
       let parts = both (is_same_view old_view view) _ h in
       let views : old_view ≡ view = (Decides-view_eq (λ (x y : ℕ). true) (λ (x y : ℕ). true) old_view view).0 parts.0 in
-      sym (inputs_once c k) ∙ (ap (λ v. reads v c.old) views ∙ (reads_same value_eq message_eq view c.old c.new parts.1 (k.eq_is_sound parts.1) ∙ inputs_now c k))
+      let same = reads_same value_eq message_eq view c.old c.new parts.1 (k.eq_is_sound parts.1) in
+      sym (inputs_once c k) ∙ (ap (λ v. reads v c.old) views ∙ (same ∙ inputs_now c k))
 
   -- and one that is left reads the same, or nothing in both
   left_same : (c : VertexPair V M) → IsKnown c → left c ≡ true → inputs_at job old s c.id ≡ inputs_at job rows s c.id
@@ -269,7 +270,10 @@ module _ {V M : Type 0} (value_eq : V → V → Bool) (message_eq : M → M → 
   reached = ap (λ (b : Bool). cond b (with_superstep [] part_run.trace) part_run.trace) (by (length part_run.trace.records == s) refl)
     where
       by : (b : Bool) → (length part_run.trace.records == s) ≡ b → b ≡ false
-      by true e = let long = w.holds.supersteps in let same = eqb-true (length part_run.trace.records) s e in absurd (omega (arith, long, same, w.has_logs.there))
+      by true e =
+          let long = w.holds.supersteps in
+          let same = eqb-true (length part_run.trace.records) s e in
+          absurd (omega (arith, long, same, w.has_logs.there))
       by false e = refl
 
   records_left : with_changes step_delta.changes (records_of s (reaching s part_run.trace)) ≡ records_in job rows n p s
