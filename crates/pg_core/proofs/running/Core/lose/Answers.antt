@@ -35,5 +35,6 @@ returns-clause-right g c kept right =
     let forgotten =
     subst (λ core. IsForgotten core.limits.partitions w core.state core.logs logs) c.self.view_is
     (subst (λ (n : ℕ). IsForgotten n w inside.state inside.logs logs) c.partitions-partitions.ensures.value c.lose_hosted.ensures.logs) in
-    let new = moved c.self.view_is c.lose.ensures c.in_ok-push.ensures.items refl ∙ ap (λ core. record (with_event (Lose w) core) { parts = parts; logs = logs }) c.self.view_is in
+    let seen = moved c.self.view_is c.lose.ensures c.in_ok-push.ensures.items refl in
+    let new = seen ∙ ap (λ core. record (with_event (Lose w) core) { parts = parts; logs = logs }) c.self.view_is in
     subst (IsRight job kept) (sym new) (IsRight-lose job kept core right events w parts logs lost forgotten)

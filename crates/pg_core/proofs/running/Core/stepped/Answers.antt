@@ -60,8 +60,9 @@ returns-clause-core g c =
     let p = c.args.partition in
     let part = c.args.part in
     let logs = c.note_step.new.logs in
+    let seen = moved c.self.view_is c.step.ensures c.in_ok-note_step.ensures.history c.put_part.ensures in
     record {
-      core_is = moved c.self.view_is c.step.ensures c.in_ok-note_step.ensures.history c.put_part.ensures ∙ ap (λ core. record (with_step p part core) { logs = logs }) c.self.view_is;
+      core_is = seen ∙ ap (λ core. record (with_step p part core) { logs = logs }) c.self.view_is;
       logs_are = λ r at.
           let place : c.new-place.result ≡ r = omega (arith, c.new-place.ensures, c.number.ensures, c.place.ensures, c.requires.next.place_is r at) in
           subst (λ core. HasPut r p (take core.limits.partitions c.args.sent) core.logs logs) c.self.view_is
