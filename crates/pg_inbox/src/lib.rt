@@ -12,7 +12,8 @@ mod sent_row;
 pub use delivered::Inboxes;
 pub use logs::Logs;
 pub use pg_inbox_bundles::{
-    Bundle, BundleCursor, LoggedBundle, Outbox, OutboxRef, bundle, changed_targets, copied, patch,
+    Bundle, BundleCursor, LoggedBundle, Outbox, OutboxRef, bundle, changed_targets, copied_message,
+    patch,
 };
 pub use receivers::inboxes;
 pub use receiving::{add_receivers, inbox};

@@ -16,6 +16,6 @@ pub use bundles::Bundle;
 pub use changing::changed_targets;
 pub use cursor::BundleCursor;
 pub use logged_bundle::LoggedBundle;
-pub use making::{bundle, copied};
+pub use making::{bundle, copied_message};
 pub use outbox::{Outbox, OutboxRef};
 pub use patching::patch;

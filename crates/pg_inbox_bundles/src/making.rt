@@ -96,17 +96,17 @@ fn envelopes_in_order<M: Plain>(
     let mut envelopes = Vec::with_capacity(alloc, order.len())?;
     for (place, _) in order {
         let (sender, target, message) = sent.at(*place);
-        envelopes.push((target, (sender, copied(alloc, message)?)))?;
+        envelopes.push((target, (sender, copied_message(alloc, message)?)))?;
     }
     Ok(envelopes)
 }
 
 /// A copy of a message, which is a value of its type.
-pub fn copied<M: Plain>(alloc: Global, message: &M) -> Result<M, Memory>
-    ensures same { IfOk result (λ copied. copied ≡ message.now) }
-    ensures value { IfOk result (λ copied. M.is_value copied) }
+pub fn copied_message<M: Plain>(alloc: Global, message: &M) -> Result<M, Memory>
+    ensures same { IfOk result (λ copy. copy ≡ message.now) }
+    ensures value { IfOk result (λ copy. M.is_value copy) }
 {
-    let copied = message.copy(alloc)?;
-    copied.fits();
-    Ok(copied)
+    let copy = message.copy(alloc)?;
+    copy.fits();
+    Ok(copy)
 }

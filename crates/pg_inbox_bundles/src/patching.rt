@@ -17,7 +17,7 @@ ghost use Rattle.pg_inbox_bundles.specs.Patched.{IsPatched, TellsChanges};
 ghost use Rattle.pg_inbox_bundles.specs.Sound.{needed};
 
 use crate::changing::add_if_changed;
-use crate::making::copied;
+use crate::making::copied_message;
 use crate::{Bundle, LoggedBundle, OutboxRef};
 use pg_global::MessageCombiner;
 use pg_graph::{Memory, VertexId};
@@ -435,6 +435,6 @@ fn add_envelope<M: Plain>(
     ensures items { OnOk result (envelopes.new.items ≡ envelopes.old.items ++ (sender, message.now) ∷ []) }
     ensures values { AllByRecursion (λ l. M.is_value l.1) envelopes.new.items }
 {
-    envelopes.push((sender, copied(alloc, message)?))?;
+    envelopes.push((sender, copied_message(alloc, message)?))?;
     Ok(())
 }

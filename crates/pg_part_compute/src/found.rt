@@ -7,6 +7,7 @@ ghost use Rattle.pg_part_compute.specs.Found.{vertex_of};
 ghost use Rattle.pg_trace.specs.Trace.{state_at};
 
 use pg_graph::{Edges, Memory, Missing, Superstep, VertexId};
+use pg_inbox::copied_message;
 use pg_model::{Sequence, VertexState, VertexWithInbox};
 use pg_program::{Computation, Plain};
 use pg_trace::{StateCursor, StateRef};
@@ -108,16 +109,6 @@ pub(crate) fn copied_messages<M: Plain>(
         copies.push(copied_message(alloc, message)?)?;
     }
     Ok(Sequence::from_vec(copies))
-}
-
-/// A copy of a message, which is a value of its type.
-fn copied_message<M: Plain>(alloc: Global, message: &M) -> Result<M, Memory>
-    ensures same { IfOk result (λ copy. copy ≡ message.now) }
-    ensures value { IfOk result (λ copy. M.is_value copy) }
-{
-    let copy = message.copy(alloc)?;
-    copy.fits();
-    Ok(copy)
 }
 
 /// A copy of a state, which shares its edges.

@@ -28,10 +28,18 @@ module _ {P C A V M : Type 0} (own : Meaning P C A V M) where
         subst (λ (j : Job V M). IsRight j kept mid → IsRight j kept now) (ap (job_of_meaning own) a.core_is) (b.right kept) (a.right kept right);
   }
 
+  -- a core stays right with these parts
+  abbrev StaysRight : Progress P C A V M → List (Option (PartState V M)) → Type 0
+  StaysRight core parts =
+      (kept : Option Rows) → IsRight (job_of_meaning own core) kept core → IsRight (job_of_meaning own core) kept (record core { parts = parts })
+
+  stays_right : (before rest : Progress P C A V M) → IsRest own before rest → StaysRight before rest.parts
+  stays_right before rest left kept right =
+      subst (λ (c : Progress P C A V M). IsRight (job_of_meaning own before) kept c) left.core_is (left.right kept right)
+
   -- a part that was taken from what is left was so from the whole
   taken_whole : (before : Progress P C A V M) (parts : List (Option (PartState V M))) (superstep worker : ℕ) (part : PartState V M)
-      → ((kept : Option Rows) → IsRight (job_of_meaning own before) kept before → IsRight (job_of_meaning own before) kept (record before { parts = parts }))
-      → IsTaken own (record before { parts = parts }) superstep worker part → IsTaken own before superstep worker part
+      → StaysRight before parts → IsTaken own (record before { parts = parts }) superstep worker part → IsTaken own before superstep worker part
   taken_whole before parts superstep worker part rightly is = record {
     within = is.within;
     host_is = is.host_is;
@@ -47,8 +55,7 @@ module _ {P C A V M : Type 0} (own : Meaning P C A V M) where
   pub taken_before : (before rest : Progress P C A V M) (superstep worker : ℕ) (part : PartState V M) → IsRest own before rest
       → IsTaken own rest superstep worker part → IsTaken own before superstep worker part
   taken_before before rest superstep worker part left is =
-      taken_whole before rest.parts superstep worker part
-      (λ kept right. subst (λ (c : Progress P C A V M). IsRight (job_of_meaning own before) kept c) left.core_is (left.right kept right))
+      taken_whole before rest.parts superstep worker part (stays_right before rest left)
       (subst (λ (c : Progress P C A V M). IsTaken own c superstep worker part) left.core_is is)
 
   -- ---- one worker's parts
@@ -78,7 +85,8 @@ module _ {P C A V M : Type 0} (own : Meaning P C A V M) where
         at = subst (λ (q : ℕ). IsPartAt core.limits.partitions core.state q part) (sym mine) at;
         place_is = there;
         small = omega (arith, reached, small, there);
-        step_input = λ kept right. subst (λ (q : ℕ). HasStepInput (job_of_meaning own core) kept core q part.part_run.place part) (sym mine) (borrows kept right).1;
+        step_input = λ kept right.
+            subst (λ (q : ℕ). HasStepInput (job_of_meaning own core) kept core q part.part_run.place part) (sym mine) (borrows kept right).1;
       } in
       record {
         taken = rest_then first core now was.taken left;
@@ -127,8 +135,7 @@ module _ {P C A V M : Type 0} (own : Meaning P C A V M) where
   -- ---- what a round borrows
 
   borrows_whole : (before : Progress P C A V M) (parts : List (Option (PartState V M))) (superstep attempt : ℕ) (round : RoundOf M)
-      → ((kept : Option Rows) → IsRight (job_of_meaning own before) kept before → IsRight (job_of_meaning own before) kept (record before { parts = parts }))
-      → Borrows own (record before { parts = parts }) superstep attempt round → Borrows own before superstep attempt round
+      → StaysRight before parts → Borrows own (record before { parts = parts }) superstep attempt round → Borrows own before superstep attempt round
   borrows_whole before parts superstep attempt round rightly borrows = record {
     superstep_is = borrows.superstep_is;
     attempt_is = borrows.attempt_is;
@@ -142,6 +149,5 @@ module _ {P C A V M : Type 0} (own : Meaning P C A V M) where
   pub borrows_before : (before rest : Progress P C A V M) (superstep attempt : ℕ) (round : RoundOf M) → IsRest own before rest
       → Borrows own rest superstep attempt round → Borrows own before superstep attempt round
   borrows_before before rest superstep attempt round left borrows =
-      borrows_whole before rest.parts superstep attempt round
-      (λ kept right. subst (λ (c : Progress P C A V M). IsRight (job_of_meaning own before) kept c) left.core_is (left.right kept right))
+      borrows_whole before rest.parts superstep attempt round (stays_right before rest left)
       (subst (λ (c : Progress P C A V M). Borrows own c superstep attempt round) left.core_is borrows)

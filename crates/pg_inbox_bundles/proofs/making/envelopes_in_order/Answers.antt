@@ -24,8 +24,8 @@ loop-place-preserved g c =
     take_more order i at c.loop-place-test.true ∙ ap (λ e. take i order ++ e ∷ []) (sym c.loop-place-item.is) in
     let pushed = c.in_ok-push.ensures.items in
     record {
-      stand = rw (more, pushed ∙ ap (λ m. c.loop-place.envelopes.items ++ (item.1, (item.0, m)) ∷ []) c.in_ok-copied.ensures.same)
+      stand = rw (more, pushed ∙ ap (λ m. c.loop-place.envelopes.items ++ (item.1, (item.0, m)) ∷ []) c.in_ok-copied_message.ensures.same)
           (zip_push (λ e envelope. slice_get (map as_item sent) e.0 ≡ Some envelope) (take i order) c.loop-place.envelopes.items at (as_item item)
           c.loop-place.invariant.stand stands);
-      values = all_pushed (λ p. g.M.Plain.is_value p.1.1) c.loop-place.envelopes.items c.loop-place.invariant.values pushed c.in_ok-copied.ensures.value;
+      values = all_pushed (λ p. g.M.Plain.is_value p.1.1) c.loop-place.envelopes.items c.loop-place.invariant.values pushed c.in_ok-copied_message.ensures.value;
     }
