@@ -31,10 +31,10 @@ pub(crate) fn vertex_at<P: Computation>(
     id: VertexId,
     delivered: Sequence<P::Message>,
 ) -> Result<Option<VertexWithInbox<P::Value, P::Message>>, Memory>
-    requires { AllByRecursion P.Message.is_value delivered }
     ensures found { IfOk result
         (λ x. x ≡ vertex_of (P.program program.now) missing id (state_at id superstep states.old) delivered) }
-    ensures values { IfOk result (HasValues P.Value.is_value P.Message.is_value) }
+    ensures values { AllByRecursion P.Message.is_value delivered
+        → IfOk result (HasValues P.Value.is_value P.Message.is_value) }
     ensures same { states.new ≡ states.old }
 {
     let state = states.state_at(id, superstep);
@@ -51,9 +51,9 @@ fn vertex_by<P: Computation>(
     state: &Option<StateRef<'_, P::Value>>,
     delivered: Sequence<P::Message>,
 ) -> Result<Option<VertexWithInbox<P::Value, P::Message>>, Memory>
-    requires { AllByRecursion P.Message.is_value delivered }
     ensures found { IfOk result (λ x. x ≡ vertex_of (P.program program.now) missing id state.now delivered) }
-    ensures values { IfOk result (HasValues P.Value.is_value P.Message.is_value) }
+    ensures values { AllByRecursion P.Message.is_value delivered
+        → IfOk result (HasValues P.Value.is_value P.Message.is_value) }
 {
     let state = state_by(alloc, program, missing, id, state, delivered.as_slice())?;
     match state {

@@ -43,7 +43,7 @@ loop-place-preserved g c =
             tt,
           ));
       values = all_pushed (HaveValues g.P.Value.Plain.is_value g.P.Message.Plain.is_value) have c.loop-place.invariant.values pushed
-          (c.in_ok-old.ensures.values, c.in_ok-new.ensures.values);
+          (c.in_ok-old.ensures.values, c.in_ok-new.ensures.values c.in_ok-delivered.ensures.values);
       states = c.in_ok-new.ensures.same ∙ c.loop-place.invariant.states;
       old_states = c.in_ok-old.ensures.same ∙ c.loop-place.invariant.old_states;
     }
