@@ -25,7 +25,7 @@ module _ {M : Type 0} (is_value : M → Type 0) where
   all_hold : (id : ℕ) (bundles : List (MessageLists M)) → AllByRecursion (HoldAll is_value) bundles
       → AllByRecursion (λ b. HoldsAt is_value (value_at id b)) bundles
   all_hold id [] h = tt
-  all_hold id (b ∷ bundles) h = (holds_at id b h.0, all_hold id bundles h.1)
+  all_hold id (b ∷ bundles) h = (holds_at is_value id b h.0, all_hold id bundles h.1)
 
 module _ {M : Type 0} (id : ℕ) where
   -- the messages that entries have, and with their senders
